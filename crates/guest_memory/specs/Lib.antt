@@ -1,0 +1,3 @@
+pub mod Boot
+pub mod Fitting
+pub mod Memory
