@@ -1,13 +1,9 @@
-// A library with one function.
+//! The board as the machine's definition has it: the console ring and the off mark.
+//!
+//! `specs/` says what an act on the board is answered and what it leaves. `PlainBoard` computes it in the
+//! plainest way; it is the definition run, no product code.
 #![tactic(auto)]
 
-ghost use Rattle.std.specs.Prelude.{◌≡◌};
-ghost use Rattle.board_table.specs.Echo.{echo_of};
+mod plain_board;
 
-// The `ensures` clause is the contract: what `echo` returns is `echo_of` of its argument, a definition
-// in `specs/Echo.antt`, which a caller's clause can cite too.
-pub fn echo(x: usize) -> usize
-    ensures { result ≡ echo_of x }
-{
-    x
-}
+pub use plain_board::PlainBoard;
