@@ -5,7 +5,7 @@ use Rattle.hart_rows.specs.declared.rows.Kind.{Kind}
 use Rattle.hart_rows.specs.declared.rows.Kind.TheVariants.{Lui, Addi, Ecall}
 use Rattle.hart_rows.specs.declared.rows.Row.{Row}
 use Rattle.hart_rows.specs.Registers.{reg, with_reg, finished, trapped}
-use Rattle.hart_rows.specs.Doing.{Doing, Ends, Asks}
+use Rattle.hart_rows.specs.Doing.{Doing, Ends}
 use Rattle.hart_rows.specs.Sbi.{call}
 
 -- the table: unprivileged manual, "Integer Register-Immediate Instructions" for LUI and ADDI,

@@ -1,13 +1,15 @@
-// A library with one function.
+//! What each instruction does to a hart's registers: the plain programs of the table and its formulas.
+//!
+//! `decode` finds a word's row. `wanted` is the one access that the word asks for behind its fetch, if
+//! any, and `perform` is what becomes of the registers by the last reply to it.
 #![tactic(auto)]
 
-ghost use Rattle.std.specs.Prelude.{◌≡◌};
-ghost use Rattle.hart_rows.specs.Echo.{echo_of};
+mod instruction;
+mod regs;
+mod rows;
+mod sbi;
 
-// The `ensures` clause is the contract: what `echo` returns is `echo_of` of its argument, a definition
-// in `specs/Echo.antt`, which a caller's clause can cite too.
-pub fn echo(x: usize) -> usize
-    ensures { result ≡ echo_of x }
-{
-    x
-}
+pub use instruction::{perform, wanted};
+pub use regs::{Regs, Turn, get, put, trap};
+pub use rows::{Kind, decode};
+pub use sbi::{A0, A1};
