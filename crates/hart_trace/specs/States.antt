@@ -1,14 +1,11 @@
 -- How a hart is kept inside an instruction, and where the steps of a trace lead it.
 use Rattle.std.specs.Prelude.{ℕ, ◌≡◌, true, List, [], ◌∷◌, ◌++◌, Option, Some, None, length, if◌then◌else◌}
 use Rattle.vm_types.specs.declared.op.Op.{Op}
-use Rattle.vm_types.specs.declared.op.Op.TheVariants as Op
 use Rattle.vm_types.specs.declared.reply.Reply.{Reply}
-use Rattle.vm_types.specs.declared.reply.Reply.TheVariants as Reply
 use Rattle.vm_types.specs.declared.entry.Step.{Step}
 use Rattle.vm_types.specs.Fits.{fits}
 use Rattle.hart_rows.specs.declared.regs.Regs.{Regs}
 use Rattle.hart_rows.specs.declared.regs.Turn.{Turn}
-use Rattle.hart_rows.specs.declared.regs.Turn.TheVariants as Turn
 use Rattle.hart_rows.specs.Registers.{trapped}
 use Rattle.hart_rows.specs.Doing.{asked, ended}
 use Rattle.hart_rows.specs.Rows.{does}

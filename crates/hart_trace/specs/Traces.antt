@@ -1,17 +1,14 @@
 -- A hart's trace: whole groups of steps, each leading from the registers before it to those after it.
 use Rattle.std.specs.Prelude.{ℕ, ◌≡◌, ◌+◌, ◌*◌, ◌/◌, ◌^◌, Bool, true, false, List, [], ◌∷◌, ◌++◌, MatchBool, slice_index}
 use Rattle.vm_types.specs.declared.op.Op.{Op}
-use Rattle.vm_types.specs.declared.op.Op.TheVariants as Op
 use Rattle.vm_types.specs.declared.op.BoardOp.TheVariants as board
 use Rattle.vm_types.specs.declared.reply.Reply.{Reply}
-use Rattle.vm_types.specs.declared.reply.Reply.TheVariants as Reply
 use Rattle.vm_types.specs.declared.reply.Shown.{Shown}
 use Rattle.vm_types.specs.declared.reply.Shown.TheVariants.{Pending, Stopped, Start}
 use Rattle.vm_types.specs.declared.entry.Step.{Step}
-use Rattle.vm_types.specs.Fits.{fits, Fits}
+use Rattle.vm_types.specs.Fits.{Fits}
 use Rattle.hart_rows.specs.declared.regs.Regs.{Regs}
 use Rattle.hart_rows.specs.declared.regs.Turn.{Turn}
-use Rattle.hart_rows.specs.declared.regs.Turn.TheVariants as Turn
 use Rattle.hart_rows.specs.Registers.{with_reg, trapped}
 use Rattle.hart_rows.specs.Doing.{Doing, Ends, Asks}
 use Rattle.hart_rows.specs.Rows.{does}
@@ -98,3 +95,13 @@ abbrev pub Continues : Regs → List Step → Op → Type 0
 Continues start steps op =
     (reply : Reply) × (more : List Step) × (end : Regs)
     × HartTrace start (steps ++ record { op = op; reply = reply } ∷ more) end
+
+-- an act on a host object
+abbrev pub is_host_op : Op → Bool
+is_host_op (Op.Out act) = true
+is_host_op op = false
+
+-- an act on a device's port
+abbrev pub is_port_op : Op → Bool
+is_port_op (Op.Port act) = true
+is_port_op op = false

@@ -1,13 +1,12 @@
-// A library with one function.
+//! A hart's trace, and the hart that follows it.
+//!
+//! A trace is a list of whole groups of steps, and says what a hart may want and be answered; it knows
+//! nothing of how a hart is kept. `hart_follows` ties the two: where the steps of a trace lead to a hart,
+//! its want is the one op that continues them. `op_after` computes that op from the steps alone.
 #![tactic(auto)]
 
-ghost use Rattle.std.specs.Prelude.{◌≡◌};
-ghost use Rattle.hart_trace.specs.Echo.{echo_of};
+mod hart;
+mod law;
 
-// The `ensures` clause is the contract: what `echo` returns is `echo_of` of its argument, a definition
-// in `specs/Echo.antt`, which a caller's clause can cite too.
-pub fn echo(x: usize) -> usize
-    ensures { result ≡ echo_of x }
-{
-    x
-}
+pub use hart::Hart;
+pub use law::{hart_asks, hart_follows, one_op, op_after};
