@@ -1,0 +1,4 @@
+pub mod Doing
+pub mod Registers
+pub mod Rows
+pub mod Sbi

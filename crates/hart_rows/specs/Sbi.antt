@@ -1,0 +1,55 @@
+-- What an ECALL does: the calls of the supervisor binary interface, by a7 and a6.
+use Rattle.std.specs.Prelude.{ℕ, ◌-◌, ◌%◌, ◌^◌, ◌==◌, ◌&&◌, if◌then◌else◌}
+use Rattle.vm_types.specs.declared.op.Op.TheVariants.{Board}
+use Rattle.vm_types.specs.declared.op.BoardOp.TheVariants.{Putchar, Reset}
+use Rattle.vm_types.specs.declared.reply.Reply.{Reply}
+use Rattle.vm_types.specs.declared.reply.Reply.TheVariants.{Returned}
+use Rattle.hart_rows.specs.declared.regs.Regs.{Regs}
+use Rattle.hart_rows.specs.Registers.{reg, with_reg, finished}
+use Rattle.hart_rows.specs.Doing.{Doing, Ends, Asks}
+
+-- the registers of a call's arguments and results (SBI, "Binary Encoding")
+abbrev pub a0 : ℕ
+a0 = 10
+
+abbrev pub a1 : ℕ
+a1 = 11
+
+abbrev pub a6 : ℕ
+a6 = 16
+
+abbrev pub a7 : ℕ
+a7 = 17
+
+-- extensions
+abbrev pub legacy_putchar : ℕ
+legacy_putchar = 1
+
+abbrev pub system_reset : ℕ
+system_reset = 0x53525354
+
+-- SBI_ERR_NOT_SUPPORTED, which is -2
+abbrev pub not_supported : ℕ
+not_supported = 2 ^ 64 - 2
+
+-- the call ends with an error in a0 and a value in a1
+abbrev pub answered : ℕ → ℕ → Regs → Regs
+answered error value r = finished (with_reg (with_reg r a0 error) a1 value)
+
+-- with those that the board gives; no other reply fits such a call
+abbrev pub answered_by : Reply → Regs → Regs
+answered_by (Returned error value) r = answered error value r
+answered_by reply r = finished r
+
+-- putchar takes the low byte of a0, puts 0 into a0 and leaves a1; a6 isn't looked at
+abbrev pub putchar : Regs → Doing
+putchar r = Asks (Board (Putchar (reg r a0 % 2 ^ 8))) (λ reply. finished (with_reg r a0 0))
+
+abbrev pub reset : Regs → Doing
+reset r = Asks (Board (Reset (reg r a0) (reg r a1))) (λ reply. answered_by reply r)
+
+abbrev pub call : Regs → Doing
+call r =
+    if reg r a7 == legacy_putchar then putchar r
+    else if (reg r a7 == system_reset) && (reg r a6 == 0) then reset r
+    else Ends (answered not_supported 0 r)

@@ -1,0 +1,5 @@
+pub mod Asks
+pub mod Laws
+pub mod Leads
+pub mod OneHart
+pub mod Traces

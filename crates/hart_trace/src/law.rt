@@ -1,0 +1,62 @@
+// What holds of every trace and every hart, and the op that continues the steps of a trace.
+ghost use Rattle.std.specs.Prelude.{◌≡◌, ℕ, true, false, List, [], ◌∷◌, ◌++◌, MatchOption};
+ghost use Rattle.vm_types.specs.declared.entry.Step.{Step};
+ghost use Rattle.vm_types.specs.declared.op.Op.{Op};
+ghost use Rattle.vm_types.specs.declared.op.Op.TheVariants.{Read};
+ghost use Rattle.vm_types.specs.declared.reply.Reply.{Reply};
+ghost use Rattle.vm_types.specs.Fits.{fits};
+ghost use Rattle.hart_rows.specs.declared.regs.Regs.{Regs};
+ghost use Rattle.hart_trace.specs.declared.hart.Hart.{Hart};
+ghost use Rattle.hart_trace.specs.Traces.{Continues, IsPrefix, is_host_op, is_port_op};
+ghost use Rattle.hart_trace.specs.States.{LeadsTo, fresh, hart_next, hart_wants};
+
+use crate::hart::Hart;
+use hart_rows::Regs;
+use vm_types::{Actor, Op, Step, is_fit, is_same_op};
+
+/// Traces: one op continues steps that go on to a trace, and with every fitting reply to it they go on.
+pub fn one_op()
+    ensures one { (start : Regs) (steps : List Step) (a b : Op) → Continues start steps a → Continues start steps b → a ≡ b }
+    ensures some { (start : Regs) (steps : List Step) → IsPrefix start steps → (op : Op) × Continues start steps op }
+    ensures any { (start : Regs) (steps : List Step) (op : Op) (reply : Reply) → Continues start steps op → fits op reply ≡ true → IsPrefix start (steps ++ record { op = op; reply = reply } ∷ []) }
+{}
+
+/// Harts: where steps lead to a hart, its want is the op that continues them, and with a fitting reply
+/// they lead to the next hart.
+pub fn hart_follows()
+    ensures begins { (start : Regs) → LeadsTo start [] (fresh start) }
+    ensures prefix { (start : Regs) (steps : List Step) (hart : Hart) → LeadsTo start steps hart → IsPrefix start steps }
+    ensures some { (start : Regs) (steps : List Step) → IsPrefix start steps → (hart : Hart) × LeadsTo start steps hart }
+    ensures wants { (start : Regs) (steps : List Step) (hart : Hart) → LeadsTo start steps hart → Continues start steps (hart_wants hart) }
+    ensures only { (start : Regs) (steps : List Step) (hart : Hart) (op : Op) → LeadsTo start steps hart → Continues start steps op → op ≡ hart_wants hart }
+    ensures one { (start : Regs) (steps : List Step) (hart other : Hart) → LeadsTo start steps hart → LeadsTo start steps other → hart ≡ other }
+    ensures goes_on { (start : Regs) (steps : List Step) (hart : Hart) (reply : Reply) → LeadsTo start steps hart → fits (hart_wants hart) reply ≡ true → LeadsTo start (steps ++ record { op = hart_wants hart; reply = reply } ∷ []) (hart_next hart reply) }
+{}
+
+/// Harts want no act on a host object and none on a port, and read whole instruction words.
+pub fn hart_asks()
+    ensures never_out { (h : Hart) → is_host_op (hart_wants h) ≡ false }
+    ensures never_port { (h : Hart) → is_port_op (hart_wants h) ≡ false }
+    ensures reads { (h : Hart) (at len : ℕ) → hart_wants h ≡ Read at len → len ≡ 4 }
+{}
+
+/// The op that continues these steps, or `None` where no trace begins with them.
+pub fn op_after(start: &Regs, steps: &[Step]) -> Option<Op>
+    ensures { MatchOption result ((op : Op) → Continues start.now steps.now op → ⊥) (λ op. Continues start.now steps.now op) }
+{
+    let mut hart = Hart::new(*start);
+    for step in steps {
+        let op = hart.want();
+        if !is_same_op(&op, &step.op) {
+            return None;
+        }
+        if !is_fit(&op, &step.reply) {
+            return None;
+        }
+        hart.give(step.reply);
+    }
+    Some(hart.want())
+}
+
+#[cfg(test)]
+mod tests;
