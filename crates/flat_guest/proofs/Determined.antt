@@ -1,0 +1,100 @@
+-- An event does one thing.
+use Rattle.std.proofs.Common.{◌≡◌, ℕ, zero, suc, ◌<◌, true, false, refl, sym, ap, subst, ◌∙◌, List, [], ◌∷◌, length, Option, Some, None, ◌⊎◌, inl, inr, arith, slice_get}
+use Rattle.vm_types.specs.declared.ids.ActorId.{ActorId}
+use Rattle.vm_types.specs.declared.ids.PlaceId.{PlaceId}
+use Rattle.vm_types.specs.declared.op.Op.{Op}
+use Rattle.vm_types.specs.declared.reply.Reply.{Reply}
+use Rattle.vm_types.specs.declared.entry.Step.{Step}
+use Rattle.vm_types.specs.declared.entry.Entry.{Entry}
+use Rattle.vm_types.specs.declared.entry.Event.{Event}
+use Rattle.hart_rows.specs.declared.regs.Regs.{Regs}
+use Rattle.hart_trace.proofs.Traces.{one_op}
+use Rattle.flat_guest.specs.Guest.{Guest, Wants, WantsFrom, place_of}
+use Rattle.flat_guest.specs.Steps.{Answers, AnswersOut, FlatStep, Makes, StepsBy, guest_after}
+
+out_one : (op : Op) (given : Option Reply) (r s : Reply) → AnswersOut op given r → AnswersOut op given s → r ≡ s
+out_one (Op.Out act) given r s a b =
+    let first = a.0 in
+    let second = b.0 in
+    cc
+out_one Op.Idle given r s a b = a.1 ∙ sym b.1
+out_one op given r s a b = a.1 ∙ sym b.1
+
+answers_one : (p : PlaceId) (g : Guest) (actor : ActorId) (op : Op) (given : Option Reply) (r s : Reply) → Answers p g actor op given r → Answers p g actor op given s → r ≡ s
+answers_one (PlaceId.Page i) g actor op given r s a b = a.1 ∙ sym b.1
+answers_one PlaceId.Board g actor op given r s a b = a.1 ∙ sym b.1
+answers_one (PlaceId.Port k) g actor op given r s a b = absurd a
+answers_one PlaceId.Out g actor op given r s a b = out_one op given r s a b
+
+from_one : (start : Option Regs) (steps : List Step) (a b : Op) → WantsFrom start steps a → WantsFrom start steps b → a ≡ b
+from_one None steps a b x y = absurd x
+from_one (Some start) steps a b x y = one_op start steps a b x y
+
+wants_one : (g : Guest) (actor : ActorId) (a b : Op) → Wants g actor a → Wants g actor b → a ≡ b
+wants_one g (ActorId.Hart k) a b x y = from_one (slice_get g.starts k) (g.steps (ActorId.Hart k)) a b x y
+wants_one g actor a b x y = absurd x
+
+-- the guest after an entry, by what of it matters
+abbrev after_by : Guest → PlaceId → ActorId → Op → Reply → Guest
+after_by g place actor op reply =
+    guest_after g (record { stamp = 0; before = 0; actor = actor; place = place; op = op; reply = reply })
+
+module _ (g h k : Guest) (event : Event) (d e : Entry) (x : FlatStep g event d h) (y : FlatStep g event e k) where
+  same_actor_id : d.actor ≡ e.actor
+  same_actor_id = x.actor ∙ sym y.actor
+
+  pub same_op : d.op ≡ e.op
+  same_op = wants_one g e.actor d.op e.op (subst (λ (a : ActorId). Wants g a d.op) same_actor_id x.want) y.want
+
+  pub same_place : d.place ≡ e.place
+  same_place = x.place ∙ ap (λ (o : Op). place_of (length g.memory.bytes) o) same_op ∙ sym y.place
+
+  pub same_reply : d.reply ≡ e.reply
+  same_reply =
+      answers_one e.place g e.actor e.op event.reply d.reply e.reply
+      (subst (λ (o : Op). Answers e.place g e.actor o event.reply d.reply) same_op
+      (subst (λ (a : ActorId). Answers e.place g a d.op event.reply d.reply) same_actor_id
+      (subst (λ (p : PlaceId). Answers p g d.actor d.op event.reply d.reply) same_place x.answer)))
+      y.answer
+
+  pub same_after : h ≡ k
+  same_after =
+      let middle : after_by g d.place d.actor d.op d.reply ≡ after_by g e.place e.actor e.op e.reply = λ i. after_by g (same_place i) (same_actor_id i) (same_op i) (same_reply i) in
+      x.after ∙ middle ∙ sym y.after
+
+abbrev All : ℕ → ℕ → Guest → Type 0
+All made count h = (made ≡ count) ⊎ ((made < count) × (h.board.off ≡ true))
+
+stopped : (g : Guest) (made count : ℕ) → All 0 count g → (suc made ≡ count) ⊎ (suc made < count) → g.board.off ≡ false → ⊥
+stopped g made count (inl none) (inl all) on = omega arith
+stopped g made count (inl none) (inr less) on = omega arith
+stopped g made count (inr off) later on = let is : g.board.off ≡ true = off.1 in cc
+
+sooner : (made count : ℕ) (h : Guest) → All made count h → (made ≡ count) ⊎ (made < count)
+sooner made count h (inl all) = inl all
+sooner made count h (inr less) = inr less.0
+
+fewer : (made count : ℕ) (h : Guest) → All (suc made) (suc count) h → All made count h
+fewer made count h (inl all) = inl (omega arith)
+fewer made count h (inr less) = inr (omega arith, less.1)
+
+some_left : (made count : ℕ) (h : Guest) → All (suc made) count h → (rest : ℕ) × (count ≡ suc rest)
+some_left made zero h (inl all) = absurd (omega arith)
+some_left made (suc rest) h (inl all) = (rest, refl)
+some_left made zero h (inr less) = let short = less.0 in absurd (omega arith)
+some_left made (suc rest) h (inr less) = (rest, refl)
+
+one_run : (ds es : List Entry) (g h k : Guest) (actor : ActorId) (count : ℕ) → Makes g actor ds h → All (length ds) count h → Makes g actor es k → All (length es) count k → h ≡ k
+one_run [] [] g h k actor count x m y n = sym x ∙ y
+one_run [] (e ∷ es) g h k actor count x m y n =
+    absurd (stopped g (length es) count (subst (λ (q : Guest). All 0 count q) (sym x) m) (sooner (suc (length es)) count k n) y.0)
+one_run (d ∷ ds) [] g h k actor count x m y n =
+    absurd (stopped g (length ds) count (subst (λ (q : Guest). All 0 count q) (sym y) n) (sooner (suc (length ds)) count h m) x.0)
+one_run (d ∷ ds) (e ∷ es) g h k actor count x m y n =
+    let left = some_left (length ds) count h m in
+    let rest : ℕ = left.0 in
+    let mid : x.1 ≡ y.1 = same_after g x.1 y.1 (record { actor = actor; reply = None }) d e x.2 y.2 in
+    one_run ds es y.1 h k actor rest (subst (λ (q : Guest). Makes q actor ds h) mid x.3) (fewer (length ds) rest h (subst (λ (c : ℕ). All (suc (length ds)) c h) left.1 m)) y.3 (fewer (length es) rest k (subst (λ (c : ℕ). All (suc (length es)) c k) left.1 n))
+
+pub several_one : (g h k : Guest) (actor : ActorId) (count : ℕ) (ds es : List Entry) → StepsBy g actor count ds h → StepsBy g actor count es k → h ≡ k
+several_one g h k actor count ds es x y = one_run ds es g h k actor count x.made x.all y.made y.all

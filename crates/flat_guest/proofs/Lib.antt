@@ -1,0 +1,5 @@
+pub mod HartOps
+pub mod Answering
+pub mod Determined
+pub mod Soundness
+pub mod Stepping

@@ -1,0 +1,11 @@
+use Rattle.flat_guest.proofs.Soundness.{sound_start, sound_next, actor_step}
+use Rattle.flat_guest.proofs.law.some_step.Goals as goal
+
+pub returns-clause-start : goal.returns-clause-start
+returns-clause-start c = sound_start
+
+pub returns-clause-step : goal.returns-clause-step
+returns-clause-step c = actor_step
+
+pub returns-clause-stays : goal.returns-clause-stays
+returns-clause-stays c = λ g h event e sound step. sound_next g event e h sound step

@@ -1,0 +1,68 @@
+-- The flat step: an actor's want is done where it belongs. And several of them.
+use Rattle.std.specs.Prelude.{ℕ, ◌≡◌, ◌<◌, true, false, if◌then◌else◌, List, [], ◌∷◌, ◌++◌, Option, Some, None, ◌⊎◌, length}
+use Rattle.vm_types.specs.declared.ids.ActorId.{ActorId}
+use Rattle.vm_types.specs.declared.ids.PlaceId.{PlaceId}
+use Rattle.vm_types.specs.declared.op.Op.{Op}
+use Rattle.vm_types.specs.declared.reply.Reply.{Reply}
+use Rattle.vm_types.specs.declared.entry.Step.{Step}
+use Rattle.vm_types.specs.declared.entry.Entry.{Entry}
+use Rattle.vm_types.specs.declared.entry.Event.{Event}
+use Rattle.vm_types.specs.Ids.{same_actor}
+use Rattle.vm_types.specs.Fits.{out_fits}
+use Rattle.guest_memory.specs.Memory as memory
+use Rattle.board_table.specs.Board as board
+use Rattle.flat_guest.specs.Guest.{Guest, Wants, place_of}
+
+-- with no place, a host object's reply is given and fits; a wait is done; an access is a fault
+abbrev pub AnswersOut : Op → Option Reply → Reply → Type 0
+AnswersOut (Op.Out act) given reply = (given ≡ Some reply) × (out_fits act reply ≡ true)
+AnswersOut Op.Idle given reply = (given ≡ None) × (reply ≡ Reply.Done)
+AnswersOut op given reply = (given ≡ None) × (reply ≡ Reply.AccessFault)
+
+-- what an act is answered, by its place
+abbrev pub Answers : PlaceId → Guest → ActorId → Op → Option Reply → Reply → Type 0
+Answers (PlaceId.Page i) g actor op given reply = (given ≡ None) × (reply ≡ (memory.touch g.memory actor op).0)
+Answers PlaceId.Board g actor op given reply = (given ≡ None) × (reply ≡ (board.touch g.board actor op).0)
+Answers (PlaceId.Port k) g actor op given reply = ⊥
+Answers PlaceId.Out g actor op given reply = AnswersOut op given reply
+
+-- what it leaves of memory and of the board
+abbrev pub memory_after : PlaceId → memory.Memory → ActorId → Op → memory.Memory
+memory_after (PlaceId.Page i) m actor op = (memory.touch m actor op).1
+memory_after place m actor op = m
+
+abbrev pub board_after : PlaceId → board.Board → ActorId → Op → board.Board
+board_after PlaceId.Board b actor op = (board.touch b actor op).1
+board_after place b actor op = b
+
+-- a step joins those of its actor
+abbrev pub steps_after : (ActorId → List Step) → ActorId → Step → ActorId → List Step
+steps_after steps actor s a = if same_actor a actor then steps a ++ s ∷ [] else steps a
+
+abbrev pub guest_after : Guest → Entry → Guest
+guest_after g e = record {
+  memory = memory_after e.place g.memory e.actor e.op;
+  board = board_after e.place g.board e.actor e.op;
+  starts = g.starts;
+  steps = steps_after g.steps e.actor (record { op = e.op; reply = e.reply });
+}
+
+-- an event: the actor's want is done by its place, or with the reply that is given
+pub record FlatStep (g : Guest) (event : Event) (e : Entry) (h : Guest) : Type 0 where
+  pub actor : e.actor ≡ event.actor
+  pub want : Wants g e.actor e.op
+  pub place : e.place ≡ place_of (length g.memory.bytes) e.op
+  pub answer : Answers e.place g e.actor e.op event.reply e.reply
+  pub after : h ≡ guest_after g e
+
+-- events of one actor, one after another, as long as the guest is on
+abbrev pub Makes : Guest → ActorId → List Entry → Guest → Type 0
+Makes g actor [] h = g ≡ h
+Makes g actor (e ∷ es) h =
+    (g.board.off ≡ false)
+    × (mid : Guest) × FlatStep g (record { actor = actor; reply = None }) e mid × Makes mid actor es h
+
+-- so many of them, or as many as there are before the guest is off
+pub record StepsBy (g : Guest) (actor : ActorId) (count : ℕ) (es : List Entry) (h : Guest) : Type 0 where
+  pub made : Makes g actor es h
+  pub all : (length es ≡ count) ⊎ ((length es < count) × (h.board.off ≡ true))

@@ -1,0 +1,26 @@
+// What holds of every guest.
+ghost use Rattle.std.specs.Prelude.{◌≡◌, ℕ, List, None, true};
+ghost use Rattle.vm_types.specs.declared.entry.Entry.{Entry};
+ghost use Rattle.vm_types.specs.declared.entry.Event.{Event};
+ghost use Rattle.vm_types.specs.declared.ids.ActorId.{ActorId};
+ghost use Rattle.flat_guest.specs.Guest.{Guest, is_actor};
+ghost use Rattle.flat_guest.specs.Sound.{IsSound};
+ghost use Rattle.flat_guest.specs.Start.{started};
+ghost use Rattle.flat_guest.specs.Steps.{FlatStep, StepsBy};
+
+/// An event does one thing: its op, its place, its reply and the guest after it are determined.
+pub fn one_step()
+    ensures op { (g h k : Guest) (event : Event) (d e : Entry) → FlatStep g event d h → FlatStep g event e k → d.op ≡ e.op }
+    ensures place { (g h k : Guest) (event : Event) (d e : Entry) → FlatStep g event d h → FlatStep g event e k → d.place ≡ e.place }
+    ensures reply { (g h k : Guest) (event : Event) (d e : Entry) → FlatStep g event d h → FlatStep g event e k → d.reply ≡ e.reply }
+    ensures after { (g h k : Guest) (event : Event) (d e : Entry) → FlatStep g event d h → FlatStep g event e k → h ≡ k }
+    ensures several { (g h k : Guest) (actor : ActorId) (count : ℕ) (ds es : List Entry) → StepsBy g actor count ds h → StepsBy g actor count es k → h ≡ k }
+{}
+
+/// A guest that has started is never stuck: each of its actors always has a next event, and so on.
+pub fn some_step()
+    ensures start { (mib : ℕ) (image : List ℕ) → IsSound (started mib image) }
+    ensures step { (g : Guest) (actor : ActorId) → IsSound g → is_actor g actor ≡ true →
+        (e : Entry) × (h : Guest) × FlatStep g (record { actor = actor; reply = None }) e h }
+    ensures stays { (g h : Guest) (event : Event) (e : Entry) → IsSound g → FlatStep g event e h → IsSound h }
+{}

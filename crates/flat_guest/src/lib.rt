@@ -1,0 +1,12 @@
+//! The flat machine's guest: memory as one list, the board, and harts by their traces.
+//!
+//! `specs/` says what a guest is, what an event does to it, and how it starts. `PlainGuest` computes that,
+//! for one hart, by the plain programs of memory, board and harts; `law` has what holds of every guest.
+#![tactic(auto)]
+
+mod law;
+mod place_of;
+mod plain_guest;
+
+pub use law::{one_step, some_step};
+pub use plain_guest::PlainGuest;
