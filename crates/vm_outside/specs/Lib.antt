@@ -1,0 +1,4 @@
+pub mod Filing
+pub mod Logged
+pub mod Passing
+pub mod Saving
