@@ -1,10 +1,14 @@
 // A guest with one hart, in the plainest way.
-ghost use Rattle.std.specs.Prelude.{◌≡◌, ◌≤◌, ◌^◌, length, List, None};
+ghost use Rattle.std.specs.Prelude.{◌≡◌, ◌≤◌, ◌^◌, true, length, List, None, IfOk};
+ghost use Rattle.guest_memory.specs.Boot.{image_fits, tree_start};
+ghost use Rattle.flat_guest.specs.Start.{start_regs};
 
 use crate::place_of::place;
 use board_table::PlainBoard;
-use guest_memory::PlainMemory;
+use guest_memory::{PlainMemory, start_memory};
+use hart_rows::{Regs, Turn};
 use hart_trace::Hart;
+use std::alloc::{AllocError, Global};
 use vm_types::{Actor, ActorId, Entry, Op, Place, PlaceId, Reply};
 
 /// Memory, the board and the one hart.
@@ -18,11 +22,54 @@ pub struct PlainGuest {
 
 const HART: ActorId = ActorId::Hart(0);
 
+// Where the device tree goes.
+fn tree_address(mem_size_mib: u64) -> u64
+    requires high { mem_size_mib ≤ 2 ^ 20 }
+    requires low { 1 ≤ mem_size_mib }
+    ensures { result ≡ tree_start mem_size_mib }
+{
+    0x8000_0000 + (mem_size_mib << 20) - 0x1_0000
+}
+
+// Hart 0 as the machine starts.
+fn start_regs(tree: u64) -> Regs
+    ensures { result ≡ start_regs tree }
+{
+    let mut x = [0; 32];
+    x[11] = tree;
+    Regs {
+        x,
+        pc: 0x8020_0000,
+        stvec: 0,
+        sepc: 0,
+        scause: 0,
+        stval: 0,
+        count: 32,
+        turn: Turn::Fetch,
+    }
+}
+
 impl PlainGuest {
     ghost use Rattle.vm_types.specs.declared.entry.Entry.{Entry};
     ghost use Rattle.flat_guest.specs.Guest.{Guest};
     ghost use Rattle.flat_guest.specs.Plain.{IsGuest, reply_at};
+    ghost use Rattle.flat_guest.specs.Start.{started};
     ghost use Rattle.flat_guest.specs.Steps.{FlatStep, StepsBy, board_after, guest_after, memory_after};
+
+    /// The guest as a start makes it, with so many MiB of memory, at most 2^20, and this image.
+    pub fn start(alloc: Global, mem_size_mib: u64, image: &[u8]) -> Result<PlainGuest, AllocError>
+        requires small { mem_size_mib ≤ 2 ^ 20 }
+        requires fits { image_fits mem_size_mib (length image.now) ≡ true }
+        ensures { IfOk result (λ guest. IsGuest guest.memory guest.board guest.hart (started mem_size_mib image.now)) }
+    {
+        let memory = start_memory(alloc, mem_size_mib, image)?;
+        let tree = tree_address(mem_size_mib);
+        Ok(PlainGuest {
+            memory,
+            board: PlainBoard::new(),
+            hart: Hart::new(start_regs(tree)),
+        })
+    }
 
     fn answer(&mut self, place: PlaceId, op: &Op) -> Reply
         ensures reply { result ≡ reply_at place self.old.memory self.old.board (ActorId.Hart 0) op.now }
