@@ -20,7 +20,7 @@ read_answered g actor at len false i = (refl, refl)
 
 pub answers_at : (g : Guest) (actor : ActorId) (size : ℕ) (op : Op) → is_hart_op op ≡ true → Answers (place_of size op) g actor op None (reply_at (place_of size op) g.memory g.board actor op)
 answers_at g actor size (Op.Read at len) is =
-    read_answered g actor at len (memory.is_ram size at len && nat_le ((at - memory.ram_start) % memory.page_size + len) memory.page_size) ((at - memory.ram_start) / memory.page_size)
+    read_answered g actor at len (nat_le 1 len && memory.is_ram size at len && nat_le ((at - memory.ram_start) % memory.page_size + len) memory.page_size) ((at - memory.ram_start) / memory.page_size)
 answers_at g actor size (Op.Board act) is = (refl, refl)
 answers_at g actor size Op.Idle is = (refl, refl)
 answers_at g actor size op is = cc
@@ -31,7 +31,7 @@ read_fits m b actor at len false i = refl
 
 pub answer_fits : (m : memory.Memory) (b : board.Board) (actor : ActorId) (size : ℕ) (op : Op) → is_hart_op op ≡ true → fits op (reply_at (place_of size op) m b actor op) ≡ true
 answer_fits m b actor size (Op.Read at len) is =
-    read_fits m b actor at len (memory.is_ram size at len && nat_le ((at - memory.ram_start) % memory.page_size + len) memory.page_size) ((at - memory.ram_start) / memory.page_size)
+    read_fits m b actor at len (nat_le 1 len && memory.is_ram size at len && nat_le ((at - memory.ram_start) % memory.page_size + len) memory.page_size) ((at - memory.ram_start) / memory.page_size)
 answer_fits m b actor size (Op.Board act) is = board_reply_fits b actor (Op.Board act) is
 answer_fits m b actor size Op.Idle is = refl
 answer_fits m b actor size op is = cc

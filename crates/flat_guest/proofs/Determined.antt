@@ -93,8 +93,8 @@ one_run (d ∷ ds) [] g h k actor count x m y n =
 one_run (d ∷ ds) (e ∷ es) g h k actor count x m y n =
     let left = some_left (length ds) count h m in
     let rest : ℕ = left.0 in
-    let mid : x.1 ≡ y.1 = same_after g x.1 y.1 (record { actor = actor; reply = None }) d e x.2 y.2 in
-    one_run ds es y.1 h k actor rest (subst (λ (q : Guest). Makes q actor ds h) mid x.3) (fewer (length ds) rest h (subst (λ (c : ℕ). All (suc (length ds)) c h) left.1 m)) y.3 (fewer (length es) rest k (subst (λ (c : ℕ). All (suc (length es)) c k) left.1 n))
+    let mid : x.2 ≡ y.2 = same_after g x.2 y.2 (record { actor = actor; reply = None }) d e x.3 y.3 in
+    one_run ds es y.2 h k actor rest (subst (λ (q : Guest). Makes q actor ds h) mid x.4) (fewer (length ds) rest h (subst (λ (c : ℕ). All (suc (length ds)) c h) left.1 m)) y.4 (fewer (length es) rest k (subst (λ (c : ℕ). All (suc (length es)) c k) left.1 n))
 
 pub several_one : (g h k : Guest) (actor : ActorId) (count : ℕ) (ds es : List Entry) → StepsBy g actor count ds h → StepsBy g actor count es k → h ≡ k
 several_one g h k actor count ds es x y = one_run ds es g h k actor count x.made x.all y.made y.all

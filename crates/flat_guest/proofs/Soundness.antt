@@ -1,5 +1,5 @@
 -- A guest that has started is never stuck.
-use Rattle.std.proofs.Common.{◌≡◌, ℕ, nat_lt, Bool, true, false, cond, refl, sym, ap, subst, List, [], ◌∷◌, ◌++◌, length, Option, Some, None, slice_get, get_or, ◌<◌, ◌≤◌, ◌⊎◌, inl, inr, arith}
+use Rattle.std.proofs.Common.{◌≡◌, ℕ, zero, suc, nat_lt, Bool, true, false, cond, refl, sym, ap, subst, List, [], ◌∷◌, ◌++◌, length, Option, Some, None, slice_get, get_or, ◌<◌, ◌≤◌, ◌⊎◌, inl, inr, arith}
 use Rattle.std.proofs.lemmas.Bool.{eqb-true}
 use borrow.Author.Tests.{ltb-true}
 use Rattle.std.proofs.lemmas.Option.{slice_get_cases}
@@ -19,7 +19,7 @@ use Rattle.hart_trace.proofs.Traces.{leads_start, hart_prefix, some_hart, some_o
 use Rattle.flat_guest.specs.Guest.{Guest, Wants, WantsFrom, place_of, is_actor}
 use Rattle.flat_guest.specs.Sound.{IsSound}
 use Rattle.flat_guest.specs.Start.{started}
-use Rattle.flat_guest.specs.Steps.{Answers, AnswersOut, FlatStep, guest_after}
+use Rattle.flat_guest.specs.Steps.{IsUnstamped, StepsBy, Answers, AnswersOut, FlatStep, guest_after}
 use Rattle.flat_guest.specs.Plain.{reply_at, out_reply}
 use Rattle.flat_guest.proofs.HartOps.{is_hart_op, hart_op}
 use Rattle.flat_guest.proofs.Answering.{answers_at, answer_fits}
@@ -90,7 +90,7 @@ missing : (starts : List Regs) (k : ℕ) → slice_get starts k ≡ None → nat
 missing starts k none there =
     found_or_past starts k none (slice_get_cases starts k).1 (ltb-true k (length starts) there)
 
-hart_step_by : (g : Guest) (k : ℕ) (o : Option Regs) → slice_get g.starts k ≡ o → IsSound g → nat_lt k (length g.starts) ≡ true → (e : Entry) × (h : Guest) × FlatStep g (record { actor = ActorId.Hart k; reply = None }) e h
+hart_step_by : (g : Guest) (k : ℕ) (o : Option Regs) → slice_get g.starts k ≡ o → IsSound g → nat_lt k (length g.starts) ≡ true → (e : Entry) × (h : Guest) × IsUnstamped e × FlatStep g (record { actor = ActorId.Hart k; reply = None }) e h
 hart_step_by g k None is sound there = absurd (missing g.starts k is there)
 hart_step_by g k (Some start) is sound there =
     let actor : ActorId = ActorId.Hart k in
@@ -101,6 +101,7 @@ hart_step_by g k (Some start) is sound there =
     let want : Wants g actor op = subst (λ (start : Option Regs). WantsFrom start (g.steps actor) op) (sym is) some.1 in (
       e,
       guest_after g e,
+      (refl, refl),
       record {
         actor = refl;
         want = want;
@@ -110,6 +111,31 @@ hart_step_by g k (Some start) is sound there =
       },
     )
 
-pub actor_step : (g : Guest) (actor : ActorId) → IsSound g → is_actor g actor ≡ true → (e : Entry) × (h : Guest) × FlatStep g (record { actor = actor; reply = None }) e h
+pub actor_step : (g : Guest) (actor : ActorId) → IsSound g → is_actor g actor ≡ true → (e : Entry) × (h : Guest) × IsUnstamped e × FlatStep g (record { actor = actor; reply = None }) e h
 actor_step g (ActorId.Hart k) sound there = hart_step_by g k (slice_get g.starts k) refl sound there
 actor_step g actor sound there = cc
+
+kept : (g : Guest) (e : Entry) (actor : ActorId) → is_actor g actor ≡ true → is_actor (guest_after g e) actor ≡ true
+kept g e (ActorId.Hart k) there = there
+kept g e ActorId.Timer there = there
+kept g e (ActorId.Device k) there = there
+
+actor_after : (g : Guest) (event : Event) (e : Entry) (h : Guest) (actor : ActorId) → FlatStep g event e h → is_actor g actor ≡ true → is_actor h actor ≡ true
+actor_after g event e h actor step there = subst (λ (q : Guest). is_actor q actor ≡ true) (sym step.after) (kept g e actor there)
+
+longer : (made n : ℕ) (h : Guest) → (made ≡ n) ⊎ ((made < n) × (h.board.off ≡ true)) → (suc made ≡ suc n) ⊎ ((suc made < suc n) × (h.board.off ≡ true))
+longer made n h (inl all) = inl (omega arith)
+longer made n h (inr less) = inr (omega arith, less.1)
+
+by_off : (n : ℕ) (g : Guest) (actor : ActorId) (off : Bool) → g.board.off ≡ off → IsSound g → is_actor g actor ≡ true → ((h : Guest) → IsSound h → is_actor h actor ≡ true → (es : List Entry) × (k : Guest) × StepsBy h actor n es k) → (es : List Entry) × (h : Guest) × StepsBy g actor (suc n) es h
+by_off n g actor true is sound there some = ([], g, record { made = refl; all = inr (omega arith, is) })
+by_off n g actor false is sound there some =
+    let first = actor_step g actor sound there in
+    let event : Event = record { actor = actor; reply = None } in
+    let rest = some first.1 (sound_next g event first.0 first.1 sound first.3) (actor_after g event first.0 first.1 actor first.3 there) in
+    (first.0 ∷ rest.0, rest.1, record { made = (is, first.2, first.1, first.3, rest.2.made); all = longer (length rest.0) n rest.1 rest.2.all })
+
+pub actor_steps : (count : ℕ) (g : Guest) (actor : ActorId) → IsSound g → is_actor g actor ≡ true → (es : List Entry) × (h : Guest) × StepsBy g actor count es h
+actor_steps zero g actor sound there = ([], g, record { made = refl; all = inl refl })
+actor_steps (suc n) g actor sound there =
+    by_off n g actor g.board.off refl sound there (λ h sound_h there_h. actor_steps n h actor sound_h there_h)

@@ -15,7 +15,7 @@ use Rattle.hart_trace.specs.States.{LeadsTo, hart_wants, hart_next}
 use Rattle.hart_trace.proofs.Leads.{leads_next}
 use Rattle.hart_trace.proofs.Traces.{hart_continues}
 use Rattle.flat_guest.specs.Guest.{Guest, Wants, WantsFrom, place_of}
-use Rattle.flat_guest.specs.Steps.{Answers, FlatStep, Makes, StepsBy, guest_after, memory_after, board_after}
+use Rattle.flat_guest.specs.Steps.{Answers, FlatStep, IsUnstamped, Makes, StepsBy, guest_after, memory_after, board_after}
 use Rattle.flat_guest.specs.Plain.{IsGuest, reply_at}
 use Rattle.flat_guest.proofs.HartOps.{hart_op}
 use Rattle.flat_guest.proofs.Answering.{answers_at, answer_fits}
@@ -85,11 +85,11 @@ stays m n b d hart next g op place reply is want at answer memory_new board_new 
     let here = stays_here m b hart g is in
     rw (memory_new, board_new, hart_new, gives, all_at, want) here
 
-makes_more : (g h : Guest) (actor : ActorId) (es : List Entry) (e : Entry) (k : Guest) → Makes g actor es h → h.board.off ≡ false → FlatStep h (record { actor = actor; reply = None }) e k → Makes g actor (es ++ e ∷ []) k
-makes_more g h actor [] e k made on step =
-    (subst (λ (x : Guest). x.board.off ≡ false) (sym made) on, k, subst (λ (x : Guest). FlatStep x (record { actor = actor; reply = None }) e k) (sym made) step, refl)
-makes_more g h actor (d ∷ es) e k made on step =
-    (made.0, made.1, made.2, makes_more made.1 h actor es e k made.3 on step)
+makes_more : (g h : Guest) (actor : ActorId) (es : List Entry) (e : Entry) (k : Guest) → Makes g actor es h → h.board.off ≡ false → IsUnstamped e → FlatStep h (record { actor = actor; reply = None }) e k → Makes g actor (es ++ e ∷ []) k
+makes_more g h actor [] e k made on unstamped step =
+    (subst (λ (x : Guest). x.board.off ≡ false) (sym made) on, unstamped, k, subst (λ (x : Guest). FlatStep x (record { actor = actor; reply = None }) e k) (sym made) step, refl)
+makes_more g h actor (d ∷ es) e k made on unstamped step =
+    (made.0, made.1, made.2, made.3, makes_more made.2 h actor es e k made.4 on unstamped step)
 
 -- so many events were made, from any guest that the data were, to one that they are
 abbrev pub HasMade : memory.Memory → board.Board → Hart → ℕ → memory.Memory → board.Board → Hart → Type 0
@@ -99,13 +99,13 @@ HasMade m b hart count n d next =
 pub has_made_none : (m : memory.Memory) (b : board.Board) (hart : Hart) → HasMade m b hart 0 m b hart
 has_made_none m b hart g is = ([], g, refl, refl, is)
 
-pub has_made_more : (m n k : memory.Memory) (b d f : board.Board) (hart next last : Hart) (count : ℕ) (e : Entry) → HasMade m b hart count n d next → d.off ≡ false → ((g : Guest) → IsGuest n d next g → FlatStep g hart_event e (guest_after g e)) → ((g : Guest) → IsGuest n d next g → IsGuest k f last (guest_after g e)) → HasMade m b hart (count + 1) k f last
-has_made_more m n k b d f hart next last count e made on step stay g is =
+pub has_made_more : (m n k : memory.Memory) (b d f : board.Board) (hart next last : Hart) (count : ℕ) (e : Entry) → HasMade m b hart count n d next → d.off ≡ false → IsUnstamped e → ((g : Guest) → IsGuest n d next g → FlatStep g hart_event e (guest_after g e)) → ((g : Guest) → IsGuest n d next g → IsGuest k f last (guest_after g e)) → HasMade m b hart (count + 1) k f last
+has_made_more m n k b d f hart next last count e made on unstamped step stay g is =
     let before = made g is in
     let h = before.1 in (
       before.0 ++ e ∷ [],
       guest_after h e,
-      makes_more g h (HartId 0) before.0 e (guest_after h e) before.2 (ap (λ (x : board.Board). x.off) (sym before.4.board_is) ∙ on) (step h before.4),
+      makes_more g h (HartId 0) before.0 e (guest_after h e) before.2 (ap (λ (x : board.Board). x.off) (sym before.4.board_is) ∙ on) unstamped (step h before.4),
       omega (arith, length-append before.0 (e ∷ []), before.3),
       stay h before.4,
     )

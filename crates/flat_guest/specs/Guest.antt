@@ -36,10 +36,10 @@ abbrev pub width_of : Bool → ℕ
 width_of true = 8
 width_of false = 4
 
--- the place of an access: the page that has all of its bytes
+-- the place of an access: the page that has all of its bytes, which are one at least
 abbrev pub page_of : ℕ → ℕ → ℕ → PlaceId
 page_of size at len =
-    if is_ram size at len && nat_le ((at - ram_start) % page_size + len) page_size
+    if nat_le 1 len && is_ram size at len && nat_le ((at - ram_start) % page_size + len) page_size
     then PlaceId.Page ((at - ram_start) / page_size) else PlaceId.Out
 
 -- the place of an op, in a memory of this size; an act on a host object, a wait and an access outside

@@ -40,10 +40,9 @@ abbrev pub steps_after : (ActorId → List Step) → ActorId → Step → ActorI
 steps_after steps actor s a = if same_actor a actor then steps a ++ s ∷ [] else steps a
 
 abbrev pub guest_after : Guest → Entry → Guest
-guest_after g e = record {
+guest_after g e = record g {
   memory = memory_after e.place g.memory e.actor e.op;
   board = board_after e.place g.board e.actor e.op;
-  starts = g.starts;
   steps = steps_after g.steps e.actor (record { op = e.op; reply = e.reply });
 }
 
@@ -55,11 +54,15 @@ pub record FlatStep (g : Guest) (event : Event) (e : Entry) (h : Guest) : Type 0
   pub answer : Answers e.place g e.actor e.op event.reply e.reply
   pub after : h ≡ guest_after g e
 
+-- outside a slice an entry has no stamps
+abbrev pub IsUnstamped : Entry → Type 0
+IsUnstamped e = (e.stamp ≡ 0) × (e.before ≡ 0)
+
 -- events of one actor, one after another, as long as the guest is on
 abbrev pub Makes : Guest → ActorId → List Entry → Guest → Type 0
 Makes g actor [] h = g ≡ h
 Makes g actor (e ∷ es) h =
-    (g.board.off ≡ false)
+    (g.board.off ≡ false) × IsUnstamped e
     × (mid : Guest) × FlatStep g (record { actor = actor; reply = None }) e mid × Makes mid actor es h
 
 -- so many of them, or as many as there are before the guest is off

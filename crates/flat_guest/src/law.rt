@@ -6,7 +6,7 @@ ghost use Rattle.vm_types.specs.declared.ids.ActorId.{ActorId};
 ghost use Rattle.flat_guest.specs.Guest.{Guest, is_actor};
 ghost use Rattle.flat_guest.specs.Sound.{IsSound};
 ghost use Rattle.flat_guest.specs.Start.{started};
-ghost use Rattle.flat_guest.specs.Steps.{FlatStep, StepsBy};
+ghost use Rattle.flat_guest.specs.Steps.{FlatStep, IsUnstamped, StepsBy};
 
 /// An event does one thing: its op, its place, its reply and the guest after it are determined.
 pub fn one_step()
@@ -21,6 +21,8 @@ pub fn one_step()
 pub fn some_step()
     ensures start { (mib : ℕ) (image : List ℕ) → IsSound (started mib image) }
     ensures step { (g : Guest) (actor : ActorId) → IsSound g → is_actor g actor ≡ true →
-        (e : Entry) × (h : Guest) × FlatStep g (record { actor = actor; reply = None }) e h }
+        (e : Entry) × (h : Guest) × IsUnstamped e × FlatStep g (record { actor = actor; reply = None }) e h }
     ensures stays { (g h : Guest) (event : Event) (e : Entry) → IsSound g → FlatStep g event e h → IsSound h }
+    ensures several { (count : ℕ) (g : Guest) (actor : ActorId) → IsSound g → is_actor g actor ≡ true →
+        (es : List Entry) × (h : Guest) × StepsBy g actor count es h }
 {}

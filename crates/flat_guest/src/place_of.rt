@@ -19,7 +19,7 @@ fn page(size: usize, at: GuestAddr, len: usize) -> PlaceId
     requires { size ≤ 2 ^ 40 }
     ensures { result ≡ page_of size at len }
 {
-    if at < RAM_START {
+    if len < 1 || at < RAM_START {
         return PlaceId::Out;
     }
     let offset = at - RAM_START;

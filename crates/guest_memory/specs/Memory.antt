@@ -41,7 +41,7 @@ granule_of r = ram_start + page_size * r.page + r.offset
 
 -- bytes at an address have one in the granule
 abbrev pub reaches : ℕ → ℕ → Reservation → Bool
-reaches at len r = nat_lt at (granule_of r + 8) && nat_lt (granule_of r) (at + len)
+reaches at len r = nat_le 1 len && nat_lt at (granule_of r + 8) && nat_lt (granule_of r) (at + len)
 
 -- what writes a granule ends it for every other hart
 abbrev pub survives : ActorId → ℕ → ℕ → Reservation → Bool

@@ -1,4 +1,4 @@
-use Rattle.flat_guest.proofs.Soundness.{sound_start, sound_next, actor_step}
+use Rattle.flat_guest.proofs.Soundness.{sound_start, sound_next, actor_step, actor_steps}
 use Rattle.flat_guest.proofs.law.some_step.Goals as goal
 
 pub returns-clause-start : goal.returns-clause-start
@@ -9,3 +9,6 @@ returns-clause-step c = actor_step
 
 pub returns-clause-stays : goal.returns-clause-stays
 returns-clause-stays c = λ g h event e sound step. sound_next g event e h sound step
+
+pub returns-clause-several : goal.returns-clause-several
+returns-clause-several c = actor_steps

@@ -9,7 +9,7 @@ loop-left-preserved c =
     record {
       within = omega arith;
       made = subst (λ (n : ℕ). HasMade c.args.self.now.memory c.args.self.now.board c.args.self.now.hart n c.step-entry.new.self.memory c.step-entry.new.self.board c.step-entry.new.self.hart) one
-          (has_made_more _ _ _ _ _ _ _ _ _ _ c.step-entry.result c.loop-left.invariant.made on c.step-entry.ensures.step c.step-entry.ensures.stays);
+          (has_made_more _ _ _ _ _ _ _ _ _ _ c.step-entry.result c.loop-left.invariant.made on (c.step-entry.ensures.stamp, c.step-entry.ensures.before) c.step-entry.ensures.step c.step-entry.ensures.stays);
     }
 
 pub returns-else-not-is_off : goal.returns-else-not-is_off
