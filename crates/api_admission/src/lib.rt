@@ -2,7 +2,7 @@
 #![tactic(auto)]
 
 ghost use Rattle.std.specs.Prelude.{◌≡◌};
-ghost use Rattle.board_table.specs.Echo.{echo_of};
+ghost use Rattle.api_admission.specs.Echo.{echo_of};
 
 // The `ensures` clause is the contract: what `echo` returns is `echo_of` of its argument, a definition
 // in `specs/Echo.antt`, which a caller's clause can cite too.

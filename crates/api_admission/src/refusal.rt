@@ -1,0 +1,38 @@
+// The refusals of calls and files, in the table's order.
+
+/// Why a call, a file or a merge is refused.
+#[derive(Clone, Copy, Debug, PartialEq, Eq, Drop)]
+pub enum Refusal {
+    NoSuchPath,
+    NoSuchMethod,
+    NotJson,
+    UnknownField,
+    MissingField,
+    WrongKind,
+    OutOfRange,
+    TooLarge,
+    BadHead,
+    OnlyBeforeBoot,
+    OnlyAfterBoot,
+    NotPaused,
+    AlreadyConfigured,
+    NoBootSource,
+    SecondRootDrive,
+    NoSuchId,
+    DoesNotFit,
+    NoSuchFile,
+    TooManyDevices,
+    NotTracked,
+    NoBase,
+    GateClosed,
+    WrongMagic,
+    BadField,
+    SizesDiffer,
+    MergeUnfinished,
+    ParentDiffers,
+    NoSlotLeft,
+    StatisticsOff,
+    OutsideFailed,
+    OutOfMemory,
+    StoreNotInitialized,
+}
