@@ -1,13 +1,16 @@
-// A library with one function.
+//! Which calls of the API are allowed, what each is answered, and what it configures.
+//!
+//! `refusal_of` is the table of checks: the first that fits refuses. `answer_call` gives the status and the body
+//! of every call, and `Config::configure` what an allowed one leaves configured. Nothing here asks a file:
+//! `asks_files` says for which calls the length of the kernel image has to be known before.
 #![tactic(auto)]
 
-ghost use Rattle.std.specs.Prelude.{◌≡◌};
-ghost use Rattle.api_admission.specs.Echo.{echo_of};
+mod admission;
+mod answer;
+mod config;
+mod refusal;
 
-// The `ensures` clause is the contract: what `echo` returns is `echo_of` of its argument, a definition
-// in `specs/Echo.antt`, which a caller's clause can cite too.
-pub fn echo(x: usize) -> usize
-    ensures { result ≡ echo_of x }
-{
-    x
-}
+pub use admission::{asks_files, refusal_of};
+pub use answer::{Answer, answer_call, fault_answer};
+pub use config::{Config, Phase};
+pub use refusal::Refusal;
