@@ -5,7 +5,6 @@ use Rattle.vm_types.specs.declared.item.ApiCall.{ApiCall}
 use Rattle.vm_types.specs.declared.item.ApiCall.TheVariants.{PutBootSource, PutMachineConfig, InstanceStart, GetInstance}
 use Rattle.api_admission.specs.declared.config.Config.{Config}
 use Rattle.api_admission.specs.declared.config.Phase.{Phase}
-use Rattle.api_admission.specs.declared.config.Phase.TheVariants as Phase
 use Rattle.api_admission.specs.declared.refusal.Refusal.{Refusal}
 use Rattle.api_admission.specs.declared.refusal.Refusal.TheVariants as refusal
 

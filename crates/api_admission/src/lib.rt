@@ -9,6 +9,8 @@ mod admission;
 mod answer;
 mod config;
 mod refusal;
+#[cfg(test)]
+mod tests;
 
 pub use admission::{asks_files, refusal_of};
 pub use answer::{Answer, answer_call, fault_answer};

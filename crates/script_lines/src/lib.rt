@@ -1,13 +1,18 @@
-// A library with one function.
+//! A script's lines, read into items, and the lines that a run writes.
+//!
+//! `first_line` finds where the first line of a text ends, and `item_from` reads one line. `reply_line`,
+//! `console_line` and `last_line` give the bytes of what is answered, shown and told at the end.
 #![tactic(auto)]
 
-ghost use Rattle.std.specs.Prelude.{◌≡◌};
-ghost use Rattle.script_lines.specs.Echo.{echo_of};
+mod call;
+mod hex_bytes;
+mod item;
+mod lines;
+mod number;
+mod output;
+mod text;
+mod words;
 
-// The `ensures` clause is the contract: what `echo` returns is `echo_of` of its argument, a definition
-// in `specs/Echo.antt`, which a caller's clause can cite too.
-pub fn echo(x: usize) -> usize
-    ensures { result ≡ echo_of x }
-{
-    x
-}
+pub use item::item_from;
+pub use lines::first_line;
+pub use output::{console_line, last_line, reply_line};
