@@ -1,0 +1,5 @@
+pub mod Decimals
+pub mod Hex
+pub mod Parts
+pub mod Texts
+pub mod Ends

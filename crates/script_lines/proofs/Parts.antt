@@ -1,0 +1,70 @@
+-- What is behind and before bytes.
+use Rattle.std.proofs.Common.{Bor, MatchOption, ◌≡◌, ℕ, ◌+◌, ◌-◌, ◌≤◌, ◌==◌, nat_eq, nat_le, Bool, true, false, cond, if◌then◌else◌, ◌&&◌, Option, List, [], ◌∷◌, length, take, drop, Some, None, refl, sym, ◌∙◌, ap, arith}
+use Rattle.std.proofs.lemmas.Bool.{le-leb}
+use Rattle.std.proofs.lemmas.Bool.Decides.{nat_tests}
+use Rattle.std.specs.Cmp.Lexicographic.{pointwise}
+use Rattle.script_lines.specs.Items.{behind, before, nothing_behind}
+
+turned : (c d : ℕ) → (c == d) ≡ nat_eq d c
+turned c d = grind (arith, nat_tests)
+
+found_by : (b p : Bool) (rest : Option (List ℕ)) (v : List ℕ) → (p ≡ true → rest ≡ Some v) → (b && p) ≡ true → (if b then rest else None) ≡ Some v
+found_by true p rest v h same = h same
+found_by false p rest v h same = cc
+
+lacks_by : (b p : Bool) (rest : Option (List ℕ)) → (p ≡ false → rest ≡ None) → (b && p) ≡ false → (if b then rest else None) ≡ None
+lacks_by true p rest h same = h same
+lacks_by false p rest h same = refl
+
+pub behind_found : (front line : List ℕ) → pointwise nat_eq (take (length front) line) front ≡ true → behind front line ≡ Some (drop (length front) line)
+behind_found [] line same = refl
+behind_found (c ∷ front) [] same = cc
+behind_found (c ∷ front) (d ∷ line) same =
+    rw (turned c d) (found_by (nat_eq d c) (pointwise nat_eq (take (length front) line) front) (behind front line) (drop (length front) line) (behind_found front line) same)
+
+pub behind_lacks : (front line : List ℕ) → pointwise nat_eq (take (length front) line) front ≡ false → behind front line ≡ None
+behind_lacks [] line same = cc
+behind_lacks (c ∷ front) [] same = refl
+behind_lacks (c ∷ front) (d ∷ line) same =
+    rw (turned c d) (lacks_by (nat_eq d c) (pointwise nat_eq (take (length front) line) front) (behind front line) (behind_lacks front line) same)
+
+whole_by : (b p : Bool) (rest : Option (List ℕ)) → nothing_behind rest ≡ p → nothing_behind (if b then rest else None) ≡ (b && p)
+whole_by true p rest h = h
+whole_by false p rest h = refl
+
+-- nothing is behind bytes in themselves alone
+pub whole : (front line : List ℕ) → nothing_behind (behind front line) ≡ pointwise nat_eq line front
+whole [] [] = refl
+whole [] (d ∷ line) = refl
+whole (c ∷ front) [] = refl
+whole (c ∷ front) (d ∷ line) =
+    rw (turned c d) (whole_by (nat_eq d c) (pointwise nat_eq line front) (behind front line) (whole front line))
+
+pub before_found : (back line : List ℕ) (n : ℕ) → n + length back ≡ length line → pointwise nat_eq (drop (length line - length back) line) back ≡ true → before back line ≡ Some (take (length line - length back) line)
+before_found back line n long same =
+    let room : nat_le (length back) (length line) ≡ true = le-leb (length back) (length line) (omega arith) in
+    let all : nothing_behind (behind back (drop (length line - length back) line)) ≡ true = whole back (drop (length line - length back) line) ∙ same in
+    rw (room, all) refl
+
+lacks_both : (b : Bool) (v : List ℕ) → (if b && false then Some v else None) ≡ None
+lacks_both true v = refl
+lacks_both false v = refl
+
+pub before_lacks : (back line : List ℕ) → pointwise nat_eq (drop (length line - length back) line) back ≡ false → before back line ≡ None
+before_lacks back line same =
+    let none : nothing_behind (behind back (drop (length line - length back) line)) ≡ false = whole back (drop (length line - length back) line) ∙ same in
+    rw none (lacks_both (nat_le (length back) (length line)) (take (length line - length back) line))
+
+pub behind_is : (front line : List ℕ) (r : Option (Bor (List ℕ)))
+    → MatchOption r (pointwise nat_eq (take (length front) line) front ≡ false)
+      (λ x. (pointwise nat_eq (take (length front) line) front ≡ true) × (x.now ≡ drop (length front) line) × (length x.now + length front ≡ length line))
+    → MatchOption r (behind front line ≡ None) (λ rest. behind front line ≡ Some rest.now)
+behind_is front line None lacks = behind_lacks front line lacks
+behind_is front line (Some x) found = behind_found front line found.0 ∙ ap Some (sym found.1)
+
+pub before_is : (back line : List ℕ) (r : Option (Bor (List ℕ)))
+    → MatchOption r (pointwise nat_eq (drop (length line - length back) line) back ≡ false)
+      (λ x. (pointwise nat_eq (drop (length line - length back) line) back ≡ true) × (x.now ≡ take (length line - length back) line) × (length x.now + length back ≡ length line))
+    → MatchOption r (before back line ≡ None) (λ rest. before back line ≡ Some rest.now)
+before_is back line None lacks = before_lacks back line lacks
+before_is back line (Some x) found = before_found back line (length x.now) found.2 found.0 ∙ ap Some (sym found.1)

@@ -1,0 +1,18 @@
+//! A script's lines, read into items, and the lines that a run writes.
+//!
+//! `first_line` finds where the first line of a text ends, and `item_from` reads one line. `reply_line`,
+//! `console_line` and `last_line` give the bytes of what is answered, shown and told at the end.
+#![tactic(auto)]
+
+mod call;
+mod hex_bytes;
+mod item;
+mod lines;
+mod number;
+mod output;
+mod text;
+mod words;
+
+pub use item::item_from;
+pub use lines::first_line;
+pub use output::{console_line, last_line, reply_line};

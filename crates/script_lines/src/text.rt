@@ -1,0 +1,48 @@
+// Bytes that are a text.
+ghost use Rattle.std.specs.Prelude.{◌≡◌, if◌then◌else◌, IfOk};
+ghost use Rattle.std.specs.List.{list_all};
+ghost use Rattle.script_lines.specs.Items.{is_alphanumeric, is_path, is_text};
+
+use crate::number::is_digit;
+use std::alloc::{AllocError, Global};
+use vm_types::TextList;
+
+#[tactic(auto, using(crate::proofs::Texts::text_is))]
+/// The text that these bytes are, if they are UTF-8.
+pub fn text_from(alloc: Global, bytes: &[u8]) -> Result<Option<TextList>, AllocError>
+    ensures { IfOk result (λ text. text ≡ (if is_text bytes.now then Some bytes.now else None)) }
+{
+    match str::from_utf8(bytes) {
+        Ok(text) => Ok(Some(TextList::copy_of(alloc, text)?)),
+        Err(_) => Ok(None),
+    }
+}
+
+/// The path of a kernel image that these bytes are: 1 to 64 ASCII letters and digits.
+pub fn path_from(alloc: Global, bytes: &[u8]) -> Result<Option<TextList>, AllocError>
+    ensures { IfOk result (λ path. path ≡ (if is_path bytes.now then Some bytes.now else None)) }
+{
+    if is_path(bytes) {
+        Ok(text_from(alloc, bytes)?)
+    } else {
+        Ok(None)
+    }
+}
+
+fn is_path(bytes: &[u8]) -> bool
+    ensures { result ≡ is_path bytes.now }
+{
+    1 <= bytes.len() && bytes.len() <= 64 && are_alphanumeric(bytes)
+}
+
+fn are_alphanumeric(bytes: &[u8]) -> bool
+    ensures { result ≡ list_all is_alphanumeric bytes.now }
+{
+    bytes.iter().all(|c| is_alphanumeric(*c))
+}
+
+fn is_alphanumeric(c: u8) -> bool
+    ensures { result ≡ is_alphanumeric c }
+{
+    is_digit(c) || (b'A' <= c && c <= b'Z') || (b'a' <= c && c <= b'z')
+}
