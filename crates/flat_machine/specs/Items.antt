@@ -14,9 +14,12 @@ use Rattle.flat_machine.specs.Machine.{Machine}
 use Rattle.flat_machine.specs.Requests.{RequestStep}
 
 -- events of an actor that there is write nothing
-abbrev pub Moves : Guest → ActorId → ℕ → Machine → List ℕ → Machine → Type 0
-Moves g actor count m text n =
-    (text ≡ []) × (es : List Entry) × (h : Guest) × StepsBy g actor count es h × (n ≡ record m { guest = Some h })
+pub record Moves (g : Guest) (actor : ActorId) (count : ℕ) (m : Machine) (text : List ℕ) (n : Machine) : Type 0 where
+  pub entries : List Entry
+  pub end : Guest
+  pub made : StepsBy g actor count entries end
+  pub quiet : text ≡ []
+  pub leaves : n ≡ record m { guest = Some end }
 
 -- a step line; where it doesn't apply it changes nothing
 abbrev pub StepsLine : Option Guest → ActorId → ℕ → Machine → List ℕ → Machine → Type 0

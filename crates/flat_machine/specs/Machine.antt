@@ -1,10 +1,8 @@
 -- The flat machine as data.
 use Rattle.std.specs.Prelude.{ℕ, Bool, false, List, [], Option, Some, None}
 use Rattle.vm_types.specs.Saved.{Saved}
-use Rattle.board_table.specs.Board.{Board}
 use Rattle.api_admission.specs.declared.config.Config.{Config}
 use Rattle.api_admission.specs.declared.config.Phase.{Phase}
-use Rattle.api_admission.specs.declared.config.Phase.TheVariants as Phase
 use Rattle.flat_guest.specs.Guest.{Guest}
 
 -- its id, what was configured, what each name holds in the files, and the guest once it has started

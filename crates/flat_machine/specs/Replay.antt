@@ -1,15 +1,32 @@
 -- The replay of a whole script.
-use Rattle.std.specs.Prelude.{ℕ, ◌≡◌, ◌+◌, true, false, if◌then◌else◌, List, [], ◌∷◌, ◌++◌, length, map, Option, Some, None, ◌⊎◌}
+use Rattle.std.specs.Prelude.{ℕ, ◌≡◌, ◌+◌, ◌^◌, nat_le, true, false, if◌then◌else◌, List, [], ◌∷◌, ◌++◌, length, map, take, codes, Option, Some, None, ◌⊎◌}
 use Rattle.vm_types.specs.declared.item.Item.{Item}
 use Rattle.vm_types.specs.declared.exit.Exit.{Exit}
 use Rattle.vm_types.specs.declared.exit.Exit.TheVariants.{Done, Script}
+use Rattle.vm_types.specs.Causes.{RoseBy}
 use Rattle.script_lines.specs.Lines.{judged}
 use Rattle.script_lines.specs.Output.{console_line, last_line, off_line}
 use Rattle.flat_machine.specs.Machine.{Machine, console_of, drained, is_off}
-use Rattle.flat_machine.specs.Run.{Act, Run}
+use Rattle.flat_machine.specs.Run.{Act, Run, failures}
 
--- why a replay ends where no host object fails and there is memory: no line is left, or the guest is off;
--- or the next line, of this number, is no line of a script. After the guest is off no line is judged.
+-- the id of a machine that is given none
+abbrev pub default_id : List ℕ
+default_id = codes "anonymous-instance"
+
+-- the most bytes that a script has
+abbrev pub longest_script : ℕ
+longest_script = 2 ^ 63
+
+-- each line's item, and None for what is no line; the line with the first byte too many is none, and it
+-- is the last that is judged
+abbrev pub judged_script : List ℕ → List (Option Item)
+judged_script script =
+    if nat_le (length script) longest_script then judged script
+    else judged (take longest_script script) ++ None ∷ []
+
+-- why a replay ends, where no host object's failure and no want of memory ends it: no line is left, or the
+-- guest is off; or the next line, of this number, is no line of a script. After the guest is off no line is
+-- judged.
 abbrev pub EndsBy : Exit → List (Option Item) → ℕ → Machine → Type 0
 EndsBy Done left number m = (left ≡ []) ⊎ (is_off m ≡ true)
 EndsBy (Script line) left number m =
@@ -26,14 +43,15 @@ abbrev pub after_ending : Exit → Machine → Machine
 after_ending Done m = drained m
 after_ending exit m = m
 
--- from the machine at the start a script's replay comes to this exit, writes this text and leaves this
--- machine, with its lines gone as these acts
-pub record IsReplay (script : List ℕ) (start : Machine) (acts : List Act) (exit : Exit) (text : List ℕ) (end : Machine) : Type 0 where
+-- From the machine at the start a script's replay comes to this exit, writes this text and leaves this
+-- machine, with its lines gone as these acts. Each act that was answered 500 was counted by the files.
+pub record IsReplay (script : List ℕ) (start : Machine) (acts : List Act) (exit : Exit) (text : List ℕ) (end : Machine) (faults_before faults_now : ℕ) : Type 0 where
   pub answers : List ℕ
   pub last : Machine
   pub left : List (Option Item)
-  pub lines : judged script ≡ map (λ act. Some act.item) acts ++ left
+  pub lines : judged_script script ≡ map (λ act. Some act.item) acts ++ left
   pub ran : Run acts start answers last
+  pub failed : RoseBy (failures acts) faults_before faults_now
   pub ends : EndsBy exit left (length acts + 1) last
   pub writes : text ≡ answers ++ ending exit last
   pub leaves : end ≡ after_ending exit last

@@ -35,13 +35,14 @@ guest_by call m = m.guest
 abbrev pub after_by : Option Refusal → ApiCall → Machine → Machine
 after_by (Some refusal) call m = m
 after_by None call m =
-    record { id = m.id; config = configured call m.config; saved = m.saved; guest = guest_by call m }
+    record m { config = configured call m.config; guest = guest_by call m }
 
 abbrev pub after_request : ApiCall → Machine → Machine
 after_request call m = after_by (refusal_of call (facts_of m)) call m
 
 -- What a request writes and leaves, by how it went: answered by the machine; 500 where a call on the
--- files failed, which a start alone makes; 503 where there was no memory. The last two change nothing.
+-- files failed, which a start alone makes, once it is allowed and has a boot source; 503 where there was
+-- no memory. The last two change nothing.
 abbrev pub RequestStep : Outcome → ApiCall → Machine → List ℕ → Machine → Type 0
 RequestStep Answered call m text n =
     (text ≡ reply_line (answer_of call m.id (facts_of m))) × (n ≡ after_request call m)

@@ -28,19 +28,19 @@ failed_count Answered = 0
 failed_count Failed = 1
 failed_count NoMemory = 0
 
-abbrev pub want_count : Outcome → ℕ
-want_count Answered = 0
-want_count Failed = 0
-want_count NoMemory = 1
+abbrev pub shortage_count : Outcome → ℕ
+shortage_count Answered = 0
+shortage_count Failed = 0
+shortage_count NoMemory = 1
 
 abbrev pub failures : List Act → ℕ
 failures [] = 0
 failures (act ∷ acts) = failed_count act.outcome + failures acts
 
-abbrev pub wants : List Act → ℕ
-wants [] = 0
-wants (act ∷ acts) = want_count act.outcome + wants acts
+abbrev pub shortages : List Act → ℕ
+shortages [] = 0
+shortages (act ∷ acts) = shortage_count act.outcome + shortages acts
 
 -- the acts of items of which each was answered by the machine
-abbrev pub answered : List Item → List Act
-answered items = map (λ item. record { item = item; outcome = Answered }) items
+abbrev pub all_answered : List Item → List Act
+all_answered items = map (λ item. record { item = item; outcome = Answered }) items

@@ -1,13 +1,14 @@
-// A library with one function.
+//! The flat machine: its data, what a request and an item do to it, its run over acts, and the replay of a
+//! whole script.
+//!
+//! `specs/` says it. `replay_slowly` computes it, from the bytes of a script to the bytes of its output, by
+//! the plain programs of the parts; it is the definition run, no product code.
 #![tactic(auto)]
 
-ghost use Rattle.std.specs.Prelude.{◌≡◌};
-ghost use Rattle.flat_machine.specs.Echo.{echo_of};
+mod outcome;
+mod plain_machine;
+mod plain_replay;
 
-// The `ensures` clause is the contract: what `echo` returns is `echo_of` of its argument, a definition
-// in `specs/Echo.antt`, which a caller's clause can cite too.
-pub fn echo(x: usize) -> usize
-    ensures { result ≡ echo_of x }
-{
-    x
-}
+pub use outcome::Outcome;
+pub use plain_machine::PlainMachine;
+pub use plain_replay::Replayed;
