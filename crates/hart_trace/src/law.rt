@@ -1,10 +1,10 @@
 // What holds of every trace and every hart, and the op that continues the steps of a trace.
-ghost use Rattle.std.specs.Prelude.{◌≡◌, ℕ, true, false, List, [], ◌∷◌, ◌++◌, MatchOption};
+ghost use Rattle.std.specs.Prelude.{◌≡◌, ◌↔◌, ℕ, IsTrue, true, false, List, [], ◌∷◌, ◌++◌, MatchOption};
 ghost use Rattle.vm_types.specs.declared.entry.Step.{Step};
 ghost use Rattle.vm_types.specs.declared.op.Op.{Op};
 ghost use Rattle.vm_types.specs.declared.op.Op.TheVariants.{Read};
 ghost use Rattle.vm_types.specs.declared.reply.Reply.{Reply};
-ghost use Rattle.vm_types.specs.Fits.{fits};
+ghost use Rattle.vm_types.specs.Fits.{fits, Fits};
 ghost use Rattle.hart_rows.specs.declared.regs.Regs.{Regs};
 ghost use Rattle.hart_trace.specs.declared.hart.Hart.{Hart};
 ghost use Rattle.hart_trace.specs.Traces.{Continues, IsPrefix, is_host_op, is_port_op};
@@ -40,6 +40,13 @@ pub fn hart_asks()
     ensures reads { (h : Hart) (at len : ℕ) → hart_wants h ≡ Read at len → len ≡ 4 }
 {}
 
+/// Whether the step is this op, with a reply that fits.
+fn is_answered(op: &Op, step: &Step) -> bool
+    ensures { IsTrue result ↔ (op.now ≡ step.now.op) × Fits op.now step.now.reply }
+{
+    is_same_op(op, &step.op) && is_fit(op, &step.reply)
+}
+
 /// The op that continues these steps, or `None` where no trace begins with them.
 pub fn op_after(start: &Regs, steps: &[Step]) -> Option<Op>
     ensures { MatchOption result ((op : Op) → Continues start.now steps.now op → ⊥) (λ op. Continues start.now steps.now op) }
@@ -47,10 +54,7 @@ pub fn op_after(start: &Regs, steps: &[Step]) -> Option<Op>
     let mut hart = Hart::new(*start);
     for step in steps {
         let op = hart.want();
-        if !is_same_op(&op, &step.op) {
-            return None;
-        }
-        if !is_fit(&op, &step.reply) {
+        if !is_answered(&op, step) {
             return None;
         }
         hart.give(step.reply);
