@@ -5,10 +5,12 @@
 //! the plain programs of the parts; it is the definition run, no product code.
 #![tactic(auto)]
 
+mod next;
 mod outcome;
 mod plain_machine;
 mod plain_replay;
 
+pub use next::Next;
 pub use outcome::Outcome;
 pub use plain_machine::PlainMachine;
-pub use plain_replay::Replayed;
+pub use plain_replay::{Replayed, replay_slowly};
