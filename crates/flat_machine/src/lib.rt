@@ -9,6 +9,8 @@ mod next;
 mod outcome;
 mod plain_machine;
 mod plain_replay;
+#[cfg(test)]
+mod tests;
 
 pub use next::Next;
 pub use outcome::Outcome;
