@@ -103,15 +103,15 @@ ended script before now text at line exit reached ends m is =
       is = so_far.is;
     }
 
-map_answered : (items : List Item) → map (λ (act : Act). Some act.item) (all_answered items) ≡ map Some items
+pub map_answered : (items : List Item) → map (λ (act : Act). Some act.item) (all_answered items) ≡ map Some items
 map_answered [] = refl
 map_answered (i ∷ items) = ap (λ (xs : List (Option Item)). Some i ∷ xs) (map_answered items)
 
-length_answered : (items : List Item) → length (all_answered items) ≡ length items
+pub length_answered : (items : List Item) → length (all_answered items) ≡ length items
 length_answered [] = refl
 length_answered (i ∷ items) = omega (arith, length_answered items)
 
-none_failed : (items : List Item) → failures (all_answered items) ≡ 0
+pub none_failed : (items : List Item) → failures (all_answered items) ≡ 0
 none_failed [] = refl
 none_failed (i ∷ items) = omega (arith, none_failed items)
 

@@ -5,6 +5,7 @@
 //! the plain programs of the parts; it is the definition run, no product code.
 #![tactic(auto)]
 
+mod law;
 mod next;
 mod outcome;
 mod plain_machine;
@@ -12,6 +13,7 @@ mod plain_replay;
 #[cfg(test)]
 mod tests;
 
+pub use law::{one_replay, one_run, some_replay};
 pub use next::Next;
 pub use outcome::Outcome;
 pub use plain_machine::PlainMachine;

@@ -1,0 +1,2 @@
+-- Every script has a replay.
+use Rattle.std.proofs.Common.{◌≡◌, ℕ, refl}
