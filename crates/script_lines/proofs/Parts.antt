@@ -1,5 +1,5 @@
 -- What is behind and before bytes.
-use Rattle.std.proofs.Common.{Bor, MatchOption, ◌≡◌, ℕ, ◌+◌, ◌-◌, ◌≤◌, ◌==◌, nat_eq, nat_le, Bool, true, false, cond, if◌then◌else◌, ◌&&◌, Option, List, [], ◌∷◌, length, take, drop, Some, None, refl, sym, ◌∙◌, ap, arith}
+use Rattle.std.proofs.Common.{Bor, MatchOption, ◌≡◌, ℕ, ◌+◌, ◌-◌, ◌==◌, nat_eq, nat_le, Bool, true, false, if◌then◌else◌, ◌&&◌, Option, List, [], ◌∷◌, length, take, drop, Some, None, refl, sym, ◌∙◌, ap, arith}
 use Rattle.std.proofs.lemmas.Bool.{le-leb}
 use Rattle.std.proofs.lemmas.Bool.Decides.{nat_tests}
 use Rattle.std.specs.Cmp.Lexicographic.{pointwise}
@@ -57,14 +57,14 @@ before_lacks back line same =
 
 pub behind_is : (front line : List ℕ) (r : Option (Bor (List ℕ)))
     → MatchOption r (pointwise nat_eq (take (length front) line) front ≡ false)
-      (λ x. (pointwise nat_eq (take (length front) line) front ≡ true) × (x.now ≡ drop (length front) line) × (length x.now + length front ≡ length line))
+    (λ x. (pointwise nat_eq (take (length front) line) front ≡ true) × (x.now ≡ drop (length front) line) × (length x.now + length front ≡ length line))
     → MatchOption r (behind front line ≡ None) (λ rest. behind front line ≡ Some rest.now)
 behind_is front line None lacks = behind_lacks front line lacks
 behind_is front line (Some x) found = behind_found front line found.0 ∙ ap Some (sym found.1)
 
 pub before_is : (back line : List ℕ) (r : Option (Bor (List ℕ)))
     → MatchOption r (pointwise nat_eq (drop (length line - length back) line) back ≡ false)
-      (λ x. (pointwise nat_eq (drop (length line - length back) line) back ≡ true) × (x.now ≡ take (length line - length back) line) × (length x.now + length back ≡ length line))
+    (λ x. (pointwise nat_eq (drop (length line - length back) line) back ≡ true) × (x.now ≡ take (length line - length back) line) × (length x.now + length back ≡ length line))
     → MatchOption r (before back line ≡ None) (λ rest. before back line ≡ Some rest.now)
 before_is back line None lacks = before_lacks back line lacks
 before_is back line (Some x) found = before_found back line (length x.now) found.2 found.0 ∙ ap Some (sym found.1)

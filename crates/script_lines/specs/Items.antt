@@ -1,5 +1,5 @@
 -- What a line asks for: words parted by one space, compared byte by byte.
-use Rattle.std.specs.Prelude.{ℕ, ◌+◌, ◌-◌, ◌==◌, nat_le, Bool, true, false, ◌&&◌, ◌||◌, not, if◌then◌else◌, List, [], ◌∷◌, ◌++◌, length, take, drop, codes, Option, Some, None, option_and_then, position}
+use Rattle.std.specs.Prelude.{ℕ, ◌+◌, ◌-◌, ◌==◌, nat_le, Bool, true, false, ◌&&◌, ◌||◌, not, if◌then◌else◌, List, [], ◌∷◌, length, take, drop, codes, Option, Some, None, option_and_then, position}
 use Rattle.std.specs.List.{list_all}
 use Rattle.std.specs.Str.Lossy.{utf8_valid_len}
 use Rattle.vm_types.specs.declared.ids.ActorId.TheVariants.{Hart}

@@ -1,10 +1,8 @@
 -- The lines that a run writes.
 use Rattle.std.specs.Prelude.{ℕ, ◌+◌, ◌/◌, ◌%◌, ◌==◌, nat_le, nat_lt, ◌&&◌, not, if◌then◌else◌, List, [], ◌∷◌, ◌++◌, codes, Option, Some, None, flat_map}
 use Rattle.std.specs.Fmt.{decimal}
-use Rattle.vm_types.specs.declared.exit.Object.{Object}
 use Rattle.vm_types.specs.declared.exit.Object.TheVariants as object
 use Rattle.vm_types.specs.declared.exit.Exit.{Exit}
-use Rattle.vm_types.specs.declared.exit.Exit.TheVariants as Exit
 use Rattle.api_admission.specs.declared.answer.Answer.{Answer}
 
 abbrev pub body_part : Option (List ℕ) → List ℕ

@@ -10,6 +10,8 @@ mod item;
 mod lines;
 mod number;
 mod output;
+#[cfg(test)]
+mod tests;
 mod text;
 mod words;
 

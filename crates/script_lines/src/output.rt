@@ -51,12 +51,7 @@ fn append_shown(line: &mut ByteList, byte: u8) -> Result<(), AllocError>
     if b' ' <= byte && byte <= b'~' && byte != b'\\' {
         line.append(&[byte])?;
     } else {
-        line.append(&[
-            b'\\',
-            b'x',
-            hex_digit(byte / 16),
-            hex_digit(byte % 16),
-        ])?;
+        line.append(&[b'\\', b'x', hex_digit(byte / 16), hex_digit(byte % 16)])?;
     }
     Ok(())
 }
