@@ -1,11 +1,9 @@
 -- A run and a replay are determined.
-use Rattle.std.proofs.Common.{◌≡◌, ℕ, suc, ◌+◌, Bool, true, false, MatchBool, refl, sym, ap, subst, ◌∙◌, List, [], ◌∷◌, ◌++◌, length, map, Option, Some, None, ◌⊎◌, inl, inr, arith}
+use Rattle.std.proofs.Common.{◌≡◌, ℕ, ◌+◌, Bool, true, false, MatchBool, refl, sym, ap, subst, ◌∙◌, List, [], ◌∷◌, ◌++◌, length, map, Option, Some, None, inl, inr}
 use Rattle.vm_types.specs.declared.ids.ActorId.{ActorId}
 use Rattle.vm_types.specs.declared.item.ApiCall.{ApiCall}
 use Rattle.vm_types.specs.declared.item.Item.{Item}
-use Rattle.vm_types.specs.declared.item.Item.TheVariants as Item
 use Rattle.vm_types.specs.declared.exit.Exit.{Exit}
-use Rattle.vm_types.specs.declared.exit.Exit.TheVariants as Exit
 use Rattle.script_lines.specs.Output.{no_actor_line}
 use Rattle.flat_guest.specs.Guest.{Guest, is_actor}
 use Rattle.flat_guest.proofs.Determined.{several_one}
@@ -158,9 +156,11 @@ module _ (script : List ℕ) (m n k : Machine) (items others : List Item) (exit 
       run_one (all_answered others) m x.last y.last x.answers y.answers (subst (λ (is : List Item). Run (all_answered is) m x.answers x.last) replay_items x.ran) y.ran
 
   both_left : x.left ≡ y.left
+  unfolding ended_x ended_y
   both_left = left_one others x.left y.left (subst (λ (is : List Item). map Some is ++ x.left ≡ judged_script script) replay_items (sym ended_x.lines) ∙ ended_y.lines)
 
   pub replay_exit : exit ≡ stop
+  unfolding ended_x ended_y
   replay_exit =
       exit_one exit stop y.left (length others + 1) y.last
       (subst (λ (l : List (Option Item)). EndsBy exit l (length others + 1) y.last) both_left
