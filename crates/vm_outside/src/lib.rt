@@ -18,6 +18,8 @@ mod sending;
 mod sink;
 mod source;
 mod steady_source;
+#[cfg(test)]
+mod tests;
 
 pub use failed::Failed;
 pub use failing::Failing;
