@@ -6,7 +6,7 @@ use Rattle.vm_types.specs.Saved.{written}
 nothing_more : (content : List ℕ) (k : ℕ) → k ≡ 0 → content ++ replicate k 0 ≡ content
 nothing_more content k e = ap (λ (n : ℕ). content ++ replicate n 0) e ∙ append-nil content
 
--- what stands before the offset
+-- what is before the offset
 front : (content : List ℕ) (at n : ℕ) → take at (content ++ replicate ((at + n) - length content) 0) ≡ take at (content ++ replicate (at - length content) 0)
 front [] at n =
     take-replicate at ((at + n) - 0) 0 (omega arith) ∙ sym (take-replicate at (at - 0) 0 (omega arith))
@@ -16,7 +16,7 @@ front (c ∷ cs) (suc at) n =
     let less : suc at - suc (length cs) ≡ at - length cs = omega arith in
     ap (λ (k : ℕ). c ∷ take at (cs ++ replicate k 0)) more ∙ ap (λ (l : List ℕ). c ∷ l) (front cs at n) ∙ ap (λ (k : ℕ). c ∷ take at (cs ++ replicate k 0)) (sym less)
 
--- what stands behind the bytes
+-- what is behind the bytes
 behind : (content : List ℕ) (end : ℕ) → drop end (content ++ replicate (end - length content) 0) ≡ drop end content
 behind [] end =
     drop_all end (replicate (end - 0) 0) (omega (arith, length-replicate {A = ℕ} (end - 0) 0)) ∙ sym (drop_all end [] (omega arith))
