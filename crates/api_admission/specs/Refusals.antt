@@ -76,7 +76,7 @@ text_of refusal.StoreNotInitialized = codes "the metadata store is not initializ
 abbrev pub status_of : Refusal → ℕ
 status_of refusal.OutsideFailed = 500
 status_of refusal.OutOfMemory = 503
-status_of refusal = 400
+status_of other = 400
 
 abbrev pub fault_text : Refusal → List ℕ
 fault_text refusal =

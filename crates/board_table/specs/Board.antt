@@ -32,19 +32,19 @@ put_byte b byte =
 abbrev pub invalid_parameter : ℕ
 invalid_parameter = 2 ^ 64 - 3
 
-abbrev pub is_reset : ℕ → ℕ → Bool
-is_reset kind reason = nat_lt kind 3 && nat_lt reason 2
+abbrev pub is_reset_allowed : ℕ → ℕ → Bool
+is_reset_allowed kind reason = nat_lt kind 3 && nat_lt reason 2
 
-abbrev pub turn_off : Board → ℕ → ℕ → Reply × Board
-turn_off b kind reason =
-    if is_reset kind reason then (Reply.Returned 0 0, record b { off = true })
+abbrev pub reset_by : Board → ℕ → ℕ → Reply × Board
+reset_by b kind reason =
+    if is_reset_allowed kind reason then (Reply.Returned 0 0, record b { off = true })
     else (Reply.Returned invalid_parameter 0, b)
 
 -- what each act on the board does; a look shows that nothing is pending
 abbrev pub board_act : Board → BoardOp → Reply × Board
 board_act b Look = (Reply.Shown (Pending 0), b)
 board_act b (Putchar byte) = put_byte b byte
-board_act b (Reset kind reason) = turn_off b kind reason
+board_act b (Reset kind reason) = reset_by b kind reason
 board_act b act = (Reply.AccessFault, b)
 
 -- What an act is answered by the board, and what it leaves. What isn't an act of the board's is an

@@ -1,6 +1,6 @@
 // The board in the plainest way: the console is the front of an array.
 ghost use Rattle.std.specs.Prelude.{◌≡◌, ◌≤◌, [], length};
-ghost use Rattle.board_table.specs.Board.{board_act, new_board, put_byte, turn_off};
+ghost use Rattle.board_table.specs.Board.{board_act, new_board, put_byte, reset_by};
 
 use std::marker::Model;
 use vm_types::{ActorId, BoardOp, Op, Place, Reply, Shown};
@@ -77,9 +77,9 @@ impl PlainBoard {
         }
     }
 
-    fn turn_off(&mut self, kind: u64, reason: u64) -> Reply
-        ensures reply { result ≡ (turn_off self.old kind reason).0 }
-        ensures value { self.new ≡ (turn_off self.old kind reason).1 }
+    fn reset_by(&mut self, kind: u64, reason: u64) -> Reply
+        ensures reply { result ≡ (reset_by self.old kind reason).0 }
+        ensures value { self.new ≡ (reset_by self.old kind reason).1 }
     {
         if kind < 3 && reason < 2 {
             self.off = true;
@@ -99,7 +99,7 @@ impl PlainBoard {
         match act {
             BoardOp::Look => Reply::Shown(Shown::Pending(0)),
             BoardOp::Putchar { byte } => self.put_byte(*byte),
-            BoardOp::Reset { kind, reason } => self.turn_off(*kind, *reason),
+            BoardOp::Reset { kind, reason } => self.reset_by(*kind, *reason),
             _ => Reply::AccessFault,
         }
     }

@@ -9,7 +9,7 @@ use Rattle.hart_rows.specs.declared.rows.Kind.TheVariants.{Lui, Addi, Ecall}
 use Rattle.hart_rows.specs.Registers.{reg}
 use Rattle.hart_rows.specs.Doing.{Doing, Ends, asked}
 use Rattle.hart_rows.specs.Rows.{does, does_by, kind_of}
-use Rattle.hart_rows.specs.Sbi.{a6, a7, legacy_putchar, system_reset, not_supported, putchar, reset, answered}
+use Rattle.hart_rows.specs.Sbi.{a6, a7, legacy_putchar, system_reset, not_supported, putchar, reset, returned}
 use Rattle.hart_trace.specs.declared.hart.Hart.{Hart}
 use Rattle.hart_trace.specs.Traces.{opening}
 use Rattle.hart_trace.specs.States.{op_or_idle, wants_by, hart_wants}
@@ -34,9 +34,9 @@ performs None word r = refl
 performs (Some Lui) word r = refl
 performs (Some Addi) word r = refl
 performs (Some Ecall) word r =
-    let other : Doing = cond ((reg r a7 == system_reset) && (reg r a6 == 0)) (reset r) (Ends (answered not_supported 0 r)) in
+    let other : Doing = cond ((reg r a7 == system_reset) && (reg r a6 == 0)) (reset r) (Ends (returned not_supported 0 r)) in
     either (reg r a7 == legacy_putchar) (putchar r) other refl
-    (either ((reg r a7 == system_reset) && (reg r a6 == 0)) (reset r) (Ends (answered not_supported 0 r)) refl refl)
+    (either ((reg r a7 == system_reset) && (reg r a6 == 0)) (reset r) (Ends (returned not_supported 0 r)) refl refl)
 
 does_op : (word : ℕ) (r : Regs) → is_hart_op (op_or_idle (asked (does word r))) ≡ true
 unfolding does

@@ -21,7 +21,8 @@ counted r =
 abbrev pub finished : Regs → Regs
 finished r = counted (record r { pc = (r.pc + 4) % 2 ^ 64 })
 
--- it trapped (privileged manual, supervisor part: sepc, scause, stval, stvec)
+-- It trapped (privileged manual, supervisor part: sepc, scause, stval, and stvec, whose low two bits are 0:
+-- direct mode). There is no sstatus yet.
 abbrev pub trapped : ℕ → ℕ → Regs → Regs
 trapped cause value r =
     counted (record r { pc = r.stvec; sepc = r.pc; scause = cause; stval = value })

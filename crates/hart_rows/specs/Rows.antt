@@ -12,15 +12,15 @@ use Rattle.hart_rows.specs.Sbi.{call}
 -- "Environment Call and Breakpoints" for ECALL
 abbrev pub rows : List Row
 rows =
-    record { mask = 0x0000007f; word = 0x00000037; kind = Lui }
-    ∷ record { mask = 0x0000707f; word = 0x00000013; kind = Addi }
-    ∷ record { mask = 0xffffffff; word = 0x00000073; kind = Ecall }
+    record { mask = 0x0000007f; matched = 0x00000037; kind = Lui }
+    ∷ record { mask = 0x0000707f; matched = 0x00000013; kind = Addi }
+    ∷ record { mask = 0xffffffff; matched = 0x00000073; kind = Ecall }
     ∷ []
 
 -- the first row that fits a word
 abbrev pub first_row : List Row → ℕ → Option Kind
 first_row [] word = None
-first_row (row ∷ more) word = if bit_and word row.mask == row.word then Some row.kind else first_row more word
+first_row (row ∷ more) word = if bit_and word row.mask == row.matched then Some row.kind else first_row more word
 
 unfoldable pub kind_of : ℕ → Option Kind
 kind_of word = first_row rows word

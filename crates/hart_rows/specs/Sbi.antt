@@ -33,23 +33,25 @@ abbrev pub not_supported : ℕ
 not_supported = 2 ^ 64 - 2
 
 -- the call ends with an error in a0 and a value in a1
-abbrev pub answered : ℕ → ℕ → Regs → Regs
-answered error value r = finished (with_reg (with_reg r a0 error) a1 value)
+abbrev pub returned : ℕ → ℕ → Regs → Regs
+returned error value r = finished (with_reg (with_reg r a0 error) a1 value)
 
 -- with those that the board gives; no other reply fits such a call
-abbrev pub answered_by : Reply → Regs → Regs
-answered_by (Returned error value) r = answered error value r
-answered_by reply r = finished r
+abbrev pub returned_by : Reply → Regs → Regs
+returned_by (Returned error value) r = returned error value r
+returned_by reply r = finished r
 
--- putchar takes the low byte of a0, puts 0 into a0 and leaves a1; a6 isn't looked at
+-- "Legacy Extensions", console putchar: it takes the low byte of a0, and ends only once the byte is stored;
+-- 0 is put into a0, a1 stays, and a6 isn't looked at
 abbrev pub putchar : Regs → Doing
 putchar r = Asks (Board (Putchar (reg r a0 % 2 ^ 8))) (λ reply. finished (with_reg r a0 0))
 
+-- "System Reset Extension": all 64 bits of both arguments go to the board
 abbrev pub reset : Regs → Doing
-reset r = Asks (Board (Reset (reg r a0) (reg r a1))) (λ reply. answered_by reply r)
+reset r = Asks (Board (Reset (reg r a0) (reg r a1))) (λ reply. returned_by reply r)
 
 abbrev pub call : Regs → Doing
 call r =
     if reg r a7 == legacy_putchar then putchar r
     else if (reg r a7 == system_reset) && (reg r a6 == 0) then reset r
-    else Ends (answered not_supported 0 r)
+    else Ends (returned not_supported 0 r)

@@ -10,28 +10,28 @@ pub enum Kind {
     Ecall,
 }
 
-/// A row of the table: a word is of this kind where its bits under the mask are those of `word`.
+/// A row of the table: a word is of this kind where its bits under the mask are those that must match.
 #[derive(Clone, Copy, Debug, PartialEq, Eq, Drop)]
 pub struct Row {
     pub mask: u32,
-    pub word: u32,
+    pub matched: u32,
     pub kind: Kind,
 }
 
 const ROWS: [Row; 3] = [
     Row {
         mask: 0x0000_007f,
-        word: 0x0000_0037,
+        matched: 0x0000_0037,
         kind: Kind::Lui,
     },
     Row {
         mask: 0x0000_707f,
-        word: 0x0000_0013,
+        matched: 0x0000_0013,
         kind: Kind::Addi,
     },
     Row {
         mask: 0xffff_ffff,
-        word: 0x0000_0073,
+        matched: 0x0000_0073,
         kind: Kind::Ecall,
     },
 ];
@@ -40,7 +40,7 @@ fn first(rows: &[Row], word: u32) -> Option<Kind>
     ensures { result ≡ first_row rows.now word }
 {
     for row in rows {
-        if word & row.mask == row.word {
+        if word & row.mask == row.matched {
             return Some(row.kind);
         }
     }

@@ -1,7 +1,7 @@
 // The calls of the supervisor binary interface.
 ghost use Rattle.std.specs.Prelude.{◌≡◌};
 ghost use Rattle.hart_rows.specs.Doing.{asked, ended};
-ghost use Rattle.hart_rows.specs.Sbi.{answered, answered_by, call};
+ghost use Rattle.hart_rows.specs.Sbi.{returned, returned_by, call};
 
 use crate::regs::{Regs, finish, get, put};
 use vm_types::{BoardOp, Op, Reply};
@@ -23,7 +23,7 @@ const SYSTEM_RESET: u64 = 0x5352_5354;
 const NOT_SUPPORTED: u64 = 0xffff_ffff_ffff_fffe;
 
 fn answer(regs: &mut Regs, error: u64, value: u64)
-    ensures { regs.new ≡ answered error value regs.old }
+    ensures { regs.new ≡ returned error value regs.old }
 {
     put(regs, A0, error);
     put(regs, A1, value);
@@ -31,7 +31,7 @@ fn answer(regs: &mut Regs, error: u64, value: u64)
 }
 
 fn answer_by(reply: Reply, regs: &mut Regs)
-    ensures { regs.new ≡ answered_by reply regs.old }
+    ensures { regs.new ≡ returned_by reply regs.old }
 {
     match reply {
         Reply::Returned { error, value } => answer(regs, error, value),

@@ -11,8 +11,8 @@ use Rattle.vm_types.specs.declared.reply.Shown.TheVariants.{Stopped}
 use Rattle.vm_types.specs.declared.entry.Step.{Step}
 use Rattle.hart_rows.specs.Doing.{Doing, Ends, Asks}
 use Rattle.vm_types.specs.Fits.{board_fits, out_fits, Fits}
-use Rattle.hart_trace.specs.Traces.{Does, Group, Lead, joined, is_full}
-use Rattle.hart_trace.specs.Rest.{Rest, doing_wants, doing_next}
+use Rattle.hart_trace.specs.Traces.{Completes, Group, Lead, joined, is_full}
+use Rattle.hart_trace.proofs.Rest.{Rest, doing_wants, doing_next}
 
 abbrev pub Headed : Doing → List Step → Regs → Type 0
 Headed d [] end = Unit {0}
@@ -21,7 +21,7 @@ Headed d (e ∷ es) end = (e.op ≡ doing_wants d) × Fits e.op e.reply × Rest 
 fits_of : (a b : Op) (reply : Reply) → a ≡ b → Fits b reply → Fits a reply
 fits_of a b reply e f = subst (λ o. Fits o reply) (sym e) f
 
-asks_tail : (op : Op) (ends : Reply → Regs) (e : Step) (es : List Step) (groups : List (List Step)) (after end : Regs) → Lead after groups end → (b : Bool) → MatchBool b (Does (Asks op ends) es after) ((es ≡ []) × (ends e.reply ≡ after)) → Rest (if b then Asks op ends else Ends (ends e.reply)) (es ++ joined groups) end
+asks_tail : (op : Op) (ends : Reply → Regs) (e : Step) (es : List Step) (groups : List (List Step)) (after end : Regs) → Lead after groups end → (b : Bool) → MatchBool b (Completes (Asks op ends) es after) ((es ≡ []) × (ends e.reply ≡ after)) → Rest (if b then Asks op ends else Ends (ends e.reply)) (es ++ joined groups) end
 asks_tail op ends e es groups after end lead true m = (es, groups, after, m, lead, refl)
 asks_tail op ends e es groups after end lead false m = (es, groups, after, m, lead, refl)
 
@@ -33,7 +33,7 @@ lead_head : (r : Regs) (groups : List (List Step)) (end : Regs) → Lead r group
 lead_head r [] end lead = tt
 lead_head r (g ∷ groups) end lead = group_head r g groups lead.0 end lead.1 lead.2
 
-parts_head : (d : Doing) (first : List Step) (groups : List (List Step)) (after end : Regs) → Does d first after → Lead after groups end → Headed d (first ++ joined groups) end
+parts_head : (d : Doing) (first : List Step) (groups : List (List Step)) (after end : Regs) → Completes d first after → Lead after groups end → Headed d (first ++ joined groups) end
 parts_head (Asks op ends) [] groups after end acts lead = absurd acts
 parts_head (Asks op ends) (e ∷ es) groups after end acts lead =
     (acts.0, fits_of e.op op e.reply acts.0 acts.1, asks_tail op ends e es groups after end lead (is_full e.reply) acts.2)
@@ -43,7 +43,7 @@ parts_head (Ends r) first groups after end acts lead =
 pub headed : (d : Doing) (es : List Step) (end : Regs) → Rest d es end → Headed d es end
 headed d es end r = subst (λ xs. Headed d xs end) r.5 (parts_head d r.0 r.1 r.2 end r.3 r.4)
 
-asks_back : (op : Op) (ends : Reply → Regs) (e : Step) (es : List Step) (end : Regs) (b : Bool) → Rest (if b then Asks op ends else Ends (ends e.reply)) es end → (first : List Step) × (groups : List (List Step)) × (after : Regs) × MatchBool b (Does (Asks op ends) first after) ((first ≡ []) × (ends e.reply ≡ after)) × Lead after groups end × (first ++ joined groups ≡ es)
+asks_back : (op : Op) (ends : Reply → Regs) (e : Step) (es : List Step) (end : Regs) (b : Bool) → Rest (if b then Asks op ends else Ends (ends e.reply)) es end → (first : List Step) × (groups : List (List Step)) × (after : Regs) × MatchBool b (Completes (Asks op ends) first after) ((first ≡ []) × (ends e.reply ≡ after)) × Lead after groups end × (first ++ joined groups ≡ es)
 asks_back op ends e es end true r = r
 asks_back op ends e es end false r = r
 

@@ -13,8 +13,8 @@ use Rattle.hart_rows.specs.Doing.{Doing, Ends, Asks, asked, ended}
 use Rattle.hart_rows.specs.Rows.{does}
 use Rattle.hart_rows.specs.Registers.{trapped}
 use Rattle.vm_types.specs.Fits.{fits, Fits}
-use Rattle.hart_trace.specs.Traces.{word_of, Does, Group, Lead, joined, looked, opening, going, is_full, HartTrace, fetch_fault}
-use Rattle.hart_trace.specs.Rest.{Rest}
+use Rattle.hart_trace.specs.Traces.{word_of, Completes, Group, Lead, joined, looked, opening, going, is_full, HartTrace, fetch_fault}
+use Rattle.hart_trace.proofs.Rest.{Rest}
 use Rattle.hart_trace.specs.States.{fresh, wants_by, hart_wants, stepped_by, begins_by, hart_fetched, hart_stepped, hart_next, turned_by, op_or_idle, Waits, Begins, BegunBy, LeadsTo}
 
 lead_append : (r q s : Regs) (gs hs : List (List Step)) → Lead r gs q → Lead q hs s → Lead r (gs ++ hs) s
@@ -30,39 +30,39 @@ abbrev pub doing_by : Option ℕ → Regs → Doing
 doing_by None r = Ends r
 doing_by (Some w) r = does w r
 
-does_waits : (d : Doing) (op : Op) (ws first : List Step) (after : Regs) → asked d ≡ Some op → Waits op ws → Does d first after → Does d (ws ++ first) after
+does_waits : (d : Doing) (op : Op) (ws first : List Step) (after : Regs) → asked d ≡ Some op → Waits op ws → Completes d first after → Completes d (ws ++ first) after
 does_waits (Ends r) op ws first after is wait acts = cc
 does_waits (Asks op2 ends) op [] first after is wait acts = acts
 does_waits (Asks op2 ends) op (e ∷ ws) first after is wait acts =
     let same : op ≡ op2 = cc in
     let one : record { op = op; reply = Reply.Full } ≡ e = sym wait.0 in
-    subst (λ (x : Step). Does (Asks op2 ends) (x ∷ (ws ++ first)) after) one
+    subst (λ (x : Step). Completes (Asks op2 ends) (x ∷ (ws ++ first)) after) one
     (same, subst (λ o. Fits o Reply.Full) same wait.1, does_waits (Asks op2 ends) op ws first after is wait.2 acts)
 
-does_none : (d : Doing) (reply : Reply) → asked d ≡ None → Does d [] (ended d reply)
+does_none : (d : Doing) (reply : Reply) → asked d ≡ None → Completes d [] (ended d reply)
 does_none (Ends r) reply is = (refl, refl)
 does_none (Asks op ends) reply is = cc
 
-does_last : (d : Doing) (op : Op) (reply : Reply) → asked d ≡ Some op → fits op reply ≡ true → is_full reply ≡ false → Does d (record { op = op; reply = reply } ∷ []) (ended d reply)
+does_last : (d : Doing) (op : Op) (reply : Reply) → asked d ≡ Some op → fits op reply ≡ true → is_full reply ≡ false → Completes d (record { op = op; reply = reply } ∷ []) (ended d reply)
 does_last (Ends r) op reply is fit full = cc
 does_last (Asks op2 ends) op reply is fit full =
     let same : op ≡ op2 = cc in
-    (same, subst (λ o. Fits o reply) same fit, subst (λ b. MatchBool b (Does (Asks op2 ends) [] (ends reply)) (◌≡◌ {A = List Step} [] [] × (ends reply ≡ ends reply))) (sym full) (refl, refl))
+    (same, subst (λ o. Fits o reply) same fit, subst (λ b. MatchBool b (Completes (Asks op2 ends) [] (ends reply)) (◌≡◌ {A = List Step} [] [] × (ends reply ≡ ends reply))) (sym full) (refl, refl))
 
-group_by : (r : Regs) (e : Step) (es : List Step) (after : Regs) (t : Turn) → r.turn ≡ t → (e.op ≡ opening t r) × Fits e.op e.reply × Does (going t r e.reply) es after → Group r (e ∷ es) after
+group_by : (r : Regs) (e : Step) (es : List Step) (after : Regs) (t : Turn) → r.turn ≡ t → (e.op ≡ opening t r) × Fits e.op e.reply × Completes (going t r e.reply) es after → Group r (e ∷ es) after
 group_by r e es after t is m =
-    subst (λ (x : Turn). (e.op ≡ opening x r) × Fits e.op e.reply × Does (going x r e.reply) es after) (sym is) m
+    subst (λ (x : Turn). (e.op ≡ opening x r) × Fits e.op e.reply × Completes (going x r e.reply) es after) (sym is) m
 
 -- the steps of an instruction begun, and then the rest of it, are a group
-begun_group : (r : Regs) (w : ℕ) (part first : List Step) (after : Regs) → Begins r w part → Does (does w r) first after → Group r (part ++ first) after
+begun_group : (r : Regs) (w : ℕ) (part first : List Step) (after : Regs) → Begins r w part → Completes (does w r) first after → Group r (part ++ first) after
 begun_group r w [] first after begun acts = absurd begun
 begun_group r w (e ∷ ws) first after begun acts =
     let piece = begun.1 in
     let fetch : Step = record { op = Op.Read r.pc 4; reply = Reply.Bytes piece } in
-    let rest : Does (does w r) (ws ++ first) after = does_waits (does w r) begun.5 ws first after begun.6 begun.7 acts in
+    let rest : Completes (does w r) (ws ++ first) after = does_waits (does w r) begun.5 ws first after begun.6 begun.7 acts in
     subst (λ (x : Step). Group r (x ∷ (ws ++ first)) after) (sym begun.2)
     (group_by r fetch (ws ++ first) after Turn.Fetch begun.0
-    (refl, ap (λ n. n == 4) begun.3, subst (λ n. Does (does n r) (ws ++ first) after) (sym begun.4) rest))
+    (refl, ap (λ n. n == 4) begun.3, subst (λ n. Completes (does n r) (ws ++ first) after) (sym begun.4) rest))
 
 on_by : (start : Regs) (es : List Step) (b : Option ℕ) (r : Regs) (groups : List (List Step)) (part : List Step) → Lead start groups r → BegunBy b r part → joined groups ++ part ≡ es → (more : List Step) (end : Regs) → Rest (doing_by b r) more end → HartTrace start (es ++ more) end
 on_by start es None r groups part lead begun whole more end t =
@@ -150,7 +150,7 @@ module _ (start r : Regs) (es : List Step) (groups : List (List Step)) (lead : L
       let o = wanted_by r w part begun in
       let same = ap op_or_idle o.1 in
       let e : Step = record { op = op_or_idle (asked (does w r)); reply = reply } in
-      let acts = subst (λ (x : Op). Does (does w r) (record { op = x; reply = reply } ∷ []) (ended (does w r) reply)) (sym same) (does_last (does w r) o.0 reply o.1 (subst (λ (x : Op). fits x reply ≡ true) same fit) full) in
+      let acts = subst (λ (x : Op). Completes (does w r) (record { op = x; reply = reply } ∷ []) (ended (does w r) reply)) (sym same) (does_last (does w r) o.0 reply o.1 (subst (λ (x : Op). fits x reply ≡ true) same fit) full) in
       group_more start r (ended (does w r) reply) es [] groups part e lead whole (begun_group r w part (e ∷ []) (ended (does w r) reply) begun acts)
 
   after_by : (b : Option ℕ) (part : List Step) → BegunBy b r part → joined groups ++ part ≡ es → (reply : Reply) → fits (wants_by b r) reply ≡ true → LeadsTo start (es ++ record { op = wants_by b r; reply = reply } ∷ []) (stepped_by b r reply)

@@ -1,3 +1,4 @@
+pub mod Rest
 pub mod Asks
 pub mod Laws
 pub mod Leads

@@ -10,7 +10,7 @@ use Rattle.hart_rows.specs.Doing.{Doing, Ends, Asks, asked, ended}
 use Rattle.hart_rows.specs.Rows.{does}
 use Rattle.hart_rows.specs.Registers.{trapped}
 use Rattle.vm_types.specs.Fits.{fits, Fits}
-use Rattle.hart_trace.specs.Traces.{word_of, Does, Group, Lead, joined, looked, opening, going, is_full, fetch_fault}
+use Rattle.hart_trace.specs.Traces.{word_of, Completes, Group, Lead, joined, looked, opening, going, is_full, fetch_fault}
 use Rattle.hart_trace.specs.States.{fresh, hart_wants, hart_stepped, hart_next, turned_by, begins_by, op_or_idle, Waits, Begins, BegunBy, LeadsTo}
 
 abbrev pub walk : Hart → List Step → Hart
@@ -27,16 +27,16 @@ walk_fit h q e es fit is = subst (λ (b : Bool). walk (if b then hart_stepped h 
 
 abbrev pub Parts : Doing → Op → List Step → Regs → Type 0
 Parts d op [] after = ⊥
-Parts d op (e ∷ es) after = Fits op e.reply × MatchBool (is_full e.reply) (Does d es after) ((es ≡ []) × (ended d e.reply ≡ after))
+Parts d op (e ∷ es) after = Fits op e.reply × MatchBool (is_full e.reply) (Completes d es after) ((es ≡ []) × (ended d e.reply ≡ after))
 
-parts_of : (d : Doing) (op : Op) (es : List Step) (after : Regs) → asked d ≡ Some op → Does d es after → Parts d op es after
+parts_of : (d : Doing) (op : Op) (es : List Step) (after : Regs) → asked d ≡ Some op → Completes d es after → Parts d op es after
 parts_of (Ends r) op es after is acts = cc
 parts_of (Asks op2 ends) op [] after is acts = absurd acts
 parts_of (Asks op2 ends) op (e ∷ es) after is acts =
     let same : op2 ≡ op = cc in
     (subst (λ (o : Op). Fits o e.reply) same acts.1, acts.2)
 
-ends_of : (d : Doing) (es : List Step) (after : Regs) (reply : Reply) → asked d ≡ None → Does d es after → (es ≡ []) × (ended d reply ≡ after)
+ends_of : (d : Doing) (es : List Step) (after : Regs) (reply : Reply) → asked d ≡ None → Completes d es after → (es ≡ []) × (ended d reply ≡ after)
 ends_of (Ends r) es after reply is acts = acts
 ends_of (Asks op ends) es after reply is acts = cc
 
@@ -47,11 +47,11 @@ module _ (r : Regs) (w : ℕ) (op : Op) (is : asked (does w r) ≡ Some op) wher
   begun_fit : (reply : Reply) → Fits op reply → fits (op_or_idle (asked (does w r))) reply ≡ true
   begun_fit reply fit = subst (λ (o : Option Op). fits (op_or_idle o) reply ≡ true) (sym is) fit
 
-  walk_last : (e : Step) (es : List Step) (after : Regs) (b : Bool) → (Does (does w r) es after → walk (record { regs = r; begun = Some w }) es ≡ fresh after) → MatchBool b (Does (does w r) es after) ((es ≡ []) × (ended (does w r) e.reply ≡ after)) → walk (if b then record { regs = r; begun = Some w } else fresh (ended (does w r) e.reply)) es ≡ fresh after
+  walk_last : (e : Step) (es : List Step) (after : Regs) (b : Bool) → (Completes (does w r) es after → walk (record { regs = r; begun = Some w }) es ≡ fresh after) → MatchBool b (Completes (does w r) es after) ((es ≡ []) × (ended (does w r) e.reply ≡ after)) → walk (if b then record { regs = r; begun = Some w } else fresh (ended (does w r) e.reply)) es ≡ fresh after
   walk_last e es after true on m = on m
   walk_last e es after false on m = fresh_end (ended (does w r) e.reply) after es m.0 m.1
 
-  walk_does : (es : List Step) (after : Regs) → Does (does w r) es after → walk (record { regs = r; begun = Some w }) es ≡ fresh after
+  walk_does : (es : List Step) (after : Regs) → Completes (does w r) es after → walk (record { regs = r; begun = Some w }) es ≡ fresh after
   walk_does [] after acts = absurd (parts_of (does w r) op [] after is acts)
   walk_does (e ∷ es) after acts =
       let p = parts_of (does w r) op (e ∷ es) after is acts in
@@ -66,13 +66,13 @@ module _ (r : Regs) (w : ℕ) (op : Op) (is : asked (does w r) ≡ Some op) wher
       (walk_fit (record { regs = r; begun = Some w }) (record { regs = r; begun = Some w }) (record { op = op; reply = Reply.Full }) es (begun_fit Reply.Full wait.1) (walk_waits es wait.2))
 
 module _ (r : Regs) where
-  walk_word : (piece : List ℕ) (es : List Step) (after : Regs) (o : Option Op) → asked (does (word_of piece) r) ≡ o → Does (does (word_of piece) r) es after → walk (begins_by o (word_of piece) r (Reply.Bytes piece)) es ≡ fresh after
+  walk_word : (piece : List ℕ) (es : List Step) (after : Regs) (o : Option Op) → asked (does (word_of piece) r) ≡ o → Completes (does (word_of piece) r) es after → walk (begins_by o (word_of piece) r (Reply.Bytes piece)) es ≡ fresh after
   walk_word piece es after (Some op) is acts = walk_does r (word_of piece) op is es after acts
   walk_word piece es after None is acts =
       let e = ends_of (does (word_of piece) r) es after (Reply.Bytes piece) is acts in
       fresh_end (ended (does (word_of piece) r) (Reply.Bytes piece)) after es e.0 e.1
 
-  walk_turn : (t : Turn) (reply : Reply) (es : List Step) (after : Regs) → Does (going t r reply) es after → walk (turned_by t r reply) es ≡ fresh after
+  walk_turn : (t : Turn) (reply : Reply) (es : List Step) (after : Regs) → Completes (going t r reply) es after → walk (turned_by t r reply) es ≡ fresh after
   walk_turn Turn.Look reply es after acts = fresh_end (looked reply r) after es acts.0 acts.1
   walk_turn Turn.Idle reply es after acts = fresh_end (record r { turn = Turn.Look }) after es acts.0 acts.1
   walk_turn Turn.Fetch (Reply.Bytes piece) es after acts = walk_word piece es after (asked (does (word_of piece) r)) refl acts

@@ -10,7 +10,7 @@ use Rattle.hart_rows.specs.Doing.{Doing, Ends, Asks, asked}
 use Rattle.hart_rows.specs.Rows.{does}
 use Rattle.vm_types.specs.Fits.{fits}
 use Rattle.hart_trace.specs.Traces.{HartTrace, IsPrefix, Continues}
-use Rattle.hart_trace.specs.Rest.{Rest, doing_wants, doing_next}
+use Rattle.hart_trace.proofs.Rest.{Rest, doing_wants, doing_next}
 use Rattle.hart_trace.specs.States.{fresh, wants_by, hart_wants, hart_next, op_or_idle, BegunBy, LeadsTo}
 use Rattle.hart_trace.proofs.Laws.{headed, unheaded, settled, fits-settled, some_rest, unique, other_reply, some_next}
 use Rattle.hart_trace.proofs.Leads.{doing_by, leads_on, leads_next, wanted_by}

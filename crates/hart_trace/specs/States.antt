@@ -1,5 +1,6 @@
 -- How a hart is kept inside an instruction, and where the steps of a trace lead it.
-use Rattle.std.specs.Prelude.{ℕ, ◌≡◌, true, List, [], ◌∷◌, ◌++◌, Option, Some, None, length, if◌then◌else◌}
+use Rattle.std.specs.Prelude.{ℕ, ◌≡◌, true, List, [], ◌∷◌, ◌++◌, Option, Some, None, length, if◌then◌else◌, Bool, false}
+use Rattle.std.proofs.Common.{ap}
 use Rattle.vm_types.specs.declared.op.Op.{Op}
 use Rattle.vm_types.specs.declared.reply.Reply.{Reply}
 use Rattle.vm_types.specs.declared.entry.Step.{Step}
@@ -51,6 +52,9 @@ hart_stepped h reply = stepped_by h.begun h.regs reply
 -- a reply that doesn't fit leaves the hart
 abbrev pub hart_next : Hart → Reply → Hart
 hart_next h reply = if fits (hart_wants h) reply then hart_stepped h reply else h
+
+pub hart_leaves : (h : Hart) (reply : Reply) → fits (hart_wants h) reply ≡ false → hart_next h reply ≡ h
+hart_leaves h reply unfit = ap (λ (fit : Bool). if fit then hart_stepped h reply else h) unfit
 
 -- replies Full to the op that is wanted
 abbrev pub Waits : Op → List Step → Type 0

@@ -60,18 +60,18 @@ is_full Reply.Full = true
 is_full reply = false
 
 -- what follows an instruction's fetch: nothing, or one access, which is repeated while the reply is Full
-abbrev pub Does : Doing → List Step → Regs → Type 0
-Does (Ends end) steps after = (steps ≡ []) × (end ≡ after)
-Does (Asks op ends) [] after = ⊥
-Does (Asks op ends) (s ∷ steps) after =
+abbrev pub Completes : Doing → List Step → Regs → Type 0
+Completes (Ends end) steps after = (steps ≡ []) × (end ≡ after)
+Completes (Asks op ends) [] after = ⊥
+Completes (Asks op ends) (s ∷ steps) after =
     (s.op ≡ op) × Fits op s.reply
-    × MatchBool (is_full s.reply) (Does (Asks op ends) steps after) ((steps ≡ []) × (ends s.reply ≡ after))
+    × MatchBool (is_full s.reply) (Completes (Asks op ends) steps after) ((steps ≡ []) × (ends s.reply ≡ after))
 
 -- a group: a look, a wait, or an instruction with its fetch and at most one access
 abbrev pub Group : Regs → List Step → Regs → Type 0
 Group r [] after = ⊥
 Group r (s ∷ steps) after =
-    (s.op ≡ opening r.turn r) × Fits s.op s.reply × Does (going r.turn r s.reply) steps after
+    (s.op ≡ opening r.turn r) × Fits s.op s.reply × Completes (going r.turn r s.reply) steps after
 
 -- whole groups, each from the registers that the one before it left
 abbrev pub Lead : Regs → List (List Step) → Regs → Type 0

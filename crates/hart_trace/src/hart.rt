@@ -107,7 +107,7 @@ impl Hart {
 
 impl Actor for Hart {
     ghost use Rattle.hart_trace.specs.declared.hart.Hart.{Hart};
-    ghost use Rattle.hart_trace.specs.States.{hart_wants, hart_next};
+    ghost use Rattle.hart_trace.specs.States.{hart_wants, hart_leaves, hart_next};
 
     ghost State = { Hart };
 
@@ -116,6 +116,8 @@ impl Actor for Hart {
     ghost wants = { hart_wants };
 
     ghost next = { hart_next };
+
+    ghost leaves = { hart_leaves };
 
     fn want(&self) -> Op {
         match self.begun {

@@ -6,7 +6,7 @@ use Rattle.std.specs.Str.Lossy.{utf8_valid_len}
 use Rattle.std.proofs.lemmas.Bool.{eq-eqb}
 use Rattle.std.proofs.lemmas.Bool.Decides.{nat_tests}
 use Rattle.std.proofs.lemmas.Str.{utf8_valid_len-IsUtf8, IsUtf8-from_ascii}
-use Rattle.script_lines.specs.Items.{is_alphanumeric, is_path, is_text}
+use Rattle.script_lines.specs.Items.{is_alphanumeric, is_image_path, is_text}
 
 pub text_is : (bytes : List ℕ) → IsUtf8 bytes → is_text bytes ≡ true
 text_is bytes utf8 = eq-eqb (utf8_valid_len bytes) (length bytes) (utf8_valid_len-IsUtf8 bytes utf8)
@@ -33,8 +33,8 @@ alphanumeric_is_text bytes all =
     text_is bytes (IsUtf8-from_ascii bytes (all_ascii is_alphanumeric alphanumeric_is_ascii bytes all))
 
 -- a path is a text
-pub path_is : (bytes : List ℕ) (path : Option (List ℕ)) → is_path bytes ≡ true → path ≡ (if is_text bytes then Some bytes else None)
-    → path ≡ (if is_path bytes then Some bytes else None)
+pub path_is : (bytes : List ℕ) (path : Option (List ℕ)) → is_image_path bytes ≡ true → path ≡ (if is_text bytes then Some bytes else None)
+    → path ≡ (if is_image_path bytes then Some bytes else None)
 path_is bytes path is text =
     let letters : list_all is_alphanumeric bytes ≡ true = and_right (nat_le 1 (length bytes) && nat_le (length bytes) 64) (list_all is_alphanumeric bytes) is in
     let read : is_text bytes ≡ true = alphanumeric_is_text bytes letters in

@@ -57,11 +57,11 @@ abbrev pub is_alphanumeric : ℕ → Bool
 is_alphanumeric c = is_digit c || (nat_le 65 c && nat_le c 90) || (nat_le 97 c && nat_le c 122)
 
 -- 1 to 64 ASCII letters and digits
-abbrev pub is_path : List ℕ → Bool
-is_path path = nat_le 1 (length path) && nat_le (length path) 64 && list_all is_alphanumeric path
+abbrev pub is_image_path : List ℕ → Bool
+is_image_path path = nat_le 1 (length path) && nat_le (length path) 64 && list_all is_alphanumeric path
 
 abbrev pub boot_source_by : List ℕ → Option ApiCall
-boot_source_by path = if is_path path then Some (PutBootSource path) else None
+boot_source_by path = if is_image_path path then Some (PutBootSource path) else None
 
 -- PUT /boot-source {"kernel_image_path":"P"}
 abbrev pub boot_source_of : List ℕ → Option ApiCall

@@ -1,7 +1,7 @@
 // Bytes that are a text.
 ghost use Rattle.std.specs.Prelude.{◌≡◌, if◌then◌else◌, IfOk};
 ghost use Rattle.std.specs.List.{list_all};
-ghost use Rattle.script_lines.specs.Items.{is_alphanumeric, is_path, is_text};
+ghost use Rattle.script_lines.specs.Items.{is_alphanumeric, is_image_path, is_text};
 
 use crate::number::is_digit;
 use std::alloc::{AllocError, Global};
@@ -20,17 +20,17 @@ pub fn text_from(alloc: Global, bytes: &[u8]) -> Result<Option<TextList>, AllocE
 
 /// The path of a kernel image that these bytes are: 1 to 64 ASCII letters and digits.
 pub fn path_from(alloc: Global, bytes: &[u8]) -> Result<Option<TextList>, AllocError>
-    ensures { IfOk result (λ path. path ≡ (if is_path bytes.now then Some bytes.now else None)) }
+    ensures { IfOk result (λ path. path ≡ (if is_image_path bytes.now then Some bytes.now else None)) }
 {
-    if is_path(bytes) {
+    if is_image_path(bytes) {
         Ok(text_from(alloc, bytes)?)
     } else {
         Ok(None)
     }
 }
 
-fn is_path(bytes: &[u8]) -> bool
-    ensures { result ≡ is_path bytes.now }
+fn is_image_path(bytes: &[u8]) -> bool
+    ensures { result ≡ is_image_path bytes.now }
 {
     1 <= bytes.len() && bytes.len() <= 64 && are_alphanumeric(bytes)
 }

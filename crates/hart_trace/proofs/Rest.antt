@@ -1,17 +1,17 @@
--- What may still come where an instruction is begun or not. Proofs alone speak of it.
+-- What may still come where an instruction is begun or not.
 use Rattle.std.specs.Prelude.{◌≡◌, List, ◌++◌, if◌then◌else◌}
 use Rattle.vm_types.specs.declared.op.Op.{Op}
 use Rattle.vm_types.specs.declared.reply.Reply.{Reply}
 use Rattle.vm_types.specs.declared.entry.Step.{Step}
 use Rattle.hart_rows.specs.declared.regs.Regs.{Regs}
 use Rattle.hart_rows.specs.Doing.{Doing, Ends, Asks}
-use Rattle.hart_trace.specs.Traces.{Does, Lead, joined, opening, going, is_full}
+use Rattle.hart_trace.specs.Traces.{Completes, Lead, joined, opening, going, is_full}
 
 -- the rest of what is begun, and then whole groups
 abbrev pub Rest : Doing → List Step → Regs → Type 0
 Rest d steps end =
     (first : List Step) × (groups : List (List Step)) × (after : Regs)
-    × Does d first after × Lead after groups end × (first ++ joined groups ≡ steps)
+    × Completes d first after × Lead after groups end × (first ++ joined groups ≡ steps)
 
 abbrev pub doing_wants : Doing → Op
 doing_wants (Ends r) = opening r.turn r
