@@ -3,3 +3,4 @@ pub mod Hex
 pub mod Parts
 pub mod Texts
 pub mod Ends
+pub mod Spaces
