@@ -4,3 +4,6 @@ pub mod Parts
 pub mod Texts
 pub mod Ends
 pub mod Spaces
+pub mod LineReads
+pub mod LineWrites
+pub mod WholeText
