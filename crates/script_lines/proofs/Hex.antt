@@ -1,8 +1,8 @@
 -- Bytes as pairs of digits.
-use Rattle.std.proofs.Common.{◌≡◌, ℕ, ◌+◌, ◌-◌, ◌*◌, ◌/◌, ◌%◌, ◌<◌, ◌≤◌, List, [], ◌∷◌, ◌++◌, length, get_or, take, drop, Option, Some, None, refl, sym, ◌∙◌, ap, arith, append_assoc}
+use Rattle.std.proofs.Common.{◌≡◌, ℕ, ◌+◌, ◌-◌, ◌*◌, ◌/◌, ◌%◌, ◌<◌, ◌≤◌, List, [], ◌∷◌, ◌++◌, length, get_or, take, drop, Option, Some, None, refl, sym, ◌∙◌, ap, subst, arith, append_assoc}
 use Rattle.std.proofs.lemmas.Bool.Decides.{nat_tests}
 use Rattle.std.proofs.lemmas.List.{take_all}
-use Rattle.std.proofs.lemmas.List.Elements.{recursion_from_All}
+use Rattle.std.proofs.lemmas.List.Elements.{All-from_recursion, recursion_from_All}
 use Rattle.std.proofs.lemmas.Option.{same_Some}
 use Rattle.std.specs.List.{All, AllByRecursion}
 use Rattle.script_lines.specs.Numbers.{byte_onto, bytes_of, nibble_of}
@@ -74,6 +74,19 @@ hex_reads (high ∷ low ∷ text) bytes is =
     let below = nibble_reads low pair.l pair.is_low in
     let rest : text ≡ hex_of pair.rest = hex_reads text pair.rest pair.is_more in
     rw (pair.is_all, high_of pair.h pair.l below.0, low_of pair.h pair.l below.0, above.1, below.1) (ap (λ (xs : List ℕ). high ∷ low ∷ xs) rest)
+
+each_below : (text bytes : List ℕ) → bytes_of text ≡ Some bytes → AllByRecursion (λ byte. byte < 256) bytes
+each_below [] bytes is = subst (AllByRecursion (λ (byte : ℕ). byte < 256)) (same_Some [] bytes is) tt
+each_below (high ∷ []) bytes is = absurd (cc)
+each_below (high ∷ low ∷ text) bytes is =
+    let pair = pair_of (nibble_of high) (nibble_of low) (bytes_of text) bytes is in
+    let above = nibble_reads high pair.h pair.is_high in
+    let below = nibble_reads low pair.l pair.is_low in
+    let small : 16 * pair.h + pair.l < 256 = omega (arith, above.0, below.0) in
+    subst (AllByRecursion (λ (byte : ℕ). byte < 256)) (sym pair.is_all) (small, each_below text pair.rest pair.is_more)
+
+pub hex_below : (text bytes : List ℕ) → bytes_of text ≡ Some bytes → All (λ byte. byte < 256) bytes
+hex_below text bytes is = All-from_recursion (λ (byte : ℕ). byte < 256) bytes (each_below text bytes is)
 
 whole_byte : (byte : ℕ) → 16 * (byte / 16) + byte % 16 ≡ byte
 whole_byte byte = omega arith

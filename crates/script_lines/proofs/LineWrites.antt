@@ -1,7 +1,7 @@
 -- The line that an item is written as is read as it.
 use Rattle.std.proofs.Common.{◌≡◌, ℕ, ◌+◌, ◌^◌, ◌<◌, ◌≤◌, ◌==◌, nat_le, Bool, true, false, ◌&&◌, not, if◌then◌else◌, List, [], ◌∷◌, ◌++◌, length, take, drop, codes, Option, Some, None, option_and_then, refl, sym, ◌∙◌, ap, arith}
 use Rattle.std.proofs.Math.Seq.{drop-append-add, take-append_seam}
-use Rattle.std.proofs.lemmas.Bool.{and_from, cond-true, le-leb, ne_eqb, not_from_false}
+use Rattle.std.proofs.lemmas.Bool.{and_from, cond-true, eq-eqb, le-leb, ne_eqb, not_from_false}
 use Rattle.std.proofs.lemmas.Fmt.{decimal_digit}
 use Rattle.std.specs.Fmt.{decimal}
 use Rattle.std.specs.List.{All, position}
@@ -10,9 +10,9 @@ use Rattle.vm_types.specs.declared.item.ApiCall.{ApiCall}
 use Rattle.vm_types.specs.declared.item.ApiCall.TheVariants.{PutBootSource, PutMachineConfig, InstanceStart, GetInstance}
 use Rattle.vm_types.specs.declared.item.Item.{Item}
 use Rattle.vm_types.specs.declared.item.Item.TheVariants.{Nothing, File, Api, Step}
-use Rattle.script_lines.specs.Items.{api_by, before, boot_source_by, boot_source_of, call_of, file_at, file_by, file_of, is_image_path, is_text, item_of, longest, machine_config_by, machine_config_of, or_else, shape_of, step_by, step_of}
+use Rattle.script_lines.specs.Items.{api_by, before, boot_source_by, boot_source_of, call_of, file_at, file_by, file_of, is_image_path, is_text, item_of, longest, machine_config_by, machine_config_of, or_else, shape_of, step_by, step_of, worded}
 use Rattle.script_lines.specs.Numbers.{bytes_of, number_of}
-use Rattle.script_lines.specs.Written.{HasActorForm, HasCallForm, HasForm, IsName, IsWritable, actor_word, call_line, hex_of, line_of}
+use Rattle.script_lines.specs.Written.{HasActorForm, HasCallForm, HasForm, IsComment, IsName, IsWritable, actor_word, call_line, hex_of, line_of}
 use Rattle.script_lines.proofs.Decimals.{number_writes}
 use Rattle.script_lines.proofs.Hex.{hex_writes}
 use Rattle.script_lines.proofs.Parts.{before_writes}
@@ -80,3 +80,10 @@ short_writes line item short is = cond-true (nat_le (length line) longest) (shap
 
 pub item_writes : (item : Item) → IsWritable item → item_of (line_of item) ≡ Some item
 item_writes item is = short_writes (line_of item) item is.short (shape_writes item is.form)
+
+comment_shape : (line : List ℕ) → IsComment line → shape_of line ≡ Some Nothing
+comment_shape [] is = refl
+comment_shape (c ∷ line) is = cond-true (c == 35) (Some Nothing) (worded (c ∷ line)) (eq-eqb c 35 is)
+
+pub comment_writes : (line : List ℕ) → IsComment line → length line ≤ longest → item_of line ≡ Some Nothing
+comment_writes line is short = short_writes line Nothing short (comment_shape line is)

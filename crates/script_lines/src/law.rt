@@ -6,11 +6,13 @@ ghost use Rattle.script_lines.specs.Items.{item_of, longest};
 ghost use Rattle.script_lines.specs.Lines.{lines_of};
 ghost use Rattle.script_lines.specs.Written.{IsComment, IsWritable, Lacks, line_of};
 
-/// An item has one line: what is read as it is the line that it is written as, or a comment where it is
-/// nothing, and that line is read as it.
+/// An item has one line, the one that it is written as, and no other line is read as it. A comment is read
+/// as nothing.
 pub fn one_line()
     ensures reads { (line : List ℕ) (item : Item) → item_of line ≡ Some item → (IsComment line × (item ≡ Item.Nothing)) ⊎ (line ≡ line_of item) }
     ensures writes { (item : Item) → IsWritable item → item_of (line_of item) ≡ Some item }
+    ensures writable { (line : List ℕ) (item : Item) → Lacks 10 line → item_of line ≡ Some item → IsWritable item }
+    ensures comments { (line : List ℕ) → IsComment line → length line ≤ longest → item_of line ≡ Some Item.Nothing }
 {}
 
 /// A text is its lines, each with its LF, and bytes without one.
