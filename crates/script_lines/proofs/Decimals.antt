@@ -53,7 +53,7 @@ number_reads (c ∷ text) n is =
     let form = and_parts (list_all is_digit (c ∷ text)) (is_lone c text) tests.0 in
     let small : value_of (c ∷ text) < 2 ^ 64 = leb-true (suc (value_of (c ∷ text))) (2 ^ 64) tests.1 in
     let digits : decimal (value_of (c ∷ text)) ≡ c ∷ text =
-        decimal-digits_value own (c ∷ text) form.0 (omega arith) (lone c text form.1) small in
+    decimal-digits_value own (c ∷ text) form.0 (omega arith) (lone c text form.1) small in
     (sym digits ∙ ap decimal got.1, subst (λ (m : ℕ). m < 2 ^ 64) got.1 small)
 
 alone : (c : ℕ) (text : List ℕ) → (get_or (c ∷ text) 0 0 ≡ 48 → length (c ∷ text) ≡ 1) → is_lone c text ≡ true

@@ -1,10 +1,9 @@
 -- A line that is read as an item is the one that it is written as, or a comment.
-use Rattle.std.proofs.Common.{◌≡◌, ◌≢◌, ◌⊎◌, ℕ, ◌+◌, ◌^◌, ◌<◌, ◌≤◌, ◌==◌, nat_le, Bool, true, false, ◌&&◌, not, if◌then◌else◌, List, [], ◌∷◌, ◌++◌, length, take, drop, codes, Option, Some, None, option_and_then, refl, sym, ◌∙◌, ap, inl, inr, subst, arith}
-use Rattle.std.proofs.lemmas.Bool.{and_parts, cond_both, eqb-false, eqb-true, leb-true, not-true}
+use Rattle.std.proofs.Common.{◌≡◌, ◌≢◌, ◌⊎◌, ℕ, ◌+◌, ◌<◌, ◌≤◌, ◌==◌, nat_le, Bool, true, false, ◌&&◌, not, if◌then◌else◌, List, [], ◌∷◌, ◌++◌, length, take, drop, codes, Option, Some, None, option_and_then, refl, sym, ◌∙◌, ap, inl, inr, subst, arith}
+use Rattle.std.proofs.lemmas.Bool.{and_parts, eqb-false, eqb-true, leb-true, not-true}
 use Rattle.std.proofs.lemmas.List.Elements.{All-tail, All-take}
 use Rattle.std.proofs.lemmas.Option.{cond_some, option_and_then_some, same_Some}
-use Rattle.std.specs.Fmt.{decimal}
-use Rattle.std.specs.List.{All, position}
+use Rattle.std.specs.List.{position}
 use Rattle.vm_types.specs.declared.ids.ActorId.TheVariants.{Hart}
 use Rattle.vm_types.specs.declared.item.ApiCall.{ApiCall}
 use Rattle.vm_types.specs.declared.item.ApiCall.TheVariants.{PutBootSource, PutMachineConfig, InstanceStart, GetInstance}
@@ -12,7 +11,7 @@ use Rattle.vm_types.specs.declared.item.Item.{Item}
 use Rattle.vm_types.specs.declared.item.Item.TheVariants.{Nothing, File, Api, Step}
 use Rattle.script_lines.specs.Items.{api_by, api_of, before, behind, boot_source_by, boot_source_of, call_of, file_at, file_by, file_of, get_of, is_image_path, is_text, item_of, longest, machine_config_by, machine_config_of, nothing_behind, or_else, shape_of, start_of, step_by, step_of, worded}
 use Rattle.script_lines.specs.Numbers.{bytes_of, number_of}
-use Rattle.script_lines.specs.Written.{HasActorForm, HasCallForm, HasForm, IsComment, IsName, IsWritable, Lacks, actor_word, call_line, hex_of, line_of}
+use Rattle.script_lines.specs.Written.{HasCallForm, HasForm, IsComment, IsName, IsWritable, Lacks, call_line, hex_of, line_of}
 use Rattle.script_lines.proofs.Decimals.{number_reads}
 use Rattle.script_lines.proofs.Hex.{hex_below, hex_reads}
 use Rattle.script_lines.proofs.LineWrites.{step_line}
@@ -62,13 +61,13 @@ file_at_reads rest (Some i) item found is =
     let read = file_by_reads (take i rest) (bytes_of (drop (i + 1) rest)) item is in
     let digits : drop (i + 1) rest ≡ hex_of read.content = hex_reads (drop (i + 1) rest) read.content read.is_content in
     let line : codes "file " ++ rest ≡ line_of (File (take i rest) read.content) =
-        ap (λ (xs : List ℕ). codes "file " ++ xs) (space_reads rest i found ∙ ap (λ (xs : List ℕ). take i rest ++ 32 ∷ xs) digits) in
+    ap (λ (xs : List ℕ). codes "file " ++ xs) (space_reads rest i found ∙ ap (λ (xs : List ℕ). take i rest ++ 32 ∷ xs) digits) in
     let name : Lacks 10 (codes "file " ++ rest) → IsName (take i rest) = λ lacks. record {
-        some = read.some;
-        text = read.text;
-        spaceless = space_lacks rest i found;
-        one_line = All-take (λ (d : ℕ). d ≢ 10) i rest (lacks_behind (codes "file ") rest lacks)
-      } in
+      some = read.some;
+      text = read.text;
+      spaceless = space_lacks rest i found;
+      one_line = All-take (λ (d : ℕ). d ≢ 10) i rest (lacks_behind (codes "file ") rest lacks);
+    } in
     subst (λ (it : Item). IsLine (codes "file " ++ rest) it) (sym read.is_item)
     (record { same = line; form = λ lacks. (name lacks, hex_below (drop (i + 1) rest) read.content read.is_content) })
 
@@ -79,16 +78,16 @@ step_reads : (rest : List ℕ) (item : Item) → step_of rest ≡ Some item → 
 step_reads rest item is =
     option_and_then_some step_by (option_and_then number_of (behind (codes "h0 ") rest)) item is
     (λ count counted by.
-      option_and_then_some number_of (behind (codes "h0 ") rest) count counted
-      (λ digits behind_is read.
-        let got = cond_some (nat_le 1 count && nat_le count 1000000000) (Step (Hart 0) count) item by in
-        let parts : rest ≡ codes "h0 " ++ digits = behind_reads (codes "h0 ") rest digits behind_is in
-        let number = number_reads digits count read in
-        let range = and_parts (nat_le 1 count) (nat_le count 1000000000) got.0 in
-        let line : codes "step " ++ rest ≡ line_of (Step (Hart 0) count) =
-            ap (λ (xs : List ℕ). codes "step " ++ xs) parts ∙ (ap (λ (xs : List ℕ). codes "step h0 " ++ xs) number.0 ∙ sym (step_line 0 count refl)) in
-        subst (λ (it : Item). IsLine (codes "step " ++ rest) it) got.1
-        (record { same = line; form = λ _. (refl, leb-true 1 count range.0, leb-true count 1000000000 range.1) })))
+    option_and_then_some number_of (behind (codes "h0 ") rest) count counted
+    (λ digits behind_is read.
+    let got = cond_some (nat_le 1 count && nat_le count 1000000000) (Step (Hart 0) count) item by in
+    let parts : rest ≡ codes "h0 " ++ digits = behind_reads (codes "h0 ") rest digits behind_is in
+    let number = number_reads digits count read in
+    let range = and_parts (nat_le 1 count) (nat_le count 1000000000) got.0 in
+    let line : codes "step " ++ rest ≡ line_of (Step (Hart 0) count) =
+    ap (λ (xs : List ℕ). codes "step " ++ xs) parts ∙ (ap (λ (xs : List ℕ). codes "step h0 " ++ xs) number.0 ∙ sym (step_line 0 count refl)) in
+    subst (λ (it : Item). IsLine (codes "step " ++ rest) it) got.1
+    (record { same = line; form = λ _. (refl, leb-true 1 count range.0, leb-true count 1000000000 range.1) })))
 
 boot_source_reads : (rest : List ℕ) (call : ApiCall) → boot_source_of rest ≡ Some call → IsCall (codes "api " ++ rest) call
 boot_source_reads rest call is =
@@ -96,14 +95,14 @@ boot_source_reads rest call is =
     let back : List ℕ = codes "\"}" in
     option_and_then_some boot_source_by (option_and_then (before back) (behind front rest)) call is
     (λ path between by.
-      option_and_then_some (before back) (behind front rest) path between
-      (λ inner behind_is before_is.
-        let got = cond_some (is_image_path path) (PutBootSource path) call by in
-        let parts : rest ≡ front ++ inner = behind_reads front rest inner behind_is in
-        let ends : inner ≡ path ++ back = before_reads back inner path before_is in
-        let line : codes "api " ++ rest ≡ call_line (PutBootSource path) =
-            ap (λ (xs : List ℕ). codes "api " ++ xs) (parts ∙ ap (λ (xs : List ℕ). front ++ xs) ends) in
-        subst (λ (it : ApiCall). IsCall (codes "api " ++ rest) it) got.1 (record { same = line; form = got.0 })))
+    option_and_then_some (before back) (behind front rest) path between
+    (λ inner behind_is before_is.
+    let got = cond_some (is_image_path path) (PutBootSource path) call by in
+    let parts : rest ≡ front ++ inner = behind_reads front rest inner behind_is in
+    let ends : inner ≡ path ++ back = before_reads back inner path before_is in
+    let line : codes "api " ++ rest ≡ call_line (PutBootSource path) =
+    ap (λ (xs : List ℕ). codes "api " ++ xs) (parts ∙ ap (λ (xs : List ℕ). front ++ xs) ends) in
+    subst (λ (it : ApiCall). IsCall (codes "api " ++ rest) it) got.1 (record { same = line; form = got.0 })))
 
 machine_config_reads : (rest : List ℕ) (call : ApiCall) → machine_config_of rest ≡ Some call → IsCall (codes "api " ++ rest) call
 machine_config_reads rest call is =
@@ -111,17 +110,17 @@ machine_config_reads rest call is =
     let back : List ℕ = codes "}" in
     option_and_then_some machine_config_by (option_and_then number_of (option_and_then (before back) (behind front rest))) call is
     (λ mib counted by.
-      option_and_then_some number_of (option_and_then (before back) (behind front rest)) mib counted
-      (λ digits between read.
-        option_and_then_some (before back) (behind front rest) digits between
-        (λ inner behind_is before_is.
-          let parts : rest ≡ front ++ inner = behind_reads front rest inner behind_is in
-          let ends : inner ≡ digits ++ back = before_reads back inner digits before_is in
-          let number = number_reads digits mib read in
-          let line : codes "api " ++ rest ≡ call_line (PutMachineConfig mib) =
-              ap (λ (xs : List ℕ). codes "api " ++ xs) (parts ∙ ap (λ (xs : List ℕ). front ++ xs) (ends ∙ ap (λ (xs : List ℕ). xs ++ back) number.0)) in
-          subst (λ (it : ApiCall). IsCall (codes "api " ++ rest) it) (same_Some (PutMachineConfig mib) call by)
-          (record { same = line; form = number.1 }))))
+    option_and_then_some number_of (option_and_then (before back) (behind front rest)) mib counted
+    (λ digits between read.
+    option_and_then_some (before back) (behind front rest) digits between
+    (λ inner behind_is before_is.
+    let parts : rest ≡ front ++ inner = behind_reads front rest inner behind_is in
+    let ends : inner ≡ digits ++ back = before_reads back inner digits before_is in
+    let number = number_reads digits mib read in
+    let line : codes "api " ++ rest ≡ call_line (PutMachineConfig mib) =
+    ap (λ (xs : List ℕ). codes "api " ++ xs) (parts ∙ ap (λ (xs : List ℕ). front ++ xs) (ends ∙ ap (λ (xs : List ℕ). xs ++ back) number.0)) in
+    subst (λ (it : ApiCall). IsCall (codes "api " ++ rest) it) (same_Some (PutMachineConfig mib) call by)
+    (record { same = line; form = number.1 }))))
 
 start_reads : (rest : List ℕ) (call : ApiCall) → start_of rest ≡ Some call → IsCall (codes "api " ++ rest) call
 start_reads rest call is =
@@ -139,23 +138,23 @@ get_reads rest call is =
 call_reads : (rest : List ℕ) (call : ApiCall) → call_of rest ≡ Some call → IsCall (codes "api " ++ rest) call
 call_reads rest call is =
     elim (either (boot_source_of rest) (or_else (machine_config_of rest) (or_else (start_of rest) (get_of rest))) call is) [
-        inl boot ↦ boot_source_reads rest call boot
+      | inl boot ↦ boot_source_reads rest call boot
       | inr others ↦ elim (either (machine_config_of rest) (or_else (start_of rest) (get_of rest)) call others) [
-          inl config ↦ machine_config_reads rest call config
+        | inl config ↦ machine_config_reads rest call config
         | inr more ↦ elim (either (start_of rest) (get_of rest) call more) [
-            inl start ↦ start_reads rest call start
+          | inl start ↦ start_reads rest call start
           | inr get ↦ get_reads rest call get
-          ]
         ]
+      ]
     ]
 
 api_reads : (rest : List ℕ) (item : Item) → api_of rest ≡ Some item → IsLine (codes "api " ++ rest) item
 api_reads rest item is =
     option_and_then_some api_by (call_of rest) item is
     (λ call called by.
-      let read = call_reads rest call called in
-      subst (λ (it : Item). IsLine (codes "api " ++ rest) it) (same_Some (Api call) item by)
-      (record { same = read.same; form = λ _. read.form }))
+    let read = call_reads rest call called in
+    subst (λ (it : Item). IsLine (codes "api " ++ rest) it) (same_Some (Api call) item by)
+    (record { same = read.same; form = λ _. read.form }))
 
 -- by the word that a line begins with
 by_word : (word line : List ℕ) (of : List ℕ → Option Item) (item : Item) → ((rest : List ℕ) → of rest ≡ Some item → IsLine (word ++ rest) item)
@@ -163,7 +162,7 @@ by_word : (word line : List ℕ) (of : List ℕ → Option Item) (item : Item) �
 by_word word line of item reads is =
     option_and_then_some of (behind word line) item is
     (λ rest behind_is by.
-      subst (λ (xs : List ℕ). IsLine xs item) (sym (behind_reads word line rest behind_is)) (reads rest by))
+    subst (λ (xs : List ℕ). IsLine xs item) (sym (behind_reads word line rest behind_is)) (reads rest by))
 
 worded_reads : (line : List ℕ) (item : Item) → worded line ≡ Some item → IsLine line item
 worded_reads line item is =
@@ -171,11 +170,11 @@ worded_reads line item is =
     let step : Option Item = option_and_then step_of (behind (codes "step ") line) in
     let api : Option Item = option_and_then api_of (behind (codes "api ") line) in
     elim (either file (or_else step api) item is) [
-        inl one ↦ by_word (codes "file ") line file_of item (λ rest by. file_reads rest item by) one
+      | inl one ↦ by_word (codes "file ") line file_of item (λ rest by. file_reads rest item by) one
       | inr others ↦ elim (either step api item others) [
-          inl one ↦ by_word (codes "step ") line step_of item (λ rest by. step_reads rest item by) one
+        | inl one ↦ by_word (codes "step ") line step_of item (λ rest by. step_reads rest item by) one
         | inr one ↦ by_word (codes "api ") line api_of item (λ rest by. api_reads rest item by) one
-        ]
+      ]
     ]
 
 -- a comment, which asks for nothing, or the line of the item
@@ -202,6 +201,6 @@ pub item_writable : (line : List ℕ) (item : Item) → Lacks 10 line → item_o
 item_writable line item lacks is =
     let got = chosen (nat_le (length line) longest) (shape_of line) item is in
     elim (shape_reads line item got.1) [
-        inl comment ↦ subst IsWritable (sym comment.1) nothing_writable
+      | inl comment ↦ subst IsWritable (sym comment.1) nothing_writable
       | inr read ↦ record { form = read.form lacks; short = subst (λ (xs : List ℕ). length xs ≤ longest) read.same (leb-true (length line) longest got.0) }
     ]

@@ -1,18 +1,18 @@
 -- The line that an item is written as is read as it.
-use Rattle.std.proofs.Common.{◌≡◌, ℕ, ◌+◌, ◌^◌, ◌<◌, ◌≤◌, ◌==◌, nat_le, Bool, true, false, ◌&&◌, not, if◌then◌else◌, List, [], ◌∷◌, ◌++◌, length, take, drop, codes, Option, Some, None, option_and_then, refl, sym, ◌∙◌, ap, arith}
+use Rattle.std.proofs.Common.{◌≡◌, ℕ, ◌+◌, ◌^◌, ◌<◌, ◌≤◌, ◌==◌, nat_le, true, ◌&&◌, not, List, [], ◌∷◌, ◌++◌, length, take, drop, codes, Option, Some, None, option_and_then, refl, sym, ◌∙◌, ap, arith}
 use Rattle.std.proofs.Math.Seq.{drop-append-add, take-append_seam}
 use Rattle.std.proofs.lemmas.Bool.{and_from, cond-true, eq-eqb, le-leb, ne_eqb, not_from_false}
 use Rattle.std.proofs.lemmas.Fmt.{decimal_digit}
 use Rattle.std.specs.Fmt.{decimal}
-use Rattle.std.specs.List.{All, position}
+use Rattle.std.specs.List.{All}
 use Rattle.vm_types.specs.declared.ids.ActorId.TheVariants.{Timer, Hart, Device}
 use Rattle.vm_types.specs.declared.item.ApiCall.{ApiCall}
 use Rattle.vm_types.specs.declared.item.ApiCall.TheVariants.{PutBootSource, PutMachineConfig, InstanceStart, GetInstance}
 use Rattle.vm_types.specs.declared.item.Item.{Item}
 use Rattle.vm_types.specs.declared.item.Item.TheVariants.{Nothing, File, Api, Step}
-use Rattle.script_lines.specs.Items.{api_by, before, boot_source_by, boot_source_of, call_of, file_at, file_by, file_of, is_image_path, is_text, item_of, longest, machine_config_by, machine_config_of, or_else, shape_of, step_by, step_of, worded}
+use Rattle.script_lines.specs.Items.{api_by, boot_source_by, boot_source_of, file_at, file_by, file_of, is_image_path, is_text, item_of, longest, machine_config_by, machine_config_of, or_else, shape_of, step_by, step_of, worded}
 use Rattle.script_lines.specs.Numbers.{bytes_of, number_of}
-use Rattle.script_lines.specs.Written.{HasActorForm, HasCallForm, HasForm, IsComment, IsName, IsWritable, actor_word, call_line, hex_of, line_of}
+use Rattle.script_lines.specs.Written.{HasCallForm, HasForm, IsComment, IsName, IsWritable, call_line, hex_of, line_of}
 use Rattle.script_lines.proofs.Decimals.{number_writes}
 use Rattle.script_lines.proofs.Hex.{hex_writes}
 use Rattle.script_lines.proofs.Parts.{before_writes}

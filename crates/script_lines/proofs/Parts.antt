@@ -78,7 +78,7 @@ behind_reads [] line rest is = same_Some line rest is
 behind_reads (c ∷ front) [] rest is = cc
 behind_reads (c ∷ front) (d ∷ line) rest is =
     elim (cases_eq c d) [
-        inl same ↦ let kept = rw (eq-eqb c d same) at is in let tail : line ≡ front ++ rest = behind_reads front line rest kept in cc
+      | inl same ↦ let kept = rw (eq-eqb c d same) at is in let tail : line ≡ front ++ rest = behind_reads front line rest kept in cc
       | inr other ↦ let none = rw (ne_eqb c d other) at is in cc
     ]
 
@@ -88,10 +88,10 @@ behind_writes (c ∷ front) rest = rw (eq-eqb c c refl) (behind_writes front res
 
 pub whole_reads : (front line : List ℕ) → nothing_behind (behind front line) ≡ true → line ≡ front
 whole_reads front line is = elim (behind front line) as (λ o. o ≡ behind front line → nothing_behind o ≡ true → line ≡ front) [
-    Some [] ↦ λ e t. behind_reads front line [] (sym e) ∙ append-nil front
+  | Some [] ↦ λ e t. behind_reads front line [] (sym e) ∙ append-nil front
   | Some (c ∷ rest) ↦ λ e t. cc
   | None ↦ λ e t. cc
-  ] refl is
+] refl is
 
 pub before_reads : (back line front : List ℕ) → before back line ≡ Some front → line ≡ front ++ back
 before_reads back line front is =

@@ -1,5 +1,5 @@
 -- The bytes on both sides of the first space.
-use Rattle.std.proofs.Common.{◌≡◌, ◌≢◌, ℕ, ◌+◌, ◌<◌, ◌==◌, nat_lt, if◌then◌else◌, Bool, true, false, List, [], ◌∷◌, ◌++◌, length, get_or, take, drop, Option, Some, None, refl, sym, ◌∙◌, ap, subst, arith}
+use Rattle.std.proofs.Common.{◌≡◌, ◌≢◌, ℕ, ◌+◌, ◌<◌, ◌==◌, nat_lt, if◌then◌else◌, false, List, [], ◌∷◌, ◌++◌, length, get_or, take, drop, Some, None, refl, sym, ◌∙◌, ap, subst, arith}
 use Rattle.std.proofs.lemmas.Bool.{eqb-false, eqb-true, lt-ltb, ne_eqb}
 use Rattle.std.proofs.lemmas.List.{drop_more, get_or-take, length-append, length-take-le, take-append-drop}
 use Rattle.std.proofs.lemmas.List.Elements.{All-from_get_or, All-head, All-tail}
@@ -37,5 +37,5 @@ space_lacks bytes i is =
     let long : length (take i bytes) ≡ i = length-take-le i bytes (omega (arith, found.0)) in
     All-from_get_or (λ (c : ℕ). c ≢ 32) (take i bytes) 0
     (λ k lt. let within : k < i = omega arith in
-      let same : get_or (take i bytes) k 0 ≡ get_or bytes k 0 = get_or-take i bytes k 0 within in
-      subst (λ (c : ℕ). c ≢ 32) (sym same) (eqb-false (get_or bytes k 0) 32 (found.2 k within)))
+    let same : get_or (take i bytes) k 0 ≡ get_or bytes k 0 = get_or-take i bytes k 0 within in
+    subst (λ (c : ℕ). c ≢ 32) (sym same) (eqb-false (get_or bytes k 0) 32 (found.2 k within)))
