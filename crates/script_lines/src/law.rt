@@ -6,8 +6,8 @@ ghost use Rattle.script_lines.specs.Items.{item_of, longest};
 ghost use Rattle.script_lines.specs.Lines.{lines_of};
 ghost use Rattle.script_lines.specs.Written.{IsComment, IsWritable, Lacks, line_of};
 
-/// An item has one line, the one that it is written as, and no other line is read as it. A comment is read
-/// as nothing.
+/// The line that an item is written as is read as it, and no other line is, but for comments: each is read
+/// as nothing. What a line without an LF is read as has a line.
 pub fn one_line()
     ensures reads { (line : List ℕ) (item : Item) → item_of line ≡ Some item → (IsComment line × (item ≡ Item.Nothing)) ⊎ (line ≡ line_of item) }
     ensures writes { (item : Item) → IsWritable item → item_of (line_of item) ≡ Some item }
