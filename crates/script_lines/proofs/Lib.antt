@@ -3,3 +3,7 @@ pub mod Hex
 pub mod Parts
 pub mod Texts
 pub mod Ends
+pub mod Spaces
+pub mod LineReads
+pub mod LineWrites
+pub mod WholeText

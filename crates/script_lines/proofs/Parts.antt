@@ -1,7 +1,10 @@
 -- What is behind and before bytes.
-use Rattle.std.proofs.Common.{Bor, MatchOption, ◌≡◌, ℕ, ◌+◌, ◌-◌, ◌==◌, nat_eq, nat_le, Bool, true, false, if◌then◌else◌, ◌&&◌, Option, List, [], ◌∷◌, length, take, drop, Some, None, refl, sym, ◌∙◌, ap, arith}
-use Rattle.std.proofs.lemmas.Bool.{le-leb}
+use Rattle.std.proofs.Common.{Bor, MatchOption, ◌≡◌, ℕ, ◌+◌, ◌-◌, ◌==◌, nat_eq, nat_le, Bool, true, false, if◌then◌else◌, ◌&&◌, Option, List, [], ◌∷◌, ◌++◌, length, take, drop, Some, None, refl, sym, ◌∙◌, ap, inl, inr, arith, append-nil, length-append}
+use Rattle.std.proofs.Math.Seq.{drop-append_seam, take-append_seam}
+use Rattle.std.proofs.lemmas.Bool.{and_parts, cases_eq, eq-eqb, le-leb, ne_eqb}
 use Rattle.std.proofs.lemmas.Bool.Decides.{nat_tests}
+use Rattle.std.proofs.lemmas.List.{take-append-drop}
+use Rattle.std.proofs.lemmas.Option.{cond_some, same_Some}
 use Rattle.std.specs.Cmp.Lexicographic.{pointwise}
 use Rattle.script_lines.specs.Items.{behind, before, nothing_behind}
 
@@ -68,3 +71,46 @@ pub before_is : (back line : List ℕ) (r : Option (Bor (List ℕ)))
     → MatchOption r (before back line ≡ None) (λ rest. before back line ≡ Some rest.now)
 before_is back line None lacks = before_lacks back line lacks
 before_is back line (Some x) found = before_found back line (length x.now) found.2 found.0 ∙ ap Some (sym found.1)
+
+-- bytes are behind others exactly where they follow them
+pub behind_reads : (front line rest : List ℕ) → behind front line ≡ Some rest → line ≡ front ++ rest
+behind_reads [] line rest is = same_Some line rest is
+behind_reads (c ∷ front) [] rest is = cc
+behind_reads (c ∷ front) (d ∷ line) rest is =
+    elim (cases_eq c d) [
+      | inl same ↦ let kept = rw (eq-eqb c d same) at is in let tail : line ≡ front ++ rest = behind_reads front line rest kept in cc
+      | inr other ↦ let none = rw (ne_eqb c d other) at is in cc
+    ]
+
+pub behind_writes : (front rest : List ℕ) → behind front (front ++ rest) ≡ Some rest
+behind_writes [] rest = refl
+behind_writes (c ∷ front) rest = rw (eq-eqb c c refl) (behind_writes front rest)
+
+pub whole_reads : (front line : List ℕ) → nothing_behind (behind front line) ≡ true → line ≡ front
+whole_reads front line is = elim (behind front line) as (λ o. o ≡ behind front line → nothing_behind o ≡ true → line ≡ front) [
+  | Some [] ↦ λ e t. behind_reads front line [] (sym e) ∙ append-nil front
+  | Some (c ∷ rest) ↦ λ e t. cc
+  | None ↦ λ e t. cc
+] refl is
+
+pub before_reads : (back line front : List ℕ) → before back line ≡ Some front → line ≡ front ++ back
+before_reads back line front is =
+    let n : ℕ = length line - length back in
+    let got = cond_some (nat_le (length back) (length line) && nothing_behind (behind back (drop n line))) (take n line) front is in
+    let tests = and_parts (nat_le (length back) (length line)) (nothing_behind (behind back (drop n line))) got.0 in
+    let end : drop n line ≡ back = whole_reads back (drop n line) tests.1 in
+    sym (take-append-drop n line) ∙ (ap (λ (xs : List ℕ). xs ++ drop n line) got.1 ∙ ap (λ (xs : List ℕ). front ++ xs) end)
+
+whole_itself : (back : List ℕ) → nothing_behind (behind back back) ≡ true
+whole_itself [] = refl
+whole_itself (c ∷ back) = rw (eq-eqb c c refl) (whole_itself back)
+
+before_at : (back front : List ℕ) (n : ℕ) → n ≡ length front → nat_le (length back) (length (front ++ back)) ≡ true
+    → (if nat_le (length back) (length (front ++ back)) && nothing_behind (behind back (drop n (front ++ back))) then Some (take n (front ++ back)) else None) ≡ Some front
+before_at back front n is room =
+    rw (room, is, drop-append_seam front back, take-append_seam front back, whole_itself back) refl
+
+pub before_writes : (back front : List ℕ) → before back (front ++ back) ≡ Some front
+before_writes back front =
+    let long : length (front ++ back) ≡ length front + length back = length-append front back in
+    before_at back front (length (front ++ back) - length back) (omega arith) (le-leb (length back) (length (front ++ back)) (omega arith))

@@ -2,3 +2,4 @@ pub mod Items
 pub mod Lines
 pub mod Numbers
 pub mod Output
+pub mod Written
