@@ -41,6 +41,13 @@ impl PlainMemory {
     {
         &self.bytes
     }
+
+    /// What is reserved, in the order of page and hart.
+    pub fn reserved(&self) -> &[Reservation]
+        ensures { result.now ≡ self.now.reserved }
+    {
+        &self.reserved
+    }
 }
 
 // Whether all of these bytes are RAM.
