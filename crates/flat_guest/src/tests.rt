@@ -37,8 +37,9 @@ fn on_board(act: BoardOp, reply: Reply) -> Entry {
 #[test]
 fn a_guest_puts_a_byte_and_turns_itself_off(rt: HostRuntime) -> Result<(), Fail> {
     let mut guest = PlainGuest::start(rt.alloc(), 4, &PUTS_A_AND_ENDS)?;
-    assert_eq!(rt; guest.hart.regs.x[10], 0);
-    assert_eq!(rt; guest.hart.regs.x[11], 0x803f_0000);
+    let regs = guest.hart.regs;
+    assert_eq!(rt; regs.x[10], 0);
+    assert_eq!(rt; regs.x[11], 0x803f_0000);
     let reset = BoardOp::Reset { kind: 0, reason: 0 };
     for wanted in [
         fetch(0x8020_0000, &[0x13, 0x05, 0x10, 0x04]),
