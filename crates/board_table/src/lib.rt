@@ -5,5 +5,7 @@
 #![tactic(auto)]
 
 mod plain_board;
+#[cfg(test)]
+mod tests;
 
 pub use plain_board::PlainBoard;

@@ -7,6 +7,8 @@
 mod law;
 mod place_of;
 mod plain_guest;
+#[cfg(test)]
+mod tests;
 
 pub use law::{one_step, some_step};
 pub use plain_guest::PlainGuest;
