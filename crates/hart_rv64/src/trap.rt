@@ -1,0 +1,37 @@
+// Exceptions, by their causes (privileged manual, "Supervisor Cause Register").
+ghost use Rattle.std.specs.Prelude.{◌≡◌};
+ghost use Rattle.hart_rows.specs.Registers.{trapped};
+ghost use Rattle.hart_rows.specs.Rows.{illegal_instruction};
+ghost use Rattle.hart_trace.specs.Traces.{fetch_fault};
+
+use crate::registers::count;
+use hart_rows::Regs;
+
+const FETCH_FAULT: u64 = 1;
+
+const ILLEGAL_INSTRUCTION: u64 = 2;
+
+fn trap(regs: &mut Regs, cause: u64, value: u64)
+    ensures { regs.new ≡ trapped cause value regs.old }
+{
+    regs.sepc = regs.pc;
+    regs.pc = regs.stvec;
+    regs.scause = cause;
+    regs.stval = value;
+    count(regs);
+}
+
+/// The fetch at pc faults.
+pub fn fetch_faults(regs: &mut Regs)
+    ensures { regs.new ≡ trapped fetch_fault regs.old.pc regs.old }
+{
+    let pc = regs.pc;
+    trap(regs, FETCH_FAULT, pc);
+}
+
+/// No instruction is this word.
+pub fn illegal_word(regs: &mut Regs, word: u32)
+    ensures { regs.new ≡ trapped illegal_instruction word regs.old }
+{
+    trap(regs, ILLEGAL_INSTRUCTION, word as u64);
+}
