@@ -1,5 +1,5 @@
 -- The largest of the sums, in steps: time takes from what is owed, and a need adds to it.
-use Rattle.std.proofs.Common.{◌≡◌, ℕ, ◌+◌, ◌-◌, ◌*◌, ◌≤◌, max, List, [], ◌∷◌, refl, sym, ap, ◌∙◌, arith, zero-add, add-zero}
+use Rattle.std.proofs.Common.{◌≡◌, ℕ, ◌+◌, ◌-◌, ◌*◌, ◌≤◌, max, List, [], ◌∷◌, ap, ◌∙◌, arith}
 use Rattle.std.proofs.Math.Nat.{mul-add, mul-zero}
 use Rattle.token_bucket.specs.Rate.{Rate}
 use Rattle.token_bucket.specs.Allowance.{Start, Need, last_moment, NeverFall, added, largest, owed}

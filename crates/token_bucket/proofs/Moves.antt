@@ -1,7 +1,7 @@
 -- What a bucket keeps, as time goes on and needs pass.
-use Rattle.std.proofs.Common.{◌≡◌, ℕ, ◌+◌, ◌-◌, ◌*◌, ◌≤◌, max, List, [], ◌∷◌, refl, sym, ap, ◌∙◌, arith}
+use Rattle.std.proofs.Common.{◌≡◌, ℕ, ◌+◌, ◌-◌, ◌*◌, ◌≤◌, max, List, ◌∷◌, refl, sym, ap, ◌∙◌, arith}
 use Rattle.token_bucket.specs.Rate.{Rate}
-use Rattle.token_bucket.specs.Allowance.{Start, Need, total, last_moment, moment_at, NeverFall, added, owed, fits, may_pass}
+use Rattle.token_bucket.specs.Allowance.{Start, Need, last_moment, moment_at, added, owed, fits, may_pass}
 use Rattle.token_bucket.specs.Kept.{Kept, Keeps}
 use Rattle.token_bucket.proofs.Largest.{largest_later, owed-need}
 

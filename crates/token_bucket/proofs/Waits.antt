@@ -1,11 +1,11 @@
 -- When a need fits, and from which moment on.
-use Rattle.std.proofs.Common.{◌≡◌, ℕ, ◌+◌, ◌-◌, ◌*◌, ◌/◌, ◌%◌, ◌<◌, ◌≤◌, ◌⊎◌, inl, inr, true, false, Bool, nat_le, nat_lt, nat_eq, List, refl, sym, ap, ◌∙◌, arith}
+use Rattle.std.proofs.Common.{◌≡◌, ℕ, ◌+◌, ◌-◌, ◌*◌, ◌/◌, ◌%◌, ◌<◌, ◌≤◌, inl, inr, true, false, nat_le, List, sym, ap, ◌∙◌, arith}
 use Rattle.std.proofs.Math.Nat.{mul-add, mul-zero, mul_comm}
 use Rattle.std.proofs.lemmas.Nat.{mul-le, mod_below, div-add-mod'}
 use Rattle.std.proofs.lemmas.Bool.{le-leb, lt-leb, cases_lt}
 use Rattle.std.proofs.lemmas.Bool.Decides.{nat_tests}
-use Rattle.token_bucket.specs.Rate.{Rate, full}
-use Rattle.token_bucket.specs.Allowance.{Start, Need, last_moment, owed, fits, may_pass}
+use Rattle.token_bucket.specs.Rate.{Rate}
+use Rattle.token_bucket.specs.Allowance.{Start, Need, fits}
 use Rattle.token_bucket.specs.Kept.{Kept, Keeps, IsWait, last_of_all}
 use Rattle.token_bucket.proofs.Moves.{may_pass_kept}
 
@@ -26,8 +26,8 @@ beyond rate adds owes large =
 pub fits_owed : (rate : Rate) (adds owes : ℕ) → 0 < adds → nat_le owes (rate.refill * (rate.size - adds)) ≡ fits rate adds owes
 fits_owed rate adds owes some =
     elim (cases_lt rate.size adds) as (λ _. nat_le owes (rate.refill * (rate.size - adds)) ≡ fits rate adds owes) [
-      inl large ↦ beyond rate adds owes large
-    | inr small ↦ within rate adds owes some small
+      | inl large ↦ beyond rate adds owes large
+      | inr small ↦ within rate adds owes some small
     ]
 
 pub steps_enough : (size over : ℕ) → 0 < size → over ≤ size * ((over + (size - 1)) / size)
@@ -55,7 +55,6 @@ no_fit_before : (rate : Rate) (adds owes passed : ℕ) → 0 < adds → rate.siz
 no_fit_before rate adds owes passed some few =
     sym (fits_owed rate adds (owes - rate.size * passed) some) ∙ lt-leb (owes - rate.size * passed) (rate.refill * (rate.size - adds)) (omega arith)
 
-
 -- a moment that is so many steps on, or the last of all before that, is what the bucket waits for
 pub wait_kept : (kept : Kept) (start : Start) (needs : List Need) (tokens wait steps : ℕ) → Keeps kept start needs →
     steps ≡ (kept.owes - kept.rate.refill * (kept.rate.size - (tokens - kept.burst)) + (kept.rate.size - 1)) / kept.rate.size →
@@ -68,13 +67,13 @@ wait_kept kept start needs tokens wait steps keeps is_steps some adds first most
     record {
       not_before = omega arith;
       none_before = λ now early before.
-        may_pass_kept kept start needs tokens now keeps early
-        ∙ no_fit_before kept.rate (tokens - kept.burst) kept.owes (now - kept.moment) adds (steps_least kept.rate.size over (now - kept.moment) some (omega arith));
+          may_pass_kept kept start needs tokens now keeps early
+          ∙ no_fit_before kept.rate (tokens - kept.burst) kept.owes (now - kept.moment) adds (steps_least kept.rate.size over (now - kept.moment) some (omega arith));
       passes = λ before.
-        let is_on = exact before in
-        let on : wait - kept.moment ≡ (over + (kept.rate.size - 1)) / kept.rate.size = omega arith in
-        let enough = steps_enough kept.rate.size over some in
-        let product : kept.rate.size * (wait - kept.moment) ≡ kept.rate.size * ((over + (kept.rate.size - 1)) / kept.rate.size) = ap (λ n. kept.rate.size * n) on in
-        may_pass_kept kept start needs tokens wait keeps (omega arith)
-        ∙ fits_after kept.rate (tokens - kept.burst) kept.owes (wait - kept.moment) adds (omega arith);
+          let is_on = exact before in
+          let on : wait - kept.moment ≡ (over + (kept.rate.size - 1)) / kept.rate.size = omega arith in
+          let enough = steps_enough kept.rate.size over some in
+          let product : kept.rate.size * (wait - kept.moment) ≡ kept.rate.size * ((over + (kept.rate.size - 1)) / kept.rate.size) = ap (λ n. kept.rate.size * n) on in
+          may_pass_kept kept start needs tokens wait keeps (omega arith)
+          ∙ fits_after kept.rate (tokens - kept.burst) kept.owes (wait - kept.moment) adds (omega arith);
     }

@@ -1,11 +1,11 @@
 -- What passes in a window of a life.
-use Rattle.std.proofs.Common.{◌≡◌, ℕ, ◌+◌, ◌-◌, ◌*◌, ◌<◌, ◌≤◌, ◌⊎◌, inl, inr, true, false, Bool, cond, nat_le, nat_lt, nat_eq, List, [], ◌∷◌, ◌++◌, refl, sym, ap, ◌∙◌, arith}
+use Rattle.std.proofs.Common.{◌≡◌, ℕ, ◌+◌, ◌-◌, ◌*◌, ◌<◌, ◌≤◌, inl, inr, true, false, nat_eq, List, [], ◌∷◌, ◌++◌, ap, ◌∙◌, arith}
 use Rattle.std.proofs.Math.Nat.{mul-add, mul-zero, mul_comm}
 use Rattle.std.proofs.lemmas.Nat.{mul-le}
 use Rattle.std.proofs.lemmas.Bool.{cases_lt, cases_eq}
 use Rattle.std.proofs.lemmas.Bool.Decides.{nat_tests}
-use Rattle.token_bucket.specs.Rate.{Rate, full}
-use Rattle.token_bucket.specs.Allowance.{Start, Need, total, last_moment, NeverFall, added, owed, fits, may_pass}
+use Rattle.token_bucket.specs.Rate.{Rate}
+use Rattle.token_bucket.specs.Allowance.{Start, Need, total, NeverFall, added, owed, fits}
 use Rattle.token_bucket.specs.Window.{IsLife, IsWithin, excess}
 use Rattle.token_bucket.proofs.Largest.{largest_later, owed-need, passed_product}
 
@@ -34,15 +34,15 @@ adds_are start (need ∷ older) before = omega (arith, adds_are start older befo
 fits_at_most : (rate : Rate) (more owes : ℕ) → 0 < more → fits rate more owes ≡ true → owes + rate.refill * more ≤ rate.refill * (rate.size + (more - rate.size))
 fits_at_most rate more owes some fit =
     elim (cases_lt rate.size more) as (λ _. owes + rate.refill * more ≤ rate.refill * (rate.size + (more - rate.size))) [
-      inl large ↦
-        let sum : rate.size + (more - rate.size) ≡ more = omega arith in
-        let product : rate.refill * (rate.size + (more - rate.size)) ≡ rate.refill * more = ap (λ n. rate.refill * n) sum in
-        grind (arith, nat_tests)
-    | inr small ↦
-        let sum : rate.size + (more - rate.size) ≡ rate.size = omega arith in
-        let product : rate.refill * (rate.size + (more - rate.size)) ≡ rate.refill * rate.size = ap (λ n. rate.refill * n) sum in
-        let turned = mul_comm rate.size rate.refill in
-        grind (arith, nat_tests)
+      | inl large ↦
+          let sum : rate.size + (more - rate.size) ≡ more = omega arith in
+          let product : rate.refill * (rate.size + (more - rate.size)) ≡ rate.refill * more = ap (λ n. rate.refill * n) sum in
+          grind (arith, nat_tests)
+      | inr small ↦
+          let sum : rate.size + (more - rate.size) ≡ rate.size = omega arith in
+          let product : rate.refill * (rate.size + (more - rate.size)) ≡ rate.refill * rate.size = ap (λ n. rate.refill * n) sum in
+          let turned = mul_comm rate.size rate.refill in
+          grind (arith, nat_tests)
     ]
 
 -- what a window's needs added is owed after the newest of them, but for what flowed in
@@ -68,19 +68,19 @@ window_adds : (rate : Rate) (start : Start) (window before : List Need) (from to
 window_adds rate start [] before from to life within = let none = mul-zero rate.refill in omega arith
 window_adds rate start (need ∷ older) before from to life within =
     elim (cases_eq (added start need.tokens (older ++ before)) 0) as (λ _. rate.refill * adds start (need ∷ older) before ≤ rate.refill * (rate.size + excess rate start (need ∷ older) before) + rate.size * (to - from)) [
-      inl none ↦
-        let rest = window_adds rate start older before from to life.2 within.2 in
-        let sum : 0 + adds start older before ≡ adds start older before = omega arith in
-        rw none (rw sum rest)
-    | inr some ↦
-        let more = added start need.tokens (older ++ before) in
-        let no : nat_eq more 0 ≡ false = grind (arith, nat_tests) in
-        let one : 0 < more = omega arith in
-        let owes = window_owed rate start need older before from to life within in
-        let is_owed = owed-need rate start need (older ++ before) in
-        let most = fits_at_most rate more (owed rate start (older ++ before) need.moment) one life.1 in
-        let flowed = mul-le rate.size (need.moment - from) rate.size (to - from) (omega arith) (omega arith) in
-        rw no (omega (arith, owes, is_owed, most, flowed))
+      | inl none ↦
+          let rest = window_adds rate start older before from to life.2 within.2 in
+          let sum : 0 + adds start older before ≡ adds start older before = omega arith in
+          rw none (rw sum rest)
+      | inr some ↦
+          let more = added start need.tokens (older ++ before) in
+          let no : nat_eq more 0 ≡ false = grind (arith, nat_tests) in
+          let one : 0 < more = omega arith in
+          let owes = window_owed rate start need older before from to life within in
+          let is_owed = owed-need rate start need (older ++ before) in
+          let most = fits_at_most rate more (owed rate start (older ++ before) need.moment) one life.1 in
+          let flowed = mul-le rate.size (need.moment - from) rate.size (to - from) (omega arith) (omega arith) in
+          rw no (omega (arith, owes, is_owed, most, flowed))
     ]
 
 pub window_bound : (rate : Rate) (start : Start) (after window before : List Need) (from to : ℕ) → IsLife rate start (after ++ (window ++ before)) → IsWithin from to window →

@@ -1,5 +1,5 @@
 -- What a bucket allows, by sums over the needs that passed.
-use Rattle.std.specs.Prelude.{◌≡◌, ℕ, ◌+◌, ◌-◌, ◌*◌, ◌≤◌, max, nat_eq, nat_le, nat_lt, Bool, ◌&&◌, ◌||◌, List, [], ◌∷◌, pos, ◌-ℤ◌}
+use Rattle.std.specs.Prelude.{ℕ, ◌+◌, ◌-◌, ◌*◌, ◌≤◌, max, nat_eq, nat_le, nat_lt, Bool, ◌&&◌, ◌||◌, List, [], ◌∷◌, pos, ◌-ℤ◌}
 use Rattle.token_bucket.specs.Rate.{Rate, full}
 use Rattle.token_bucket.specs.declared.state.State.{State}
 

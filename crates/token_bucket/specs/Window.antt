@@ -1,5 +1,5 @@
 -- A window of a bucket's life, and how much passes in it.
-use Rattle.std.specs.Prelude.{◌≡◌, ℕ, ◌+◌, ◌-◌, ◌≤◌, nat_eq, true, if◌then◌else◌, List, [], ◌∷◌, ◌++◌}
+use Rattle.std.specs.Prelude.{◌≡◌, ℕ, ◌-◌, ◌≤◌, nat_eq, true, if◌then◌else◌, List, [], ◌∷◌, ◌++◌}
 use Rattle.token_bucket.specs.Rate.{Rate}
 use Rattle.token_bucket.specs.Allowance.{Start, Need, last_moment, added, may_pass}
 

@@ -5,9 +5,8 @@ ghost use Rattle.token_bucket.specs.Allowance.{Start, Need, fits, may_pass, mome
 ghost use Rattle.token_bucket.specs.Kept.{Keeps, IsWait, kept_at};
 ghost use Rattle.token_bucket.specs.Window.{IsLife};
 
-use std::marker::Model;
-
 use crate::State;
+use std::marker::Model;
 
 const NANOSECONDS: u64 = 1_000_000;
 
@@ -32,10 +31,10 @@ impl Model for Bucket {
     ghost Value = { Kept };
 
     ghost view = { λ b. record {
-        rate = record { size = b.size; refill = b.refill };
-        burst = b.burst;
-        owes = b.owed;
-        moment = b.moment;
+      rate = record { size = b.size; refill = b.refill };
+      burst = b.burst;
+      owes = b.owed;
+      moment = b.moment;
     } };
 
     ghost invariant = { λ b.
