@@ -12,8 +12,8 @@ const OPS_NEED: u64 = 1;
 pub enum Pass {
     /// It passes, and both buckets gave what it needs.
     Go,
-    /// It doesn't, and nothing was taken. No earlier moment, in nanoseconds, lets it pass while nothing else
-    /// does; `u64::MAX` stands for any later one.
+    /// It doesn't, and nothing was taken. The moment is the later of those that the buckets wait for, in
+    /// nanoseconds; `u64::MAX` where that is later.
     WaitUntil(u64),
 }
 

@@ -77,7 +77,7 @@ fn a_saved_form_goes_on_as_before(rt: HostRuntime) -> Result<(), Fail> {
 }
 
 #[test]
-fn the_clock_may_stand_still_fall_or_jump_to_its_end(rt: HostRuntime) -> Result<(), Fail> {
+fn the_clock_may_stay_fall_or_jump_to_its_end(rt: HostRuntime) -> Result<(), Fail> {
     let mut bucket = Bucket::new(10, 0, 1).ok_or("no bucket")?;
     assert!(rt; bucket.take(10, 1_000_000));
     for now in [1_000_000, 999_999, 0] {
@@ -109,7 +109,17 @@ fn the_largest_need_is_a_debt_that_lasts(rt: HostRuntime) -> Result<(), Fail> {
     Ok(())
 }
 
-// The definition by its sums, oldest need first: each need with its moment, from a full bucket at moment 0.
+// The definition by its sums, oldest need first: each need with its moment.
+
+/// A rate and a start.
+#[derive(Drop)]
+struct Life {
+    size: u64,
+    ms: u64,
+    burst: u64,
+    owed: u128,
+    moment: u64,
+}
 
 fn sum(needs: &[(u64, u64)]) -> u128 {
     let mut all = 0u128;
@@ -119,45 +129,60 @@ fn sum(needs: &[(u64, u64)]) -> u128 {
     all
 }
 
-/// What need number `i` added past the burst.
-fn added(burst: u64, needs: &[(u64, u64)], i: usize) -> u128 {
-    let mut upto = sum(needs);
-    let mut before = 0;
-    if i < needs.len() {
-        upto = sum(&needs[..i + 1]);
-        before = sum(&needs[..i]);
+impl Life {
+    fn refill(&self) -> u128 {
+        (self.ms as u128).saturating_mul(1_000_000)
     }
-    upto.saturating_sub(burst as u128)
-        .saturating_sub(before.saturating_sub(burst as u128))
-}
 
-fn owed(size: u64, burst: u64, ms: u64, needs: &[(u64, u64)], now: u64) -> u128 {
-    let refill = (ms as u128).saturating_mul(1_000_000);
-    let mut largest = 0u128;
-    for i in 0..needs.len() {
-        let mut from = 0u128;
+    fn full(&self) -> u128 {
+        self.refill().saturating_mul(self.size as u128)
+    }
+
+    /// What flows in from a moment to another.
+    fn flowed(&self, from: u64, to: u64) -> u128 {
+        (self.size as u128).saturating_mul(to.saturating_sub(from) as u128)
+    }
+
+    /// What one more need adds past the burst.
+    fn added(&self, needs: &[(u64, u64)], need: u64) -> u128 {
+        let before = sum(needs);
+        let upto = before.saturating_add(need as u128);
+        let burst = self.burst as u128;
+        upto.saturating_sub(burst)
+            .saturating_sub(before.saturating_sub(burst))
+    }
+
+    /// What needs number `i` and on added.
+    fn added_from(&self, needs: &[(u64, u64)], i: usize) -> u128 {
+        let mut all = 0u128;
         for j in i..needs.len() {
-            from = from.saturating_add(added(burst, needs, j));
+            all = all.saturating_add(self.added(&needs[..j], needs[j].0));
         }
-        let flowed = (size as u128).saturating_mul(now.saturating_sub(needs[i].1) as u128);
-        largest = largest.max(refill.saturating_mul(from).saturating_sub(flowed));
+        all
     }
-    largest
-}
 
-fn may_pass(size: u64, burst: u64, ms: u64, needs: &[(u64, u64)], need: u64, now: u64) -> bool {
-    let before = sum(needs);
-    let adds = before
-        .saturating_add(need as u128)
-        .saturating_sub(burst as u128)
-        .saturating_sub(before.saturating_sub(burst as u128));
-    let refill = (ms as u128).saturating_mul(1_000_000);
-    let owes = owed(size, burst, ms, needs, now);
-    if adds <= size as u128 {
-        let full = (size as u128).saturating_mul(refill);
-        adds == 0 || owes.saturating_add(adds.saturating_mul(refill)) <= full
-    } else {
-        owes == 0
+    fn owed_at(&self, needs: &[(u64, u64)], now: u64) -> u128 {
+        let refill = self.refill();
+        let mut largest = self
+            .owed
+            .saturating_add(refill.saturating_mul(self.added_from(needs, 0)))
+            .saturating_sub(self.flowed(self.moment, now));
+        for i in 0..needs.len() {
+            let from = refill.saturating_mul(self.added_from(needs, i));
+            largest = largest.max(from.saturating_sub(self.flowed(needs[i].1, now)));
+        }
+        largest
+    }
+
+    fn may_pass(&self, needs: &[(u64, u64)], need: u64, now: u64) -> bool {
+        let adds = self.added(needs, need);
+        let owed = self.owed_at(needs, now);
+        if adds <= self.size as u128 {
+            let after = owed.saturating_add(adds.saturating_mul(self.refill()));
+            adds == 0 || after <= self.full()
+        } else {
+            owed == 0
+        }
     }
 }
 
@@ -188,29 +213,46 @@ const ATTEMPTS: [(u64, u64); 24] = [
     (1, 900_000_000),
 ];
 
+/// Size, milliseconds, burst, what is owed, the balance of that, and the moment of the start.
+const LIVES: [(u64, u64, u64, u128, i128, u64); 9] = [
+    (10, 1, 7, 0, 10_000_000, 0),
+    (3, 1, 0, 0, 3_000_000, 0),
+    (3, 2, 4, 0, 6_000_000, 0),
+    (1, 1, 0, 0, 1_000_000, 0),
+    (1000, 100, 500, 0, 100_000_000_000, 0),
+    (1000, 100, 0, 0, 100_000_000_000, 0),
+    (10, 7, 2050, 0, 70_000_000, 0),
+    (10, 1, 7, 4_000_000, 6_000_000, 250_000),
+    (3, 1, 0, 4_000_000, -1_000_000, 5),
+];
+
 #[test]
 fn the_definition_by_its_sums_agrees(rt: HostRuntime) -> Result<(), Fail> {
-    for (size, burst, ms) in [
-        (10, 7, 1),
-        (3, 0, 1),
-        (3, 4, 2),
-        (1, 0, 1),
-        (1000, 500, 100),
-        (1000, 0, 100),
-        (10, 2050, 7),
-    ] {
+    for (size, ms, burst, owed, balance, moment) in LIVES {
+        let life = Life {
+            size,
+            ms,
+            burst,
+            owed,
+            moment,
+        };
+        let start = State {
+            burst,
+            balance,
+            moment,
+        };
         let mut needs: Vec<(u64, u64)> = Vec::new(rt.alloc());
-        let mut bucket = Bucket::new(size, burst, ms).ok_or("no bucket")?;
-        let mut last = 0;
+        let mut bucket = Bucket::at_state(size, ms, start).ok_or("no bucket")?;
+        let mut last = moment;
         for (need, now) in ATTEMPTS {
             let at = if now < last { last } else { now };
             let wait = bucket.wait_until(need);
             assert!(rt; last <= wait);
-            assert!(rt; may_pass(size, burst, ms, needs.as_slice(), need, wait));
+            assert!(rt; life.may_pass(needs.as_slice(), need, wait));
             if last < wait {
-                assert!(rt; !may_pass(size, burst, ms, needs.as_slice(), need, wait - 1));
+                assert!(rt; !life.may_pass(needs.as_slice(), need, wait - 1));
             }
-            let wanted = may_pass(size, burst, ms, needs.as_slice(), need, at);
+            let wanted = life.may_pass(needs.as_slice(), need, at);
             assert_eq!(rt;
                 bucket.take(need, now),
                 wanted,
@@ -220,7 +262,17 @@ fn the_definition_by_its_sums_agrees(rt: HostRuntime) -> Result<(), Fail> {
                 needs.push((need, at))?;
                 last = at;
             }
-            assert_eq!(rt; bucket.state().moment, last);
+            let state = bucket.state();
+            assert_eq!(rt; state.moment, last);
+            let owes = life.owed_at(needs.as_slice(), last);
+            if state.balance < 0 {
+                assert_eq!(rt;
+                    life.full().saturating_add(state.balance.unsigned_abs()),
+                    owes
+                );
+            } else {
+                assert_eq!(rt; owes.saturating_add(state.balance as u128), life.full());
+            }
         }
     }
     Ok(())
