@@ -1,0 +1,4 @@
+pub mod Largest
+pub mod Moves
+pub mod Waits
+pub mod Windows

@@ -1,0 +1,49 @@
+-- What a bucket keeps of its start and its needs.
+use Rattle.std.specs.Prelude.{◌≡◌, ℕ, ◌+◌, ◌-◌, ◌^◌, ◌<◌, ◌≤◌, true, false, List, ℤ, pos, negsuc}
+use Rattle.token_bucket.specs.Rate.{Rate, full}
+use Rattle.token_bucket.specs.Allowance.{Start, Need, total, last_moment, NeverFall, owed, may_pass}
+use Rattle.token_bucket.specs.declared.state.State.{State}
+
+-- a bucket as its callers see it
+pub record Kept : Type 0 where
+  pub rate : Rate
+  pub burst : ℕ
+  pub owes : ℕ
+  pub moment : ℕ
+
+-- The bucket keeps the saved form of this start and these needs. Many starts and lists have one saved form;
+-- what is said of a bucket holds for each of them.
+pub record Keeps (kept : Kept) (start : Start) (needs : List Need) : Type 0 where
+  pub in_order : NeverFall start needs
+  pub burst_left : kept.burst ≡ start.burst - total needs
+  pub is_owed : kept.owes ≡ owed kept.rate start needs (last_moment start needs)
+  pub newest : kept.moment ≡ last_moment start needs
+
+-- every bucket keeps the saved form of a start at least
+abbrev pub start_of : Kept → Start
+start_of kept = record { burst = kept.burst; owed = kept.owes; moment = kept.moment }
+
+-- what is owed where the balance is this; a balance above a full one counts as full
+abbrev pub owed_of : ℕ → ℤ → ℕ
+owed_of most (pos balance) = most - balance
+owed_of most (negsuc debt) = most + (debt + 1)
+
+abbrev pub kept_at : Rate → State → Kept
+kept_at rate state =
+    record {
+      rate = rate;
+      burst = state.burst;
+      owes = owed_of (full rate) state.balance;
+      moment = state.moment;
+    }
+
+-- the last moment of the clock
+abbrev pub last_of_all : ℕ
+last_of_all = 2 ^ 64 - 1
+
+-- the least moment, not before the newest need, at which so many tokens may pass, or the last of all where
+-- that is later
+pub record IsWait (rate : Rate) (start : Start) (needs : List Need) (tokens wait : ℕ) : Type 0 where
+  pub not_before : last_moment start needs ≤ wait
+  pub none_before : (now : ℕ) → last_moment start needs ≤ now → now < wait → may_pass rate start needs tokens now ≡ false
+  pub passes : wait < last_of_all → may_pass rate start needs tokens wait ≡ true

@@ -1,0 +1,4 @@
+pub mod Rate
+pub mod Allowance
+pub mod Kept
+pub mod Window
