@@ -1,10 +1,10 @@
 -- One reading, and any cutting.
-use Rattle.std.proofs.Common.{◌≡◌, ℕ, ◌+◌, ◌-◌, ◌<◌, ◌≤◌, ◌⊎◌, inl, inr, Bool, true, false, not, ◌&&◌, ◌||◌, List, [], ◌∷◌, ◌++◌, length, take, drop, map, min, refl, sym, ap, subst, ◌∙◌, arith, Result, Ok, Err, append_assoc, length-append, length-drop, add_comm, add-one, length-take}
+use Rattle.std.proofs.Common.{◌≡◌, ℕ, ◌+◌, ◌<◌, ◌≤◌, ◌⊎◌, inl, inr, Bool, true, false, not, ◌&&◌, List, [], ◌∷◌, ◌++◌, length, take, drop, refl, sym, ap, subst, ◌∙◌, arith, Result, Ok, Err, append_assoc, length-append, length-drop, add_comm, add-one, length-take}
 use Rattle.std.specs.Prelude.{◌==◌, nat_le}
 use Rattle.std.specs.List.{list_any, prefix_len}
 use Rattle.std.proofs.lemmas.List.{take_all, append-nil, take-append-le, drop-append-le, take-append-drop, take-take}
-use Rattle.std.proofs.lemmas.List.Folds.{prefix_len-append, list_any-append}
-use Rattle.std.proofs.lemmas.Bool.{cases_lt, leb-true, lt-leb, le-leb}
+use Rattle.std.proofs.lemmas.List.Folds.{list_any-append}
+use Rattle.std.proofs.lemmas.Bool.{cases_lt, lt-leb, le-leb}
 use Rattle.std.proofs.lemmas.Bool.Decides.{nat_tests, leb_tells}
 use Rattle.httparse.specs.Grammar.{RequestHead, print_request, ReadsRequest, HasNoRequest, NeverHasRequest}
 use Rattle.httparse.proofs.GrammarLemmas.{request_unique, ReadsRequest-append}
@@ -12,7 +12,7 @@ use Rattle.http_front.specs.declared.request.Request.{Request}
 use Rattle.http_front.specs.declared.request.Next.{Next}
 use Rattle.http_front.specs.declared.request.Next.TheVariants as next
 use Rattle.http_front.specs.Body.{body_length}
-use Rattle.http_front.specs.Stream.{window, is_line_byte, is_early, has_line, headers_of, waits, refused, gives, by_length, by_head, Judged, early, too_long, hopeless, unfinished, head, Answer, Connection}
+use Rattle.http_front.specs.Stream.{window, is_line_byte, is_early, has_line, headers_of, waits, gives, by_length, by_head, Judged, early, too_long, hopeless, unfinished, head, Answer, Connection}
 use Rattle.http_front.specs.Cuts.{Reads, Continues, Drains, OneReading, CutsAnywhere, FailsForGood}
 use Rattle.http_front.proofs.GrammarLemmas.{head_has_bytes}
 use Rattle.http_front.proofs.Judging.{no_request, window_is}
@@ -254,6 +254,9 @@ cuts_anywhere s more [] qs c d (inr (n, bad)) f after = absurd (let k : true ≡
 cuts_anywhere s more (r ∷ rs) qs c d (rest, one, others) f after =
     (rest ++ more, request_stays s more r rest one, cuts_anywhere rest more rs qs c d others f after)
 
+same_request : (r q : Request) → next.Request r ≡ next.Request q → r ≡ q
+same_request r q e = cc
+
 pub one_reading : OneReading
 one_reading s [] [] c d (inl x) (inl y) = (refl, ap (λ a. a.after) (judged_once s _ _ x y))
 one_reading s [] [] c d (inl x) (inr (n, y)) = absurd (bad_not_none _ _ _ (judged_once s _ _ y x))
@@ -267,7 +270,7 @@ one_reading s (r ∷ rs) (q ∷ qs) c d (rest, x, others) (more, y, rests) =
     let same : record { next = next.Request r; after = record { pending = rest; failed = false } }
     ≡ record { next = next.Request q; after = record { pending = more; failed = false } } = judged_once s _ _ x y in
     let one : next.Request r ≡ next.Request q = ap (λ a. a.next) same in
-    let first : r ≡ q = cc in
+    let first : r ≡ q = same_request r q one in
     let left : rest ≡ more = ap (λ a. a.after.pending) same in
     let P : List ℕ → Type 0 = λ w. Reads w qs d in
     let later = one_reading rest rs qs c d others (subst P (sym left) rests) in

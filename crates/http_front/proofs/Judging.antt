@@ -1,5 +1,5 @@
 -- The five rules, at each exit of the code.
-use Rattle.std.proofs.Common.{◌≡◌, ℕ, ◌+◌, ◌<◌, ◌≤◌, ◌⊎◌, inl, inr, Bool, true, false, List, [], ◌∷◌, ◌++◌, length, take, drop, map, min, length-drop, length-append, ◌-◌, refl, sym, ap, subst, ◌∙◌, arith, Result, Ok, Err}
+use Rattle.std.proofs.Common.{◌≡◌, ℕ, ◌+◌, ◌<◌, ◌≤◌, inl, inr, true, false, List, [], ◌++◌, length, take, drop, min, length-drop, length-append, ◌-◌, refl, sym, ap, subst, ◌∙◌, arith, Ok, Err}
 use Rattle.std.specs.Prelude.{IsUtf8}
 use Rattle.std.proofs.lemmas.List.{take_all, append-nil, drop-drop, length-take}
 use Rattle.std.proofs.lemmas.Str.{IsUtf8-from_ascii}
@@ -9,14 +9,12 @@ use Rattle.httparse.specs.declared.Error.TheVariants.{TooManyHeaders}
 use Rattle.httparse.specs.Outcome.{OnInvalid, OnTooManyHeaders}
 use Rattle.std.proofs.lemmas.Bool.{cases_lt, lt-leb, le-leb}
 use Rattle.std.proofs.lemmas.Bool.Decides.{nat_tests}
-use Rattle.httparse.specs.Grammar.{is_token_byte, IsToken, RequestHead, print_request, ReadsRequest, HasNoRequest, NeverHasRequest, MayBecomeRequest, EndsInTarget}
+use Rattle.httparse.specs.Grammar.{is_token_byte, IsToken, RequestHead, print_request, ReadsRequest, HasNoRequest, NeverHasRequest, MayBecomeRequest}
 use Rattle.httparse.specs.Spans.{RequestExceeds}
-use Rattle.http_front.specs.declared.request.Next.{Next}
-use Rattle.http_front.specs.declared.request.Request.{Request}
 use Rattle.http_front.specs.declared.request.Next.TheVariants as next
 use Rattle.http_front.specs.Body.{Header, body_length}
 use Rattle.http_front.specs.Told.{taking, TellsOf}
-use Rattle.http_front.specs.Stream.{window, is_early, has_line, headers_of, waits, refused, by_head, Judged, early, too_long, hopeless, unfinished, head, Answer}
+use Rattle.http_front.specs.Stream.{window, is_early, has_line, headers_of, waits, refused, by_head, Judged, too_long, hopeless, unfinished, head, Answer}
 use Rattle.http_front.proofs.GrammarLemmas.{in_target_no_line}
 
 pub window_is : (s : List ℕ) → length s ≤ 8192 → window s ≡ s
@@ -61,11 +59,11 @@ head_waits s h hs n len e f l short = rw (← e, ← f, ← l, lt-leb _ _ short)
 pub body_waits : (s : List ℕ) (h : RequestHead) (hs : List Header) (n len count : ℕ) → hs ≡ headers_of h → Ok n ≡ body_length hs
     → len ≡ length (print_request h) → len ≤ length s → length s < len + n → count ≡ len + n - 1 → TellsOf s h next.None count
 body_waits s h hs n len count e f l fits short c = (
-    omega arith,
-    λ more m. head_waits (s ++ more) h hs n len e f l
-        (let k : length s ≤ length (s ++ more) = rw (length-append s more) (omega arith) in
-        rw (length-drop len (s ++ more)) (omega arith)),
-  )
+  omega arith,
+  λ more m. head_waits (s ++ more) h hs n len e f l
+      (let k : length s ≤ length (s ++ more) = rw (length-append s more) (omega arith) in
+      rw (length-drop len (s ++ more)) (omega arith)),
+)
 
 pub head_gives : (s : List ℕ) (h : RequestHead) (m p : List ℕ) (hs : List Header) (b : List ℕ) (n len : ℕ)
     → hs ≡ headers_of h → Ok n ≡ body_length hs → len ≡ length (print_request h) → n ≤ length (drop len s)
@@ -106,4 +104,3 @@ len_fits s front len e h = omega (arith, ap length e ∙ length-take 8192 s)
 pub head_is_judged : (s front : List ℕ) (h : RequestHead) (rest : List ℕ) (a : Answer) → is_early s ≡ false → front ≡ window s
     → ReadsRequest front h rest → a ≡ by_head s h → Judged s a
 head_is_judged s front h rest a late e reads f = head h rest late (let P : List ℕ → Type 0 = λ w. ReadsRequest w h rest in subst P e reads) f
-

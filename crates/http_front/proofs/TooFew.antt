@@ -1,17 +1,13 @@
 -- How many bytes are too few, at each exit of the code.
-use Rattle.std.proofs.Common.{◌≡◌, ℕ, ◌+◌, ◌-◌, ◌<◌, ◌≤◌, Bool, true, false, List, [], ◌∷◌, ◌++◌, length, take, drop, refl, sym, ap, subst, ◌∙◌, arith, append_assoc, length-append, length-drop}
+use Rattle.std.proofs.Common.{◌≡◌, ℕ, ◌+◌, ◌-◌, ◌≤◌, Bool, false, List, [], ◌∷◌, ◌++◌, length, take, drop, refl, sym, ap, subst, ◌∙◌, arith, append_assoc, length-append, length-drop}
 use Rattle.std.proofs.lemmas.List.{append-nil, take_all}
 use Rattle.httparse.specs.Grammar.{RequestHead, ReadsRequest}
 use Rattle.http_front.specs.declared.request.Next.{Next}
-use Rattle.http_front.specs.declared.request.Request.{Request}
 use Rattle.http_front.specs.declared.request.Next.TheVariants as next
-use Rattle.http_front.specs.Stream.{window, is_early, waits, by_head, Judged, early, Answer}
+use Rattle.http_front.specs.Stream.{window, is_early, waits, Judged, early}
 use Rattle.http_front.specs.Told.{AreTooFew, Tells, TellsOf}
 use Rattle.http_front.proofs.Judging.{head_is_judged}
 use Rattle.http_front.proofs.CutLemmas.{head_stays}
-
-
-
 
 -- a stream that waits does so with these bytes or fewer
 pub too_few_here : (s : List ℕ) → Judged s (waits s) → AreTooFew s (length s)

@@ -1,5 +1,5 @@
 -- How long a request's body is, by its headers.
-use Rattle.std.specs.Prelude.{ℕ, ◌&&◌, ◌||◌, ◌==◌, Bool, List, [], ◌∷◌, length, if◌then◌else◌, nat_lt, nat_le, Result, Ok, Err, codes}
+use Rattle.std.specs.Prelude.{ℕ, ◌&&◌, ◌||◌, Bool, List, [], ◌∷◌, length, map, if◌then◌else◌, nat_lt, nat_le, Result, Ok, Err, codes}
 use Rattle.std.specs.List.{list_any, list_all, filter}
 use Rattle.std.specs.Char.{is_ascii_digit}
 use Rattle.std.specs.Str.{str_eq_ignore_ascii_case}
@@ -38,15 +38,19 @@ length_value text =
     if nat_le (digits_value 10 text) longest_body then Ok (digits_value 10 text) else Err too_large
     else Err bad_head
 
--- by the headers named Content-Length: none means no body
-abbrev pub length_of : List Header → Result ℕ ℕ
+-- the values of the headers that have that name
+abbrev pub values : List ℕ → List Header → List (List ℕ)
+values name headers = map (λ h. h.1) (filter (is_named name) headers)
+
+-- by the values of Content-Length: none means no body
+abbrev pub length_of : List (List ℕ) → Result ℕ ℕ
 length_of [] = Ok 0
-length_of (h ∷ []) = length_value h.1
-length_of (h ∷ k ∷ hs) = Err bad_head
+length_of (v ∷ []) = length_value v
+length_of (v ∷ w ∷ vs) = Err bad_head
 
 -- the length of the body, or the number of the refusal
 unfoldable pub body_length : List Header → Result ℕ ℕ
 body_length headers =
     if nat_lt most_headers (length headers) || list_any (is_named (codes "transfer-encoding")) headers
     then Err bad_head
-    else length_of (filter (is_named (codes "content-length")) headers)
+    else length_of (values (codes "content-length") headers)

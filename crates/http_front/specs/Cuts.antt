@@ -2,7 +2,7 @@
 use Rattle.std.specs.Prelude.{◌≡◌, ◌⊎◌, ℕ, ◌<◌, length, true, false, List, [], ◌∷◌, ◌++◌}
 use Rattle.http_front.specs.declared.request.Request.{Request}
 use Rattle.http_front.specs.declared.request.Next.TheVariants as next
-use Rattle.http_front.specs.Stream.{Connection, Answer, Judged}
+use Rattle.http_front.specs.Stream.{Connection, Judged}
 
 -- the stream gives these requests and then no more, which leaves that connection
 abbrev pub Reads : List ℕ → List Request → Connection → Type 0

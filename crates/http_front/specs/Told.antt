@@ -1,14 +1,23 @@
 -- What the functions between the parser and the answer return.
-use Rattle.std.specs.Prelude.{◌≡◌, ℕ, ◌≤◌, List, ◌++◌, length, drop, true, false}
+use Rattle.std.specs.Prelude.{◌≡◌, ℕ, ◌≤◌, Bool, List, ◌++◌, length, drop, false}
 use Rattle.httparse.specs.declared.spans.HeaderSpan.{HeaderSpan}
 use Rattle.httparse.specs.declared.spans.RequestSpans.{RequestSpans}
 use Rattle.httparse.specs.Grammar.{RequestHead, HasNoRequest, NeverHasRequest, MayBecomeRequest}
-use Rattle.httparse.specs.Spans.{IsRequestAt, IsRequestOf, IsRequestWithin}
+use Rattle.httparse.specs.Spans.{IsRequestAt, IsRequestOf, IsRequestWithin, header_bytes, span_bytes}
+use Rattle.http_front.specs.Body.{is_named}
 use Rattle.http_front.specs.declared.head.Search.{Search}
 use Rattle.http_front.specs.declared.head.Search.TheVariants.{Found, Unfinished, Hopeless}
 use Rattle.http_front.specs.declared.request.Next.{Next}
 use Rattle.http_front.specs.declared.request.Next.TheVariants as next
 use Rattle.http_front.specs.Stream.{Answer, Judged, by_head, refused, waits}
+
+-- the header that the spans cover has that name
+abbrev pub is_named_at : List ℕ → List ℕ → HeaderSpan → Bool
+is_named_at name front span = is_named name (header_bytes front span)
+
+-- the value that the spans cover
+abbrev pub value_at : List ℕ → HeaderSpan → List ℕ
+value_at front span = span_bytes front span.value
 
 -- what a search for a head finds
 abbrev pub Finds : List ℕ → List HeaderSpan → Search → Type 0

@@ -1,9 +1,11 @@
 // How long a request's body is, by its headers.
-ghost use Rattle.std.specs.Prelude.{◌≡◌, ◌≤◌, codes, IfOk};
+ghost use Rattle.std.specs.Prelude.{◌≡◌, ◌≤◌, length, map, codes, All, IfOk};
 ghost use Rattle.std.specs.List.{filter, list_any};
-ghost use Rattle.http_front.specs.Body.{body_length, is_named, length_of, length_value};
+ghost use Rattle.httparse.specs.Spans.{IsHeaderWithin, header_bytes};
+ghost use Rattle.http_front.specs.Body.{body_length, length_of, length_value};
+ghost use Rattle.http_front.specs.Told.{is_named_at, value_at};
 
-use vm_types::ByteList;
+use httparse::spans::HeaderSpan;
 
 const MOST_HEADERS: usize = 32;
 
@@ -16,48 +18,54 @@ const TOO_LARGE: u8 = 8;
 
 /// The length of the body in bytes, or the number of the refusal: 9 for too many headers, any
 /// Transfer-Encoding, a second Content-Length or one that is no decimal number, and 8 for too large a body.
-#[tactic(auto, unfolding(crate::specs::Body::body_length))]
-pub fn body_length(headers: &[(ByteList, ByteList)]) -> Result<usize, u8>
-    ensures value { result ≡ body_length headers.now }
+pub fn body_length(front: &[u8], spans: &[HeaderSpan]) -> Result<usize, u8>
+    requires { All (IsHeaderWithin (length front.now)) spans.now }
+    ensures value { result ≡ body_length (map (header_bytes front.now) spans.now) }
     ensures bound { IfOk result (λ n. n ≤ 65536) }
 {
-    if headers.len() > MOST_HEADERS || has_encoding(headers) {
+    if spans.len() > MOST_HEADERS || has_encoding(front, spans) {
         return Err(BAD_HEAD);
     }
-    content_length(headers)
+    content_length(front, spans)
 }
 
-fn has_encoding(headers: &[(ByteList, ByteList)]) -> bool
-    ensures { result ≡ list_any (is_named (codes "transfer-encoding")) headers.now }
+fn has_encoding(front: &[u8], spans: &[HeaderSpan]) -> bool
+    requires { All (IsHeaderWithin (length front.now)) spans.now }
+    ensures { result ≡ list_any (is_named_at (codes "transfer-encoding") front.now) spans.now }
 {
-    headers
-        .iter()
-        .any(|header| is_named(header, b"transfer-encoding"))
+    for span in spans {
+        if is_named(front, span, b"transfer-encoding") {
+            return true;
+        }
+    }
+    false
 }
 
-fn content_length(headers: &[(ByteList, ByteList)]) -> Result<usize, u8>
-    ensures value { result ≡ length_of (filter (is_named (codes "content-length")) headers.now) }
+fn content_length(front: &[u8], spans: &[HeaderSpan]) -> Result<usize, u8>
+    requires { All (IsHeaderWithin (length front.now)) spans.now }
+    ensures value { result ≡ length_of (map (value_at front.now) (filter (is_named_at (codes "content-length") front.now) spans.now)) }
     ensures bound { IfOk result (λ n. n ≤ 65536) }
 {
     let mut found = None;
-    for header in headers {
-        if is_named(header, b"content-length") {
+    for span in spans {
+        if is_named(front, span, b"content-length") {
             if found.is_some() {
                 return Err(BAD_HEAD);
             }
-            found = Some(header);
+            found = Some(span.value.of(front));
         }
     }
     match found {
         None => Ok(0),
-        Some(header) => length_value(header.1.as_slice()),
+        Some(value) => length_value(value),
     }
 }
 
-fn is_named(header: &(ByteList, ByteList), name: &[u8]) -> bool
-    ensures { result ≡ is_named name.now header.now }
+fn is_named(front: &[u8], span: &HeaderSpan, name: &[u8]) -> bool
+    requires { IsHeaderWithin (length front.now) span.now }
+    ensures { result ≡ is_named_at name.now front.now span.now }
 {
-    header.0.as_slice().eq_ignore_ascii_case(name)
+    span.name.of(front).eq_ignore_ascii_case(name)
 }
 
 // A number of any length: past the limit its value isn't kept.

@@ -2,8 +2,8 @@
 ghost use Rattle.std.specs.Prelude.{◌≡◌, ◌≤◌, ◌++◌, [], true, false, drop, length, IfOk, OnOk, OnErr};
 ghost use Rattle.http_front.specs.Stream.{Judged};
 
-use crate::rules::judge;
 use crate::request::Next;
+use crate::rules::judge;
 use httparse::spans::HeaderSpan;
 use std::alloc::{AllocError, Global};
 use std::marker::Model;

@@ -82,8 +82,8 @@ pub fn by_head(
     requires found { IsRequestOf front.now spans.now head }
     ensures { IfOk result (λ r. TellsByHead front.now spans.now head stream.now r.0 r.1) }
 {
-    let headers = copy_headers(alloc, front, &spans[..head.headers])?;
-    let length = match body_length(headers.as_slice()) {
+    let spans = &spans[..head.headers];
+    let length = match body_length(front, spans) {
         Ok(length) => length,
         Err(number) => return Ok((Next::Bad(number), 0)),
     };
@@ -93,6 +93,7 @@ pub fn by_head(
     }
     let method = text_of(alloc, head.method.of(front))?;
     let path = text_of(alloc, head.path.of(front))?;
+    let headers = copy_headers(alloc, front, spans)?;
     let body = ByteList::copy_of(alloc, &rest[..length])?;
     let request = Request {
         method,

@@ -11,7 +11,6 @@ mod cuts;
 mod front;
 mod head;
 mod headers;
-
 mod pieces;
 mod reply;
 mod request;

@@ -23,11 +23,7 @@ pub fn drain_all(front: &mut Front, out: &mut Vec<Request>) -> Result<(), AllocE
 }
 
 /// Takes the next piece of a stream, and puts the requests that are whole then at the end.
-pub fn take_piece(
-    front: &mut Front,
-    out: &mut Vec<Request>,
-    piece: &[u8],
-) -> Result<(), AllocError>
+pub fn take_piece(front: &mut Front, out: &mut Vec<Request>, piece: &[u8]) -> Result<(), AllocError>
     ensures { OnOk result ((stream : List ℕ) → Reads stream out.old.items front.old
         → Reads (stream ++ piece.now) out.new.items front.new) }
 {
@@ -39,10 +35,7 @@ pub fn take_piece(
 }
 
 /// The requests of a stream that comes in these pieces, and the connection after it.
-pub fn requests(
-    alloc: Global,
-    pieces: &[ByteList],
-) -> Result<(Vec<Request>, Front), AllocError>
+pub fn requests(alloc: Global, pieces: &[ByteList]) -> Result<(Vec<Request>, Front), AllocError>
     ensures { IfOk result (λ r. Reads (flat_map (λ piece. piece) pieces.now) r.0.items r.1) }
 {
     let mut front = Front::new(alloc);

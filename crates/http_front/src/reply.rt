@@ -19,13 +19,7 @@ pub fn write_reply(
     if status == 204 {
         return Ok(ByteList::from_vec(empty_head(alloc, close)?.into_bytes()));
     }
-    let head = head(
-        alloc,
-        status,
-        phrase(status),
-        connection(close),
-        body.len(),
-    )?;
+    let head = head(alloc, status, phrase(status), connection(close), body.len())?;
     let mut bytes = head.into_bytes();
     bytes.extend_from_slice(body)?;
     Ok(ByteList::from_vec(bytes))

@@ -1,4 +1,4 @@
-use Rattle.std.proofs.Common.{◌≡◌, List, length, ℕ, arith, sym, ap, ◌∙◌, ◌≤◌, take, length-drop, subst}
+use Rattle.std.proofs.Common.{List, ℕ, arith, sym, ap, ◌∙◌, take, length-drop, subst}
 use Rattle.std.proofs.lemmas.List.{take_all}
 use Rattle.std.specs.Prelude.{IsUtf8}
 use Rattle.http_front.specs.Body.{body_length}
@@ -6,24 +6,24 @@ use Rattle.http_front.proofs.Judging.{head_refused, body_waits, head_gives, toke
 use Rattle.http_front.proofs.head.by_head.Goals as goal
 
 pub returns-in-Err : goal.returns-in-Err
-returns-in-Err c = λ h at. head_refused c.args.stream.now h c.in_ok-headers.headers c.in-Err.number
-    (c.in_ok-headers.ensures ∙ at.fields)
-    (sym c.in-Err.is ∙ (c.body_length.ensures.value ∙ ap body_length c.as_slice.ensures))
+returns-in-Err c = λ h at. head_refused c.args.stream.now h _ c.in-Err.number at.fields (sym c.in-Err.is ∙ c.body_length.ensures.value)
 
 pub returns-then-length-rest : goal.returns-then-length-rest
-returns-then-length-rest c = λ h at. body_waits c.args.stream.now h c.in_ok-headers.headers c.in-Ok.length c.args.head.len _
-    (c.in_ok-headers.ensures ∙ at.fields)
-    (sym c.in-Ok.is ∙ (c.body_length.ensures.value ∙ ap body_length c.as_slice.ensures))
+returns-then-length-rest c = λ h at.
+    body_waits c.args.stream.now h _ c.in-Ok.length c.args.head.len _ at.fields (sym c.in-Ok.is ∙ c.body_length.ensures.value)
     at.len (omega arith) (omega arith) (omega arith)
 
 pub returns : goal.returns
-returns c = λ h at. (omega arith, head_gives c.args.stream.now h c.in_ok-method.method c.in_ok-path.path c.in_ok-headers.headers c.in_ok-body.body
-    c.in-Ok.length c.args.head.len
-    (c.in_ok-headers.ensures ∙ at.fields)
-    (sym c.in-Ok.is ∙ (c.body_length.ensures.value ∙ ap body_length c.as_slice.ensures))
-    at.len (simp length-drop (omega arith))
-    (c.in_ok-method.ensures ∙ (c.of.ensures ∙ at.method)) (c.in_ok-path.ensures ∙ (c.of-2.ensures ∙ at.path))
-    (c.in_ok-body.ensures ∙ ap (take c.in-Ok.length) (take_all _ _ (simp length-drop (omega arith)))))
+returns c = λ h at. (
+  omega arith,
+  head_gives c.args.stream.now h c.in_ok-method.method c.in_ok-path.path c.in_ok-headers.headers c.in_ok-body.body
+      c.in-Ok.length c.args.head.len
+      (c.in_ok-headers.ensures ∙ at.fields)
+      (sym c.in-Ok.is ∙ (c.body_length.ensures.value ∙ ap body_length (sym c.in_ok-headers.ensures)))
+      at.len (simp length-drop (omega arith))
+      (c.in_ok-method.ensures ∙ (c.of.ensures ∙ at.method)) (c.in_ok-path.ensures ∙ (c.of-2.ensures ∙ at.path))
+      (c.in_ok-body.ensures ∙ ap (take c.in-Ok.length) (take_all _ _ (simp length-drop (omega arith)))),
+)
 
 pub text_of-requires : goal.text_of-requires
 text_of-requires c = let P : List ℕ → Type 0 = IsUtf8 in

@@ -1,4 +1,3 @@
-use Rattle.std.proofs.Common.{◌≡◌, List, ℕ}
 use Rattle.http_front.specs.declared.request.Next.TheVariants as next
 use Rattle.http_front.specs.Stream.{Judged}
 use Rattle.http_front.proofs.CutLemmas.{made, request_falls, request_lives_on, continues_more, drains_none, drains_bad}

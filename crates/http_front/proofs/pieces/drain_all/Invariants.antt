@@ -1,4 +1,4 @@
-use Rattle.std.proofs.Common.{◌≡◌, ℕ, length, false}
+use Rattle.std.proofs.Common.{◌≡◌, length, false}
 use Rattle.http_front.specs.Cuts.{Continues}
 use Rattle.http_front.proofs.pieces.drain_all.Given as goal
 

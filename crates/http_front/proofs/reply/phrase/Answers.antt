@@ -1,4 +1,4 @@
-use Rattle.std.proofs.Common.{◌≡◌, ℕ, ap, refl, ◌∙◌}
+use Rattle.std.proofs.Common.{ap, refl, ◌∙◌}
 use Rattle.http_front.proofs.Replies.{phrase_is}
 use Rattle.http_front.proofs.reply.phrase.Goals as goal
 

@@ -1,9 +1,8 @@
-use Rattle.std.proofs.Common.{◌≡◌, ◌≤◌, List, length, ℕ, arith, subst, sym}
+use Rattle.std.proofs.Common.{arith, subst, sym}
 use Rattle.std.proofs.lemmas.Result.{IfOk-weaker}
 use Rattle.httparse.specs.Grammar.{HasNoRequest, NeverHasRequest, MayBecomeRequest}
-use Rattle.httparse.specs.Spans.{IsRequestAt}
-use Rattle.http_front.specs.Told.{Tells, TellsByHead}
-use Rattle.http_front.proofs.Judging.{window_short, len_fits, judged_unfinished, judged_too_long, judged_hopeless}
+use Rattle.http_front.specs.Told.{Tells}
+use Rattle.http_front.proofs.Judging.{window_short, len_fits, judged_unfinished, judged_hopeless}
 use Rattle.http_front.proofs.TooFew.{tells_of, too_few_here}
 use Rattle.http_front.proofs.rules.judge.Goals as goal
 
@@ -22,10 +21,12 @@ returns-in-Found c =
     c.by_head.ensures
 
 pub returns-then-stream-le-HEAD_LIMIT : goal.returns-then-stream-le-HEAD_LIMIT
-returns-then-stream-le-HEAD_LIMIT c = (omega arith,
-    too_few_here c.args.stream.now (judged_unfinished c.args.stream.now (sym c.if-is_early.ensures) c.if-stream-le-HEAD_LIMIT.true
-    (subst HasNoRequest c.window-front.ensures c.in-Unfinished.ensures.0)
-    (subst MayBecomeRequest c.window-front.ensures c.in-Unfinished.ensures.1)))
+returns-then-stream-le-HEAD_LIMIT c = (
+  omega arith,
+  too_few_here c.args.stream.now (judged_unfinished c.args.stream.now (sym c.if-is_early.ensures) c.if-stream-le-HEAD_LIMIT.true
+      (subst HasNoRequest c.window-front.ensures c.in-Unfinished.ensures.0)
+      (subst MayBecomeRequest c.window-front.ensures c.in-Unfinished.ensures.1)),
+)
 
 pub returns-in-Hopeless : goal.returns-in-Hopeless
 returns-in-Hopeless c = judged_hopeless c.args.stream.now (sym c.if-is_early.ensures)

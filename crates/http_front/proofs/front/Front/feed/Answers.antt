@@ -1,4 +1,4 @@
-use Rattle.std.proofs.Common.{◌≡◌, ◌≤◌, ◌++◌, drop, length, ℕ, arith}
+use Rattle.std.proofs.Common.{arith}
 use Rattle.http_front.proofs.TooFew.{too_few_more}
 use Rattle.http_front.proofs.front.Front.feed.Goals as goal
 

@@ -1,7 +1,7 @@
-use Rattle.std.proofs.Common.{◌≡◌, ◌≤◌, ◌+◌, ◌-◌, List, [], Bool, true, false, drop, take, length, length-drop, ℕ, arith, refl, sym, ap, ◌∙◌}
+use Rattle.std.proofs.Common.{◌≡◌, List, [], true, false, drop, length-drop, ℕ, arith, refl, sym, ap, ◌∙◌}
 use Rattle.std.proofs.lemmas.List.{drop-drop}
 use Rattle.http_front.specs.declared.request.Next.TheVariants as next
-use Rattle.http_front.specs.Told.{AreTooFew, Tells}
+use Rattle.http_front.specs.Told.{Tells}
 use Rattle.http_front.proofs.TooFew.{told_behind, too_few_now, answered}
 use Rattle.http_front.proofs.front.Front.next.Goals as goal
 use Rattle.http_front.proofs.front.Front.next.Goals.{then-self-via-then-self, then-self-via-else-self+then-len-self}
