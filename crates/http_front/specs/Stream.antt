@@ -19,7 +19,7 @@ window stream = take head_limit stream
 abbrev pub is_line_byte : ℕ → Bool
 is_line_byte b = b == 13 || b == 10
 
--- an LF stands after the leading CRs and LFs
+-- an LF comes after the leading CRs and LFs
 abbrev pub has_line : List ℕ → Bool
 has_line stream = list_any (λ b. b == 10) (drop (prefix_len is_line_byte stream) stream)
 
