@@ -5,8 +5,6 @@ use Rattle.vm_types.specs.Saved.{Saved}
 use Rattle.vm_types.specs.declared.item.ApiCall.{ApiCall}
 use Rattle.vm_types.specs.declared.item.Item.{Item}
 use Rattle.vm_types.specs.declared.item.Item.TheVariants as Item
-use Rattle.api_admission.specs.declared.answer.Answer.{Answer}
-use Rattle.script_lines.specs.Output.{reply_line}
 use Rattle.flat_machine.specs.declared.outcome.Outcome.{Outcome}
 use Rattle.flat_machine.specs.Items.{ItemStep}
 use Rattle.flat_machine.specs.Machine.{Machine}
@@ -18,10 +16,9 @@ use Rattle.monitor_core.specs.declared.monitor.Monitor.{Monitor}
 use Rattle.monitor_core.specs.State.{IsMonitor}
 
 -- each machine that the monitor was takes the call so, and the monitor is the machine after it
-abbrev pub RequestGoes : ApiCall → Answer → Outcome → Monitor → Saved → Monitor → Saved → Type 0
-RequestGoes call answer outcome monitor saved after left =
-    (m : Machine) → IsMonitor monitor saved m
-    → (n : Machine) × RequestStep outcome call m (reply_line answer) n × IsMonitor after left n
+abbrev pub RequestGoes : ApiCall → List ℕ → Outcome → Monitor → Saved → Monitor → Saved → Type 0
+RequestGoes call text outcome monitor saved after left =
+    (m : Machine) → IsMonitor monitor saved m → (n : Machine) × RequestStep outcome call m text n × IsMonitor after left n
 
 -- an item that was answered: how it went, the fault of each 500, and what it did to each machine
 pub record ItemGoes (tells : Type 0) (item : Item) (text : List ℕ) (faults_before faults_now : ℕ) (monitor after : Monitor) (saved left : Saved) : Type 0 where

@@ -10,7 +10,10 @@ mod line_reader;
 mod loading;
 mod monitor;
 mod saving;
+mod starting;
+mod texts;
 
 pub use item_error::ItemError;
 pub use line_reader::{LineReader, Next};
 pub use monitor::Monitor;
+pub use starting::Started;
