@@ -1,16 +1,9 @@
 -- The flat machines that a monitor beside its files is.
-use Rattle.std.specs.Prelude.{◌≡◌, Option, Some, None}
+use Rattle.std.specs.Prelude.{◌≡◌}
 use Rattle.vm_types.specs.Saved.{Saved}
-use Rattle.flat_guest.specs.declared.plain_guest.PlainGuest.{PlainGuest}
-use Rattle.flat_guest.specs.Guest.{Guest}
-use Rattle.flat_guest.specs.Plain.{IsGuest}
 use Rattle.flat_machine.specs.Machine.{Machine}
+use Rattle.flat_machine.specs.Plain.{IsGuestBy}
 use Rattle.monitor_core.specs.declared.monitor.Monitor.{Monitor}
-
-abbrev pub IsGuestBy : Option PlainGuest → Option Guest → Type 0
-IsGuestBy None None = Unit {0}
-IsGuestBy (Some p) (Some g) = IsGuest p.memory p.board p.hart g
-IsGuestBy p g = ⊥
 
 -- its own data are the machine's, what the files hold is, and its guest is where the steps lead
 pub record IsMonitor (monitor : Monitor) (saved : Saved) (m : Machine) : Type 0 where

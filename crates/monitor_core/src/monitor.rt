@@ -51,6 +51,7 @@ impl Replied {
 impl Monitor {
     ghost use Rattle.api_admission.specs.Admission.{Facts, asks_files as asks_files_of};
     ghost use Rattle.monitor_core.specs.Going.{ItemCause, ItemGoes, RequestGoes};
+    ghost use Rattle.flat_machine.specs.Items.{StepsLine};
     ghost use Rattle.monitor_core.specs.State.{IsMonitor};
 
     /// A machine that has not started.
@@ -134,6 +135,70 @@ impl Monitor {
             Started::Refused(refusal) => Ok(refused(self.alloc, refusal)?),
             Started::FilesFailed => Ok(files_failed(self.alloc)?),
             Started::NoMemory => Ok(out_of_memory(self.alloc)?),
+        }
+    }
+
+    // A step line. An `Err` changes nothing.
+    fn step(&mut self, actor: ActorId, count: u64) -> Result<ByteList, AllocError>
+        ensures ok { IfOk result (λ text. (saved : Saved) (m : Machine) → IsMonitor self.old saved m →
+            (n : Machine) × StepsLine m.guest actor count m text n × IsMonitor self.new saved n) }
+        ensures err { OnErr result (self.new ≡ self.old) }
+    {
+        let is_hart = is_same_actor(actor, ActorId::Hart(0));
+        match &mut self.guest {
+            None => Ok(ByteList::copy_of(self.alloc, b"? not running\n")?),
+            Some(guest) => if is_hart {
+                guest.run(count);
+                Ok(ByteList::new(self.alloc))
+            } else {
+                Ok(ByteList::copy_of(self.alloc, b"? no actor\n")?)
+            },
+        }
+    }
+
+    /// One item of a script, over these files: what it writes. A request that comes to a failed call on the
+    /// files, or has no memory, is answered so. An `Err` changes nothing of the machine's own.
+    ///
+    /// Errors: `FilesFailed` where a call on the files failed at a file line; `OutOfMemory` where there was
+    /// no memory, not even for an answer that says so.
+    pub fn item<F: Files>(&mut self, item: Item, files: &mut F) -> Result<ByteList, ItemError>
+        ensures goes { IfOk result (λ text. ItemGoes (F.tells files.old) item text (F.faults files.old) (F.faults files.new) self.old self.new (F.saved files.old) (F.saved files.new)) }
+        ensures tells { F.tells files.old → F.tells files.new }
+        ensures later { F.faults files.old ≤ F.faults files.new }
+        ensures cause { IfErr result (λ why. ItemCause item (F.faults files.old) (F.faults files.new) why) }
+        ensures err { OnErr result (self.new ≡ self.old) }
+    {
+        match item {
+            Item::Nothing => Ok(ByteList::new(self.alloc)),
+            Item::File { name, content } => match save(files, name.as_str(), content.as_slice()) {
+                Ok(()) => Ok(ByteList::new(self.alloc)),
+                Err(Failed) => Err(ItemError::FilesFailed),
+            },
+            Item::Api(call) => {
+                let replied = self.request(call, files)?;
+                Ok(replied.text)
+            }
+            Item::Step { actor, count } => Ok(self.step(actor, count)?),
+        }
+    }
+
+    /// Whether the guest is off.
+    pub fn is_off(&self) -> bool
+        ensures { (saved : Saved) (m : Machine) → IsMonitor self.now saved m → result ≡ is_off m }
+    {
+        match &self.guest {
+            None => false,
+            Some(guest) => guest.board.is_off(),
+        }
+    }
+
+    /// The console's bytes that were not drained.
+    pub fn console(&self) -> &[u8]
+        ensures { (saved : Saved) (m : Machine) → IsMonitor self.now saved m → result.now ≡ console_of m }
+    {
+        match &self.guest {
+            None => &[],
+            Some(guest) => guest.board.console(),
         }
     }
 }
