@@ -1,5 +1,5 @@
 -- What an item makes of the monitor is what it makes of each machine that it is.
-use Rattle.std.proofs.Common.{◌≡◌, ℕ, false, refl, sym, ap, subst, ◌∙◌, List, [], ◌∷◌, Option, Some, None}
+use Rattle.std.proofs.Common.{◌≡◌, ℕ, ◌≤◌, arith, false, refl, sym, ap, subst, ◌∙◌, List, [], ◌∷◌, Option, Some, None}
 use Rattle.std.specs.FinMap.{insert}
 use Rattle.vm_types.specs.Causes.{RoseBy}
 use Rattle.vm_types.specs.Saved.{Saved}
@@ -90,3 +90,7 @@ api_went after saved m item call outcome text api went = subst (λ (i : Item). W
 pub step_went : (after : Monitor) (saved : Saved) (m : Machine) (item : Item) (actor : ActorId) (count : ℕ) (text : List ℕ) → item ≡ Item.Step actor count → Moved actor count m text after saved → Went item Answered m text after saved
 step_went after saved m item actor count text step moved =
     (moved.0, subst (λ (i : Item). ItemStep i Answered m text moved.0) (sym step) (refl, moved.1), moved.2)
+
+-- no failure wants no cause
+pub no_cause : (before now : ℕ) → before ≤ now → RoseBy 0 before now
+no_cause before now later = grind (arith)
