@@ -11,6 +11,8 @@ mod loading;
 mod monitor;
 mod saving;
 mod starting;
+#[cfg(test)]
+mod tests;
 mod texts;
 
 pub use item_error::ItemError;
