@@ -1,5 +1,5 @@
 -- The first line of a text is its first, whatever comes behind.
-use Rattle.std.proofs.Common.{◌≡◌, ℕ, zero, suc, ◌+◌, ◌-◌, ◌<◌, ◌==◌, Bool, true, false, cond, List, [], ◌∷◌, ◌++◌, length, take, drop, map, Option, Some, None, refl, sym, ◌∙◌, ap, subst, arith, length-drop}
+use Rattle.std.proofs.Common.{◌≡◌, ℕ, zero, suc, ◌+◌, ◌<◌, ◌==◌, Bool, true, false, cond, List, [], ◌∷◌, ◌++◌, length, take, drop, map, Option, refl, sym, ◌∙◌, ap, arith, length-drop}
 use Rattle.vm_types.specs.declared.item.Item.{Item}
 use Rattle.script_lines.specs.Items.{item_of}
 use Rattle.script_lines.specs.Lines.{judged, lines_of, onto}

@@ -1,5 +1,5 @@
 -- What an item makes of the monitor is what it makes of each machine that it is.
-use Rattle.std.proofs.Common.{◌≡◌, ℕ, ◌≤◌, arith, false, refl, sym, ap, subst, ◌∙◌, List, [], ◌∷◌, Option, Some, None}
+use Rattle.std.proofs.Common.{◌≡◌, ℕ, ◌≤◌, arith, false, refl, sym, ap, subst, ◌∙◌, List, [], Some, None}
 use Rattle.std.specs.FinMap.{insert}
 use Rattle.vm_types.specs.Causes.{RoseBy}
 use Rattle.vm_types.specs.Saved.{Saved}
@@ -16,9 +16,9 @@ use Rattle.flat_guest.specs.Steps.{StepsBy}
 use Rattle.flat_machine.specs.declared.outcome.Outcome.{Outcome}
 use Rattle.flat_machine.specs.declared.outcome.Outcome.TheVariants.{Answered}
 use Rattle.flat_machine.specs.declared.plain_machine.PlainMachine.{PlainMachine}
-use Rattle.flat_machine.specs.Machine.{Machine, console_of, is_off}
+use Rattle.flat_machine.specs.Machine.{Machine}
 use Rattle.flat_machine.specs.Items.{ItemStep, StepsLine}
-use Rattle.flat_machine.specs.Plain.{IsGuestBy, IsMachine}
+use Rattle.flat_machine.specs.Plain.{IsMachine}
 use Rattle.flat_machine.proofs.Going.{moves, no_actor, not_running, same_guest}
 use Rattle.monitor_core.specs.declared.monitor.Monitor.{Monitor}
 use Rattle.monitor_core.specs.State.{IsMonitor}

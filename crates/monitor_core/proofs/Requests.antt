@@ -19,10 +19,9 @@ use Rattle.flat_machine.specs.declared.outcome.Outcome.{Outcome}
 use Rattle.flat_machine.specs.declared.outcome.Outcome.TheVariants.{Answered, Failed, NoMemory}
 use Rattle.flat_machine.specs.Machine.{Machine, phase_by}
 use Rattle.flat_machine.specs.Plain.{IsGuestBy}
-use Rattle.flat_machine.specs.Requests.{RequestStep, after_by, facts_of, guest_by, guest_from, image_of}
+use Rattle.flat_machine.specs.Requests.{RequestStep, after_by, facts_of, guest_by, guest_from}
 use Rattle.monitor_core.specs.declared.monitor.Monitor.{Monitor}
 use Rattle.monitor_core.specs.declared.starting.Started.{Started}
-use Rattle.monitor_core.specs.declared.starting.Started.TheVariants as Started
 use Rattle.monitor_core.specs.Replying.{IsFailed, IsRefused}
 use Rattle.monitor_core.specs.Starting.{StartGives, image_in, start_facts}
 use Rattle.monitor_core.specs.State.{IsMonitor}

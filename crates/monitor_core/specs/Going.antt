@@ -1,10 +1,9 @@
 -- How an item goes, and why one is not answered.
-use Rattle.std.specs.Prelude.{◌≡◌, ℕ, List}
+use Rattle.std.specs.Prelude.{ℕ, List}
 use Rattle.vm_types.specs.Causes.{Rose, RoseBy}
 use Rattle.vm_types.specs.Saved.{Saved}
 use Rattle.vm_types.specs.declared.item.ApiCall.{ApiCall}
 use Rattle.vm_types.specs.declared.item.Item.{Item}
-use Rattle.vm_types.specs.declared.item.Item.TheVariants as Item
 use Rattle.flat_machine.specs.declared.outcome.Outcome.{Outcome}
 use Rattle.flat_machine.specs.Items.{ItemStep}
 use Rattle.flat_machine.specs.Machine.{Machine}

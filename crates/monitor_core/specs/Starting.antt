@@ -9,7 +9,6 @@ use Rattle.api_admission.specs.Admission.{Facts, refusal_of}
 use Rattle.flat_guest.specs.Plain.{IsGuest}
 use Rattle.flat_guest.specs.Start.{started}
 use Rattle.monitor_core.specs.declared.starting.Started.{Started}
-use Rattle.monitor_core.specs.declared.starting.Started.TheVariants as Started
 
 -- the kernel image, if there is one
 abbrev pub image_in : Config → Saved → Option (List ℕ)

@@ -1,4 +1,4 @@
-use Rattle.std.proofs.Common.{refl, sym, ◌∙◌, None}
+use Rattle.std.proofs.Common.{refl, None}
 use Rattle.flat_machine.specs.declared.outcome.Outcome.TheVariants.{Answered}
 use Rattle.monitor_core.proofs.Requests.{asked_start, by_names, fails_start, makes_guest, no_memory, refuses_start}
 use Rattle.monitor_core.proofs.monitor.Monitor.start.Goals as goal
