@@ -1,0 +1,4 @@
+pub mod Behind
+pub mod Saved
+pub mod Requests
+pub mod Items

@@ -1,0 +1,48 @@
+-- A file made empty and written whole holds what was written.
+use Rattle.std.proofs.Common.{◌≡◌, ℕ, ◌+◌, ◌==◌, Bool, true, false, cond, List, [], ◌∷◌, ◌++◌, length, Option, Some, refl, sym, ◌∙◌, ap, arith}
+use Rattle.std.proofs.lemmas.List.{append-nil}
+use Rattle.std.proofs.Math.Seq.{drop-nil}
+use Rattle.std.proofs.lemmas.Slice.Eq.{bytes_eq-Decides}
+use Rattle.std.proofs.lemmas.Bool.Decides.{nat_tests}
+use Rattle.std.specs.Ordering.{nat_cmp, eq_by_cmp}
+use Rattle.std.specs.Cmp.Lexicographic.{slice_cmp, nat_list_cmp_total}
+use Rattle.std.specs.FinMap.{get, insert, same_map, get-insert, slice_cmp-IsAntisymmetric, nat_cmp-IsAntisymmetric}
+use Rattle.std.proofs.lemmas.Map.Text.{is_eq-slice_cmp}
+use Rattle.std.specs.Str.{bytes_eq}
+use Rattle.vm_types.specs.Saved.{Saved, overwritten, written}
+use Rattle.vm_outside.specs.Filing.{WritesAt}
+
+same_cond : {A : Type 0} (b : Bool) (x y z : A) → cond b x (cond b y z) ≡ cond b x z
+same_cond true x y z = refl
+same_cond false x y z = refl
+
+insert_twice : (m : Saved) (k u v : List ℕ) → insert (insert m k u) k v ≡ insert m k v
+insert_twice m k u v = same_map nat_list_cmp_total (slice_cmp-IsAntisymmetric nat_cmp-IsAntisymmetric) _ _ (λ q.
+    get-insert nat_list_cmp_total (insert m k u) k v q
+    ∙ ap (λ (o : Option (List ℕ)). cond (eq_by_cmp (slice_cmp nat_cmp) q k) (Some v) o) (get-insert nat_list_cmp_total m k u q)
+    ∙ same_cond (eq_by_cmp (slice_cmp nat_cmp) q k) (Some v) (Some u) (get m q)
+    ∙ sym (get-insert nat_list_cmp_total m k v q))
+
+written_whole : (bytes : List ℕ) → written [] 0 bytes ≡ bytes
+written_whole [] = refl
+written_whole (b ∷ bytes) =
+    let some : (length (b ∷ bytes) == 0) ≡ false = grind (arith, nat_tests) in
+    ap (λ (t : Bool). cond t [] (overwritten [] 0 (b ∷ bytes))) some
+    ∙ ap (λ (l : List ℕ). (b ∷ bytes) ++ l) (drop-nil (0 + length (b ∷ bytes))) ∙ append-nil (b ∷ bytes)
+
+same_some : (x y : List ℕ) → ◌≡◌ {A = Option (List ℕ)} (Some x) (Some y) → x ≡ y
+same_some x y same = cc
+
+same_bytes : (name : List ℕ) → bytes_eq name name ≡ true
+same_bytes name = (bytes_eq-Decides name name).1 refl
+
+empty_there : (before made : Saved) (name : List ℕ) → made ≡ insert before name [] → get made name ≡ Some []
+empty_there before made name is =
+    ap (λ (m : Saved). get m name) is ∙ get-insert nat_list_cmp_total before name [] name
+    ∙ ap (λ (b : Bool). cond b (Some []) (get before name)) (is_eq-slice_cmp name name ∙ same_bytes name)
+
+pub saved_whole : (before made filled : Saved) (name bytes : List ℕ) → made ≡ insert before name [] → WritesAt made name 0 bytes filled → filled ≡ insert before name bytes
+saved_whole before made filled name bytes is wrote =
+    let none : wrote.0 ≡ [] = same_some wrote.0 [] (sym wrote.1 ∙ empty_there before made name is) in
+    wrote.2 ∙ ap (λ (content : List ℕ). insert made name (written content 0 bytes)) none ∙ ap (insert made name) (written_whole bytes)
+    ∙ ap (λ (m : Saved). insert m name bytes) is ∙ insert_twice before name [] bytes

@@ -1,0 +1,5 @@
+pub mod Going
+pub mod Next
+pub mod Replying
+pub mod Starting
+pub mod State

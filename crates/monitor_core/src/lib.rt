@@ -1,0 +1,21 @@
+//! The monitor: the lines of a script that comes in pieces, and the machine that answers their items.
+//!
+//! `LineReader` holds what came and was not given. `Monitor` takes an item at a time, over any files: each
+//! machine that it was takes the item as the flat machine does, or it is answered 500 or 503 and nothing
+//! changes. Memory, board and hart are the plain programs of the definitions, as a first body.
+#![tactic(auto)]
+
+mod item_error;
+mod line_reader;
+mod loading;
+mod monitor;
+mod saving;
+mod starting;
+#[cfg(test)]
+mod tests;
+mod texts;
+
+pub use item_error::ItemError;
+pub use line_reader::{LineReader, Next};
+pub use monitor::Monitor;
+pub use starting::Started;

@@ -1,0 +1,238 @@
+// The monitor.
+ghost use Rattle.std.specs.Prelude.{◌≡◌, ◌≤◌, IfOk, IfErr, OnErr, List, ℕ, None, Option, is_some, false, true};
+ghost use Rattle.vm_types.specs.Causes.{RoseBy};
+ghost use Rattle.vm_types.specs.Saved.{Saved};
+ghost use Rattle.flat_machine.specs.Machine.{Machine, is_off, console_of, new_machine, phase_by};
+ghost use Rattle.api_admission.specs.Answers.{refused as refused_answer};
+ghost use Rattle.script_lines.specs.Output.{reply_line};
+ghost use Rattle.flat_machine.specs.Requests.{RequestStep};
+ghost use Rattle.flat_machine.specs.Run.{failed_count};
+ghost use Rattle.monitor_core.specs.Replying.{IsFailed, IsRefused};
+
+use crate::item_error::ItemError;
+use crate::saving::save;
+use crate::starting::Started;
+use crate::texts::{call_text, done_text, refused_text};
+use api_admission::{Config, Phase, Refusal, asks_files, refusal_of};
+use flat_guest::PlainGuest;
+use flat_machine::Outcome;
+use std::alloc::{AllocError, Global};
+use vm_outside::{Failed, Files};
+use vm_types::{ActorId, ApiCall, ByteList, Item, TextList, is_same_actor};
+
+/// A machine: its id, what was configured, and the guest once it has started.
+#[derive(Drop)]
+pub struct Monitor {
+    alloc: Global,
+    id: TextList,
+    config: Config,
+    guest: Option<PlainGuest>,
+}
+
+/// What an item writes, and how it went.
+#[derive(Drop)]
+struct Replied {
+    text: ByteList,
+    outcome: Outcome,
+}
+
+impl Replied {
+    fn answered(text: ByteList) -> Replied
+        ensures text { result.text ≡ text }
+        ensures outcome { result.outcome ≡ Outcome.Answered }
+    {
+        Replied {
+            text,
+            outcome: Outcome::Answered,
+        }
+    }
+}
+
+impl Monitor {
+    ghost use Rattle.api_admission.specs.Admission.{Facts, asks_files as asks_files_of};
+    ghost use Rattle.monitor_core.specs.Going.{ItemCause, ItemGoes, RequestGoes};
+    ghost use Rattle.flat_machine.specs.Items.{StepsLine};
+    ghost use Rattle.monitor_core.specs.State.{IsMonitor};
+
+    /// A machine that has not started.
+    pub fn new(alloc: Global, id: TextList) -> Monitor
+        ensures { (saved : Saved) → IsMonitor result saved (new_machine id saved) }
+    {
+        Monitor {
+            alloc,
+            id,
+            config: Config::new(),
+            guest: None,
+        }
+    }
+
+    fn phase(&self) -> Phase
+        ensures { (saved : Saved) (m : Machine) → IsMonitor self.now saved m → result ≡ phase_by m.guest }
+    {
+        match self.guest {
+            None => Phase::NotStarted,
+            Some(_) => Phase::Running,
+        }
+    }
+
+    // A request. An `Err` changes nothing.
+    fn request<F: Files>(&mut self, call: ApiCall, files: &mut F) -> Result<Replied, AllocError>
+        ensures went { IfOk result (λ r. F.tells files.old → RequestGoes call r.text r.outcome self.old (F.saved files.old) self.new (F.saved files.new)) }
+        ensures cause { IfOk result (λ r. RoseBy (failed_count r.outcome) (F.faults files.old) (F.faults files.new)) }
+        ensures tells { F.tells files.old → F.tells files.new }
+        ensures later { F.faults files.old ≤ F.faults files.new }
+        ensures err { OnErr result (self.new ≡ self.old) }
+    {
+        let phase = self.phase();
+        if asks_files(&call, phase, &self.config) {
+            Ok(self.start(call, phase, files)?)
+        } else {
+            Ok(self.answer(call, phase)?)
+        }
+    }
+
+    // A request for which no file is asked.
+    fn answer(&mut self, call: ApiCall, phase: Phase) -> Result<Replied, AllocError>
+        requires { (image : Option ℕ) → asks_files_of call (record { phase = phase; config = self.old.config; image = image }) ≡ false }
+        ensures went { IfOk result (λ r. (saved : Saved) (m : Machine) → IsMonitor self.old saved m → phase ≡ phase_by m.guest →
+            (n : Machine) × RequestStep r.outcome call m r.text n × IsMonitor self.new saved n) }
+        ensures outcome { IfOk result (λ r. failed_count r.outcome ≡ 0) }
+        ensures err { OnErr result (self.new ≡ self.old) }
+    {
+        let Ok(text) = call_text(self.alloc, &call, self.id.as_str(), phase, &self.config) else {
+            return Ok(out_of_memory(self.alloc)?);
+        };
+        if refusal_of(&call, phase, &self.config, None).is_some() {
+            return Ok(Replied::answered(text));
+        }
+        self.config.configure(call);
+        Ok(Replied::answered(text))
+    }
+
+    // A start that comes to ask the files.
+    fn start<F: Files>(
+        &mut self,
+        call: ApiCall,
+        phase: Phase,
+        files: &mut F,
+    ) -> Result<Replied, AllocError>
+        requires { (image : Option ℕ) → asks_files_of call (record { phase = phase; config = self.old.config; image = image }) ≡ true }
+        ensures went { IfOk result (λ r. F.tells files.old → (m : Machine) → IsMonitor self.old (F.saved files.old) m → phase ≡ phase_by m.guest →
+            (n : Machine) × RequestStep r.outcome call m r.text n × IsMonitor self.new (F.saved files.new) n) }
+        ensures cause { IfOk result (λ r. RoseBy (failed_count r.outcome) (F.faults files.old) (F.faults files.new)) }
+        ensures tells { F.tells files.old → F.tells files.new }
+        ensures later { F.faults files.old ≤ F.faults files.new }
+        ensures err { OnErr result (self.new ≡ self.old) }
+    {
+        match Started::of(self.alloc, &self.config, files) {
+            Started::Guest(guest) => {
+                let Ok(text) = done_text(self.alloc) else {
+                    return Ok(out_of_memory(self.alloc)?);
+                };
+                self.guest = Some(guest);
+                Ok(Replied::answered(text))
+            }
+            Started::Refused(refusal) => Ok(refused(self.alloc, refusal)?),
+            Started::FilesFailed => Ok(files_failed(self.alloc)?),
+            Started::NoMemory => Ok(out_of_memory(self.alloc)?),
+        }
+    }
+
+    // A step line. An `Err` changes nothing.
+    fn step(&mut self, actor: ActorId, count: u64) -> Result<ByteList, AllocError>
+        ensures ok { IfOk result (λ text. (saved : Saved) (m : Machine) → IsMonitor self.old saved m →
+            (n : Machine) × StepsLine m.guest actor count m text n × IsMonitor self.new saved n) }
+        ensures err { OnErr result (self.new ≡ self.old) }
+    {
+        let is_hart = is_same_actor(actor, ActorId::Hart(0));
+        match &mut self.guest {
+            None => Ok(ByteList::copy_of(self.alloc, b"? not running\n")?),
+            Some(guest) => if is_hart {
+                guest.run(count);
+                Ok(ByteList::new(self.alloc))
+            } else {
+                Ok(ByteList::copy_of(self.alloc, b"? no actor\n")?)
+            },
+        }
+    }
+
+    /// One item of a script, over these files: what it writes. A request that comes to a failed call on the
+    /// files, or has no memory, is answered so. An `Err` changes nothing of the machine's own.
+    ///
+    /// Errors: `FilesFailed` where a call on the files failed at a file line; `OutOfMemory` where there was
+    /// no memory, not even for an answer that says so.
+    pub fn item<F: Files>(&mut self, item: Item, files: &mut F) -> Result<ByteList, ItemError>
+        ensures goes { IfOk result (λ text. ItemGoes (F.tells files.old) item text (F.faults files.old) (F.faults files.new) self.old self.new (F.saved files.old) (F.saved files.new)) }
+        ensures tells { F.tells files.old → F.tells files.new }
+        ensures later { F.faults files.old ≤ F.faults files.new }
+        ensures cause { IfErr result (λ why. ItemCause item (F.faults files.old) (F.faults files.new) why) }
+        ensures err { OnErr result (self.new ≡ self.old) }
+    {
+        match item {
+            Item::Nothing => Ok(ByteList::new(self.alloc)),
+            Item::File { name, content } => match save(files, name.as_str(), content.as_slice()) {
+                Ok(()) => Ok(ByteList::new(self.alloc)),
+                Err(Failed) => Err(ItemError::FilesFailed),
+            },
+            Item::Api(call) => {
+                let replied = self.request(call, files)?;
+                Ok(replied.text)
+            }
+            Item::Step { actor, count } => Ok(self.step(actor, count)?),
+        }
+    }
+
+    /// Whether the guest is off.
+    pub fn is_off(&self) -> bool
+        ensures { (saved : Saved) (m : Machine) → IsMonitor self.now saved m → result ≡ is_off m }
+    {
+        match &self.guest {
+            None => false,
+            Some(guest) => guest.board.is_off(),
+        }
+    }
+
+    /// The console's bytes that were not drained.
+    pub fn console(&self) -> &[u8]
+        ensures { (saved : Saved) (m : Machine) → IsMonitor self.now saved m → result.now ≡ console_of m }
+    {
+        match &self.guest {
+            None => &[],
+            Some(guest) => guest.board.console(),
+        }
+    }
+}
+
+// Answered 503; where there is no memory for that either, not answered.
+fn out_of_memory(alloc: Global) -> Result<Replied, AllocError>
+    ensures text { IfOk result (λ r. r.text ≡ reply_line (refused_answer Refusal.OutOfMemory)) }
+    ensures outcome { IfOk result (λ r. r.outcome ≡ Outcome.NoMemory) }
+{
+    Ok(Replied {
+        text: refused_text(alloc, Refusal::OutOfMemory)?,
+        outcome: Outcome::NoMemory,
+    })
+}
+
+// Refused, or answered 503.
+fn refused(alloc: Global, refusal: Refusal) -> Result<Replied, AllocError>
+    ensures { IfOk result (λ r. IsRefused r.outcome r.text refusal) }
+{
+    match refused_text(alloc, refusal) {
+        Ok(text) => Ok(Replied::answered(text)),
+        Err(_) => Ok(out_of_memory(alloc)?),
+    }
+}
+
+// Answered 500, or 503.
+fn files_failed(alloc: Global) -> Result<Replied, AllocError>
+    ensures { IfOk result (λ r. IsFailed r.outcome r.text) }
+{
+    match refused_text(alloc, Refusal::OutsideFailed) {
+        Ok(text) => Ok(Replied {
+            text,
+            outcome: Outcome::Failed,
+        }),
+        Err(_) => Ok(out_of_memory(alloc)?),
+    }
+}

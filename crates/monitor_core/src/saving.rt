@@ -1,0 +1,18 @@
+// A file made with all of its bytes.
+ghost use Rattle.std.specs.Prelude.{◌≡◌, OnOk};
+ghost use Rattle.std.specs.FinMap.{insert};
+ghost use Rattle.vm_types.specs.Causes.{HasCause};
+
+use vm_outside::{Failed, Files};
+
+/// Makes the file of this name with these bytes.
+pub fn save<F: Files>(files: &mut F, name: &str, content: &[u8]) -> Result<(), Failed>
+    ensures tells { F.tells files.old → F.tells files.new }
+    ensures saved { OnOk result (F.tells files.old → F.saved files.new ≡ insert (F.saved files.old) name.now content.now) }
+    ensures cause { HasCause (F.faults files.old) (F.faults files.new) result }
+{
+    files.make(name)?;
+    files.write_at(name, 0, content)?;
+    files.sync(name)?;
+    Ok(())
+}

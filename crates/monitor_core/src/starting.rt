@@ -1,0 +1,71 @@
+// What a start comes to.
+ghost use Rattle.std.specs.Prelude.{◌≡◌, ◌≤◌, is_some, true, IfSome};
+ghost use Rattle.flat_guest.specs.Plain.{IsGuest};
+ghost use Rattle.flat_guest.specs.Start.{started};
+ghost use Rattle.vm_types.specs.Causes.{Rose};
+
+use crate::loading::{LoadError, load};
+use api_admission::{Config, Phase, Refusal, refusal_of};
+use flat_guest::PlainGuest;
+use guest_memory::is_image_fit;
+use std::alloc::Global;
+use vm_outside::{Failed, Files};
+use vm_types::ApiCall;
+
+/// The most memory that a guest is given, in MiB: more than that is want of memory.
+const MOST_MIB: u64 = 1 << 20;
+
+/// What a start comes to: a guest, a refusal, a failed call on the files, or want of memory.
+#[derive(Drop)]
+pub enum Started {
+    Guest(PlainGuest),
+    Refused(Refusal),
+    FilesFailed,
+    NoMemory,
+}
+
+impl Started {
+    ghost use Rattle.monitor_core.specs.Starting.{StartGives};
+
+    /// The start of a machine that has a boot source and has not started.
+    pub fn of<F: Files>(alloc: Global, config: &Config, files: &mut F) -> Started
+        requires { is_some config.now.kernel_image_path ≡ true }
+        ensures gives { F.tells files.old → StartGives result config.now (F.saved files.old) }
+        ensures same { F.tells files.old → F.saved files.new ≡ F.saved files.old }
+        ensures tells { F.tells files.old → F.tells files.new }
+        ensures later { F.faults files.old ≤ F.faults files.new }
+        ensures cause { result ≡ Started.FilesFailed → Rose (F.faults files.old) (F.faults files.new) }
+    {
+        let Some(path) = &config.kernel_image_path else {
+            unreachable!();
+        };
+        let Ok(size) = files.size(path.as_str()) else {
+            return Started::FilesFailed;
+        };
+        let refusal = refusal_of(&ApiCall::InstanceStart, Phase::NotStarted, config, size);
+        if let Some(refusal) = refusal {
+            return Started::Refused(refusal);
+        }
+        let Some(len) = size else {
+            return Started::NoMemory;
+        };
+        match load(alloc, files, path.as_str(), len) {
+            Ok(image) => match guest_of(alloc, config.mem_size_mib, &image) {
+                Some(guest) => Started::Guest(guest),
+                None => Started::NoMemory,
+            },
+            Err(LoadError::Failed) => Started::FilesFailed,
+            Err(LoadError::NoMemory) => Started::NoMemory,
+        }
+    }
+}
+
+// The guest of this memory and image, if there is memory for it and the image fits.
+fn guest_of(alloc: Global, mem_size_mib: u64, image: &[u8]) -> Option<PlainGuest>
+    ensures { IfSome result (λ guest. IsGuest guest.memory guest.board guest.hart (started mem_size_mib image.now)) }
+{
+    if mem_size_mib > MOST_MIB || !is_image_fit(mem_size_mib, image.len() as u64) {
+        return None;
+    }
+    PlainGuest::start(alloc, mem_size_mib, image).ok()
+}
