@@ -1,4 +1,4 @@
--- How long a head is, and where its line feeds stand.
+-- How long a head is, and where its line feeds are.
 use Rattle.std.proofs.Common.{◌≡◌, ℕ, ◌+◌, ◌*◌, ◌<◌, ◌≤◌, inl, inr, true, false, add_comm, List, [], ◌∷◌, ◌++◌, length, drop, refl, ap, subst, ◌∙◌, arith, append_assoc, length-append, add-one}
 use Rattle.std.specs.Prelude.{IsTrue, ◌==◌}
 use Rattle.std.specs.List.{flat_map, list_any, prefix_len}
@@ -38,7 +38,7 @@ pub head_has_bytes : (h : RequestHead) → 0 < length (print_request h)
 unfolding print_request
 head_has_bytes h = simp (length-append) (omega arith)
 
--- so many headers do not stand in so few bytes
+-- so few bytes have no room for so many headers
 pub not_exceeds : (room : ℕ) (front : List ℕ) → length front ≤ 8192 → 2731 ≤ room → RequestExceeds room front → ⊥
 not_exceeds room front short enough (a, rest, e, h, reads, over) =
     let long : 3 * length h.fields ≤ length (print_request h) = head_length h reads.0 in

@@ -60,6 +60,19 @@ fn a_request_cut_at_every_byte(rt: HostRuntime) -> Result<(), Fail> {
 }
 
 #[test]
+fn a_request_that_comes_byte_by_byte(rt: HostRuntime) -> Result<(), Fail> {
+    let alloc = rt.alloc();
+    let mut pieces = Vec::new(alloc);
+    for byte in GET.as_bytes() {
+        pieces.push(ByteList::copy_of(alloc, &[*byte])?)?;
+    }
+    let (found, _) = requests(alloc, &pieces)?;
+    assert_eq!(rt; found.len(), 1);
+    assert_eq!(rt; told(&rt, &found[0])?.as_str(), "GET / 0 |");
+    Ok(())
+}
+
+#[test]
 fn a_body_cut_at_every_byte(rt: HostRuntime) -> Result<(), Fail> {
     let put = "PUT /a HTTP/1.1\r\ncontent-LENGTH: 007\r\n\r\n{\"b\":1}";
     for at in 0..put.len() {
