@@ -6,7 +6,7 @@ test:
 	.ci/run
 
 build:
-	@echo "There is no program to build yet: this repository has the definitions and what they stand on."
+	@echo "There is no program to build yet: the crates are libraries so far, which make test proves and tests."
 
 run:
-	@echo "There is no program to run yet. The replay of scripts is tested in crates/flat_machine."
+	@echo "There is no program to run yet. Scripts are run by the tests of crates/flat_machine and crates/monitor_cli."

@@ -11,10 +11,10 @@ ghost use Rattle.hart_rv64.specs.Asked.{op_of};
 use crate::alu::{addi, lui};
 use crate::decode::decode;
 use crate::hart_op::HartOp;
-use crate::registers::{LOOK_EVERY, get, put};
+use crate::registers::LOOK_EVERY;
 use crate::sbi::{Call, call_asks, call_ends, call_of, refuse};
 use crate::trap::{fetch_faults, illegal_word};
-use hart_rows::{A0, A1, Kind, Regs, Turn};
+use hart_rows::{A0, A1, Kind, Regs, Turn, get, put};
 use std::marker::Model;
 use vm_types::{Actor, Op, Reply, Shown};
 

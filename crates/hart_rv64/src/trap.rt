@@ -4,22 +4,11 @@ ghost use Rattle.hart_rows.specs.Registers.{trapped};
 ghost use Rattle.hart_rows.specs.Rows.{illegal_instruction};
 ghost use Rattle.hart_trace.specs.Traces.{fetch_fault};
 
-use crate::registers::count;
-use hart_rows::Regs;
+use hart_rows::{Regs, trap};
 
 const FETCH_FAULT: u64 = 1;
 
 const ILLEGAL_INSTRUCTION: u64 = 2;
-
-fn trap(regs: &mut Regs, cause: u64, value: u64)
-    ensures { regs.new ≡ trapped cause value regs.old }
-{
-    regs.sepc = regs.pc;
-    regs.pc = regs.stvec;
-    regs.scause = cause;
-    regs.stval = value;
-    count(regs);
-}
 
 /// The fetch at pc faults.
 pub fn fetch_faults(regs: &mut Regs)

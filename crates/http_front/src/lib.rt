@@ -21,6 +21,6 @@ mod tests;
 pub use cuts::any_cutting;
 pub use front::Front;
 pub use headers::HeaderList;
-pub use pieces::{drain_all, requests, take_piece};
+pub use pieces::requests;
 pub use reply::write_reply;
 pub use request::{Next, Request};

@@ -1,7 +1,6 @@
 // Streams with the requests in them, cut anywhere, and replies.
-use crate::{
-    Front, HeaderList, Next, Request, any_cutting, drain_all, requests, take_piece, write_reply,
-};
+use crate::pieces::{drain_all, take_piece};
+use crate::{Front, HeaderList, Next, Request, any_cutting, requests, write_reply};
 use std::test::Fail;
 use vm_types::ByteList;
 
