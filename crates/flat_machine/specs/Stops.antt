@@ -1,5 +1,5 @@
 -- How a replay stops early: a host object's failure or want of memory ended it.
-use Rattle.std.specs.Prelude.{ℕ, ◌≡◌, ◌+◌, false, List, ◌∷◌, ◌++◌, map, take, Option, Some}
+use Rattle.std.specs.Prelude.{ℕ, ◌≡◌, ◌+◌, false, List, ◌∷◌, ◌++◌, map, Option, Some}
 use Rattle.vm_types.specs.declared.item.Item.{Item}
 use Rattle.vm_types.specs.declared.item.Item.TheVariants.{File}
 use Rattle.vm_types.specs.declared.exit.Object.TheVariants as object
@@ -27,7 +27,7 @@ abbrev pub stop_failures : Exit → ℕ
 stop_failures (Exit.Fault object.Files) = 1
 stop_failures exit = 0
 
--- The lines before were answered, and the last line was written, or a part of it.
+-- The lines before were answered, and the last line says why it stopped.
 pub record IsStopped (script : List ℕ) (start : Machine) (acts : List Act) (exit : Exit) (text : List ℕ) (faults_before faults_now : ℕ) : Type 0 where
   pub answers : List ℕ
   pub last : Machine
@@ -36,8 +36,7 @@ pub record IsStopped (script : List ℕ) (start : Machine) (acts : List Act) (ex
   pub ran : Run acts start answers last
   pub failed : RoseBy (failures acts + stop_failures exit) faults_before faults_now
   pub stops : StopsBy exit left last
-  pub part : ℕ
-  pub writes : text ≡ answers ++ take part (last_line exit)
+  pub writes : text ≡ answers ++ last_line exit
 
 -- The sink failed: what it took is a part of what the lines so far answer, which may end inside a line.
 pub record IsCutOff (script : List ℕ) (start : Machine) (acts : List Act) (text : List ℕ) (faults_before faults_now : ℕ) : Type 0 where

@@ -83,7 +83,12 @@ module _ (came : List ℕ) (start : Machine) (before held : List ℕ) (line : �
             lines = λ more. all more ∙ items_push so_far.acts act (judged (behind ++ more));
             ran = run_push so_far.acts act start so_far.last went.0 so_far.answers part.text so_far.ran on went.1;
             halts = tt;
-            takes = (taken_part.0, taken_part.1 ∙ ap (λ (l : List ℕ). l ++ part.text) so_far.takes ∙ append_assoc before so_far.answers part.text);
+            takes = (
+              so_far.answers ++ taken_part.0,
+              taken_part.1,
+              taken_part.2 ∙ ap (λ (l : List ℕ). l ++ taken_part.0) so_far.takes ∙ append_assoc before so_far.answers taken_part.0,
+              append_assoc so_far.answers taken_part.0 taken_part.1 ∙ ap (λ (l : List ℕ). so_far.answers ++ l) taken_part.3,
+            );
             failed = subst (λ (n : ℕ). RoseBy (n + 0) i k) (sym (failures_push so_far.acts act))
                 (rose_more (failures so_far.acts + failed_count act.outcome) 0 i k k (rose_more (failures so_far.acts) (failed_count act.outcome) i j k so_far.failed part.goes.cause) (omega arith));
           }

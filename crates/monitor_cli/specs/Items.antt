@@ -18,7 +18,7 @@ pub record ItemDone (tells : Type 0) (item : Item) (monitor after : Monitor) (sa
 pub record ItemCut (tells : Type 0) (item : Item) (monitor after : Monitor) (saved left : Saved) (taken took : List ℕ) (faults_before faults_now : ℕ) : Type 0 where
   pub text : List ℕ
   pub goes : ItemGoes tells item text faults_before faults_now monitor after saved left
-  pub takes : tells → (rest : List ℕ) × (took ++ rest ≡ taken ++ text)
+  pub takes : tells → (part : List ℕ) × (rest : List ℕ) × (took ≡ taken ++ part) × (part ++ rest ≡ text)
 
 -- why an item was not done: the files failed at a file line, the sink failed, or there was no memory
 abbrev pub ItemStops : Exit → Type 0 → Item → Monitor → Monitor → Saved → Saved → List ℕ → List ℕ → ℕ → ℕ → Type 0

@@ -38,10 +38,11 @@ HaltsBy (Exit.Fault object.Sink) left number m saved = Unit {0}
 HaltsBy Exit.OutOfMemory left number m saved = Unit {0}
 HaltsBy exit left number m saved = ⊥
 
--- the sink that failed took a part of the answers
-abbrev pub TakesBy : Exit → List ℕ → List ℕ → Type 0
-TakesBy (Exit.Fault object.Sink) answers taken = (rest : List ℕ) × (taken ++ rest ≡ answers)
-TakesBy exit answers taken = taken ≡ answers
+-- the sink took the answers behind what it had; where it failed, a front of them
+abbrev pub TakesBy : Exit → List ℕ → List ℕ → List ℕ → Type 0
+TakesBy (Exit.Fault object.Sink) before answers taken =
+    (part : List ℕ) × (rest : List ℕ) × (taken ≡ before ++ part) × (part ++ rest ≡ answers)
+TakesBy exit before answers taken = taken ≡ before ++ answers
 
 -- a replay that stopped at a line
 pub record Halted (exit : Exit) (came : List ℕ) (start : Machine) (before : List ℕ) (saved : Saved) (taken : List ℕ) (faults_before faults_now : ℕ) : Type 0 where
@@ -52,7 +53,7 @@ pub record Halted (exit : Exit) (came : List ℕ) (start : Machine) (before : Li
   pub lines : (more : List ℕ) → judged (came ++ more) ≡ map (λ act. Some act.item) acts ++ left more
   pub ran : Run acts start answers last
   pub halts : HaltsBy exit left (length acts + 1) last saved
-  pub takes : TakesBy exit (before ++ answers) taken
+  pub takes : TakesBy exit before answers taken
   pub failed : RoseBy (failures acts + stop_failures exit) faults_before faults_now
 
 -- no line is done any more: the guest is off, or no line is whole

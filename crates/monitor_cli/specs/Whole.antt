@@ -41,7 +41,7 @@ pub record EndedEarly (exit : Exit) (script : List ℕ) (start : Machine) (befor
   pub lines : judged_script script ≡ map (λ act. Some act.item) acts ++ left
   pub ran : Run acts start answers last
   pub early : EarlyBy exit left (length acts + 1) last saved
-  pub takes : TakesBy exit (before ++ answers) taken
+  pub takes : TakesBy exit before answers taken
   pub failed : RoseBy (failures acts + stop_failures exit) faults_before faults_now
 
 -- a fault is named only where that object's count rose

@@ -1,4 +1,4 @@
-use Rattle.std.proofs.Common.{ap, ◌∙◌, List, ℕ, ◌++◌, take, drop, append_assoc, take-append-drop}
+use Rattle.std.proofs.Common.{ap, ◌∙◌, List, ℕ, ◌++◌, take, drop, take-append-drop}
 use Rattle.monitor_cli.proofs.items.run_item.Goals as goal
 
 pub returns-in-Ok-write_all-clause-done : goal.returns-in-Ok-write_all-clause-done
@@ -22,9 +22,9 @@ returns-clause-stopped g c = record {
   };
   takes = λ tells.
       let part = c.write_all.ensures.part tells.1 in (
+        take part.0 c.as_slice.result.now,
         drop part.0 c.as_slice.result.now,
-        ap (λ (l : List ℕ). l ++ drop part.0 c.as_slice.result.now) part.2
-            ∙ append_assoc (g.K.Sink.taken c.args.sink.now) (take part.0 c.as_slice.result.now) (drop part.0 c.as_slice.result.now)
-            ∙ ap (λ (l : List ℕ). g.K.Sink.taken c.args.sink.now ++ l) (take-append-drop part.0 c.as_slice.result.now ∙ c.as_slice.ensures),
+        part.2,
+        take-append-drop part.0 c.as_slice.result.now ∙ c.as_slice.ensures,
       );
 }
