@@ -1,2 +1,4 @@
+pub mod Answering
 pub mod Goes
+pub mod Parts
 pub mod Reading

@@ -1,17 +1,25 @@
 //! The programs' commands: a script from a source, its answers to a sink, over any files.
 //!
-//! `run_script` reads and runs a whole script: the machine, the files and what the sink took are those of the
-//! flat machine's run over the script's lines, up to its end or to the line at which it ended, whose reason
-//! is told. `ScriptRun::run_lines` runs the lines that have come, and `run_item` one of them.
+//! `firecracker_main` judges a command's words and does it. `replay_main` is the one command so far: the status, the
+//! bytes that the sink took and what the files hold are those of the flat machine's run over the script's lines,
+//! and where a host object failed or memory was wanted, the answers so far and the reason. Read `top` first, then
+//! `replaying`, which joins a script's run (`script`, `lines`, `items`) and its ending.
 #![tactic(auto)]
 
+mod ending;
 mod items;
+mod last_line;
 mod lines;
+mod outside;
+mod replaying;
 mod script;
+mod top;
 
 pub use items::run_item;
 pub use lines::{Paused, ScriptRun};
+pub use outside::Outside;
 pub use script::run_script;
+pub use top::{firecracker_main, replay_main};
 
 #[cfg(test)]
 mod tests;

@@ -1,0 +1,19 @@
+-- What is written when a script is done.
+use Rattle.std.specs.Prelude.{◌≡◌, ℕ, List, ◌++◌}
+use Rattle.vm_types.specs.Causes.{Rose}
+use Rattle.vm_types.specs.declared.exit.Exit.{Exit}
+use Rattle.vm_types.specs.declared.exit.Object.TheVariants as object
+
+-- all of it; a front of it, where the sink failed; or nothing, for want of memory
+abbrev pub EndingBy : Exit → List ℕ → List ℕ → List ℕ → Type 0
+EndingBy Exit.Done text before taken = taken ≡ before ++ text
+EndingBy (Exit.Fault object.Sink) text before taken =
+    (part : List ℕ) × (rest : List ℕ) × (taken ≡ before ++ part) × (part ++ rest ≡ text)
+EndingBy Exit.OutOfMemory text before taken = taken ≡ before
+EndingBy exit text before taken = ⊥
+
+abbrev pub EndingCause : Exit → ℕ → ℕ → Type 0
+EndingCause Exit.Done before now = Unit {0}
+EndingCause (Exit.Fault object.Sink) before now = Rose before now
+EndingCause Exit.OutOfMemory before now = Unit {0}
+EndingCause exit before now = ⊥
