@@ -1,20 +1,10 @@
 // Whole scripts, replayed by the plain machine.
-mod golden;
-mod rows;
-
 use crate::{Replayed, replay_slowly};
+use script_cases::{Case, GOLDEN, ROWS};
 use std::alloc::Global;
 use std::process::Abort;
 use std::test::Fail;
-use vm_types::{ByteList, Exit, FileList, TextList};
-
-/// A script, what it writes, and how it ends.
-#[derive(Clone, Copy, Drop)]
-pub struct Case {
-    pub script: &'static str,
-    pub text: &'static str,
-    pub exit: Exit,
-}
+use vm_types::{ByteList, FileList, TextList};
 
 fn replay(alloc: Global, script: &str, files: FileList) -> Result<Replayed, Fail> {
     let id = TextList::copy_of(alloc, "anonymous-instance")?;
@@ -34,12 +24,12 @@ fn run_cases<R: Abort + AllocGlobal>(rt: &R, cases: &[Case]) -> Result<(), Fail>
 
 #[test]
 fn scripts_from_outside(rt: HostRuntime) -> Result<(), Fail> {
-    run_cases(&rt, &golden::CASES)
+    run_cases(&rt, &GOLDEN)
 }
 
 #[test]
 fn rows_worked_by_hand(rt: HostRuntime) -> Result<(), Fail> {
-    run_cases(&rt, &rows::CASES)
+    run_cases(&rt, &ROWS)
 }
 
 // What a machine of 4 MiB answers where its image has so many bytes.

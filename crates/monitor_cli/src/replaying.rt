@@ -29,12 +29,7 @@ pub fn replay<I: Source, O: Sink, F: Files>(
     ensures later_files { F.faults out.old.files ≤ F.faults out.new.files }
 {
     let mut run = ScriptRun::new(alloc, id);
-    if let Err(exit) = run_script(
-        &mut run,
-        &mut out.source,
-        &mut out.files,
-        &mut out.sink,
-    ) {
+    if let Err(exit) = run_script(&mut run, &mut out.source, &mut out.files, &mut out.sink) {
         return exit;
     }
     write_ending(alloc, &run.monitor, &mut out.sink)

@@ -7,7 +7,7 @@ use Rattle.monitor_cli.proofs.top.replay_default.Goals as goal
 pub returns-in-Ok-clause-answered : goal.returns-in-Ok-clause-answered
 returns-in-Ok-clause-answered g c = λ ti to tf.
     subst (λ (id : List ℕ). Answered c.replay.result (g.I.Source.left c.args.out.now.source) (new_machine id (g.F.Files.saved c.args.out.now.files)) (g.O.Sink.taken c.args.out.now.sink)
-        (g.O.Sink.taken c.replay.new.out.sink) (g.F.Files.saved c.replay.new.out.files) (g.F.Files.faults c.args.out.now.files) (g.F.Files.faults c.replay.new.out.files))
+    (g.O.Sink.taken c.replay.new.out.sink) (g.F.Files.saved c.replay.new.out.files) (g.F.Files.faults c.args.out.now.files) (g.F.Files.faults c.replay.new.out.files))
     c.in-Ok.ensures (c.replay.ensures.answered ti to tf)
 
 pub returns-in-Err-clause-answered : goal.returns-in-Err-clause-answered

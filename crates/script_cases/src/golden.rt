@@ -1,8 +1,8 @@
 // Twenty scripts with the output and the exit that another program gave them.
-use super::Case;
+use crate::case::Case;
 use vm_types::Exit;
 
-pub const CASES: [Case; 20] = [
+pub const GOLDEN: [Case; 20] = [
     Case {
         script: "\
 file aaaaaaaaaaaaaaaaaaaaaaaaaaaaaaaaaaaaaaaaaaaaaaaaaaaaaaaaaaaaaaaa 130500029308100073000000930fcef11305b0069308100073000000b760b0e41305d00d9308100073000000130510009308100073000000130580089308100073000000130550079308100073000000\n\

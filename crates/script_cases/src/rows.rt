@@ -1,8 +1,8 @@
 // Scripts that each show one thing, worked out by hand.
-use super::Case;
+use crate::case::Case;
 use vm_types::Exit;
 
-pub const CASES: [Case; 20] = [
+pub const ROWS: [Case; 20] = [
     // The first run: seven fetches and two acts on the board are nine events.
     Case {
         script: "\
