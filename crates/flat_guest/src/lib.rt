@@ -11,4 +11,4 @@ mod plain_guest;
 mod tests;
 
 pub use law::{one_step, some_step};
-pub use plain_guest::PlainGuest;
+pub use plain_guest::{MOST_MIB, PlainGuest};

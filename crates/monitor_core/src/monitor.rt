@@ -16,6 +16,7 @@ use crate::texts::{call_text, done_text, refused_text};
 use api_admission::{Config, Phase, Refusal, asks_files, refusal_of};
 use flat_guest::PlainGuest;
 use flat_machine::Outcome;
+use script_lines::{no_actor_line, not_running_line};
 use std::alloc::{AllocError, Global};
 use vm_outside::{Failed, Files};
 use vm_types::{ActorId, ApiCall, ByteList, Item, TextList, is_same_actor};
@@ -146,12 +147,12 @@ impl Monitor {
     {
         let is_hart = is_same_actor(actor, ActorId::Hart(0));
         match &mut self.guest {
-            None => Ok(ByteList::copy_of(self.alloc, b"? not running\n")?),
+            None => Ok(not_running_line(self.alloc)?),
             Some(guest) => if is_hart {
                 guest.run(count);
                 Ok(ByteList::new(self.alloc))
             } else {
-                Ok(ByteList::copy_of(self.alloc, b"? no actor\n")?)
+                Ok(no_actor_line(self.alloc)?)
             },
         }
     }

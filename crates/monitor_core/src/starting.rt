@@ -6,14 +6,11 @@ ghost use Rattle.vm_types.specs.Causes.{Rose};
 
 use crate::loading::{LoadError, load};
 use api_admission::{Config, Phase, Refusal, refusal_of};
-use flat_guest::PlainGuest;
+use flat_guest::{MOST_MIB, PlainGuest};
 use guest_memory::is_image_fit;
 use std::alloc::Global;
 use vm_outside::{Failed, Files};
 use vm_types::ApiCall;
-
-/// The most memory that a guest is given, in MiB: more than that is want of memory.
-const MOST_MIB: u64 = 1 << 20;
 
 /// What a start comes to: a guest, a refusal, a failed call on the files, or want of memory.
 #[derive(Drop)]
