@@ -25,8 +25,8 @@ pub const MOST_MIB: u64 = 1 << 20;
 
 const HART: ActorId = ActorId::Hart(0);
 
-// Where the device tree goes.
-fn tree_address(mem_size_mib: u64) -> u64
+/// Where the device tree goes, in a memory of so many MiB, at most `MOST_MIB`.
+pub fn tree_address(mem_size_mib: u64) -> u64
     requires high { mem_size_mib ≤ 2 ^ 20 }
     requires low { 1 ≤ mem_size_mib }
     ensures { result ≡ tree_start mem_size_mib }

@@ -9,12 +9,12 @@ ghost use Rattle.flat_machine.specs.Requests.{RequestStep};
 ghost use Rattle.flat_machine.specs.Run.{failed_count};
 ghost use Rattle.monitor_core.specs.Replying.{IsFailed, IsRefused};
 
+use crate::guest::Guest;
 use crate::item_error::ItemError;
 use crate::saving::save;
 use crate::starting::Started;
 use crate::texts::{call_text, done_text, refused_text};
 use api_admission::{Config, Phase, Refusal, asks_files, refusal_of};
-use flat_guest::PlainGuest;
 use flat_machine::Outcome;
 use script_lines::{no_actor_line, not_running_line};
 use std::alloc::{AllocError, Global};
@@ -27,7 +27,7 @@ pub struct Monitor {
     alloc: Global,
     id: TextList,
     config: Config,
-    guest: Option<PlainGuest>,
+    guest: Option<Guest>,
 }
 
 /// What an item writes, and how it went.
@@ -189,7 +189,7 @@ impl Monitor {
     {
         match &self.guest {
             None => false,
-            Some(guest) => guest.board.is_off(),
+            Some(guest) => guest.is_off(),
         }
     }
 
@@ -199,7 +199,7 @@ impl Monitor {
     {
         match &self.guest {
             None => &[],
-            Some(guest) => guest.board.console(),
+            Some(guest) => guest.console(),
         }
     }
 }
