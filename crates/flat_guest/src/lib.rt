@@ -11,4 +11,5 @@ mod plain_guest;
 mod tests;
 
 pub use law::{one_step, some_step};
-pub use plain_guest::PlainGuest;
+pub use place_of::place;
+pub use plain_guest::{MOST_MIB, PlainGuest, tree_address};

@@ -20,10 +20,13 @@ pub struct PlainGuest {
     ghost small: { length memory.bytes ≤ 2 ^ 40 },
 }
 
+/// The most memory that a guest is given, in MiB: 1 TiB.
+pub const MOST_MIB: u64 = 1 << 20;
+
 const HART: ActorId = ActorId::Hart(0);
 
-// Where the device tree goes.
-fn tree_address(mem_size_mib: u64) -> u64
+/// Where the device tree goes, in a memory of so many MiB, at most `MOST_MIB`.
+pub fn tree_address(mem_size_mib: u64) -> u64
     requires high { mem_size_mib ≤ 2 ^ 20 }
     requires low { 1 ≤ mem_size_mib }
     ensures { result ≡ tree_start mem_size_mib }
@@ -56,7 +59,7 @@ impl PlainGuest {
     ghost use Rattle.flat_guest.specs.Start.{started};
     ghost use Rattle.flat_guest.specs.Steps.{FlatStep, StepsBy, board_after, guest_after, memory_after};
 
-    /// The guest as a start makes it, with so many MiB of memory, at most 2^20, and this image.
+    /// The guest as a start makes it, with so many MiB of memory, at most `MOST_MIB`, and this image.
     pub fn start(alloc: Global, mem_size_mib: u64, image: &[u8]) -> Result<PlainGuest, AllocError>
         requires small { mem_size_mib ≤ 2 ^ 20 }
         requires fits { image_fits mem_size_mib (length image.now) ≡ true }

@@ -42,13 +42,14 @@ not_running p m actor count text is none writes =
     let nothing = no_guest p.guest m.guest is.guest_is none in
     (m, subst (λ (g : Option Guest). StepsLine g actor count m text m) (sym nothing) (writes, refl), is)
 
-hart_there : (g : Guest) (start : Regs) → g.starts ≡ start ∷ [] → is_actor g (ActorId.Hart 0) ≡ true
+-- the actors of a guest with one hart
+pub hart_there : (g : Guest) (start : Regs) → g.starts ≡ start ∷ [] → is_actor g (ActorId.Hart 0) ≡ true
 hart_there g start one = ap (λ (starts : List Regs). nat_lt 0 (length starts)) one
 
 past : (k : ℕ) → (k == 0) ≡ false → nat_lt k 1 ≡ false
 past k other = grind (arith, nat_tests)
 
-others_not : (g : Guest) (start : Regs) (actor : ActorId) → g.starts ≡ start ∷ [] → same_actor actor (ActorId.Hart 0) ≡ false → is_actor g actor ≡ false
+pub others_not : (g : Guest) (start : Regs) (actor : ActorId) → g.starts ≡ start ∷ [] → same_actor actor (ActorId.Hart 0) ≡ false → is_actor g actor ≡ false
 others_not g start (ActorId.Hart k) one other =
     let here : nat_lt k (length g.starts) ≡ nat_lt k 1 = ap (λ (starts : List Regs). nat_lt k (length starts)) one in
     here ∙ past k other

@@ -6,13 +6,10 @@ ghost use Rattle.api_admission.specs.Answers.{answer_of};
 ghost use Rattle.flat_machine.specs.Machine.{phase_by};
 
 use api_admission::{Answer, Config, Phase, answer_call, refusal_of};
-use flat_guest::PlainGuest;
-use script_lines::reply_line;
+use flat_guest::{MOST_MIB, PlainGuest};
+use script_lines::{no_actor_line, not_running_line, reply_line};
 use std::alloc::{AllocError, Global};
 use vm_types::{ActorId, ApiCall, ByteList, FileList, Item, TextList, is_same_actor};
-
-/// The most memory that the plain machine is given, in MiB: more than that is want of memory.
-const MOST_MIB: u64 = 1 << 20;
 
 /// Its id, configuration and files, and the guest once it has started.
 #[derive(Drop)]
@@ -67,7 +64,7 @@ impl PlainMachine {
         }
     }
 
-    // The guest that a start makes, where it isn't refused.
+    // The guest that a start makes, where it isn't refused. More memory than a guest is given is want of memory.
     fn started_guest(&self, phase: Phase) -> Result<PlainGuest, AllocError>
         requires { refusal_of ApiCall.InstanceStart (record {
           phase = phase;
@@ -148,12 +145,12 @@ impl PlainMachine {
     {
         let is_hart = is_same_actor(actor, ActorId::Hart(0));
         match &mut self.guest {
-            None => Ok(ByteList::copy_of(self.alloc, b"? not running\n")?),
+            None => Ok(not_running_line(self.alloc)?),
             Some(guest) => if is_hart {
                 guest.run(count);
                 Ok(ByteList::new(self.alloc))
             } else {
-                Ok(ByteList::copy_of(self.alloc, b"? no actor\n")?)
+                Ok(no_actor_line(self.alloc)?)
             },
         }
     }

@@ -10,6 +10,6 @@ mod rows;
 mod sbi;
 
 pub use instruction::{perform, wanted};
-pub use regs::{Regs, Turn, get, put, trap};
+pub use regs::{Regs, Turn, finish, get, put, trap};
 pub use rows::{Kind, decode};
 pub use sbi::{A0, A1};

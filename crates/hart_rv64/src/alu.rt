@@ -3,8 +3,7 @@ ghost use Rattle.std.specs.Prelude.{◌≡◌, ◌<◌, ◌+◌, ◌%◌, ◌^�
 ghost use Rattle.hart_rows.specs.Registers.{reg, with_reg, finished};
 ghost use Rattle.hart_rows.specs.Rows.{rd_of, rs1_of, sign_extended, upper_immediate, immediate};
 
-use crate::registers::finish;
-use hart_rows::{Regs, get, put};
+use hart_rows::{Regs, finish, get, put};
 
 fn rd(word: u32) -> usize
     ensures is { result ≡ rd_of word }

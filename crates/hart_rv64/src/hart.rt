@@ -11,12 +11,14 @@ ghost use Rattle.hart_rv64.specs.Asked.{op_of};
 use crate::alu::{addi, lui};
 use crate::decode::decode;
 use crate::hart_op::HartOp;
-use crate::registers::LOOK_EVERY;
 use crate::sbi::{Call, call_asks, call_ends, call_of, refuse};
 use crate::trap::{fetch_faults, illegal_word};
 use hart_rows::{A0, A1, Kind, Regs, Turn, get, put};
 use std::marker::Model;
 use vm_types::{Actor, Op, Reply, Shown};
+
+/// Instructions between two looks.
+const LOOK_EVERY: u64 = 32;
 
 /// A hart: its registers before an instruction, and the instruction's word from its fetch to the reply
 /// that ends it. Contracts see the state of the definition's hart (`hart_trace::Hart`).

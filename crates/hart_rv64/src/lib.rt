@@ -9,7 +9,6 @@ mod alu;
 mod decode;
 mod hart;
 mod hart_op;
-mod registers;
 mod sbi;
 mod trap;
 

@@ -6,8 +6,7 @@ ghost use Rattle.hart_trace.specs.States.{op_or_idle};
 ghost use Rattle.hart_rv64.specs.Asked.{op_of, does_call};
 
 use crate::hart_op::HartOp;
-use crate::registers::finish;
-use hart_rows::{A0, A1, Regs, get, put};
+use hart_rows::{A0, A1, Regs, finish, get, put};
 use vm_types::Reply;
 
 const A6: usize = 16;

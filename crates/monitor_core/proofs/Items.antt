@@ -1,5 +1,5 @@
 -- What an item makes of the monitor is what it makes of each machine that it is.
-use Rattle.std.proofs.Common.{◌≡◌, ℕ, ◌≤◌, arith, false, refl, sym, ap, subst, ◌∙◌, List, [], Some, None}
+use Rattle.std.proofs.Common.{◌≡◌, ℕ, ◌≤◌, arith, Bool, true, false, MatchBool, refl, sym, ap, subst, ◌∙◌, List, [], Option, Some, None}
 use Rattle.std.specs.FinMap.{insert}
 use Rattle.vm_types.specs.Causes.{RoseBy}
 use Rattle.vm_types.specs.Saved.{Saved}
@@ -9,35 +9,31 @@ use Rattle.vm_types.specs.declared.entry.Entry.{Entry}
 use Rattle.vm_types.specs.declared.item.ApiCall.{ApiCall}
 use Rattle.vm_types.specs.declared.item.Item.{Item}
 use Rattle.script_lines.specs.Output.{not_running_line, no_actor_line}
-use Rattle.flat_guest.specs.declared.plain_guest.PlainGuest.{PlainGuest}
-use Rattle.flat_guest.specs.Guest.{Guest}
+use Rattle.flat_guest.specs.Guest.{Guest, is_actor}
 use Rattle.flat_guest.specs.Plain.{IsGuest}
 use Rattle.flat_guest.specs.Steps.{StepsBy}
 use Rattle.flat_machine.specs.declared.outcome.Outcome.{Outcome}
 use Rattle.flat_machine.specs.declared.outcome.Outcome.TheVariants.{Answered}
-use Rattle.flat_machine.specs.declared.plain_machine.PlainMachine.{PlainMachine}
 use Rattle.flat_machine.specs.Machine.{Machine}
-use Rattle.flat_machine.specs.Items.{ItemStep, StepsLine}
-use Rattle.flat_machine.specs.Plain.{IsMachine}
-use Rattle.flat_machine.proofs.Going.{moves, no_actor, not_running, same_guest}
+use Rattle.flat_machine.specs.Items.{ItemStep, Moves, StepsLine}
+use Rattle.flat_machine.proofs.Going.{hart_there, others_not}
+use Rattle.monitor_core.specs.declared.guest.Guest as own
 use Rattle.monitor_core.specs.declared.monitor.Monitor.{Monitor}
-use Rattle.monitor_core.specs.State.{IsMonitor}
+use Rattle.monitor_core.specs.State.{IsGuestBy, IsMonitor}
 
--- the plain machine of the monitor's own data, over these files
-abbrev pub plain : Monitor → Saved → PlainMachine
-plain monitor saved = record {
-  alloc = monitor.alloc;
-  id = monitor.id;
-  config = monitor.config;
-  files = saved;
-  guest = monitor.guest;
-}
+no_guest : (p : Option own.Guest) (g : Option Guest) → IsGuestBy p g → p ≡ None → g ≡ None
+no_guest None None is none = refl
+no_guest (Some p) None is none = refl
+no_guest None (Some g) is none = absurd is
+no_guest (Some p) (Some g) is none = cc
 
-to_plain : (monitor : Monitor) (saved : Saved) (m : Machine) → IsMonitor monitor saved m → IsMachine (plain monitor saved) m
-to_plain monitor saved m is = record { id_is = is.id_is; config_is = is.config_is; files_is = is.files_is; guest_is = is.guest_is }
-
-of_plain : (monitor : Monitor) (saved : Saved) (m : Machine) → IsMachine (plain monitor saved) m → IsMonitor monitor saved m
-of_plain monitor saved m is = record { id_is = is.id_is; config_is = is.config_is; files_is = is.files_is; guest_is = is.guest_is }
+some_guest : (p : Option own.Guest) (q : own.Guest) (g : Option Guest) → IsGuestBy p g → p ≡ Some q → (h : Guest) × (g ≡ Some h) × IsGuest q.memory q.board q.hart h
+some_guest None q None is some = cc
+some_guest None q (Some g) is some = cc
+some_guest (Some p) q None is some = absurd is
+some_guest (Some p) q (Some g) is some =
+    let same : p ≡ q = cc in
+    (g, refl, subst (λ (x : own.Guest). IsGuest x.memory x.board x.hart g) same is)
 
 -- some machine that the monitor is after the step line
 abbrev pub Moved : ActorId → ℕ → Machine → List ℕ → Monitor → Saved → Type 0
@@ -45,23 +41,41 @@ Moved actor count m text after saved = (n : Machine) × StepsLine m.guest actor 
 
 pub step_refused : (monitor : Monitor) (saved : Saved) (m : Machine) (actor : ActorId) (count : ℕ) (text : List ℕ) → IsMonitor monitor saved m → monitor.guest ≡ None → text ≡ not_running_line → Moved actor count m text monitor saved
 step_refused monitor saved m actor count text is none writes =
-    let made = not_running (plain monitor saved) m actor count text (to_plain monitor saved m is) none writes in
-    (made.0, made.1, of_plain monitor saved made.0 made.2)
+    let nothing = no_guest monitor.guest m.guest is.guest_is none in
+    (m, subst (λ (g : Option Guest). StepsLine g actor count m text m) (sym nothing) (writes, refl), is)
 
-pub step_no_actor : (monitor : Monitor) (saved : Saved) (m : Machine) (guest : PlainGuest) (actor : ActorId) (count : ℕ) (text : List ℕ) → IsMonitor monitor saved m → monitor.guest ≡ Some guest → same_actor actor (ActorId.Hart 0) ≡ false → text ≡ no_actor_line
+pub step_no_actor : (monitor : Monitor) (saved : Saved) (m : Machine) (guest : own.Guest) (actor : ActorId) (count : ℕ) (text : List ℕ) → IsMonitor monitor saved m → monitor.guest ≡ Some guest → same_actor actor (ActorId.Hart 0) ≡ false → text ≡ no_actor_line
     → Moved actor count m text (record monitor { guest = Some guest }) saved
 step_no_actor monitor saved m guest actor count text is some other writes =
-    let after : Monitor = record monitor { guest = Some guest } in
-    let made = no_actor (plain after saved) m guest actor count text (same_guest (plain monitor saved) m guest (to_plain monitor saved m is) some) refl other writes in
-    (made.0, made.1, of_plain after saved made.0 made.2)
+    let h = some_guest monitor.guest guest m.guest is.guest_is some in
+    let hart = h.2.hart_is in
+    let none : is_actor h.0 actor ≡ false = others_not h.0 hart.0 actor hart.1 other in (
+      m,
+      subst (λ (g : Option Guest). StepsLine g actor count m text m) (sym h.1)
+          (subst (λ (b : Bool). MatchBool b (Moves h.0 actor count m text m) ((text ≡ no_actor_line) × (m ≡ m))) (sym none) (writes, refl)),
+      record {
+        id_is = is.id_is;
+        config_is = is.config_is;
+        files_is = is.files_is;
+        guest_is = subst (λ (p : Option own.Guest). IsGuestBy p m.guest) some is.guest_is;
+      },
+    )
 
-pub step_moves : (monitor : Monitor) (saved : Saved) (m : Machine) (guest left : PlainGuest) (actor : ActorId) (count : ℕ) (text : List ℕ) → IsMonitor monitor saved m → monitor.guest ≡ Some guest → actor ≡ ActorId.Hart 0 → text ≡ []
+pub step_moves : (monitor : Monitor) (saved : Saved) (m : Machine) (guest left : own.Guest) (actor : ActorId) (count : ℕ) (text : List ℕ) → IsMonitor monitor saved m → monitor.guest ≡ Some guest → actor ≡ ActorId.Hart 0 → text ≡ []
     → ((g : Guest) → IsGuest guest.memory guest.board guest.hart g → (es : List Entry) × (h : Guest) × StepsBy g (ActorId.Hart 0) count es h × IsGuest left.memory left.board left.hart h)
     → Moved actor count m text (record monitor { guest = Some left }) saved
 step_moves monitor saved m guest left actor count text is some hart quiet ran =
-    let after : Monitor = record monitor { guest = Some left } in
-    let made = moves (plain monitor saved) m guest left actor count text (to_plain monitor saved m is) some hart quiet ran in
-    (made.0, made.1, of_plain after saved made.0 made.2)
+    let g = some_guest monitor.guest guest m.guest is.guest_is some in
+    let made = ran g.0 g.2 in
+    let n : Machine = record m { guest = Some made.1 } in
+    let there : is_actor g.0 (ActorId.Hart 0) ≡ true = hart_there g.0 g.2.hart_is.0 g.2.hart_is.1 in
+    let moved : Moves g.0 (ActorId.Hart 0) count m text n = record { entries = made.0; end = made.1; made = made.2; quiet = quiet; leaves = refl } in (
+      n,
+      subst (λ (a : ActorId). StepsLine m.guest a count m text n) (sym hart)
+          (subst (λ (o : Option Guest). StepsLine o (ActorId.Hart 0) count m text n) (sym g.1)
+          (subst (λ (b : Bool). MatchBool b (Moves g.0 (ActorId.Hart 0) count m text n) ((text ≡ no_actor_line) × (n ≡ m))) (sym there) moved)),
+      record { id_is = is.id_is; config_is = is.config_is; files_is = is.files_is; guest_is = made.3 },
+    )
 
 -- some machine that the monitor is after the item
 abbrev pub Went : Item → Outcome → Machine → List ℕ → Monitor → Saved → Type 0

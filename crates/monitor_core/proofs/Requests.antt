@@ -11,20 +11,19 @@ use Rattle.api_admission.specs.declared.refusal.Refusal.TheVariants as refusal
 use Rattle.api_admission.specs.Admission.{Facts, asks_files, configured, first_refusal, has_started, is_fit_by, refusal_of}
 use Rattle.api_admission.specs.Answers.{answer_by, answer_of, refused}
 use Rattle.script_lines.specs.Output.{reply_line}
-use Rattle.flat_guest.specs.declared.plain_guest.PlainGuest.{PlainGuest}
 use Rattle.flat_guest.specs.Guest.{Guest}
 use Rattle.flat_guest.specs.Plain.{IsGuest}
 use Rattle.flat_guest.specs.Start.{started}
 use Rattle.flat_machine.specs.declared.outcome.Outcome.{Outcome}
 use Rattle.flat_machine.specs.declared.outcome.Outcome.TheVariants.{Answered, Failed, NoMemory}
 use Rattle.flat_machine.specs.Machine.{Machine, phase_by}
-use Rattle.flat_machine.specs.Plain.{IsGuestBy}
 use Rattle.flat_machine.specs.Requests.{RequestStep, after_by, facts_of, guest_by, guest_from}
+use Rattle.monitor_core.specs.declared.guest.Guest as own
 use Rattle.monitor_core.specs.declared.monitor.Monitor.{Monitor}
 use Rattle.monitor_core.specs.declared.starting.Started.{Started}
 use Rattle.monitor_core.specs.Replying.{IsFailed, IsRefused}
 use Rattle.monitor_core.specs.Starting.{StartGives, image_in, start_facts}
-use Rattle.monitor_core.specs.State.{IsMonitor}
+use Rattle.monitor_core.specs.State.{IsGuestBy, IsMonitor}
 
 -- some machine that the monitor is after the call
 abbrev pub Steps : Outcome → ApiCall → Machine → List ℕ → Monitor → Saved → Type 0
@@ -138,7 +137,7 @@ asked_start InstanceStart phase config asked =
     (refl, here.0, here.1)
 asked_start GetInstance phase config asked = cc
 
-start_made : (monitor : Monitor) (saved : Saved) (g : Option Guest) (guest : PlainGuest) (image text : List ℕ) → Phase.NotStarted ≡ phase_by g → refusal_of InstanceStart (start_facts monitor.config saved) ≡ None → image_in monitor.config saved ≡ Some image
+start_made : (monitor : Monitor) (saved : Saved) (g : Option Guest) (guest : own.Guest) (image text : List ℕ) → Phase.NotStarted ≡ phase_by g → refusal_of InstanceStart (start_facts monitor.config saved) ≡ None → image_in monitor.config saved ≡ Some image
     → IsGuest guest.memory guest.board guest.hart (started monitor.config.mem_size_mib image) → text ≡ reply_line (record { status = 204; body = None })
     → Steps Answered InstanceStart (this monitor saved g) text (record monitor { guest = Some guest }) saved
 start_made monitor saved g guest image text phase none there is writes =
@@ -185,7 +184,7 @@ asks_here monitor saved m is phase there =
     (subst (λ (c : Config). is_some c.kernel_image_path ≡ true) is.config_is there)
 
 -- the four ends of a start
-pub makes_guest : (call : ApiCall) (monitor : Monitor) (saved : Saved) (m : Machine) (phase : Phase) (guest : PlainGuest) (text : List ℕ) → IsMonitor monitor saved m → phase ≡ phase_by m.guest → asks_files call (facts phase monitor.config None) ≡ true → StartGives (Started.Guest guest) monitor.config saved
+pub makes_guest : (call : ApiCall) (monitor : Monitor) (saved : Saved) (m : Machine) (phase : Phase) (guest : own.Guest) (text : List ℕ) → IsMonitor monitor saved m → phase ≡ phase_by m.guest → asks_files call (facts phase monitor.config None) ≡ true → StartGives (Started.Guest guest) monitor.config saved
     → text ≡ reply_line (record { status = 204; body = None }) → Steps Answered call m text (record monitor { guest = Some guest }) saved
 makes_guest call monitor saved m phase guest text is here asked gives writes =
     let start = asked_start call phase monitor.config asked in

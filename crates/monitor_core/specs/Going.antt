@@ -1,9 +1,10 @@
 -- How an item goes, and why one is not answered.
-use Rattle.std.specs.Prelude.{ℕ, List}
+use Rattle.std.specs.Prelude.{◌≡◌, ℕ, List}
 use Rattle.vm_types.specs.Causes.{Rose, RoseBy}
 use Rattle.vm_types.specs.Saved.{Saved}
 use Rattle.vm_types.specs.declared.item.ApiCall.{ApiCall}
 use Rattle.vm_types.specs.declared.item.Item.{Item}
+use Rattle.vm_outside.specs.Filing.{SameOthers}
 use Rattle.flat_machine.specs.declared.outcome.Outcome.{Outcome}
 use Rattle.flat_machine.specs.Items.{ItemStep}
 use Rattle.flat_machine.specs.Machine.{Machine}
@@ -34,3 +35,8 @@ IsFile item = ⊥
 abbrev pub ItemCause : Item → ℕ → ℕ → ItemError → Type 0
 ItemCause item before now FilesFailed = IsFile item × Rose before now
 ItemCause item before now OutOfMemory = Unit {0}
+
+-- what an item that is not answered leaves of the files: a file line every other name, any other item all
+abbrev pub LeavesFiles : Item → Saved → Saved → Type 0
+LeavesFiles (Item.File name content) saved left = SameOthers saved name left
+LeavesFiles item saved left = left ≡ saved

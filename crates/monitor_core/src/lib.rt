@@ -2,9 +2,11 @@
 //!
 //! `LineReader` holds what came and was not given. `Monitor` takes an item at a time, over any files: each
 //! machine that it was takes the item as the flat machine does, or it is answered 500 or 503 and nothing
-//! changes. Memory, board and hart are the plain programs of the definitions, as a first body.
+//! changes. Its guest has a hart of its own (`hart_rv64`); memory and board are the plain programs of the
+//! definitions, as a first body.
 #![tactic(auto)]
 
+mod guest;
 mod item_error;
 mod line_reader;
 mod loading;
@@ -15,6 +17,7 @@ mod starting;
 mod tests;
 mod texts;
 
+pub use guest::Guest;
 pub use item_error::ItemError;
 pub use line_reader::{LineReader, Next};
 pub use monitor::Monitor;

@@ -45,11 +45,14 @@ impl LineReader {
         }
     }
 
-    /// Takes the next piece of the text. An `Err` changes nothing.
+    /// Takes the next piece of the text, and lets go of the lines that were given. An `Err` changes nothing
+    /// of what is held.
     pub fn feed(&mut self, piece: &[u8]) -> Result<(), AllocError>
         ensures ok { OnOk result (self.new ≡ self.old ++ piece.now) }
         ensures err { OnErr result (self.new ≡ self.old) }
     {
+        self.bytes.drain(..self.at);
+        self.at = 0;
         self.bytes.extend_from_slice(piece)
     }
 
@@ -77,3 +80,6 @@ fn first_of(alloc: Global, held: &[u8]) -> Result<(Next, usize), AllocError>
         },
     }
 }
+
+#[cfg(test)]
+mod tests;

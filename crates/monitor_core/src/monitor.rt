@@ -9,13 +9,14 @@ ghost use Rattle.flat_machine.specs.Requests.{RequestStep};
 ghost use Rattle.flat_machine.specs.Run.{failed_count};
 ghost use Rattle.monitor_core.specs.Replying.{IsFailed, IsRefused};
 
+use crate::guest::Guest;
 use crate::item_error::ItemError;
 use crate::saving::save;
 use crate::starting::Started;
 use crate::texts::{call_text, done_text, refused_text};
 use api_admission::{Config, Phase, Refusal, asks_files, refusal_of};
-use flat_guest::PlainGuest;
 use flat_machine::Outcome;
+use script_lines::{no_actor_line, not_running_line};
 use std::alloc::{AllocError, Global};
 use vm_outside::{Failed, Files};
 use vm_types::{ActorId, ApiCall, ByteList, Item, TextList, is_same_actor};
@@ -26,7 +27,7 @@ pub struct Monitor {
     alloc: Global,
     id: TextList,
     config: Config,
-    guest: Option<PlainGuest>,
+    guest: Option<Guest>,
 }
 
 /// What an item writes, and how it went.
@@ -50,7 +51,7 @@ impl Replied {
 
 impl Monitor {
     ghost use Rattle.api_admission.specs.Admission.{Facts, asks_files as asks_files_of};
-    ghost use Rattle.monitor_core.specs.Going.{ItemCause, ItemGoes, RequestGoes};
+    ghost use Rattle.monitor_core.specs.Going.{ItemCause, ItemGoes, LeavesFiles, RequestGoes};
     ghost use Rattle.flat_machine.specs.Items.{StepsLine};
     ghost use Rattle.monitor_core.specs.State.{IsMonitor};
 
@@ -79,6 +80,7 @@ impl Monitor {
     fn request<F: Files>(&mut self, call: ApiCall, files: &mut F) -> Result<Replied, AllocError>
         ensures went { IfOk result (λ r. F.tells files.old → RequestGoes call r.text r.outcome self.old (F.saved files.old) self.new (F.saved files.new)) }
         ensures cause { IfOk result (λ r. RoseBy (failed_count r.outcome) (F.faults files.old) (F.faults files.new)) }
+        ensures same { F.tells files.old → F.saved files.new ≡ F.saved files.old }
         ensures tells { F.tells files.old → F.tells files.new }
         ensures later { F.faults files.old ≤ F.faults files.new }
         ensures err { OnErr result (self.new ≡ self.old) }
@@ -120,6 +122,7 @@ impl Monitor {
         ensures went { IfOk result (λ r. F.tells files.old → (m : Machine) → IsMonitor self.old (F.saved files.old) m → phase ≡ phase_by m.guest →
             (n : Machine) × RequestStep r.outcome call m r.text n × IsMonitor self.new (F.saved files.new) n) }
         ensures cause { IfOk result (λ r. RoseBy (failed_count r.outcome) (F.faults files.old) (F.faults files.new)) }
+        ensures same { F.tells files.old → F.saved files.new ≡ F.saved files.old }
         ensures tells { F.tells files.old → F.tells files.new }
         ensures later { F.faults files.old ≤ F.faults files.new }
         ensures err { OnErr result (self.new ≡ self.old) }
@@ -146,18 +149,19 @@ impl Monitor {
     {
         let is_hart = is_same_actor(actor, ActorId::Hart(0));
         match &mut self.guest {
-            None => Ok(ByteList::copy_of(self.alloc, b"? not running\n")?),
+            None => Ok(not_running_line(self.alloc)?),
             Some(guest) => if is_hart {
                 guest.run(count);
                 Ok(ByteList::new(self.alloc))
             } else {
-                Ok(ByteList::copy_of(self.alloc, b"? no actor\n")?)
+                Ok(no_actor_line(self.alloc)?)
             },
         }
     }
 
     /// One item of a script, over these files: what it writes. A request that comes to a failed call on the
-    /// files, or has no memory, is answered so. An `Err` changes nothing of the machine's own.
+    /// files, or has no memory, is answered so. An `Err` changes nothing of the machine's own, and of the
+    /// files at most what a file line's own name holds.
     ///
     /// Errors: `FilesFailed` where a call on the files failed at a file line; `OutOfMemory` where there was
     /// no memory, not even for an answer that says so.
@@ -167,6 +171,7 @@ impl Monitor {
         ensures later { F.faults files.old ≤ F.faults files.new }
         ensures cause { IfErr result (λ why. ItemCause item (F.faults files.old) (F.faults files.new) why) }
         ensures err { OnErr result (self.new ≡ self.old) }
+        ensures files { OnErr result (F.tells files.old → LeavesFiles item (F.saved files.old) (F.saved files.new)) }
     {
         match item {
             Item::Nothing => Ok(ByteList::new(self.alloc)),
@@ -188,7 +193,7 @@ impl Monitor {
     {
         match &self.guest {
             None => false,
-            Some(guest) => guest.board.is_off(),
+            Some(guest) => guest.is_off(),
         }
     }
 
@@ -198,7 +203,7 @@ impl Monitor {
     {
         match &self.guest {
             None => &[],
-            Some(guest) => guest.board.console(),
+            Some(guest) => guest.console(),
         }
     }
 }

@@ -4,21 +4,19 @@ ghost use Rattle.flat_guest.specs.Plain.{IsGuest};
 ghost use Rattle.flat_guest.specs.Start.{started};
 ghost use Rattle.vm_types.specs.Causes.{Rose};
 
+use crate::guest::Guest;
 use crate::loading::{LoadError, load};
 use api_admission::{Config, Phase, Refusal, refusal_of};
-use flat_guest::PlainGuest;
+use flat_guest::MOST_MIB;
 use guest_memory::is_image_fit;
 use std::alloc::Global;
 use vm_outside::{Failed, Files};
 use vm_types::ApiCall;
 
-/// The most memory that a guest is given, in MiB: more than that is want of memory.
-const MOST_MIB: u64 = 1 << 20;
-
 /// What a start comes to: a guest, a refusal, a failed call on the files, or want of memory.
 #[derive(Drop)]
 pub enum Started {
-    Guest(PlainGuest),
+    Guest(Guest),
     Refused(Refusal),
     FilesFailed,
     NoMemory,
@@ -61,11 +59,11 @@ impl Started {
 }
 
 // The guest of this memory and image, if there is memory for it and the image fits.
-fn guest_of(alloc: Global, mem_size_mib: u64, image: &[u8]) -> Option<PlainGuest>
+fn guest_of(alloc: Global, mem_size_mib: u64, image: &[u8]) -> Option<Guest>
     ensures { IfSome result (λ guest. IsGuest guest.memory guest.board guest.hart (started mem_size_mib image.now)) }
 {
     if mem_size_mib > MOST_MIB || !is_image_fit(mem_size_mib, image.len() as u64) {
         return None;
     }
-    PlainGuest::start(alloc, mem_size_mib, image).ok()
+    Guest::start(alloc, mem_size_mib, image).ok()
 }

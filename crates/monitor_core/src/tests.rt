@@ -1,5 +1,6 @@
-// Lines that come in pieces, files, and the answers of the monitor to the byte.
+// Lines that come in pieces, files, the guest, and the answers of the monitor to the byte.
 mod files;
+mod guests;
 mod items;
 mod lines;
 mod scripts;

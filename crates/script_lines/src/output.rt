@@ -1,6 +1,6 @@
 // The lines that a run writes.
 ghost use Rattle.std.specs.Prelude.{◌≡◌, ◌++◌, ◌<◌, IfOk, OnOk};
-ghost use Rattle.script_lines.specs.Output.{body_part, console_line, hex_digit, last_line, reply_line, shown};
+ghost use Rattle.script_lines.specs.Output.{body_part, console_line, hex_digit, last_line, no_actor_line, not_running_line, reply_line, shown};
 
 use api_admission::Answer;
 use itoa::Buffer;
@@ -65,6 +65,20 @@ fn hex_digit(nibble: u8) -> u8
     } else {
         b'a' - 10 + nibble
     }
+}
+
+/// The line of a step line before the start.
+pub fn not_running_line(alloc: Global) -> Result<ByteList, AllocError>
+    ensures { IfOk result (λ line. line ≡ not_running_line) }
+{
+    Ok(ByteList::copy_of(alloc, b"? not running\n")?)
+}
+
+/// The line of a step line of an actor that there isn't.
+pub fn no_actor_line(alloc: Global) -> Result<ByteList, AllocError>
+    ensures { IfOk result (λ line. line ≡ no_actor_line) }
+{
+    Ok(ByteList::copy_of(alloc, b"? no actor\n")?)
 }
 
 /// The last line of a run that ended so. There is none where it is done, nor where the sink failed.
