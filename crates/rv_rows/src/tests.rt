@@ -257,7 +257,7 @@ fn one_word_of_each(rt: HostRuntime) {
         (0x1220_8073, "sfence.vma"),
     ];
     for (word, wanted) in words {
-        assert!(rt; name(word) == wanted, "at {word}: {wanted}");
+        assert!(rt; name(word) == wanted, "at {word}");
     }
 }
 
