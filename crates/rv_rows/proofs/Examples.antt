@@ -1,5 +1,5 @@
 -- The definitions at the manual's corner cases, worked out by hand.
-use Rattle.std.proofs.Common.{◌≡◌, ◌-◌, ◌+◌, ◌^◌, false, refl}
+use Rattle.std.proofs.Common.{◌≡◌, ◌-◌, ◌^◌, false, refl}
 use Rattle.rv_rows.specs.declared.register.Register.TheVariants.{X0, X1, X2, X3}
 use Rattle.rv_rows.specs.declared.alu.AluOp.TheVariants as AluOp
 use Rattle.rv_rows.specs.declared.alu.MulDivOp.TheVariants as MulDivOp

@@ -1,6 +1,5 @@
 -- The plain program's rows are the table's.
 use Rattle.std.proofs.Common.{◌≡◌, ℕ, Bool, true, false, cond, List, [], ◌∷◌, Option, Some, None, map, refl, sym, ap, ◌∙◌, eqb, bit_and}
-use Rattle.std.specs.Option.{option_map}
 use Rattle.rv_rows.specs.declared.table.Row.{Row}
 use Rattle.rv_rows.specs.declared.form.Form.{Form}
 use Rattle.rv_rows.specs.declared.instr.Instr.{Instr}
@@ -10,7 +9,7 @@ use Rattle.rv_rows.specs.Forms.{made, first_fit}
 
 -- the row of the table that a row of the program is
 abbrev pub line_of : Row → Line
-line_of row = record { mask = row.mask; matched = row.matched; instr = made row.form }
+line_of row = record { mask = row.0; matched = row.1; instr = made row.2 }
 
 abbrev pub made_of : ℕ → Option Form → Option Instr
 made_of word None = None
@@ -24,7 +23,7 @@ joined false form word x y e = e
 pub first_row-map : (rs : List Row) (word : ℕ) → first_row (map line_of rs) word ≡ made_of word (first_fit rs word)
 first_row-map [] word = refl
 first_row-map (row ∷ more) word =
-    joined (eqb (bit_and word row.mask) row.matched) row.form word _ _ (first_row-map more word)
+    joined (eqb (bit_and word row.0) row.1) row.2 word _ _ (first_row-map more word)
 
 -- row by row
 pub rows_are : map line_of ROWS ≡ rows

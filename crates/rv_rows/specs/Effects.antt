@@ -1,16 +1,12 @@
 -- What an instruction does, given its own address and the values of the two registers that it reads.
 use Rattle.std.specs.Prelude.{ℕ, ◌+◌, ◌*◌, ◌/◌, ◌%◌, ◌^◌, ◌==◌, if◌then◌else◌}
 use Rattle.rv_rows.specs.declared.register.Register.{Register}
-use Rattle.rv_rows.specs.declared.register.Register.TheVariants.{X0}
-use Rattle.rv_rows.specs.declared.memory.LoadKind.{LoadKind}
 use Rattle.rv_rows.specs.declared.csr.CsrOp.{CsrOp}
-use Rattle.rv_rows.specs.declared.csr.CsrOp.TheVariants as CsrOp
 use Rattle.rv_rows.specs.declared.csr.CsrAccess.{CsrAccess}
 use Rattle.rv_rows.specs.declared.csr.CsrAccess.TheVariants.{Read, Write, Set, Clear}
 use Rattle.rv_rows.specs.declared.exception.Exception.{Exception}
 use Rattle.rv_rows.specs.declared.exception.Exception.TheVariants.{InstructionMisaligned, Breakpoint, LoadMisaligned, StoreMisaligned}
 use Rattle.rv_rows.specs.declared.effect.Effect.{Effect}
-use Rattle.rv_rows.specs.declared.effect.Effect.TheVariants as Effect
 use Rattle.rv_rows.specs.declared.instr.Instr.{Instr}
 use Rattle.rv_rows.specs.declared.instr.Instr.TheVariants.{Lui, Auipc, Jal, Jalr, Branch, Load, Store, AluImm, Alu, MulDiv, LoadReserved, StoreConditional, Amo, Fence, FenceI, Ecall, Ebreak, Sret, Wfi, SfenceVma, Csr, CsrImm}
 use Rattle.rv_rows.specs.Registers.{number}

@@ -3,7 +3,6 @@ use Rattle.std.specs.Prelude.{ℕ, ◌==◌, if◌then◌else◌, List, [], ◌�
 use Rattle.rv_rows.specs.declared.instr.Instr.{Instr}
 use Rattle.rv_rows.specs.declared.instr.Instr.TheVariants.{Lui, Auipc, Jal, Jalr, Branch, Load, Store, AluImm, Alu, MulDiv, StoreConditional, Amo}
 use Rattle.rv_rows.specs.declared.form.Form.{Form}
-use Rattle.rv_rows.specs.declared.form.Form.TheVariants as Form
 use Rattle.rv_rows.specs.declared.table.Row.{Row}
 use Rattle.rv_rows.specs.Table.{r_type, i_type, s_type, b_type, u_type, j_type, shift, word_shift, lr_type, csr_type, csr_imm_type, plain}
 
@@ -31,4 +30,4 @@ made (Form.Plain instr) = plain instr
 -- the form of the first row that fits
 abbrev pub first_fit : List Row → ℕ → Option Form
 first_fit [] word = None
-first_fit (row ∷ more) word = if bit_and word row.mask == row.matched then Some row.form else first_fit more word
+first_fit (row ∷ more) word = if bit_and word row.0 == row.1 then Some row.2 else first_fit more word

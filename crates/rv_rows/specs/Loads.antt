@@ -1,11 +1,8 @@
 -- Sizes of accesses, and what a load puts into its register (unprivileged manual, 2.6 and 5.3).
 use Rattle.std.specs.Prelude.{ℕ, ◌*◌, ◌%◌, ◌^◌}
 use Rattle.rv_rows.specs.declared.memory.LoadKind.{LoadKind}
-use Rattle.rv_rows.specs.declared.memory.LoadKind.TheVariants as LoadKind
 use Rattle.rv_rows.specs.declared.memory.StoreSize.{StoreSize}
-use Rattle.rv_rows.specs.declared.memory.StoreSize.TheVariants as StoreSize
 use Rattle.rv_rows.specs.declared.memory.Width.{Width}
-use Rattle.rv_rows.specs.declared.memory.Width.TheVariants as Width
 use Rattle.rv_rows.specs.Numbers.{sign_extended}
 
 -- how many bytes each takes

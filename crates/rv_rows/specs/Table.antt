@@ -10,9 +10,7 @@ use Rattle.rv_rows.specs.declared.memory.LoadKind.TheVariants as LoadKind
 use Rattle.rv_rows.specs.declared.memory.StoreSize.TheVariants as StoreSize
 use Rattle.rv_rows.specs.declared.memory.AmoOp.TheVariants as AmoOp
 use Rattle.rv_rows.specs.declared.memory.Width.{Width}
-use Rattle.rv_rows.specs.declared.memory.Width.TheVariants as Width
 use Rattle.rv_rows.specs.declared.csr.CsrOp.{CsrOp}
-use Rattle.rv_rows.specs.declared.csr.CsrOp.TheVariants as CsrOp
 use Rattle.rv_rows.specs.declared.instr.Instr.{Instr}
 use Rattle.rv_rows.specs.declared.instr.Instr.TheVariants.{Lui, Auipc, Jal, Jalr, Branch, Load, Store, AluImm, Alu, MulDiv, LoadReserved, StoreConditional, Amo, Fence, FenceI, Ecall, Ebreak, Sret, Wfi, SfenceVma, Csr, CsrImm}
 use Rattle.rv_rows.specs.Fields.{rd_field, rs1_field, rs2_field, csr_field, csr_immediate, i_immediate, s_immediate, b_immediate, u_immediate, j_immediate, shift_amount, word_shift_amount}

@@ -10,514 +10,180 @@ use crate::form::{Form, instr};
 use crate::instr::Instr;
 use crate::memory::{AmoOp, LoadKind, StoreSize, Width};
 
-/// A row of the table: a word is of this form where its bits under the mask are those that must match.
+/// A row of the table, mask, match and form: a word is of this form where its bits under the mask are those that must
+/// match.
 #[derive(Clone, Copy, Debug, PartialEq, Eq, Drop)]
-struct Row {
-    mask: u32,
-    matched: u32,
-    form: Form,
-}
+struct Row(u32, u32, Form);
 
 const ROWS: [Row; 97] = [
     // RV32I and RV64I. FENCE takes any other fields.
-    Row {
-        mask: 0x0000_007f,
-        matched: 0x0000_0037,
-        form: Form::Lui,
-    },
-    Row {
-        mask: 0x0000_007f,
-        matched: 0x0000_0017,
-        form: Form::Auipc,
-    },
-    Row {
-        mask: 0x0000_007f,
-        matched: 0x0000_006f,
-        form: Form::Jal,
-    },
-    Row {
-        mask: 0x0000_707f,
-        matched: 0x0000_0067,
-        form: Form::Jalr,
-    },
-    Row {
-        mask: 0x0000_707f,
-        matched: 0x0000_0063,
-        form: Form::Branch(Test::Eq),
-    },
-    Row {
-        mask: 0x0000_707f,
-        matched: 0x0000_1063,
-        form: Form::Branch(Test::Ne),
-    },
-    Row {
-        mask: 0x0000_707f,
-        matched: 0x0000_4063,
-        form: Form::Branch(Test::Lt),
-    },
-    Row {
-        mask: 0x0000_707f,
-        matched: 0x0000_5063,
-        form: Form::Branch(Test::Ge),
-    },
-    Row {
-        mask: 0x0000_707f,
-        matched: 0x0000_6063,
-        form: Form::Branch(Test::Ltu),
-    },
-    Row {
-        mask: 0x0000_707f,
-        matched: 0x0000_7063,
-        form: Form::Branch(Test::Geu),
-    },
-    Row {
-        mask: 0x0000_707f,
-        matched: 0x0000_0003,
-        form: Form::Load(LoadKind::Byte),
-    },
-    Row {
-        mask: 0x0000_707f,
-        matched: 0x0000_1003,
-        form: Form::Load(LoadKind::Half),
-    },
-    Row {
-        mask: 0x0000_707f,
-        matched: 0x0000_2003,
-        form: Form::Load(LoadKind::Word),
-    },
-    Row {
-        mask: 0x0000_707f,
-        matched: 0x0000_3003,
-        form: Form::Load(LoadKind::Double),
-    },
-    Row {
-        mask: 0x0000_707f,
-        matched: 0x0000_4003,
-        form: Form::Load(LoadKind::ByteUnsigned),
-    },
-    Row {
-        mask: 0x0000_707f,
-        matched: 0x0000_5003,
-        form: Form::Load(LoadKind::HalfUnsigned),
-    },
-    Row {
-        mask: 0x0000_707f,
-        matched: 0x0000_6003,
-        form: Form::Load(LoadKind::WordUnsigned),
-    },
-    Row {
-        mask: 0x0000_707f,
-        matched: 0x0000_0023,
-        form: Form::Store(StoreSize::Byte),
-    },
-    Row {
-        mask: 0x0000_707f,
-        matched: 0x0000_1023,
-        form: Form::Store(StoreSize::Half),
-    },
-    Row {
-        mask: 0x0000_707f,
-        matched: 0x0000_2023,
-        form: Form::Store(StoreSize::Word),
-    },
-    Row {
-        mask: 0x0000_707f,
-        matched: 0x0000_3023,
-        form: Form::Store(StoreSize::Double),
-    },
-    Row {
-        mask: 0x0000_707f,
-        matched: 0x0000_0013,
-        form: Form::Immediate(AluOp::Add),
-    },
-    Row {
-        mask: 0x0000_707f,
-        matched: 0x0000_2013,
-        form: Form::Immediate(AluOp::Slt),
-    },
-    Row {
-        mask: 0x0000_707f,
-        matched: 0x0000_3013,
-        form: Form::Immediate(AluOp::Sltu),
-    },
-    Row {
-        mask: 0x0000_707f,
-        matched: 0x0000_4013,
-        form: Form::Immediate(AluOp::Xor),
-    },
-    Row {
-        mask: 0x0000_707f,
-        matched: 0x0000_6013,
-        form: Form::Immediate(AluOp::Or),
-    },
-    Row {
-        mask: 0x0000_707f,
-        matched: 0x0000_7013,
-        form: Form::Immediate(AluOp::And),
-    },
-    Row {
-        mask: 0xfc00_707f,
-        matched: 0x0000_1013,
-        form: Form::Shift(AluOp::Sll),
-    },
-    Row {
-        mask: 0xfc00_707f,
-        matched: 0x0000_5013,
-        form: Form::Shift(AluOp::Srl),
-    },
-    Row {
-        mask: 0xfc00_707f,
-        matched: 0x4000_5013,
-        form: Form::Shift(AluOp::Sra),
-    },
-    Row {
-        mask: 0xfe00_707f,
-        matched: 0x0000_0033,
-        form: Form::Alu(AluOp::Add),
-    },
-    Row {
-        mask: 0xfe00_707f,
-        matched: 0x4000_0033,
-        form: Form::Alu(AluOp::Sub),
-    },
-    Row {
-        mask: 0xfe00_707f,
-        matched: 0x0000_1033,
-        form: Form::Alu(AluOp::Sll),
-    },
-    Row {
-        mask: 0xfe00_707f,
-        matched: 0x0000_2033,
-        form: Form::Alu(AluOp::Slt),
-    },
-    Row {
-        mask: 0xfe00_707f,
-        matched: 0x0000_3033,
-        form: Form::Alu(AluOp::Sltu),
-    },
-    Row {
-        mask: 0xfe00_707f,
-        matched: 0x0000_4033,
-        form: Form::Alu(AluOp::Xor),
-    },
-    Row {
-        mask: 0xfe00_707f,
-        matched: 0x0000_5033,
-        form: Form::Alu(AluOp::Srl),
-    },
-    Row {
-        mask: 0xfe00_707f,
-        matched: 0x4000_5033,
-        form: Form::Alu(AluOp::Sra),
-    },
-    Row {
-        mask: 0xfe00_707f,
-        matched: 0x0000_6033,
-        form: Form::Alu(AluOp::Or),
-    },
-    Row {
-        mask: 0xfe00_707f,
-        matched: 0x0000_7033,
-        form: Form::Alu(AluOp::And),
-    },
-    Row {
-        mask: 0x0000_707f,
-        matched: 0x0000_001b,
-        form: Form::Immediate(AluOp::Addw),
-    },
-    Row {
-        mask: 0xfe00_707f,
-        matched: 0x0000_101b,
-        form: Form::WordShift(AluOp::Sllw),
-    },
-    Row {
-        mask: 0xfe00_707f,
-        matched: 0x0000_501b,
-        form: Form::WordShift(AluOp::Srlw),
-    },
-    Row {
-        mask: 0xfe00_707f,
-        matched: 0x4000_501b,
-        form: Form::WordShift(AluOp::Sraw),
-    },
-    Row {
-        mask: 0xfe00_707f,
-        matched: 0x0000_003b,
-        form: Form::Alu(AluOp::Addw),
-    },
-    Row {
-        mask: 0xfe00_707f,
-        matched: 0x4000_003b,
-        form: Form::Alu(AluOp::Subw),
-    },
-    Row {
-        mask: 0xfe00_707f,
-        matched: 0x0000_103b,
-        form: Form::Alu(AluOp::Sllw),
-    },
-    Row {
-        mask: 0xfe00_707f,
-        matched: 0x0000_503b,
-        form: Form::Alu(AluOp::Srlw),
-    },
-    Row {
-        mask: 0xfe00_707f,
-        matched: 0x4000_503b,
-        form: Form::Alu(AluOp::Sraw),
-    },
-    Row {
-        mask: 0x0000_707f,
-        matched: 0x0000_000f,
-        form: Form::Plain(Instr::Fence),
-    },
-    Row {
-        mask: 0xffff_ffff,
-        matched: 0x0000_0073,
-        form: Form::Plain(Instr::Ecall),
-    },
-    Row {
-        mask: 0xffff_ffff,
-        matched: 0x0010_0073,
-        form: Form::Plain(Instr::Ebreak),
-    },
+    Row(0x0000_007f, 0x0000_0037, Form::Lui),
+    Row(0x0000_007f, 0x0000_0017, Form::Auipc),
+    Row(0x0000_007f, 0x0000_006f, Form::Jal),
+    Row(0x0000_707f, 0x0000_0067, Form::Jalr),
+    Row(0x0000_707f, 0x0000_0063, Form::Branch(Test::Eq)),
+    Row(0x0000_707f, 0x0000_1063, Form::Branch(Test::Ne)),
+    Row(0x0000_707f, 0x0000_4063, Form::Branch(Test::Lt)),
+    Row(0x0000_707f, 0x0000_5063, Form::Branch(Test::Ge)),
+    Row(0x0000_707f, 0x0000_6063, Form::Branch(Test::Ltu)),
+    Row(0x0000_707f, 0x0000_7063, Form::Branch(Test::Geu)),
+    Row(0x0000_707f, 0x0000_0003, Form::Load(LoadKind::Byte)),
+    Row(0x0000_707f, 0x0000_1003, Form::Load(LoadKind::Half)),
+    Row(0x0000_707f, 0x0000_2003, Form::Load(LoadKind::Word)),
+    Row(0x0000_707f, 0x0000_3003, Form::Load(LoadKind::Double)),
+    Row(0x0000_707f, 0x0000_4003, Form::Load(LoadKind::ByteUnsigned)),
+    Row(0x0000_707f, 0x0000_5003, Form::Load(LoadKind::HalfUnsigned)),
+    Row(0x0000_707f, 0x0000_6003, Form::Load(LoadKind::WordUnsigned)),
+    Row(0x0000_707f, 0x0000_0023, Form::Store(StoreSize::Byte)),
+    Row(0x0000_707f, 0x0000_1023, Form::Store(StoreSize::Half)),
+    Row(0x0000_707f, 0x0000_2023, Form::Store(StoreSize::Word)),
+    Row(0x0000_707f, 0x0000_3023, Form::Store(StoreSize::Double)),
+    Row(0x0000_707f, 0x0000_0013, Form::Immediate(AluOp::Add)),
+    Row(0x0000_707f, 0x0000_2013, Form::Immediate(AluOp::Slt)),
+    Row(0x0000_707f, 0x0000_3013, Form::Immediate(AluOp::Sltu)),
+    Row(0x0000_707f, 0x0000_4013, Form::Immediate(AluOp::Xor)),
+    Row(0x0000_707f, 0x0000_6013, Form::Immediate(AluOp::Or)),
+    Row(0x0000_707f, 0x0000_7013, Form::Immediate(AluOp::And)),
+    Row(0xfc00_707f, 0x0000_1013, Form::Shift(AluOp::Sll)),
+    Row(0xfc00_707f, 0x0000_5013, Form::Shift(AluOp::Srl)),
+    Row(0xfc00_707f, 0x4000_5013, Form::Shift(AluOp::Sra)),
+    Row(0xfe00_707f, 0x0000_0033, Form::Alu(AluOp::Add)),
+    Row(0xfe00_707f, 0x4000_0033, Form::Alu(AluOp::Sub)),
+    Row(0xfe00_707f, 0x0000_1033, Form::Alu(AluOp::Sll)),
+    Row(0xfe00_707f, 0x0000_2033, Form::Alu(AluOp::Slt)),
+    Row(0xfe00_707f, 0x0000_3033, Form::Alu(AluOp::Sltu)),
+    Row(0xfe00_707f, 0x0000_4033, Form::Alu(AluOp::Xor)),
+    Row(0xfe00_707f, 0x0000_5033, Form::Alu(AluOp::Srl)),
+    Row(0xfe00_707f, 0x4000_5033, Form::Alu(AluOp::Sra)),
+    Row(0xfe00_707f, 0x0000_6033, Form::Alu(AluOp::Or)),
+    Row(0xfe00_707f, 0x0000_7033, Form::Alu(AluOp::And)),
+    Row(0x0000_707f, 0x0000_001b, Form::Immediate(AluOp::Addw)),
+    Row(0xfe00_707f, 0x0000_101b, Form::WordShift(AluOp::Sllw)),
+    Row(0xfe00_707f, 0x0000_501b, Form::WordShift(AluOp::Srlw)),
+    Row(0xfe00_707f, 0x4000_501b, Form::WordShift(AluOp::Sraw)),
+    Row(0xfe00_707f, 0x0000_003b, Form::Alu(AluOp::Addw)),
+    Row(0xfe00_707f, 0x4000_003b, Form::Alu(AluOp::Subw)),
+    Row(0xfe00_707f, 0x0000_103b, Form::Alu(AluOp::Sllw)),
+    Row(0xfe00_707f, 0x0000_503b, Form::Alu(AluOp::Srlw)),
+    Row(0xfe00_707f, 0x4000_503b, Form::Alu(AluOp::Sraw)),
+    Row(0x0000_707f, 0x0000_000f, Form::Plain(Instr::Fence)),
+    Row(0xffff_ffff, 0x0000_0073, Form::Plain(Instr::Ecall)),
+    Row(0xffff_ffff, 0x0010_0073, Form::Plain(Instr::Ebreak)),
     // Zifencei. FENCE.I takes any other fields.
-    Row {
-        mask: 0x0000_707f,
-        matched: 0x0000_100f,
-        form: Form::Plain(Instr::FenceI),
-    },
+    Row(0x0000_707f, 0x0000_100f, Form::Plain(Instr::FenceI)),
     // Zicsr
-    Row {
-        mask: 0x0000_707f,
-        matched: 0x0000_1073,
-        form: Form::Csr(CsrOp::Write),
-    },
-    Row {
-        mask: 0x0000_707f,
-        matched: 0x0000_2073,
-        form: Form::Csr(CsrOp::Set),
-    },
-    Row {
-        mask: 0x0000_707f,
-        matched: 0x0000_3073,
-        form: Form::Csr(CsrOp::Clear),
-    },
-    Row {
-        mask: 0x0000_707f,
-        matched: 0x0000_5073,
-        form: Form::CsrImm(CsrOp::Write),
-    },
-    Row {
-        mask: 0x0000_707f,
-        matched: 0x0000_6073,
-        form: Form::CsrImm(CsrOp::Set),
-    },
-    Row {
-        mask: 0x0000_707f,
-        matched: 0x0000_7073,
-        form: Form::CsrImm(CsrOp::Clear),
-    },
+    Row(0x0000_707f, 0x0000_1073, Form::Csr(CsrOp::Write)),
+    Row(0x0000_707f, 0x0000_2073, Form::Csr(CsrOp::Set)),
+    Row(0x0000_707f, 0x0000_3073, Form::Csr(CsrOp::Clear)),
+    Row(0x0000_707f, 0x0000_5073, Form::CsrImm(CsrOp::Write)),
+    Row(0x0000_707f, 0x0000_6073, Form::CsrImm(CsrOp::Set)),
+    Row(0x0000_707f, 0x0000_7073, Form::CsrImm(CsrOp::Clear)),
     // RV32M and RV64M
-    Row {
-        mask: 0xfe00_707f,
-        matched: 0x0200_0033,
-        form: Form::MulDiv(MulDivOp::Mul),
-    },
-    Row {
-        mask: 0xfe00_707f,
-        matched: 0x0200_1033,
-        form: Form::MulDiv(MulDivOp::Mulh),
-    },
-    Row {
-        mask: 0xfe00_707f,
-        matched: 0x0200_2033,
-        form: Form::MulDiv(MulDivOp::Mulhsu),
-    },
-    Row {
-        mask: 0xfe00_707f,
-        matched: 0x0200_3033,
-        form: Form::MulDiv(MulDivOp::Mulhu),
-    },
-    Row {
-        mask: 0xfe00_707f,
-        matched: 0x0200_4033,
-        form: Form::MulDiv(MulDivOp::Div),
-    },
-    Row {
-        mask: 0xfe00_707f,
-        matched: 0x0200_5033,
-        form: Form::MulDiv(MulDivOp::Divu),
-    },
-    Row {
-        mask: 0xfe00_707f,
-        matched: 0x0200_6033,
-        form: Form::MulDiv(MulDivOp::Rem),
-    },
-    Row {
-        mask: 0xfe00_707f,
-        matched: 0x0200_7033,
-        form: Form::MulDiv(MulDivOp::Remu),
-    },
-    Row {
-        mask: 0xfe00_707f,
-        matched: 0x0200_003b,
-        form: Form::MulDiv(MulDivOp::Mulw),
-    },
-    Row {
-        mask: 0xfe00_707f,
-        matched: 0x0200_403b,
-        form: Form::MulDiv(MulDivOp::Divw),
-    },
-    Row {
-        mask: 0xfe00_707f,
-        matched: 0x0200_503b,
-        form: Form::MulDiv(MulDivOp::Divuw),
-    },
-    Row {
-        mask: 0xfe00_707f,
-        matched: 0x0200_603b,
-        form: Form::MulDiv(MulDivOp::Remw),
-    },
-    Row {
-        mask: 0xfe00_707f,
-        matched: 0x0200_703b,
-        form: Form::MulDiv(MulDivOp::Remuw),
-    },
+    Row(0xfe00_707f, 0x0200_0033, Form::MulDiv(MulDivOp::Mul)),
+    Row(0xfe00_707f, 0x0200_1033, Form::MulDiv(MulDivOp::Mulh)),
+    Row(0xfe00_707f, 0x0200_2033, Form::MulDiv(MulDivOp::Mulhsu)),
+    Row(0xfe00_707f, 0x0200_3033, Form::MulDiv(MulDivOp::Mulhu)),
+    Row(0xfe00_707f, 0x0200_4033, Form::MulDiv(MulDivOp::Div)),
+    Row(0xfe00_707f, 0x0200_5033, Form::MulDiv(MulDivOp::Divu)),
+    Row(0xfe00_707f, 0x0200_6033, Form::MulDiv(MulDivOp::Rem)),
+    Row(0xfe00_707f, 0x0200_7033, Form::MulDiv(MulDivOp::Remu)),
+    Row(0xfe00_707f, 0x0200_003b, Form::MulDiv(MulDivOp::Mulw)),
+    Row(0xfe00_707f, 0x0200_403b, Form::MulDiv(MulDivOp::Divw)),
+    Row(0xfe00_707f, 0x0200_503b, Form::MulDiv(MulDivOp::Divuw)),
+    Row(0xfe00_707f, 0x0200_603b, Form::MulDiv(MulDivOp::Remw)),
+    Row(0xfe00_707f, 0x0200_703b, Form::MulDiv(MulDivOp::Remuw)),
     // RV32A and RV64A: aq and rl, bits 26 and 25, may be any, and LR wants rs2 to be 0
-    Row {
-        mask: 0xf9f0_707f,
-        matched: 0x1000_202f,
-        form: Form::LoadReserved(Width::Word),
-    },
-    Row {
-        mask: 0xf800_707f,
-        matched: 0x1800_202f,
-        form: Form::StoreConditional(Width::Word),
-    },
-    Row {
-        mask: 0xf800_707f,
-        matched: 0x0800_202f,
-        form: Form::Amo(AmoOp::Swap, Width::Word),
-    },
-    Row {
-        mask: 0xf800_707f,
-        matched: 0x0000_202f,
-        form: Form::Amo(AmoOp::Add, Width::Word),
-    },
-    Row {
-        mask: 0xf800_707f,
-        matched: 0x2000_202f,
-        form: Form::Amo(AmoOp::Xor, Width::Word),
-    },
-    Row {
-        mask: 0xf800_707f,
-        matched: 0x6000_202f,
-        form: Form::Amo(AmoOp::And, Width::Word),
-    },
-    Row {
-        mask: 0xf800_707f,
-        matched: 0x4000_202f,
-        form: Form::Amo(AmoOp::Or, Width::Word),
-    },
-    Row {
-        mask: 0xf800_707f,
-        matched: 0x8000_202f,
-        form: Form::Amo(AmoOp::Min, Width::Word),
-    },
-    Row {
-        mask: 0xf800_707f,
-        matched: 0xa000_202f,
-        form: Form::Amo(AmoOp::Max, Width::Word),
-    },
-    Row {
-        mask: 0xf800_707f,
-        matched: 0xc000_202f,
-        form: Form::Amo(AmoOp::Minu, Width::Word),
-    },
-    Row {
-        mask: 0xf800_707f,
-        matched: 0xe000_202f,
-        form: Form::Amo(AmoOp::Maxu, Width::Word),
-    },
-    Row {
-        mask: 0xf9f0_707f,
-        matched: 0x1000_302f,
-        form: Form::LoadReserved(Width::Double),
-    },
-    Row {
-        mask: 0xf800_707f,
-        matched: 0x1800_302f,
-        form: Form::StoreConditional(Width::Double),
-    },
-    Row {
-        mask: 0xf800_707f,
-        matched: 0x0800_302f,
-        form: Form::Amo(AmoOp::Swap, Width::Double),
-    },
-    Row {
-        mask: 0xf800_707f,
-        matched: 0x0000_302f,
-        form: Form::Amo(AmoOp::Add, Width::Double),
-    },
-    Row {
-        mask: 0xf800_707f,
-        matched: 0x2000_302f,
-        form: Form::Amo(AmoOp::Xor, Width::Double),
-    },
-    Row {
-        mask: 0xf800_707f,
-        matched: 0x6000_302f,
-        form: Form::Amo(AmoOp::And, Width::Double),
-    },
-    Row {
-        mask: 0xf800_707f,
-        matched: 0x4000_302f,
-        form: Form::Amo(AmoOp::Or, Width::Double),
-    },
-    Row {
-        mask: 0xf800_707f,
-        matched: 0x8000_302f,
-        form: Form::Amo(AmoOp::Min, Width::Double),
-    },
-    Row {
-        mask: 0xf800_707f,
-        matched: 0xa000_302f,
-        form: Form::Amo(AmoOp::Max, Width::Double),
-    },
-    Row {
-        mask: 0xf800_707f,
-        matched: 0xc000_302f,
-        form: Form::Amo(AmoOp::Minu, Width::Double),
-    },
-    Row {
-        mask: 0xf800_707f,
-        matched: 0xe000_302f,
-        form: Form::Amo(AmoOp::Maxu, Width::Double),
-    },
+    Row(0xf9f0_707f, 0x1000_202f, Form::LoadReserved(Width::Word)),
+    Row(
+        0xf800_707f,
+        0x1800_202f,
+        Form::StoreConditional(Width::Word),
+    ),
+    Row(
+        0xf800_707f,
+        0x0800_202f,
+        Form::Amo(AmoOp::Swap, Width::Word),
+    ),
+    Row(0xf800_707f, 0x0000_202f, Form::Amo(AmoOp::Add, Width::Word)),
+    Row(0xf800_707f, 0x2000_202f, Form::Amo(AmoOp::Xor, Width::Word)),
+    Row(0xf800_707f, 0x6000_202f, Form::Amo(AmoOp::And, Width::Word)),
+    Row(0xf800_707f, 0x4000_202f, Form::Amo(AmoOp::Or, Width::Word)),
+    Row(0xf800_707f, 0x8000_202f, Form::Amo(AmoOp::Min, Width::Word)),
+    Row(0xf800_707f, 0xa000_202f, Form::Amo(AmoOp::Max, Width::Word)),
+    Row(
+        0xf800_707f,
+        0xc000_202f,
+        Form::Amo(AmoOp::Minu, Width::Word),
+    ),
+    Row(
+        0xf800_707f,
+        0xe000_202f,
+        Form::Amo(AmoOp::Maxu, Width::Word),
+    ),
+    Row(0xf9f0_707f, 0x1000_302f, Form::LoadReserved(Width::Double)),
+    Row(
+        0xf800_707f,
+        0x1800_302f,
+        Form::StoreConditional(Width::Double),
+    ),
+    Row(
+        0xf800_707f,
+        0x0800_302f,
+        Form::Amo(AmoOp::Swap, Width::Double),
+    ),
+    Row(
+        0xf800_707f,
+        0x0000_302f,
+        Form::Amo(AmoOp::Add, Width::Double),
+    ),
+    Row(
+        0xf800_707f,
+        0x2000_302f,
+        Form::Amo(AmoOp::Xor, Width::Double),
+    ),
+    Row(
+        0xf800_707f,
+        0x6000_302f,
+        Form::Amo(AmoOp::And, Width::Double),
+    ),
+    Row(
+        0xf800_707f,
+        0x4000_302f,
+        Form::Amo(AmoOp::Or, Width::Double),
+    ),
+    Row(
+        0xf800_707f,
+        0x8000_302f,
+        Form::Amo(AmoOp::Min, Width::Double),
+    ),
+    Row(
+        0xf800_707f,
+        0xa000_302f,
+        Form::Amo(AmoOp::Max, Width::Double),
+    ),
+    Row(
+        0xf800_707f,
+        0xc000_302f,
+        Form::Amo(AmoOp::Minu, Width::Double),
+    ),
+    Row(
+        0xf800_707f,
+        0xe000_302f,
+        Form::Amo(AmoOp::Maxu, Width::Double),
+    ),
     // the privileged manual, supervisor part: SFENCE.VMA takes any rs1 and rs2, and wants rd to be 0
-    Row {
-        mask: 0xffff_ffff,
-        matched: 0x1020_0073,
-        form: Form::Plain(Instr::Sret),
-    },
-    Row {
-        mask: 0xffff_ffff,
-        matched: 0x1050_0073,
-        form: Form::Plain(Instr::Wfi),
-    },
-    Row {
-        mask: 0xfe00_7fff,
-        matched: 0x1200_0073,
-        form: Form::Plain(Instr::SfenceVma),
-    },
+    Row(0xffff_ffff, 0x1020_0073, Form::Plain(Instr::Sret)),
+    Row(0xffff_ffff, 0x1050_0073, Form::Plain(Instr::Wfi)),
+    Row(0xfe00_7fff, 0x1200_0073, Form::Plain(Instr::SfenceVma)),
 ];
 
 fn first(rows: &[Row], word: u32) -> Option<Form>
     ensures { result ≡ first_fit rows.now word }
 {
     for row in rows {
-        if word & row.mask == row.matched {
-            return Some(row.form);
+        let Row(mask, matched, form) = *row;
+        if word & mask == matched {
+            return Some(form);
         }
     }
     None

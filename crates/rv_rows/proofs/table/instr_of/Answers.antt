@@ -1,4 +1,4 @@
-use Rattle.std.proofs.Common.{◌≡◌, None, Some, sym, ◌∙◌}
+use Rattle.std.proofs.Common.{None, Some, sym, ◌∙◌}
 use Rattle.rv_rows.proofs.Rows.{found_is}
 use Rattle.rv_rows.proofs.table.instr_of.Goals as goal
 

@@ -1,5 +1,4 @@
 use Rattle.std.proofs.Common.{◌≡◌, ◌%◌, arith}
-use Rattle.rv_rows.specs.Registers.{register_of}
 use Rattle.rv_rows.proofs.register.Register.from_number.Goals as goal
 
 pub returns-in_default : goal.returns-in_default
