@@ -1,0 +1,13 @@
+pub mod Alu
+pub mod Amo
+pub mod Branches
+pub mod Effects
+pub mod Exceptions
+pub mod Fields
+pub mod Forms
+pub mod Loads
+pub mod MulDiv
+pub mod Numbers
+pub mod Registers
+pub mod Sources
+pub mod Table

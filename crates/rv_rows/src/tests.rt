@@ -1,0 +1,5 @@
+// What words are, by other assemblers and disassemblers.
+
+mod names;
+mod operands;
+mod words;
