@@ -1,12 +1,21 @@
-# The gate is `make test`. There is no program yet: `make build` and `make run` come to life with it.
+# `make run` builds the program and runs the first example; `make test` is the gate.
 
-.PHONY: test build run
+PROGRAM := $(CURDIR)/crates/firecracker/out/firecracker
+
+.PHONY: test build run examples
 
 test:
 	.ci/run
 
+# Proves and builds the program, with the empty script as its first run.
 build:
-	@echo "There is no program to build yet: the crates are libraries so far, which make test proves and tests."
+	cd crates/firecracker && rt run -- replay </dev/null
 
-run:
-	@echo "There is no program to run yet. Scripts are run by the tests of crates/flat_machine and crates/monitor_cli."
+# The script makes its kernel image as a file, so it is run in a folder of its own.
+run: build
+	folder=$$(mktemp -d) && cd "$$folder" && "$(PROGRAM)" replay <"$(CURDIR)/examples/first.script"; \
+	status=$$?; rm -rf "$$folder"; exit $$status
+
+# Every script in examples/, and the twenty in examples/golden/ whose output is from another program.
+examples: build
+	examples/check

@@ -74,61 +74,73 @@ module _ (script : List ℕ) (start : Machine) (before : List ℕ) (saved : Save
   early_answered (Exit.Fault object.Sink) taken early = record {
     acts = early.acts;
     answers = early.takes.0;
-    ended = record {
-      answers = early.answers;
-      last = early.last;
-      left = early.left;
-      lines = early.lines;
-      ran = early.ran;
-      failed = none_more (failures early.acts) i j early.failed;
-      rest = early.takes.1 ++ ending Exit.Done early.last;
-      writes = part_of early.takes.0 early.takes.1 early.answers (ending Exit.Done early.last) early.takes.3;
-    };
+    ended = (
+      record {
+        answers = early.answers;
+        last = early.last;
+        left = early.left;
+        lines = early.lines;
+        ran = early.ran;
+        failed = none_more (failures early.acts) i j early.failed;
+        rest = early.takes.1 ++ ending Exit.Done early.last;
+        writes = part_of early.takes.0 early.takes.1 early.answers (ending Exit.Done early.last) early.takes.3;
+      },
+      early.early,
+    );
     took = early.takes.2;
   }
   early_answered (Exit.Fault object.Source) taken early = record {
     acts = early.acts;
     answers = early.answers;
-    ended = record {
-      answers = early.answers;
-      last = early.last;
-      left = early.left;
-      lines = early.lines;
-      ran = early.ran;
-      failed = early.failed;
-      stops = early.early;
-      writes = refl;
-    };
+    ended = (
+      record {
+        answers = early.answers;
+        last = early.last;
+        left = early.left;
+        lines = early.lines;
+        ran = early.ran;
+        failed = early.failed;
+        stops = early.early.0;
+        writes = refl;
+      },
+      early.early.1,
+    );
     took = early.takes;
   }
   early_answered (Exit.Fault object.Files) taken early = record {
     acts = early.acts;
     answers = early.answers;
-    ended = record {
-      answers = early.answers;
-      last = early.last;
-      left = early.left;
-      lines = early.lines;
-      ran = early.ran;
-      failed = early.failed;
-      stops = early.early;
-      writes = refl;
-    };
+    ended = (
+      record {
+        answers = early.answers;
+        last = early.last;
+        left = early.left;
+        lines = early.lines;
+        ran = early.ran;
+        failed = early.failed;
+        stops = early.early.0;
+        writes = refl;
+      },
+      early.early.1,
+    );
     took = early.takes;
   }
   early_answered Exit.OutOfMemory taken early = record {
     acts = early.acts;
     answers = early.answers;
-    ended = record {
-      answers = early.answers;
-      last = early.last;
-      left = early.left;
-      lines = early.lines;
-      ran = early.ran;
-      failed = early.failed;
-      stops = early.early;
-      writes = refl;
-    };
+    ended = (
+      record {
+        answers = early.answers;
+        last = early.last;
+        left = early.left;
+        lines = early.lines;
+        ran = early.ran;
+        failed = early.failed;
+        stops = early.early.0;
+        writes = refl;
+      },
+      early.early.1,
+    );
     took = early.takes;
   }
   early_answered Exit.Done taken early = absurd early.early
@@ -159,32 +171,38 @@ module _ (script : List ℕ) (start : Machine) (before : List ℕ) (saved : Save
   finished_answered (Exit.Fault object.Sink) monitor taken took done wrote = record {
     acts = done.acts;
     answers = done.answers ++ wrote.0;
-    ended = record {
-      answers = done.answers;
-      last = done.last;
-      left = done.left;
-      lines = done.lines;
-      ran = done.ran;
-      failed = done.failed;
-      rest = wrote.1;
-      writes = ap (λ (l : List ℕ). l ++ wrote.1) (append-nil (done.answers ++ wrote.0)) ∙ append_assoc done.answers wrote.0 wrote.1
-          ∙ ap (λ (l : List ℕ). done.answers ++ l) wrote.3;
-    };
+    ended = (
+      record {
+        answers = done.answers;
+        last = done.last;
+        left = done.left;
+        lines = done.lines;
+        ran = done.ran;
+        failed = done.failed;
+        rest = wrote.1;
+        writes = ap (λ (l : List ℕ). l ++ wrote.1) (append-nil (done.answers ++ wrote.0)) ∙ append_assoc done.answers wrote.0 wrote.1
+            ∙ ap (λ (l : List ℕ). done.answers ++ l) wrote.3;
+      },
+      done.is.files_is,
+    );
     took = wrote.2 ∙ ap (λ (l : List ℕ). l ++ wrote.0) done.takes ∙ append_assoc before done.answers wrote.0;
   }
   finished_answered Exit.OutOfMemory monitor taken took done wrote = record {
     acts = done.acts;
     answers = done.answers;
-    ended = record {
-      answers = done.answers;
-      last = done.last;
-      left = done.left;
-      lines = done.lines;
-      ran = done.ran;
-      failed = none_less (failures done.acts) i j done.failed;
-      stops = tt;
-      writes = refl;
-    };
+    ended = (
+      record {
+        answers = done.answers;
+        last = done.last;
+        left = done.left;
+        lines = done.lines;
+        ran = done.ran;
+        failed = none_less (failures done.acts) i j done.failed;
+        stops = tt;
+        writes = refl;
+      },
+      done.is.files_is,
+    );
     took = wrote ∙ done.takes;
   }
   finished_answered (Exit.Fault object.Source) monitor taken took done wrote = absurd wrote
@@ -193,20 +211,23 @@ module _ (script : List ℕ) (start : Machine) (before : List ℕ) (saved : Save
   finished_answered Exit.Usage monitor taken took done wrote = absurd wrote
 
 -- there was no memory for anything
-pub nothing_answered : (script : List ℕ) (start : Machine) (before : List ℕ) (saved : Saved) (i : ℕ) → Answered Exit.OutOfMemory script start before before saved i i
-nothing_answered script start before saved i = record {
+pub nothing_answered : (script : List ℕ) (start : Machine) (before : List ℕ) (i : ℕ) → Answered Exit.OutOfMemory script start before before start.saved i i
+nothing_answered script start before i = record {
   acts = [];
   answers = [];
-  ended = record {
-    answers = [];
-    last = start;
-    left = judged_script script;
-    lines = refl;
-    ran = (refl, refl);
-    failed = omega arith;
-    stops = tt;
-    writes = refl;
-  };
+  ended = (
+    record {
+      answers = [];
+      last = start;
+      left = judged_script script;
+      lines = refl;
+      ran = (refl, refl);
+      failed = omega arith;
+      stops = tt;
+      writes = refl;
+    },
+    refl,
+  );
   took = sym (append-nil before);
 }
 
@@ -242,10 +263,10 @@ none_failed (suc n) k i j rose none = absurd (none (omega (arith, rose)))
 failed_by : (exit : Exit) (script : List ℕ) (start : Machine) (acts : List Act) (text : List ℕ) (saved : Saved) (i j : ℕ) → EndsAs exit script start acts text saved i j → (Rose i j → ⊥) → failures acts ≡ 0
 failed_by Exit.Done script start acts text saved i j ends none = none_failed (failures acts) 0 i j (none_less (failures acts) i j ends.replay.failed) none
 failed_by (Exit.Script line) script start acts text saved i j ends none = none_failed (failures acts) 0 i j (none_less (failures acts) i j ends.replay.failed) none
-failed_by (Exit.Fault object.Sink) script start acts text saved i j ends none = none_failed (failures acts) 0 i j (none_less (failures acts) i j ends.failed) none
-failed_by (Exit.Fault object.Source) script start acts text saved i j ends none = none_failed (failures acts) 0 i j ends.failed none
-failed_by (Exit.Fault object.Files) script start acts text saved i j ends none = none_failed (failures acts) 1 i j ends.failed none
-failed_by Exit.OutOfMemory script start acts text saved i j ends none = none_failed (failures acts) 0 i j ends.failed none
+failed_by (Exit.Fault object.Sink) script start acts text saved i j ends none = none_failed (failures acts) 0 i j (none_less (failures acts) i j ends.0.failed) none
+failed_by (Exit.Fault object.Source) script start acts text saved i j ends none = none_failed (failures acts) 0 i j ends.0.failed none
+failed_by (Exit.Fault object.Files) script start acts text saved i j ends none = none_failed (failures acts) 1 i j ends.0.failed none
+failed_by Exit.OutOfMemory script start acts text saved i j ends none = none_failed (failures acts) 0 i j ends.0.failed none
 failed_by Exit.Usage script start acts text saved i j ends none = ap failures ends.0
 
 later_rose : (i mid j : ℕ) → i ≤ mid → Rose mid j → Rose i j

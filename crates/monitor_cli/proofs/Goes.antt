@@ -1,5 +1,6 @@
 -- How a replay goes on by a line, and how it stops at one.
 use Rattle.std.proofs.Common.{◌≡◌, ℕ, ◌+◌, ◌≤◌, false, List, [], ◌∷◌, ◌++◌, length, map, Option, None, Some, refl, sym, ◌∙◌, ap, subst, append_assoc, arith}
+use Rattle.std.specs.FinMap.{get}
 use Rattle.std.proofs.lemmas.List.{append-nil}
 use Rattle.vm_types.specs.Causes.{RoseBy}
 use Rattle.vm_types.specs.Saved.{Saved}
@@ -12,9 +13,9 @@ use Rattle.flat_machine.specs.Machine.{Machine, is_off}
 use Rattle.flat_machine.specs.Run.{Act, Run, failed_count, failures}
 use Rattle.flat_machine.specs.Stops.{IsAtFile}
 use Rattle.monitor_core.specs.declared.monitor.Monitor.{Monitor}
-use Rattle.monitor_core.specs.Going.{IsFile}
+use Rattle.monitor_core.specs.Going.{IsFile, LeavesFiles}
 use Rattle.monitor_cli.specs.Items.{ItemCut, ItemDone, ItemStops}
-use Rattle.monitor_cli.specs.Lines.{Halted, Reached}
+use Rattle.monitor_cli.specs.Lines.{FilesAt, Halted, Reached}
 
 pub item_of : Act → Option Item
 item_of act = Some act.item
@@ -82,7 +83,7 @@ module _ (came : List ℕ) (start : Machine) (before held : List ℕ) (line : �
             left = λ more. judged (behind ++ more);
             lines = λ more. all more ∙ items_push so_far.acts act (judged (behind ++ more));
             ran = run_push so_far.acts act start so_far.last went.0 so_far.answers part.text so_far.ran on went.1;
-            halts = tt;
+            halts = went.2.files_is;
             takes = (
               so_far.answers ++ taken_part.0,
               taken_part.1,
@@ -99,6 +100,12 @@ module _ (came : List ℕ) (start : Machine) (before held : List ℕ) (line : �
       at_file (Item.Api call) lines is = absurd is
       at_file (Item.Step actor count) lines is = absurd is
 
+      files_at : (it : Item) (lines : List (Option Item)) (m : Machine) → saved ≡ m.saved → LeavesFiles it saved left → FilesAt (Some it ∷ lines) m left
+      files_at (Item.File name content) lines m is leaves = λ other others. leaves other others ∙ ap (λ (s : Saved). get s other) is
+      files_at Item.Nothing lines m is leaves = leaves ∙ is
+      files_at (Item.Api call) lines m is leaves = leaves ∙ is
+      files_at (Item.Step actor count) lines m is leaves = leaves ∙ is
+
       pub item_halted : (exit : Exit) → j ≤ k → ItemStops exit tells item monitor after saved left taken took j k → Halted exit came start before left took i k
       item_halted (Exit.Fault object.Files) later stops = record {
         acts = so_far.acts;
@@ -107,9 +114,9 @@ module _ (came : List ℕ) (start : Machine) (before held : List ℕ) (line : �
         left = λ more. Some item ∷ judged (behind ++ more);
         lines = all;
         ran = so_far.ran;
-        halts = (on, λ more. at_file item (judged (behind ++ more)) stops.0);
-        takes = stops.1 ∙ so_far.takes;
-        failed = rose_more (failures so_far.acts) 1 i j k so_far.failed stops.2;
+        halts = (on, λ more. (at_file item (judged (behind ++ more)) stops.0, files_at item (judged (behind ++ more)) so_far.last so_far.is.files_is (stops.1 told)));
+        takes = stops.2 ∙ so_far.takes;
+        failed = rose_more (failures so_far.acts) 1 i j k so_far.failed stops.3;
       }
       item_halted (Exit.Fault object.Sink) later stops = cut stops
       item_halted (Exit.Fault object.Source) later stops = absurd stops
@@ -120,8 +127,8 @@ module _ (came : List ℕ) (start : Machine) (before held : List ℕ) (line : �
         left = λ more. Some item ∷ judged (behind ++ more);
         lines = all;
         ran = so_far.ran;
-        halts = tt;
-        takes = stops ∙ so_far.takes;
+        halts = stops.0 told ∙ so_far.is.files_is;
+        takes = stops.1 ∙ so_far.takes;
         failed = rose_more (failures so_far.acts) 0 i j k so_far.failed (omega (arith, later));
       }
       item_halted Exit.Done later stops = absurd stops
@@ -151,7 +158,7 @@ module _ (came : List ℕ) (start : Machine) (before held : List ℕ) (line : �
     left = λ more. judged (held ++ more);
     lines = so_far.lines;
     ran = so_far.ran;
-    halts = tt;
+    halts = so_far.is.files_is;
     takes = so_far.takes;
     failed = rose_more (failures so_far.acts) 0 i j j so_far.failed (omega arith);
   }

@@ -16,7 +16,7 @@ use Rattle.flat_machine.specs.Replay.{judged_script, longest_script}
 use Rattle.flat_machine.specs.Run.{Act, failures}
 use Rattle.flat_machine.specs.Stops.{IsAtFile}
 use Rattle.monitor_core.specs.declared.monitor.Monitor.{Monitor}
-use Rattle.monitor_cli.specs.Lines.{Halted, HaltsBy, Reached}
+use Rattle.monitor_cli.specs.Lines.{FilesAt, Halted, HaltsBy, Reached}
 use Rattle.monitor_cli.specs.Whole.{EarlyBy, EndedEarly, Finished, PastBy}
 
 abbrev pub acted : List Act → List (Option Item)
@@ -85,14 +85,24 @@ module _ (script came left : List ℕ) (is : came ++ left ≡ script) (small : l
       file_there : (lines behind : List (Option Item)) → IsAtFile lines → IsAtFile (lines ++ behind)
       file_there lines behind at = (at.0, at.1, at.2 ++ behind, ap (λ (l : List (Option Item)). l ++ behind) at.3)
 
+      files_there : (lines behind : List (Option Item)) (m : Machine) (saved : Saved) → IsAtFile lines → FilesAt lines m saved → FilesAt (lines ++ behind) m saved
+      files_there [] behind m saved at files = cc at.3
+      files_there (None ∷ lines) behind m saved at files = files
+      files_there (Some (Item.File name content) ∷ lines) behind m saved at files = files
+      files_there (Some Item.Nothing ∷ lines) behind m saved at files = files
+      files_there (Some (Item.Api call) ∷ lines) behind m saved at files = files
+      files_there (Some (Item.Step actor count) ∷ lines) behind m saved at files = files
+
       early_by : (exit : Exit) (gives : List ℕ → List (Option Item)) (more : List ℕ) (behind : List (Option Item)) (number : ℕ) (m : Machine) (saved : Saved) → HaltsBy exit gives number m saved → EarlyBy exit (gives more ++ behind) number m saved
       early_by (Exit.Script line) gives more behind number m saved halts =
           let none = halts.3 more in
           ((halts.0, halts.1, none.0 ++ behind, ap (λ (l : List (Option Item)). l ++ behind) none.1), halts.2)
-      early_by (Exit.Fault object.Files) gives more behind number m saved halts = (halts.0, file_there (gives more) behind (halts.1 more))
-      early_by (Exit.Fault object.Sink) gives more behind number m saved halts = tt
+      early_by (Exit.Fault object.Files) gives more behind number m saved halts =
+          let there = halts.1 more in
+          ((halts.0, file_there (gives more) behind there.0), files_there (gives more) behind m saved there.0 there.1)
+      early_by (Exit.Fault object.Sink) gives more behind number m saved halts = halts
       early_by (Exit.Fault object.Source) gives more behind number m saved halts = absurd halts
-      early_by Exit.OutOfMemory gives more behind number m saved halts = tt
+      early_by Exit.OutOfMemory gives more behind number m saved halts = (tt, halts)
       early_by Exit.Done gives more behind number m saved halts = absurd halts
       early_by Exit.Usage gives more behind number m saved halts = absurd halts
 
@@ -146,7 +156,7 @@ module _ (script came left : List ℕ) (is : came ++ left ≡ script) (small : l
           left = judged (held ++ spreads.0) ++ spreads.1;
           lines = lines_so_far spreads.0 spreads.1 spreads.2;
           ran = reached.ran;
-          early = on;
+          early = (on, reached.is.files_is);
           takes = reached.takes;
           failed = rose_same (failures reached.acts) i j reached.failed;
         }
@@ -161,7 +171,7 @@ module _ (script came left : List ℕ) (is : came ++ left ≡ script) (small : l
           left = judged (held ++ spreads.0) ++ spreads.1;
           lines = lines_so_far spreads.0 spreads.1 spreads.2;
           ran = reached.ran;
-          early = tt;
+          early = (tt, reached.is.files_is);
           takes = reached.takes;
           failed = rose_same (failures reached.acts) i j reached.failed;
         }

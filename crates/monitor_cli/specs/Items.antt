@@ -6,7 +6,7 @@ use Rattle.vm_types.specs.declared.exit.Exit.{Exit}
 use Rattle.vm_types.specs.declared.exit.Object.TheVariants as object
 use Rattle.vm_types.specs.declared.item.Item.{Item}
 use Rattle.monitor_core.specs.declared.monitor.Monitor.{Monitor}
-use Rattle.monitor_core.specs.Going.{IsFile, ItemGoes}
+use Rattle.monitor_core.specs.Going.{IsFile, ItemGoes, LeavesFiles}
 
 -- an item that was done, with its text in the sink
 pub record ItemDone (tells : Type 0) (item : Item) (monitor after : Monitor) (saved left : Saved) (taken took : List ℕ) (faults_before faults_now : ℕ) : Type 0 where
@@ -23,10 +23,11 @@ pub record ItemCut (tells : Type 0) (item : Item) (monitor after : Monitor) (sav
 -- why an item was not done: the files failed at a file line, the sink failed, or there was no memory
 abbrev pub ItemStops : Exit → Type 0 → Item → Monitor → Monitor → Saved → Saved → List ℕ → List ℕ → ℕ → ℕ → Type 0
 ItemStops (Exit.Fault object.Files) tells item monitor after saved left taken took before now =
-    IsFile item × (took ≡ taken) × Rose before now
+    IsFile item × (tells → LeavesFiles item saved left) × (took ≡ taken) × Rose before now
 ItemStops (Exit.Fault object.Sink) tells item monitor after saved left taken took before now =
     ItemCut tells item monitor after saved left taken took before now
-ItemStops Exit.OutOfMemory tells item monitor after saved left taken took before now = took ≡ taken
+ItemStops Exit.OutOfMemory tells item monitor after saved left taken took before now =
+    (tells → left ≡ saved) × (took ≡ taken)
 ItemStops exit tells item monitor after saved left taken took before now = ⊥
 
 -- a fault is named only where that object's count rose

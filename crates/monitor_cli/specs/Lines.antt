@@ -5,6 +5,7 @@ use Rattle.vm_types.specs.Saved.{Saved}
 use Rattle.vm_types.specs.declared.exit.Exit.{Exit}
 use Rattle.vm_types.specs.declared.exit.Object.TheVariants as object
 use Rattle.vm_types.specs.declared.item.Item.{Item}
+use Rattle.vm_outside.specs.Filing.{SameOthers}
 use Rattle.script_lines.specs.Lines.{judged}
 use Rattle.flat_machine.specs.Machine.{Machine, is_off}
 use Rattle.flat_machine.specs.Run.{Act, Run, failures}
@@ -27,15 +28,20 @@ pub record Reached (came : List ℕ) (start : Machine) (before held : List ℕ) 
   pub takes : taken ≡ before ++ answers
   pub failed : RoseBy (failures acts) faults_before faults_now
 
--- why the next line is not done, whatever bytes come behind
+-- what the files hold where they failed at a file line: what the machine's do, but for that line's own name
+abbrev pub FilesAt : List (Option Item) → Machine → Saved → Type 0
+FilesAt (Some (Item.File name content) ∷ more) m saved = SameOthers m.saved name saved
+FilesAt left m saved = saved ≡ m.saved
+
+-- why the next line is not done, whatever bytes come behind, and what the files hold
 abbrev pub HaltsBy : Exit → (List ℕ → List (Option Item)) → ℕ → Machine → Saved → Type 0
 HaltsBy (Exit.Script line) left number m saved =
     (line ≡ number) × (is_off m ≡ false) × (saved ≡ m.saved)
     × ((more : List ℕ) → (behind : List (Option Item)) × (left more ≡ None ∷ behind))
 HaltsBy (Exit.Fault object.Files) left number m saved =
-    (is_off m ≡ false) × ((more : List ℕ) → IsAtFile (left more))
-HaltsBy (Exit.Fault object.Sink) left number m saved = Unit {0}
-HaltsBy Exit.OutOfMemory left number m saved = Unit {0}
+    (is_off m ≡ false) × ((more : List ℕ) → IsAtFile (left more) × FilesAt (left more) m saved)
+HaltsBy (Exit.Fault object.Sink) left number m saved = saved ≡ m.saved
+HaltsBy Exit.OutOfMemory left number m saved = saved ≡ m.saved
 HaltsBy exit left number m saved = ⊥
 
 -- the sink took the answers behind what it had; where it failed, a front of them

@@ -11,6 +11,7 @@ use Rattle.flat_machine.specs.Machine.{Machine}
 use Rattle.flat_machine.specs.Replay.{IsReplay, judged_script}
 use Rattle.flat_machine.specs.Run.{Act, all_answered, items_in, shortages}
 use Rattle.flat_machine.specs.Stops.{IsCutOff, IsStopped}
+use Rattle.monitor_cli.specs.Lines.{FilesAt}
 use Rattle.monitor_cli.specs.Taking.{TookText}
 
 -- the one command so far
@@ -28,10 +29,14 @@ pub record Ends (exit : Exit) (script : List ℕ) (start : Machine) (acts : List
 abbrev pub EndsAs : Exit → List ℕ → Machine → List Act → List ℕ → Saved → ℕ → ℕ → Type 0
 EndsAs Exit.Done script start acts text saved before now = Ends Exit.Done script start acts text saved before now
 EndsAs (Exit.Script line) script start acts text saved before now = Ends (Exit.Script line) script start acts text saved before now
-EndsAs (Exit.Fault object.Sink) script start acts text saved before now = IsCutOff script start acts text before now
-EndsAs (Exit.Fault object.Source) script start acts text saved before now = IsStopped script start acts (Exit.Fault object.Source) text before now
-EndsAs (Exit.Fault object.Files) script start acts text saved before now = IsStopped script start acts (Exit.Fault object.Files) text before now
-EndsAs Exit.OutOfMemory script start acts text saved before now = IsStopped script start acts Exit.OutOfMemory text before now
+EndsAs (Exit.Fault object.Sink) script start acts text saved before now =
+    (cut : IsCutOff script start acts text before now) × (saved ≡ cut.last.saved)
+EndsAs (Exit.Fault object.Source) script start acts text saved before now =
+    (stop : IsStopped script start acts (Exit.Fault object.Source) text before now) × (saved ≡ stop.last.saved)
+EndsAs (Exit.Fault object.Files) script start acts text saved before now =
+    (stop : IsStopped script start acts (Exit.Fault object.Files) text before now) × FilesAt stop.left stop.last saved
+EndsAs Exit.OutOfMemory script start acts text saved before now =
+    (stop : IsStopped script start acts Exit.OutOfMemory text before now) × (saved ≡ stop.last.saved)
 EndsAs Exit.Usage script start acts text saved before now = (acts ≡ []) × (text ≡ last_line Exit.Usage) × (saved ≡ start.saved)
 
 -- The answers of a replay, behind what the sink had; its last line is not written yet.

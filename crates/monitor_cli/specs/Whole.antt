@@ -11,7 +11,7 @@ use Rattle.flat_machine.specs.Run.{Act, Run, failures}
 use Rattle.flat_machine.specs.Stops.{StopsBy, stop_failures}
 use Rattle.monitor_core.specs.declared.monitor.Monitor.{Monitor}
 use Rattle.monitor_core.specs.State.{IsMonitor}
-use Rattle.monitor_cli.specs.Lines.{TakesBy}
+use Rattle.monitor_cli.specs.Lines.{FilesAt, TakesBy}
 
 -- no line is left, or the guest is off; the answers are written, and nothing behind them
 pub record Finished (script : List ℕ) (start : Machine) (before : List ℕ) (monitor : Monitor) (saved : Saved) (taken : List ℕ) (faults_before faults_now : ℕ) : Type 0 where
@@ -26,11 +26,12 @@ pub record Finished (script : List ℕ) (start : Machine) (before : List ℕ) (m
   pub takes : taken ≡ before ++ answers
   pub failed : RoseBy (failures acts) faults_before faults_now
 
--- why a run of a script ended before
+-- why a run of a script ended before, and what the files hold
 abbrev pub EarlyBy : Exit → List (Option Item) → ℕ → Machine → Saved → Type 0
 EarlyBy (Exit.Script line) left number m saved = EndsBy (Exit.Script line) left number m × (saved ≡ m.saved)
-EarlyBy (Exit.Fault object.Sink) left number m saved = Unit {0}
-EarlyBy exit left number m saved = StopsBy exit left m
+EarlyBy (Exit.Fault object.Sink) left number m saved = saved ≡ m.saved
+EarlyBy (Exit.Fault object.Files) left number m saved = StopsBy (Exit.Fault object.Files) left m × FilesAt left m saved
+EarlyBy exit left number m saved = StopsBy exit left m × (saved ≡ m.saved)
 
 -- it ended before, and its last line is not yet written
 pub record EndedEarly (exit : Exit) (script : List ℕ) (start : Machine) (before : List ℕ) (saved : Saved) (taken : List ℕ) (faults_before faults_now : ℕ) : Type 0 where

@@ -31,10 +31,10 @@ abbrev pub IsFile : Item → Type 0
 IsFile (Item.File name content) = Unit {0}
 IsFile item = ⊥
 
--- an item is not answered for want of memory, or where the files failed at a file line
+-- an item is not answered for want of memory, which a file line never meets, or where the files failed at a file line
 abbrev pub ItemCause : Item → ℕ → ℕ → ItemError → Type 0
 ItemCause item before now FilesFailed = IsFile item × Rose before now
-ItemCause item before now OutOfMemory = Unit {0}
+ItemCause item before now OutOfMemory = IsFile item → ⊥
 
 -- what an item that is not answered leaves of the files: a file line every other name, any other item all
 abbrev pub LeavesFiles : Item → Saved → Saved → Type 0

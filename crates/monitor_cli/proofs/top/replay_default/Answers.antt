@@ -11,4 +11,4 @@ returns-in-Ok-clause-answered g c = λ ti to tf.
     c.in-Ok.ensures (c.replay.ensures.answered ti to tf)
 
 pub returns-in-Err-clause-answered : goal.returns-in-Err-clause-answered
-returns-in-Err-clause-answered g c = λ ti to tf. nothing_answered _ _ _ _ _
+returns-in-Err-clause-answered g c = λ ti to tf. nothing_answered _ _ _ _
