@@ -2,112 +2,168 @@
 use crate::Folder;
 use crate::named_file::folder_of;
 use crate::tests::{folder_for, path_in};
+use std::alloc::AllocError;
 use std::os::fd::AsRawFd;
 use std::os::unix;
 use std::path::AsPath;
 use std::test::Fail;
-use std::{fs, io, rt};
+use std::{fs, io};
 use vm_outside::{Failed, Files};
 
-#[test]
-fn contents_come_back(rt: HostRuntime) -> Result<(), Fail> {
-    let folder = folder_for(&rt, rt.process(), "contents")?;
-    let name = path_in(rt.alloc(), folder.as_str(), "a")?;
-    let name = name.as_str();
-    let mut files = Folder::new(&rt);
-    assert_eq!(rt; files.make(name), Ok(()));
-    assert_eq!(rt; files.size(name), Ok(Some(0)));
-    assert_eq!(rt; files.write_at(name, 0, b"abcd"), Ok(()));
-    assert_eq!(rt; files.size(name), Ok(Some(4)));
-    let mut buf = [0; 2];
-    assert_eq!(rt; files.read_at(name, 1, &mut buf), Ok(()));
-    assert_eq!(rt; buf, *b"bc");
-    assert_eq!(rt; files.write_at(name, 2, b"XYZ"), Ok(()));
-    assert_eq!(rt; files.write_at(name, 0, b"-"), Ok(()));
-    assert_eq!(rt; files.sync(name), Ok(()));
-    assert_eq!(rt; fs::read(&rt, name)?.as_slice(), b"-bXYZ".as_slice());
-    assert_eq!(rt; files.make(name), Ok(()));
-    assert_eq!(rt; files.size(name), Ok(Some(0)));
-    assert_eq!(rt; files.faults(), 0);
-    fs::remove_dir_all(&rt, folder.as_str())?;
-    Ok(())
+enum Call<'a> {
+    Size,
+    /// At an offset, so many bytes, at most eight.
+    Read(u64, usize),
+    Write(u64, &'a [u8]),
+    Sync,
+    Make,
 }
 
-#[test]
-fn a_write_past_the_end_makes_zeros(rt: HostRuntime) -> Result<(), Fail> {
-    let folder = folder_for(&rt, rt.process(), "zeros")?;
-    let name = path_in(rt.alloc(), folder.as_str(), "a")?;
-    let name = name.as_str();
-    fs::write(&rt, name, "abc")?;
-    let mut files = Folder::new(&rt);
-    assert_eq!(rt; files.write_at(name, 5, b"d"), Ok(()));
-    assert_eq!(rt; files.write_at(name, 9, b""), Ok(()));
-    assert_eq!(rt; files.write_at(name, u64::MAX, b"e"), Err(Failed));
-    assert_eq!(rt; files.write_at(name, 1 << 63, b"e"), Err(Failed));
-    assert_eq!(rt; fs::read(&rt, name)?.as_slice(), b"abc\0\0d".as_slice());
-    assert_eq!(rt; files.faults(), 2);
-    fs::remove_dir_all(&rt, folder.as_str())?;
-    Ok(())
+const EACH: [Call<'_>; 5] = [
+    Call::Size,
+    Call::Read(0, 0),
+    Call::Write(0, b"a"),
+    Call::Sync,
+    Call::Make,
+];
+
+// A mark for what was done, or a cross.
+fn mark(done: Result<(), Failed>) -> u8 {
+    if done.is_ok() { b'.' } else { b'x' }
 }
 
-#[test]
-fn a_read_past_the_end_is_a_failure(rt: HostRuntime) -> Result<(), Fail> {
-    let folder = folder_for(&rt, rt.process(), "short")?;
-    let name = path_in(rt.alloc(), folder.as_str(), "a")?;
-    fs::write(&rt, name.as_str(), "abcd")?;
-    let mut files = Folder::new(&rt);
-    let mut buf = [0; 2];
-    let cases = [
-        (2, Ok(())),
-        (3, Err(Failed)),
-        (4, Err(Failed)),
-        (5, Err(Failed)),
-        (u64::MAX, Err(Failed)),
-    ];
-    for (at, done) in cases {
-        assert_eq!(rt; files.read_at(name.as_str(), at, &mut buf), done, "at {at}");
+// A size as a digit, and a dash for no file.
+fn digit(size: Result<Option<u64>, Failed>) -> u8 {
+    match size {
+        Ok(Some(size)) => b"0123456789"[(size % 10) as usize],
+        Ok(None) => b'-',
+        Err(Failed) => b'x',
     }
-    assert_eq!(rt; buf, *b"cd");
-    assert_eq!(rt; files.faults(), 4);
-    assert_eq!(rt; files.read_at(name.as_str(), 4, &mut []), Ok(()));
-    assert_eq!(rt; files.read_at(name.as_str(), 5, &mut []), Err(Failed));
-    fs::remove_dir_all(&rt, folder.as_str())?;
+}
+
+// The answer to one call, with the bytes that were read.
+fn answer<F: Files>(
+    seen: &mut Vec<u8>,
+    files: &mut F,
+    name: &str,
+    call: &Call<'_>,
+) -> Result<(), AllocError> {
+    let mut buf = [0; 8];
+    let byte = match call {
+        Call::Size => digit(files.size(name)),
+        Call::Read(at, count) => {
+            let buf = &mut buf[..(*count).min(8)];
+            let byte = mark(files.read_at(name, *at, buf));
+            seen.extend_from_slice(buf)?;
+            byte
+        }
+        Call::Write(at, bytes) => mark(files.write_at(name, *at, bytes)),
+        Call::Sync => mark(files.sync(name)),
+        Call::Make => mark(files.make(name)),
+    };
+    seen.push(byte)?;
     Ok(())
 }
 
-// Whether each of five calls was done.
-fn five_calls<R: rt::Files>(files: &mut Folder<'_, R>, name: &str) -> [bool; 5] {
-    [
-        files.size(name).is_ok(),
-        files.read_at(name, 0, &mut []).is_ok(),
-        files.write_at(name, 0, b"a").is_ok(),
-        files.sync(name).is_ok(),
-        files.make(name).is_ok(),
-    ]
+// The answers, each behind a bar.
+fn answers<F: Files>(
+    mut seen: Vec<u8>,
+    files: &mut F,
+    name: &str,
+    calls: &[Call<'_>],
+) -> Result<Vec<u8>, AllocError> {
+    for call in calls {
+        seen.push(b'|')?;
+        answer(&mut seen, files, name, call)?;
+    }
+    Ok(seen)
 }
 
+/// What the file holds before, if there is one, the calls and their answers, how many failed, and what
+/// it holds after them.
+struct Case<'a> {
+    before: Option<&'a str>,
+    calls: &'a [Call<'a>],
+    answers: &'a [u8],
+    faults: u64,
+    after: &'a [u8],
+}
+
+const CASES: [Case<'_>; 4] = [
+    Case {
+        before: None,
+        calls: &[
+            Call::Make,
+            Call::Size,
+            Call::Write(0, b"abcd"),
+            Call::Size,
+            Call::Read(1, 2),
+            Call::Make,
+            Call::Size,
+            Call::Write(0, b"abc"),
+            Call::Write(2, b"XYZ"),
+            Call::Write(0, b"-"),
+            Call::Sync,
+            Call::Read(0, 5),
+        ],
+        answers: b"|.|0|.|4|bc.|.|0|.|.|.|.|-bXYZ.",
+        faults: 0,
+        after: b"-bXYZ",
+    },
+    Case {
+        before: None,
+        calls: &EACH,
+        answers: b"|-|x|x|x|.",
+        faults: 3,
+        after: b"",
+    },
+    Case {
+        before: Some("abc"),
+        calls: &[
+            Call::Write(5, b"d"),
+            Call::Write(9, b""),
+            Call::Write(1 << 63, b"e"),
+            Call::Write(u64::MAX, b"e"),
+        ],
+        answers: b"|.|.|x|x",
+        faults: 2,
+        after: b"abc\0\0d",
+    },
+    Case {
+        before: Some("abcd"),
+        calls: &[
+            Call::Read(2, 2),
+            Call::Read(3, 2),
+            Call::Read(4, 2),
+            Call::Read(u64::MAX, 2),
+            Call::Read(4, 0),
+            Call::Read(5, 0),
+        ],
+        answers: b"|cd.|\0\0x|\0\0x|\0\0x|.|x",
+        faults: 4,
+        after: b"abcd",
+    },
+];
+
 #[test]
-fn where_nothing_is_there_a_file_can_be_made(rt: HostRuntime) -> Result<(), Fail> {
-    let folder = folder_for(&rt, rt.process(), "missing")?;
-    let name = path_in(rt.alloc(), folder.as_str(), "a")?;
-    let name = name.as_str();
-    let mut files = Folder::new(&rt);
-    assert_eq!(rt; files.size(name), Ok(None));
-    assert_eq!(rt;
-        five_calls(&mut files, name),
-        [true, false, false, false, true]
-    );
-    assert_eq!(rt; files.size(name), Ok(Some(0)));
-    assert_eq!(rt; files.faults(), 3);
-    // Nor is there a folder for this one.
-    let name = path_in(rt.alloc(), folder.as_str(), "b/c")?;
-    assert_eq!(rt; files.size(name.as_str()), Ok(None));
-    assert_eq!(rt;
-        five_calls(&mut files, name.as_str()),
-        [true, false, false, false, false]
-    );
-    assert_eq!(rt; files.faults(), 7);
-    fs::remove_dir_all(&rt, folder.as_str())?;
+fn a_real_file_answers_as_files_do(rt: HostRuntime) -> Result<(), Fail> {
+    let alloc = rt.alloc();
+    let folder = folder_for(&rt, rt.process(), "files")?;
+    let name = path_in(alloc, folder.as_str(), "a")?;
+    for case in &CASES {
+        if let Some(before) = case.before {
+            fs::write(&rt, name.as_str(), before)?;
+        }
+        let mut files = Folder::new(&rt);
+        let seen = answers(Vec::new(alloc), &mut files, name.as_str(), case.calls)?;
+        assert_eq!(rt;
+            (seen.as_slice(), files.faults()),
+            (case.answers, case.faults)
+        );
+        assert_eq!(rt; fs::read(&rt, name.as_str())?.as_slice(), case.after);
+        fs::remove_file(&rt, name.as_str())?;
+    }
+    fs::remove_dir(&rt, folder.as_str())?;
     Ok(())
 }
 
@@ -127,13 +183,16 @@ fn what_is_no_regular_file_is_a_failure(rt: HostRuntime) -> Result<(), Fail> {
         "/dev/null",
         "a\0b",
     ];
-    let mut files = Folder::new(&rt);
     for name in names {
-        assert_eq!(rt; five_calls(&mut files, name), [false; 5], "{name}");
+        let mut files = Folder::new(&rt);
+        let seen = answers(Vec::new(alloc), &mut files, name, &EACH)?;
+        assert_eq!(rt;
+            (seen.as_slice(), files.faults()),
+            (b"|x|x|x|x|x".as_slice(), 5),
+            "{name}"
+        );
     }
-    assert_eq!(rt; files.faults(), 25);
     drop(writer);
-    assert_eq!(rt; fs::read(&rt, file.as_str())?.as_slice(), b"abc".as_slice());
     fs::remove_dir_all(&rt, folder.as_str())?;
     Ok(())
 }
@@ -142,15 +201,12 @@ fn what_is_no_regular_file_is_a_failure(rt: HostRuntime) -> Result<(), Fail> {
 fn a_link_is_followed(rt: HostRuntime) -> Result<(), Fail> {
     let alloc = rt.alloc();
     let folder = folder_for(&rt, rt.process(), "link")?;
-    let file = path_in(alloc, folder.as_str(), "a")?;
     let link = path_in(alloc, folder.as_str(), "b")?;
     unix::fs::symlink(&rt, "a", link.as_str())?;
-    let mut files = Folder::new(&rt);
-    assert_eq!(rt; files.size(link.as_str()), Ok(None));
-    assert_eq!(rt; files.make(link.as_str()), Ok(()));
-    assert_eq!(rt; files.write_at(link.as_str(), 0, b"abc"), Ok(()));
-    assert_eq!(rt; files.size(file.as_str()), Ok(Some(3)));
-    assert_eq!(rt; files.faults(), 0);
+    let seen = answers(Vec::new(alloc), &mut Folder::new(&rt), link.as_str(), &EACH)?;
+    assert_eq!(rt; seen.as_slice(), b"|-|x|x|x|.".as_slice());
+    let file = path_in(alloc, folder.as_str(), "a")?;
+    assert_eq!(rt; fs::read(&rt, file.as_str())?.as_slice(), b"".as_slice());
     fs::remove_dir_all(&rt, folder.as_str())?;
     Ok(())
 }

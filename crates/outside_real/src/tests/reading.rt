@@ -36,8 +36,10 @@ fn a_file_comes_to_its_end(rt: HostRuntime) -> Result<(), Fail> {
     fs::write(&rt, name.as_str(), "abcde")?;
     let mut source = Reading::new(File::open(&rt, name.as_str())?);
     let seen = pieces(Vec::new(alloc), &mut source, 4)?;
-    assert_eq!(rt; seen.as_slice(), b"|abc|de||".as_slice());
-    assert_eq!(rt; source.faults(), 0);
+    assert_eq!(rt;
+        (seen.as_slice(), source.faults()),
+        (b"|abc|de||".as_slice(), 0)
+    );
     fs::remove_dir_all(&rt, folder.as_str())?;
     Ok(())
 }
@@ -50,8 +52,10 @@ fn a_pipe_comes_to_its_end(rt: HostRuntime) -> Result<(), Fail> {
     drop(writer);
     let mut source = Reading::new(reader);
     let seen = pieces(Vec::new(alloc), &mut source, 3)?;
-    assert_eq!(rt; seen.as_slice(), b"|abc|d|".as_slice());
-    assert_eq!(rt; source.faults(), 0);
+    assert_eq!(rt;
+        (seen.as_slice(), source.faults()),
+        (b"|abc|d|".as_slice(), 0)
+    );
     Ok(())
 }
 
@@ -60,8 +64,7 @@ fn a_folder_can_not_be_read(rt: HostRuntime) -> Result<(), Fail> {
     let folder = folder_for(&rt, rt.process(), "unreadable")?;
     let mut source = Reading::new(File::open(&rt, folder.as_str())?);
     let seen = pieces(Vec::new(rt.alloc()), &mut source, 2)?;
-    assert_eq!(rt; seen.as_slice(), b"xx".as_slice());
-    assert_eq!(rt; source.faults(), 2);
+    assert_eq!(rt; (seen.as_slice(), source.faults()), (b"xx".as_slice(), 2));
     fs::remove_dir_all(&rt, folder.as_str())?;
     Ok(())
 }
@@ -79,8 +82,10 @@ fn a_failure_is_counted_and_a_signal_is_not(rt: HostRuntime) -> Result<(), Fail>
     ];
     let mut source = Reading::new(FakeReader::new(&steps, b"abcdefg"));
     let seen = pieces(Vec::new(rt.alloc()), &mut source, 4)?;
-    assert_eq!(rt; seen.as_slice(), b"|abx|cde|".as_slice());
-    assert_eq!(rt; source.faults(), 1);
+    assert_eq!(rt;
+        (seen.as_slice(), source.faults()),
+        (b"|abx|cde|".as_slice(), 1)
+    );
     Ok(())
 }
 
@@ -94,8 +99,10 @@ fn a_read_that_signals_cut_off_is_made_100_times(rt: HostRuntime) -> Result<(), 
     ] {
         let mut reader = FakeReader::new(steps, b"a");
         let mut source = Reading::new(&mut reader);
-        assert_eq!(rt; source.read(&mut [0; 2]), count);
-        assert_eq!(rt; source.faults(), faults);
+        assert_eq!(rt;
+            (source.read(&mut [0; 2]), source.faults()),
+            (count, faults)
+        );
         assert_eq!(rt; reader.calls, calls);
     }
     Ok(())
