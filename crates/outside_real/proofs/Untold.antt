@@ -1,0 +1,10 @@
+-- What is said of an object's content, where it tells none.
+use Rattle.std.proofs.Common.{Result, Ok, Err, IfOk, IfErr}
+
+pub untold_ok : {T E : Type 0} (result : Result T E) (P : T → Type 0) → IfOk result (λ value. ⊥ → P value)
+untold_ok (Ok value) P = λ told. absurd told
+untold_ok (Err error) P = tt
+
+pub untold_err : {T E : Type 0} (result : Result T E) (P : E → Type 0) → IfErr result (λ error. ⊥ → P error)
+untold_err (Ok value) P = tt
+untold_err (Err error) P = λ told. absurd told

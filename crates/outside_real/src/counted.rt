@@ -1,0 +1,22 @@
+// From an answer of the system to one of the traits.
+ghost use Rattle.std.specs.Prelude.{◌≡◌, Ok, IfOk};
+ghost use Rattle.vm_types.specs.Causes.{HasCause};
+ghost use Rattle.outside_real.specs.Counting.{CountsFailure};
+
+use std::io;
+use vm_outside::Failed;
+
+/// Counts the failure, if it is one. Why it failed isn't kept.
+pub(crate) fn counted<T>(faults: &mut u64, done: io::Result<T>) -> Result<T, Failed>
+    ensures value { IfOk result (λ value. done ≡ Ok value) }
+    ensures counts { CountsFailure faults.old faults.new result }
+    ensures cause { HasCause faults.old faults.new result }
+{
+    match done {
+        Ok(value) => Ok(value),
+        Err(_) => {
+            *faults = faults.saturating_add(1);
+            Err(Failed)
+        }
+    }
+}

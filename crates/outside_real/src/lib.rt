@@ -1,0 +1,23 @@
+//! The objects of `vm_outside` over the real thing: input, output, and files by name.
+//!
+//! This is the trusted edge. No contract can say which bytes the system gave or took, so none of these
+//! tells its content: the contracts say that each call that failed is counted once, that no other call
+//! is, and that a sink takes at least one byte of a piece that isn't empty. That the right bytes come
+//! in and go out is tested, over real files.
+//!
+//! Read `reading`, `writing` and `folder`, one for each trait, then `named_file` with the calls on one
+//! file and `tries` with the calls that a signal may cut off.
+#![tactic(auto)]
+
+mod counted;
+mod folder;
+mod named_file;
+mod reading;
+#[cfg(test)]
+mod tests;
+mod tries;
+mod writing;
+
+pub use folder::Folder;
+pub use reading::Reading;
+pub use writing::Writing;

@@ -1,0 +1,71 @@
+// Calls on one file under its name. Each opens the file anew.
+//
+// What stands under the name is looked at before it is opened: opening a FIFO would wait for its other
+// end, and a device may act on being opened. Another program that puts one there between the two calls
+// isn't seen, since a file can't be opened without waiting.
+use crate::tries;
+use std::fs::{File, OpenFile, OpenOptions};
+use std::io::{ErrorKind, Seek, SeekFrom};
+use std::path::{AsPath, Path};
+use std::{fs, io, rt};
+
+/// The length of the file, where there is one. A directory or a special file is an error.
+pub(crate) fn length<R: rt::Files>(rt: &R, name: &str) -> io::Result<Option<u64>> {
+    match fs::metadata(rt, name) {
+        Ok(seen) if seen.is_file() => Ok(Some(seen.len())),
+        Ok(_) => Err(io::Error::from(ErrorKind::InvalidInput)),
+        Err(e) if e.kind() == ErrorKind::NotFound => Ok(None),
+        Err(e) => Err(e),
+    }
+}
+
+// The same, where there has to be a file.
+fn present<R: rt::Files>(rt: &R, name: &str) -> io::Result<u64> {
+    match length(rt, name)? {
+        Some(length) => Ok(length),
+        None => Err(io::Error::from(ErrorKind::NotFound)),
+    }
+}
+
+/// Fills the buffer from this offset.
+pub(crate) fn read_at<R: rt::Files>(rt: &R, name: &str, at: u64, buf: &mut [u8]) -> io::Result<()> {
+    let length = present(rt, name)?;
+    // Some files of the system's own have no length, and reading them waits.
+    match at.checked_add(buf.len() as u64) {
+        Some(end) if end <= length => {}
+        _ => return Err(io::Error::from(ErrorKind::UnexpectedEof)),
+    }
+    let mut file = File::open(rt, name)?;
+    file.seek(SeekFrom::Start(at))?;
+    tries::fill(&mut file, buf)
+}
+
+/// Writes all of the bytes at this offset. The system fills what lies between the old end and the
+/// offset with zeros.
+pub(crate) fn write_at<R: rt::Files>(rt: &R, name: &str, at: u64, bytes: &[u8]) -> io::Result<()> {
+    present(rt, name)?;
+    let mut file = OpenOptions::new().write(true).open(rt, name)?;
+    file.seek(SeekFrom::Start(at))?;
+    tries::write_whole(&mut file, bytes)
+}
+
+/// Has the file on its disk, and then its name in the folder, without which the file would be lost.
+pub(crate) fn sync<R: rt::Files>(rt: &R, name: &str) -> io::Result<()> {
+    present(rt, name)?;
+    File::open(rt, name)?.sync_all()?;
+    File::open(rt, folder_of(name))?.sync_all()
+}
+
+pub(crate) fn folder_of(name: &str) -> Path<'_> {
+    match Path::new(name).parent() {
+        Some(folder) if !folder.path_text().is_empty() => folder,
+        _ => Path::new("."),
+    }
+}
+
+/// Makes a file, or empties the one that is there.
+pub(crate) fn make<R: rt::Files>(rt: &R, name: &str) -> io::Result<()> {
+    length(rt, name)?;
+    File::create(rt, name)?;
+    Ok(())
+}
