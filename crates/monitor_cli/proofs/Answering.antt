@@ -143,8 +143,8 @@ module _ (script : List ℕ) (start : Machine) (before : List ℕ) (saved : Save
     );
     took = early.takes;
   }
-  early_answered Exit.Done taken early = absurd early.early
-  early_answered Exit.Usage taken early = absurd early.early
+  early_answered Exit.Done taken early = absurd early.early.0
+  early_answered Exit.Usage taken early = absurd early.early.0
 
   -- the script is done, and its ending is written so
   pub finished_answered : (exit : Exit) (monitor : Monitor) (taken took : List ℕ) → (done : Finished script start before monitor saved taken i j) → EndingBy exit (ending Exit.Done done.last) taken took → Answered exit script start before took saved i j

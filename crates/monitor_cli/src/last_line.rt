@@ -1,6 +1,6 @@
 // The last line of a run.
-ghost use Rattle.std.specs.Prelude.{◌≡◌, ◌++◌, OnOk};
-ghost use Rattle.vm_types.specs.Causes.{HasCause};
+ghost use Rattle.std.specs.Prelude.{◌≡◌, ◌++◌, ◌⊎◌, OnOk};
+ghost use Rattle.vm_types.specs.Causes.{HasCause, Rose};
 ghost use Rattle.script_lines.specs.Output.{last_line};
 ghost use Rattle.monitor_cli.specs.Taking.{TookPart};
 
@@ -27,6 +27,16 @@ pub fn write_last<K: Sink>(sink: &mut K, exit: Exit) -> Result<(), Failed>
         },
         Exit::OutOfMemory => write_part(sink, b". memory\n"),
     }
+}
+
+/// Ends so before a command is begun: writes the last line alone. A sink that fails at it changes nothing.
+pub fn refuse<K: Sink>(exit: Exit, sink: &mut K) -> Exit
+    ensures exit { result ≡ exit }
+    ensures part { K.tells sink.old → TookPart (last_line exit) (K.taken sink.old) (K.taken sink.new) }
+    ensures whole { K.tells sink.old → (K.taken sink.new ≡ K.taken sink.old ++ last_line exit) ⊎ Rose (K.faults sink.old) (K.faults sink.new) }
+{
+    let _ = write_last(sink, exit);
+    exit
 }
 
 fn write_script_line<K: Sink>(sink: &mut K, line: u64) -> Result<(), Failed>

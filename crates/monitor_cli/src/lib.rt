@@ -16,6 +16,7 @@ mod script;
 mod top;
 
 pub use items::run_item;
+pub use last_line::refuse;
 pub use lines::{Paused, ScriptRun};
 pub use outside::Outside;
 pub use script::run_script;
