@@ -13,7 +13,7 @@ use Rattle.flat_machine.specs.declared.outcome.Outcome.TheVariants.{Answered}
 use Rattle.flat_machine.specs.Machine.{Machine}
 use Rattle.flat_machine.specs.Requests.{RequestStep}
 
--- events of an actor that there is write nothing
+-- the events of an actor write nothing
 pub record Moves (g : Guest) (actor : ActorId) (count : ℕ) (m : Machine) (text : List ℕ) (n : Machine) : Type 0 where
   pub entries : List Entry
   pub end : Guest
@@ -27,7 +27,7 @@ StepsLine None actor count m text n = (text ≡ not_running_line) × (n ≡ m)
 StepsLine (Some g) actor count m text n =
     MatchBool (is_actor g actor) (Moves g actor count m text n) ((text ≡ no_actor_line) × (n ≡ m))
 
--- from m the item, gone so, writes the text and leaves n
+-- from m the item, which went so, writes the text and leaves n
 abbrev pub ItemStep : Item → Outcome → Machine → List ℕ → Machine → Type 0
 ItemStep Nothing outcome m text n = (outcome ≡ Answered) × (text ≡ []) × (n ≡ m)
 ItemStep (File name content) outcome m text n =

@@ -44,7 +44,7 @@ after_ending Done m = drained m
 after_ending exit m = m
 
 -- From the machine at the start a script's replay comes to this exit, writes this text and leaves this
--- machine, with its lines gone as these acts. Each act that was answered 500 was counted by the files.
+-- machine; its lines up to there are these acts. Each act that was answered 500 was counted by the files.
 pub record IsReplay (script : List ℕ) (start : Machine) (acts : List Act) (exit : Exit) (text : List ℕ) (end : Machine) (faults_before faults_now : ℕ) : Type 0 where
   pub answers : List ℕ
   pub last : Machine

@@ -1,13 +1,14 @@
 -- How a replay stops early: a host object's failure or want of memory ended it.
-use Rattle.std.specs.Prelude.{ℕ, ◌≡◌, ◌+◌, false, List, ◌∷◌, ◌++◌, map, Option, Some}
+use Rattle.std.specs.Prelude.{ℕ, ◌≡◌, ◌≢◌, ◌+◌, false, List, [], ◌∷◌, ◌++◌, length, map, Option, Some, ◌⊎◌}
 use Rattle.vm_types.specs.declared.item.Item.{Item}
 use Rattle.vm_types.specs.declared.item.Item.TheVariants.{File}
 use Rattle.vm_types.specs.declared.exit.Object.TheVariants as object
 use Rattle.vm_types.specs.declared.exit.Exit.{Exit}
 use Rattle.vm_types.specs.Causes.{RoseBy}
 use Rattle.script_lines.specs.Output.{last_line}
+use Rattle.flat_machine.specs.Items.{ItemStep}
 use Rattle.flat_machine.specs.Machine.{Machine, is_off}
-use Rattle.flat_machine.specs.Replay.{judged_script, ending}
+use Rattle.flat_machine.specs.Replay.{EndsBy, judged_script, ending}
 use Rattle.flat_machine.specs.Run.{Act, Run, failures}
 
 -- the next line is a file line
@@ -15,8 +16,8 @@ abbrev pub IsAtFile : List (Option Item) → Type 0
 IsAtFile left =
     (name : List ℕ) × (content : List ℕ) × (more : List (Option Item)) × (left ≡ Some (File name content) ∷ more)
 
--- where it stops: the files alone at a file line, whose failure is one more than those answered 500; the
--- source between two lines; want of memory anywhere
+-- where it stops: for the files alone at a file line, and that failure is one more than those answered 500; for the
+-- source before a line that did not come whole; for want of memory anywhere
 abbrev pub StopsBy : Exit → List (Option Item) → Machine → Type 0
 StopsBy (Exit.Fault object.Files) left m = (is_off m ≡ false) × IsAtFile left
 StopsBy (Exit.Fault object.Source) left m = is_off m ≡ false
@@ -38,13 +39,28 @@ pub record IsStopped (script : List ℕ) (start : Machine) (acts : List Act) (ex
   pub stops : StopsBy exit left last
   pub writes : text ≡ answers ++ last_line exit
 
--- The sink failed: what it took is a part of what the lines so far answer, which may end inside a line.
+-- What is being written when the sink fails: the text of the last act, behind those of the acts before it; or the
+-- ending, behind the texts of all acts, where the script is done.
+abbrev pub AtAct : Machine → List Act → List ℕ → List ℕ → Machine → Type 0
+AtAct start acts whole cut last =
+    (before : List Act) × (act : Act) × (mid : Machine) × (acts ≡ before ++ act ∷ [])
+    × Run before start whole mid × (is_off mid ≡ false) × ItemStep act.item act.outcome mid cut last
+
+abbrev pub AtEnding : Machine → List Act → List (Option Item) → List ℕ → List ℕ → Machine → Type 0
+AtEnding start acts left whole cut last =
+    Run acts start whole last × EndsBy Exit.Done left (length acts + 1) last × (cut ≡ ending Exit.Done last)
+
+-- The sink failed: it took every text before, and a front of one more but not all of it.
 pub record IsCutOff (script : List ℕ) (start : Machine) (acts : List Act) (text : List ℕ) (faults_before faults_now : ℕ) : Type 0 where
-  pub answers : List ℕ
+  pub whole : List ℕ
+  pub cut : List ℕ
   pub last : Machine
   pub left : List (Option Item)
   pub lines : judged_script script ≡ map (λ act. Some act.item) acts ++ left
-  pub ran : Run acts start answers last
+  pub writing : AtAct start acts whole cut last ⊎ AtEnding start acts left whole cut last
   pub failed : RoseBy (failures acts) faults_before faults_now
+  pub front : List ℕ
   pub rest : List ℕ
-  pub writes : text ++ rest ≡ answers ++ ending Exit.Done last
+  pub writes : text ≡ whole ++ front
+  pub parts : front ++ rest ≡ cut
+  pub lacks : rest ≢ []

@@ -18,7 +18,8 @@ use Rattle.monitor_core.specs.declared.monitor.Monitor.{Monitor}
 use Rattle.monitor_core.specs.State.{IsMonitor}
 use Rattle.monitor_cli.specs.Ending.{EndingBy}
 use Rattle.monitor_cli.specs.Lines.{Reached}
-use Rattle.monitor_cli.specs.Replay.{Answered, Ends, EndsAs, FaultBy, IsWellFormed, NoneRose, Replayed}
+use Rattle.monitor_cli.specs.Before.{BeforeLast, FaultBy}
+use Rattle.monitor_cli.specs.Replay.{Ends, EndsAs, IsWellFormed, NoneRose, Replayed}
 use Rattle.monitor_cli.specs.Taking.{TookPart, TookText}
 use Rattle.monitor_cli.specs.Whole.{EndedEarly, Finished}
 
@@ -44,13 +45,8 @@ none_more n i j rose = omega (arith, rose)
 none_less : (n i j : ℕ) → RoseBy n i j → RoseBy (n + 0) i j
 none_less n i j rose = omega (arith, rose)
 
--- a part, and behind it the rest and the ending
-part_of : (part rest answers end : List ℕ) → part ++ rest ≡ answers → (part ++ []) ++ (rest ++ end) ≡ answers ++ end
-part_of part rest answers end is =
-    ap (λ (l : List ℕ). l ++ (rest ++ end)) (append-nil part) ∙ sym (append_assoc part rest end) ∙ ap (λ (l : List ℕ). l ++ end) is
-
-module _ (script : List ℕ) (start : Machine) (before : List ℕ) (saved : Saved) (i j : ℕ) where
-  pub early_answered : (exit : Exit) (taken : List ℕ) → EndedEarly exit script start before saved taken i j → Answered exit script start before taken saved i j
+module _ (script rest : List ℕ) (start : Machine) (before : List ℕ) (saved : Saved) (i j : ℕ) where
+  pub early_answered : (exit : Exit) (taken : List ℕ) → EndedEarly exit script rest start before saved taken i j → BeforeLast exit script rest start before taken saved i j
   early_answered (Exit.Script line) taken early = record {
     acts = early.acts;
     answers = early.answers;
@@ -73,21 +69,25 @@ module _ (script : List ℕ) (start : Machine) (before : List ℕ) (saved : Save
   }
   early_answered (Exit.Fault object.Sink) taken early = record {
     acts = early.acts;
-    answers = early.takes.0;
+    answers = early.takes.0 ++ early.takes.3.front;
     ended = (
       record {
-        answers = early.answers;
+        whole = early.takes.0;
+        cut = early.takes.1;
         last = early.last;
         left = early.left;
         lines = early.lines;
-        ran = early.ran;
+        writing = inl early.takes.2;
         failed = none_more (failures early.acts) i j early.failed;
-        rest = early.takes.1 ++ ending Exit.Done early.last;
-        writes = part_of early.takes.0 early.takes.1 early.answers (ending Exit.Done early.last) early.takes.3;
+        front = early.takes.3.front;
+        rest = early.takes.3.rest;
+        writes = append-nil (early.takes.0 ++ early.takes.3.front);
+        parts = early.takes.3.parts;
+        lacks = early.takes.3.lacks;
       },
       early.early,
     );
-    took = early.takes.2;
+    took = early.takes.3.took ∙ append_assoc before early.takes.0 early.takes.3.front;
   }
   early_answered (Exit.Fault object.Source) taken early = record {
     acts = early.acts;
@@ -104,6 +104,7 @@ module _ (script : List ℕ) (start : Machine) (before : List ℕ) (saved : Save
         writes = refl;
       },
       early.early.1,
+      early.came,
     );
     took = early.takes;
   }
@@ -147,7 +148,7 @@ module _ (script : List ℕ) (start : Machine) (before : List ℕ) (saved : Save
   early_answered Exit.Usage taken early = absurd early.early.0
 
   -- the script is done, and its ending is written so
-  pub finished_answered : (exit : Exit) (monitor : Monitor) (taken took : List ℕ) → (done : Finished script start before monitor saved taken i j) → EndingBy exit (ending Exit.Done done.last) taken took → Answered exit script start before took saved i j
+  pub finished_answered : (exit : Exit) (monitor : Monitor) (taken took : List ℕ) → (done : Finished script start before monitor saved taken i j) → EndingBy exit (ending Exit.Done done.last) taken took → BeforeLast exit script rest start before took saved i j
   finished_answered Exit.Done monitor taken took done wrote = record {
     acts = done.acts;
     answers = done.answers ++ ending Exit.Done done.last;
@@ -170,22 +171,25 @@ module _ (script : List ℕ) (start : Machine) (before : List ℕ) (saved : Save
   }
   finished_answered (Exit.Fault object.Sink) monitor taken took done wrote = record {
     acts = done.acts;
-    answers = done.answers ++ wrote.0;
+    answers = done.answers ++ wrote.front;
     ended = (
       record {
-        answers = done.answers;
+        whole = done.answers;
+        cut = ending Exit.Done done.last;
         last = done.last;
         left = done.left;
         lines = done.lines;
-        ran = done.ran;
+        writing = inr (done.ran, done.ends, refl);
         failed = done.failed;
-        rest = wrote.1;
-        writes = ap (λ (l : List ℕ). l ++ wrote.1) (append-nil (done.answers ++ wrote.0)) ∙ append_assoc done.answers wrote.0 wrote.1
-            ∙ ap (λ (l : List ℕ). done.answers ++ l) wrote.3;
+        front = wrote.front;
+        rest = wrote.rest;
+        writes = append-nil (done.answers ++ wrote.front);
+        parts = wrote.parts;
+        lacks = wrote.lacks;
       },
       done.is.files_is,
     );
-    took = wrote.2 ∙ ap (λ (l : List ℕ). l ++ wrote.0) done.takes ∙ append_assoc before done.answers wrote.0;
+    took = wrote.took ∙ ap (λ (l : List ℕ). l ++ wrote.front) done.takes ∙ append_assoc before done.answers wrote.front;
   }
   finished_answered Exit.OutOfMemory monitor taken took done wrote = record {
     acts = done.acts;
@@ -211,7 +215,7 @@ module _ (script : List ℕ) (start : Machine) (before : List ℕ) (saved : Save
   finished_answered Exit.Usage monitor taken took done wrote = absurd wrote
 
 -- there was no memory for anything
-pub nothing_answered : (script : List ℕ) (start : Machine) (before : List ℕ) (i : ℕ) → Answered Exit.OutOfMemory script start before before start.saved i i
+pub nothing_answered : (script : List ℕ) (start : Machine) (before : List ℕ) (i : ℕ) → BeforeLast Exit.OutOfMemory script script start before before start.saved i i
 nothing_answered script start before i = record {
   acts = [];
   answers = [];
@@ -232,7 +236,7 @@ nothing_answered script start before i = record {
 }
 
 -- the words are no command
-pub usage_answered : (script : List ℕ) (start : Machine) (before : List ℕ) (i : ℕ) → Answered Exit.Usage script start before before start.saved i i
+pub usage_answered : (script : List ℕ) (start : Machine) (before : List ℕ) (i : ℕ) → BeforeLast Exit.Usage script script start before before start.saved i i
 usage_answered script start before i = record {
   acts = [];
   answers = [];
@@ -260,23 +264,23 @@ none_failed : (n k i j : ℕ) → RoseBy (n + k) i j → (Rose i j → ⊥) → 
 none_failed zero k i j rose none = refl
 none_failed (suc n) k i j rose none = absurd (none (omega (arith, rose)))
 
-failed_by : (exit : Exit) (script : List ℕ) (start : Machine) (acts : List Act) (text : List ℕ) (saved : Saved) (i j : ℕ) → EndsAs exit script start acts text saved i j → (Rose i j → ⊥) → failures acts ≡ 0
-failed_by Exit.Done script start acts text saved i j ends none = none_failed (failures acts) 0 i j (none_less (failures acts) i j ends.replay.failed) none
-failed_by (Exit.Script line) script start acts text saved i j ends none = none_failed (failures acts) 0 i j (none_less (failures acts) i j ends.replay.failed) none
-failed_by (Exit.Fault object.Sink) script start acts text saved i j ends none = none_failed (failures acts) 0 i j (none_less (failures acts) i j ends.0.failed) none
-failed_by (Exit.Fault object.Source) script start acts text saved i j ends none = none_failed (failures acts) 0 i j ends.0.failed none
-failed_by (Exit.Fault object.Files) script start acts text saved i j ends none = none_failed (failures acts) 1 i j ends.0.failed none
-failed_by Exit.OutOfMemory script start acts text saved i j ends none = none_failed (failures acts) 0 i j ends.0.failed none
-failed_by Exit.Usage script start acts text saved i j ends none = ap failures ends.0
+failed_by : (exit : Exit) (script rest : List ℕ) (start : Machine) (acts : List Act) (text : List ℕ) (saved : Saved) (i j : ℕ) → EndsAs exit script rest start acts text saved i j → (Rose i j → ⊥) → failures acts ≡ 0
+failed_by Exit.Done script rest start acts text saved i j ends none = none_failed (failures acts) 0 i j (none_less (failures acts) i j ends.replay.failed) none
+failed_by (Exit.Script line) script rest start acts text saved i j ends none = none_failed (failures acts) 0 i j (none_less (failures acts) i j ends.replay.failed) none
+failed_by (Exit.Fault object.Sink) script rest start acts text saved i j ends none = none_failed (failures acts) 0 i j (none_less (failures acts) i j ends.0.failed) none
+failed_by (Exit.Fault object.Source) script rest start acts text saved i j ends none = none_failed (failures acts) 0 i j ends.0.failed none
+failed_by (Exit.Fault object.Files) script rest start acts text saved i j ends none = none_failed (failures acts) 1 i j ends.0.failed none
+failed_by Exit.OutOfMemory script rest start acts text saved i j ends none = none_failed (failures acts) 0 i j ends.0.failed none
+failed_by Exit.Usage script rest start acts text saved i j ends none = ap failures ends.0
 
 later_rose : (i mid j : ℕ) → i ≤ mid → Rose mid j → Rose i j
 later_rose i mid j later rose = omega (arith, later, rose)
 
 -- the last line is written behind the answers, or a front of it
-pub replayed : (exit : Exit) (script : List ℕ) (start : Machine) (before taken took : List ℕ) (saved : Saved) (sink_before sink_mid sink_now i j : ℕ) {E : Type 0} (r : Result (Unit {0}) E) (tells : Type 0)
-    → tells → Answered exit script start before taken saved i j → OnOk r (tells → took ≡ taken ++ last_line exit) → TookPart (last_line exit) taken took → sink_before ≤ sink_mid → HasCause sink_mid sink_now r
-    → Replayed exit script start before took saved sink_before sink_now i j
-replayed exit script start before taken took saved sink_before sink_mid sink_now i j (Ok u) tells told answered all part later cause = record {
+pub replayed : (exit : Exit) (script rest : List ℕ) (start : Machine) (before taken took : List ℕ) (saved : Saved) (sink_before sink_mid sink_now i j : ℕ) {E : Type 0} (r : Result (Unit {0}) E) (tells : Type 0)
+    → tells → BeforeLast exit script rest start before taken saved i j → OnOk r (tells → took ≡ taken ++ last_line exit) → TookPart (last_line exit) taken took → sink_before ≤ sink_mid → HasCause sink_mid sink_now r
+    → Replayed exit script rest start before took saved sink_before sink_now i j
+replayed exit script rest start before taken took saved sink_before sink_mid sink_now i j (Ok u) tells told answered all part later cause = record {
   acts = answered.acts;
   text = answered.answers ++ last_line exit;
   ended = answered.ended;
@@ -288,9 +292,9 @@ replayed exit script start before taken took saved sink_before sink_mid sink_now
     short = omega arith;
     cause = inl refl;
   };
-  plain = λ none enough. all_by answered.acts (failed_by exit script start answered.acts (answered.answers ++ last_line exit) saved i j answered.ended none) enough;
+  plain = λ none enough. all_by answered.acts (failed_by exit script rest start answered.acts (answered.answers ++ last_line exit) saved i j answered.ended none) enough;
 }
-replayed exit script start before taken took saved sink_before sink_mid sink_now i j (Err e) tells told answered all part later cause = record {
+replayed exit script rest start before taken took saved sink_before sink_mid sink_now i j (Err e) tells told answered all part later cause = record {
   acts = answered.acts;
   text = answered.answers ++ last_line exit;
   ended = answered.ended;
@@ -303,7 +307,7 @@ replayed exit script start before taken took saved sink_before sink_mid sink_now
     short = omega (arith, length-drop {A = ℕ});
     cause = inr (later_rose sink_before sink_mid sink_now later cause.failed);
   };
-  plain = λ none enough. all_by answered.acts (failed_by exit script start answered.acts (answered.answers ++ last_line exit) saved i j answered.ended none) enough;
+  plain = λ none enough. all_by answered.acts (failed_by exit script rest start answered.acts (answered.answers ++ last_line exit) saved i j answered.ended none) enough;
 }
 
 abbrev behind : List (Option Item) → List (Option Item)
@@ -318,16 +322,16 @@ no_none (act ∷ acts) [] more is = cc is
 no_none (act ∷ acts) (item ∷ items) more is = no_none acts items more (ap behind is)
 
 -- a script of items with no failure comes to its end, or to want of memory
-pub complete : (exit : Exit) (script : List ℕ) (start : Machine) (before taken : List ℕ) (saved : Saved) (source source_now sink sink_mid files files_now : ℕ)
-    → exit ≢ Exit.Usage → Answered exit script start before taken saved files files_now → FaultBy exit source source_now sink sink_mid files files_now → IsWellFormed script
+pub complete : (exit : Exit) (script rest : List ℕ) (start : Machine) (before taken : List ℕ) (saved : Saved) (source source_now sink sink_mid files files_now : ℕ)
+    → exit ≢ Exit.Usage → BeforeLast exit script rest start before taken saved files files_now → FaultBy exit source source_now sink sink_mid files files_now → IsWellFormed script
     → (sink_now : ℕ) → sink_mid ≤ sink_now → NoneRose source source_now sink sink_now files files_now → (exit ≡ Exit.Done) ⊎ (exit ≡ Exit.OutOfMemory)
-complete Exit.Done script start before taken saved source source_now sink sink_mid files files_now command answered fault good sink_now later none = inl refl
-complete Exit.OutOfMemory script start before taken saved source source_now sink sink_mid files files_now command answered fault good sink_now later none = inr refl
-complete Exit.Usage script start before taken saved source source_now sink sink_mid files files_now command answered fault good sink_now later none = absurd (command refl)
-complete (Exit.Fault object.Source) script start before taken saved source source_now sink sink_mid files files_now command answered fault good sink_now later none = absurd (none.0 fault)
-complete (Exit.Fault object.Sink) script start before taken saved source source_now sink sink_mid files files_now command answered fault good sink_now later none = absurd (none.1 (omega (arith, fault, later)))
-complete (Exit.Fault object.Files) script start before taken saved source source_now sink sink_mid files files_now command answered fault good sink_now later none = absurd (none.2 fault)
-complete (Exit.Script line) script start before taken saved source source_now sink sink_mid files files_now command answered fault good sink_now later none =
+complete Exit.Done script rest start before taken saved source source_now sink sink_mid files files_now command answered fault good sink_now later none = inl refl
+complete Exit.OutOfMemory script rest start before taken saved source source_now sink sink_mid files files_now command answered fault good sink_now later none = inr refl
+complete Exit.Usage script rest start before taken saved source source_now sink sink_mid files files_now command answered fault good sink_now later none = absurd (command refl)
+complete (Exit.Fault object.Source) script rest start before taken saved source source_now sink sink_mid files files_now command answered fault good sink_now later none = absurd (none.0 fault)
+complete (Exit.Fault object.Sink) script rest start before taken saved source source_now sink sink_mid files files_now command answered fault good sink_now later none = absurd (none.1 (omega (arith, fault, later)))
+complete (Exit.Fault object.Files) script rest start before taken saved source source_now sink sink_mid files files_now command answered fault good sink_now later none = absurd (none.2 fault)
+complete (Exit.Script line) script rest start before taken saved source source_now sink sink_mid files files_now command answered fault good sink_now later none =
     let replay = answered.ended.replay in
     absurd (no_none answered.acts good.0 replay.ends.2 (sym good.1 ∙ replay.lines ∙ ap (λ (l : List (Option Item)). map (λ (a : Act). Some a.item) answered.acts ++ l) replay.ends.3))
 

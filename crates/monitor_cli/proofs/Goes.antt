@@ -15,7 +15,8 @@ use Rattle.flat_machine.specs.Stops.{IsAtFile}
 use Rattle.monitor_core.specs.declared.monitor.Monitor.{Monitor}
 use Rattle.monitor_core.specs.Going.{IsFile, LeavesFiles}
 use Rattle.monitor_cli.specs.Items.{ItemCut, ItemDone, ItemStops}
-use Rattle.monitor_cli.specs.Lines.{FilesAt, Halted, Reached}
+use Rattle.monitor_cli.specs.Leaving.{FilesAt}
+use Rattle.monitor_cli.specs.Lines.{Halted, Reached}
 
 pub item_of : Act → Option Item
 item_of act = Some act.item
@@ -85,10 +86,16 @@ module _ (came : List ℕ) (start : Machine) (before held : List ℕ) (line : �
             ran = run_push so_far.acts act start so_far.last went.0 so_far.answers part.text so_far.ran on went.1;
             halts = went.2.files_is;
             takes = (
-              so_far.answers ++ taken_part.0,
-              taken_part.1,
-              taken_part.2 ∙ ap (λ (l : List ℕ). l ++ taken_part.0) so_far.takes ∙ append_assoc before so_far.answers taken_part.0,
-              append_assoc so_far.answers taken_part.0 taken_part.1 ∙ ap (λ (l : List ℕ). so_far.answers ++ l) taken_part.3,
+              so_far.answers,
+              part.text,
+              (so_far.acts, act, so_far.last, refl, so_far.ran, on, went.1),
+              record {
+                front = taken_part.front;
+                rest = taken_part.rest;
+                took = taken_part.took ∙ ap (λ (l : List ℕ). l ++ taken_part.front) so_far.takes;
+                parts = taken_part.parts;
+                lacks = taken_part.lacks;
+              },
             );
             failed = subst (λ (n : ℕ). RoseBy (n + 0) i k) (sym (failures_push so_far.acts act))
                 (rose_more (failures so_far.acts + failed_count act.outcome) 0 i k k (rose_more (failures so_far.acts) (failed_count act.outcome) i j k so_far.failed part.goes.cause) (omega arith));

@@ -16,8 +16,9 @@ use Rattle.flat_machine.specs.Replay.{judged_script, longest_script}
 use Rattle.flat_machine.specs.Run.{Act, failures}
 use Rattle.flat_machine.specs.Stops.{IsAtFile}
 use Rattle.monitor_core.specs.declared.monitor.Monitor.{Monitor}
-use Rattle.monitor_cli.specs.Lines.{FilesAt, Halted, HaltsBy, Reached}
-use Rattle.monitor_cli.specs.Whole.{EarlyBy, EndedEarly, Finished, PastBy}
+use Rattle.monitor_cli.specs.Leaving.{FilesAt}
+use Rattle.monitor_cli.specs.Lines.{Halted, HaltsBy, Reached}
+use Rattle.monitor_cli.specs.Whole.{CameBy, EarlyBy, EndedEarly, Finished, PastBy}
 
 abbrev pub acted : List Act → List (Option Item)
 acted acts = map (λ act. Some act.item) acts
@@ -66,8 +67,8 @@ fed came start before held line monitor saved taken i j piece now is reached = r
   failed = reached.failed;
 }
 
-module _ (script came left : List ℕ) (is : came ++ left ≡ script) (small : length came ≤ longest_script) (start : Machine) (before : List ℕ) where
-  pub halted : (exit : Exit) (saved : Saved) (taken : List ℕ) (i j : ℕ) → Halted exit came start before saved taken i j → EndedEarly exit script start before saved taken i j
+module _ (script came left rest : List ℕ) (is : came ++ left ≡ script) (small : length came ≤ longest_script) (start : Machine) (before : List ℕ) where
+  pub halted : (exit : Exit) (saved : Saved) (taken : List ℕ) (i j : ℕ) → Halted exit came start before saved taken i j → EndedEarly exit script rest start before saved taken i j
   halted exit saved taken i j halt =
       let spreads = spread script came left is small in
       record {
@@ -78,12 +79,22 @@ module _ (script came left : List ℕ) (is : came ++ left ≡ script) (small : l
         lines = spreads.2 ∙ ap (λ (l : List (Option Item)). l ++ spreads.1) (halt.lines spreads.0) ∙ append_assoc (acted halt.acts) (halt.left spreads.0) spreads.1;
         ran = halt.ran;
         early = early_by exit halt.left spreads.0 spreads.1 (length halt.acts + 1) halt.last saved halt.halts;
+        came = came_by exit halt.acts halt.left (length halt.acts + 1) halt.last saved halt.halts;
         takes = halt.takes;
         failed = halt.failed;
       }
     where
       file_there : (lines behind : List (Option Item)) → IsAtFile lines → IsAtFile (lines ++ behind)
       file_there lines behind at = (at.0, at.1, at.2 ++ behind, ap (λ (l : List (Option Item)). l ++ behind) at.3)
+
+      came_by : (exit : Exit) (acts : List Act) (gives : List ℕ → List (Option Item)) (number : ℕ) (m : Machine) (saved : Saved) → HaltsBy exit gives number m saved → CameBy exit script rest acts
+      came_by (Exit.Script line) acts gives number m saved halts = tt
+      came_by (Exit.Fault object.Files) acts gives number m saved halts = tt
+      came_by (Exit.Fault object.Sink) acts gives number m saved halts = tt
+      came_by (Exit.Fault object.Source) acts gives number m saved halts = absurd halts
+      came_by Exit.OutOfMemory acts gives number m saved halts = tt
+      came_by Exit.Done acts gives number m saved halts = absurd halts
+      came_by Exit.Usage acts gives number m saved halts = absurd halts
 
       files_there : (lines behind : List (Option Item)) (m : Machine) (saved : Saved) → IsAtFile lines → FilesAt lines m saved → FilesAt (lines ++ behind) m saved
       files_there [] behind m saved at files = cc at.3
@@ -146,8 +157,14 @@ module _ (script came left : List ℕ) (is : came ++ left ≡ script) (small : l
           failed = reached.failed;
         }
 
-    pub source_failed : is_off reached.last ≡ false → EndedEarly (Exit.Fault object.Source) script start before saved taken i j
-    source_failed on =
+    -- the lines that came whole are the acts
+    all_done : judged held ≡ [] → judged came ≡ acted reached.acts
+    all_done empty =
+        ap judged (sym (append-nil came)) ∙ reached.lines [] ∙ ap (λ (l : List ℕ). acted reached.acts ++ judged l) (append-nil held)
+        ∙ ap (λ (l : List (Option Item)). acted reached.acts ++ l) empty ∙ append-nil (acted reached.acts)
+
+    pub source_failed : judged held ≡ [] → rest ≡ left → is_off reached.last ≡ false → EndedEarly (Exit.Fault object.Source) script rest start before saved taken i j
+    source_failed empty same on =
         let spreads = spread script came left is small in
         record {
           acts = reached.acts;
@@ -157,11 +174,12 @@ module _ (script came left : List ℕ) (is : came ++ left ≡ script) (small : l
           lines = lines_so_far spreads.0 spreads.1 spreads.2;
           ran = reached.ran;
           early = (on, reached.is.files_is);
+          came = (came, ap (λ (l : List ℕ). came ++ l) same ∙ is, all_done empty);
           takes = reached.takes;
           failed = rose_same (failures reached.acts) i j reached.failed;
         }
 
-    pub no_memory : EndedEarly Exit.OutOfMemory script start before saved taken i j
+    pub no_memory : EndedEarly Exit.OutOfMemory script rest start before saved taken i j
     no_memory =
         let spreads = spread script came left is small in
         record {
@@ -172,11 +190,12 @@ module _ (script came left : List ℕ) (is : came ++ left ≡ script) (small : l
           lines = lines_so_far spreads.0 spreads.1 spreads.2;
           ran = reached.ran;
           early = (tt, reached.is.files_is);
+          came = tt;
           takes = reached.takes;
           failed = rose_same (failures reached.acts) i j reached.failed;
         }
 
-    pub too_long : judged held ≡ [] → is_off reached.last ≡ false → length came ≡ longest_script → 0 < length left → EndedEarly (Exit.Script line) script start before saved taken i j
+    pub too_long : judged held ≡ [] → is_off reached.last ≡ false → length came ≡ longest_script → 0 < length left → EndedEarly (Exit.Script line) script rest start before saved taken i j
     too_long empty on full more =
         record {
           acts = reached.acts;
@@ -184,11 +203,10 @@ module _ (script came left : List ℕ) (is : came ++ left ≡ script) (small : l
           last = reached.last;
           left = None ∷ [];
           lines = long_judged script came left is full more
-              ∙ ap (λ (l : List (Option Item)). l ++ None ∷ [])
-              (ap judged (sym (append-nil came)) ∙ reached.lines [] ∙ ap (λ (l : List ℕ). acted reached.acts ++ judged l) (append-nil held)
-              ∙ ap (λ (l : List (Option Item)). acted reached.acts ++ l) empty ∙ append-nil (acted reached.acts));
+              ∙ ap (λ (l : List (Option Item)). l ++ None ∷ []) (all_done empty);
           ran = reached.ran;
           early = ((reached.number, on, [], refl), reached.is.files_is);
+          came = tt;
           takes = reached.takes;
           failed = rose_same (failures reached.acts) i j reached.failed;
         }
@@ -202,15 +220,15 @@ pub past_early : (r : Result (Unit {0}) Exit) {P Q : Exit → Type 0} → IfErr 
 past_early (Ok u) there goes = tt
 past_early (Err e) there goes = goes e there
 
-pub past : (script came left : List ℕ) (is : came ++ left ≡ script) (small : length came ≤ longest_script) (start : Machine) (before held : List ℕ) (line : ℕ) (monitor : Monitor) (saved : Saved) (taken : List ℕ) (i j : ℕ) (reached : Reached came start before held line monitor saved taken i j)
-    → judged held ≡ [] → is_off reached.last ≡ false → length came ≡ longest_script → (tells : Type 0) → tells → (exit : Exit) (faults now : ℕ) → PastBy tells exit line left faults now → EndedEarly exit script start before saved taken i j
-past script came left is small start before held line monitor saved taken i j reached empty on full tells told (Exit.Script n) faults now by =
-    subst (λ (k : ℕ). EndedEarly (Exit.Script k) script start before saved taken i j) (sym by.0)
-    (too_long script came left is small start before held line monitor saved taken i j reached empty on full (by.1 told))
-past script came left is small start before held line monitor saved taken i j reached empty on full tells told (Exit.Fault object.Source) faults now by =
-    source_failed script came left is small start before held line monitor saved taken i j reached on
-past script came left is small start before held line monitor saved taken i j reached empty on full tells told (Exit.Fault object.Files) faults now by = absurd by
-past script came left is small start before held line monitor saved taken i j reached empty on full tells told (Exit.Fault object.Sink) faults now by = absurd by
-past script came left is small start before held line monitor saved taken i j reached empty on full tells told Exit.OutOfMemory faults now by = absurd by
-past script came left is small start before held line monitor saved taken i j reached empty on full tells told Exit.Done faults now by = absurd by
-past script came left is small start before held line monitor saved taken i j reached empty on full tells told Exit.Usage faults now by = absurd by
+pub past : (script came left rest : List ℕ) (is : came ++ left ≡ script) (small : length came ≤ longest_script) (start : Machine) (before held : List ℕ) (line : ℕ) (monitor : Monitor) (saved : Saved) (taken : List ℕ) (i j : ℕ) (reached : Reached came start before held line monitor saved taken i j)
+    → judged held ≡ [] → is_off reached.last ≡ false → length came ≡ longest_script → (tells : Type 0) → tells → (exit : Exit) (faults now : ℕ) → PastBy tells exit line left rest faults now → EndedEarly exit script rest start before saved taken i j
+past script came left rest is small start before held line monitor saved taken i j reached empty on full tells told (Exit.Script n) faults now by =
+    subst (λ (k : ℕ). EndedEarly (Exit.Script k) script rest start before saved taken i j) (sym by.0)
+    (too_long script came left rest is small start before held line monitor saved taken i j reached empty on full (by.1 told))
+past script came left rest is small start before held line monitor saved taken i j reached empty on full tells told (Exit.Fault object.Source) faults now by =
+    source_failed script came left rest is small start before held line monitor saved taken i j reached empty (by.1 told) on
+past script came left rest is small start before held line monitor saved taken i j reached empty on full tells told (Exit.Fault object.Files) faults now by = absurd by
+past script came left rest is small start before held line monitor saved taken i j reached empty on full tells told (Exit.Fault object.Sink) faults now by = absurd by
+past script came left rest is small start before held line monitor saved taken i j reached empty on full tells told Exit.OutOfMemory faults now by = absurd by
+past script came left rest is small start before held line monitor saved taken i j reached empty on full tells told Exit.Done faults now by = absurd by
+past script came left rest is small start before held line monitor saved taken i j reached empty on full tells told Exit.Usage faults now by = absurd by

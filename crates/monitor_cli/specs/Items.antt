@@ -6,6 +6,7 @@ use Rattle.vm_types.specs.declared.exit.Exit.{Exit}
 use Rattle.vm_types.specs.declared.exit.Object.TheVariants as object
 use Rattle.vm_types.specs.declared.item.Item.{Item}
 use Rattle.monitor_core.specs.declared.monitor.Monitor.{Monitor}
+use Rattle.monitor_cli.specs.Taking.{TookFront}
 use Rattle.monitor_core.specs.Going.{IsFile, ItemGoes, LeavesFiles}
 
 -- an item that was done, with its text in the sink
@@ -14,11 +15,11 @@ pub record ItemDone (tells : Type 0) (item : Item) (monitor after : Monitor) (sa
   pub goes : ItemGoes tells item text faults_before faults_now monitor after saved left
   pub takes : tells → took ≡ taken ++ text
 
--- one of which the sink took a part of the text
+-- one of whose text the sink took a front, and not all
 pub record ItemCut (tells : Type 0) (item : Item) (monitor after : Monitor) (saved left : Saved) (taken took : List ℕ) (faults_before faults_now : ℕ) : Type 0 where
   pub text : List ℕ
   pub goes : ItemGoes tells item text faults_before faults_now monitor after saved left
-  pub takes : tells → (part : List ℕ) × (rest : List ℕ) × (took ≡ taken ++ part) × (part ++ rest ≡ text)
+  pub takes : tells → TookFront text taken took
 
 -- why an item was not done: the files failed at a file line, the sink failed, or there was no memory
 abbrev pub ItemStops : Exit → Type 0 → Item → Monitor → Monitor → Saved → Saved → List ℕ → List ℕ → ℕ → ℕ → Type 0

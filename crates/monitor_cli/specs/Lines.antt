@@ -5,13 +5,14 @@ use Rattle.vm_types.specs.Saved.{Saved}
 use Rattle.vm_types.specs.declared.exit.Exit.{Exit}
 use Rattle.vm_types.specs.declared.exit.Object.TheVariants as object
 use Rattle.vm_types.specs.declared.item.Item.{Item}
-use Rattle.vm_outside.specs.Filing.{SameOthers}
 use Rattle.script_lines.specs.Lines.{judged}
 use Rattle.flat_machine.specs.Machine.{Machine, is_off}
 use Rattle.flat_machine.specs.Run.{Act, Run, failures}
-use Rattle.flat_machine.specs.Stops.{IsAtFile, stop_failures}
+use Rattle.flat_machine.specs.Stops.{AtAct, IsAtFile, stop_failures}
 use Rattle.monitor_core.specs.declared.monitor.Monitor.{Monitor}
 use Rattle.monitor_core.specs.State.{IsMonitor}
+use Rattle.monitor_cli.specs.Leaving.{FilesAt}
+use Rattle.monitor_cli.specs.Taking.{TookFront}
 use Rattle.monitor_cli.specs.declared.lines.Paused.{Paused}
 use Rattle.monitor_cli.specs.declared.lines.Paused.TheVariants.{Off, Empty}
 
@@ -28,11 +29,6 @@ pub record Reached (came : List ℕ) (start : Machine) (before held : List ℕ) 
   pub takes : taken ≡ before ++ answers
   pub failed : RoseBy (failures acts) faults_before faults_now
 
--- what the files hold where they failed at a file line: what the machine's do, but for that line's own name
-abbrev pub FilesAt : List (Option Item) → Machine → Saved → Type 0
-FilesAt (Some (Item.File name content) ∷ more) m saved = SameOthers m.saved name saved
-FilesAt left m saved = saved ≡ m.saved
-
 -- why the next line is not done, whatever bytes come behind, and what the files hold
 abbrev pub HaltsBy : Exit → (List ℕ → List (Option Item)) → ℕ → Machine → Saved → Type 0
 HaltsBy (Exit.Script line) left number m saved =
@@ -44,11 +40,11 @@ HaltsBy (Exit.Fault object.Sink) left number m saved = saved ≡ m.saved
 HaltsBy Exit.OutOfMemory left number m saved = saved ≡ m.saved
 HaltsBy exit left number m saved = ⊥
 
--- the sink took the answers behind what it had; where it failed, a front of them
-abbrev pub TakesBy : Exit → List ℕ → List ℕ → List ℕ → Type 0
-TakesBy (Exit.Fault object.Sink) before answers taken =
-    (part : List ℕ) × (rest : List ℕ) × (taken ≡ before ++ part) × (part ++ rest ≡ answers)
-TakesBy exit before answers taken = taken ≡ before ++ answers
+-- the sink took the answers behind what it had; where it failed, those before the last act's, and a front of that one
+abbrev pub TakesBy : Exit → Machine → List Act → Machine → List ℕ → List ℕ → List ℕ → Type 0
+TakesBy (Exit.Fault object.Sink) start acts last before answers taken =
+    (whole : List ℕ) × (cut : List ℕ) × (at : AtAct start acts whole cut last) × TookFront cut (before ++ whole) taken
+TakesBy exit start acts last before answers taken = taken ≡ before ++ answers
 
 -- a replay that stopped at a line
 pub record Halted (exit : Exit) (came : List ℕ) (start : Machine) (before : List ℕ) (saved : Saved) (taken : List ℕ) (faults_before faults_now : ℕ) : Type 0 where
@@ -59,7 +55,7 @@ pub record Halted (exit : Exit) (came : List ℕ) (start : Machine) (before : Li
   pub lines : (more : List ℕ) → judged (came ++ more) ≡ map (λ act. Some act.item) acts ++ left more
   pub ran : Run acts start answers last
   pub halts : HaltsBy exit left (length acts + 1) last saved
-  pub takes : TakesBy exit before answers taken
+  pub takes : TakesBy exit start acts last before answers taken
   pub failed : RoseBy (failures acts + stop_failures exit) faults_before faults_now
 
 -- no line is done any more: the guest is off, or no line is whole

@@ -11,7 +11,7 @@ use Rattle.flat_machine.specs.Machine.{Machine}
 use Rattle.flat_machine.specs.Replay.{IsReplay, judged_script}
 use Rattle.flat_machine.specs.Run.{Act, all_answered, items_in, shortages}
 use Rattle.flat_machine.specs.Stops.{IsCutOff, IsStopped}
-use Rattle.monitor_cli.specs.Lines.{FilesAt}
+use Rattle.monitor_cli.specs.Leaving.{AllCame, FilesAt}
 use Rattle.monitor_cli.specs.Taking.{TookText}
 
 -- the one command so far
@@ -19,39 +19,36 @@ abbrev pub is_command : List (List ℕ) → Bool
 is_command (word ∷ []) = bytes_eq word (codes "replay")
 is_command words = false
 
--- the script came to its end, or to a line that is none: its acts, its text and the files are those of a replay
+-- the script came to its end, or to a line that is none: its acts, its text and the files are a replay's
 pub record Ends (exit : Exit) (script : List ℕ) (start : Machine) (acts : List Act) (text : List ℕ) (saved : Saved) (files_before files_now : ℕ) : Type 0 where
   pub end : Machine
   pub replay : IsReplay script start acts exit text end files_before files_now
   pub files : saved ≡ end.saved
 
--- how it went, where it ended so; where the words are no command, nothing is read
-abbrev pub EndsAs : Exit → List ℕ → Machine → List Act → List ℕ → Saved → ℕ → ℕ → Type 0
-EndsAs Exit.Done script start acts text saved before now = Ends Exit.Done script start acts text saved before now
-EndsAs (Exit.Script line) script start acts text saved before now = Ends (Exit.Script line) script start acts text saved before now
-EndsAs (Exit.Fault object.Sink) script start acts text saved before now =
-    (cut : IsCutOff script start acts text before now) × (saved ≡ cut.last.saved)
-EndsAs (Exit.Fault object.Source) script start acts text saved before now =
-    (stop : IsStopped script start acts (Exit.Fault object.Source) text before now) × (saved ≡ stop.last.saved)
-EndsAs (Exit.Fault object.Files) script start acts text saved before now =
-    (stop : IsStopped script start acts (Exit.Fault object.Files) text before now) × FilesAt stop.left stop.last saved
-EndsAs Exit.OutOfMemory script start acts text saved before now =
-    (stop : IsStopped script start acts Exit.OutOfMemory text before now) × (saved ≡ stop.last.saved)
-EndsAs Exit.Usage script start acts text saved before now = (acts ≡ []) × (text ≡ last_line Exit.Usage) × (saved ≡ start.saved)
+-- How it went, where it ended so; the source has the rest of the script left. Where the words are no command,
+-- nothing is read.
+abbrev pub EndsAs : Exit → List ℕ → List ℕ → Machine → List Act → List ℕ → Saved → ℕ → ℕ → Type 0
+EndsAs Exit.Done script rest start acts text saved files_before files_now =
+    Ends Exit.Done script start acts text saved files_before files_now
+EndsAs (Exit.Script line) script rest start acts text saved files_before files_now =
+    Ends (Exit.Script line) script start acts text saved files_before files_now
+EndsAs (Exit.Fault object.Sink) script rest start acts text saved files_before files_now =
+    (cut : IsCutOff script start acts text files_before files_now) × (saved ≡ cut.last.saved)
+EndsAs (Exit.Fault object.Source) script rest start acts text saved files_before files_now =
+    (stop : IsStopped script start acts (Exit.Fault object.Source) text files_before files_now) × (saved ≡ stop.last.saved) × AllCame script rest acts
+EndsAs (Exit.Fault object.Files) script rest start acts text saved files_before files_now =
+    (stop : IsStopped script start acts (Exit.Fault object.Files) text files_before files_now) × FilesAt stop.left stop.last saved
+EndsAs Exit.OutOfMemory script rest start acts text saved files_before files_now =
+    (stop : IsStopped script start acts Exit.OutOfMemory text files_before files_now) × (saved ≡ stop.last.saved)
+EndsAs Exit.Usage script rest start acts text saved files_before files_now =
+    (acts ≡ []) × (text ≡ last_line Exit.Usage) × (saved ≡ start.saved)
 
--- The answers of a replay, behind what the sink had; its last line is not written yet.
-pub record Answered (exit : Exit) (script : List ℕ) (start : Machine) (before taken : List ℕ) (saved : Saved) (files_before files_now : ℕ) : Type 0 where
-  pub acts : List Act
-  pub answers : List ℕ
-  pub ended : EndsAs exit script start acts (answers ++ last_line exit) saved files_before files_now
-  pub took : taken ≡ before ++ answers
-
--- The replay of a script from this machine, whose text the sink took behind what it had. Where no call on the files
--- failed and 503 was not answered, the machine answered each act.
-pub record Replayed (exit : Exit) (script : List ℕ) (start : Machine) (before taken : List ℕ) (saved : Saved) (sink_before sink_now files_before files_now : ℕ) : Type 0 where
+-- The replay of a script from this machine, whose text the sink took behind what it had. Where the files' count did
+-- not rise and 503 was not answered, the machine answered each act.
+pub record Replayed (exit : Exit) (script rest : List ℕ) (start : Machine) (before taken : List ℕ) (saved : Saved) (sink_before sink_now files_before files_now : ℕ) : Type 0 where
   pub acts : List Act
   pub text : List ℕ
-  pub ended : EndsAs exit script start acts text saved files_before files_now
+  pub ended : EndsAs exit script rest start acts text saved files_before files_now
   pub took : TookText exit text before taken sink_before sink_now
   pub plain : (Rose files_before files_now → ⊥) → shortages acts ≡ 0 → acts ≡ all_answered (items_in acts)
 
@@ -63,10 +60,3 @@ IsWellFormed script = (items : List Item) × (judged_script script ≡ map Some 
 abbrev pub NoneRose : ℕ → ℕ → ℕ → ℕ → ℕ → ℕ → Type 0
 NoneRose source_before source_now sink_before sink_now files_before files_now =
     (Rose source_before source_now → ⊥) × (Rose sink_before sink_now → ⊥) × (Rose files_before files_now → ⊥)
-
--- a fault is answered only where that object's count rose
-abbrev pub FaultBy : Exit → ℕ → ℕ → ℕ → ℕ → ℕ → ℕ → Type 0
-FaultBy (Exit.Fault object.Source) source_before source_now sink_before sink_now files_before files_now = Rose source_before source_now
-FaultBy (Exit.Fault object.Sink) source_before source_now sink_before sink_now files_before files_now = Rose sink_before sink_now
-FaultBy (Exit.Fault object.Files) source_before source_now sink_before sink_now files_before files_now = Rose files_before files_now
-FaultBy exit source_before source_now sink_before sink_now files_before files_now = Unit {0}

@@ -1,5 +1,5 @@
 -- What a sink took of a text.
-use Rattle.std.specs.Prelude.{◌≡◌, ◌≤◌, ℕ, List, [], ◌++◌, length, take, ◌⊎◌}
+use Rattle.std.specs.Prelude.{◌≡◌, ◌≢◌, ◌≤◌, ℕ, List, [], ◌++◌, length, take, ◌⊎◌}
 use Rattle.vm_types.specs.Causes.{Rose}
 use Rattle.vm_types.specs.declared.exit.Exit.{Exit}
 use Rattle.script_lines.specs.Output.{last_line}
@@ -10,8 +10,15 @@ pub record TookPart (text before taken : List ℕ) : Type 0 where
   pub some : count ≤ length text
   pub bytes : taken ≡ before ++ take count text
 
--- All of the text, behind what it had; but where its count of faults rose, it may lack the end of the last line, or
--- all of it.
+-- a front of it, and not all
+pub record TookFront (text before taken : List ℕ) : Type 0 where
+  pub front : List ℕ
+  pub rest : List ℕ
+  pub took : taken ≡ before ++ front
+  pub parts : front ++ rest ≡ text
+  pub lacks : rest ≢ []
+
+-- All of the text, behind what it had; but where its count of faults rose, it may lack the last line, or its end.
 pub record TookText (exit : Exit) (text before taken : List ℕ) (faults_before faults_now : ℕ) : Type 0 where
   pub part : List ℕ
   pub rest : List ℕ

@@ -15,11 +15,8 @@ mod replaying;
 mod script;
 mod top;
 
-pub use items::run_item;
 pub use last_line::refuse;
-pub use lines::{Paused, ScriptRun};
 pub use outside::Outside;
-pub use script::run_script;
 pub use top::{firecracker_main, replay_main};
 
 #[cfg(test)]

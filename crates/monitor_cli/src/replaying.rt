@@ -1,7 +1,7 @@
 // The replay of a script, all but its last line.
 ghost use Rattle.std.specs.Prelude.{◌≡◌, ◌≢◌, ◌≤◌};
 ghost use Rattle.flat_machine.specs.Machine.{new_machine};
-ghost use Rattle.monitor_cli.specs.Replay.{Answered, FaultBy};
+ghost use Rattle.monitor_cli.specs.Before.{BeforeLast, FaultBy};
 
 use crate::ending::write_ending;
 use crate::lines::ScriptRun;
@@ -17,13 +17,15 @@ pub fn replay<I: Source, O: Sink, F: Files>(
     id: TextList,
     out: &mut Outside<I, O, F>,
 ) -> Exit
-    ensures answered { I.tells out.old.source → O.tells out.old.sink → F.tells out.old.files →
-        Answered result (I.left out.old.source) (new_machine id (F.saved out.old.files)) (O.taken out.old.sink) (O.taken out.new.sink)
+    ensures so_far { I.tells out.old.source → O.tells out.old.sink → F.tells out.old.files →
+        BeforeLast result (I.left out.old.source) (I.left out.new.source) (new_machine id (F.saved out.old.files)) (O.taken out.old.sink) (O.taken out.new.sink)
         (F.saved out.new.files) (F.faults out.old.files) (F.faults out.new.files) }
     ensures fault { FaultBy result (I.faults out.old.source) (I.faults out.new.source) (O.faults out.old.sink) (O.faults out.new.sink)
         (F.faults out.old.files) (F.faults out.new.files) }
     ensures no_usage { result ≢ Exit.Usage }
+    ensures tells_source { I.tells out.old.source → I.tells out.new.source }
     ensures tells_sink { O.tells out.old.sink → O.tells out.new.sink }
+    ensures tells_files { F.tells out.old.files → F.tells out.new.files }
     ensures later_source { I.faults out.old.source ≤ I.faults out.new.source }
     ensures later_sink { O.faults out.old.sink ≤ O.faults out.new.sink }
     ensures later_files { F.faults out.old.files ≤ F.faults out.new.files }

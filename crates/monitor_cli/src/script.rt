@@ -30,7 +30,7 @@ pub fn run_script<I: Source, F: Files, K: Sink>(
         Finished (I.left source.old) start before run.new.monitor (F.saved files.new) (K.taken sink.new) i (F.faults files.new)) }
     ensures early { IfErr result (λ exit. I.tells source.old → F.tells files.old → K.tells sink.old → (start : Machine) (before : List ℕ) (i : ℕ) →
         Reached [] start before run.old.reader run.old.line run.old.monitor (F.saved files.old) (K.taken sink.old) i (F.faults files.old) →
-        EndedEarly exit (I.left source.old) start before (F.saved files.new) (K.taken sink.new) i (F.faults files.new)) }
+        EndedEarly exit (I.left source.old) (I.left source.new) start before (F.saved files.new) (K.taken sink.new) i (F.faults files.new)) }
     ensures cause { IfErr result (λ exit. ScriptCause exit (I.faults source.old) (I.faults source.new) (F.faults files.old) (F.faults files.new) (K.faults sink.old) (K.faults sink.new)) }
     ensures tells_source { I.tells source.old → I.tells source.new }
     ensures tells_files { F.tells files.old → F.tells files.new }
@@ -69,7 +69,7 @@ pub fn run_script<I: Source, F: Files, K: Sink>(
 // Whether nothing is left behind the longest script; else the line of this number is none.
 fn past_longest<I: Source>(line: u64, source: &mut I) -> Result<(), Exit>
     ensures end { OnOk result (I.tells source.old → I.left source.old ≡ []) }
-    ensures more { IfErr result (λ exit. PastBy (I.tells source.old) exit line (I.left source.old) (I.faults source.old) (I.faults source.new)) }
+    ensures more { IfErr result (λ exit. PastBy (I.tells source.old) exit line (I.left source.old) (I.left source.new) (I.faults source.old) (I.faults source.new)) }
     ensures tells { I.tells source.old → I.tells source.new }
     ensures later { I.faults source.old ≤ I.faults source.new }
 {

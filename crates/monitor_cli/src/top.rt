@@ -3,7 +3,8 @@ ghost use Rattle.std.specs.Prelude.{◌≡◌, ◌≢◌, ◌⊎◌, ◌↔◌, 
 ghost use Rattle.vm_types.specs.Causes.{Rose};
 ghost use Rattle.flat_machine.specs.Machine.{new_machine};
 ghost use Rattle.flat_machine.specs.Replay.{default_id};
-ghost use Rattle.monitor_cli.specs.Replay.{Answered, FaultBy, IsWellFormed, NoneRose, Replayed, is_command};
+ghost use Rattle.monitor_cli.specs.Before.{BeforeLast, FaultBy};
+ghost use Rattle.monitor_cli.specs.Replay.{IsWellFormed, NoneRose, Replayed, is_command};
 
 use crate::last_line::write_last;
 use crate::outside::Outside;
@@ -22,7 +23,7 @@ pub fn firecracker_main<I: Source, O: Sink, F: Files>(
     ensures usage { (result ≡ Exit.Usage) ↔ (is_command (map string_bytes words.now) ≡ false) }
     ensures unread { result ≡ Exit.Usage → (out.new.source ≡ out.old.source) × (out.new.files ≡ out.old.files) }
     ensures replayed { I.tells out.old.source → O.tells out.old.sink → F.tells out.old.files →
-        Replayed result (I.left out.old.source) (new_machine default_id (F.saved out.old.files)) (O.taken out.old.sink) (O.taken out.new.sink)
+        Replayed result (I.left out.old.source) (I.left out.new.source) (new_machine default_id (F.saved out.old.files)) (O.taken out.old.sink) (O.taken out.new.sink)
         (F.saved out.new.files) (O.faults out.old.sink) (O.faults out.new.sink) (F.faults out.old.files) (F.faults out.new.files) }
     ensures source { result ≡ Exit.Fault Object.Source → Rose (I.faults out.old.source) (I.faults out.new.source) }
     ensures sink { result ≡ Exit.Fault Object.Sink → Rose (O.faults out.old.sink) (O.faults out.new.sink) }
@@ -31,15 +32,18 @@ pub fn firecracker_main<I: Source, O: Sink, F: Files>(
         is_command (map string_bytes words.now) ≡ true → IsWellFormed (I.left out.old.source) →
         NoneRose (I.faults out.old.source) (I.faults out.new.source) (O.faults out.old.sink) (O.faults out.new.sink) (F.faults out.old.files) (F.faults out.new.files) →
         (result ≡ Exit.Done) ⊎ (result ≡ Exit.OutOfMemory) }
+    ensures tells_source { I.tells out.old.source → I.tells out.new.source }
+    ensures tells_sink { O.tells out.old.sink → O.tells out.new.sink }
+    ensures tells_files { F.tells out.old.files → F.tells out.new.files }
 {
     replay_main(alloc, words, out)
 }
 
 /// Reads a script from the source, replays it over the files, and writes its output to the sink.
 ///
-/// Usage: the words are not the one word `replay`; nothing is read then. `Script`: the line of that number is
-/// the first that is no line of a script. `Fault`: a call on that object failed. A sink that fails at the last line
-/// leaves the answer as it is. `OutOfMemory`: there was no memory.
+/// `Usage`: the words are not the one word `replay`; nothing is read then. `Script`: the line of that number is
+/// the first that is no line of a script. `Fault`: a call on that object failed. `OutOfMemory`: there was no memory.
+/// A sink that fails at the last line that tells one of these leaves the answer as it is; `. off` is no such line.
 pub fn replay_main<I: Source, O: Sink, F: Files>(
     alloc: Global,
     words: &[String],
@@ -51,7 +55,7 @@ pub fn replay_main<I: Source, O: Sink, F: Files>(
 
     // The replay equals the flat machine: what the sink took, how it ended, and what the files hold.
     ensures replayed { I.tells out.old.source → O.tells out.old.sink → F.tells out.old.files →
-        Replayed result (I.left out.old.source) (new_machine default_id (F.saved out.old.files)) (O.taken out.old.sink) (O.taken out.new.sink)
+        Replayed result (I.left out.old.source) (I.left out.new.source) (new_machine default_id (F.saved out.old.files)) (O.taken out.old.sink) (O.taken out.new.sink)
         (F.saved out.new.files) (O.faults out.old.sink) (O.faults out.new.sink) (F.faults out.old.files) (F.faults out.new.files) }
 
     // A fault is answered only where that object's count rose in this call.
@@ -64,6 +68,11 @@ pub fn replay_main<I: Source, O: Sink, F: Files>(
         is_command (map string_bytes words.now) ≡ true → IsWellFormed (I.left out.old.source) →
         NoneRose (I.faults out.old.source) (I.faults out.new.source) (O.faults out.old.sink) (O.faults out.new.sink) (F.faults out.old.files) (F.faults out.new.files) →
         (result ≡ Exit.Done) ⊎ (result ≡ Exit.OutOfMemory) }
+
+    // What told its content still does.
+    ensures tells_source { I.tells out.old.source → I.tells out.new.source }
+    ensures tells_sink { O.tells out.old.sink → O.tells out.new.sink }
+    ensures tells_files { F.tells out.old.files → F.tells out.new.files }
 {
     let exit = run_command(alloc, words, out);
     let _ = write_last(&mut out.sink, exit);
@@ -78,12 +87,14 @@ fn run_command<I: Source, O: Sink, F: Files>(
 ) -> Exit
     ensures usage { (result ≡ Exit.Usage) ↔ (is_command (map string_bytes words.now) ≡ false) }
     ensures unread { result ≡ Exit.Usage → out.new ≡ out.old }
-    ensures answered { I.tells out.old.source → O.tells out.old.sink → F.tells out.old.files →
-        Answered result (I.left out.old.source) (new_machine default_id (F.saved out.old.files)) (O.taken out.old.sink) (O.taken out.new.sink)
+    ensures so_far { I.tells out.old.source → O.tells out.old.sink → F.tells out.old.files →
+        BeforeLast result (I.left out.old.source) (I.left out.new.source) (new_machine default_id (F.saved out.old.files)) (O.taken out.old.sink) (O.taken out.new.sink)
         (F.saved out.new.files) (F.faults out.old.files) (F.faults out.new.files) }
     ensures fault { FaultBy result (I.faults out.old.source) (I.faults out.new.source) (O.faults out.old.sink) (O.faults out.new.sink)
         (F.faults out.old.files) (F.faults out.new.files) }
+    ensures tells_source { I.tells out.old.source → I.tells out.new.source }
     ensures tells_sink { O.tells out.old.sink → O.tells out.new.sink }
+    ensures tells_files { F.tells out.old.files → F.tells out.new.files }
     ensures later_source { I.faults out.old.source ≤ I.faults out.new.source }
     ensures later_sink { O.faults out.old.sink ≤ O.faults out.new.sink }
     ensures later_files { F.faults out.old.files ≤ F.faults out.new.files }
@@ -97,13 +108,15 @@ fn run_command<I: Source, O: Sink, F: Files>(
 
 // The replay on a machine that is given no id.
 fn replay_default<I: Source, O: Sink, F: Files>(alloc: Global, out: &mut Outside<I, O, F>) -> Exit
-    ensures answered { I.tells out.old.source → O.tells out.old.sink → F.tells out.old.files →
-        Answered result (I.left out.old.source) (new_machine default_id (F.saved out.old.files)) (O.taken out.old.sink) (O.taken out.new.sink)
+    ensures so_far { I.tells out.old.source → O.tells out.old.sink → F.tells out.old.files →
+        BeforeLast result (I.left out.old.source) (I.left out.new.source) (new_machine default_id (F.saved out.old.files)) (O.taken out.old.sink) (O.taken out.new.sink)
         (F.saved out.new.files) (F.faults out.old.files) (F.faults out.new.files) }
     ensures fault { FaultBy result (I.faults out.old.source) (I.faults out.new.source) (O.faults out.old.sink) (O.faults out.new.sink)
         (F.faults out.old.files) (F.faults out.new.files) }
     ensures no_usage { result ≢ Exit.Usage }
+    ensures tells_source { I.tells out.old.source → I.tells out.new.source }
     ensures tells_sink { O.tells out.old.sink → O.tells out.new.sink }
+    ensures tells_files { F.tells out.old.files → F.tells out.new.files }
     ensures later_source { I.faults out.old.source ≤ I.faults out.new.source }
     ensures later_sink { O.faults out.old.sink ≤ O.faults out.new.sink }
     ensures later_files { F.faults out.old.files ≤ F.faults out.new.files }

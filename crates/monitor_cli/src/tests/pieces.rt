@@ -1,6 +1,6 @@
 // A script that comes in pieces of each size.
 use super::{NEVER, Trial, check, failing};
-use crate::{Paused, ScriptRun};
+use crate::lines::{Paused, ScriptRun};
 use std::test::Fail;
 use vm_outside::{MemoryFiles, MemorySink};
 use vm_types::{Exit, TextList};

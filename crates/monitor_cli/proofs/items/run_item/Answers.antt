@@ -1,4 +1,5 @@
-use Rattle.std.proofs.Common.{ap, ◌∙◌, List, ℕ, ◌++◌, take, drop, take-append-drop}
+use Rattle.std.proofs.Common.{ap, ◌∙◌, List, ℕ, ◌++◌}
+use Rattle.monitor_cli.proofs.Parts.{took_front}
 use Rattle.monitor_cli.proofs.items.run_item.Goals as goal
 
 pub returns-in-Ok-write_all-clause-done : goal.returns-in-Ok-write_all-clause-done
@@ -20,11 +21,5 @@ returns-clause-stopped g c = record {
     cause = c.in-Ok.ensures.goes.cause;
     went = λ tells. c.in-Ok.ensures.goes.went tells.0;
   };
-  takes = λ tells.
-      let part = c.write_all.ensures.part tells.1 in (
-        take part.0 c.as_slice.result.now,
-        drop part.0 c.as_slice.result.now,
-        part.2,
-        take-append-drop part.0 c.as_slice.result.now ∙ c.as_slice.ensures,
-      );
+  takes = λ tells. took_front c.as_slice.result.now c.in-Ok.text _ _ c.as_slice.ensures (c.in-Err.ensures.short tells.1);
 }

@@ -1,4 +1,4 @@
-use Rattle.std.proofs.Common.{arith, ap, sym, subst, ◌∙◌, ◌≡◌, ◌++◌, ◌≤◌, length, take, length-append, append_assoc, List, ℕ}
+use Rattle.std.proofs.Common.{arith, ap, sym, subst, ◌∙◌, ◌≡◌, ◌++◌, ◌≤◌, [], length, take, length-append, append_assoc, List, ℕ}
 use Rattle.std.proofs.lemmas.List.{length-take, take-append-le}
 use Rattle.flat_machine.specs.Replay.{longest_script}
 use Rattle.monitor_cli.proofs.Reading.{ended, fed, halted, no_memory, off, past, past_early, past_end, source_failed}
@@ -12,13 +12,13 @@ returns-in-Ok-Off-clause-finished g c = λ ti tf tk start before i reached.
     let was = c.pieces.invariant in
     let so_far = was.went ti tf tk start before i reached in
     let now = c.in-Ok-Off.ensures.went (was.tells_files tf) (was.tells_sink tk) so_far.0 start before i so_far.3 in
-    off _ so_far.0 _ so_far.1 (at_most so_far.0 c.pieces.came so_far.2 was.small) start before _ _ _ _ _ _ _ now ((rw c.in-Ok-Off.field-0-is at c.in-Ok-Off.ensures.paused) _ _ now.is)
+    off _ so_far.0 _ [] so_far.1 (at_most so_far.0 c.pieces.came so_far.2 was.small) start before _ _ _ _ _ _ _ now ((rw c.in-Ok-Off.field-0-is at c.in-Ok-Off.ensures.paused) _ _ now.is)
 
 pub returns-in-Err-clause-early : goal.returns-in-Err-clause-early
 returns-in-Err-clause-early g c = λ ti tf tk start before i reached.
     let was = c.pieces.invariant in
     let so_far = was.went ti tf tk start before i reached in
-    halted _ so_far.0 _ so_far.1 (at_most so_far.0 c.pieces.came so_far.2 was.small) start before c.in-Err.exit _ _ _ _
+    halted _ so_far.0 _ _ so_far.1 (at_most so_far.0 c.pieces.came so_far.2 was.small) start before c.in-Err.exit _ _ _ _
     (c.in-Err.ensures.halted (was.tells_files tf) (was.tells_sink tk) so_far.0 start before i so_far.3)
 
 pub returns-then-came-clause-finished : goal.returns-then-came-clause-finished
@@ -27,7 +27,7 @@ returns-then-came-clause-finished g c = past_end c.past_longest.result c.past_lo
     let paused = rw c.in-Ok-Empty.field-0-is at c.in-Ok-Empty.ensures.paused in
     let so_far = was.went ti tf tk start before i reached in
     let now = c.in-Ok-Empty.ensures.went (was.tells_files tf) (was.tells_sink tk) so_far.0 start before i so_far.3 in
-    ended _ so_far.0 _ so_far.1 (at_most so_far.0 c.pieces.came so_far.2 was.small) start before _ _ _ _ _ _ _ now paused.0 (end (was.tells_source ti)))
+    ended _ so_far.0 _ [] so_far.1 (at_most so_far.0 c.pieces.came so_far.2 was.small) start before _ _ _ _ _ _ _ now paused.0 (end (was.tells_source ti)))
 
 pub returns-then-came-clause-early : goal.returns-then-came-clause-early
 returns-then-came-clause-early g c = past_early c.past_longest.result c.past_longest.ensures.more (λ exit by ti tf tk start before i reached.
@@ -35,7 +35,7 @@ returns-then-came-clause-early g c = past_early c.past_longest.result c.past_lon
     let paused = rw c.in-Ok-Empty.field-0-is at c.in-Ok-Empty.ensures.paused in
     let so_far = was.went ti tf tk start before i reached in
     let now = c.in-Ok-Empty.ensures.went (was.tells_files tf) (was.tells_sink tk) so_far.0 start before i so_far.3 in
-    past _ so_far.0 _ so_far.1 (at_most so_far.0 c.pieces.came so_far.2 was.small) start before _ _ _ _ _ _ _ now paused.0 (paused.1 _ _ now.is)
+    past _ so_far.0 _ _ so_far.1 (at_most so_far.0 c.pieces.came so_far.2 was.small) start before _ _ _ _ _ _ _ now paused.0 (paused.1 _ _ now.is)
     (so_far.2 ∙ c.if-came.true) _ (was.tells_source ti) exit _ _ by)
 
 pub returns-in_default-clause-early : goal.returns-in_default-clause-early
@@ -44,7 +44,7 @@ returns-in_default-clause-early g c = λ ti tf tk start before i reached.
     let paused = rw c.in-Ok-Empty.field-0-is at c.in-Ok-Empty.ensures.paused in
     let so_far = was.went ti tf tk start before i reached in
     let now = c.in-Ok-Empty.ensures.went (was.tells_files tf) (was.tells_sink tk) so_far.0 start before i so_far.3 in
-    source_failed _ so_far.0 _ so_far.1 (at_most so_far.0 c.pieces.came so_far.2 was.small) start before _ _ _ _ _ _ _ now (paused.1 _ _ now.is)
+    source_failed _ so_far.0 _ _ so_far.1 (at_most so_far.0 c.pieces.came so_far.2 was.small) start before _ _ _ _ _ _ _ now paused.0 (c.in_default.ensures.bytes (was.tells_source ti)) (paused.1 _ _ now.is)
 
 pub returns-then-count-eq0-clause-finished : goal.returns-then-count-eq0-clause-finished
 returns-then-count-eq0-clause-finished g c = λ ti tf tk start before i reached.
@@ -53,7 +53,7 @@ returns-then-count-eq0-clause-finished g c = λ ti tf tk start before i reached.
     let so_far = was.went ti tf tk start before i reached in
     let now = c.in-Ok-Empty.ensures.went (was.tells_files tf) (was.tells_sink tk) so_far.0 start before i so_far.3 in
     let read = c.in-Ok.ensures.bytes (was.tells_source ti) in
-    ended _ so_far.0 _ so_far.1 (at_most so_far.0 c.pieces.came so_far.2 was.small) start before _ _ _ _ _ _ _ now paused.0
+    ended _ so_far.0 _ [] so_far.1 (at_most so_far.0 c.pieces.came so_far.2 was.small) start before _ _ _ _ _ _ _ now paused.0
     (read.0 ∙ ap (λ (n : ℕ). take n c.read.new.buf ++ g.I.Source.left c.read.new.self) c.if-count-eq0.true ∙ read.1 c.if-count-eq0.true (omega (arith, length-take {A = ℕ}, c.read.auto.buf, c.min-room.ensures, c.if-came.false, was.small)))
 
 pub returns-in_default-feed-clause-early : goal.returns-in_default-feed-clause-early
@@ -61,7 +61,7 @@ returns-in_default-feed-clause-early g c = λ ti tf tk start before i reached.
     let was = c.pieces.invariant in
     let so_far = was.went ti tf tk start before i reached in
     let now = c.in-Ok-Empty.ensures.went (was.tells_files tf) (was.tells_sink tk) so_far.0 start before i so_far.3 in
-    no_memory _ so_far.0 _ so_far.1 (at_most so_far.0 c.pieces.came so_far.2 was.small) start before _ _ _ _ _ _ _ now
+    no_memory _ so_far.0 _ _ so_far.1 (at_most so_far.0 c.pieces.came so_far.2 was.small) start before _ _ _ _ _ _ _ now
 
 pub pieces-preserved : goal.pieces-preserved
 pieces-preserved g c =
