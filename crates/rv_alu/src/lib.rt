@@ -12,6 +12,8 @@ mod effects;
 mod extension_m;
 mod loads;
 mod numbers;
+#[cfg(test)]
+mod tests;
 
 pub use amo::amo_value;
 pub use base::alu;
