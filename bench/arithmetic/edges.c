@@ -1,0 +1,210 @@
+// What the operations of RV64IMA compute at the edges of their operands, by the integers of the host: the tables of the
+// tests of crates/rv_alu. Usage: edges FAMILY, where FAMILY is pairs, alu, muldiv, amo_word, amo_double or branches.
+#include <inttypes.h>
+#include <stdbool.h>
+#include <stdint.h>
+#include <stdio.h>
+#include <string.h>
+
+#define COUNT(xs) (sizeof(xs) / sizeof((xs)[0]))
+
+typedef struct {
+    uint64_t a;
+    uint64_t b;
+} Pair;
+
+static const Pair PAIRS[30] = {
+    {0, 0},
+    {1, 0},
+    {-1, 0},
+    {INT64_MIN, 0},
+    {0, 1},
+    {0, -1},
+    {1, -1},
+    {-1, 1},
+    {-1, -1},
+    {INT64_MIN, -1},
+    {-1, INT64_MIN},
+    {INT64_MIN, 1},
+    {INT64_MIN, INT64_MIN},
+    {INT64_MAX, INT64_MAX},
+    {INT64_MAX, INT64_MIN},
+    {INT64_MIN, INT64_MAX},
+    {INT64_MAX, 1},
+    {0x80000000, 0xffffffff},
+    {INT32_MIN, -1},
+    {INT32_MAX, 1},
+    {INT32_MAX, 0x80000000},
+    {0x80000000, INT32_MAX},
+    {0xffffffff, 0xffffffff},
+    {0xffffffff, 0x100000000},
+    {0x100000000, 0xffffffff},
+    {0x100000000, 0x80000000},
+    {-7, 2},
+    {7, -2},
+    {0x8000000080000001, 33},
+    {0xfedcba9876543210, 0x0123456789abcde0},
+};
+
+// Signed values.
+static int64_t s(uint64_t n) { return (int64_t)n; }
+static int32_t sw(uint64_t n) { return (int32_t)(uint32_t)n; }
+
+// A word's sign extended.
+static uint64_t word(uint32_t n) { return (uint64_t)(int64_t)(int32_t)n; }
+
+// The base.
+static uint64_t add(uint64_t a, uint64_t b) { return a + b; }
+static uint64_t sub(uint64_t a, uint64_t b) { return a - b; }
+static uint64_t sll(uint64_t a, uint64_t b) { return a << (b & 63); }
+static uint64_t slt(uint64_t a, uint64_t b) { return s(a) < s(b); }
+static uint64_t sltu(uint64_t a, uint64_t b) { return a < b; }
+static uint64_t xor_(uint64_t a, uint64_t b) { return a ^ b; }
+static uint64_t srl(uint64_t a, uint64_t b) { return a >> (b & 63); }
+static uint64_t sra(uint64_t a, uint64_t b) { return s(a) >> (b & 63); }
+static uint64_t or_(uint64_t a, uint64_t b) { return a | b; }
+static uint64_t and_(uint64_t a, uint64_t b) { return a & b; }
+static uint64_t addw(uint64_t a, uint64_t b) { return word((uint32_t)a + (uint32_t)b); }
+static uint64_t subw(uint64_t a, uint64_t b) { return word((uint32_t)a - (uint32_t)b); }
+static uint64_t sllw(uint64_t a, uint64_t b) { return word((uint32_t)a << (b & 31)); }
+static uint64_t srlw(uint64_t a, uint64_t b) { return word((uint32_t)a >> (b & 31)); }
+static uint64_t sraw(uint64_t a, uint64_t b) { return (int64_t)(sw(a) >> (b & 31)); }
+
+// The extension M. Divisions are made at twice the width, where none overflows.
+typedef __int128 wide;
+typedef unsigned __int128 uwide;
+
+static uint64_t mul(uint64_t a, uint64_t b) { return a * b; }
+static uint64_t mulh(uint64_t a, uint64_t b) { return (uint64_t)(((wide)s(a) * (wide)s(b)) >> 64); }
+static uint64_t mulhsu(uint64_t a, uint64_t b) { return (uint64_t)(((wide)s(a) * (wide)b) >> 64); }
+static uint64_t mulhu(uint64_t a, uint64_t b) { return (uint64_t)(((uwide)a * (uwide)b) >> 64); }
+static uint64_t div_(uint64_t a, uint64_t b) { return b == 0 ? UINT64_MAX : (uint64_t)((wide)s(a) / (wide)s(b)); }
+static uint64_t divu(uint64_t a, uint64_t b) { return b == 0 ? UINT64_MAX : a / b; }
+static uint64_t rem(uint64_t a, uint64_t b) { return b == 0 ? a : (uint64_t)((wide)s(a) % (wide)s(b)); }
+static uint64_t remu(uint64_t a, uint64_t b) { return b == 0 ? a : a % b; }
+static uint64_t mulw(uint64_t a, uint64_t b) { return word((uint32_t)a * (uint32_t)b); }
+
+static uint64_t divw(uint64_t a, uint64_t b) {
+    return sw(b) == 0 ? UINT64_MAX : word((uint32_t)((int64_t)sw(a) / (int64_t)sw(b)));
+}
+
+static uint64_t divuw(uint64_t a, uint64_t b) {
+    return (uint32_t)b == 0 ? UINT64_MAX : word((uint32_t)a / (uint32_t)b);
+}
+
+static uint64_t remw(uint64_t a, uint64_t b) {
+    return sw(b) == 0 ? word((uint32_t)a) : word((uint32_t)((int64_t)sw(a) % (int64_t)sw(b)));
+}
+
+static uint64_t remuw(uint64_t a, uint64_t b) {
+    return (uint32_t)b == 0 ? word((uint32_t)a) : word((uint32_t)a % (uint32_t)b);
+}
+
+// The extension A: what is stored, of 32 bits, where a's low half is what was loaded, and of 64.
+#define AMO(NAME, STORED)                                                    \
+    static uint64_t NAME##_word(uint64_t wide_a, uint64_t wide_b) {          \
+        uint32_t a = (uint32_t)wide_a, b = (uint32_t)wide_b;                 \
+        int32_t x = (int32_t)a, y = (int32_t)b;                              \
+        (void)a, (void)x, (void)y;                                           \
+        return (uint32_t)(STORED);                                           \
+    }                                                                        \
+    static uint64_t NAME##_double(uint64_t a, uint64_t b) {                  \
+        int64_t x = (int64_t)a, y = (int64_t)b;                              \
+        (void)a, (void)x, (void)y;                                           \
+        return STORED;                                                       \
+    }
+
+AMO(amoswap, b)
+AMO(amoadd, a + b)
+AMO(amoxor, a ^ b)
+AMO(amoand, a & b)
+AMO(amoor, a | b)
+AMO(amomin, x < y ? a : b)
+AMO(amomax, x > y ? a : b)
+AMO(amominu, a < b ? a : b)
+AMO(amomaxu, a > b ? a : b)
+
+typedef struct {
+    const char *name;
+    uint64_t (*of)(uint64_t a, uint64_t b);
+} Op;
+
+static const Op ALU[] = {
+    {"Add", add},   {"Sub", sub},   {"Sll", sll},   {"Slt", slt},   {"Sltu", sltu},
+    {"Xor", xor_},  {"Srl", srl},   {"Sra", sra},   {"Or", or_},    {"And", and_},
+    {"Addw", addw}, {"Subw", subw}, {"Sllw", sllw}, {"Srlw", srlw}, {"Sraw", sraw},
+};
+
+static const Op MULDIV[] = {
+    {"Mul", mul},   {"Mulh", mulh}, {"Mulhsu", mulhsu}, {"Mulhu", mulhu}, {"Div", div_},
+    {"Divu", divu}, {"Rem", rem},   {"Remu", remu},     {"Mulw", mulw},   {"Divw", divw},
+    {"Divuw", divuw}, {"Remw", remw}, {"Remuw", remuw},
+};
+
+static const Op AMO_WORD[] = {
+    {"Swap", amoswap_word}, {"Add", amoadd_word},   {"Xor", amoxor_word},
+    {"And", amoand_word},   {"Or", amoor_word},     {"Min", amomin_word},
+    {"Max", amomax_word},   {"Minu", amominu_word}, {"Maxu", amomaxu_word},
+};
+
+static const Op AMO_DOUBLE[] = {
+    {"Swap", amoswap_double}, {"Add", amoadd_double},   {"Xor", amoxor_double},
+    {"And", amoand_double},   {"Or", amoor_double},     {"Min", amomin_double},
+    {"Max", amomax_double},   {"Minu", amominu_double}, {"Maxu", amomaxu_double},
+};
+
+static void print_pairs(void) {
+    printf("pub const PAIRS: [(u64, u64); %zu] = [\n", COUNT(PAIRS));
+    for (size_t i = 0; i < COUNT(PAIRS); i++)
+        printf("    (0x%" PRIx64 ", 0x%" PRIx64 "),\n", PAIRS[i].a, PAIRS[i].b);
+    printf("];\n");
+}
+
+// Three values a line.
+static void print_values(const char *table, const char *type, const Op *ops, size_t count) {
+    printf("const %s: [(%s, [[u64; 3]; %zu]); %zu] = [\n", table, type, COUNT(PAIRS) / 3, count);
+    for (size_t k = 0; k < count; k++) {
+        printf("    (\n        %s::%s,\n        [\n", type, ops[k].name);
+        for (size_t i = 0; i < COUNT(PAIRS); i += 3) {
+            printf("            [");
+            for (size_t j = i; j < i + 3; j++)
+                printf("%s0x%" PRIx64, j == i ? "" : ", ", ops[k].of(PAIRS[j].a, PAIRS[j].b));
+            printf("],\n");
+        }
+        printf("        ],\n    ),\n");
+    }
+    printf("];\n");
+}
+
+static const char *shown(bool b) { return b ? "true" : "false"; }
+
+static void print_branches(void) {
+    printf("const TAKEN: [[bool; 6]; %zu] = [\n", COUNT(PAIRS));
+    for (size_t i = 0; i < COUNT(PAIRS); i++) {
+        uint64_t a = PAIRS[i].a, b = PAIRS[i].b;
+        printf("    [%s, %s, %s, %s, %s, %s],\n", shown(a == b), shown(a != b), shown(s(a) < s(b)),
+               shown(s(a) >= s(b)), shown(a < b), shown(a >= b));
+    }
+    printf("];\n");
+}
+
+int main(int argc, char **argv) {
+    const char *family = argc == 2 ? argv[1] : "";
+    if (strcmp(family, "pairs") == 0)
+        print_pairs();
+    else if (strcmp(family, "alu") == 0)
+        print_values("VALUES", "AluOp", ALU, COUNT(ALU));
+    else if (strcmp(family, "muldiv") == 0)
+        print_values("VALUES", "MulDivOp", MULDIV, COUNT(MULDIV));
+    else if (strcmp(family, "amo_word") == 0)
+        print_values("WORDS", "AmoOp", AMO_WORD, COUNT(AMO_WORD));
+    else if (strcmp(family, "amo_double") == 0)
+        print_values("DOUBLES", "AmoOp", AMO_DOUBLE, COUNT(AMO_DOUBLE));
+    else if (strcmp(family, "branches") == 0)
+        print_branches();
+    else {
+        fprintf(stderr, "usage: edges pairs|alu|muldiv|amo_word|amo_double|branches\n");
+        return 2;
+    }
+    return 0;
+}
