@@ -19,8 +19,8 @@ use Rattle.rv_rows.specs.Loads.{load_bytes, store_bytes, width_bytes, low_bytes}
 abbrev pub at : ℕ → ℕ → ℕ
 at base offset = (base + offset) % 2 ^ 64
 
--- The targets of jumps and taken branches are multiples of 4. To another the jump itself traps, and the target goes
--- into stval (unprivileged manual, 2.5).
+-- The targets of jumps and taken branches are multiples of 4: a jump or taken branch to another address traps itself
+-- (unprivileged manual, 2.5), and the target goes into stval (privileged manual, supervisor part, "stval").
 abbrev pub to : ℕ → Effect → Effect
 to target effect = if target % 4 == 0 then effect else Effect.Trap InstructionMisaligned target
 

@@ -25,7 +25,7 @@ abbrev pub width_bytes : Width → ℕ
 width_bytes Width.Word = 4
 width_bytes Width.Double = 8
 
--- what rd gets, by the number that those bytes spell
+-- what rd gets, by the number that those bytes spell, the low byte first
 abbrev pub loaded : LoadKind → ℕ → ℕ
 loaded LoadKind.Byte n = sign_extended 8 n
 loaded LoadKind.Half n = sign_extended 16 n

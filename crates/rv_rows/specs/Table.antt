@@ -67,7 +67,7 @@ plain instr word = instr
 
 abbrev pub rows : List Line
 rows =
-    -- RV32I and RV64I. FENCE takes any other fields.
+    -- RV32I and RV64I. The other fields of FENCE may be anything (2.7).
     row 0x0000007f 0x00000037 (u_type Lui)
     ∷ row 0x0000007f 0x00000017 (u_type Auipc)
     ∷ row 0x0000007f 0x0000006f (j_type Jal)
@@ -120,7 +120,7 @@ rows =
     ∷ row 0x0000707f 0x0000000f (plain Fence)
     ∷ row 0xffffffff 0x00000073 (plain Ecall)
     ∷ row 0xffffffff 0x00100073 (plain Ebreak)
-    -- Zifencei. FENCE.I takes any other fields.
+    -- Zifencei. The other fields of FENCE.I may be anything (chapter 3).
     ∷ row 0x0000707f 0x0000100f (plain FenceI)
     -- Zicsr
     ∷ row 0x0000707f 0x00001073 (csr_type CsrOp.Write)
@@ -172,7 +172,7 @@ rows =
     ∷ row 0xfe007fff 0x12000073 (plain SfenceVma)
     ∷ []
 
--- the first row that fits a word; no word fits two
+-- the first row that fits a word
 abbrev pub first_row : List Line → ℕ → Option Instr
 first_row [] word = None
 first_row (line ∷ more) word = if bit_and word line.mask == line.matched then Some (line.instr word) else first_row more word

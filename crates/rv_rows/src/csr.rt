@@ -8,7 +8,8 @@ pub enum CsrOp {
     Clear,
 }
 
-/// What a CSR instruction asks for. Each form also reads the CSR.
+/// What a CSR instruction asks for. Each form also reads the CSR, CSRRW with rd x0 too: no CSR of the profile shows a
+/// read.
 #[derive(Clone, Copy, Debug, PartialEq, Eq, Drop)]
 pub enum CsrAccess {
     /// The CSR isn't written: CSRRS or CSRRC with x0, whatever x0 holds, or CSRRSI or CSRRCI with 0.
