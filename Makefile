@@ -16,6 +16,6 @@ run: build
 	folder=$$(mktemp -d) && cd "$$folder" && "$(PROGRAM)" replay <"$(CURDIR)/examples/first.script"; \
 	status=$$?; rm -rf "$$folder"; exit $$status
 
-# Every script in examples/, and the twenty in examples/golden/ whose output is from another program.
+# Every script in examples/, the twenty in examples/golden/ whose output is from another program, and each way to fail.
 examples: build
 	examples/check
