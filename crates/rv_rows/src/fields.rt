@@ -5,7 +5,7 @@ ghost use Rattle.rv_rows.specs.Fields.{bits, sign_extended, rd_field, rs1_field,
 use crate::register::Register;
 
 /// Bits `high` to `low` of the word: `inst[high:low]` in the manual.
-fn bits(word: u32, high: u32, low: u32) -> u32
+pub fn bits(word: u32, high: u32, low: u32) -> u32
     requires order { low ≤ high }
     requires some { high < 32 }
     requires not_all { high - low < 31 }

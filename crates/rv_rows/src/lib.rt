@@ -13,7 +13,7 @@ mod branch;
 mod csr;
 mod effect;
 mod exception;
-mod fields;
+pub mod fields;
 mod form;
 mod instr;
 mod memory;

@@ -1,0 +1,4 @@
+pub mod Choices
+pub mod Fields
+pub mod Opcodes
+pub mod Split
