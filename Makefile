@@ -13,7 +13,7 @@ build:
 
 # The script makes its kernel image as a file, so it is run in a folder of its own.
 run: build
-	folder=$$(mktemp -d) && cd "$$folder" && "$(PROGRAM)" replay <"$(CURDIR)/examples/first.script"; \
+	@folder=$$(mktemp -d) && cd "$$folder" && "$(PROGRAM)" replay <"$(CURDIR)/examples/first.script"; \
 	status=$$?; rm -rf "$$folder"; exit $$status
 
 # Every script in examples/, the twenty in examples/golden/ whose output is from another program, and each way to fail.
