@@ -44,6 +44,6 @@ pub fn place(size: usize, op: &Op) -> PlaceId
             page(size, *at, width(*wide))
         }
         Op::Board(_) => PlaceId::Board,
-        Op::Port(_) | Op::Out(_) | Op::Idle => PlaceId::Out,
+        Op::Port { .. } | Op::Out(_) | Op::Idle => PlaceId::Out,
     }
 }

@@ -91,7 +91,7 @@ fn last_text(alloc: Global, machine: &PlainMachine, exit: Exit) -> Result<ByteLi
 {
     match exit {
         Exit::Done => Ok(done_text(alloc, machine)?),
-        Exit::Usage | Exit::Script { .. } | Exit::Fault { .. } | Exit::OutOfMemory => {
+        Exit::Usage | Exit::Script { .. } | Exit::Fault(_) | Exit::OutOfMemory => {
             Ok(last_line(alloc, exit)?)
         }
     }

@@ -226,16 +226,12 @@ fn last_lines(rt: HostRuntime) -> Result<(), Fail> {
             ". script 18446744073709551615\n",
         ),
         (
-            Exit::Fault {
-                name: Object::Source,
-            },
+            Exit::Fault(Object::Source),
             ". fault Source\n",
         ),
-        (Exit::Fault { name: Object::Sink }, ""),
+        (Exit::Fault(Object::Sink), ""),
         (
-            Exit::Fault {
-                name: Object::Files,
-            },
+            Exit::Fault(Object::Files),
             ". fault Files\n",
         ),
         (Exit::OutOfMemory, ". memory\n"),
