@@ -1,15 +1,15 @@
 // Files in memory, with a log of what was done on them.
 ghost use Rattle.std.specs.Prelude.{◌≡◌, ◌∷◌, [], true, OnOk, OnErr, IsTrue};
 ghost use Rattle.std.specs.FinMap.{get, insert};
-ghost use Rattle.vm_outside.specs.Filing.{IsReadAt, WritesAt};
-ghost use Rattle.vm_outside.specs.Saving.{saved_after};
+ghost use Rattle.outside_mem.specs.Writes.{PutsAt};
+ghost use Rattle.vm_outside.specs.Filing.{IsReadAt};
+ghost use Rattle.outside_mem.specs.Saving.{saved_after};
 
-use crate::failed::Failed;
 use crate::failing::Failing;
 use crate::file_event::FileEvent;
-use crate::files::Files;
 use std::alloc::{AllocError, Global};
 use std::collections::VecDeque;
+use vm_outside::{Failed, Files};
 use vm_types::{ByteList, FileList, TextList};
 
 /// Keeps what its files hold, and each call that was done on them, the newest first. That there is no
@@ -28,13 +28,13 @@ impl MemoryFiles {
     ghost use Rattle.std.specs.Option.{option_copied};
     ghost use Rattle.std.specs.FinMap.{get};
     ghost use Rattle.vm_types.specs.Saved.{nothing_saved};
-    ghost use Rattle.vm_outside.specs.Saving.{saved_after};
-    ghost use Rattle.vm_outside.specs.Logged.{logged};
+    ghost use Rattle.outside_mem.specs.Saving.{saved_after};
+    ghost use Rattle.outside_mem.specs.Saving.{calls_of};
+    ghost use Rattle.outside_mem.specs.Logged.{logged};
 
     pub fn new(alloc: Global, failing: Failing) -> MemoryFiles
-        ensures tells { ⟦<MemoryFiles as Files>⟧.tells result }
-        ensures saved { ⟦<MemoryFiles as Files>⟧.saved result ≡ nothing_saved }
-        ensures faults { ⟦<MemoryFiles as Files>⟧.faults result ≡ failing }
+        ensures known { ⟦<MemoryFiles as Files>⟧.known result ≡
+            record { health = record { tells = true; faults = failing }; saved = nothing_saved; calls = [] } }
         ensures logged { logged result ≡ [] }
     {
         MemoryFiles {
@@ -47,7 +47,7 @@ impl MemoryFiles {
 
     /// What the file of this name holds.
     pub fn find(&self, name: &str) -> Option<&[u8]>
-        ensures { option_copied result ≡ get (⟦<MemoryFiles as Files>⟧.saved self.now) name.now }
+        ensures { option_copied result ≡ get (⟦<MemoryFiles as Files>⟧.known self.now).saved name.now }
     {
         self.files.find(name)
     }
@@ -55,52 +55,39 @@ impl MemoryFiles {
     /// What was done, the newest first: it says what the files held at each moment.
     pub fn log(&self) -> &VecDeque<FileEvent>
         ensures events { result.now.items ≡ logged self.now }
-        ensures saved { ⟦<MemoryFiles as Files>⟧.saved self.now ≡ saved_after (logged self.now) }
+        ensures saved { (⟦<MemoryFiles as Files>⟧.known self.now).saved ≡ saved_after (logged self.now) }
+        ensures calls { (⟦<MemoryFiles as Files>⟧.known self.now).calls ≡ calls_of (logged self.now) }
     {
         &self.log
     }
 
     /// How many calls have failed.
     pub fn faults(&self) -> u64
-        ensures { result ≡ ⟦<MemoryFiles as Files>⟧.faults self.now }
+        ensures { result ≡ (⟦<MemoryFiles as Files>⟧.known self.now).health.faults }
     {
         self.failing.faults()
     }
 }
 
 impl Files for MemoryFiles {
-    ghost use Rattle.std.specs.Prelude.{◌≡◌, ◌∷◌, ⊤, [], length, IfOk, OnOk, OnErr};
-    ghost use Rattle.std.specs.Option.{option_map};
-    ghost use Rattle.std.specs.FinMap.{get, insert};
-    ghost use Rattle.vm_types.specs.Causes.{HasCause};
-    ghost use Rattle.vm_outside.specs.Filing.{IsReadAt, WritesAt};
-    ghost use Rattle.vm_outside.specs.Logged.{logged};
-    ghost use Rattle.vm_outside.specs.declared.file_event.FileEvent.{FileEvent};
+    ghost use Rattle.std.specs.Prelude.{true};
+    ghost use Rattle.outside_mem.specs.Logged.{logged};
+    ghost use Rattle.outside_mem.specs.Saving.{calls_of};
 
-    ghost tells = { λ _. ⊤ };
+    ghost known = { λ f. record {
+      health = record { tells = true; faults = f.failing };
+      saved = f.files;
+      calls = calls_of (logged f);
+    } };
 
-    ghost saved = { λ f. f.files };
-
-    ghost faults = { λ f. f.failing };
-
-    fn size(&mut self, name: &str) -> Result<Option<u64>, Failed>
-        ensures size { IfOk result (λ size. size ≡ option_map length (get (⟦<MemoryFiles as Files>⟧.saved self.old) name.now)) }
-        ensures same { ⟦<MemoryFiles as Files>⟧.saved self.new ≡ ⟦<MemoryFiles as Files>⟧.saved self.old }
-        ensures logged { logged self.new ≡ logged self.old }
-        ensures cause { HasCause (⟦<MemoryFiles as Files>⟧.faults self.old) (⟦<MemoryFiles as Files>⟧.faults self.new) result }
-    {
+    fn size(&mut self, name: &str) -> Result<Option<u64>, Failed> {
         if self.failing.fails() {
             return Err(Failed);
         }
         Ok(self.files.find(name).map(|content| content.len() as u64))
     }
 
-    fn read_at(&mut self, name: &str, at: u64, buf: &mut [u8]) -> Result<(), Failed>
-        ensures bytes { OnOk result (IsReadAt (get (⟦<MemoryFiles as Files>⟧.saved self.old) name.now) at buf.new) }
-        ensures same { ⟦<MemoryFiles as Files>⟧.saved self.new ≡ ⟦<MemoryFiles as Files>⟧.saved self.old }
-        ensures logged { logged self.new ≡ logged self.old }
-        ensures cause { HasCause (⟦<MemoryFiles as Files>⟧.faults self.old) (⟦<MemoryFiles as Files>⟧.faults self.new) result }
-    {
+    fn read_at(&mut self, name: &str, at: u64, buf: &mut [u8]) -> Result<(), Failed> {
         if self.failing.fails() {
             return Err(Failed);
         }
@@ -111,13 +98,7 @@ impl Files for MemoryFiles {
         Ok(())
     }
 
-    fn write_at(&mut self, name: &str, at: u64, bytes: &[u8]) -> Result<(), Failed>
-        ensures written { OnOk result (WritesAt (⟦<MemoryFiles as Files>⟧.saved self.old) name.now at bytes.now (⟦<MemoryFiles as Files>⟧.saved self.new)) }
-        ensures unchanged { OnErr result (⟦<MemoryFiles as Files>⟧.saved self.new ≡ ⟦<MemoryFiles as Files>⟧.saved self.old) }
-        ensures logged { OnOk result (logged self.new ≡ FileEvent.Wrote name.now at bytes.now ∷ logged self.old) }
-        ensures unlogged { OnErr result (logged self.new ≡ logged self.old) }
-        ensures cause { HasCause (⟦<MemoryFiles as Files>⟧.faults self.old) (⟦<MemoryFiles as Files>⟧.faults self.new) result }
-    {
+    fn write_at(&mut self, name: &str, at: u64, bytes: &[u8]) -> Result<(), Failed> {
         if self.failing.fails() {
             return Err(Failed);
         }
@@ -129,12 +110,7 @@ impl Files for MemoryFiles {
         Ok(())
     }
 
-    fn sync(&mut self, name: &str) -> Result<(), Failed>
-        ensures same { ⟦<MemoryFiles as Files>⟧.saved self.new ≡ ⟦<MemoryFiles as Files>⟧.saved self.old }
-        ensures logged { OnOk result (logged self.new ≡ FileEvent.Synced name.now ∷ logged self.old) }
-        ensures unlogged { OnErr result (logged self.new ≡ logged self.old) }
-        ensures cause { HasCause (⟦<MemoryFiles as Files>⟧.faults self.old) (⟦<MemoryFiles as Files>⟧.faults self.new) result }
-    {
+    fn sync(&mut self, name: &str) -> Result<(), Failed> {
         if self.failing.fails() {
             return Err(Failed);
         }
@@ -145,13 +121,7 @@ impl Files for MemoryFiles {
         Ok(())
     }
 
-    fn make(&mut self, name: &str) -> Result<(), Failed>
-        ensures made { OnOk result (⟦<MemoryFiles as Files>⟧.saved self.new ≡ insert (⟦<MemoryFiles as Files>⟧.saved self.old) name.now []) }
-        ensures unchanged { OnErr result (⟦<MemoryFiles as Files>⟧.saved self.new ≡ ⟦<MemoryFiles as Files>⟧.saved self.old) }
-        ensures logged { OnOk result (logged self.new ≡ FileEvent.Made name.now ∷ logged self.old) }
-        ensures unlogged { OnErr result (logged self.new ≡ logged self.old) }
-        ensures cause { HasCause (⟦<MemoryFiles as Files>⟧.faults self.old) (⟦<MemoryFiles as Files>⟧.faults self.new) result }
-    {
+    fn make(&mut self, name: &str) -> Result<(), Failed> {
         if self.failing.fails() {
             return Err(Failed);
         }
@@ -193,7 +163,7 @@ fn write_content(
     at: u64,
     bytes: &[u8],
 ) -> Result<bool, AllocError>
-    ensures written { result ≡ Ok true → WritesAt files.old name.now at bytes.now files.new × (log.new.items ≡ FileEvent.Wrote name.now at bytes.now ∷ log.old.items) }
+    ensures written { result ≡ Ok true → PutsAt files.old name.now at bytes.now files.new × (log.new.items ≡ FileEvent.Wrote name.now at bytes.now ∷ log.old.items) }
     ensures unchanged { (result ≡ Ok true → ⊥) → (files.new ≡ files.old) × (log.new.items ≡ log.old.items) }
 {
     let event = FileEvent::Wrote {
