@@ -8,7 +8,7 @@ use Rattle.vm_types.specs.declared.entry.Event.{Event}
 use Rattle.vm_types.specs.declared.item.ApiCall.{ApiCall}
 use Rattle.vm_types.specs.declared.item.Item.{Item}
 use Rattle.vm_types.specs.declared.exit.Exit.{Exit}
-use Rattle.api_admission.specs.declared.refusal.Refusal.{Refusal}
+use Rattle.refusals.specs.declared.refusal.Refusal.{Refusal}
 use Rattle.api_admission.specs.Admission.{refusal_of}
 use Rattle.api_admission.specs.Answers.{answer_of}
 use Rattle.script_lines.specs.Output.{no_actor_line, not_running_line, reply_line}

@@ -5,8 +5,8 @@ use Rattle.std.specs.FinMap.{get}
 use Rattle.vm_types.specs.Saved.{Saved}
 use Rattle.vm_types.specs.declared.item.ApiCall.TheVariants.{InstanceStart}
 use Rattle.guest_memory.specs.Boot.{image_fits}
-use Rattle.api_admission.specs.declared.refusal.Refusal.{Refusal}
-use Rattle.api_admission.specs.declared.refusal.Refusal.TheVariants.{OnlyBeforeBoot, NoBootSource, NoSuchFile, DoesNotFit}
+use Rattle.refusals.specs.declared.refusal.Refusal.{Refusal}
+use Rattle.refusals.specs.declared.refusal.Refusal.TheVariants.{OnlyBeforeBoot, NoBootSource, NoSuchFile, DoesNotFit}
 use Rattle.api_admission.specs.Admission.{Facts, first_refusal, has_started, is_fit_by, refusal_of}
 use Rattle.flat_guest.specs.declared.plain_guest.PlainGuest.{PlainGuest}
 use Rattle.flat_guest.specs.Plain.{IsGuest}

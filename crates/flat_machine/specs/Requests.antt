@@ -3,8 +3,8 @@ use Rattle.std.specs.Prelude.{ℕ, ◌≡◌, true, List, length, Option, Some, 
 use Rattle.std.specs.FinMap.{get}
 use Rattle.vm_types.specs.declared.item.ApiCall.{ApiCall}
 use Rattle.vm_types.specs.declared.item.ApiCall.TheVariants.{InstanceStart}
-use Rattle.api_admission.specs.declared.refusal.Refusal.{Refusal}
-use Rattle.api_admission.specs.declared.refusal.Refusal.TheVariants as refusal
+use Rattle.refusals.specs.declared.refusal.Refusal.{Refusal}
+use Rattle.refusals.specs.declared.refusal.Refusal.TheVariants as refusal
 use Rattle.api_admission.specs.Admission.{Facts, asks_files, configured, refusal_of}
 use Rattle.api_admission.specs.Answers.{answer_of, refused}
 use Rattle.script_lines.specs.Output.{reply_line}

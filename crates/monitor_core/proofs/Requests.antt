@@ -6,8 +6,8 @@ use Rattle.vm_types.specs.declared.item.ApiCall.{ApiCall}
 use Rattle.vm_types.specs.declared.item.ApiCall.TheVariants.{PutBootSource, PutMachineConfig, InstanceStart, GetInstance}
 use Rattle.api_admission.specs.declared.config.Config.{Config}
 use Rattle.api_admission.specs.declared.config.Phase.{Phase}
-use Rattle.api_admission.specs.declared.refusal.Refusal.{Refusal}
-use Rattle.api_admission.specs.declared.refusal.Refusal.TheVariants as refusal
+use Rattle.refusals.specs.declared.refusal.Refusal.{Refusal}
+use Rattle.refusals.specs.declared.refusal.Refusal.TheVariants as refusal
 use Rattle.api_admission.specs.Admission.{Facts, asks_files, configured, first_refusal, has_started, is_fit_by, refusal_of}
 use Rattle.api_admission.specs.Answers.{answer_by, answer_of, refused}
 use Rattle.script_lines.specs.Output.{reply_line}

@@ -1,7 +1,7 @@
 -- What a call that is not allowed, or comes to a failed call on the files, is answered.
 use Rattle.std.specs.Prelude.{◌≡◌, ℕ, List}
-use Rattle.api_admission.specs.declared.refusal.Refusal.{Refusal}
-use Rattle.api_admission.specs.declared.refusal.Refusal.TheVariants as refusal
+use Rattle.refusals.specs.declared.refusal.Refusal.{Refusal}
+use Rattle.refusals.specs.declared.refusal.Refusal.TheVariants as refusal
 use Rattle.api_admission.specs.Answers.{refused}
 use Rattle.script_lines.specs.Output.{reply_line}
 use Rattle.flat_machine.specs.declared.outcome.Outcome.{Outcome}

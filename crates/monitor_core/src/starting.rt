@@ -6,9 +6,10 @@ ghost use Rattle.vm_types.specs.Causes.{Rose};
 
 use crate::guest::Guest;
 use crate::loading::{LoadError, load};
-use api_admission::{Config, Phase, Refusal, refusal_of};
+use api_admission::{Config, Phase, refusal_of};
 use flat_guest::MOST_MIB;
 use guest_memory::is_image_fit;
+use refusals::Refusal;
 use std::alloc::Global;
 use vm_outside::{Failed, Files};
 use vm_types::ApiCall;

@@ -1,6 +1,7 @@
 // Tables of lines with what they ask for, of lines that are none, and of what is written.
 use crate::{console_line, first_line, item_from, last_line, reply_line};
-use api_admission::{Answer, Refusal, fault_answer};
+use api_admission::{Answer, fault_answer};
+use refusals::Refusal;
 use std::test::Fail;
 use vm_types::{ActorId, ApiCall, ByteList, Exit, Item, Object};
 

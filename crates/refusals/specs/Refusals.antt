@@ -1,8 +1,8 @@
 -- The numbers and texts of refusals.
 use Rattle.std.specs.Prelude.{ℕ, List, ◌++◌, codes}
 use Rattle.std.specs.Fmt.{decimal}
-use Rattle.api_admission.specs.declared.refusal.Refusal.{Refusal}
-use Rattle.api_admission.specs.declared.refusal.Refusal.TheVariants as refusal
+use Rattle.refusals.specs.declared.refusal.Refusal.{Refusal}
+use Rattle.refusals.specs.declared.refusal.Refusal.TheVariants as refusal
 
 abbrev pub number_of : Refusal → ℕ
 number_of refusal.NoSuchPath = 1
@@ -78,6 +78,7 @@ status_of refusal.OutsideFailed = 500
 status_of refusal.OutOfMemory = 503
 status_of other = 400
 
+-- the body of the reply that tells a refusal
 abbrev pub fault_text : Refusal → List ℕ
 fault_text refusal =
     codes "{\"fault_message\":\"" ++ decimal (number_of refusal) ++ codes ": " ++ text_of refusal ++ codes "\"}"

@@ -1,6 +1,9 @@
 // The refusals of calls and files, in the table's order.
-ghost use Rattle.std.specs.Prelude.{◌≡◌};
-ghost use Rattle.api_admission.specs.Refusals.{number_of, status_of, text_of};
+ghost use Rattle.std.specs.Prelude.{◌≡◌, IfOk};
+ghost use Rattle.refusals.specs.Refusals.{fault_text, number_of, status_of, text_of};
+
+use std::alloc::{AllocError, Global};
+use vm_types::ByteList;
 
 /// Why a call, a file or a merge is refused.
 #[derive(Clone, Copy, Debug, PartialEq, Eq, Drop)]
@@ -130,4 +133,14 @@ impl Refusal {
             _ => 400,
         }
     }
+}
+
+/// The body of the reply that tells a refusal.
+pub fn fault_text(alloc: Global, refusal: Refusal) -> Result<ByteList, AllocError>
+    ensures { IfOk result (λ text. text ≡ fault_text refusal) }
+{
+    let number = refusal.number();
+    let text = refusal.text();
+    let body = format!(in alloc; "{{\"fault_message\":\"{number}: {text}\"}}")?;
+    Ok(ByteList::from_vec(body.into_bytes()))
 }
