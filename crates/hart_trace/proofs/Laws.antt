@@ -69,7 +69,7 @@ board_settled (board.StartHart hart pc word) = Reply.Returned 0 0
 board_settled (board.HartStatus hart) = Reply.Returned 0 0
 board_settled act = Reply.Done
 
-idle_queue : QueueShown
+abbrev idle_queue : QueueShown
 idle_queue = record { descriptors = 0; available = 0; used = 0; size = 0; is_ready = false; is_kicked = false }
 
 abbrev pub port_settled : PortOp → Reply

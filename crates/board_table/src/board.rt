@@ -1,4 +1,4 @@
-// The board in the plainest way: the console is the front of an array.
+// The board: the console's bytes are the front of an array.
 ghost use Rattle.std.specs.Prelude.{◌≡◌, ◌≤◌, [], length};
 ghost use Rattle.board_table.specs.Board.{board_act, new_board, put_byte, reset_by};
 
@@ -11,29 +11,29 @@ const INVALID_PARAMETER: u64 = 0xffff_ffff_ffff_fffd;
 
 /// The console's bytes that were not drained, oldest first, and whether the guest is off.
 #[derive(Drop)]
-pub struct PlainBoard {
+pub struct Board {
     ring: [u8; 4096],
     held: usize,
     off: bool,
 }
 
-impl Model for PlainBoard {
+impl Model for Board {
     ghost use Rattle.std.specs.Prelude.{◌≤◌, ◌≡◌, length, take};
-    ghost use Rattle.board_table.specs.Board.{Board};
+    ghost use Rattle.board_table.specs.Board.{Board as BoardValue};
 
-    ghost Value = { Board };
+    ghost Value = { BoardValue };
 
     ghost view = { λ b. record { console = take b.held b.ring; off = b.off } };
 
     ghost invariant = { λ b. (b.held ≤ 4096) × (length b.ring ≡ 4096) };
 }
 
-impl PlainBoard {
+impl Board {
     /// A board as the machine starts with it.
-    pub fn new() -> PlainBoard
+    pub fn new() -> Board
         ensures { result ≡ new_board }
     {
-        PlainBoard {
+        Board {
             ring: [0; 4096],
             held: 0,
             off: false,
@@ -105,11 +105,11 @@ impl PlainBoard {
     }
 }
 
-impl Place for PlainBoard {
-    ghost use Rattle.board_table.specs.Board.{Board, is_board_act, touch};
+impl Place for Board {
+    ghost use Rattle.board_table.specs.Board.{Board as BoardValue, is_board_act, touch};
     ghost use Rattle.board_table.specs.Fitting.{board_reply_fits};
 
-    ghost Value = { Board };
+    ghost Value = { BoardValue };
 
     ghost value = { λ b. b };
 

@@ -1,8 +1,8 @@
 use Rattle.std.proofs.Common.{◌≡◌, rules, arith, take, suc, drop, sym, subst, ◌∙◌, true}
 use Rattle.vm_types.specs.declared.op.Op.{Op}
 use Rattle.vm_types.specs.Fits.{fits}
-use Rattle.hart_trace.proofs.Traces.{stray, split_at, at_end, steps_on}
-use Rattle.hart_trace.proofs.law.op_after.Goals as goal
+use Rattle.hart_rv64.proofs.Walks.{stray, split_at, at_end, steps_on}
+use Rattle.hart_rv64.proofs.traces.op_after.Goals as goal
 
 pub returns-then-not-is_answered : goal.returns-then-not-is_answered
 returns-then-not-is_answered c =
