@@ -1,5 +1,5 @@
 -- What an item of a script does to the flat machine.
-use Rattle.std.specs.Prelude.{ℕ, ◌≡◌, List, [], ◌∷◌, ◌++◌, Option, Some, None, MatchBool}
+use Rattle.std.specs.Prelude.{ℕ, ◌≡◌, List, [], ◌∷◌, Option, Some, None, MatchBool}
 use Rattle.std.specs.FinMap.{insert}
 use Rattle.vm_types.specs.declared.ids.ActorId.{ActorId}
 use Rattle.vm_types.specs.declared.entry.Entry.{Entry}
@@ -13,7 +13,7 @@ use Rattle.vm_outside.specs.Calls.{FileCall}
 use Rattle.vm_outside.specs.Calls.FileCall.{Making, Made, Writing, Synced}
 use Rattle.flat_machine.specs.Outcome.{Outcome}
 use Rattle.flat_machine.specs.Machine.{Machine}
-use Rattle.flat_machine.specs.Requests.{RequestsStep}
+use Rattle.flat_machine.specs.Requests.{FrontStep, RequestsStep}
 
 -- the events of an actor write nothing
 pub record Moves (g : Guest) (actor : ActorId) (count : ℕ) (m : Machine) (text : List ℕ) (n : Machine) : Type 0 where
@@ -42,12 +42,9 @@ ItemStep (File name content) outcomes m text n =
 ItemStep (Api call) outcomes m text n = RequestsStep (requests_of (Api call)) outcomes m text n
 ItemStep (Step actor count) outcomes m text n = (outcomes ≡ []) × StepsLine m.guest actor count m text n
 
--- as far as an item came that was not done to its end: its first requests
-pub record PartStep (item : Item) (outcomes : List Outcome) (m : Machine) (text : List ℕ) (n : Machine) : Type 0 where
-  pub done : List ApiCall
-  pub undone : List ApiCall
-  pub brings : requests_of item ≡ done ++ undone
-  pub steps : RequestsStep done outcomes m text n
+-- as far as an item came that was not done to its end: the first of its requests
+abbrev pub PartStep : Item → List Outcome → Machine → List ℕ → Machine → Type 0
+PartStep item outcomes m text n = FrontStep outcomes (requests_of item) m text n
 
 -- the calls on the files that an item makes which is done: a file line's file is made, written whole and synced
 abbrev pub calls_of : Item → List FileCall

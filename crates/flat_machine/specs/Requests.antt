@@ -63,3 +63,11 @@ RequestsStep (call ∷ calls) (outcome ∷ outcomes) m text n =
     (first : List ℕ) × (mid : Machine) × (rest : List ℕ)
     × RequestStep outcome call m first mid × RequestsStep calls outcomes mid rest n × (text ≡ first ++ rest)
 RequestsStep calls outcomes m text n = ⊥
+
+-- the first of these requests, and not all where there is one, each with how it went
+abbrev pub FrontStep : List Outcome → List ApiCall → Machine → List ℕ → Machine → Type 0
+FrontStep [] calls m text n = (text ≡ []) × (n ≡ m)
+FrontStep (outcome ∷ outcomes) (call ∷ next ∷ calls) m text n =
+    (first : List ℕ) × (mid : Machine) × (rest : List ℕ)
+    × RequestStep outcome call m first mid × FrontStep outcomes (next ∷ calls) mid rest n × (text ≡ first ++ rest)
+FrontStep outcomes calls m text n = ⊥
