@@ -15,7 +15,7 @@ fn fetch_at(at: u64) -> Op {
     Op::Read { at, len: 4 }
 }
 
-fn fetched(at: u64, word: &[u8]) -> Step {
+fn fetched(at: u64, word: &[u8; 4]) -> Step {
     Step {
         op: fetch_at(at),
         reply: Reply::Bytes(Piece::from_slice(word)),
@@ -86,11 +86,15 @@ fn no_trace_begins_with_another_op_or_an_unfit_reply(rt: HostRuntime) {
         op: Op::Board(BoardOp::Look),
         reply: Reply::Word(0),
     };
+    let short = Step {
+        op: fetch_at(0x8020_0000),
+        reply: Reply::Bytes(Piece::from_slice(&[0x13, 0x00, 0x00])),
+    };
     for (turn, step) in [
         (Turn::Fetch, WAITED),
         (Turn::Fetch, fetched(0x8020_0004, &nop)),
         (Turn::Look, fetched(0x8020_0000, &nop)),
-        (Turn::Fetch, fetched(0x8020_0000, &nop[..3])),
+        (Turn::Fetch, short),
         (Turn::Look, word),
     ] {
         assert!(rt; op_after(&start(32, turn), &[step]).is_none());

@@ -1,8 +1,16 @@
 // Where an op acts.
 ghost use Rattle.std.specs.Prelude.{◌≡◌, ◌≤◌, ◌^◌};
-ghost use Rattle.flat_guest.specs.Guest.{page_of, place_of, width_of};
+ghost use Rattle.flat_guest.specs.Places.{page_of, place_of, width_of};
 
 use vm_types::{GuestAddr, Op, PlaceId};
+
+/// What there is to act on, beside the board: so many bytes of RAM, and the ports of so many devices, by their
+/// numbers from 0.
+#[derive(Clone, Copy, Debug, PartialEq, Eq, Drop)]
+pub struct Layout {
+    pub memory_size: usize,
+    pub ports: u8,
+}
 
 const RAM_START: u64 = 0x8000_0000;
 
@@ -32,18 +40,25 @@ fn page(size: usize, at: GuestAddr, len: usize) -> PlaceId
     }
 }
 
-/// The place of an op, in a memory of this size, at most 2^40 bytes.
-pub fn place(size: usize, op: &Op) -> PlaceId
-    requires { size ≤ 2 ^ 40 }
-    ensures { result ≡ place_of size op.now }
+/// The place of an op, where there is so much; the memory has at most 2^40 bytes. An access that isn't inside one page
+/// of RAM, an act on a port that isn't there, an act on a host object and a wait have none: they are at `Out`.
+pub fn place(layout: Layout, op: &Op) -> PlaceId
+    requires { layout.memory_size ≤ 2 ^ 40 }
+    ensures { result ≡ place_of layout op.now }
 {
+    let size = layout.memory_size;
     match op {
         Op::Read { at, len } => page(size, *at, *len),
         Op::Write { at, piece } => page(size, *at, piece.len()),
         Op::Amo { at, wide, .. } | Op::Lr { at, wide } | Op::Sc { at, wide, .. } => {
             page(size, *at, width(*wide))
         }
+        Op::Port { port, act: _ } => if *port < layout.ports {
+            PlaceId::Port(*port)
+        } else {
+            PlaceId::Out
+        },
         Op::Board(_) => PlaceId::Board,
-        Op::Port { .. } | Op::Out(_) | Op::Idle => PlaceId::Out,
+        Op::Out(_) | Op::Idle => PlaceId::Out,
     }
 }

@@ -1,4 +1,4 @@
--- The guest that the plain program's data are.
+-- The guests that a body's data are: its memory, its board and its one hart.
 use Rattle.std.specs.Prelude.{◌≡◌, ◌∷◌, []}
 use Rattle.vm_types.specs.declared.ids.ActorId.{ActorId}
 use Rattle.vm_types.specs.declared.ids.ActorId.TheVariants.{Hart as HartId}
@@ -8,8 +8,7 @@ use Rattle.vm_types.specs.declared.reply.Reply.{Reply}
 use Rattle.guest_memory.specs.Memory as memory
 use Rattle.board_table.specs.Board as board
 use Rattle.hart_rows.specs.declared.regs.Regs.{Regs}
-use Rattle.hart_trace.specs.declared.hart.Hart.{Hart}
-use Rattle.hart_trace.specs.States.{LeadsTo}
+use Rattle.hart_trace.specs.States.{Hart, LeadsTo}
 use Rattle.flat_guest.specs.Guest.{Guest}
 
 -- memory and board are the guest's, and its one hart is where the steps lead
