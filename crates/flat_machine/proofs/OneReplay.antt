@@ -105,17 +105,17 @@ module _ (script : List ℕ) (m n k : Machine) (acts others : List Act) (exit st
   replay_acts = acts_one acts others (judged_script script) m exit stop (length acts + 1) (length others + 1) ended_x ended_y
 
   both_ran : (x.answers ≡ y.answers) × (x.last ≡ y.last)
-  both_ran = run_one others m x.last y.last x.answers y.answers (subst (λ (as : List Act). Run as m x.answers x.last) replay_acts x.plays.ran) y.plays.ran
+  both_ran = run_one others m x.last y.last x.answers y.answers (subst (λ (xs : List Act). Run xs m x.answers x.last) replay_acts x.plays.ran) y.plays.ran
 
   both_left : x.left ≡ y.left
-  both_left = left_one others x.left y.left (subst (λ (as : List Act). lines_done as ++ x.left ≡ judged_script script) replay_acts (sym x.plays.lines) ∙ y.plays.lines)
+  both_left = left_one others x.left y.left (subst (λ (xs : List Act). lines_done xs ++ x.left ≡ judged_script script) replay_acts (sym x.plays.lines) ∙ y.plays.lines)
 
   pub replay_exit : exit ≡ stop
   replay_exit =
       exit_one exit stop y.left (length others + 1) y.last
       (subst (λ (l : List (Option Item)). IsEnd exit l (length others + 1) y.last) both_left
       (subst (λ (q : Machine). IsEnd exit x.left (length others + 1) q) both_ran.1
-      (subst (λ (as : List Act). IsEnd exit x.left (length as + 1) x.last) replay_acts x.ends)))
+      (subst (λ (xs : List Act). IsEnd exit x.left (length xs + 1) x.last) replay_acts x.ends)))
       y.ends
 
   pub replay_text : t ≡ u

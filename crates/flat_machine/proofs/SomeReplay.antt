@@ -34,7 +34,7 @@ made_sound : (es : List Entry) (g h : Guest) (actor : ActorId) → Makes g actor
 made_sound [] g h actor made sound = subst (λ (q : Guest). IsSound q) made sound
 made_sound (e ∷ es) g h actor made sound =
     let event : Event = record { actor = actor; reply = None } in
-    made_sound es made.2 h actor made.4 (sound_next g event e made.2 sound made.3)
+    made_sound es made.1 h actor made.3 (sound_next g event e made.1 sound made.2)
 
 from_sound : (mib : ℕ) (image : Option (List ℕ)) (guest : Option Guest) → SoundBy guest → SoundBy (guest_from mib image guest)
 from_sound mib (Some image) guest sound = sound_start mib image
@@ -114,7 +114,9 @@ record Ends (judges : List (Option Item)) (m : Machine) (number : ℕ) : Type 0 
   ends : IsEnd exit left (length acts + number) last
 
 at_once : (judges : List (Option Item)) (m : Machine) (exit : Exit) (number : ℕ) → IsEnd exit judges number m → Ends judges m number
-at_once judges m exit number ends = record {
+at_once judges m exit number ends =
+    let none_before : number ≡ 0 + number = omega arith in
+    record {
   acts = [];
   exit = exit;
   answers = [];
@@ -124,7 +126,7 @@ at_once judges m exit number ends = record {
   on = tt;
   ran = (refl, refl);
   good = tt;
-  ends = ends;
+  ends = subst (λ (n : ℕ). IsEnd exit judges n m) none_before ends;
 }
 
 some_ends : (judges : List (Option Item)) (m : Machine) (number : ℕ) (off : Bool) → is_off m ≡ off → SoundBy m.guest → Ends judges m number
