@@ -1,8 +1,11 @@
 // How much an access takes, and what becomes of it.
 
-/// The width of an instruction of the extension A: 4 or 8 bytes (unprivileged manual, chapter 8).
+/// How many bytes an access takes, of a store the low ones of its register: 1, 2, 4 or 8 (unprivileged manual, 2.6
+/// and 5.3). The instructions of the extension A take 4, or 8 where they are `wide` (chapter 8).
 #[derive(Clone, Copy, Debug, PartialEq, Eq, Drop)]
 pub enum Width {
+    Byte,
+    Half,
     Word,
     Double,
 }
@@ -18,27 +21,4 @@ pub enum LoadKind {
     ByteUnsigned,
     HalfUnsigned,
     WordUnsigned,
-}
-
-/// How many of a register's low bytes a store puts into memory: 1, 2, 4 or 8 (unprivileged manual, 2.6 and 5.3).
-#[derive(Clone, Copy, Debug, PartialEq, Eq, Drop)]
-pub enum StoreSize {
-    Byte,
-    Half,
-    Word,
-    Double,
-}
-
-/// What an atomic memory operation makes of what was loaded and of a register (unprivileged manual, 8.4).
-#[derive(Clone, Copy, Debug, PartialEq, Eq, Drop)]
-pub enum AmoOp {
-    Swap,
-    Add,
-    Xor,
-    And,
-    Or,
-    Min,
-    Max,
-    Minu,
-    Maxu,
 }
