@@ -11,10 +11,7 @@ mod functions;
 mod groups;
 
 pub use dispatch::decode;
-pub use rv_rows::{
-    AluOp, AmoKind, Condition, CsrOp, Instr, LoadKind, MulDivOp, Register, Width,
-};
-
+pub use rv_rows::{AluOp, AmoKind, Condition, CsrOp, Instr, LoadKind, MulDivOp, Register, Width};
 
 #[cfg(test)]
 mod tests;
