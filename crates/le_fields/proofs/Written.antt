@@ -20,7 +20,11 @@ bytes_of-join (suc w) v low high small =
     let first : (low + 256 * (256 ^ w * high)) % 256 ≡ low % 256 = omega arith in
     let rest : (low + 256 * (256 ^ w * high)) / 256 ≡ low / 256 + 256 ^ w * high = omega arith in
     let below : low / 256 < 256 ^ w = omega arith in
-    rw (suc-add w v) (ap (bytes_of (suc (w + v))) whole ∙ ap (λ n. n ∷ bytes_of (w + v) ((low + 256 * (256 ^ w * high)) / 256)) first ∙ ap (λ n. low % 256 ∷ bytes_of (w + v) n) rest ∙ ap (λ bytes. low % 256 ∷ bytes) (bytes_of-join w v (low / 256) high below))
+    rw (suc-add w v) (
+    ap (bytes_of (suc (w + v))) whole
+    ∙ ap (λ n. n ∷ bytes_of (w + v) ((low + 256 * (256 ^ w * high)) / 256)) first
+    ∙ ap (λ n. low % 256 ∷ bytes_of (w + v) n) rest
+    ∙ ap (λ bytes. low % 256 ∷ bytes) (bytes_of-join w v (low / 256) high below))
 
 -- two bytes written one behind the other
 pub two_written : (xs : List ℕ) (at low high : ℕ) → at + 2 ≤ length xs →
@@ -32,7 +36,9 @@ two_written (x ∷ xs) (suc at) low high room = rw (suc-add at 2) (ap (λ ys. x 
 
 -- two pieces written one behind the other
 pub written_twice : (xs first second : List ℕ) (at width more : ℕ) → at ≤ length xs → length first ≡ width →
-    take (at + width) (take at xs ++ first ++ drop (at + width) xs) ++ second ++ drop (at + width + more) (take at xs ++ first ++ drop (at + width) xs)
+    take (at + width) (take at xs ++ first ++ drop (at + width) xs)
+    ++ second
+    ++ drop (at + width + more) (take at xs ++ first ++ drop (at + width) xs)
     ≡ take at xs ++ (first ++ second) ++ drop (at + width + more) xs
 written_twice xs first second at width more room is =
     let front = take at xs ++ first in
