@@ -1,33 +1,33 @@
 // What atomic memory operations store.
 ghost use Rattle.std.specs.Prelude.{◌≡◌, int_lt};
 ghost use Rattle.rv_rows.specs.Numbers.{signed_32};
-ghost use Rattle.rv_rows.specs.Amo.{amo_double, amo_word, amo_stored};
+ghost use Rattle.rv_rows.specs.Amo.{amo_double, amo_word, amo_value};
 
-use crate::numbers::word;
-use rv_rows::{AmoOp, Width};
+use rv_rows::AmoKind;
+use rv_rows::numbers::low_word;
 
 #[inline]
-fn amo_double(op: AmoOp, old: u64, value: u64) -> u64
-    ensures { result ≡ amo_double op old value }
+fn amo_double(kind: AmoKind, old: u64, value: u64) -> u64
+    ensures { result ≡ amo_double kind old value }
 {
-    match op {
-        AmoOp::Swap => value,
-        AmoOp::Add => old.wrapping_add(value),
-        AmoOp::Xor => old ^ value,
-        AmoOp::And => old & value,
-        AmoOp::Or => old | value,
-        AmoOp::Min => if old.cast_signed() < value.cast_signed() {
+    match kind {
+        AmoKind::Swap => value,
+        AmoKind::Add => old.wrapping_add(value),
+        AmoKind::Xor => old ^ value,
+        AmoKind::And => old & value,
+        AmoKind::Or => old | value,
+        AmoKind::Min => if old.cast_signed() < value.cast_signed() {
             old
         } else {
             value
         },
-        AmoOp::Max => if old.cast_signed() < value.cast_signed() {
+        AmoKind::Max => if old.cast_signed() < value.cast_signed() {
             value
         } else {
             old
         },
-        AmoOp::Minu => if old < value { old } else { value },
-        AmoOp::Maxu => if old < value { value } else { old },
+        AmoKind::MinUnsigned => if old < value { old } else { value },
+        AmoKind::MaxUnsigned => if old < value { value } else { old },
     }
 }
 
@@ -36,33 +36,34 @@ fn amo_double(op: AmoOp, old: u64, value: u64) -> u64
 fn is_word_less(a: u64, b: u64) -> bool
     ensures { result ≡ int_lt (signed_32 a) (signed_32 b) }
 {
-    word(a).cast_signed() < word(b).cast_signed()
+    low_word(a).cast_signed() < low_word(b).cast_signed()
 }
 
 #[inline]
-fn amo_word(op: AmoOp, old: u64, value: u64) -> u64
-    ensures { result ≡ amo_word op old value }
+fn amo_word(kind: AmoKind, old: u64, value: u64) -> u64
+    ensures { result ≡ amo_word kind old value }
 {
-    match op {
-        AmoOp::Swap => value,
-        AmoOp::Add => word(old.wrapping_add(value)) as u64,
-        AmoOp::Xor => old ^ value,
-        AmoOp::And => old & value,
-        AmoOp::Or => old | value,
-        AmoOp::Min => if is_word_less(old, value) { old } else { value },
-        AmoOp::Max => if is_word_less(old, value) { value } else { old },
-        AmoOp::Minu => if old < value { old } else { value },
-        AmoOp::Maxu => if old < value { value } else { old },
+    match kind {
+        AmoKind::Swap => value,
+        AmoKind::Add => low_word(old.wrapping_add(value)) as u64,
+        AmoKind::Xor => old ^ value,
+        AmoKind::And => old & value,
+        AmoKind::Or => old | value,
+        AmoKind::Min => if is_word_less(old, value) { old } else { value },
+        AmoKind::Max => if is_word_less(old, value) { value } else { old },
+        AmoKind::MinUnsigned => if old < value { old } else { value },
+        AmoKind::MaxUnsigned => if old < value { value } else { old },
     }
 }
 
-/// What an atomic memory operation stores, by what was loaded and by the value of its register, of which the word
-/// forms take the low 32 bits (unprivileged manual, 8.4).
-pub fn amo_value(op: AmoOp, width: Width, old: u64, value: u64) -> u64
-    ensures { result ≡ amo_stored op width old value }
+/// What an atomic memory operation stores, by what was in memory and by the value of its register, of both of which
+/// one that isn't wide takes the low 32 bits (unprivileged manual, 8.4).
+pub fn amo_value(kind: AmoKind, wide: bool, old: u64, value: u64) -> u64
+    ensures { result ≡ amo_value kind wide old value }
 {
-    match width {
-        Width::Word => amo_word(op, old, word(value) as u64),
-        Width::Double => amo_double(op, old, value),
+    if wide {
+        amo_double(kind, old, value)
+    } else {
+        amo_word(kind, low_word(old) as u64, low_word(value) as u64)
     }
 }

@@ -3,7 +3,6 @@
 mod alu_edges;
 mod amo_edges;
 mod branch_edges;
-mod effects;
 mod loads;
 mod muldiv_edges;
 mod pairs;

@@ -7,6 +7,7 @@ pub mod Fields
 pub mod Forms
 pub mod Loads
 pub mod MulDiv
+pub mod Names
 pub mod Numbers
 pub mod Registers
 pub mod Sources

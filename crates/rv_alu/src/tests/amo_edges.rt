@@ -1,33 +1,26 @@
 // The atomic memory operations at the edges of their operands.
 use super::pairs::PAIRS;
 use crate::amo_value;
-use rv_rows::{AmoOp, Width};
+use rv_rows::AmoKind;
 
 #[test]
-fn amos_of_words_at_edges(rt: HostRuntime) {
-    for (op, values) in WORDS {
-        for i in 0..30 {
-            let (a, b) = PAIRS[i];
-            let stored = amo_value(op, Width::Word, a % 0x1_0000_0000, b);
-            assert!(rt; stored == values[i / 3][i % 3], "{op:?} of {a} and {b}");
+fn atomic_operations_store_at_edges_what_the_host_computes(rt: HostRuntime) {
+    for (wide, table) in [(false, WORDS), (true, DOUBLES)] {
+        for (kind, values) in table {
+            for i in 0..30 {
+                let (a, b) = PAIRS[i];
+                assert!(rt;
+                    amo_value(kind, wide, a, b) == values[i / 3][i % 3],
+                    "{kind:?} of {a} and {b}"
+                );
+            }
         }
     }
 }
 
-#[test]
-fn amos_of_doubles_at_edges(rt: HostRuntime) {
-    for (op, values) in DOUBLES {
-        for i in 0..30 {
-            let (a, b) = PAIRS[i];
-            let stored = amo_value(op, Width::Double, a, b);
-            assert!(rt; stored == values[i / 3][i % 3], "{op:?} of {a} and {b}");
-        }
-    }
-}
-
-const WORDS: [(AmoOp, [[u64; 3]; 10]); 9] = [
+const WORDS: [(AmoKind, [[u64; 3]; 10]); 9] = [
     (
-        AmoOp::Swap,
+        AmoKind::Swap,
         [
             [0x0, 0x0, 0x0],
             [0x0, 0x1, 0xffffffff],
@@ -42,7 +35,7 @@ const WORDS: [(AmoOp, [[u64; 3]; 10]); 9] = [
         ],
     ),
     (
-        AmoOp::Add,
+        AmoKind::Add,
         [
             [0x0, 0x1, 0xffffffff],
             [0x0, 0x1, 0xffffffff],
@@ -57,7 +50,7 @@ const WORDS: [(AmoOp, [[u64; 3]; 10]); 9] = [
         ],
     ),
     (
-        AmoOp::Xor,
+        AmoKind::Xor,
         [
             [0x0, 0x1, 0xffffffff],
             [0x0, 0x1, 0xffffffff],
@@ -72,7 +65,7 @@ const WORDS: [(AmoOp, [[u64; 3]; 10]); 9] = [
         ],
     ),
     (
-        AmoOp::And,
+        AmoKind::And,
         [
             [0x0, 0x0, 0x0],
             [0x0, 0x0, 0x0],
@@ -87,7 +80,7 @@ const WORDS: [(AmoOp, [[u64; 3]; 10]); 9] = [
         ],
     ),
     (
-        AmoOp::Or,
+        AmoKind::Or,
         [
             [0x0, 0x1, 0xffffffff],
             [0x0, 0x1, 0xffffffff],
@@ -102,7 +95,7 @@ const WORDS: [(AmoOp, [[u64; 3]; 10]); 9] = [
         ],
     ),
     (
-        AmoOp::Min,
+        AmoKind::Min,
         [
             [0x0, 0x0, 0xffffffff],
             [0x0, 0x0, 0xffffffff],
@@ -117,7 +110,7 @@ const WORDS: [(AmoOp, [[u64; 3]; 10]); 9] = [
         ],
     ),
     (
-        AmoOp::Max,
+        AmoKind::Max,
         [
             [0x0, 0x1, 0x0],
             [0x0, 0x1, 0x0],
@@ -132,7 +125,7 @@ const WORDS: [(AmoOp, [[u64; 3]; 10]); 9] = [
         ],
     ),
     (
-        AmoOp::Minu,
+        AmoKind::MinUnsigned,
         [
             [0x0, 0x0, 0x0],
             [0x0, 0x0, 0x0],
@@ -147,7 +140,7 @@ const WORDS: [(AmoOp, [[u64; 3]; 10]); 9] = [
         ],
     ),
     (
-        AmoOp::Maxu,
+        AmoKind::MaxUnsigned,
         [
             [0x0, 0x1, 0xffffffff],
             [0x0, 0x1, 0xffffffff],
@@ -163,9 +156,9 @@ const WORDS: [(AmoOp, [[u64; 3]; 10]); 9] = [
     ),
 ];
 
-const DOUBLES: [(AmoOp, [[u64; 3]; 10]); 9] = [
+const DOUBLES: [(AmoKind, [[u64; 3]; 10]); 9] = [
     (
-        AmoOp::Swap,
+        AmoKind::Swap,
         [
             [0x0, 0x0, 0x0],
             [0x0, 0x1, 0xffffffffffffffff],
@@ -180,7 +173,7 @@ const DOUBLES: [(AmoOp, [[u64; 3]; 10]); 9] = [
         ],
     ),
     (
-        AmoOp::Add,
+        AmoKind::Add,
         [
             [0x0, 0x1, 0xffffffffffffffff],
             [0x8000000000000000, 0x1, 0xffffffffffffffff],
@@ -195,7 +188,7 @@ const DOUBLES: [(AmoOp, [[u64; 3]; 10]); 9] = [
         ],
     ),
     (
-        AmoOp::Xor,
+        AmoKind::Xor,
         [
             [0x0, 0x1, 0xffffffffffffffff],
             [0x8000000000000000, 0x1, 0xffffffffffffffff],
@@ -210,7 +203,7 @@ const DOUBLES: [(AmoOp, [[u64; 3]; 10]); 9] = [
         ],
     ),
     (
-        AmoOp::And,
+        AmoKind::And,
         [
             [0x0, 0x0, 0x0],
             [0x0, 0x0, 0x0],
@@ -225,7 +218,7 @@ const DOUBLES: [(AmoOp, [[u64; 3]; 10]); 9] = [
         ],
     ),
     (
-        AmoOp::Or,
+        AmoKind::Or,
         [
             [0x0, 0x1, 0xffffffffffffffff],
             [0x8000000000000000, 0x1, 0xffffffffffffffff],
@@ -240,7 +233,7 @@ const DOUBLES: [(AmoOp, [[u64; 3]; 10]); 9] = [
         ],
     ),
     (
-        AmoOp::Min,
+        AmoKind::Min,
         [
             [0x0, 0x0, 0xffffffffffffffff],
             [0x8000000000000000, 0x0, 0xffffffffffffffff],
@@ -255,7 +248,7 @@ const DOUBLES: [(AmoOp, [[u64; 3]; 10]); 9] = [
         ],
     ),
     (
-        AmoOp::Max,
+        AmoKind::Max,
         [
             [0x0, 0x1, 0x0],
             [0x0, 0x1, 0x0],
@@ -270,7 +263,7 @@ const DOUBLES: [(AmoOp, [[u64; 3]; 10]); 9] = [
         ],
     ),
     (
-        AmoOp::Minu,
+        AmoKind::MinUnsigned,
         [
             [0x0, 0x0, 0x0],
             [0x0, 0x0, 0x0],
@@ -285,7 +278,7 @@ const DOUBLES: [(AmoOp, [[u64; 3]; 10]); 9] = [
         ],
     ),
     (
-        AmoOp::Maxu,
+        AmoKind::MaxUnsigned,
         [
             [0x0, 0x1, 0xffffffffffffffff],
             [0x8000000000000000, 0x1, 0xffffffffffffffff],
