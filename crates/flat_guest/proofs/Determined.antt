@@ -9,7 +9,8 @@ use Rattle.vm_types.specs.declared.entry.Entry.{Entry}
 use Rattle.vm_types.specs.declared.entry.Event.{Event}
 use Rattle.hart_rows.specs.declared.regs.Regs.{Regs}
 use Rattle.hart_trace.proofs.Traces.{one_op}
-use Rattle.flat_guest.specs.Guest.{Guest, Wants, WantsFrom, place_of}
+use Rattle.guest_memory.specs.Route.{place_of}
+use Rattle.flat_guest.specs.Guest.{Guest, Wants, WantsFrom}
 use Rattle.flat_guest.specs.Steps.{Answers, AnswersOut, FlatStep, Makes, StepsBy, guest_after}
 
 out_one : (op : Op) (given : Option Reply) (r s : Reply) → AnswersOut op given r → AnswersOut op given s → r ≡ s

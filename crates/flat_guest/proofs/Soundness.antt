@@ -16,7 +16,8 @@ use Rattle.hart_rows.specs.declared.regs.Regs.{Regs}
 use Rattle.hart_trace.specs.Traces.{IsPrefix, Continues}
 use Rattle.hart_trace.specs.States.{fresh}
 use Rattle.hart_trace.proofs.Traces.{leads_start, hart_prefix, some_hart, some_op, any_reply, wants_only}
-use Rattle.flat_guest.specs.Guest.{Guest, Wants, WantsFrom, place_of, is_actor}
+use Rattle.guest_memory.specs.Route.{place_of}
+use Rattle.flat_guest.specs.Guest.{Guest, Wants, WantsFrom, is_actor}
 use Rattle.flat_guest.specs.Sound.{IsSound}
 use Rattle.flat_guest.specs.Start.{started}
 use Rattle.flat_guest.specs.Steps.{IsUnstamped, StepsBy, Answers, AnswersOut, FlatStep, guest_after}

@@ -8,13 +8,14 @@ use Rattle.vm_types.specs.declared.reply.Reply.{Reply}
 use Rattle.vm_types.specs.declared.entry.Entry.{Entry}
 use Rattle.vm_types.specs.declared.entry.Event.{Event}
 use Rattle.guest_memory.specs.Memory as memory
+use Rattle.guest_memory.specs.Route.{place_of}
 use Rattle.board_table.specs.Board as board
 use Rattle.hart_rows.specs.declared.regs.Regs.{Regs}
 use Rattle.hart_trace.specs.declared.hart.Hart.{Hart}
 use Rattle.hart_trace.specs.States.{LeadsTo, hart_wants, hart_next}
 use Rattle.hart_trace.proofs.Leads.{leads_next}
 use Rattle.hart_trace.proofs.Traces.{hart_continues}
-use Rattle.flat_guest.specs.Guest.{Guest, Wants, WantsFrom, place_of}
+use Rattle.flat_guest.specs.Guest.{Guest, Wants, WantsFrom}
 use Rattle.flat_guest.specs.Steps.{Answers, FlatStep, IsUnstamped, Makes, StepsBy, guest_after, memory_after, board_after}
 use Rattle.flat_guest.specs.Plain.{IsGuest, reply_at}
 use Rattle.flat_guest.proofs.HartOps.{hart_op}

@@ -10,8 +10,9 @@ use Rattle.vm_types.specs.declared.entry.Event.{Event}
 use Rattle.vm_types.specs.Ids.{same_actor}
 use Rattle.vm_types.specs.Fits.{out_fits}
 use Rattle.guest_memory.specs.Memory as memory
+use Rattle.guest_memory.specs.Route.{place_of}
 use Rattle.board_table.specs.Board as board
-use Rattle.flat_guest.specs.Guest.{Guest, Wants, place_of}
+use Rattle.flat_guest.specs.Guest.{Guest, Wants}
 
 -- with no place, a host object's reply is given and fits; a wait is done; an access is a fault
 abbrev pub AnswersOut : Op → Option Reply → Reply → Type 0

@@ -1,18 +1,9 @@
 // Where an op acts.
 ghost use Rattle.std.specs.Prelude.{◌≡◌, ◌≤◌, ◌^◌};
-ghost use Rattle.flat_guest.specs.Guest.{page_of, place_of, width_of};
+ghost use Rattle.guest_memory.specs.Route.{page_of, place_of};
 
+use guest_memory::{PAGE_SIZE, RAM_START, width_of};
 use vm_types::{GuestAddr, Op, PlaceId};
-
-const RAM_START: u64 = 0x8000_0000;
-
-const PAGE_SIZE: u64 = 4096;
-
-fn width(wide: bool) -> usize
-    ensures { result ≡ width_of wide }
-{
-    if wide { 8 } else { 4 }
-}
 
 // The page that has all of these bytes, in a memory of this size.
 fn page(size: usize, at: GuestAddr, len: usize) -> PlaceId
@@ -24,9 +15,9 @@ fn page(size: usize, at: GuestAddr, len: usize) -> PlaceId
     }
     let offset = at - RAM_START;
     if offset as u128 + len as u128 <= size as u128
-        && offset % PAGE_SIZE + len as u64 <= PAGE_SIZE
+        && offset as usize % PAGE_SIZE + len <= PAGE_SIZE
     {
-        PlaceId::Page((offset / PAGE_SIZE) as u32)
+        PlaceId::Page((offset as usize / PAGE_SIZE) as u32)
     } else {
         PlaceId::Out
     }
@@ -41,7 +32,7 @@ pub fn place(size: usize, op: &Op) -> PlaceId
         Op::Read { at, len } => page(size, *at, *len),
         Op::Write { at, piece } => page(size, *at, piece.len()),
         Op::Amo { at, wide, .. } | Op::Lr { at, wide } | Op::Sc { at, wide, .. } => {
-            page(size, *at, width(*wide))
+            page(size, *at, width_of(*wide))
         }
         Op::Board(_) => PlaceId::Board,
         Op::Port(_) | Op::Out(_) | Op::Idle => PlaceId::Out,

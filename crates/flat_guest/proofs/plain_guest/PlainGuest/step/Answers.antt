@@ -1,7 +1,7 @@
 use Rattle.std.proofs.Common.{ap, sym, ◌∙◌, ℕ}
 use Rattle.vm_types.specs.declared.reply.Reply.{Reply}
 use Rattle.hart_trace.specs.States.{hart_next}
-use Rattle.flat_guest.specs.Guest.{place_of}
+use Rattle.guest_memory.specs.Route.{place_of}
 use Rattle.flat_guest.proofs.Stepping.{step_is, stays}
 use Rattle.flat_guest.proofs.plain_guest.PlainGuest.step.Goals as goal
 
