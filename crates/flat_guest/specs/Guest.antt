@@ -9,6 +9,8 @@ use Rattle.guest_memory.specs.Memory.{Memory}
 use Rattle.board_table.specs.Board.{Board}
 use Rattle.hart_rows.specs.declared.regs.Regs.{Regs}
 use Rattle.hart_trace.specs.Traces.{Continues}
+use Rattle.flat_guest.specs.declared.places.Layout.{Layout}
+use Rattle.flat_guest.specs.Places.{without_devices}
 
 pub record Guest : Type 0 where
   pub memory : Memory
@@ -29,3 +31,7 @@ WantsFrom (Some start) steps op = Continues start steps op
 abbrev pub Wants : Guest → ActorId → Op → Type 0
 Wants g (Hart k) op = WantsFrom (slice_get g.starts k) (g.steps (Hart k)) op
 Wants g actor op = ⊥
+
+-- what there is to act on: its memory, and no device yet
+abbrev pub layout_of : Guest → Layout
+layout_of g = without_devices (length g.memory.bytes)

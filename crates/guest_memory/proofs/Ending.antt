@@ -1,5 +1,5 @@
 -- Slots that a write has gone over, one after another.
-use Rattle.std.proofs.Common.{◌≡◌, ℕ, zero, suc, ◌+◌, ◌<◌, List, [], ◌∷◌, ◌++◌, Option, length, take, drop, get_or, set, refl, sym, ap, ◌∙◌, arith}
+use Rattle.std.proofs.Common.{◌≡◌, ℕ, zero, suc, ◌+◌, ◌<◌, List, [], ◌∷◌, ◌++◌, Option, length, take, drop, get_or, set, refl, ap, ◌∙◌, arith}
 use Rattle.vm_types.specs.declared.ids.ActorId.{ActorId}
 use Rattle.guest_memory.specs.Reserved.{slot_after, slots_after}
 

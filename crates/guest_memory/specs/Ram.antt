@@ -1,5 +1,5 @@
 -- Where RAM is, and its pages.
-use Rattle.std.specs.Prelude.{ℕ, ◌+◌, ◌-◌, ◌*◌, ◌/◌, ◌%◌, nat_le, Bool, ◌&&◌}
+use Rattle.std.specs.Prelude.{ℕ, ◌+◌, ◌-◌, ◌/◌, ◌%◌, nat_le, Bool, ◌&&◌}
 
 abbrev pub ram_start : ℕ
 ram_start = 0x80000000

@@ -12,7 +12,7 @@ abbrev pub hart_limit : ℕ
 hart_limit = 32
 
 -- so many pages in which nothing is reserved
-abbrev pub unreserved : ℕ → List (Option ℕ)
+unfoldable pub unreserved : ℕ → List (Option ℕ)
 unreserved pages = replicate (hart_limit * pages) None
 
 -- the first slot of the page of an address

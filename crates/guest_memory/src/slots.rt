@@ -2,11 +2,27 @@
 ghost use Rattle.std.specs.Prelude.{◌≡◌, ◌+◌, ◌≤◌, ◌<◌, ◌^◌, length};
 ghost use Rattle.guest_memory.specs.Reserved as reserved;
 
-use crate::ram::RAM_START;
+use crate::ram::{PAGE_SIZE, RAM_START};
 use vm_types::{ActorId, GuestAddr, is_same_actor};
 
 /// How many harts a machine has at most, and how many slots a page.
 pub const HART_LIMIT: usize = 32;
+
+/// The first slot of the page of an address.
+pub fn first_slot(at: GuestAddr) -> usize
+    requires { RAM_START ≤ at }
+    ensures { result ≡ reserved.first_slot at }
+{
+    HART_LIMIT * ((at - RAM_START) as usize / PAGE_SIZE)
+}
+
+/// The granule that an address is in, by its offset in the page.
+pub fn granule_of(at: GuestAddr) -> u16
+    requires { RAM_START ≤ at }
+    ensures { result ≡ reserved.granule_of at }
+{
+    ((at - RAM_START) as usize % PAGE_SIZE / 8 * 8) as u16
+}
 
 /// What an actor has reserved in the page with this first slot.
 pub fn held_by(slots: &[Option<u16>], first: usize, actor: ActorId) -> Option<u16>

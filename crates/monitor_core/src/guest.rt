@@ -25,8 +25,7 @@ pub struct Guest {
 impl Guest {
     ghost use Rattle.std.specs.Prelude.{List, None};
     ghost use Rattle.vm_types.specs.declared.entry.Entry.{Entry};
-    ghost use Rattle.flat_guest.specs.Guest.{Guest as FlatGuest};
-    ghost use Rattle.guest_memory.specs.Route.{place_of};
+    ghost use Rattle.flat_guest.specs.Guest.{Guest as FlatGuest, place_of};
     ghost use Rattle.flat_guest.specs.Plain.{IsGuest, reply_at};
     ghost use Rattle.flat_guest.specs.Start.{started};
     ghost use Rattle.flat_guest.specs.Steps.{FlatStep, StepsBy, board_after, guest_after, memory_after};
