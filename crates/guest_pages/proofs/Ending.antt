@@ -1,12 +1,11 @@
 -- Where no hart has reserved anything, a write ends nothing; and what becomes of granules inside a page.
-use Rattle.std.proofs.Common.{◌≡◌, ℕ, zero, suc, ◌+◌, ◌%◌, ◌≤◌, ◌<◌, Bool, true, false, cond, ◌&&◌, not, List, [], ◌∷◌, Option, Some, None, is_some, length, set, zero-add, arith, refl, sym, ap, ◌∙◌}
+use Rattle.std.proofs.Common.{◌≡◌, ℕ, zero, suc, ◌%◌, Bool, true, false, cond, ◌&&◌, not, List, [], ◌∷◌, Option, Some, None, is_some, length, set, zero-add, arith, refl, ap, ◌∙◌}
 use Rattle.std.specs.List.{count_by}
 use Rattle.std.proofs.lemmas.List.Sums.{sum_by-cons}
 use Rattle.vm_types.specs.declared.ids.ActorId.{ActorId}
 use Rattle.vm_types.specs.declared.ids.ActorId.TheVariants.{Hart}
 use Rattle.vm_types.specs.Ids.{same_actor}
-use Rattle.guest_memory.specs.Ram.{page_size}
-use Rattle.guest_memory.specs.Reserved.{hart_limit, reaches, granule_start, slot_after, slots_after}
+use Rattle.guest_memory.specs.Reserved.{hart_limit, reaches, granule_start, slots_after}
 use Rattle.guest_pages.specs.Flat.{AreInside}
 
 pub length-slots_after : (writer : ActorId) (at len slot : ℕ) (slots : List (Option ℕ)) → length (slots_after writer at len slot slots) ≡ length slots

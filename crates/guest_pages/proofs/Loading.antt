@@ -1,12 +1,12 @@
 -- A block goes into pages piece by piece.
-use Rattle.std.proofs.Common.{◌≡◌, ℕ, zero, suc, ◌+◌, ◌*◌, ◌-◌, ◌<◌, ◌≤◌, Bool, List, [], ◌∷◌, ◌++◌, Option, None, length, map, take, drop, get_or, set, replicate, refl, sym, ap, ◌∙◌, subst, arith, length-append, length-take, length-drop, append_assoc}
+use Rattle.std.proofs.Common.{◌≡◌, ℕ, zero, suc, ◌+◌, ◌*◌, ◌<◌, ◌≤◌, List, [], ◌∷◌, ◌++◌, Option, None, length, take, drop, get_or, set, replicate, refl, sym, ap, ◌∙◌, subst, arith, length-append, append_assoc}
 use Rattle.std.specs.List.{flat_map}
 use Rattle.std.proofs.Math.Seq.{take-add, map-set_same}
 use Rattle.std.proofs.lemmas.List.{drop-drop, length-take-le, take_all}
 use Rattle.guest_memory.specs.Memory.{Memory, put_at}
 use Rattle.guest_memory.specs.Reserved.{unreserved}
 use Rattle.guest_pages.specs.Flat.{IsPage, ArePages}
-use Rattle.guest_pages.specs.Pages.{PageValue, flat_of, patched, loaded, marks_of, new_page, new_pages, empty_memory}
+use Rattle.guest_pages.specs.Pages.{PageValue, flat_of, patched, loaded, marks_of, new_pages, empty_memory}
 use Rattle.guest_pages.proofs.Here.{page_at}
 use Rattle.guest_pages.proofs.Joined.{read_joined, put_joined, put_behind}
 

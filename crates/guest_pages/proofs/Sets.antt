@@ -1,17 +1,16 @@
 -- Pages as they are made, and after an act on one of them.
-use Rattle.std.proofs.Common.{◌≡◌, ℕ, zero, suc, ◌+◌, ◌*◌, ◌<◌, List, [], ◌∷◌, ◌++◌, Option, Some, None, length, take, drop, get_or, set, replicate, false, refl, sym, ap, ◌∙◌, subst, arith}
+use Rattle.std.proofs.Common.{◌≡◌, ℕ, zero, suc, ◌+◌, ◌*◌, ◌<◌, List, [], ◌∷◌, ◌++◌, Option, None, length, take, drop, get_or, set, replicate, false, refl, sym, ap, ◌∙◌, subst, arith}
 use Rattle.std.proofs.lemmas.List.{length-replicate, get_or_default}
 use Rattle.vm_types.specs.declared.ids.ActorId.{ActorId}
 use Rattle.vm_types.specs.declared.ids.PlaceId.{PlaceId}
 use Rattle.vm_types.specs.declared.op.Op.{Op}
-use Rattle.vm_types.specs.declared.op.Op.TheVariants as Op
 use Rattle.vm_types.specs.declared.reply.Reply.{Reply}
 use Rattle.guest_memory.specs.Memory.{touch}
 use Rattle.guest_memory.specs.Route.{access_place, page_of}
 use Rattle.guest_memory.specs.Reserved.{unreserved}
 use Rattle.guest_memory.specs.Words.{width_of}
 use Rattle.guest_pages.specs.Flat.{AreInside, IsPage, ArePages}
-use Rattle.guest_pages.specs.Pages.{PageValue, page_touch, flat_of, new_page, new_pages, unmarked, cleared, filled}
+use Rattle.guest_pages.specs.Pages.{PageValue, page_touch, flat_of, new_page, new_pages, unmarked, cleared}
 use Rattle.guest_pages.proofs.Here.{here, size_of_pages, page_at, pages_set}
 use Rattle.guest_pages.proofs.Staying.{page_stays}
 use Rattle.guest_pages.proofs.Touching.{Touches, touches}

@@ -1,5 +1,5 @@
 -- An act leaves a page a page.
-use Rattle.std.proofs.Common.{◌≡◌, ℕ, zero, ◌+◌, ◌*◌, ◌-◌, ◌/◌, ◌%◌, ◌<◌, ◌≤◌, nat_le, nat_lt, Bool, true, false, cond, ◌&&◌, List, [], ◌∷◌, ◌++◌, Option, Some, None, length, take, drop, set, refl, ap, ◌∙◌, arith, length-append, length-drop, length-set}
+use Rattle.std.proofs.Common.{◌≡◌, ℕ, ◌+◌, ◌*◌, ◌-◌, ◌%◌, ◌<◌, ◌≤◌, nat_le, nat_lt, Bool, true, false, cond, ◌&&◌, List, [], ◌∷◌, ◌++◌, Option, Some, None, length, take, drop, set, refl, ap, ◌∙◌, arith, length-append, length-drop, length-set}
 use Rattle.std.proofs.lemmas.Bool.{leb-true}
 use Rattle.std.proofs.lemmas.List.{length-take-le}
 use Rattle.vm_types.specs.declared.ids.ActorId.{ActorId}
@@ -10,8 +10,7 @@ use Rattle.vm_types.specs.declared.reply.Reply.{Reply}
 use Rattle.vm_types.specs.declared.reply.Reply.TheVariants.{Done, Bytes, Word, AccessFault}
 use Rattle.amo_table.specs.Amo.{amo_value}
 use Rattle.guest_memory.specs.Memory.{put_at}
-use Rattle.guest_memory.specs.Ram.{page_size}
-use Rattle.guest_memory.specs.Reserved.{hart_limit, granule_of, held_by, holding, is_granule}
+use Rattle.guest_memory.specs.Reserved.{hart_limit, granule_of, held_by, is_granule}
 use Rattle.guest_memory.specs.Words.{width_of, word_bytes}
 use Rattle.guest_pages.specs.Pages.{PageValue, page_start, is_within, page_read, page_word, page_written, page_reserving, page_touch, filled, unmarked, patched, page_holding}
 use Rattle.guest_pages.specs.Flat.{AreInside, IsPage}

@@ -1,6 +1,8 @@
 // Acts on pages, what marks them, and a block over the ends of pages.
+ghost use Rattle.std.specs.Prelude.{◌≤◌, ◌^◌, length};
+
 use crate::{Page, PageSet};
-use guest_memory::access_place;
+use guest_memory::{PAGE_SIZE, access_place};
 use std::test::Fail;
 use vm_types::{ActorId, AmoKind, Op, Piece, Place, PlaceId, Reply};
 
@@ -101,50 +103,52 @@ fn what_is_put_there_marks_nothing(rt: HostRuntime) -> Result<(), Fail> {
     Ok(())
 }
 
+/// The act on the page that has its bytes, if one has.
+fn act_on(pages: &mut PageSet, op: &Op) -> Option<Reply>
+    requires { length pages.old ≤ 2 ^ 28 }
+{
+    let size = PAGE_SIZE * pages.len();
+    match access_place(size, op) {
+        PlaceId::Page(number) => Some(pages.act(number as usize, H0, op)),
+        _ => None,
+    }
+}
+
 #[test]
 fn an_access_is_inside_one_page(rt: HostRuntime) -> Result<(), Fail> {
     let mut pages = PageSet::new(rt.alloc(), 2)?;
-    for (at, len, page) in [
-        (0x8000_0000, 1, Some(0)),
-        (0x8000_0fff, 1, Some(0)),
-        (0x8000_1000, 64, Some(1)),
-        (0x8000_1fff, 1, Some(1)),
-        (0x8000_1ff8, 8, Some(1)),
-        (0x8000_0fff, 2, None),
-        (0x7fff_ffff, 1, None),
-        (0x8000_2000, 1, None),
-        (0x8000_1000, 0, None),
+    for (at, reply) in [
+        (0x8000_0000, Some(Reply::Done)),
+        (0x8000_0ffc, Some(Reply::Done)),
+        (0x8000_1000, Some(Reply::Done)),
+        (0x8000_1ffc, Some(Reply::Done)),
+        (0x7fff_ffff, None),
+        (0x8000_0ffd, None),
+        (0x8000_1ffd, None),
+        (0x8000_2000, None),
+        (0xffff_ffff_ffff_ffff, None),
     ] {
         assert_eq!(rt; pages.len(), 2);
-        let op = read(at, len);
-        match access_place(8192, &op) {
-            PlaceId::Page(number) => {
-                assert_eq!(rt; Some(number), page, "{len} at {at}");
-                let reply = pages.act(number as usize, H0, &op);
-                assert!(rt; matches!(reply, Reply::Bytes(_)), "{len} at {at}");
-            }
-            other => {
-                assert_eq!(rt; other, PlaceId::Out);
-                assert_eq!(rt; page, None, "{len} at {at}");
-            }
-        }
+        assert_eq!(rt; act_on(&mut pages, &zeros(at)), reply, "{at}");
     }
     Ok(())
 }
 
 #[test]
 fn a_block_goes_over_the_ends_of_pages(rt: HostRuntime) -> Result<(), Fail> {
-    let mut pages = PageSet::new(rt.alloc(), 3)?;
-    let block = vec![in rt.alloc(); 7u8; 4098]?;
+    let alloc = rt.alloc();
+    let mut pages = PageSet::new(alloc, 3)?;
+    let block = vec![in alloc; 7u8; 4098]?;
+    let mut wanted = vec![in alloc; 0u8; 12_288]?;
+    wanted[4095..8193].copy_from_slice(&block);
     assert_eq!(rt; pages.len(), 3);
     assert_eq!(rt; block.len(), 4098);
     pages.load(4095, &block);
-    assert_eq!(rt; pages.len(), 3);
-    assert_eq!(rt; &pages.page(0).bytes()[4093..], [0, 0, 7].as_slice());
-    assert!(rt; pages.page(1).bytes().iter().all(|byte| *byte == 7));
-    assert_eq!(rt; &pages.page(2).bytes()[..3], [7, 0, 0].as_slice());
     for number in 0..3 {
-        assert!(rt; !pages.page(number).is_marked());
+        assert_eq!(rt; pages.len(), 3);
+        let page = pages.page(number);
+        assert!(rt; page.bytes() == &wanted[4096 * number..4096 * number + 4096], "{number}");
+        assert!(rt; !page.is_marked());
     }
     Ok(())
 }
