@@ -6,6 +6,7 @@ use Rattle.vm_types.specs.declared.op.Op.{Op}
 use Rattle.vm_types.specs.Fits.{fits}
 use Rattle.guest_memory.specs.Memory as memory
 use Rattle.guest_memory.specs.Fitting.{memory_fits}
+use Rattle.guest_memory.specs.Ram.{ram_start, page_size, is_ram}
 use Rattle.board_table.specs.Board as board
 use Rattle.board_table.specs.Fitting.{board_reply_fits}
 use Rattle.flat_guest.specs.Guest.{Guest}
@@ -24,8 +25,8 @@ read_answered g actor at len false i = (refl, refl)
 pub answers_at : (g : Guest) (actor : ActorId) (there : Layout) (op : Op) → is_hart_op op ≡ true
     → Answers (place_of there op) g actor op None (reply_at (place_of there op) g.memory g.board actor op)
 answers_at g actor there (Op.Read at len) is =
-    read_answered g actor at len (nat_le 1 len && memory.is_ram there.memory_size at len && nat_le
-    ((at - memory.ram_start) % memory.page_size + len) memory.page_size) ((at - memory.ram_start) / memory.page_size)
+    read_answered g actor at len (nat_le 1 len && is_ram there.memory_size at len && nat_le
+    ((at - ram_start) % page_size + len) page_size) ((at - ram_start) / page_size)
 answers_at g actor there (Op.Board act) is = (refl, refl)
 answers_at g actor there Op.Idle is = (refl, refl)
 answers_at g actor there op is = cc
@@ -38,8 +39,8 @@ read_fits m b actor at len false i = refl
 pub answer_fits : (m : memory.Memory) (b : board.Board) (actor : ActorId) (there : Layout) (op : Op)
     → is_hart_op op ≡ true → fits op (reply_at (place_of there op) m b actor op) ≡ true
 answer_fits m b actor there (Op.Read at len) is =
-    read_fits m b actor at len (nat_le 1 len && memory.is_ram there.memory_size at len && nat_le
-    ((at - memory.ram_start) % memory.page_size + len) memory.page_size) ((at - memory.ram_start) / memory.page_size)
+    read_fits m b actor at len (nat_le 1 len && is_ram there.memory_size at len && nat_le
+    ((at - ram_start) % page_size + len) page_size) ((at - ram_start) / page_size)
 answer_fits m b actor there (Op.Board act) is = board_reply_fits b actor (Op.Board act) is
 answer_fits m b actor there Op.Idle is = refl
 answer_fits m b actor there op is = cc
