@@ -1,0 +1,5 @@
+pub mod Journals
+pub mod Legal
+pub mod Order
+pub mod Parts
+pub mod Stamps
