@@ -1,5 +1,6 @@
 pub mod Journals
 pub mod Legal
+pub mod Merged
 pub mod Order
 pub mod Parts
 pub mod Stamps
