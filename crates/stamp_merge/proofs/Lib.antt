@@ -2,6 +2,7 @@ pub mod Flat
 pub mod Laid
 pub mod Legal
 pub mod Meets
+pub mod Next
 pub mod Ordered
 pub mod Serial
 pub mod Sorting

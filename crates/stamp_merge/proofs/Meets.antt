@@ -42,17 +42,6 @@ met_more es hs ns ms e have one p inner =
     let M : ℕ → Type 0 = λ n. (at_place p (es ++ e ∷ []) ≡ take n (history_at p hs)) × (n ≤ length (history_at p hs)) in
     subst M (sym (one.moved p)) (split ∙ by.0, by.1)
 
-out_away : (e : Entry) (p : PlaceId) → is_out e.place ≡ true → is_out p ≡ false → (t : Bool) → same_place e.place p ≡ t → t ≡ false
-out_away e p out inner true same = let q : is_out e.place ≡ is_out p = ap is_out (same_place-eq e.place p same) in cc
-out_away e p out inner false same = refl
-
--- an event with no place
-met_out : (es : List Entry) (hs : List History) (ns : List ℕ) (e : Entry) → HaveMet es hs ns → is_out e.place ≡ true → HaveMet (es ++ e ∷ []) hs ns
-met_out es hs ns e have out p inner =
-    let split : at_place p (es ++ e ∷ []) ≡ at_place p es ++ at_place p (e ∷ []) = filter-append (λ (x : Entry). same_place x.place p) es (e ∷ []) in
-    let none : at_place p (e ∷ []) ≡ [] = one_away p e (out_away e p out inner (same_place e.place p) refl) in
-    (split ∙ (λ i. (have p inner).0 i ++ none i) ∙ append-nil (take (met_at p hs ns) (history_at p hs)), (have p inner).1)
-
 taken : (es : List Entry) (i : ℕ) (e : Entry) → i < length es → e ≡ get_or es i e → take (i + 1) es ≡ take i es ++ e ∷ []
 taken es i e below is = take_more es i e below ∙ ap (λ x. take i es ++ x ∷ []) (sym is)
 
@@ -60,17 +49,13 @@ pub met_step : (es : List Entry) (hs : List History) (ns ms : List ℕ) (i : ℕ
 met_step es hs ns ms i e below is have one =
     subst (λ xs. HaveMet xs hs ms) (sym (taken es i e below is)) (met_more (take i es) hs ns ms e have one)
 
-pub out_step : (es : List Entry) (hs : List History) (ns : List ℕ) (i : ℕ) (e : Entry) → i < length es → e ≡ get_or es i e → HaveMet (take i es) hs ns → is_out e.place ≡ true → HaveMet (take (i + 1) es) hs ns
-out_step es hs ns i e below is have out =
-    subst (λ xs. HaveMet xs hs ns) (sym (taken es i e below is)) (met_out (take i es) hs ns e have out)
-
 get_at : (xs ys : List Entry) (e : Entry) (k : ℕ) → length xs ≡ k → slice_get (xs ++ e ∷ ys) k ≡ Some e
 get_at [] ys e zero is = refl
 get_at [] ys e (suc k) is = absurd (omega (arith, is))
 get_at (x ∷ xs) ys e zero is = absurd (omega (arith, is))
 get_at (x ∷ xs) ys e (suc k) is = get_at xs ys e k (omega (arith, is))
 
-get_past : (xs : List Entry) (k : ℕ) → length xs ≤ k → slice_get xs k ≡ None
+pub get_past : (xs : List Entry) (k : ℕ) → length xs ≤ k → slice_get xs k ≡ None
 get_past [] k is = refl
 get_past (x ∷ xs) zero is = absurd (omega (arith, is))
 get_past (x ∷ xs) (suc k) is = get_past xs k (omega (arith, is))

@@ -1,5 +1,5 @@
 -- Whether the histories of the places have just the entries of a list of events.
-use Rattle.std.specs.Prelude.{ℕ, ◌≡◌, ◌≢◌, ◌+◌, ◌≤◌, false, cond, List, [], ◌∷◌, length, take, map, Contains, slice_get, Option, Some, None}
+use Rattle.std.specs.Prelude.{ℕ, ◌≡◌, ◌≢◌, ◌+◌, ◌≤◌, false, cond, List, [], ◌∷◌, length, take, map, All, Contains, slice_get, Option, Some, None}
 use Rattle.std.specs.List.{AllByRecursion}
 use Rattle.vm_types.specs.declared.ids.PlaceId.{PlaceId}
 use Rattle.vm_types.specs.declared.ids.PlaceId.TheVariants.{Page, Port, Board, Out}
@@ -28,9 +28,13 @@ abbrev pub history_at : PlaceId → List History → List Entry
 history_at p [] = []
 history_at p (h ∷ hs) = cond (same_place h.lock p) h.entries.items (history_at p hs)
 
+-- no history is of the place
+abbrev pub IsAbsent : PlaceId → List History → Type 0
+IsAbsent p hs = AllByRecursion (λ (h : History). same_place h.lock p ≡ false) hs
+
 -- each lock kept its own place
 abbrev pub AllOwn : List History → Type 0
-AllOwn histories = AllByRecursion (λ (h : History). h.kept ≡ h.lock) histories
+AllOwn histories = All (λ (h : History). h.kept ≡ h.lock) histories
 
 -- each lock kept its own place, and the events of each place are its history
 pub record Agree (events : List Entry) (histories : List History) : Type 0 where
@@ -43,7 +47,7 @@ IsTorn events histories (torn.Entry place index kept other) =
     (is_out place ≡ false) × (kept ≡ slice_get (history_at place histories) index)
     × (other ≡ slice_get (at_place place events) index) × (kept ≢ other)
 IsTorn events histories (torn.Place place kept) =
-    (kept ≢ place) × Contains (map (λ (h : History). (h.lock, h.kept)) histories) (place, kept)
+    (kept ≢ place) × Contains {X = PlaceId × PlaceId} (map (λ (h : History). (h.lock, h.kept)) histories) (place, kept)
 
 -- how many entries of a place were met, of these numbers beside the histories
 abbrev pub met_at : PlaceId → List History → List ℕ → ℕ

@@ -1,7 +1,7 @@
 // Whether the histories of the places have the entries of the journals.
 ghost use Rattle.std.specs.Prelude.{◌≡◌, ◌≢◌, ◌≤◌, ◌<◌, All, length, false, MatchResult, MatchOption, slice_index_or};
 ghost use Rattle.vm_types.specs.Ids.{is_out};
-ghost use Rattle.stamp_merge.specs.Parts.{AreLaid, Agree, IsTorn, HaveMet, IsMet, IsUnmet, IsLeft, AllMet, AllOwn};
+ghost use Rattle.stamp_merge.specs.Parts.{AreLaid, Agree, IsTorn, HaveMet, IsMet, IsUnmet, IsLeft, IsAbsent, AllMet, AllOwn};
 
 use crate::history::History;
 use crate::layout::Layout;
@@ -19,6 +19,19 @@ fn first_stranger(histories: &[History]) -> Option<usize>
     None
 }
 
+/// The index of the place's history.
+fn find(histories: &[History], layout: Layout, place: PlaceId) -> Option<usize>
+    requires { AreLaid layout 0 histories.now }
+    ensures { MatchOption result (IsAbsent place histories.now) (λ i. (i < length histories.now) × ((h : _) → (slice_index_or histories.now i h).lock ≡ place)) }
+{
+    let i = layout.index(place);
+    if i < histories.len() && is_same_place(histories[i].lock, place) {
+        Some(i)
+    } else {
+        None
+    }
+}
+
 /// Meets one event: it must be what its place's history has next.
 fn meet(
     event: &Entry,
@@ -31,15 +44,14 @@ fn meet(
     ensures { MatchResult result (λ _. IsMet event.now histories.now met.old met.new) (IsUnmet event.now histories.now met.old) }
 {
     let place = event.place;
-    let i = layout.index(place);
-    if i >= histories.len() || !is_same_place(histories[i].lock, place) {
+    let Some(i) = find(histories, layout, place) else {
         return Err(Torn::Entry {
             place,
             index: 0,
             kept: None,
             other: Some(event.again()),
         });
-    }
+    };
     let index = met[i];
     let entries = histories[i].entries.as_slice();
     if index >= entries.len() {
