@@ -59,7 +59,7 @@ met_at p (h ∷ hs) (n ∷ ns) = cond (same_place h.lock p) n (met_at p hs ns)
 abbrev pub HaveMet : List Entry → List History → List ℕ → Type 0
 HaveMet events histories met =
     (p : PlaceId) → is_out p ≡ false
-      → (at_place p events ≡ take (met_at p histories met) (history_at p histories)) × (met_at p histories met ≤ length (history_at p histories))
+    → (at_place p events ≡ take (met_at p histories met) (history_at p histories)) × (met_at p histories met ≤ length (history_at p histories))
 
 -- the event is what its place's history has next, and is met
 pub record IsMet (e : Entry) (histories : List History) (before after : List ℕ) : Type 0 where

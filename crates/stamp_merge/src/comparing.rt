@@ -33,12 +33,7 @@ fn find(histories: &[History], layout: Layout, place: PlaceId) -> Option<usize>
 }
 
 /// Meets one event: it must be what its place's history has next.
-fn meet(
-    event: &Entry,
-    histories: &[History],
-    layout: Layout,
-    met: &mut [usize],
-) -> Result<(), Torn>
+fn meet(event: &Entry, histories: &[History], layout: Layout, met: &mut [usize]) -> Result<(), Torn>
     requires laid { AreLaid layout 0 histories.now }
     requires room { length met.old ≡ length histories.now }
     ensures { MatchResult result (λ _. IsMet event.now histories.now met.old met.new) (IsUnmet event.now histories.now met.old) }

@@ -1,7 +1,5 @@
-use Rattle.std.proofs.Common.{arith, ◌≡◌, ◌∙◌, ap, ◌++◌, refl, sym, take, length, vec_len}
+use Rattle.std.proofs.Common.{arith, ◌∙◌, ap, ◌++◌, sym, length}
 use Rattle.stamp_merge.proofs.Flat.{all_of-more, all_of-room}
-use Rattle.stamp_merge.specs.Journals.{all_of}
-use Rattle.stamp_merge.specs.Merged.{journals_of}
 use Rattle.stamp_merge.proofs.merging.merge.Goals as goal
 
 pub copy_all-requires : goal.copy_all-requires
