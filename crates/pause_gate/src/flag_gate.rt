@@ -89,7 +89,9 @@ impl Gate for FlagGate {
 
     fn ask(&self, pass: &mut Pass) -> bool
         requires { pass.old.0 ≡ self.now }
-        ensures counted { MatchBool result (pass.new.1.closed ≡ pass.old.1.closed) (pass.new.1.closed ≡ pass.old.1.closed + 1) }
+        ensures counted { MatchBool result
+            (pass.new.1.closed ≡ pass.old.1.closed)
+            (pass.new.1.closed ≡ pass.old.1.closed + 1) }
         ensures pass { pass.new.0 ≡ self.now }
         ensures looked { pass.new.1 ≡ looked result pass.old.1 }
     {

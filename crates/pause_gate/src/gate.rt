@@ -18,7 +18,9 @@ pub trait Gate {
     /// Whether the gate is open. It takes no memory.
     fn ask(&self, pass: &mut Self::Pass) -> bool
         requires { serves self.now pass.old }
-        ensures counted { MatchBool result (closed pass.new ≡ closed pass.old) (closed pass.new ≡ closed pass.old + 1) }
+        ensures counted { MatchBool result
+            (closed pass.new ≡ closed pass.old)
+            (closed pass.new ≡ closed pass.old + 1) }
         ensures pass { serves self.now pass.new };
 
     /// Is called by an actor while it holds the lock of this place.

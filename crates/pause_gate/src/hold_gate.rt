@@ -68,7 +68,8 @@ pub struct HoldGate {
 impl HoldGate {
     /// Round this gate, with a limit of looks for each party.
     pub fn new(flag: FlagGate, one: Party, other: Party, looks: u64) -> HoldGate
-        ensures { (result.flag ≡ flag) × (result.one ≡ one) × (result.other ≡ other) × (result.looks ≡ looks) }
+        ensures flag { (result.flag ≡ flag) × (result.looks ≡ looks) }
+        ensures parties { (result.one ≡ one) × (result.other ≡ other) }
     {
         HoldGate {
             flag,

@@ -7,7 +7,7 @@ use Rattle.vm_types.specs.declared.op.Op.{Op}
 use Rattle.vm_types.specs.declared.reply.Reply.{Reply}
 use Rattle.vm_types.specs.declared.entry.Entry.{Entry}
 use Rattle.vm_types.specs.Histories.{Replays, Rises, last_stamp}
-use Rattle.place_locks.specs.Held.{IsEntryOf, IsHistory}
+use Rattle.place_locks.specs.Held.{IsEntryOf, IsHistory, IsLast}
 
 replays_more : {V : Type 0} (touch : V → ActorId → Op → Reply × V) (v : V) (es : List Entry) (w : V) (e : Entry) (x : V) → Replays touch v es w → e.reply ≡ (touch w e.actor e.op).0 → x ≡ (touch w e.actor e.op).1 → Replays touch v (es ++ e ∷ []) x
 replays_more touch v [] w e x h r s =
@@ -27,19 +27,18 @@ own_more p [] e h is = (is, tt)
 own_more p (d ∷ es) e h is = (h.0, own_more p es e h.1 is)
 
 -- what a lock keeps is kept by one more act
-pub history_grows : {V : Type 0} (touch : V → ActorId → Op → Reply × V) (place : PlaceId) (v w x : V) (es now : List Entry) (e : Entry) (actor : ActorId) (op : Op) (clock last : ℕ) → IsHistory touch place v es w → last ≡ last_stamp 0 es → last ≤ 2 ^ 63 + length es → clock < 2 ^ 63 → IsEntryOf e actor place op clock → e.before ≡ last → e.reply ≡ (touch w actor op).0 → x ≡ (touch w actor op).1 → now ≡ es ++ e ∷ [] → IsHistory touch place v now x × (e.stamp ≡ last_stamp 0 now) × (e.stamp ≤ 2 ^ 63 + length now)
-history_grows touch place v w x es now e actor op clock last h l most small is before reply value items =
+pub history_grows : {V : Type 0} (touch : V → ActorId → Op → Reply × V) (place : PlaceId) (v w x : V) (es now : List Entry) (e : Entry) (actor : ActorId) (op : Op) (clock last : ℕ) → IsHistory touch place v es w → IsLast last es → clock < 2 ^ 63 → IsEntryOf e actor place op clock → e.before ≡ last → e.reply ≡ (touch w actor op).0 → x ≡ (touch w actor op).1 → now ≡ es ++ e ∷ [] → IsHistory touch place v now x × IsLast e.stamp now
+history_grows touch place v w x es now e actor op clock last h l small is before reply value items =
     let r : e.reply ≡ (touch w e.actor e.op).0 = reply ∙ (λ i. (touch w (sym is.actor_is i) (sym is.op_is i)).0) in
     let s : x ≡ (touch w e.actor e.op).1 = value ∙ (λ i. (touch w (sym is.actor_is i) (sym is.op_is i)).1) in
-    let b : e.before ≡ last_stamp 0 es = before ∙ l in
+    let b : e.before ≡ last_stamp 0 es = before ∙ l.is in
     let up : e.before < e.stamp = omega (arith, is.stamp_is) in
-    let bound : e.stamp ≤ 2 ^ 63 + length (es ++ e ∷ []) = omega (arith, is.stamp_is, length-append es (e ∷ [])) in
+    let bound : e.stamp ≤ 2 ^ 63 + length (es ++ e ∷ []) = omega (arith, is.stamp_is, l.low, length-append es (e ∷ [])) in
     rw items (
       record {
         replays = replays_more touch v es w e x h.replays r s;
         rises = rises_more 0 es e h.rises b up;
         own = own_more place es e h.own is.place_is;
       },
-      sym (last_more 0 es e),
-      bound,
+      record { is = sym (last_more 0 es e); low = bound },
     )

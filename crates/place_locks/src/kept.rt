@@ -24,17 +24,18 @@ pub struct Kept<P: Place, K: Openings<P>> {
 }
 
 impl<P: Place, K: Openings<P>> Model for Kept<P, K> {
-    ghost use Rattle.std.specs.Prelude.{◌≡◌, ◌+◌, ◌≤◌, ◌^◌, List, length};
+    ghost use Rattle.std.specs.Prelude.{List};
     ghost use Rattle.vm_types.specs.declared.ids.PlaceId.{PlaceId};
     ghost use Rattle.vm_types.specs.declared.entry.Entry.{Entry};
-    ghost use Rattle.vm_types.specs.Histories.{last_stamp};
-    ghost use Rattle.place_locks.specs.Held.{IsHistory};
+    ghost use Rattle.place_locks.specs.Held.{IsHistory, IsLast};
 
     ghost Value = { PlaceId × List Entry };
 
     ghost view = { λ kept. (kept.id, kept.history.items) };
 
-    ghost invariant = { λ kept. IsHistory P.touch kept.id (P.value (K.opening kept.id)) kept.history.items (P.value kept.place) × (kept.last ≡ last_stamp 0 kept.history.items) × (kept.last ≤ 2 ^ 63 + length kept.history.items) };
+    ghost invariant = { λ kept.
+        IsHistory P.touch kept.id (P.value (K.opening kept.id)) kept.history.items (P.value kept.place)
+        × IsLast kept.last kept.history.items };
 }
 
 /// Acts, and writes the act down.
@@ -117,7 +118,8 @@ impl<P: Place, K: Openings<P>> Kept<P, K> {
     /// The id, the place and its history.
     pub fn into_parts(self) -> (PlaceId, P, Vec<Entry>)
         ensures parts { (result.0 ≡ self.0) × (result.2.items ≡ self.1) }
-        ensures history { IsHistory P.touch result.0 (P.value (K.opening result.0)) result.2.items (P.value result.1) }
+        ensures history { IsHistory P.touch result.0
+            (P.value (K.opening result.0)) result.2.items (P.value result.1) }
     {
         let Kept {
             id,

@@ -68,7 +68,8 @@ impl<P: Place, K: Openings<P>> Locked<P, K> {
     /// The id as it was kept under the lock, the place, and the history that leads to it from how that place stood
     /// at first.
     pub fn into_place(self) -> (PlaceId, P, Vec<Entry>)
-        ensures { IsHistory P.touch result.0 (P.value (K.opening result.0)) result.2.items (P.value result.1) }
+        ensures { IsHistory P.touch result.0
+            (P.value (K.opening result.0)) result.2.items (P.value result.1) }
     {
         let Locked { id: _, kept } = self;
         kept.into_inner().into_parts()
