@@ -5,8 +5,8 @@ use Rattle.vm_types.specs.declared.item.ApiCall.{ApiCall}
 use Rattle.vm_types.specs.declared.item.ApiCall.TheVariants.{PutBootSource, PutMachineConfig, InstanceStart, GetInstance}
 use Rattle.api_admission.specs.declared.config.Config.{Config}
 use Rattle.api_admission.specs.declared.config.Phase.{Phase}
-use Rattle.api_admission.specs.declared.refusal.Refusal.{Refusal}
-use Rattle.api_admission.specs.declared.refusal.Refusal.TheVariants as refusal
+use Rattle.refusals.specs.declared.refusal.Refusal.{Refusal}
+use Rattle.refusals.specs.declared.refusal.Refusal.TheVariants as refusal
 
 -- what the table asks of a machine: its phase, its configuration, and how many bytes the file of the
 -- kernel image has, if there is one

@@ -4,9 +4,9 @@ use Rattle.vm_types.specs.declared.item.ApiCall.{ApiCall}
 use Rattle.vm_types.specs.declared.item.ApiCall.TheVariants.{GetInstance}
 use Rattle.api_admission.specs.declared.answer.Answer.{Answer}
 use Rattle.api_admission.specs.declared.config.Phase.{Phase}
-use Rattle.api_admission.specs.declared.refusal.Refusal.{Refusal}
+use Rattle.refusals.specs.declared.refusal.Refusal.{Refusal}
 use Rattle.api_admission.specs.Admission.{Facts, refusal_of}
-use Rattle.api_admission.specs.Refusals.{status_of, fault_text}
+use Rattle.refusals.specs.Refusals.{status_of, fault_text}
 
 abbrev pub phase_text : Phase → List ℕ
 phase_text Phase.NotStarted = codes "Not started"

@@ -1,3 +1,2 @@
 pub mod Admission
 pub mod Answers
-pub mod Refusals

@@ -4,8 +4,8 @@ ghost use Rattle.vm_types.specs.declared.item.ApiCall.TheVariants.{InstanceStart
 ghost use Rattle.api_admission.specs.Admission.{asks_files, first_refusal, has_started, is_fit_by, is_memory_size, refusal_of};
 
 use crate::config::{Config, Phase};
-use crate::refusal::Refusal;
 use guest_memory::is_image_fit;
+use refusals::Refusal;
 use vm_types::ApiCall;
 
 const LEAST_MIB: u64 = 4;

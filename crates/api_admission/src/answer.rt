@@ -2,11 +2,10 @@
 ghost use Rattle.std.specs.Prelude.{◌≡◌, IfOk};
 ghost use Rattle.api_admission.specs.Admission.{Facts};
 ghost use Rattle.api_admission.specs.Answers.{accepted, answer_of, instance_text, phase_text, refused};
-ghost use Rattle.api_admission.specs.Refusals.{fault_text};
 
 use crate::admission::refusal_of;
 use crate::config::{Config, Phase};
-use crate::refusal::Refusal;
+use refusals::{Refusal, fault_text};
 use std::alloc::{AllocError, Global};
 use vm_types::{ApiCall, ByteList};
 
@@ -64,15 +63,6 @@ fn accepted_answer(
             body: None,
         }),
     }
-}
-
-fn fault_text(alloc: Global, refusal: Refusal) -> Result<ByteList, AllocError>
-    ensures { IfOk result (λ text. text ≡ fault_text refusal) }
-{
-    let number = refusal.number();
-    let text = refusal.text();
-    let body = format!(in alloc; "{{\"fault_message\":\"{number}: {text}\"}}")?;
-    Ok(ByteList::from_vec(body.into_bytes()))
 }
 
 fn instance_text(alloc: Global, id: &str, phase: Phase) -> Result<ByteList, AllocError>

@@ -8,11 +8,9 @@
 mod admission;
 mod answer;
 mod config;
-mod refusal;
 #[cfg(test)]
 mod tests;
 
 pub use admission::{asks_files, refusal_of};
 pub use answer::{Answer, answer_call, fault_answer};
 pub use config::{Config, Phase};
-pub use refusal::Refusal;

@@ -1,11 +1,10 @@
-//! The board as the machine's definition has it: the console ring and the off mark.
+//! The board: the console ring, and whether the guest is off.
 //!
-//! `specs/` says what an act on the board is answered and what it leaves. `PlainBoard` computes it in the
-//! plainest way; it is the definition run, no product code.
+//! `specs/` says what an act on the board is answered and what it leaves. `Board` is the place that does it.
 #![tactic(auto)]
 
-mod plain_board;
+mod board;
 #[cfg(test)]
 mod tests;
 
-pub use plain_board::PlainBoard;
+pub use board::Board;

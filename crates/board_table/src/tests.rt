@@ -1,15 +1,15 @@
 // What each act on the board is answered, and what it leaves.
-use crate::PlainBoard;
+use crate::Board;
 use std::test::Fail;
 use vm_types::{ActorId, BoardOp, Op, Place, Reply, Shown};
 
-fn act(board: &mut PlainBoard, op: BoardOp) -> Reply {
+fn act(board: &mut Board, op: BoardOp) -> Reply {
     board.act(ActorId::Hart(0), &Op::Board(op))
 }
 
 #[test]
 fn a_look_shows_nothing_pending(rt: HostRuntime) {
-    let mut board = PlainBoard::new();
+    let mut board = Board::new();
     let shown = Reply::Shown(Shown::Pending(0));
     assert_eq!(rt; act(&mut board, BoardOp::Look), shown);
     act(&mut board, BoardOp::Putchar { byte: 7 });
@@ -20,7 +20,7 @@ fn a_look_shows_nothing_pending(rt: HostRuntime) {
 
 #[test]
 fn the_ring_keeps_4096_bytes_in_order(rt: HostRuntime) -> Result<(), Fail> {
-    let mut board = PlainBoard::new();
+    let mut board = Board::new();
     let mut wanted = Vec::new(rt.alloc());
     for i in 0..4096u32 {
         let byte = (i % 251) as u8;
@@ -50,7 +50,7 @@ fn a_reset_turns_off_or_is_an_invalid_parameter(rt: HostRuntime) {
         (0x1_0000_0000, 0, false),
         (0, 0x1_0000_0000, false),
     ] {
-        let mut board = PlainBoard::new();
+        let mut board = Board::new();
         let error = if is_off { 0 } else { 0xffff_ffff_ffff_fffd };
         assert_eq!(rt;
             act(&mut board, BoardOp::Reset { kind, reason }),
@@ -63,7 +63,7 @@ fn a_reset_turns_off_or_is_an_invalid_parameter(rt: HostRuntime) {
 
 #[test]
 fn once_off_nothing_is_stored(rt: HostRuntime) {
-    let mut board = PlainBoard::new();
+    let mut board = Board::new();
     act(&mut board, BoardOp::Putchar { byte: 1 });
     act(&mut board, BoardOp::Reset { kind: 0, reason: 0 });
     assert_eq!(rt; act(&mut board, BoardOp::Putchar { byte: 2 }), Reply::Done);
@@ -73,7 +73,7 @@ fn once_off_nothing_is_stored(rt: HostRuntime) {
 
 #[test]
 fn what_is_no_act_of_the_board_is_a_fault(rt: HostRuntime) {
-    let mut board = PlainBoard::new();
+    let mut board = Board::new();
     for op in [
         Op::Read {
             at: 0x8000_0000,

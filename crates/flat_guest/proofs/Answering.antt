@@ -8,9 +8,11 @@ use Rattle.guest_memory.specs.Memory as memory
 use Rattle.guest_memory.specs.Fitting.{memory_fits}
 use Rattle.board_table.specs.Board as board
 use Rattle.board_table.specs.Fitting.{board_reply_fits}
-use Rattle.flat_guest.specs.Guest.{Guest, place_of}
+use Rattle.flat_guest.specs.Guest.{Guest}
+use Rattle.flat_guest.specs.Places.{place_of}
+use Rattle.flat_guest.specs.declared.places.Layout.{Layout}
 use Rattle.flat_guest.specs.Steps.{Answers}
-use Rattle.flat_guest.specs.Plain.{reply_at}
+use Rattle.flat_guest.specs.Body.{reply_at}
 use Rattle.flat_guest.proofs.HartOps.{is_hart_op}
 
 read_answered : (g : Guest) (actor : ActorId) (at len : ℕ) (b : Bool) (i : ℕ) →
@@ -18,20 +20,20 @@ read_answered : (g : Guest) (actor : ActorId) (at len : ℕ) (b : Bool) (i : ℕ
 read_answered g actor at len true i = (refl, refl)
 read_answered g actor at len false i = (refl, refl)
 
-pub answers_at : (g : Guest) (actor : ActorId) (size : ℕ) (op : Op) → is_hart_op op ≡ true → Answers (place_of size op) g actor op None (reply_at (place_of size op) g.memory g.board actor op)
-answers_at g actor size (Op.Read at len) is =
-    read_answered g actor at len (nat_le 1 len && memory.is_ram size at len && nat_le ((at - memory.ram_start) % memory.page_size + len) memory.page_size) ((at - memory.ram_start) / memory.page_size)
-answers_at g actor size (Op.Board act) is = (refl, refl)
-answers_at g actor size Op.Idle is = (refl, refl)
-answers_at g actor size op is = cc
+pub answers_at : (g : Guest) (actor : ActorId) (there : Layout) (op : Op) → is_hart_op op ≡ true → Answers (place_of there op) g actor op None (reply_at (place_of there op) g.memory g.board actor op)
+answers_at g actor there (Op.Read at len) is =
+    read_answered g actor at len (nat_le 1 len && memory.is_ram there.memory_size at len && nat_le ((at - memory.ram_start) % memory.page_size + len) memory.page_size) ((at - memory.ram_start) / memory.page_size)
+answers_at g actor there (Op.Board act) is = (refl, refl)
+answers_at g actor there Op.Idle is = (refl, refl)
+answers_at g actor there op is = cc
 
 read_fits : (m : memory.Memory) (b : board.Board) (actor : ActorId) (at len : ℕ) (t : Bool) (i : ℕ) → fits (Op.Read at len) (reply_at (cond t (PlaceId.Page i) PlaceId.Out) m b actor (Op.Read at len)) ≡ true
 read_fits m b actor at len true i = memory_fits m actor (Op.Read at len) refl
 read_fits m b actor at len false i = refl
 
-pub answer_fits : (m : memory.Memory) (b : board.Board) (actor : ActorId) (size : ℕ) (op : Op) → is_hart_op op ≡ true → fits op (reply_at (place_of size op) m b actor op) ≡ true
-answer_fits m b actor size (Op.Read at len) is =
-    read_fits m b actor at len (nat_le 1 len && memory.is_ram size at len && nat_le ((at - memory.ram_start) % memory.page_size + len) memory.page_size) ((at - memory.ram_start) / memory.page_size)
-answer_fits m b actor size (Op.Board act) is = board_reply_fits b actor (Op.Board act) is
-answer_fits m b actor size Op.Idle is = refl
-answer_fits m b actor size op is = cc
+pub answer_fits : (m : memory.Memory) (b : board.Board) (actor : ActorId) (there : Layout) (op : Op) → is_hart_op op ≡ true → fits op (reply_at (place_of there op) m b actor op) ≡ true
+answer_fits m b actor there (Op.Read at len) is =
+    read_fits m b actor at len (nat_le 1 len && memory.is_ram there.memory_size at len && nat_le ((at - memory.ram_start) % memory.page_size + len) memory.page_size) ((at - memory.ram_start) / memory.page_size)
+answer_fits m b actor there (Op.Board act) is = board_reply_fits b actor (Op.Board act) is
+answer_fits m b actor there Op.Idle is = refl
+answer_fits m b actor there op is = cc

@@ -9,14 +9,17 @@ use Rattle.vm_types.specs.declared.entry.Entry.{Entry}
 use Rattle.vm_types.specs.declared.entry.Event.{Event}
 use Rattle.hart_rows.specs.declared.regs.Regs.{Regs}
 use Rattle.hart_trace.proofs.Traces.{one_op}
-use Rattle.flat_guest.specs.Guest.{Guest, Wants, WantsFrom, place_of}
-use Rattle.flat_guest.specs.Steps.{Answers, AnswersOut, FlatStep, Makes, StepsBy, guest_after}
+use Rattle.flat_guest.specs.Guest.{Guest, Wants, WantsFrom, layout_of}
+use Rattle.flat_guest.specs.Places.{place_of}
+use Rattle.flat_guest.specs.Steps.{Answers, AnswersOut, FlatStep, IsOnBefore, Makes, StepsBy, guest_after}
 
 out_one : (op : Op) (given : Option Reply) (r s : Reply) → AnswersOut op given r → AnswersOut op given s → r ≡ s
 out_one (Op.Out act) given r s a b =
     let first = a.0 in
     let second = b.0 in
     cc
+out_one (Op.Port port act) given r s a b = absurd a.1
+out_one (Op.Board act) given r s a b = absurd a.1
 out_one Op.Idle given r s a b = a.1 ∙ sym b.1
 out_one op given r s a b = a.1 ∙ sym b.1
 
@@ -47,7 +50,7 @@ module _ (g h k : Guest) (event : Event) (d e : Entry) (x : FlatStep g event d h
   same_op = wants_one g e.actor d.op e.op (subst (λ (a : ActorId). Wants g a d.op) same_actor_id x.want) y.want
 
   pub same_place : d.place ≡ e.place
-  same_place = x.place ∙ ap (λ (o : Op). place_of (length g.memory.bytes) o) same_op ∙ sym y.place
+  same_place = x.place ∙ ap (λ (o : Op). place_of (layout_of g) o) same_op ∙ sym y.place
 
   pub same_reply : d.reply ≡ e.reply
   same_reply =
@@ -84,17 +87,22 @@ some_left made (suc rest) h (inl all) = (rest, refl)
 some_left made zero h (inr less) = let short = less.0 in absurd (omega arith)
 some_left made (suc rest) h (inr less) = (rest, refl)
 
-one_run : (ds es : List Entry) (g h k : Guest) (actor : ActorId) (count : ℕ) → Makes g actor ds h → All (length ds) count h → Makes g actor es k → All (length es) count k → h ≡ k
-one_run [] [] g h k actor count x m y n = sym x ∙ y
-one_run [] (e ∷ es) g h k actor count x m y n =
-    absurd (stopped g (length es) count (subst (λ (q : Guest). All 0 count q) (sym x) m) (sooner (suc (length es)) count k n) y.0)
-one_run (d ∷ ds) [] g h k actor count x m y n =
-    absurd (stopped g (length ds) count (subst (λ (q : Guest). All 0 count q) (sym y) n) (sooner (suc (length ds)) count h m) x.0)
-one_run (d ∷ ds) (e ∷ es) g h k actor count x m y n =
+-- the guest is on before the rest, from where the first event leads
+on_behind : (g mid : Guest) (e : Entry) (es : List Entry) → mid ≡ guest_after g e → IsOnBefore g (e ∷ es) → IsOnBefore mid es
+on_behind g mid e es after on = subst (λ (q : Guest). IsOnBefore q es) (sym after) on.1
+
+one_run : (ds es : List Entry) (g h k : Guest) (actor : ActorId) (count : ℕ) → Makes g actor ds h → IsOnBefore g ds → All (length ds) count h → Makes g actor es k → IsOnBefore g es → All (length es) count k → h ≡ k
+one_run [] [] g h k actor count x on_x m y on_y n = sym x ∙ y
+one_run [] (e ∷ es) g h k actor count x on_x m y on_y n =
+    absurd (stopped g (length es) count (subst (λ (q : Guest). All 0 count q) (sym x) m) (sooner (suc (length es)) count k n) on_y.0)
+one_run (d ∷ ds) [] g h k actor count x on_x m y on_y n =
+    absurd (stopped g (length ds) count (subst (λ (q : Guest). All 0 count q) (sym y) n) (sooner (suc (length ds)) count h m) on_x.0)
+one_run (d ∷ ds) (e ∷ es) g h k actor count x on_x m y on_y n =
     let left = some_left (length ds) count h m in
     let rest : ℕ = left.0 in
-    let mid : x.2 ≡ y.2 = same_after g x.2 y.2 (record { actor = actor; reply = None }) d e x.3 y.3 in
-    one_run ds es y.2 h k actor rest (subst (λ (q : Guest). Makes q actor ds h) mid x.4) (fewer (length ds) rest h (subst (λ (c : ℕ). All (suc (length ds)) c h) left.1 m)) y.4 (fewer (length es) rest k (subst (λ (c : ℕ). All (suc (length es)) c k) left.1 n))
+    let mid : x.1 ≡ y.1 = same_after g x.1 y.1 (record { actor = actor; reply = None }) d e x.2 y.2 in
+    let on_ds : IsOnBefore y.1 ds = subst (λ (q : Guest). IsOnBefore q ds) mid (on_behind g x.1 d ds x.2.after on_x) in
+    one_run ds es y.1 h k actor rest (subst (λ (q : Guest). Makes q actor ds h) mid x.3) on_ds (fewer (length ds) rest h (subst (λ (c : ℕ). All (suc (length ds)) c h) left.1 m)) y.3 (on_behind g y.1 e es y.2.after on_y) (fewer (length es) rest k (subst (λ (c : ℕ). All (suc (length es)) c k) left.1 n))
 
 pub several_one : (g h k : Guest) (actor : ActorId) (count : ℕ) (ds es : List Entry) → StepsBy g actor count ds h → StepsBy g actor count es k → h ≡ k
-several_one g h k actor count ds es x y = one_run ds es g h k actor count x.made x.all y.made y.all
+several_one g h k actor count ds es x y = one_run ds es g h k actor count x.made x.on x.all y.made y.on y.all

@@ -4,15 +4,14 @@ use Rattle.vm_types.specs.declared.op.Op.{Op}
 use Rattle.board_table.specs.Board.{is_known}
 use Rattle.hart_rows.specs.declared.regs.Regs.{Regs}
 use Rattle.hart_rows.specs.declared.regs.Turn.{Turn}
-use Rattle.hart_rows.specs.declared.rows.Kind.{Kind}
-use Rattle.hart_rows.specs.declared.rows.Kind.TheVariants.{Lui, Addi, Ecall}
+use Rattle.hart_rows.specs.declared.kind.Kind.{Kind}
+use Rattle.hart_rows.specs.declared.kind.Kind.TheVariants.{Lui, Addi, Ecall}
 use Rattle.hart_rows.specs.Registers.{reg}
 use Rattle.hart_rows.specs.Doing.{Doing, Ends, asked}
 use Rattle.hart_rows.specs.Rows.{does, does_by, kind_of}
 use Rattle.hart_rows.specs.Sbi.{a6, a7, legacy_putchar, system_reset, not_supported, putchar, reset, returned}
-use Rattle.hart_trace.specs.declared.hart.Hart.{Hart}
 use Rattle.hart_trace.specs.Traces.{opening}
-use Rattle.hart_trace.specs.States.{op_or_idle, wants_by, hart_wants}
+use Rattle.hart_trace.specs.States.{Hart, op_or_idle, wants_by, hart_wants}
 
 abbrev pub is_hart_op : Op → Bool
 is_hart_op (Op.Read at len) = true

@@ -16,11 +16,12 @@ use Rattle.hart_rows.specs.declared.regs.Regs.{Regs}
 use Rattle.hart_trace.specs.Traces.{IsPrefix, Continues}
 use Rattle.hart_trace.specs.States.{fresh}
 use Rattle.hart_trace.proofs.Traces.{leads_start, hart_prefix, some_hart, some_op, any_reply, wants_only}
-use Rattle.flat_guest.specs.Guest.{Guest, Wants, WantsFrom, place_of, is_actor}
+use Rattle.flat_guest.specs.Guest.{Guest, Wants, WantsFrom, is_actor, layout_of}
+use Rattle.flat_guest.specs.Places.{place_of}
 use Rattle.flat_guest.specs.Sound.{IsSound}
 use Rattle.flat_guest.specs.Start.{started}
-use Rattle.flat_guest.specs.Steps.{IsUnstamped, StepsBy, Answers, AnswersOut, FlatStep, guest_after}
-use Rattle.flat_guest.specs.Plain.{reply_at, out_reply}
+use Rattle.flat_guest.specs.Steps.{IsOnBefore, IsUnstamped, Makes, StepsBy, Answers, AnswersOut, FlatStep, guest_after}
+use Rattle.flat_guest.specs.Body.{reply_at, out_reply}
 use Rattle.flat_guest.proofs.HartOps.{is_hart_op, hart_op}
 use Rattle.flat_guest.proofs.Answering.{answers_at, answer_fits}
 
@@ -35,6 +36,8 @@ want_op start steps op prefix continues =
 
 out_replied : (op : Op) (given : Option Reply) (reply : Reply) → is_hart_op op ≡ true → AnswersOut op given reply → reply ≡ out_reply op
 out_replied (Op.Out act) given reply is answer = cc
+out_replied (Op.Port port act) given reply is answer = cc
+out_replied (Op.Board act) given reply is answer = absurd answer.1
 out_replied Op.Idle given reply is answer = answer.1
 out_replied op given reply is answer = answer.1
 
@@ -45,11 +48,11 @@ replied (PlaceId.Port k) g actor op given reply is answer = absurd answer
 replied PlaceId.Out g actor op given reply is answer = out_replied op given reply is answer
 
 -- and its answer fits
-fits_of : (g : Guest) (actor : ActorId) (op : Op) (place : PlaceId) (given : Option Reply) (reply : Reply) → is_hart_op op ≡ true → place ≡ place_of (length g.memory.bytes) op → Answers place g actor op given reply → fits op reply ≡ true
+fits_of : (g : Guest) (actor : ActorId) (op : Op) (place : PlaceId) (given : Option Reply) (reply : Reply) → is_hart_op op ≡ true → place ≡ place_of (layout_of g) op → Answers place g actor op given reply → fits op reply ≡ true
 fits_of g actor op place given reply is at answer =
-    let here : reply ≡ reply_at (place_of (length g.memory.bytes) op) g.memory g.board actor op =
-    replied (place_of (length g.memory.bytes) op) g actor op given reply is (subst (λ (p : PlaceId). Answers p g actor op given reply) at answer) in
-    subst (λ (r : Reply). fits op r ≡ true) (sym here) (answer_fits g.memory g.board actor (length g.memory.bytes) op is)
+    let here : reply ≡ reply_at (place_of (layout_of g) op) g.memory g.board actor op =
+    replied (place_of (layout_of g) op) g actor op given reply is (subst (λ (p : PlaceId). Answers p g actor op given reply) at answer) in
+    subst (λ (r : Reply). fits op r ≡ true) (sym here) (answer_fits g.memory g.board actor (layout_of g) op is)
 
 same_hart : (k : ℕ) (actor : ActorId) → same_actor (ActorId.Hart k) actor ≡ true → actor ≡ ActorId.Hart k
 same_hart k (ActorId.Hart j) same = ap (λ (n : ℕ). ActorId.Hart n) (sym (eqb-true k j same))
@@ -96,8 +99,7 @@ hart_step_by g k (Some start) is sound there =
     let actor : ActorId = ActorId.Hart k in
     let some = some_op start (g.steps actor) (sound k start is) in
     let op : Op = some.0 in
-    let size : ℕ = length g.memory.bytes in
-    let e : Entry = record { stamp = 0; before = 0; actor = actor; place = place_of size op; op = op; reply = reply_at (place_of size op) g.memory g.board actor op } in
+    let e : Entry = record { stamp = 0; before = 0; actor = actor; place = place_of (layout_of g) op; op = op; reply = reply_at (place_of (layout_of g) op) g.memory g.board actor op } in
     let want : Wants g actor op = subst (λ (start : Option Regs). WantsFrom start (g.steps actor) op) (sym is) some.1 in (
       e,
       guest_after g e,
@@ -106,7 +108,7 @@ hart_step_by g k (Some start) is sound there =
         actor = refl;
         want = want;
         place = refl;
-        answer = answers_at g actor size op (want_op start (g.steps actor) op (sound k start is) some.1);
+        answer = answers_at g actor (layout_of g) op (want_op start (g.steps actor) op (sound k start is) some.1);
         after = refl;
       },
     )
@@ -128,14 +130,14 @@ longer made n h (inl all) = inl (omega arith)
 longer made n h (inr less) = inr (omega arith, less.1)
 
 by_off : (n : ℕ) (g : Guest) (actor : ActorId) (off : Bool) → g.board.off ≡ off → IsSound g → is_actor g actor ≡ true → ((h : Guest) → IsSound h → is_actor h actor ≡ true → (es : List Entry) × (k : Guest) × StepsBy h actor n es k) → (es : List Entry) × (h : Guest) × StepsBy g actor (suc n) es h
-by_off n g actor true is sound there some = ([], g, record { made = refl; all = inr (omega arith, is) })
+by_off n g actor true is sound there some = ([], g, record { made = refl; on = tt; all = inr (omega arith, is) })
 by_off n g actor false is sound there some =
     let first = actor_step g actor sound there in
     let event : Event = record { actor = actor; reply = None } in
     let rest = some first.1 (sound_next g event first.0 first.1 sound first.3) (actor_after g event first.0 first.1 actor first.3 there) in
-    (first.0 ∷ rest.0, rest.1, record { made = (is, first.2, first.1, first.3, rest.2.made); all = longer (length rest.0) n rest.1 rest.2.all })
+    (first.0 ∷ rest.0, rest.1, record { made = (first.2, first.1, first.3, rest.2.made); on = (is, subst (λ (q : Guest). IsOnBefore q rest.0) first.3.after rest.2.on); all = longer (length rest.0) n rest.1 rest.2.all })
 
 pub actor_steps : (count : ℕ) (g : Guest) (actor : ActorId) → IsSound g → is_actor g actor ≡ true → (es : List Entry) × (h : Guest) × StepsBy g actor count es h
-actor_steps zero g actor sound there = ([], g, record { made = refl; all = inl refl })
+actor_steps zero g actor sound there = ([], g, record { made = refl; on = tt; all = inl refl })
 actor_steps (suc n) g actor sound there =
     by_off n g actor g.board.off refl sound there (λ h sound_h there_h. actor_steps n h actor sound_h there_h)

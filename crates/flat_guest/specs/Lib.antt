@@ -1,5 +1,6 @@
+pub mod Body
 pub mod Guest
-pub mod Plain
+pub mod Places
 pub mod Sound
 pub mod Start
 pub mod Steps

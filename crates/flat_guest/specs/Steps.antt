@@ -8,16 +8,20 @@ use Rattle.vm_types.specs.declared.entry.Step.{Step}
 use Rattle.vm_types.specs.declared.entry.Entry.{Entry}
 use Rattle.vm_types.specs.declared.entry.Event.{Event}
 use Rattle.vm_types.specs.Ids.{same_actor}
-use Rattle.vm_types.specs.Fits.{out_fits}
+use Rattle.vm_types.specs.Serial.{OutFits}
 use Rattle.guest_memory.specs.Memory as memory
 use Rattle.board_table.specs.Board as board
-use Rattle.flat_guest.specs.Guest.{Guest, Wants, place_of}
+use Rattle.flat_guest.specs.Guest.{Guest, Wants, layout_of}
+use Rattle.flat_guest.specs.Places.{place_of}
 
--- with no place, a host object's reply is given and fits; a wait is done; an access is a fault
+-- a host object's reply is given, and no other is
+abbrev pub IsGiven : Op → Option Reply → Reply → Type 0
+IsGiven (Op.Out act) given reply = given ≡ Some reply
+IsGiven op given reply = given ≡ None
+
+-- with no place, a host object's reply fits, a wait is done, an access is a fault, and nothing else has a reply
 abbrev pub AnswersOut : Op → Option Reply → Reply → Type 0
-AnswersOut (Op.Out act) given reply = (given ≡ Some reply) × (out_fits act reply ≡ true)
-AnswersOut Op.Idle given reply = (given ≡ None) × (reply ≡ Reply.Done)
-AnswersOut op given reply = (given ≡ None) × (reply ≡ Reply.AccessFault)
+AnswersOut op given reply = IsGiven op given reply × OutFits op reply
 
 -- what an act is answered, by its place
 abbrev pub Answers : PlaceId → Guest → ActorId → Op → Option Reply → Reply → Type 0
@@ -50,7 +54,7 @@ guest_after g e = record g {
 pub record FlatStep (g : Guest) (event : Event) (e : Entry) (h : Guest) : Type 0 where
   pub actor : e.actor ≡ event.actor
   pub want : Wants g e.actor e.op
-  pub place : e.place ≡ place_of (length g.memory.bytes) e.op
+  pub place : e.place ≡ place_of (layout_of g) e.op
   pub answer : Answers e.place g e.actor e.op event.reply e.reply
   pub after : h ≡ guest_after g e
 
@@ -58,14 +62,19 @@ pub record FlatStep (g : Guest) (event : Event) (e : Entry) (h : Guest) : Type 0
 abbrev pub IsUnstamped : Entry → Type 0
 IsUnstamped e = (e.stamp ≡ 0) × (e.before ≡ 0)
 
--- events of one actor, one after another, as long as the guest is on
+-- events of one actor, one after another
 abbrev pub Makes : Guest → ActorId → List Entry → Guest → Type 0
 Makes g actor [] h = g ≡ h
 Makes g actor (e ∷ es) h =
-    (g.board.off ≡ false) × IsUnstamped e
-    × (mid : Guest) × FlatStep g (record { actor = actor; reply = None }) e mid × Makes mid actor es h
+    IsUnstamped e × (mid : Guest) × FlatStep g (record { actor = actor; reply = None }) e mid × Makes mid actor es h
 
--- so many of them, or as many as there are before the guest is off
+-- the guest is on before each of these entries
+abbrev pub IsOnBefore : Guest → List Entry → Type 0
+IsOnBefore g [] = Unit {0}
+IsOnBefore g (e ∷ es) = (g.board.off ≡ false) × IsOnBefore (guest_after g e) es
+
+-- so many of them, or as many as there are until the guest is off
 pub record StepsBy (g : Guest) (actor : ActorId) (count : ℕ) (es : List Entry) (h : Guest) : Type 0 where
   pub made : Makes g actor es h
+  pub on : IsOnBefore g es
   pub all : (length es ≡ count) ⊎ ((length es < count) × (h.board.off ≡ true))

@@ -1,15 +1,15 @@
 //! The flat machine's guest: memory as one list, the board, and harts by their traces.
 //!
-//! `specs/` says what a guest is, what an event does to it, and how it starts. `PlainGuest` computes that,
-//! for one hart, by the plain programs of memory, board and harts; `law` has what holds of every guest.
+//! `specs/` says what a guest is, what an event does to it, how it starts, and which guests a body's data are; `law`
+//! has what holds of every guest. `place` says where an op acts, and `tree_address` where a start puts the device tree.
 #![tactic(auto)]
 
+mod boot;
 mod law;
-mod place_of;
-mod plain_guest;
+mod places;
 #[cfg(test)]
 mod tests;
 
+pub use boot::{MOST_MIB, tree_address};
 pub use law::{one_step, some_step};
-pub use place_of::place;
-pub use plain_guest::{MOST_MIB, PlainGuest, tree_address};
+pub use places::{Layout, place};

@@ -1,5 +1,4 @@
-pub mod Going
-pub mod Lines
+pub mod Determined
 pub mod OneReplay
+pub mod Pushed
 pub mod SomeReplay
-pub mod Starting

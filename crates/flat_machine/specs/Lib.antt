@@ -1,6 +1,6 @@
 pub mod Items
 pub mod Machine
-pub mod Plain
+pub mod Outcome
 pub mod Replay
 pub mod Requests
 pub mod Run

@@ -1,13 +1,12 @@
 -- The replay of a whole script.
-use Rattle.std.specs.Prelude.{ℕ, ◌≡◌, ◌+◌, ◌^◌, nat_le, true, false, if◌then◌else◌, List, [], ◌∷◌, ◌++◌, length, map, take, codes, Option, Some, None, ◌⊎◌}
+use Rattle.std.specs.Prelude.{ℕ, ◌≡◌, ◌+◌, ◌^◌, nat_le, true, false, if◌then◌else◌, List, [], ◌∷◌, ◌++◌, length, take, codes, Option, None, ◌⊎◌}
 use Rattle.vm_types.specs.declared.item.Item.{Item}
 use Rattle.vm_types.specs.declared.exit.Exit.{Exit}
 use Rattle.vm_types.specs.declared.exit.Exit.TheVariants.{Done, Script}
-use Rattle.vm_types.specs.Causes.{RoseBy}
 use Rattle.script_lines.specs.Lines.{judged}
 use Rattle.script_lines.specs.Output.{console_line, last_line, off_line}
 use Rattle.flat_machine.specs.Machine.{Machine, console_of, drained, is_off}
-use Rattle.flat_machine.specs.Run.{Act, Run, failures}
+use Rattle.flat_machine.specs.Run.{Act, OnBefore, Run, lines_done}
 
 -- the id of a machine that is given none
 abbrev pub default_id : List ℕ
@@ -24,34 +23,39 @@ judged_script script =
     if nat_le (length script) longest_script then judged script
     else judged (take longest_script script) ++ None ∷ []
 
--- why a replay ends, where no host object's failure and no want of memory ends it: no line is left, or the
+-- the script's first lines are these acts, and the guest is on before each; they answer so, and leave this machine
+-- and these lines
+pub record Plays (script : List ℕ) (start : Machine) (acts : List Act) (answers : List ℕ) (last : Machine) (left : List (Option Item)) : Type 0 where
+  pub lines : judged_script script ≡ lines_done acts ++ left
+  pub on : OnBefore acts start
+  pub ran : Run acts start answers last
+
+-- where a replay comes to its end, with no host object's failure and no want of memory: no line is left, or the
 -- guest is off; or the next line, of this number, is no line of a script. After the guest is off no line is
 -- judged.
-abbrev pub EndsBy : Exit → List (Option Item) → ℕ → Machine → Type 0
-EndsBy Done left number m = (left ≡ []) ⊎ (is_off m ≡ true)
-EndsBy (Script line) left number m =
+abbrev pub IsEnd : Exit → List (Option Item) → ℕ → Machine → Type 0
+IsEnd Done left number m = (left ≡ []) ⊎ (is_off m ≡ true)
+IsEnd (Script line) left number m =
     (line ≡ number) × (is_off m ≡ false) × (more : List (Option Item)) × (left ≡ None ∷ more)
-EndsBy exit left number m = ⊥
+IsEnd exit left number m = ⊥
 
 -- what is written last: the console's bytes where the script was done, and that the guest is off; or the
 -- number of the line that is none
-abbrev pub ending : Exit → Machine → List ℕ
-ending Done m = console_line (console_of m) ++ (if is_off m then off_line else [])
-ending exit m = last_line exit
+abbrev pub closing : Exit → Machine → List ℕ
+closing Done m = console_line (console_of m) ++ (if is_off m then off_line else [])
+closing exit m = last_line exit
 
-abbrev pub after_ending : Exit → Machine → Machine
-after_ending Done m = drained m
-after_ending exit m = m
+abbrev pub closed : Exit → Machine → Machine
+closed Done m = drained m
+closed exit m = m
 
 -- From the machine at the start a script's replay comes to this exit, writes this text and leaves this
--- machine; its lines up to there are these acts. Each act that was answered 500 was counted by the files.
-pub record IsReplay (script : List ℕ) (start : Machine) (acts : List Act) (exit : Exit) (text : List ℕ) (end : Machine) (faults_before faults_now : ℕ) : Type 0 where
+-- machine; its lines up to there are these acts.
+pub record IsReplay (script : List ℕ) (start : Machine) (acts : List Act) (exit : Exit) (text : List ℕ) (end : Machine) : Type 0 where
   pub answers : List ℕ
   pub last : Machine
   pub left : List (Option Item)
-  pub lines : judged_script script ≡ map (λ act. Some act.item) acts ++ left
-  pub ran : Run acts start answers last
-  pub failed : RoseBy (failures acts) faults_before faults_now
-  pub ends : EndsBy exit left (length acts + 1) last
-  pub writes : text ≡ answers ++ ending exit last
-  pub leaves : end ≡ after_ending exit last
+  pub plays : Plays script start acts answers last left
+  pub ends : IsEnd exit left (length acts + 1) last
+  pub writes : text ≡ answers ++ closing exit last
+  pub leaves : end ≡ closed exit last

@@ -1,46 +1,49 @@
 -- The run of the flat machine over acts.
-use Rattle.std.specs.Prelude.{ℕ, ◌≡◌, ◌+◌, false, List, [], ◌∷◌, ◌++◌, map}
+use Rattle.std.specs.Prelude.{ℕ, ◌≡◌, ◌+◌, false, List, [], ◌∷◌, ◌++◌, map, Option, Some}
 use Rattle.vm_types.specs.declared.item.Item.{Item}
-use Rattle.flat_machine.specs.declared.outcome.Outcome.{Outcome}
-use Rattle.flat_machine.specs.declared.outcome.Outcome.TheVariants.{Answered, Failed, NoMemory}
+use Rattle.vm_outside.specs.Calls.{FileCall}
+use Rattle.flat_machine.specs.Outcome.{AreAnswered, Outcome, failed_in, short_in}
 use Rattle.flat_machine.specs.Machine.{Machine, is_off}
-use Rattle.flat_machine.specs.Items.{ItemStep}
+use Rattle.flat_machine.specs.Items.{ItemStep, calls_of}
 
--- an item, and how it went
+-- an item, and how each of its requests went
 pub record Act : Type 0 where
   pub item : Item
-  pub outcome : Outcome
+  pub outcomes : List Outcome
 
-abbrev pub items_in : List Act → List Item
-items_in acts = map (λ act. act.item) acts
+-- the lines that acts are done for
+abbrev pub lines_done : List Act → List (Option Item)
+lines_done acts = map (λ act. Some act.item) acts
 
--- from m the acts, one after another, write the text and leave n; none comes after the guest is off
+-- from m the acts, one after another, write the text and leave n
 abbrev pub Run : List Act → Machine → List ℕ → Machine → Type 0
 Run [] m text n = (text ≡ []) × (m ≡ n)
 Run (act ∷ acts) m text n =
+    (first : List ℕ) × (mid : Machine) × (rest : List ℕ)
+    × ItemStep act.item act.outcomes m first mid × Run acts mid rest n × (text ≡ first ++ rest)
+
+-- the guest is on before each act
+abbrev pub OnBefore : List Act → Machine → Type 0
+OnBefore [] m = Unit {0}
+OnBefore (act ∷ acts) m =
     (is_off m ≡ false)
-    × (first : List ℕ) × (mid : Machine) × (rest : List ℕ)
-    × ItemStep act.item act.outcome m first mid × Run acts mid rest n × (text ≡ first ++ rest)
+    × ((text : List ℕ) (n : Machine) → ItemStep act.item act.outcomes m text n → OnBefore acts n)
 
--- how many acts were answered 500, and how many 503
-abbrev pub failed_count : Outcome → ℕ
-failed_count Answered = 0
-failed_count Failed = 1
-failed_count NoMemory = 0
-
-abbrev pub shortage_count : Outcome → ℕ
-shortage_count Answered = 0
-shortage_count Failed = 0
-shortage_count NoMemory = 1
-
+-- how many requests were answered 500, and how many 503
 abbrev pub failures : List Act → ℕ
 failures [] = 0
-failures (act ∷ acts) = failed_count act.outcome + failures acts
+failures (act ∷ acts) = failed_in act.outcomes + failures acts
 
 abbrev pub shortages : List Act → ℕ
 shortages [] = 0
-shortages (act ∷ acts) = shortage_count act.outcome + shortages acts
+shortages (act ∷ acts) = short_in act.outcomes + shortages acts
 
--- the acts of items of which each was answered by the machine
-abbrev pub all_answered : List Item → List Act
-all_answered items = map (λ item. record { item = item; outcome = Answered }) items
+-- the machine answered every request
+abbrev pub AllAnswered : List Act → Type 0
+AllAnswered [] = Unit {0}
+AllAnswered (act ∷ acts) = AreAnswered act.outcomes × AllAnswered acts
+
+-- the calls on the files that the acts made
+abbrev pub calls_in : List Act → List FileCall
+calls_in [] = []
+calls_in (act ∷ acts) = calls_of act.item ++ calls_in acts

@@ -1,12 +1,17 @@
 -- The instructions, one row for each: mask, match, and a formula in whole numbers modulo 2 ^ 64.
 use Rattle.std.specs.Prelude.{ℕ, ◌+◌, ◌-◌, ◌*◌, ◌/◌, ◌%◌, ◌^◌, ◌==◌, nat_lt, if◌then◌else◌, List, [], ◌∷◌, Option, Some, None, bit_and}
 use Rattle.hart_rows.specs.declared.regs.Regs.{Regs}
-use Rattle.hart_rows.specs.declared.rows.Kind.{Kind}
-use Rattle.hart_rows.specs.declared.rows.Kind.TheVariants.{Lui, Addi, Ecall}
-use Rattle.hart_rows.specs.declared.rows.Row.{Row}
+use Rattle.hart_rows.specs.declared.kind.Kind.{Kind}
+use Rattle.hart_rows.specs.declared.kind.Kind.TheVariants.{Lui, Addi, Ecall}
 use Rattle.hart_rows.specs.Registers.{reg, with_reg, finished, trapped}
 use Rattle.hart_rows.specs.Doing.{Doing, Ends}
 use Rattle.hart_rows.specs.Sbi.{call}
+
+-- a row of the table: a word is of this kind where its bits under the mask are those that must match
+pub record Row : Type 0 where
+  pub mask : ℕ
+  pub matched : ℕ
+  pub kind : Kind
 
 -- the table: unprivileged manual, "Integer Register-Immediate Instructions" for LUI and ADDI,
 -- "Environment Call and Breakpoints" for ECALL

@@ -1,15 +1,14 @@
-//! What each instruction does to a hart's registers: the plain programs of the table and its formulas.
+//! A hart's registers, and what each instruction does to them.
 //!
-//! `decode` finds a word's row. `wanted` is the one access that the word asks for behind its fetch, if
-//! any, and `perform` is what becomes of the registers by the last reply to it.
+//! `specs/` has the table of instructions with a formula for each row, the calls of the supervisor binary
+//! interface, and the registers as a hart begins with them. The functions here read and write registers as the
+//! formulas do; `hart_rv64` runs the instructions.
 #![tactic(auto)]
 
-mod instruction;
+mod kind;
 mod regs;
-mod rows;
-mod sbi;
+#[cfg(test)]
+mod tests;
 
-pub use instruction::{perform, wanted};
-pub use regs::{Regs, Turn, finish, get, put, trap};
-pub use rows::{Kind, decode};
-pub use sbi::{A0, A1};
+pub use kind::Kind;
+pub use regs::{A0, A1, Regs, Turn, finish, get, put, start_regs, trap};

@@ -1,6 +1,15 @@
 // A hart between two instructions.
 ghost use Rattle.std.specs.Prelude.{◌≡◌, ◌<◌};
 ghost use Rattle.hart_rows.specs.Registers.{reg, with_reg, counted, finished, trapped};
+ghost use Rattle.hart_rows.specs.Start.{start_regs};
+
+/// The register of a call's first argument and of its error (SBI, "Binary Encoding").
+pub const A0: usize = 10;
+/// The register of a call's second argument and of its value.
+pub const A1: usize = 11;
+
+/// Instructions between two looks.
+const LOOK_EVERY: u64 = 32;
 
 /// What a hart begins next: an instruction, a look at the board, or a wait.
 #[derive(Clone, Copy, Debug, PartialEq, Eq, Drop)]
@@ -10,11 +19,11 @@ pub enum Turn {
     Idle,
 }
 
-/// A hart between two instructions: its registers (x0 is never read), how many instructions are left to
-/// the next look (1 to 32), and what it begins next.
+/// A hart between two instructions: its registers x1 to x31 in order (x0 is 0, and isn't kept), how many
+/// instructions are left to the next look (1 to 32), and what it begins next.
 #[derive(Clone, Copy, Debug, PartialEq, Eq, Drop)]
 pub struct Regs {
-    pub x: [u64; 32],
+    pub x: [u64; 31],
     pub pc: u64,
     pub stvec: u64,
     pub sepc: u64,
@@ -24,12 +33,31 @@ pub struct Regs {
     pub turn: Turn,
 }
 
+/// The registers of a hart that begins at `pc` with these arguments in a0 and a1 and 0 in every other register.
+pub fn start_regs(pc: u64, a0: u64, a1: u64) -> Regs
+    ensures { result ≡ start_regs pc a0 a1 }
+{
+    let mut regs = Regs {
+        x: [0; 31],
+        pc,
+        stvec: 0,
+        sepc: 0,
+        scause: 0,
+        stval: 0,
+        count: LOOK_EVERY,
+        turn: Turn::Fetch,
+    };
+    put(&mut regs, A0, a0);
+    put(&mut regs, A1, a1);
+    regs
+}
+
 /// Register x`i`. x0 reads 0.
 pub fn get(regs: &Regs, i: usize) -> u64
     requires { i < 32 }
     ensures { result ≡ reg regs.now i }
 {
-    if i == 0 { 0 } else { regs.x[i] }
+    if i == 0 { 0 } else { regs.x[i - 1] }
 }
 
 /// Puts a value into register x`i`. What is written to x0 is dropped.
@@ -38,7 +66,7 @@ pub fn put(regs: &mut Regs, i: usize, value: u64)
     ensures { regs.new ≡ with_reg regs.old i value }
 {
     if i != 0 {
-        regs.x[i] = value;
+        regs.x[i - 1] = value;
     }
 }
 
@@ -46,7 +74,7 @@ fn count(regs: &mut Regs)
     ensures { regs.new ≡ counted regs.old }
 {
     if regs.count <= 1 {
-        regs.count = 32;
+        regs.count = LOOK_EVERY;
         regs.turn = Turn::Look;
     } else {
         regs.count -= 1;

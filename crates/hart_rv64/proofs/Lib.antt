@@ -1,2 +1,3 @@
 pub mod Does
 pub mod Opcodes
+pub mod Walks

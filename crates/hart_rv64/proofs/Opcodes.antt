@@ -2,7 +2,7 @@
 use Rattle.std.proofs.Common.{◌≡◌, ℕ, ◌<◌, ◌^◌, ◌%◌, ◌-◌, refl, sym, ap, ◌∙◌, Some, None, bit_and, arith}
 use Rattle.std.proofs.lemmas.Nat.{and_assoc, and_mask}
 use Rattle.std.proofs.lemmas.Bool.{ne_eqb}
-use Rattle.hart_rows.specs.declared.rows.Kind.TheVariants.{Lui, Addi, Ecall}
+use Rattle.hart_rows.specs.declared.kind.Kind.TheVariants.{Lui, Addi, Ecall}
 use Rattle.hart_rows.specs.Rows.{kind_of}
 
 pub lui_is : (w : ℕ) → bit_and w 127 ≡ 55 → Some Lui ≡ kind_of w

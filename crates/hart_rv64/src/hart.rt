@@ -1,10 +1,9 @@
 // The monitor's hart.
-ghost use Rattle.std.specs.Prelude.{◌≡◌, ◌≤◌, ◌%◌, length, true};
+ghost use Rattle.std.specs.Prelude.{◌≡◌, ◌≤◌, ◌%◌, true};
 ghost use Rattle.vm_types.specs.declared.reply.Reply.{Reply};
 ghost use Rattle.vm_types.specs.Fits.{fits};
 ghost use Rattle.hart_rows.specs.Doing.{asked, ended};
 ghost use Rattle.hart_rows.specs.Rows.{does};
-ghost use Rattle.hart_trace.specs.Traces.{word_of, looked, looked_at};
 ghost use Rattle.hart_trace.specs.States.{op_or_idle};
 ghost use Rattle.hart_rv64.specs.Asked.{op_of};
 
@@ -13,15 +12,13 @@ use crate::decode::decode;
 use crate::hart_op::HartOp;
 use crate::sbi::{Call, call_asks, call_ends, call_of, refuse};
 use crate::trap::{fetch_faults, illegal_word};
-use hart_rows::{A0, A1, Kind, Regs, Turn, get, put};
+use hart_rows::{Kind, Regs, Turn, get, start_regs};
+use hart_trace::{instruction_word, look};
 use std::marker::Model;
-use vm_types::{Actor, Op, Reply, Shown};
-
-/// Instructions between two looks.
-const LOOK_EVERY: u64 = 32;
+use vm_types::{Actor, Op, Reply};
 
 /// A hart: its registers before an instruction, and the instruction's word from its fetch to the reply
-/// that ends it. Contracts see the state of the definition's hart (`hart_trace::Hart`).
+/// that ends it. Contracts see it as the hart of the definition, `Hart` of `hart_trace/specs/States.antt`.
 ///
 /// What it wants and becomes are the definition's too. So by `hart_trace::hart_follows` its wants, each
 /// with a reply that fits, are the first steps of a trace of the registers that it began with, and no
@@ -33,44 +30,11 @@ pub struct Hart {
 }
 
 impl Model for Hart {
-    ghost use Rattle.hart_trace.specs.declared.hart.Hart.{Hart as HartState};
+    ghost use Rattle.hart_trace.specs.States.{Hart as HartState};
 
     ghost Value = { HartState };
 
     ghost view = { λ h. record { regs = h.regs; begun = h.begun } };
-}
-
-fn word(bytes: &[u8]) -> u32
-    requires { length bytes.now ≡ 4 }
-    ensures { result ≡ word_of bytes.now }
-{
-    bytes[0] as u32
-        + 0x100 * (bytes[1] as u32)
-        + 0x1_0000 * (bytes[2] as u32)
-        + 0x100_0000 * (bytes[3] as u32)
-}
-
-fn look_at(regs: &mut Regs, shown: &Shown)
-    ensures { regs.new ≡ looked_at shown.now regs.old }
-{
-    match shown {
-        Shown::Pending(_) => regs.turn = Turn::Fetch,
-        Shown::Stopped => regs.turn = Turn::Idle,
-        Shown::Start { pc, number, word } => {
-            put(regs, A0, *number);
-            put(regs, A1, *word);
-            regs.pc = *pc / 4 * 4;
-            regs.turn = Turn::Fetch;
-        }
-    }
-}
-
-fn look(regs: &mut Regs, reply: &Reply)
-    ensures { regs.new ≡ looked reply.now regs.old }
-{
-    if let Reply::Shown(shown) = reply {
-        look_at(regs, shown);
-    }
 }
 
 // The access that a begun word asks for.
@@ -94,22 +58,14 @@ impl Hart {
         requires { pc % 4 ≡ 0 }
         ensures { result ≡ start_of pc a0 a1 }
     {
-        let mut x = [0; 32];
-        x[A0] = a0;
-        x[A1] = a1;
-        Hart {
-            regs: Regs {
-                x,
-                pc,
-                stvec: 0,
-                sepc: 0,
-                scause: 0,
-                stval: 0,
-                count: LOOK_EVERY,
-                turn: Turn::Fetch,
-            },
-            begun: None,
-        }
+        Hart::with_regs(start_regs(pc, a0, a1))
+    }
+
+    /// A hart between two instructions, with these registers.
+    pub fn with_regs(regs: Regs) -> Hart
+        ensures { result ≡ fresh regs }
+    {
+        Hart { regs, begun: None }
     }
 
     /// Register x0 to x31 by its number, or pc by the number 32.
@@ -179,7 +135,7 @@ impl Hart {
         match self.begun {
             None => match self.regs.turn {
                 Turn::Fetch => match reply {
-                    Reply::Bytes(piece) => self.execute(word(piece.as_slice())),
+                    Reply::Bytes(piece) => self.execute(instruction_word(piece.as_slice())),
                     _ => fetch_faults(&mut self.regs),
                 },
                 Turn::Look => look(&mut self.regs, reply),
@@ -203,8 +159,7 @@ impl Hart {
 }
 
 impl Actor for Hart {
-    ghost use Rattle.hart_trace.specs.declared.hart.Hart.{Hart as HartState};
-    ghost use Rattle.hart_trace.specs.States.{hart_wants, hart_leaves, hart_next};
+    ghost use Rattle.hart_trace.specs.States.{Hart as HartState, hart_wants, hart_leaves, hart_next};
 
     ghost State = { HartState };
 

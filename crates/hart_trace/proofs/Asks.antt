@@ -3,15 +3,14 @@ use Rattle.std.proofs.Common.{◌≡◌, ℕ, refl, Bool, true, false, if◌then
 use Rattle.vm_types.specs.declared.op.Op.{Op}
 use Rattle.hart_rows.specs.declared.regs.Regs.{Regs}
 use Rattle.hart_rows.specs.declared.regs.Turn.{Turn}
-use Rattle.hart_rows.specs.declared.rows.Kind.{Kind}
-use Rattle.hart_rows.specs.declared.rows.Kind.TheVariants.{Lui, Addi, Ecall}
+use Rattle.hart_rows.specs.declared.kind.Kind.{Kind}
+use Rattle.hart_rows.specs.declared.kind.Kind.TheVariants.{Lui, Addi, Ecall}
 use Rattle.hart_rows.specs.Registers.{reg}
 use Rattle.hart_rows.specs.Doing.{Ends, asked}
 use Rattle.hart_rows.specs.Rows.{kind_of, does_by, does}
 use Rattle.hart_rows.specs.Sbi.{a6, a7, legacy_putchar, system_reset, putchar, reset}
-use Rattle.hart_trace.specs.declared.hart.Hart.{Hart}
 use Rattle.hart_trace.specs.Traces.{opening, is_host_op, is_port_op}
-use Rattle.hart_trace.specs.States.{op_or_idle, wants_by, hart_wants}
+use Rattle.hart_trace.specs.States.{Hart, op_or_idle, wants_by, hart_wants}
 
 -- what a hart may want
 abbrev pub IsHartAct : Op → Type 0

@@ -4,13 +4,16 @@ use Rattle.hart_rows.specs.declared.regs.Regs.{Regs}
 use Rattle.vm_types.specs.declared.op.Op.{Op}
 use Rattle.vm_types.specs.declared.op.BoardOp.{BoardOp}
 use Rattle.vm_types.specs.declared.op.BoardOp.TheVariants as board
+use Rattle.vm_types.specs.declared.op.PortOp.{PortOp}
+use Rattle.vm_types.specs.declared.op.PortOp.TheVariants as port
+use Rattle.vm_types.specs.declared.port_look.QueueShown.{QueueShown}
 use Rattle.vm_types.specs.declared.op.OutOp.{OutOp}
 use Rattle.vm_types.specs.declared.op.OutOp.TheVariants as out
 use Rattle.vm_types.specs.declared.reply.Reply.{Reply}
 use Rattle.vm_types.specs.declared.reply.Shown.TheVariants.{Stopped}
 use Rattle.vm_types.specs.declared.entry.Step.{Step}
 use Rattle.hart_rows.specs.Doing.{Doing, Ends, Asks}
-use Rattle.vm_types.specs.Fits.{board_fits, out_fits, Fits}
+use Rattle.vm_types.specs.Fits.{board_fits, out_fits, port_fits, Fits}
 use Rattle.hart_trace.specs.Traces.{Completes, Group, Lead, joined, is_full}
 use Rattle.hart_trace.proofs.Rest.{Rest, doing_wants, doing_next}
 
@@ -66,6 +69,14 @@ board_settled (board.StartHart hart pc word) = Reply.Returned 0 0
 board_settled (board.HartStatus hart) = Reply.Returned 0 0
 board_settled act = Reply.Done
 
+abbrev idle_queue : QueueShown
+idle_queue = record { descriptors = 0; available = 0; used = 0; size = 0; is_ready = false; is_kicked = false }
+
+abbrev pub port_settled : PortOp → Reply
+port_settled port.Look = Reply.Port (record { first = idle_queue; second = idle_queue; third = idle_queue; status = 0; was_reset = false })
+port_settled (port.Interrupt causes) = Reply.Done
+port_settled port.Break = Reply.Word 0
+
 abbrev pub out_settled : OutOp → Reply
 out_settled out.Clock = Reply.Word 0
 out_settled act = Reply.Failed
@@ -76,7 +87,7 @@ settled (Op.Write at piece) = Reply.Done
 settled (Op.Amo at value kind wide) = Reply.Word 0
 settled (Op.Lr at wide) = Reply.Word 0
 settled (Op.Sc at value wide) = Reply.Word 0
-settled (Op.Port act) = Reply.Done
+settled (Op.Port port act) = port_settled act
 settled (Op.Board act) = board_settled act
 settled (Op.Out act) = out_settled act
 settled Op.Idle = Reply.Done
@@ -95,6 +106,11 @@ board_fits-settled (board.HartStatus hart) = refl
 board_fits-settled board.RaiseLine = refl
 board_fits-settled (board.Advance nanoseconds) = refl
 
+port_fits-settled : (act : PortOp) → port_fits act (port_settled act) ≡ true
+port_fits-settled port.Look = refl
+port_fits-settled (port.Interrupt causes) = refl
+port_fits-settled port.Break = refl
+
 out_fits-settled : (act : OutOp) → out_fits act (out_settled act) ≡ true
 out_fits-settled out.Clock = refl
 out_fits-settled act = refl
@@ -105,7 +121,7 @@ fits-settled (Op.Write at piece) = refl
 fits-settled (Op.Amo at value kind wide) = refl
 fits-settled (Op.Lr at wide) = refl
 fits-settled (Op.Sc at value wide) = refl
-fits-settled (Op.Port act) = refl
+fits-settled (Op.Port port act) = port_fits-settled act
 fits-settled (Op.Board act) = board_fits-settled act
 fits-settled (Op.Out act) = out_fits-settled act
 fits-settled Op.Idle = refl
@@ -124,6 +140,11 @@ is_full-board_settled (board.HartStatus hart) = refl
 is_full-board_settled board.RaiseLine = refl
 is_full-board_settled (board.Advance nanoseconds) = refl
 
+is_full-port_settled : (act : PortOp) → is_full (port_settled act) ≡ false
+is_full-port_settled port.Look = refl
+is_full-port_settled (port.Interrupt causes) = refl
+is_full-port_settled port.Break = refl
+
 is_full-out_settled : (act : OutOp) → is_full (out_settled act) ≡ false
 is_full-out_settled out.Clock = refl
 is_full-out_settled act = refl
@@ -134,7 +155,7 @@ is_full-settled (Op.Write at piece) = refl
 is_full-settled (Op.Amo at value kind wide) = refl
 is_full-settled (Op.Lr at wide) = refl
 is_full-settled (Op.Sc at value wide) = refl
-is_full-settled (Op.Port act) = refl
+is_full-settled (Op.Port port act) = is_full-port_settled act
 is_full-settled (Op.Board act) = is_full-board_settled act
 is_full-settled (Op.Out act) = is_full-out_settled act
 is_full-settled Op.Idle = refl

@@ -4,7 +4,6 @@ use Rattle.std.proofs.lemmas.Bool.{eqb-true}
 use Rattle.std.proofs.lemmas.List.{append-nil}
 use Rattle.hart_rows.specs.declared.regs.Regs.{Regs}
 use Rattle.hart_rows.specs.declared.regs.Turn.{Turn}
-use Rattle.hart_trace.specs.declared.hart.Hart.{Hart}
 use Rattle.vm_types.specs.declared.op.Op.{Op}
 use Rattle.vm_types.specs.declared.op.BoardOp.TheVariants as board
 use Rattle.vm_types.specs.declared.reply.Reply.{Reply}
@@ -15,7 +14,7 @@ use Rattle.hart_rows.specs.Registers.{trapped}
 use Rattle.vm_types.specs.Fits.{fits, Fits}
 use Rattle.hart_trace.specs.Traces.{word_of, Completes, Group, Lead, joined, looked, opening, going, is_full, HartTrace, fetch_fault}
 use Rattle.hart_trace.proofs.Rest.{Rest}
-use Rattle.hart_trace.specs.States.{fresh, wants_by, hart_wants, stepped_by, begins_by, hart_fetched, hart_stepped, hart_next, turned_by, op_or_idle, Waits, Begins, BegunBy, LeadsTo}
+use Rattle.hart_trace.specs.States.{Hart, fresh, wants_by, hart_wants, stepped_by, begins_by, hart_fetched, hart_stepped, hart_next, turned_by, op_or_idle, Waits, Begins, BegunBy, LeadsTo}
 
 lead_append : (r q s : Regs) (gs hs : List (List Step)) → Lead r gs q → Lead q hs s → Lead r (gs ++ hs) s
 lead_append r q s [] hs l m = subst (λ x. Lead x hs s) (sym l) m

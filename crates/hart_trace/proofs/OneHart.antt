@@ -2,7 +2,6 @@
 use Rattle.std.proofs.Common.{◌≡◌, ℕ, refl, sym, ap, subst, ◌∙◌, Bool, true, false, if◌then◌else◌, MatchBool, List, [], ◌∷◌, ◌++◌, Option, Some, None, ◌==◌}
 use Rattle.hart_rows.specs.declared.regs.Regs.{Regs}
 use Rattle.hart_rows.specs.declared.regs.Turn.{Turn}
-use Rattle.hart_trace.specs.declared.hart.Hart.{Hart}
 use Rattle.vm_types.specs.declared.op.Op.{Op}
 use Rattle.vm_types.specs.declared.reply.Reply.{Reply}
 use Rattle.vm_types.specs.declared.entry.Step.{Step}
@@ -11,7 +10,7 @@ use Rattle.hart_rows.specs.Rows.{does}
 use Rattle.hart_rows.specs.Registers.{trapped}
 use Rattle.vm_types.specs.Fits.{fits, Fits}
 use Rattle.hart_trace.specs.Traces.{word_of, Completes, Group, Lead, joined, looked, opening, going, is_full, fetch_fault}
-use Rattle.hart_trace.specs.States.{fresh, hart_wants, hart_stepped, hart_next, turned_by, begins_by, op_or_idle, Waits, Begins, BegunBy, LeadsTo}
+use Rattle.hart_trace.specs.States.{Hart, fresh, hart_wants, hart_stepped, hart_next, turned_by, begins_by, op_or_idle, Waits, Begins, BegunBy, LeadsTo}
 
 abbrev pub walk : Hart → List Step → Hart
 walk h [] = h

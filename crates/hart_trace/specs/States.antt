@@ -10,8 +10,12 @@ use Rattle.hart_rows.specs.declared.regs.Turn.{Turn}
 use Rattle.hart_rows.specs.Registers.{trapped}
 use Rattle.hart_rows.specs.Doing.{asked, ended}
 use Rattle.hart_rows.specs.Rows.{does}
-use Rattle.hart_trace.specs.declared.hart.Hart.{Hart}
 use Rattle.hart_trace.specs.Traces.{word_of, looked, opening, is_full, fetch_fault, Lead, joined}
+
+-- a hart: its registers before an instruction, and the instruction's word from its fetch to the reply that ends it
+pub record Hart : Type 0 where
+  pub regs : Regs
+  pub begun : Option ℕ
 
 -- a hart between two instructions
 abbrev pub fresh : Regs → Hart

@@ -103,5 +103,5 @@ is_host_op op = false
 
 -- an act on a device's port
 abbrev pub is_port_op : Op → Bool
-is_port_op (Op.Port act) = true
+is_port_op (Op.Port port act) = true
 is_port_op op = false

@@ -1,18 +1,13 @@
-// What holds of every trace and every hart, and the op that continues the steps of a trace.
-ghost use Rattle.std.specs.Prelude.{◌≡◌, ◌↔◌, ℕ, IsTrue, true, false, List, [], ◌∷◌, ◌++◌, MatchOption};
+// What holds of every trace and every hart.
+ghost use Rattle.std.specs.Prelude.{◌≡◌, ℕ, true, false, List, [], ◌∷◌, ◌++◌};
 ghost use Rattle.vm_types.specs.declared.entry.Step.{Step};
 ghost use Rattle.vm_types.specs.declared.op.Op.{Op};
 ghost use Rattle.vm_types.specs.declared.op.Op.TheVariants.{Read};
 ghost use Rattle.vm_types.specs.declared.reply.Reply.{Reply};
-ghost use Rattle.vm_types.specs.Fits.{fits, Fits};
+ghost use Rattle.vm_types.specs.Fits.{fits};
 ghost use Rattle.hart_rows.specs.declared.regs.Regs.{Regs};
-ghost use Rattle.hart_trace.specs.declared.hart.Hart.{Hart};
 ghost use Rattle.hart_trace.specs.Traces.{Continues, IsPrefix, is_host_op, is_port_op};
-ghost use Rattle.hart_trace.specs.States.{LeadsTo, fresh, hart_next, hart_wants};
-
-use crate::hart::Hart;
-use hart_rows::Regs;
-use vm_types::{Actor, Op, Step, is_fit, is_same_op};
+ghost use Rattle.hart_trace.specs.States.{Hart, LeadsTo, fresh, hart_next, hart_wants};
 
 /// Traces: one op continues steps that go on to a trace, and with every fitting reply to it they go on.
 pub fn one_op()
@@ -39,28 +34,3 @@ pub fn hart_asks()
     ensures never_port { (h : Hart) → is_port_op (hart_wants h) ≡ false }
     ensures reads { (h : Hart) (at len : ℕ) → hart_wants h ≡ Read at len → len ≡ 4 }
 {}
-
-/// Whether the step is this op, with a reply that fits.
-fn is_answered(op: &Op, step: &Step) -> bool
-    ensures { IsTrue result ↔ (op.now ≡ step.now.op) × Fits op.now step.now.reply }
-{
-    is_same_op(op, &step.op) && is_fit(op, &step.reply)
-}
-
-/// The op that continues these steps, or `None` where no trace begins with them.
-pub fn op_after(start: &Regs, steps: &[Step]) -> Option<Op>
-    ensures { MatchOption result ((op : Op) → Continues start.now steps.now op → ⊥) (λ op. Continues start.now steps.now op) }
-{
-    let mut hart = Hart::new(*start);
-    for step in steps {
-        let op = hart.want();
-        if !is_answered(&op, step) {
-            return None;
-        }
-        hart.give(step.reply);
-    }
-    Some(hart.want())
-}
-
-#[cfg(test)]
-mod tests;

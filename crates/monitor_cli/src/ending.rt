@@ -25,7 +25,7 @@ pub fn write_ending<K: Sink>(alloc: Global, monitor: &Monitor, sink: &mut K) -> 
     };
     match write_all(sink, text.as_slice()) {
         Ok(()) => Exit::Done,
-        Err(Failed) => Exit::Fault { name: Object::Sink },
+        Err(Failed) => Exit::Fault(Object::Sink),
     }
 }
 

@@ -29,14 +29,12 @@ pub fn run_item<F: Files, K: Sink>(
     let text = match monitor.item(item, files) {
         Ok(text) => text,
         Err(ItemError::FilesFailed) => {
-            return Err(Exit::Fault {
-                name: Object::Files,
-            });
+            return Err(Exit::Fault(Object::Files));
         }
         Err(ItemError::OutOfMemory) => return Err(Exit::OutOfMemory),
     };
     match write_all(sink, text.as_slice()) {
         Ok(()) => Ok(()),
-        Err(Failed) => Err(Exit::Fault { name: Object::Sink }),
+        Err(Failed) => Err(Exit::Fault(Object::Sink)),
     }
 }

@@ -20,7 +20,7 @@ pub fn write_last<K: Sink>(sink: &mut K, exit: Exit) -> Result<(), Failed>
         Exit::Done => write_part(sink, b""),
         Exit::Usage => write_part(sink, b". usage\n"),
         Exit::Script { line } => write_script_line(sink, line),
-        Exit::Fault { name } => match name {
+        Exit::Fault(name) => match name {
             Object::Source => write_part(sink, b". fault Source\n"),
             Object::Sink => write_part(sink, b""),
             Object::Files => write_part(sink, b". fault Files\n"),

@@ -52,9 +52,7 @@ pub fn run_script<I: Source, F: Files, K: Sink>(
         }
         let room = PIECE.min(LONGEST - came) as usize;
         let Ok(count) = source.read(&mut piece[..room]) else {
-            return Err(Exit::Fault {
-                name: Object::Source,
-            });
+            return Err(Exit::Fault(Object::Source));
         };
         if count == 0 {
             return Ok(());
@@ -77,8 +75,6 @@ fn past_longest<I: Source>(line: u64, source: &mut I) -> Result<(), Exit>
     match source.read(&mut byte) {
         Ok(0) => Ok(()),
         Ok(_) => Err(Exit::Script { line }),
-        Err(_) => Err(Exit::Fault {
-            name: Object::Source,
-        }),
+        Err(_) => Err(Exit::Fault(Object::Source)),
     }
 }

@@ -1,7 +1,9 @@
 -- What an item makes of the monitor is what it makes of each machine that it is.
-use Rattle.std.proofs.Common.{◌≡◌, ℕ, ◌≤◌, arith, Bool, true, false, MatchBool, refl, sym, ap, subst, ◌∙◌, List, [], Option, Some, None}
+use Rattle.std.proofs.Common.{◌≡◌, ℕ, ◌+◌, ◌≤◌, ◌==◌, nat_lt, arith, Bool, true, false, MatchBool, refl, sym, ap, subst, ◌∙◌, List, [], ◌∷◌, ◌++◌, length, Option, Some, None}
+use Rattle.std.proofs.lemmas.Bool.Decides.{nat_tests}
+use Rattle.std.proofs.lemmas.List.{append-nil}
 use Rattle.std.specs.FinMap.{insert}
-use Rattle.vm_types.specs.Causes.{RoseBy}
+use Rattle.vm_types.specs.Causes.{Rose, RoseBy}
 use Rattle.vm_types.specs.Saved.{Saved}
 use Rattle.vm_types.specs.Ids.{same_actor}
 use Rattle.vm_types.specs.declared.ids.ActorId.{ActorId}
@@ -10,13 +12,21 @@ use Rattle.vm_types.specs.declared.item.ApiCall.{ApiCall}
 use Rattle.vm_types.specs.declared.item.Item.{Item}
 use Rattle.script_lines.specs.Output.{not_running_line, no_actor_line}
 use Rattle.flat_guest.specs.Guest.{Guest, is_actor}
-use Rattle.flat_guest.specs.Plain.{IsGuest}
+use Rattle.flat_guest.specs.Body.{IsGuest}
 use Rattle.flat_guest.specs.Steps.{StepsBy}
-use Rattle.flat_machine.specs.declared.outcome.Outcome.{Outcome}
-use Rattle.flat_machine.specs.declared.outcome.Outcome.TheVariants.{Answered}
+use Rattle.flat_machine.specs.Outcome as flat
+use Rattle.monitor_core.specs.declared.outcome.Outcome.{Outcome}
+use Rattle.monitor_core.specs.declared.outcome.Outcome.TheVariants.{Answered, Failed, NoMemory}
 use Rattle.flat_machine.specs.Machine.{Machine}
-use Rattle.flat_machine.specs.Items.{ItemStep, Moves, StepsLine}
-use Rattle.flat_machine.proofs.Going.{hart_there, others_not}
+use Rattle.flat_machine.specs.Items.{ItemStep, Moves, StepsLine, calls_of}
+use Rattle.flat_machine.specs.Requests.{RequestStep}
+use Rattle.vm_outside.specs.Calls.{FileCall}
+use Rattle.vm_outside.specs.Filing.{SameFiles}
+use Rattle.vm_outside.specs.Known.{FilesKnown, Tells}
+use Rattle.monitor_core.specs.declared.item_error.ItemError.{ItemError}
+use Rattle.hart_rows.specs.declared.regs.Regs.{Regs}
+use Rattle.monitor_core.specs.Filing.{SavesFile, SavesPart}
+use Rattle.monitor_core.specs.Going.{IsCounted, IsFile, ItemCause, ItemGoes, ItemStops, LeavesCalls, LeavesFiles, OutcomeCause, RequestGoes, error_failures, outcome_by}
 use Rattle.monitor_core.specs.declared.guest.Guest as own
 use Rattle.monitor_core.specs.declared.monitor.Monitor.{Monitor}
 use Rattle.monitor_core.specs.State.{IsGuestBy, IsMonitor}
@@ -34,6 +44,20 @@ some_guest (Some p) q None is some = absurd is
 some_guest (Some p) q (Some g) is some =
     let same : p ≡ q = cc in
     (g, refl, subst (λ (x : own.Guest). IsGuest x.memory x.board x.hart g) same is)
+
+-- the actors of a guest with one hart
+hart_there : (g : Guest) (start : Regs) → g.starts ≡ start ∷ [] → is_actor g (ActorId.Hart 0) ≡ true
+hart_there g start one = ap (λ (starts : List Regs). nat_lt 0 (length starts)) one
+
+past : (k : ℕ) → (k == 0) ≡ false → nat_lt k 1 ≡ false
+past k other = grind (arith, nat_tests)
+
+others_not : (g : Guest) (start : Regs) (actor : ActorId) → g.starts ≡ start ∷ [] → same_actor actor (ActorId.Hart 0) ≡ false → is_actor g actor ≡ false
+others_not g start (ActorId.Hart k) one other =
+    let here : nat_lt k (length g.starts) ≡ nat_lt k 1 = ap (λ (starts : List Regs). nat_lt k (length starts)) one in
+    here ∙ past k other
+others_not g start ActorId.Timer one other = refl
+others_not g start (ActorId.Device k) one other = refl
 
 -- some machine that the monitor is after the step line
 abbrev pub Moved : ActorId → ℕ → Machine → List ℕ → Monitor → Saved → Type 0
@@ -78,18 +102,35 @@ step_moves monitor saved m guest left actor count text is some hart quiet ran =
     )
 
 -- some machine that the monitor is after the item
-abbrev pub Went : Item → Outcome → Machine → List ℕ → Monitor → Saved → Type 0
-Went item outcome m text after saved = (n : Machine) × ItemStep item outcome m text n × IsMonitor after saved n
+abbrev Went : Item → List flat.Outcome → Machine → List ℕ → Monitor → Saved → Type 0
+Went item outcomes m text after saved = (n : Machine) × ItemStep item outcomes m text n × IsMonitor after saved n
 
-pub nothing_went : (monitor : Monitor) (saved : Saved) (m : Machine) (item : Item) (text : List ℕ) → IsMonitor monitor saved m → item ≡ Item.Nothing → text ≡ [] → Went item Answered m text monitor saved
-nothing_went monitor saved m item text is nothing quiet =
-    (m, subst (λ (i : Item). ItemStep i Answered m text m) (sym nothing) (refl, quiet, refl), is)
+-- no request wants no fault
+none_counted : (before now : ℕ) → now ≡ before → IsCounted [] before now
+none_counted before now same = record { rose = omega (arith, same); kept = λ good. same }
 
-pub file_went : (monitor : Monitor) (saved left : Saved) (m : Machine) (item : Item) (name content text : List ℕ) → IsMonitor monitor saved m → item ≡ Item.File name content → left ≡ insert saved name content → text ≡ [] → Went item Answered m text monitor left
+one_counted : (outcome : Outcome) (left : Saved) (before now : ℕ) → OutcomeCause outcome before now → IsCounted (outcome_by outcome left ∷ []) before now
+one_counted Answered left before now cause = record { rose = omega (arith, cause); kept = λ good. cause }
+one_counted Failed left before now cause = record { rose = cause; kept = λ good. absurd good }
+one_counted NoMemory left before now cause = record { rose = omega (arith, cause); kept = λ good. absurd good }
+
+same_calls : (item other : Item) (calls left : List FileCall) → item ≡ other → calls_of other ≡ [] → left ≡ calls → left ≡ calls ++ calls_of item
+same_calls item other calls left is none same =
+    same ∙ sym (append-nil calls) ∙ ap (λ (l : List FileCall). calls ++ l) (sym none) ∙ ap (λ (i : Item). calls ++ calls_of i) (sym is)
+
+pub nothing_goes : (monitor : Monitor) (known : FilesKnown) (item : Item) (text : List ℕ) → item ≡ Item.Nothing → text ≡ [] → ItemGoes item text monitor monitor known known
+nothing_goes monitor known item text nothing quiet = record {
+  outcomes = [];
+  counted = none_counted known.health.faults known.health.faults refl;
+  went = λ told m is. (m, subst (λ (i : Item). ItemStep i [] m text m) (sym nothing) (refl, quiet, refl), is);
+  calls = λ told. same_calls item Item.Nothing known.calls known.calls nothing refl refl;
+}
+
+file_went : (monitor : Monitor) (saved left : Saved) (m : Machine) (item : Item) (name content text : List ℕ) → IsMonitor monitor saved m → item ≡ Item.File name content → left ≡ insert saved name content → text ≡ [] → Went item [] m text monitor left
 file_went monitor saved left m item name content text is file made quiet =
     let n : Machine = record m { saved = insert m.saved name content } in (
       n,
-      subst (λ (i : Item). ItemStep i Answered m text n) (sym file) (refl, quiet, refl),
+      subst (λ (i : Item). ItemStep i [] m text n) (sym file) (refl, quiet, refl),
       record {
         id_is = is.id_is;
         config_is = is.config_is;
@@ -98,13 +139,67 @@ file_went monitor saved left m item name content text is file made quiet =
       },
     )
 
-pub api_went : (after : Monitor) (saved : Saved) (m : Machine) (item : Item) (call : ApiCall) (outcome : Outcome) (text : List ℕ) → item ≡ Item.Api call → Went (Item.Api call) outcome m text after saved → Went item outcome m text after saved
-api_went after saved m item call outcome text api went = subst (λ (i : Item). Went i outcome m text after saved) (sym api) went
+pub file_goes : (monitor : Monitor) (known left : FilesKnown) (item : Item) (name content text : List ℕ) → item ≡ Item.File name content → text ≡ [] → left.health.faults ≡ known.health.faults → (Tells known.health → SavesFile known name content left) → ItemGoes item text monitor monitor known left
+file_goes monitor known left item name content text file quiet kept saves = record {
+  outcomes = [];
+  counted = none_counted known.health.faults left.health.faults kept;
+  went = λ told m is. file_went monitor known.saved left.saved m item name content text is file (saves told).saved quiet;
+  calls = λ told. (saves told).calls ∙ ap (λ (i : Item). known.calls ++ calls_of i) (sym file);
+}
 
-pub step_went : (after : Monitor) (saved : Saved) (m : Machine) (item : Item) (actor : ActorId) (count : ℕ) (text : List ℕ) → item ≡ Item.Step actor count → Moved actor count m text after saved → Went item Answered m text after saved
-step_went after saved m item actor count text step moved =
-    (moved.0, subst (λ (i : Item). ItemStep i Answered m text moved.0) (sym step) (refl, moved.1), moved.2)
+api_went : (after : Monitor) (saved : Saved) (m : Machine) (item : Item) (call : ApiCall) (outcome : Outcome) (text : List ℕ) → item ≡ Item.Api call
+    → (n : Machine) × RequestStep (outcome_by outcome saved) call m text n × IsMonitor after saved n → Went item (outcome_by outcome saved ∷ []) m text after saved
+api_went after saved m item call outcome text api went = (
+  went.0,
+  subst (λ (i : Item). ItemStep i (outcome_by outcome saved ∷ []) m text went.0) (sym api) (text, went.0, [], went.1, (refl, refl), sym (append-nil text)),
+  went.2,
+)
 
--- no failure wants no cause
-pub no_cause : (before now : ℕ) → before ≤ now → RoseBy 0 before now
-no_cause before now later = grind (arith)
+pub api_goes : (monitor after : Monitor) (known left : FilesKnown) (item : Item) (call : ApiCall) (outcome : Outcome) (text : List ℕ) → item ≡ Item.Api call → OutcomeCause outcome known.health.faults left.health.faults
+    → (Tells known.health → RequestGoes call text outcome monitor known.saved after left.saved) → (Tells known.health → SameFiles known left) → ItemGoes item text monitor after known left
+api_goes monitor after known left item call outcome text api cause goes same = record {
+  outcomes = outcome_by outcome left.saved ∷ [];
+  counted = one_counted outcome left.saved known.health.faults left.health.faults cause;
+  went = λ told m is. api_went after left.saved m item call outcome text api (goes told m is);
+  calls = λ told. same_calls item (Item.Api call) known.calls left.calls api refl (same told).calls;
+}
+
+pub step_goes : (monitor after : Monitor) (known : FilesKnown) (item : Item) (actor : ActorId) (count : ℕ) (text : List ℕ) → item ≡ Item.Step actor count → ((saved : Saved) (m : Machine) → IsMonitor monitor saved m → Moved actor count m text after saved) → ItemGoes item text monitor after known known
+step_goes monitor after known item actor count text step moves = record {
+  outcomes = [];
+  counted = none_counted known.health.faults known.health.faults refl;
+  went = λ told m is. let moved = moves known.saved m is in
+      (moved.0, subst (λ (i : Item). ItemStep i [] m text moved.0) (sym step) (refl, moved.1), moved.2);
+  calls = λ told. same_calls item (Item.Step actor count) known.calls known.calls step refl refl;
+}
+
+-- an item of which nothing was done
+stops_at_once : (why : ItemError) (item : Item) (monitor after : Monitor) (known left : FilesKnown) → ItemCause item why → RoseBy (0 + error_failures why) known.health.faults left.health.faults → after ≡ monitor
+    → (Tells known.health → LeavesFiles item known.saved left.saved) → (Tells known.health → LeavesCalls item known.calls left.calls) → ItemStops why item monitor after known left
+stops_at_once why item monitor after known left cause rose same files calls = record {
+  part = [];
+  unwritten = [];
+  cause = cause;
+  rose = rose;
+  same = λ none. same;
+  went = λ told m is. (
+    m,
+    (refl, refl),
+    subst (λ (q : Monitor). IsMonitor q m.saved m) (sym same) (record { id_is = is.id_is; config_is = is.config_is; files_is = refl; guest_is = is.guest_is }),
+    subst (λ (s : Saved). LeavesFiles item s left.saved) is.files_is (files told),
+  );
+  calls = calls;
+}
+
+pub file_stops : (monitor : Monitor) (known left : FilesKnown) (item : Item) (name content : List ℕ) → item ≡ Item.File name content → Rose known.health.faults left.health.faults → (Tells known.health → SavesPart known name left) → ItemStops ItemError.FilesFailed item monitor monitor known left
+file_stops monitor known left item name content file rose part =
+    subst (λ (i : Item). ItemStops ItemError.FilesFailed i monitor monitor known left) (sym file)
+    (stops_at_once ItemError.FilesFailed (Item.File name content) monitor monitor known left tt rose refl (λ told. (part told).others) (λ told. ((part told).more, (part told).calls)))
+
+-- an item that is no file line, for want of memory
+pub other_stops : (why : ItemError) (item other : Item) (monitor after : Monitor) (known left : FilesKnown) → item ≡ other → why ≡ ItemError.OutOfMemory → (IsFile other → ⊥) → known.health.faults ≤ left.health.faults → after ≡ monitor
+    → (Tells known.health → LeavesFiles other known.saved left.saved) → (Tells known.health → LeavesCalls other known.calls left.calls) → ItemStops why item monitor after known left
+other_stops why item other monitor after known left is memory no_file later same files calls =
+    subst (λ (i : Item). ItemStops why i monitor after known left) (sym is)
+    (subst (λ (w : ItemError). ItemStops w other monitor after known left) (sym memory)
+    (stops_at_once ItemError.OutOfMemory other monitor after known left no_file (omega (arith, later)) same files calls))

@@ -6,16 +6,17 @@ use Rattle.vm_types.specs.declared.item.ApiCall.{ApiCall}
 use Rattle.vm_types.specs.declared.item.ApiCall.TheVariants.{PutBootSource, PutMachineConfig, InstanceStart, GetInstance}
 use Rattle.api_admission.specs.declared.config.Config.{Config}
 use Rattle.api_admission.specs.declared.config.Phase.{Phase}
-use Rattle.api_admission.specs.declared.refusal.Refusal.{Refusal}
-use Rattle.api_admission.specs.declared.refusal.Refusal.TheVariants as refusal
+use Rattle.refusals.specs.declared.refusal.Refusal.{Refusal}
+use Rattle.refusals.specs.declared.refusal.Refusal.TheVariants as refusal
 use Rattle.api_admission.specs.Admission.{Facts, asks_files, configured, first_refusal, has_started, is_fit_by, refusal_of}
 use Rattle.api_admission.specs.Answers.{answer_by, answer_of, refused}
 use Rattle.script_lines.specs.Output.{reply_line}
 use Rattle.flat_guest.specs.Guest.{Guest}
-use Rattle.flat_guest.specs.Plain.{IsGuest}
+use Rattle.flat_guest.specs.Body.{IsGuest}
 use Rattle.flat_guest.specs.Start.{started}
-use Rattle.flat_machine.specs.declared.outcome.Outcome.{Outcome}
-use Rattle.flat_machine.specs.declared.outcome.Outcome.TheVariants.{Answered, Failed, NoMemory}
+use Rattle.monitor_core.specs.declared.outcome.Outcome.{Outcome}
+use Rattle.monitor_core.specs.declared.outcome.Outcome.TheVariants.{Answered, Failed, NoMemory}
+use Rattle.monitor_core.specs.Going.{outcome_by}
 use Rattle.flat_machine.specs.Machine.{Machine, phase_by}
 use Rattle.flat_machine.specs.Requests.{RequestStep, after_by, facts_of, guest_by, guest_from}
 use Rattle.monitor_core.specs.declared.guest.Guest as own
@@ -27,7 +28,7 @@ use Rattle.monitor_core.specs.State.{IsGuestBy, IsMonitor}
 
 -- some machine that the monitor is after the call
 abbrev pub Steps : Outcome → ApiCall → Machine → List ℕ → Monitor → Saved → Type 0
-Steps outcome call m text after saved = (n : Machine) × RequestStep outcome call m text n × IsMonitor after saved n
+Steps outcome call m text after saved = (n : Machine) × RequestStep (outcome_by outcome saved) call m text n × IsMonitor after saved n
 
 -- the machine of the monitor's own data, these files and this guest
 abbrev pub this : Monitor → Saved → Option Guest → Machine
@@ -121,7 +122,7 @@ allowed call monitor saved m phase text is here unasked writes none =
 -- one that there was no memory for
 pub no_memory : (call : ApiCall) (monitor : Monitor) (saved : Saved) (m : Machine) (outcome : Outcome) (text : List ℕ) → IsMonitor monitor saved m → outcome ≡ NoMemory → text ≡ reply_line (refused refusal.OutOfMemory) → Steps outcome call m text monitor saved
 no_memory call monitor saved m outcome text is none writes =
-    (m, subst (λ (o : Outcome). RequestStep o call m text m) (sym none) (writes, refl), is)
+    (m, subst (λ (o : Outcome). RequestStep (outcome_by o saved) call m text m) (sym none) (writes, refl), is)
 
 -- a start that comes to ask the files is of a machine that has not started and has a boot source
 asked_phase : (phase : Phase) (b : Bool) → (not (has_started phase) && b) ≡ true → (phase ≡ Phase.NotStarted) × (b ≡ true)
@@ -175,7 +176,8 @@ start_refused monitor saved g why NoMemory text is phase some writes = (this mon
 
 start_failed : (monitor : Monitor) (saved : Saved) (m : Machine) (outcome : Outcome) (text : List ℕ) → IsMonitor monitor saved m → asks_files InstanceStart (facts_of m) ≡ true → IsFailed outcome text → Steps outcome InstanceStart m text monitor saved
 start_failed monitor saved m Answered text is asked writes = absurd writes
-start_failed monitor saved m Failed text is asked writes = (m, (asked, writes, refl), is)
+start_failed monitor saved m Failed text is asked writes =
+    (record m { saved = saved }, (asked, is.files_is, writes, refl), record { id_is = is.id_is; config_is = is.config_is; files_is = refl; guest_is = is.guest_is })
 start_failed monitor saved m NoMemory text is asked writes = (m, (writes, refl), is)
 
 asks_here : (monitor : Monitor) (saved : Saved) (m : Machine) → IsMonitor monitor saved m → Phase.NotStarted ≡ phase_by m.guest → is_some monitor.config.kernel_image_path ≡ true → asks_files InstanceStart (facts_of m) ≡ true

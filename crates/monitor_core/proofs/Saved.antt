@@ -1,5 +1,5 @@
 -- A file made empty and written whole holds what was written.
-use Rattle.std.proofs.Common.{◌≡◌, ◌≢◌, ℕ, ◌+◌, ◌==◌, Bool, true, false, cond, List, [], ◌∷◌, ◌++◌, length, Option, Some, Result, Ok, Err, refl, sym, ◌∙◌, ap, arith}
+use Rattle.std.proofs.Common.{◌≡◌, ◌≢◌, ℕ, ◌+◌, ◌==◌, Bool, true, false, cond, List, [], ◌∷◌, ◌++◌, length, Option, Some, Result, Ok, Err, inl, inr, refl, sym, ◌∙◌, ap, arith, append_assoc}
 use Rattle.std.proofs.lemmas.List.{append-nil}
 use Rattle.std.proofs.Math.Seq.{drop-nil}
 use Rattle.std.proofs.lemmas.Slice.Eq.{bytes_eq-Decides}
@@ -10,8 +10,12 @@ use Rattle.std.specs.Cmp.Lexicographic.{slice_cmp, nat_list_cmp_total}
 use Rattle.std.specs.FinMap.{get, insert, same_map, get-insert, slice_cmp-IsAntisymmetric, nat_cmp-IsAntisymmetric}
 use Rattle.std.proofs.lemmas.Map.Text.{is_eq-slice_cmp}
 use Rattle.std.specs.Str.{bytes_eq}
-use Rattle.vm_types.specs.Saved.{Saved, overwritten, written}
-use Rattle.vm_outside.specs.Filing.{SameOthers, WritesAt}
+use Rattle.vm_types.specs.Saved.{SameOthers, Saved, overwritten, written}
+use Rattle.vm_outside.specs.Calls.{FileCall, MayBegin}
+use Rattle.vm_outside.specs.Calls.FileCall.{Making, Made, Writing, Synced}
+use Rattle.vm_outside.specs.Filing.{MakesFile, MayChange, SameFiles, Syncs, WritesAt}
+use Rattle.vm_outside.specs.Known.{FilesKnown}
+use Rattle.monitor_core.specs.Filing.{SavesFile, SavesPart}
 
 same_cond : {A : Type 0} (b : Bool) (x y z : A) → cond b x (cond b y z) ≡ cond b x z
 same_cond true x y z = refl
@@ -37,16 +41,31 @@ same_some x y same = cc
 same_bytes : (name : List ℕ) → bytes_eq name name ≡ true
 same_bytes name = (bytes_eq-Decides name name).1 refl
 
-empty_there : (before made : Saved) (name : List ℕ) → made ≡ insert before name [] → get made name ≡ Some []
-empty_there before made name is =
-    ap (λ (m : Saved). get m name) is ∙ get-insert nat_list_cmp_total before name [] name
-    ∙ ap (λ (b : Bool). cond b (Some []) (get before name)) (is_eq-slice_cmp name name ∙ same_bytes name)
+there_now : (before now : Saved) (name bytes : List ℕ) → now ≡ insert before name bytes → get now name ≡ Some bytes
+there_now before now name bytes is =
+    ap (λ (m : Saved). get m name) is ∙ get-insert nat_list_cmp_total before name bytes name
+    ∙ ap (λ (b : Bool). cond b (Some bytes) (get before name)) (is_eq-slice_cmp name name ∙ same_bytes name)
 
-pub saved_whole : (before made filled : Saved) (name bytes : List ℕ) → made ≡ insert before name [] → WritesAt made name 0 bytes filled → filled ≡ insert before name bytes
-saved_whole before made filled name bytes is wrote =
-    let none : wrote.0 ≡ [] = same_some wrote.0 [] (sym wrote.1 ∙ empty_there before made name is) in
-    wrote.2 ∙ ap (λ (content : List ℕ). insert made name (written content 0 bytes)) none ∙ ap (insert made name) (written_whole bytes)
-    ∙ ap (λ (m : Saved). insert m name bytes) is ∙ insert_twice before name [] bytes
+saved_whole : (old made wrote : FilesKnown) (name bytes : List ℕ) → MakesFile old name made → WritesAt made name 0 bytes wrote → wrote.saved ≡ insert old.saved name bytes
+saved_whole old made wrote name bytes makes writes =
+    let none : writes.content ≡ [] = same_some writes.content [] (sym writes.there ∙ there_now old.saved made.saved name [] makes.saved) in
+    writes.saved ∙ ap (λ (content : List ℕ). insert made.saved name (written content 0 bytes)) none ∙ ap (insert made.saved name) (written_whole bytes)
+    ∙ ap (λ (m : Saved). insert m name bytes) makes.saved ∙ insert_twice old.saved name [] bytes
+
+calls_wrote : (old made wrote : FilesKnown) (name bytes : List ℕ) → MakesFile old name made → WritesAt made name 0 bytes wrote → wrote.calls ≡ old.calls ++ Making name ∷ Made name ∷ Writing name 0 bytes ∷ []
+calls_wrote old made wrote name bytes makes writes =
+    writes.calls ∙ ap (λ (l : List FileCall). l ++ Writing name 0 bytes ∷ []) makes.calls
+    ∙ append_assoc old.calls (Making name ∷ Made name ∷ []) (Writing name 0 bytes ∷ [])
+
+pub saves_file : (old made wrote synced : FilesKnown) (name bytes : List ℕ) → MakesFile old name made → WritesAt made name 0 bytes wrote → Syncs wrote name synced → SavesFile old name bytes synced
+saves_file old made wrote synced name bytes makes writes syncs =
+    let whole = saved_whole old made wrote name bytes makes writes in
+    record {
+      saved = syncs.saved ∙ whole;
+      calls = syncs.calls ∙ ap (λ (l : List FileCall). l ++ Synced name (get wrote.saved name) ∷ []) (calls_wrote old made wrote name bytes makes writes)
+          ∙ append_assoc old.calls (Making name ∷ Made name ∷ Writing name 0 bytes ∷ []) (Synced name (get wrote.saved name) ∷ [])
+          ∙ ap (λ (o : Option (List ℕ)). old.calls ++ Making name ∷ Made name ∷ Writing name 0 bytes ∷ Synced name o ∷ []) (there_now old.saved wrote.saved name bytes whole);
+    }
 
 not_so : (b : Bool) → (b ≡ true → ⊥) → b ≡ false
 not_so true never = absurd (never refl)
@@ -60,14 +79,32 @@ not_there m name other bytes differs =
     get-insert nat_list_cmp_total m name bytes other
     ∙ ap (λ (b : Bool). cond b (Some bytes) (get m other)) (is_eq-slice_cmp other name ∙ other_name name other differs)
 
--- and where one of its calls failed, every other name holds what it did
-pub made_others : (before made left : Saved) (name : List ℕ) → made ≡ insert before name [] → SameOthers made name left → SameOthers before name left
-made_others before made left name is same other differs =
-    same other differs ∙ ap (λ (m : Saved). get m other) is ∙ not_there before name other [] differs
+-- and where one of its calls failed, some were done, and every other name holds what it did
+begun_more : (old new : List FileCall) (call : FileCall) → MayBegin old call new → (more : List FileCall) × (new ≡ old ++ more)
+begun_more old new call (inl same) = ([], same ∙ sym (append-nil old))
+begun_more old new call (inr one) = (call ∷ [], one)
 
-pub whole_others : (before left : Saved) (name bytes : List ℕ) → left ≡ insert before name bytes → SameOthers before name left
-whole_others before left name bytes is other differs =
-    ap (λ (m : Saved). get m other) is ∙ not_there before name other bytes differs
+pub make_failed : (old left : FilesKnown) (name : List ℕ) (call : FileCall) → MayChange old name call left → SavesPart old name left
+make_failed old left name call change =
+    let more = begun_more old.calls left.calls call change.calls in
+    record { others = change.others; more = more.0; calls = more.1 }
+
+pub write_failed : (old made left : FilesKnown) (name : List ℕ) (call : FileCall) → MakesFile old name made → MayChange made name call left → SavesPart old name left
+write_failed old made left name call makes change =
+    let more = begun_more made.calls left.calls call change.calls in
+    record {
+      others = λ other differs. change.others other differs ∙ ap (λ (m : Saved). get m other) makes.saved ∙ not_there old.saved name other [] differs;
+      more = Making name ∷ Made name ∷ more.0;
+      calls = more.1 ∙ ap (λ (l : List FileCall). l ++ more.0) makes.calls ∙ append_assoc old.calls (Making name ∷ Made name ∷ []) more.0;
+    }
+
+pub sync_failed : (old made wrote left : FilesKnown) (name bytes : List ℕ) → MakesFile old name made → WritesAt made name 0 bytes wrote → SameFiles wrote left → SavesPart old name left
+sync_failed old made wrote left name bytes makes writes same =
+    record {
+      others = λ other differs. ap (λ (m : Saved). get m other) (same.saved ∙ saved_whole old made wrote name bytes makes writes) ∙ not_there old.saved name other bytes differs;
+      more = Making name ∷ Made name ∷ Writing name 0 bytes ∷ [];
+      calls = same.calls ∙ calls_wrote old made wrote name bytes makes writes;
+    }
 
 -- what holds anyhow holds of an `Err`
 pub on_err : {T E : Type 0} (r : Result T E) (P : Type 0) → P → OnErr r P

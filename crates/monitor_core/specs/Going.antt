@@ -1,42 +1,84 @@
--- How an item goes, and why one is not answered.
-use Rattle.std.specs.Prelude.{◌≡◌, ℕ, List}
+-- How an item goes, and why one is not done to its end.
+use Rattle.std.specs.Prelude.{◌≡◌, ◌≤◌, ℕ, ◌+◌, List, [], ◌∷◌, ◌++◌}
 use Rattle.vm_types.specs.Causes.{Rose, RoseBy}
-use Rattle.vm_types.specs.Saved.{Saved}
+use Rattle.vm_types.specs.Saved.{Saved, SameOthers}
 use Rattle.vm_types.specs.declared.item.ApiCall.{ApiCall}
 use Rattle.vm_types.specs.declared.item.Item.{Item}
-use Rattle.vm_outside.specs.Filing.{SameOthers}
-use Rattle.flat_machine.specs.declared.outcome.Outcome.{Outcome}
-use Rattle.flat_machine.specs.Items.{ItemStep}
+use Rattle.vm_outside.specs.Calls.{FileCall}
+use Rattle.vm_outside.specs.Known.{FilesKnown, Tells}
+use Rattle.flat_machine.specs.Outcome as flat
+use Rattle.flat_machine.specs.Items.{ItemStep, PartStep, calls_of}
 use Rattle.flat_machine.specs.Machine.{Machine}
 use Rattle.flat_machine.specs.Requests.{RequestStep}
-use Rattle.flat_machine.specs.Run.{failed_count}
 use Rattle.monitor_core.specs.declared.item_error.ItemError.{ItemError}
 use Rattle.monitor_core.specs.declared.item_error.ItemError.TheVariants.{FilesFailed, OutOfMemory}
 use Rattle.monitor_core.specs.declared.monitor.Monitor.{Monitor}
+use Rattle.monitor_core.specs.declared.outcome.Outcome.{Outcome}
+use Rattle.monitor_core.specs.declared.outcome.Outcome.TheVariants.{Answered, Failed, NoMemory}
 use Rattle.monitor_core.specs.State.{IsMonitor}
+
+-- how a request went, as the flat machine has it: a failed call left of the files what they hold now
+abbrev pub outcome_by : Outcome → Saved → flat.Outcome
+outcome_by Answered left = flat.Outcome.Answered
+outcome_by Failed left = flat.Outcome.Failed left
+outcome_by NoMemory left = flat.Outcome.NoMemory
+
+-- each 500 has a fault of its own, and an answer has none
+abbrev pub OutcomeCause : Outcome → ℕ → ℕ → Type 0
+OutcomeCause Answered before now = now ≡ before
+OutcomeCause Failed before now = Rose before now
+OutcomeCause NoMemory before now = before ≤ now
 
 -- each machine that the monitor was takes the call so, and the monitor is the machine after it
 abbrev pub RequestGoes : ApiCall → List ℕ → Outcome → Monitor → Saved → Monitor → Saved → Type 0
 RequestGoes call text outcome monitor saved after left =
-    (m : Machine) → IsMonitor monitor saved m → (n : Machine) × RequestStep outcome call m text n × IsMonitor after left n
+    (m : Machine) → IsMonitor monitor saved m
+    → (n : Machine) × RequestStep (outcome_by outcome left) call m text n × IsMonitor after left n
 
--- an item that was answered: how it went, the fault of each 500, and what it did to each machine
-pub record ItemGoes (tells : Type 0) (item : Item) (text : List ℕ) (faults_before faults_now : ℕ) (monitor after : Monitor) (saved left : Saved) : Type 0 where
-  pub outcome : Outcome
-  pub cause : RoseBy (failed_count outcome) faults_before faults_now
-  pub went : tells → (m : Machine) → IsMonitor monitor saved m
-      → (n : Machine) × ItemStep item outcome m text n × IsMonitor after left n
+-- each request that was answered 500 has a fault of the files; where the machine answered every one there is none
+pub record IsCounted (outcomes : List flat.Outcome) (before now : ℕ) : Type 0 where
+  pub rose : RoseBy (flat.failed_in outcomes) before now
+  pub kept : flat.AreAnswered outcomes → now ≡ before
+
+-- an item that was done: how its requests went, and what it did to each machine that the monitor was
+pub record ItemGoes (item : Item) (text : List ℕ) (monitor after : Monitor) (known left : FilesKnown) : Type 0 where
+  pub outcomes : List flat.Outcome
+  pub counted : IsCounted outcomes known.health.faults left.health.faults
+  pub went : Tells known.health → (m : Machine) → IsMonitor monitor known.saved m
+      → (n : Machine) × ItemStep item outcomes m text n × IsMonitor after left.saved n
+  pub calls : Tells known.health → left.calls ≡ known.calls ++ calls_of item
 
 abbrev pub IsFile : Item → Type 0
 IsFile (Item.File name content) = Unit {0}
 IsFile item = ⊥
 
--- an item is not answered for want of memory, which a file line never meets, or where the files failed at a file line
-abbrev pub ItemCause : Item → ℕ → ℕ → ItemError → Type 0
-ItemCause item before now FilesFailed = IsFile item × Rose before now
-ItemCause item before now OutOfMemory = IsFile item → ⊥
+-- an item is not done for want of memory, which a file line never meets, or where the files failed at a file line
+abbrev pub ItemCause : Item → ItemError → Type 0
+ItemCause item FilesFailed = IsFile item
+ItemCause item OutOfMemory = IsFile item → ⊥
 
--- what an item that is not answered leaves of the files: a file line every other name, any other item all
+-- the fault of a file line is one more than those of the requests
+abbrev pub error_failures : ItemError → ℕ
+error_failures FilesFailed = 1
+error_failures OutOfMemory = 0
+
+-- the files hold what the machine's do, but for a file line's own name
 abbrev pub LeavesFiles : Item → Saved → Saved → Type 0
 LeavesFiles (Item.File name content) saved left = SameOthers saved name left
 LeavesFiles item saved left = left ≡ saved
+
+-- and no call was done, but for some of a file line's
+abbrev pub LeavesCalls : Item → List FileCall → List FileCall → Type 0
+LeavesCalls (Item.File name content) calls left = (more : List FileCall) × (left ≡ calls ++ more)
+LeavesCalls item calls left = left ≡ calls
+
+-- an item that was not done to its end: the first of its requests went so, and their text is not told
+pub record ItemStops (why : ItemError) (item : Item) (monitor after : Monitor) (known left : FilesKnown) : Type 0 where
+  pub part : List flat.Outcome
+  pub unwritten : List ℕ
+  pub cause : ItemCause item why
+  pub rose : RoseBy (flat.failed_in part + error_failures why) known.health.faults left.health.faults
+  pub same : part ≡ [] → after ≡ monitor
+  pub went : Tells known.health → (m : Machine) → IsMonitor monitor known.saved m
+      → (n : Machine) × PartStep item part m unwritten n × IsMonitor after n.saved n × LeavesFiles item n.saved left.saved
+  pub calls : Tells known.health → LeavesCalls item known.calls left.calls

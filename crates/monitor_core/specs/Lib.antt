@@ -1,3 +1,4 @@
+pub mod Filing
 pub mod Going
 pub mod Next
 pub mod Replying

@@ -1,11 +1,11 @@
 -- What a call that is not allowed, or comes to a failed call on the files, is answered.
 use Rattle.std.specs.Prelude.{◌≡◌, ℕ, List}
-use Rattle.api_admission.specs.declared.refusal.Refusal.{Refusal}
-use Rattle.api_admission.specs.declared.refusal.Refusal.TheVariants as refusal
+use Rattle.refusals.specs.declared.refusal.Refusal.{Refusal}
+use Rattle.refusals.specs.declared.refusal.Refusal.TheVariants as refusal
 use Rattle.api_admission.specs.Answers.{refused}
 use Rattle.script_lines.specs.Output.{reply_line}
-use Rattle.flat_machine.specs.declared.outcome.Outcome.{Outcome}
-use Rattle.flat_machine.specs.declared.outcome.Outcome.TheVariants.{Answered, Failed, NoMemory}
+use Rattle.monitor_core.specs.declared.outcome.Outcome.{Outcome}
+use Rattle.monitor_core.specs.declared.outcome.Outcome.TheVariants.{Answered, Failed, NoMemory}
 
 -- a refusal's line, or want of memory for it
 abbrev pub IsRefused : Outcome → List ℕ → Refusal → Type 0
@@ -18,3 +18,8 @@ abbrev pub IsFailed : Outcome → List ℕ → Type 0
 IsFailed Answered text = ⊥
 IsFailed Failed text = text ≡ reply_line (refused refusal.OutsideFailed)
 IsFailed NoMemory text = text ≡ reply_line (refused refusal.OutOfMemory)
+
+-- no call on the files was made, so none failed
+abbrev pub IsUnasked : Outcome → Type 0
+IsUnasked Failed = ⊥
+IsUnasked outcome = Unit {0}

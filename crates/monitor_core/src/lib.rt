@@ -11,6 +11,7 @@ mod item_error;
 mod line_reader;
 mod loading;
 mod monitor;
+mod outcome;
 mod saving;
 mod starting;
 #[cfg(test)]

@@ -1,7 +1,9 @@
 // All of a file.
 ghost use Rattle.std.specs.Prelude.{◌≡◌, ◌≤◌, IfOk, List, ℕ, length};
 ghost use Rattle.std.specs.FinMap.{get};
-ghost use Rattle.vm_types.specs.Causes.{Rose};
+ghost use Rattle.vm_outside.specs.Filing.{SameFiles};
+ghost use Rattle.vm_outside.specs.Known.{Lasts, Tells};
+ghost use Rattle.monitor_core.specs.Filing.{LoadCause};
 
 use std::alloc::{AllocError, Global};
 use vm_outside::{Failed, Files};
@@ -20,11 +22,10 @@ pub fn load<F: Files>(
     name: &str,
     len: u64,
 ) -> Result<Vec<u8>, LoadError>
-    ensures tells { F.tells files.old → F.tells files.new }
-    ensures same { F.tells files.old → F.saved files.new ≡ F.saved files.old }
-    ensures bytes { IfOk result (λ bytes. F.tells files.old → (content : List ℕ) → get (F.saved files.old) name.now ≡ Some content → len ≡ length content → bytes.items ≡ content) }
-    ensures later { F.faults files.old ≤ F.faults files.new }
-    ensures cause { result ≡ Err LoadError.Failed → Rose (F.faults files.old) (F.faults files.new) }
+    ensures bytes { IfOk result (λ bytes. Tells (F.known files.old).health → (content : List ℕ) → get (F.known files.old).saved name.now ≡ Some content → len ≡ length content → bytes.items ≡ content) }
+    ensures same { Tells (F.known files.old).health → SameFiles (F.known files.old) (F.known files.new) }
+    ensures cause { LoadCause result (F.known files.old).health.faults (F.known files.new).health.faults }
+    ensures lasts { Lasts (F.known files.old).health (F.known files.new).health }
 {
     let Ok(len) = usize::try_from(len) else {
         return Err(LoadError::NoMemory);

@@ -1,21 +1,22 @@
 // The monitor.
 ghost use Rattle.std.specs.Prelude.{◌≡◌, ◌≤◌, IfOk, IfErr, OnErr, List, ℕ, None, Option, is_some, false, true};
-ghost use Rattle.vm_types.specs.Causes.{RoseBy};
+ghost use Rattle.vm_outside.specs.Filing.{SameFiles};
+ghost use Rattle.vm_outside.specs.Known.{Lasts, Tells};
 ghost use Rattle.vm_types.specs.Saved.{Saved};
 ghost use Rattle.flat_machine.specs.Machine.{Machine, is_off, console_of, new_machine, phase_by};
 ghost use Rattle.api_admission.specs.Answers.{refused as refused_answer};
 ghost use Rattle.script_lines.specs.Output.{reply_line};
 ghost use Rattle.flat_machine.specs.Requests.{RequestStep};
-ghost use Rattle.flat_machine.specs.Run.{failed_count};
-ghost use Rattle.monitor_core.specs.Replying.{IsFailed, IsRefused};
+ghost use Rattle.monitor_core.specs.Replying.{IsFailed, IsRefused, IsUnasked};
 
 use crate::guest::Guest;
 use crate::item_error::ItemError;
+use crate::outcome::Outcome;
 use crate::saving::save;
 use crate::starting::Started;
 use crate::texts::{call_text, done_text, refused_text};
-use api_admission::{Config, Phase, Refusal, asks_files, refusal_of};
-use flat_machine::Outcome;
+use api_admission::{Config, Phase, asks_files, refusal_of};
+use refusals::Refusal;
 use script_lines::{no_actor_line, not_running_line};
 use std::alloc::{AllocError, Global};
 use vm_outside::{Failed, Files};
@@ -51,7 +52,7 @@ impl Replied {
 
 impl Monitor {
     ghost use Rattle.api_admission.specs.Admission.{Facts, asks_files as asks_files_of};
-    ghost use Rattle.monitor_core.specs.Going.{ItemCause, ItemGoes, LeavesFiles, RequestGoes};
+    ghost use Rattle.monitor_core.specs.Going.{ItemGoes, ItemStops, OutcomeCause, RequestGoes, outcome_by};
     ghost use Rattle.flat_machine.specs.Items.{StepsLine};
     ghost use Rattle.monitor_core.specs.State.{IsMonitor};
 
@@ -78,11 +79,11 @@ impl Monitor {
 
     // A request. An `Err` changes nothing.
     fn request<F: Files>(&mut self, call: ApiCall, files: &mut F) -> Result<Replied, AllocError>
-        ensures went { IfOk result (λ r. F.tells files.old → RequestGoes call r.text r.outcome self.old (F.saved files.old) self.new (F.saved files.new)) }
-        ensures cause { IfOk result (λ r. RoseBy (failed_count r.outcome) (F.faults files.old) (F.faults files.new)) }
-        ensures same { F.tells files.old → F.saved files.new ≡ F.saved files.old }
-        ensures tells { F.tells files.old → F.tells files.new }
-        ensures later { F.faults files.old ≤ F.faults files.new }
+        ensures went { IfOk result (λ r. Tells (F.known files.old).health →
+            RequestGoes call r.text r.outcome self.old (F.known files.old).saved self.new (F.known files.new).saved) }
+        ensures cause { IfOk result (λ r. OutcomeCause r.outcome (F.known files.old).health.faults (F.known files.new).health.faults) }
+        ensures same { Tells (F.known files.old).health → SameFiles (F.known files.old) (F.known files.new) }
+        ensures lasts { Lasts (F.known files.old).health (F.known files.new).health }
         ensures err { OnErr result (self.new ≡ self.old) }
     {
         let phase = self.phase();
@@ -97,8 +98,8 @@ impl Monitor {
     fn answer(&mut self, call: ApiCall, phase: Phase) -> Result<Replied, AllocError>
         requires { (image : Option ℕ) → asks_files_of call (record { phase = phase; config = self.old.config; image = image }) ≡ false }
         ensures went { IfOk result (λ r. (saved : Saved) (m : Machine) → IsMonitor self.old saved m → phase ≡ phase_by m.guest →
-            (n : Machine) × RequestStep r.outcome call m r.text n × IsMonitor self.new saved n) }
-        ensures outcome { IfOk result (λ r. failed_count r.outcome ≡ 0) }
+            (n : Machine) × RequestStep (outcome_by r.outcome saved) call m r.text n × IsMonitor self.new saved n) }
+        ensures unasked { IfOk result (λ r. IsUnasked r.outcome) }
         ensures err { OnErr result (self.new ≡ self.old) }
     {
         let Ok(text) = call_text(self.alloc, &call, self.id.as_str(), phase, &self.config) else {
@@ -119,12 +120,11 @@ impl Monitor {
         files: &mut F,
     ) -> Result<Replied, AllocError>
         requires { (image : Option ℕ) → asks_files_of call (record { phase = phase; config = self.old.config; image = image }) ≡ true }
-        ensures went { IfOk result (λ r. F.tells files.old → (m : Machine) → IsMonitor self.old (F.saved files.old) m → phase ≡ phase_by m.guest →
-            (n : Machine) × RequestStep r.outcome call m r.text n × IsMonitor self.new (F.saved files.new) n) }
-        ensures cause { IfOk result (λ r. RoseBy (failed_count r.outcome) (F.faults files.old) (F.faults files.new)) }
-        ensures same { F.tells files.old → F.saved files.new ≡ F.saved files.old }
-        ensures tells { F.tells files.old → F.tells files.new }
-        ensures later { F.faults files.old ≤ F.faults files.new }
+        ensures went { IfOk result (λ r. Tells (F.known files.old).health → (m : Machine) → IsMonitor self.old (F.known files.old).saved m → phase ≡ phase_by m.guest →
+            (n : Machine) × RequestStep (outcome_by r.outcome (F.known files.new).saved) call m r.text n × IsMonitor self.new (F.known files.new).saved n) }
+        ensures cause { IfOk result (λ r. OutcomeCause r.outcome (F.known files.old).health.faults (F.known files.new).health.faults) }
+        ensures same { Tells (F.known files.old).health → SameFiles (F.known files.old) (F.known files.new) }
+        ensures lasts { Lasts (F.known files.old).health (F.known files.new).health }
         ensures err { OnErr result (self.new ≡ self.old) }
     {
         match Started::of(self.alloc, &self.config, files) {
@@ -160,18 +160,15 @@ impl Monitor {
     }
 
     /// One item of a script, over these files: what it writes. A request that comes to a failed call on the
-    /// files, or has no memory, is answered so. An `Err` changes nothing of the machine's own, and of the
-    /// files at most what a file line's own name holds.
+    /// files, or has no memory, is answered so. After an `Err` the machine is as the requests left it that were
+    /// answered before, with none as it was, and of the files a file line's own name may hold anything.
     ///
     /// Errors: `FilesFailed` where a call on the files failed at a file line; `OutOfMemory` where there was
     /// no memory, not even for an answer that says so.
     pub fn item<F: Files>(&mut self, item: Item, files: &mut F) -> Result<ByteList, ItemError>
-        ensures goes { IfOk result (λ text. ItemGoes (F.tells files.old) item text (F.faults files.old) (F.faults files.new) self.old self.new (F.saved files.old) (F.saved files.new)) }
-        ensures tells { F.tells files.old → F.tells files.new }
-        ensures later { F.faults files.old ≤ F.faults files.new }
-        ensures cause { IfErr result (λ why. ItemCause item (F.faults files.old) (F.faults files.new) why) }
-        ensures err { OnErr result (self.new ≡ self.old) }
-        ensures files { OnErr result (F.tells files.old → LeavesFiles item (F.saved files.old) (F.saved files.new)) }
+        ensures goes { IfOk result (λ text. ItemGoes item text self.old self.new (F.known files.old) (F.known files.new)) }
+        ensures stops { IfErr result (λ why. ItemStops why item self.old self.new (F.known files.old) (F.known files.new)) }
+        ensures lasts { Lasts (F.known files.old).health (F.known files.new).health }
     {
         match item {
             Item::Nothing => Ok(ByteList::new(self.alloc)),
@@ -179,11 +176,14 @@ impl Monitor {
                 Ok(()) => Ok(ByteList::new(self.alloc)),
                 Err(Failed) => Err(ItemError::FilesFailed),
             },
-            Item::Api(call) => {
-                let replied = self.request(call, files)?;
-                Ok(replied.text)
-            }
-            Item::Step { actor, count } => Ok(self.step(actor, count)?),
+            Item::Api(call) => match self.request(call, files) {
+                Ok(replied) => Ok(replied.text),
+                Err(_) => Err(ItemError::OutOfMemory),
+            },
+            Item::Step { actor, count } => match self.step(actor, count) {
+                Ok(text) => Ok(text),
+                Err(_) => Err(ItemError::OutOfMemory),
+            },
         }
     }
 

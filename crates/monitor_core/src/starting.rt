@@ -1,14 +1,17 @@
 // What a start comes to.
 ghost use Rattle.std.specs.Prelude.{◌≡◌, ◌≤◌, is_some, true, IfSome};
-ghost use Rattle.flat_guest.specs.Plain.{IsGuest};
+ghost use Rattle.flat_guest.specs.Body.{IsGuest};
 ghost use Rattle.flat_guest.specs.Start.{started};
-ghost use Rattle.vm_types.specs.Causes.{Rose};
+ghost use Rattle.vm_outside.specs.Filing.{SameFiles};
+ghost use Rattle.vm_outside.specs.Known.{Lasts, Tells};
+ghost use Rattle.monitor_core.specs.Filing.{StartCause};
 
 use crate::guest::Guest;
 use crate::loading::{LoadError, load};
-use api_admission::{Config, Phase, Refusal, refusal_of};
+use api_admission::{Config, Phase, refusal_of};
 use flat_guest::MOST_MIB;
 use guest_memory::is_image_fit;
+use refusals::Refusal;
 use std::alloc::Global;
 use vm_outside::{Failed, Files};
 use vm_types::ApiCall;
@@ -28,11 +31,10 @@ impl Started {
     /// The start of a machine that has a boot source and has not started.
     pub fn of<F: Files>(alloc: Global, config: &Config, files: &mut F) -> Started
         requires { is_some config.now.kernel_image_path ≡ true }
-        ensures gives { F.tells files.old → StartGives result config.now (F.saved files.old) }
-        ensures same { F.tells files.old → F.saved files.new ≡ F.saved files.old }
-        ensures tells { F.tells files.old → F.tells files.new }
-        ensures later { F.faults files.old ≤ F.faults files.new }
-        ensures cause { result ≡ Started.FilesFailed → Rose (F.faults files.old) (F.faults files.new) }
+        ensures gives { Tells (F.known files.old).health → StartGives result config.now (F.known files.old).saved }
+        ensures same { Tells (F.known files.old).health → SameFiles (F.known files.old) (F.known files.new) }
+        ensures cause { StartCause result (F.known files.old).health.faults (F.known files.new).health.faults }
+        ensures lasts { Lasts (F.known files.old).health (F.known files.new).health }
     {
         let Some(path) = &config.kernel_image_path else {
             unreachable!();

@@ -3,7 +3,8 @@ ghost use Rattle.std.specs.Prelude.{◌≡◌, IfOk, None};
 ghost use Rattle.api_admission.specs.Answers.{answer_of, refused};
 ghost use Rattle.script_lines.specs.Output.{reply_line};
 
-use api_admission::{Answer, Config, Phase, Refusal, answer_call, fault_answer};
+use api_admission::{Answer, Config, Phase, answer_call, fault_answer};
+use refusals::Refusal;
 use std::alloc::{AllocError, Global};
 use vm_types::{ApiCall, ByteList};
 

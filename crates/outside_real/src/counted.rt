@@ -1,7 +1,7 @@
 // From an answer of the system to one of the traits.
 ghost use Rattle.std.specs.Prelude.{◌≡◌, Ok, IfOk};
-ghost use Rattle.vm_types.specs.Causes.{HasCause};
-ghost use Rattle.outside_real.specs.Counting.{CountsFailure};
+ghost use Rattle.vm_outside.specs.Known.{Called};
+ghost use Rattle.outside_real.specs.Counting.{CountsFailure, untold};
 
 use std::io;
 use vm_outside::Failed;
@@ -10,7 +10,7 @@ use vm_outside::Failed;
 pub(crate) fn counted<T>(faults: &mut u64, done: io::Result<T>) -> Result<T, Failed>
     ensures value { IfOk result (λ value. done ≡ Ok value) }
     ensures counts { CountsFailure faults.old faults.new result }
-    ensures cause { HasCause faults.old faults.new result }
+    ensures called { Called (untold faults.old) (untold faults.new) result }
 {
     match done {
         Ok(value) => Ok(value),

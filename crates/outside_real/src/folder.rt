@@ -1,6 +1,6 @@
 // Real files by their names.
 ghost use Rattle.std.specs.Prelude.{◌≡◌};
-ghost use Rattle.vm_types.specs.Causes.{HasCause};
+ghost use Rattle.vm_outside.specs.Known.{Called};
 ghost use Rattle.outside_real.specs.Counting.{CountsFailure};
 
 use crate::counted::counted;
@@ -19,38 +19,36 @@ pub struct Folder<'a, R> {
 
 impl<'a, R: rt::Files> Folder<'a, R> {
     pub fn new(rt: &'a R) -> Folder<'a, R>
-        ensures { ⟦<Folder<'a, R> as Files>⟧.faults result ≡ 0 }
+        ensures { (⟦<Folder<'a, R> as Files>⟧.known result).health.faults ≡ 0 }
     {
         Folder { rt, faults: 0 }
     }
 
     /// How many calls have failed. It stays at its last value.
     pub fn faults(&self) -> u64
-        ensures { result ≡ ⟦<Folder<'a, R> as Files>⟧.faults self.now }
+        ensures { result ≡ (⟦<Folder<'a, R> as Files>⟧.known self.now).health.faults }
     {
         self.faults
     }
 }
 
 impl<'a, R: rt::Files> Files for Folder<'a, R> {
+    ghost use Rattle.std.specs.Prelude.{[]};
+    ghost use Rattle.outside_real.specs.Counting.{untold};
     ghost use Rattle.vm_types.specs.Saved.{nothing_saved};
 
-    ghost tells = { λ _. ⊥ };
-
-    ghost saved = { λ _. nothing_saved };
-
-    ghost faults = { λ f. f.faults };
+    ghost known = { λ f. record { health = untold f.faults; saved = nothing_saved; calls = [] } };
 
     fn size(&mut self, name: &str) -> Result<Option<u64>, Failed>
-        ensures counts { CountsFailure (⟦<Folder<'a, R> as Files>⟧.faults self.old) (⟦<Folder<'a, R> as Files>⟧.faults self.new) result }
-        ensures cause { HasCause (⟦<Folder<'a, R> as Files>⟧.faults self.old) (⟦<Folder<'a, R> as Files>⟧.faults self.new) result }
+        ensures counts { CountsFailure (⟦<Folder<'a, R> as Files>⟧.known self.old).health.faults (⟦<Folder<'a, R> as Files>⟧.known self.new).health.faults result }
+        ensures called { Called (⟦<Folder<'a, R> as Files>⟧.known self.old).health (⟦<Folder<'a, R> as Files>⟧.known self.new).health result }
     {
         counted(&mut self.faults, named_file::length(self.rt, name))
     }
 
     fn read_at(&mut self, name: &str, at: u64, buf: &mut [u8]) -> Result<(), Failed>
-        ensures counts { CountsFailure (⟦<Folder<'a, R> as Files>⟧.faults self.old) (⟦<Folder<'a, R> as Files>⟧.faults self.new) result }
-        ensures cause { HasCause (⟦<Folder<'a, R> as Files>⟧.faults self.old) (⟦<Folder<'a, R> as Files>⟧.faults self.new) result }
+        ensures counts { CountsFailure (⟦<Folder<'a, R> as Files>⟧.known self.old).health.faults (⟦<Folder<'a, R> as Files>⟧.known self.new).health.faults result }
+        ensures called { Called (⟦<Folder<'a, R> as Files>⟧.known self.old).health (⟦<Folder<'a, R> as Files>⟧.known self.new).health result }
     {
         counted(
             &mut self.faults,
@@ -59,8 +57,8 @@ impl<'a, R: rt::Files> Files for Folder<'a, R> {
     }
 
     fn write_at(&mut self, name: &str, at: u64, bytes: &[u8]) -> Result<(), Failed>
-        ensures counts { CountsFailure (⟦<Folder<'a, R> as Files>⟧.faults self.old) (⟦<Folder<'a, R> as Files>⟧.faults self.new) result }
-        ensures cause { HasCause (⟦<Folder<'a, R> as Files>⟧.faults self.old) (⟦<Folder<'a, R> as Files>⟧.faults self.new) result }
+        ensures counts { CountsFailure (⟦<Folder<'a, R> as Files>⟧.known self.old).health.faults (⟦<Folder<'a, R> as Files>⟧.known self.new).health.faults result }
+        ensures called { Called (⟦<Folder<'a, R> as Files>⟧.known self.old).health (⟦<Folder<'a, R> as Files>⟧.known self.new).health result }
     {
         counted(
             &mut self.faults,
@@ -71,15 +69,15 @@ impl<'a, R: rt::Files> Files for Folder<'a, R> {
     /// It waits until the disk has the file and the folder's entry for it. Of a link, the entry of
     /// the file that it leads to is left out.
     fn sync(&mut self, name: &str) -> Result<(), Failed>
-        ensures counts { CountsFailure (⟦<Folder<'a, R> as Files>⟧.faults self.old) (⟦<Folder<'a, R> as Files>⟧.faults self.new) result }
-        ensures cause { HasCause (⟦<Folder<'a, R> as Files>⟧.faults self.old) (⟦<Folder<'a, R> as Files>⟧.faults self.new) result }
+        ensures counts { CountsFailure (⟦<Folder<'a, R> as Files>⟧.known self.old).health.faults (⟦<Folder<'a, R> as Files>⟧.known self.new).health.faults result }
+        ensures called { Called (⟦<Folder<'a, R> as Files>⟧.known self.old).health (⟦<Folder<'a, R> as Files>⟧.known self.new).health result }
     {
         counted(&mut self.faults, named_file::sync(self.rt, name))
     }
 
     fn make(&mut self, name: &str) -> Result<(), Failed>
-        ensures counts { CountsFailure (⟦<Folder<'a, R> as Files>⟧.faults self.old) (⟦<Folder<'a, R> as Files>⟧.faults self.new) result }
-        ensures cause { HasCause (⟦<Folder<'a, R> as Files>⟧.faults self.old) (⟦<Folder<'a, R> as Files>⟧.faults self.new) result }
+        ensures counts { CountsFailure (⟦<Folder<'a, R> as Files>⟧.known self.old).health.faults (⟦<Folder<'a, R> as Files>⟧.known self.new).health.faults result }
+        ensures called { Called (⟦<Folder<'a, R> as Files>⟧.known self.old).health (⟦<Folder<'a, R> as Files>⟧.known self.new).health result }
     {
         counted(&mut self.faults, named_file::make(self.rt, name))
     }

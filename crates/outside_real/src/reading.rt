@@ -1,6 +1,6 @@
 // A source over what can be read, as standard input.
 ghost use Rattle.std.specs.Prelude.{◌≡◌, ◌≤◌, length, IfOk};
-ghost use Rattle.vm_types.specs.Causes.{HasCause};
+ghost use Rattle.vm_outside.specs.Known.{Called};
 ghost use Rattle.outside_real.specs.Counting.{CountsFailure};
 
 use crate::counted::counted;
@@ -18,14 +18,14 @@ pub struct Reading<R> {
 
 impl<R: Read + Drop> Reading<R> {
     pub fn new(reader: R) -> Reading<R>
-        ensures { ⟦<Reading<R> as Source>⟧.faults result ≡ 0 }
+        ensures { (⟦<Reading<R> as Source>⟧.known result).health.faults ≡ 0 }
     {
         Reading { reader, faults: 0 }
     }
 
     /// How many calls have failed. It stays at its last value.
     pub fn faults(&self) -> u64
-        ensures { result ≡ ⟦<Reading<R> as Source>⟧.faults self.now }
+        ensures { result ≡ (⟦<Reading<R> as Source>⟧.known self.now).health.faults }
     {
         self.faults
     }
@@ -33,17 +33,14 @@ impl<R: Read + Drop> Reading<R> {
 
 impl<R: Read + Drop> Source for Reading<R> {
     ghost use Rattle.std.specs.Prelude.{[]};
+    ghost use Rattle.outside_real.specs.Counting.{untold};
 
-    ghost tells = { λ _. ⊥ };
-
-    ghost left = { λ _. [] };
-
-    ghost faults = { λ s. s.faults };
+    ghost known = { λ s. record { health = untold s.faults; left = [] } };
 
     fn read(&mut self, buf: &mut [u8]) -> Result<usize, Failed>
         ensures bound { IfOk result (λ n. n ≤ length buf.new) }
-        ensures counts { CountsFailure (⟦<Reading<R> as Source>⟧.faults self.old) (⟦<Reading<R> as Source>⟧.faults self.new) result }
-        ensures cause { HasCause (⟦<Reading<R> as Source>⟧.faults self.old) (⟦<Reading<R> as Source>⟧.faults self.new) result }
+        ensures counts { CountsFailure (⟦<Reading<R> as Source>⟧.known self.old).health.faults (⟦<Reading<R> as Source>⟧.known self.new).health.faults result }
+        ensures called { Called (⟦<Reading<R> as Source>⟧.known self.old).health (⟦<Reading<R> as Source>⟧.known self.new).health result }
     {
         counted(&mut self.faults, tries::read_some(&mut self.reader, buf))
     }

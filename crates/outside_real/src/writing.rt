@@ -1,6 +1,6 @@
 // A sink over what can be written to, as standard output.
 ghost use Rattle.std.specs.Prelude.{◌≡◌, ◌≤◌, ◌<◌, length, IfOk};
-ghost use Rattle.vm_types.specs.Causes.{HasCause};
+ghost use Rattle.vm_outside.specs.Known.{Called};
 ghost use Rattle.outside_real.specs.Counting.{CountsFailure};
 
 use crate::counted::counted;
@@ -20,14 +20,14 @@ pub struct Writing<W> {
 
 impl<W: Write + Drop> Writing<W> {
     pub fn new(writer: W) -> Writing<W>
-        ensures { ⟦<Writing<W> as Sink>⟧.faults result ≡ 0 }
+        ensures { (⟦<Writing<W> as Sink>⟧.known result).health.faults ≡ 0 }
     {
         Writing { writer, faults: 0 }
     }
 
     /// How many calls have failed. It stays at its last value.
     pub fn faults(&self) -> u64
-        ensures { result ≡ ⟦<Writing<W> as Sink>⟧.faults self.now }
+        ensures { result ≡ (⟦<Writing<W> as Sink>⟧.known self.now).health.faults }
     {
         self.faults
     }
@@ -35,18 +35,15 @@ impl<W: Write + Drop> Writing<W> {
 
 impl<W: Write + Drop> Sink for Writing<W> {
     ghost use Rattle.std.specs.Prelude.{[]};
+    ghost use Rattle.outside_real.specs.Counting.{untold};
 
-    ghost tells = { λ _. ⊥ };
-
-    ghost taken = { λ _. [] };
-
-    ghost faults = { λ s. s.faults };
+    ghost known = { λ s. record { health = untold s.faults; taken = [] } };
 
     fn write(&mut self, bytes: &[u8]) -> Result<usize, Failed>
         ensures bound { IfOk result (λ n. n ≤ length bytes.now) }
         ensures some { IfOk result (λ n. 0 < length bytes.now → 0 < n) }
-        ensures counts { CountsFailure (⟦<Writing<W> as Sink>⟧.faults self.old) (⟦<Writing<W> as Sink>⟧.faults self.new) result }
-        ensures cause { HasCause (⟦<Writing<W> as Sink>⟧.faults self.old) (⟦<Writing<W> as Sink>⟧.faults self.new) result }
+        ensures counts { CountsFailure (⟦<Writing<W> as Sink>⟧.known self.old).health.faults (⟦<Writing<W> as Sink>⟧.known self.new).health.faults result }
+        ensures called { Called (⟦<Writing<W> as Sink>⟧.known self.old).health (⟦<Writing<W> as Sink>⟧.known self.new).health result }
     {
         counted(&mut self.faults, send_some(&mut self.writer, bytes))
     }

@@ -1,6 +1,7 @@
 // Tables of lines with what they ask for, of lines that are none, and of what is written.
 use crate::{console_line, first_line, item_from, last_line, reply_line};
-use api_admission::{Answer, Refusal, fault_answer};
+use api_admission::{Answer, fault_answer};
+use refusals::Refusal;
 use std::test::Fail;
 use vm_types::{ActorId, ApiCall, ByteList, Exit, Item, Object};
 
@@ -226,16 +227,12 @@ fn last_lines(rt: HostRuntime) -> Result<(), Fail> {
             ". script 18446744073709551615\n",
         ),
         (
-            Exit::Fault {
-                name: Object::Source,
-            },
+            Exit::Fault(Object::Source),
             ". fault Source\n",
         ),
-        (Exit::Fault { name: Object::Sink }, ""),
+        (Exit::Fault(Object::Sink), ""),
         (
-            Exit::Fault {
-                name: Object::Files,
-            },
+            Exit::Fault(Object::Files),
             ". fault Files\n",
         ),
         (Exit::OutOfMemory, ". memory\n"),

@@ -1,4 +1,4 @@
+pub mod Calls
 pub mod Filing
-pub mod Logged
+pub mod Known
 pub mod Passing
-pub mod Saving

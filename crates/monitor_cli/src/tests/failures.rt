@@ -39,15 +39,11 @@ const WITHOUT_STEPS_TEXT: &str = "\
 < 200 {\"app_name\":\"Firecracker\",\"id\":\"anonymous-instance\",\"state\":\"Running\",\"vmm_version\":\"1.0-rv64\"}\n\
 . fault Source\n";
 
-const SOURCE: Exit = Exit::Fault {
-    name: Object::Source,
-};
+const SOURCE: Exit = Exit::Fault(Object::Source);
 
-const SINK: Exit = Exit::Fault { name: Object::Sink };
+const SINK: Exit = Exit::Fault(Object::Sink);
 
-const FILES: Exit = Exit::Fault {
-    name: Object::Files,
-};
+const FILES: Exit = Exit::Fault(Object::Files);
 
 #[test]
 fn the_first_run(rt: HostRuntime) -> Result<(), Fail> {

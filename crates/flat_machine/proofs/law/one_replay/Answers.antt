@@ -1,8 +1,8 @@
-use Rattle.flat_machine.proofs.OneReplay.{replay_after, replay_exit, replay_items, replay_text}
+use Rattle.flat_machine.proofs.OneReplay.{replay_after, replay_exit, replay_acts, replay_text}
 use Rattle.flat_machine.proofs.law.one_replay.Goals as goal
 
-pub returns-clause-items : goal.returns-clause-items
-returns-clause-items c = replay_items
+pub returns-clause-acts : goal.returns-clause-acts
+returns-clause-acts c = replay_acts
 
 pub returns-clause-exit : goal.returns-clause-exit
 returns-clause-exit c = replay_exit

@@ -1,4 +1,4 @@
-use Rattle.flat_machine.proofs.OneReplay.{run_after, run_text}
+use Rattle.flat_machine.proofs.Determined.{run_after, run_text}
 use Rattle.flat_machine.proofs.law.one_run.Goals as goal
 
 pub returns-clause-text : goal.returns-clause-text

@@ -1,24 +1,33 @@
-use Rattle.std.proofs.Common.{◌∙◌}
-use Rattle.vm_outside.specs.Filing.{SameOthers}
-use Rattle.monitor_core.proofs.Saved.{made_others, on_err, saved_whole, whole_others}
+use Rattle.vm_outside.specs.Known.{Tells}
+use Rattle.monitor_core.specs.Filing.{SavesPart}
+use Rattle.monitor_core.proofs.Saved.{make_failed, on_err, saves_file, sync_failed, write_failed}
 use Rattle.monitor_core.proofs.saving.save.Goals as goal
 
 pub returns-clause-saved : goal.returns-clause-saved
 returns-clause-saved g c = λ t.
-    let made = c.make.ensures.tells t in
-    let wrote = c.write_at.ensures.tells made in
-    c.sync.ensures.same wrote ∙ saved_whole _ _ _ _ _ (c.in_ok-make.ensures.made t) (c.in_ok-write_at.ensures.written made)
+    let made = c.make.ensures.called.lasts.still t in
+    let wrote = c.write_at.ensures.called.lasts.still made in
+    saves_file _ _ _ _ _ _ (c.in_ok-make.ensures.made t) (c.in_ok-write_at.ensures.written made) (c.in_ok-sync.ensures.synced wrote)
 
-pub returns-in_err-write_at-clause-others : goal.returns-in_err-write_at-clause-others
-returns-in_err-write_at-clause-others g c =
-    let others : g.F.Files.tells c.args.files.now → SameOthers (g.F.Files.saved c.args.files.now) c.args.name.now (g.F.Files.saved c.write_at.new.self) = λ t.
-    made_others _ _ _ c.args.name.now (c.in_ok-make.ensures.made t) (c.in_err-write_at.ensures.others (c.make.ensures.tells t)) in
-    on_err _ _ others
+pub returns-in_err-make-clause-begun : goal.returns-in_err-make-clause-begun
+returns-in_err-make-clause-begun g c =
+    let known = g.F.Files.known in
+    let part : Tells (known c.args.files.now).health → SavesPart (known c.args.files.now) c.args.name.now (known c.make.new.self) = λ t.
+    make_failed _ _ _ _ (c.in_err-make.ensures.begun t) in
+    on_err _ _ part
 
-pub returns-in_err-sync-clause-others : goal.returns-in_err-sync-clause-others
-returns-in_err-sync-clause-others g c =
-    let others : g.F.Files.tells c.args.files.now → SameOthers (g.F.Files.saved c.args.files.now) c.args.name.now (g.F.Files.saved c.sync.new.self) = λ t.
-    let made = c.make.ensures.tells t in
-    let wrote = c.write_at.ensures.tells made in
-    whole_others _ _ c.args.name.now c.args.content.now (c.sync.ensures.same wrote ∙ saved_whole _ _ _ _ _ (c.in_ok-make.ensures.made t) (c.in_ok-write_at.ensures.written made)) in
-    on_err _ _ others
+pub returns-in_err-write_at-clause-begun : goal.returns-in_err-write_at-clause-begun
+returns-in_err-write_at-clause-begun g c =
+    let known = g.F.Files.known in
+    let part : Tells (known c.args.files.now).health → SavesPart (known c.args.files.now) c.args.name.now (known c.write_at.new.self) = λ t.
+    write_failed _ _ _ _ _ (c.in_ok-make.ensures.made t) (c.in_err-write_at.ensures.begun (c.make.ensures.called.lasts.still t)) in
+    on_err _ _ part
+
+pub returns-in_err-sync-clause-begun : goal.returns-in_err-sync-clause-begun
+returns-in_err-sync-clause-begun g c =
+    let known = g.F.Files.known in
+    let part : Tells (known c.args.files.now).health → SavesPart (known c.args.files.now) c.args.name.now (known c.sync.new.self) = λ t.
+    let made = c.make.ensures.called.lasts.still t in
+    let wrote = c.write_at.ensures.called.lasts.still made in
+    sync_failed _ _ _ _ _ _ (c.in_ok-make.ensures.made t) (c.in_ok-write_at.ensures.written made) (c.in_err-sync.ensures.same wrote) in
+    on_err _ _ part

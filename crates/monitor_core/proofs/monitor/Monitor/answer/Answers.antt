@@ -2,7 +2,7 @@ use Rattle.std.proofs.Common.{refl, sym, ◌∙◌, None, List, ℕ, ap, subst}
 use Rattle.script_lines.specs.Output.{reply_line}
 use Rattle.api_admission.specs.Answers.{answer_of}
 use Rattle.api_admission.specs.Admission.{configured}
-use Rattle.flat_machine.specs.declared.outcome.Outcome.TheVariants.{Answered}
+use Rattle.monitor_core.specs.declared.outcome.Outcome.TheVariants.{Answered}
 use Rattle.monitor_core.proofs.Requests.{allowed, by_names, facts, no_memory, none_there, not_allowed, some_there, Steps}
 use Rattle.monitor_core.specs.declared.monitor.Monitor.{Monitor}
 use Rattle.api_admission.specs.declared.config.Config.{Config}

@@ -2,8 +2,8 @@ use Rattle.monitor_core.proofs.monitor.Monitor.request.Goals as goal
 
 pub returns-in_ok-start-clause-went : goal.returns-in_ok-start-clause-went
 returns-in_ok-start-clause-went g c = λ tells m is.
-    c.in_ok-start.ensures.went tells m is (c.phase-phase.ensures (g.F.Files.saved c.args.files.now) m is)
+    c.in_ok-start.ensures.went tells m is (c.phase-phase.ensures (g.F.Files.known c.args.files.now).saved m is)
 
 pub returns-in_ok-answer-clause-went : goal.returns-in_ok-answer-clause-went
 returns-in_ok-answer-clause-went g c = λ tells m is.
-    c.in_ok-answer.ensures.went (g.F.Files.saved c.args.files.now) m is (c.phase-phase.ensures (g.F.Files.saved c.args.files.now) m is)
+    c.in_ok-answer.ensures.went (g.F.Files.known c.args.files.now).saved m is (c.phase-phase.ensures (g.F.Files.known c.args.files.now).saved m is)

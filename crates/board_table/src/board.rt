@@ -1,0 +1,128 @@
+// The board: the console's bytes are the front of an array.
+ghost use Rattle.std.specs.Prelude.{◌≡◌, ◌≤◌, [], length};
+ghost use Rattle.board_table.specs.Board.{board_act, new_board, put_byte, reset_by};
+
+use std::marker::Model;
+use vm_types::{ActorId, BoardOp, Op, Place, Reply, Shown};
+
+const RING_SIZE: usize = 4096;
+
+const INVALID_PARAMETER: u64 = 0xffff_ffff_ffff_fffd;
+
+/// The console's bytes that were not drained, oldest first, and whether the guest is off.
+#[derive(Drop)]
+pub struct Board {
+    ring: [u8; 4096],
+    held: usize,
+    off: bool,
+}
+
+impl Model for Board {
+    ghost use Rattle.std.specs.Prelude.{◌≤◌, ◌≡◌, length, take};
+    ghost use Rattle.board_table.specs.Board.{Board as BoardValue};
+
+    ghost Value = { BoardValue };
+
+    ghost view = { λ b. record { console = take b.held b.ring; off = b.off } };
+
+    ghost invariant = { λ b. (b.held ≤ 4096) × (length b.ring ≡ 4096) };
+}
+
+impl Board {
+    /// A board as the machine starts with it.
+    pub fn new() -> Board
+        ensures { result ≡ new_board }
+    {
+        Board {
+            ring: [0; 4096],
+            held: 0,
+            off: false,
+        }
+    }
+
+    /// Whether the guest is off.
+    pub fn is_off(&self) -> bool
+        ensures { result ≡ self.now.off }
+    {
+        self.off
+    }
+
+    /// What was not drained.
+    pub fn console(&self) -> &[u8]
+        ensures { result.now ≡ self.now.console }
+    {
+        &self.ring[..self.held]
+    }
+
+    /// The ring is empty after this.
+    pub fn clear_console(&mut self)
+        ensures { self.new ≡ record self.old { console = [] } }
+    {
+        self.held = 0;
+    }
+
+    fn put_byte(&mut self, byte: u8) -> Reply
+        ensures reply { result ≡ (put_byte self.old byte).0 }
+        ensures value { self.new ≡ (put_byte self.old byte).1 }
+    {
+        if self.off {
+            return Reply::Done;
+        }
+        if self.held < RING_SIZE {
+            self.ring[self.held] = byte;
+            self.held += 1;
+            Reply::Done
+        } else {
+            Reply::Full
+        }
+    }
+
+    fn reset_by(&mut self, kind: u64, reason: u64) -> Reply
+        ensures reply { result ≡ (reset_by self.old kind reason).0 }
+        ensures value { self.new ≡ (reset_by self.old kind reason).1 }
+    {
+        if kind < 3 && reason < 2 {
+            self.off = true;
+            Reply::Returned { error: 0, value: 0 }
+        } else {
+            Reply::Returned {
+                error: INVALID_PARAMETER,
+                value: 0,
+            }
+        }
+    }
+
+    fn board_act(&mut self, act: &BoardOp) -> Reply
+        ensures reply { result ≡ (board_act self.old act.now).0 }
+        ensures value { self.new ≡ (board_act self.old act.now).1 }
+    {
+        match act {
+            BoardOp::Look => Reply::Shown(Shown::Pending(0)),
+            BoardOp::Putchar { byte } => self.put_byte(*byte),
+            BoardOp::Reset { kind, reason } => self.reset_by(*kind, *reason),
+            _ => Reply::AccessFault,
+        }
+    }
+}
+
+impl Place for Board {
+    ghost use Rattle.board_table.specs.Board.{Board as BoardValue, is_board_act, touch};
+    ghost use Rattle.board_table.specs.Fitting.{board_reply_fits};
+
+    ghost Value = { BoardValue };
+
+    ghost value = { λ b. b };
+
+    ghost touch = { touch };
+
+    ghost serves = { is_board_act };
+
+    ghost replies_fit = { board_reply_fits };
+
+    fn act(&mut self, actor: ActorId, op: &Op) -> Reply {
+        match op {
+            Op::Board(act) => self.board_act(act),
+            _ => Reply::AccessFault,
+        }
+    }
+}

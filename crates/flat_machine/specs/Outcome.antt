@@ -1,0 +1,27 @@
+-- How a request went.
+use Rattle.std.specs.Prelude.{ℕ, ◌+◌, List, [], ◌∷◌}
+use Rattle.vm_types.specs.Saved.{Saved}
+
+-- Answered by the machine; 500 because a call on the files failed, with what the files held then; or 503 for want of
+-- memory. The run goes on after each.
+pub data Outcome : Type 0 where
+  Answered : Outcome
+  Failed : Saved → Outcome
+  NoMemory : Outcome
+
+-- answered by the machine, each of them
+abbrev pub AreAnswered : List Outcome → Type 0
+AreAnswered [] = Unit {0}
+AreAnswered (Answered ∷ outcomes) = AreAnswered outcomes
+AreAnswered (outcome ∷ outcomes) = ⊥
+
+-- how many were answered 500, and how many 503
+abbrev pub failed_in : List Outcome → ℕ
+failed_in [] = 0
+failed_in (Failed left ∷ outcomes) = 1 + failed_in outcomes
+failed_in (outcome ∷ outcomes) = failed_in outcomes
+
+abbrev pub short_in : List Outcome → ℕ
+short_in [] = 0
+short_in (NoMemory ∷ outcomes) = 1 + short_in outcomes
+short_in (outcome ∷ outcomes) = short_in outcomes

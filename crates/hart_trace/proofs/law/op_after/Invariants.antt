@@ -1,6 +1,0 @@
-use Rattle.std.proofs.Common.{take}
-use Rattle.hart_trace.specs.States.{LeadsTo}
-use Rattle.hart_trace.proofs.law.op_after.Given as goal
-
-abbrev pub invariant-loop-step : goal.invariant-loop-step
-invariant-loop-step l = LeadsTo l.start (take l.step-index l.steps) l.hart
