@@ -1,4 +1,5 @@
 pub mod Journals
+pub mod Laws
 pub mod Legal
 pub mod Merged
 pub mod Order

@@ -1,5 +1,6 @@
 -- Whether the histories of the places have just the entries of a list of events.
-use Rattle.std.specs.Prelude.{ℕ, ◌≡◌, ◌≢◌, ◌+◌, ◌≤◌, false, cond, List, [], ◌∷◌, length, take, map, All, Contains, slice_get, Option, Some, None}
+use Rattle.std.specs.Prelude.{ℕ, ◌≡◌, ◌≢◌, ◌+◌, ◌<◌, ◌≤◌, false, cond, length, take, map, All, Contains}
+use Rattle.std.specs.Prelude.{List, [], ◌∷◌, Option, Some, None, slice_get, slice_index_or}
 use Rattle.std.specs.List.{AllByRecursion}
 use Rattle.vm_types.specs.declared.ids.PlaceId.{PlaceId}
 use Rattle.vm_types.specs.declared.ids.PlaceId.TheVariants.{Page, Port, Board, Out}
@@ -31,6 +32,14 @@ history_at p (h ∷ hs) = cond (same_place h.lock p) h.entries.items (history_at
 -- no history is of the place
 abbrev pub IsAbsent : PlaceId → List History → Type 0
 IsAbsent p hs = AllByRecursion (λ (h : History). same_place h.lock p ≡ false) hs
+
+-- the history at this index is of the place
+abbrev pub IsOf : PlaceId → List History → ℕ → Type 0
+IsOf p hs i = (i < length hs) × ((d : History) → (slice_index_or hs i d).lock ≡ p)
+
+-- the lock at this index kept another place
+abbrev pub IsStranger : List History → ℕ → Type 0
+IsStranger hs i = (i < length hs) × ((d : History) → (slice_index_or hs i d).kept ≢ (slice_index_or hs i d).lock)
 
 -- each lock kept its own place
 abbrev pub AllOwn : List History → Type 0
