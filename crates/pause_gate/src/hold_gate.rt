@@ -1,5 +1,5 @@
 // A gate for tests that threads run at once.
-ghost use Rattle.std.specs.Prelude.{◌≡◌, ◌&&◌};
+ghost use Rattle.std.specs.Prelude.{◌≡◌, ◌+◌, ◌&&◌, MatchBool};
 ghost use Rattle.vm_types.specs.Ids.{same_actor, same_place};
 
 use crate::flag_gate::{FlagGate, Pass};
@@ -55,7 +55,7 @@ impl Party {
 /// A `FlagGate` whose two parties wait for each other, each inside its place for the first time.
 ///
 /// Either sees the other there within a number of looks, or the meeting is missed. Afterwards nobody waits, and
-/// whoever asks closes the gate first. That two threads hold two locks at once is shown by a meeting, and is not proved.
+/// whoever asks closes the gate first. A meeting shows that two threads hold two locks at once; nothing proves it.
 #[derive(Drop)]
 pub struct HoldGate {
     flag: FlagGate,
@@ -115,7 +115,14 @@ impl Gate for HoldGate {
 
     ghost closed = { λ pass. pass.1.closed };
 
-    fn ask(&self, pass: &mut Pass) -> bool {
+    fn ask(&self, pass: &mut Pass) -> bool
+        requires { pass.old.0 ≡ self.now.flag }
+        ensures counted { MatchBool result
+            (pass.new.1.closed ≡ pass.old.1.closed)
+            (pass.new.1.closed ≡ pass.old.1.closed + 1) }
+        ensures pass { pass.new.0 ≡ self.now.flag }
+        ensures looked { pass.new.1.looks ≡ pass.old.1.looks + 1 }
+    {
         if self.meeting().is_some() {
             self.flag.close(pass);
         }

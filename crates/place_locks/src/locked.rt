@@ -45,8 +45,8 @@ impl<P: Place, K: Openings<P>> Locked<P, K> {
         self.id
     }
 
-    /// One act of this actor on the place, under its lock; there `gate.inside` is called first. `clock` is the actor's last
-    /// stamp, 0 at first. Want of memory leaves the place, its history and the clock.
+    /// One act of this actor on the place, under its lock; there `gate.inside` is called first. `clock` is the actor's
+    /// last stamp, 0 at first. Want of memory leaves the place, its history and the clock.
     pub fn act_as<R: Wait, G: Gate>(
         &self,
         rt: &R,
