@@ -1,21 +1,19 @@
-# `make run` builds the program and runs the first example; `make test` is the gate.
+# `make run` replays the first example, unproved; `make build` makes the proved program; `make test` is the gate.
 
-PROGRAM := $(CURDIR)/crates/firecracker/out/firecracker
+.PHONY: run build test examples
 
-.PHONY: test build run examples
+# Builds without a proof and replays examples/first.script.
+run:
+	@.ci/try examples/first.script
 
-test:
-	.ci/run
-
-# Proves and builds the program, with the empty script as its first run.
+# Proves what the program needs and builds it, as crates/firecracker/out/firecracker.
 build:
-	cd crates/firecracker && rt run -- replay </dev/null
+	@.ci/build
 
-# The script makes its kernel image as a file, so it is run in a folder of its own.
-run: build
-	@folder=$$(mktemp -d) && cd "$$folder" && "$(PROGRAM)" replay <"$(CURDIR)/examples/first.script"; \
-	status=$$?; rm -rf "$$folder"; exit $$status
+# Every proof, every edit that must fail, every test, and each program's stored run.
+test:
+	@.ci/run
 
-# Every script in examples/, the twenty in examples/golden/ whose output is from another program, and each way to fail.
+# Every script whose output is stored, with the proved program over real files, and each way to fail.
 examples: build
-	examples/check
+	@examples/check
