@@ -1,5 +1,5 @@
 // A stream gives the same requests, however it is cut.
-ghost use Rattle.http_front.specs.Cuts.{CutsAnywhere, FailsForGood, OneReading, RequestsTakeBytes};
+ghost use Rattle.http_stream.specs.Cuts.{CutsAnywhere, FailsForGood, OneReading, RequestsTakeBytes};
 
 /// A stream gives one list of requests and one end; what comes in two pieces gives what the whole gives; a
 /// connection that has failed stays so; and a request takes bytes, so that asking for the next one ends.

@@ -8,14 +8,26 @@ use Rattle.std.proofs.lemmas.Bool.{cases_lt, lt-leb, le-leb}
 use Rattle.std.proofs.lemmas.Bool.Decides.{nat_tests, leb_tells}
 use Rattle.httparse.specs.Grammar.{RequestHead, print_request, ReadsRequest, HasNoRequest, NeverHasRequest}
 use Rattle.httparse.proofs.GrammarLemmas.{request_unique, ReadsRequest-append}
-use Rattle.http_front.specs.declared.request.Request.{Request}
-use Rattle.http_front.specs.declared.request.Next.{Next}
-use Rattle.http_front.specs.declared.request.Next.TheVariants as next
-use Rattle.http_front.specs.Body.{body_length}
-use Rattle.http_front.specs.Stream.{window, is_line_byte, is_early, has_line, headers_of, waits, gives, by_length, by_head, Judged, early, too_long, hopeless, unfinished, head, Answer, Connection}
-use Rattle.http_front.specs.Cuts.{Reads, Continues, Drains, OneReading, CutsAnywhere, FailsForGood}
-use Rattle.http_front.proofs.GrammarLemmas.{head_has_bytes}
-use Rattle.http_front.proofs.Judging.{no_request, window_is}
+use Rattle.refusals.specs.declared.refusal.Refusal.{Refusal}
+use Rattle.refusals.specs.declared.refusal.Refusal.TheVariants as refusal
+use Rattle.http_stream.specs.declared.request.Request.{Request}
+use Rattle.http_stream.specs.declared.request.Next.{Next}
+use Rattle.http_stream.specs.declared.request.Next.TheVariants as next
+use Rattle.http_stream.specs.Body.{body_length}
+use Rattle.http_stream.specs.Stream.{window, is_line_byte, is_early, has_line, headers_of, waits, gives, by_length, by_head, Judged, early, too_long, hopeless, unfinished, head, Answer, Connection}
+use Rattle.http_stream.specs.Cuts.{Reads, OneReading, CutsAnywhere, FailsForGood}
+
+-- ---- heads
+
+pub window_is : (s : List ℕ) → length s ≤ 8192 → window s ≡ s
+window_is s h = take_all 8192 s h
+
+pub no_request : (s : List ℕ) → NeverHasRequest s → HasNoRequest s
+no_request s never = subst HasNoRequest (append-nil s) (never [])
+
+head_has_bytes : (h : RequestHead) → 0 < length (print_request h)
+unfolding print_request
+head_has_bytes h = simp (length-append) (omega arith)
 
 -- ---- one answer
 
@@ -107,11 +119,11 @@ head_fits s h rest reads =
 abbrev pub made : Next → Connection → Answer
 made n c = record { next = n; after = c }
 
-bad_not_none : (n : ℕ) (c d : Connection)
+bad_not_none : (n : Refusal) (c d : Connection)
     → made (next.Bad n) c ≡ made next.None d → ⊥
 bad_not_none n c d e = let q : next.Bad n ≡ next.None = ap (λ a. a.next) e in cc
 
-bad_not_request : (n : ℕ) (r : Request) (c d : Connection)
+bad_not_request : (n : Refusal) (r : Request) (c d : Connection)
     → made (next.Bad n) c ≡ made (next.Request r) d → ⊥
 bad_not_request n r c d e = let q : next.Bad n ≡ next.Request r = ap (λ a. a.next) e in cc
 
@@ -119,7 +131,7 @@ request_not_none : (r : Request) (c d : Connection)
     → made (next.Request r) c ≡ made next.None d → ⊥
 request_not_none r c d e = let q : next.Request r ≡ next.None = ap (λ a. a.next) e in cc
 
-bad_by_length : (s t : List ℕ) (h : RequestHead) (x y : List ℕ) (n : ℕ) (c : Connection) (r : Result ℕ ℕ)
+bad_by_length : (s t : List ℕ) (h : RequestHead) (x y : List ℕ) (n : Refusal) (c : Connection) (r : Result ℕ Refusal)
     → made (next.Bad n) c ≡ by_length s h x r → made (next.Bad n) c ≡ by_length t h y r
 bad_by_length s t h x y n c (Err k) e = e
 bad_by_length s t h x y n c (Ok k) e = elim (leb_tells k (length x)) [
@@ -127,7 +139,7 @@ bad_by_length s t h x y n c (Ok k) e = elim (leb_tells k (length x)) [
   | inr (v, lt) ↦ let q : made (next.Bad n) c ≡ waits s = e ∙ rw v refl in absurd (bad_not_none _ _ _ q)
 ]
 
-request_by_length : (s t : List ℕ) (h : RequestHead) (x more : List ℕ) (r : Request) (rest : List ℕ) (l : Result ℕ ℕ)
+request_by_length : (s t : List ℕ) (h : RequestHead) (x more : List ℕ) (r : Request) (rest : List ℕ) (l : Result ℕ Refusal)
     → record { next = next.Request r; after = record { pending = rest; failed = false } } ≡ by_length s h x l
     → record { next = next.Request r; after = record { pending = rest ++ more; failed = false } } ≡ by_length t h (x ++ more) l
 request_by_length s t h x more r rest (Err k) e = absurd (bad_not_request k r _ _ (sym e))
@@ -161,7 +173,7 @@ head_stays s more h rest a late reads e =
     let P : List ℕ → Type 0 = λ y. ReadsRequest y h (rest ++ w.0) in
     head h (rest ++ w.0) (late_more s more late) (subst P (sym w.1) (ReadsRequest-append (window s) h rest w.0 reads)) e
 
-pub bad_stays : (s more : List ℕ) (n : ℕ) (c : Connection) → Judged s (made (next.Bad n) c)
+pub bad_stays : (s more : List ℕ) (n : Refusal) (c : Connection) → Judged s (made (next.Bad n) c)
     → Judged (s ++ more) (made (next.Bad n) c)
 bad_stays s more n c (early e p) = absurd (bad_not_none _ _ _ p)
 bad_stays s more n c (too_long none long p) =
@@ -179,15 +191,15 @@ pub request_stays : (s more : List ℕ) (r : Request) (rest : List ℕ)
     → Judged s (record { next = next.Request r; after = record { pending = rest; failed = false } })
     → Judged (s ++ more) (record { next = next.Request r; after = record { pending = rest ++ more; failed = false } })
 request_stays s more r rest (early e p) = absurd (request_not_none _ _ _ p)
-request_stays s more r rest (too_long none long p) = absurd (bad_not_request 9 r _ _ (sym p))
-request_stays s more r rest (hopeless e short never p) = absurd (bad_not_request 9 r _ _ (sym p))
+request_stays s more r rest (too_long none long p) = absurd (bad_not_request refusal.BadHead r _ _ (sym p))
+request_stays s more r rest (hopeless e short never p) = absurd (bad_not_request refusal.BadHead r _ _ (sym p))
 request_stays s more r rest (unfinished e l none can p) = absurd (request_not_none _ _ _ p)
 request_stays s more r rest (head h x late reads p) =
     head_more s more h x _ late reads (request_by_length s (s ++ more) h _ more r rest (body_length (headers_of h)) p)
 
 -- ---- a request takes bytes
 
-falls_by_length : (s : List ℕ) (h : RequestHead) (len : ℕ) (r : Request) (c : Connection) (l : Result ℕ ℕ) → 0 < len → len ≤ length s
+falls_by_length : (s : List ℕ) (h : RequestHead) (len : ℕ) (r : Request) (c : Connection) (l : Result ℕ Refusal) → 0 < len → len ≤ length s
     → made (next.Request r) c ≡ by_length s h (drop len s) l → length c.pending < length s
 falls_by_length s h len r c (Err k) some fits e = absurd (bad_not_request k r _ _ (sym e))
 falls_by_length s h len r c (Ok k) some fits e = elim (leb_tells k (length (drop len s))) [
@@ -199,8 +211,8 @@ falls_by_length s h len r c (Ok k) some fits e = elim (leb_tells k (length (drop
 
 pub request_falls : (s : List ℕ) (r : Request) (c : Connection) → Judged s (made (next.Request r) c) → length c.pending < length s
 request_falls s r c (early e p) = absurd (request_not_none _ _ _ p)
-request_falls s r c (too_long none long p) = absurd (bad_not_request 9 r _ _ (sym p))
-request_falls s r c (hopeless e short never p) = absurd (bad_not_request 9 r _ _ (sym p))
+request_falls s r c (too_long none long p) = absurd (bad_not_request refusal.BadHead r _ _ (sym p))
+request_falls s r c (hopeless e short never p) = absurd (bad_not_request refusal.BadHead r _ _ (sym p))
 request_falls s r c (unfinished e l none can p) = absurd (request_not_none _ _ _ p)
 request_falls s r c (head h rest late reads p) =
     falls_by_length s h (length (print_request h)) r c (body_length (headers_of h)) (head_has_bytes h) (head_fits s h rest reads) p
@@ -215,7 +227,7 @@ none_not_failed s c (hopeless e short never p) = absurd (bad_not_none _ _ _ (sym
 none_not_failed s c (unfinished e l none can p) = (ap (λ a. a.after.pending) p, ap (λ a. a.after.failed) p)
 none_not_failed s c (head h rest late reads p) = by_cases (body_length (headers_of h)) p
   where
-    by_cases : (r : Result ℕ ℕ) → made next.None c ≡ by_length s h (drop (length (print_request h)) s) r
+    by_cases : (r : Result ℕ Refusal) → made next.None c ≡ by_length s h (drop (length (print_request h)) s) r
         → (c.pending ≡ s) × (c.failed ≡ false)
     by_cases (Err n) e = absurd (bad_not_none _ _ _ (sym e))
     by_cases (Ok n) e = elim (leb_tells n (length (drop (length (print_request h)) s))) [
@@ -225,14 +237,14 @@ none_not_failed s c (head h rest late reads p) = by_cases (body_length (headers_
           (ap (λ a. a.after.pending) q, ap (λ a. a.after.failed) q)
     ]
 
-bad_failed : (s : List ℕ) (n : ℕ) (c : Connection) → Judged s (made (next.Bad n) c) → c.failed ≡ true
+bad_failed : (s : List ℕ) (n : Refusal) (c : Connection) → Judged s (made (next.Bad n) c) → c.failed ≡ true
 bad_failed s n c (early e p) = absurd (bad_not_none _ _ _ p)
 bad_failed s n c (too_long none long p) = ap (λ a. a.after.failed) p
 bad_failed s n c (hopeless e short never p) = ap (λ a. a.after.failed) p
 bad_failed s n c (unfinished e l none can p) = absurd (bad_not_none _ _ _ p)
 bad_failed s n c (head h rest late reads p) = by_cases (body_length (headers_of h)) p
   where
-    by_cases : (r : Result ℕ ℕ) → made (next.Bad n) c ≡ by_length s h (drop (length (print_request h)) s) r
+    by_cases : (r : Result ℕ Refusal) → made (next.Bad n) c ≡ by_length s h (drop (length (print_request h)) s) r
         → c.failed ≡ true
     by_cases (Err n) e = ap (λ a. a.after.failed) e
     by_cases (Ok n) e = elim (leb_tells n (length (drop (length (print_request h)) s))) [
@@ -276,56 +288,19 @@ one_reading s (r ∷ rs) (q ∷ qs) c d (rest, x, others) (more, y, rests) =
     let later = one_reading rest rs qs c d others (subst P (sym left) rests) in
     (rw (first, later.0) refl, later.1)
 
--- ---- a loop over `next`
+-- ---- a request leaves the connection alive
 
-request_lives : (s : List ℕ) (r : Request) (c : Connection) → Judged s (made (next.Request r) c) → c.failed ≡ false
+pub request_lives : (s : List ℕ) (r : Request) (c : Connection) → Judged s (made (next.Request r) c) → c.failed ≡ false
 request_lives s r c (early e p) = absurd (request_not_none _ _ _ p)
-request_lives s r c (too_long none long p) = absurd (bad_not_request 9 r _ _ (sym p))
-request_lives s r c (hopeless e short never p) = absurd (bad_not_request 9 r _ _ (sym p))
+request_lives s r c (too_long none long p) = absurd (bad_not_request refusal.BadHead r _ _ (sym p))
+request_lives s r c (hopeless e short never p) = absurd (bad_not_request refusal.BadHead r _ _ (sym p))
 request_lives s r c (unfinished e l none can p) = absurd (request_not_none _ _ _ p)
 request_lives s r c (head h rest late reads p) = by_cases (body_length (headers_of h)) p
   where
-    by_cases : (l : Result ℕ ℕ) → made (next.Request r) c ≡ by_length s h (drop (length (print_request h)) s) l → c.failed ≡ false
+    by_cases : (l : Result ℕ Refusal) → made (next.Request r) c ≡ by_length s h (drop (length (print_request h)) s) l → c.failed ≡ false
     by_cases (Err n) e = absurd (bad_not_request n r _ _ (sym e))
     by_cases (Ok n) e = elim (leb_tells n (length (drop (length (print_request h)) s))) [
       | inl (v, le) ↦ let q : made (next.Request r) c ≡ gives h n (drop (length (print_request h)) s) = e ∙ rw v refl in
           ap (λ a. a.after.failed) q
       | inr (v, lt) ↦ let q : made (next.Request r) c ≡ waits s = e ∙ rw v refl in absurd (request_not_none _ _ _ q)
     ]
-
-pub request_lives_on : (s : List ℕ) (r : Request) (c : Connection) → Judged s (made (next.Request r) c) → c.failed ≡ false
-request_lives_on s r c j = request_lives s r c j
-
-pub continues_more : (s : List ℕ) (old mid new : List Request) (c d : Connection) (r : Request) → Continues s old mid c
-    → Judged c.pending (made (next.Request r) d) → new ≡ mid ++ r ∷ [] → Continues s old new d
-continues_more s old mid new c d r (rs, e, k) j n =
-    let P : Bool → Type 0 = λ b. Judged c.pending (made (next.Request r) (record { pending = d.pending; failed = b })) in
-    let step = subst P (request_lives c.pending r d j) j in (
-      rs ++ r ∷ [],
-      n ∙ (ap (λ x. x ++ r ∷ []) e ∙ append_assoc old rs (r ∷ [])),
-      λ qs q x. rw append_assoc (k (r ∷ qs) q (d.pending, step, x)),
-    )
-
-pub drains_none : (s : List ℕ) (old mid : List Request) (c d : Connection) → Continues s old mid c
-    → Judged c.pending (made next.None d) → Drains s old mid d
-drains_none s old mid c d (rs, e, k) j =
-    let P : List Request → Type 0 = λ l. Reads s l d in (rs, e, subst P (append-nil rs) (k [] d (inl j)))
-
-pub drains_bad : (s : List ℕ) (old mid : List Request) (c d : Connection) (n : ℕ) → Continues s old mid c
-    → Judged c.pending (made (next.Bad n) d) → Drains s old mid d
-drains_bad s old mid c d n (rs, e, k) j =
-    let P : List Request → Type 0 = λ l. Reads s l d in (rs, e, subst P (append-nil rs) (k [] d (inr (n, j))))
-
-pub piece_failed : (s piece : List ℕ) (rs : List Request) (c : Connection) → c.failed ≡ true → Reads s rs c → Reads (s ++ piece) rs c
-piece_failed s piece rs c f x = fails_for_good s piece rs c x f
-
-pub piece_taken : (s piece : List ℕ) (old new : List Request) (c d e : Connection) → c.failed ≡ false
-    → d ≡ record c { pending = c.pending ++ piece } → Drains d.pending old new e → Reads s old c → Reads (s ++ piece) new e
-piece_taken s piece old new c d e f q (rs, n, x) y =
-    let P : List ℕ → Type 0 = λ w. Reads w rs e in
-    let k : d.pending ≡ c.pending ++ piece = ap (λ z. z.pending) q in
-    let z = cuts_anywhere s piece old rs c e y f (subst P k x) in
-    let Q : List Request → Type 0 = λ l. Reads (s ++ piece) l e in subst Q (sym n) z
-
-pub nothing_read : Reads [] [] (record { pending = []; failed = false })
-nothing_read = inl (early refl refl)

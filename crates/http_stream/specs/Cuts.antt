@@ -1,14 +1,15 @@
 -- What a whole stream gives, however it comes.
 use Rattle.std.specs.Prelude.{◌≡◌, ◌⊎◌, ℕ, ◌<◌, length, true, false, List, [], ◌∷◌, ◌++◌}
-use Rattle.http_front.specs.declared.request.Request.{Request}
-use Rattle.http_front.specs.declared.request.Next.TheVariants as next
-use Rattle.http_front.specs.Stream.{Connection, Judged}
+use Rattle.refusals.specs.declared.refusal.Refusal.{Refusal}
+use Rattle.http_stream.specs.declared.request.Request.{Request}
+use Rattle.http_stream.specs.declared.request.Next.TheVariants as next
+use Rattle.http_stream.specs.Stream.{Connection, Judged}
 
 -- the stream gives these requests and then no more, which leaves that connection
 abbrev pub Reads : List ℕ → List Request → Connection → Type 0
 Reads stream [] end =
     Judged stream (record { next = next.None; after = end })
-    ⊎ (n : ℕ) × Judged stream (record { next = next.Bad n; after = end })
+    ⊎ (why : Refusal) × Judged stream (record { next = next.Bad why; after = end })
 Reads stream (r ∷ rs) end =
     (rest : List ℕ) × Judged stream (record { next = next.Request r; after = record { pending = rest; failed = false } })
     × Reads rest rs end
@@ -36,13 +37,3 @@ abbrev pub RequestsTakeBytes : Type 0
 RequestsTakeBytes =
     (stream : List ℕ) (r : Request) (c : Connection)
     → Judged stream (record { next = next.Request r; after = c }) → length c.pending < length stream
-
--- new is old and the requests that the stream gives, which leaves that connection
-abbrev pub Drains : List ℕ → List Request → List Request → Connection → Type 0
-Drains stream old new end = (rs : List Request) × (new ≡ old ++ rs) × Reads stream rs end
-
--- the same in midst: what the connection still gives comes after
-abbrev pub Continues : List ℕ → List Request → List Request → Connection → Type 0
-Continues stream old new c =
-    (rs : List Request) × (new ≡ old ++ rs)
-    × ((qs : List Request) (d : Connection) → Reads c.pending qs d → Reads stream (rs ++ qs) d)

@@ -1,5 +1,6 @@
 // What a stream of bytes gives.
 use crate::headers::HeaderList;
+use refusals::Refusal;
 use vm_types::{ByteList, TextList};
 
 /// A whole request: its method and target as they came, its headers, and its body of at most 65,536 bytes.
@@ -17,6 +18,6 @@ pub enum Next {
     Request(Request),
     /// No whole request has come yet, or the connection has failed.
     None,
-    /// The connection fails, with the refusal of this number: 8 where the body is too large, and else 9.
-    Bad(u8),
+    /// The connection fails: the body is too large, or the head isn't accepted.
+    Bad(Refusal),
 }

@@ -12,7 +12,7 @@ pub struct HeaderList {
 }
 
 impl Model for HeaderList {
-    ghost use Rattle.http_front.specs.Body.{Header};
+    ghost use Rattle.http_stream.specs.Body.{Header};
     ghost use Rattle.std.specs.Prelude.{List};
 
     ghost Value = { List Header };

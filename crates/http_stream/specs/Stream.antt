@@ -3,10 +3,12 @@ use Rattle.std.specs.Prelude.{◌≡◌, ℕ, ◌<◌, ◌≤◌, ◌&&◌, ◌|
 use Rattle.std.specs.List.{list_any, prefix_len}
 use Rattle.httparse.specs.Grammar.{RequestHead, print_request, ReadsRequest, HasNoRequest, NeverHasRequest}
 use Rattle.httparse.specs.Spans.{name_and_value}
-use Rattle.http_front.specs.declared.request.Request.{Request}
-use Rattle.http_front.specs.declared.request.Next.{Next}
-use Rattle.http_front.specs.declared.request.Next.TheVariants as next
-use Rattle.http_front.specs.Body.{Header, bad_head, body_length}
+use Rattle.http_stream.specs.declared.request.Request.{Request}
+use Rattle.http_stream.specs.declared.request.Next.{Next}
+use Rattle.http_stream.specs.declared.request.Next.TheVariants as next
+use Rattle.http_stream.specs.Body.{Header, body_length}
+use Rattle.refusals.specs.declared.refusal.Refusal.{Refusal}
+use Rattle.refusals.specs.declared.refusal.Refusal.TheVariants as refusal
 
 -- a head ends within so many bytes
 abbrev pub head_limit : ℕ
@@ -49,8 +51,8 @@ pub record Answer : Type 0 where
 abbrev pub waits : List ℕ → Answer
 waits stream = record { next = next.None; after = record { pending = stream; failed = false } }
 
-abbrev pub refused : ℕ → Answer
-refused n = record { next = next.Bad n; after = record { pending = []; failed = true } }
+abbrev pub refused : Refusal → Answer
+refused why = record { next = next.Bad why; after = record { pending = []; failed = true } }
 
 -- the request of that head and so long a body, of which rest is the bytes after the head
 abbrev pub request_of : RequestHead → ℕ → List ℕ → Request
@@ -64,9 +66,9 @@ gives h n rest = record {
 }
 
 -- what the stream gives, whose head is h, with the bytes after the head and the length of the body
-abbrev pub by_length : List ℕ → RequestHead → List ℕ → Result ℕ ℕ → Answer
+abbrev pub by_length : List ℕ → RequestHead → List ℕ → Result ℕ Refusal → Answer
 by_length stream h rest (Ok n) = if nat_le n (length rest) then gives h n rest else waits stream
-by_length stream h rest (Err n) = refused n
+by_length stream h rest (Err why) = refused why
 
 abbrev pub by_head : List ℕ → RequestHead → Answer
 by_head stream h =
@@ -75,10 +77,10 @@ by_head stream h =
 -- A stream is judged by the first of these rules that fits.
 pub data Judged (stream : List ℕ) (a : Answer) : Type 0 where
   early : is_early stream ≡ true → a ≡ waits stream → Judged stream a
-  too_long : HasNoRequest (window stream) → head_limit < length stream → a ≡ refused bad_head
+  too_long : HasNoRequest (window stream) → head_limit < length stream → a ≡ refused refusal.BadHead
       → Judged stream a
   hopeless : is_early stream ≡ false → length stream ≤ head_limit → NeverHasRequest stream
-      → a ≡ refused bad_head → Judged stream a
+      → a ≡ refused refusal.BadHead → Judged stream a
   unfinished : is_early stream ≡ false → length stream ≤ head_limit → HasNoRequest stream
       → CanHaveRequest stream → a ≡ waits stream → Judged stream a
   head : (h : RequestHead) (rest : List ℕ) → is_early stream ≡ false
