@@ -10,13 +10,15 @@ use Rattle.monitor_core.specs.Going.{ItemGoes, ItemStops}
 use Rattle.monitor_cli.specs.Taking.{TookFront}
 
 -- an item that was done, with its text in the sink
-pub record ItemDone (item : Item) (monitor after : Monitor) (files left : FilesKnown) (sink now : SinkKnown) : Type 0 where
+pub record ItemDone (item : Item) (monitor after : Monitor) (files left : FilesKnown)
+    (sink now : SinkKnown) : Type 0 where
   pub text : List ℕ
   pub goes : ItemGoes item text monitor after files left
   pub takes : Tells sink.health → now.taken ≡ sink.taken ++ text
 
 -- one of whose text the sink took a front, and not all
-pub record ItemCut (item : Item) (monitor after : Monitor) (files left : FilesKnown) (sink now : SinkKnown) : Type 0 where
+pub record ItemCut (item : Item) (monitor after : Monitor) (files left : FilesKnown)
+    (sink now : SinkKnown) : Type 0 where
   pub text : List ℕ
   pub goes : ItemGoes item text monitor after files left
   pub takes : Tells sink.health → TookFront text sink.taken now.taken
@@ -25,7 +27,8 @@ pub record ItemCut (item : Item) (monitor after : Monitor) (files left : FilesKn
 abbrev pub ItemEnds : Exit → Item → Monitor → Monitor → FilesKnown → FilesKnown → SinkKnown → SinkKnown → Type 0
 ItemEnds (Exit.Fault object.Files) item monitor after files left sink now =
     ItemStops FilesFailed item monitor after files left × (now ≡ sink)
-ItemEnds (Exit.Fault object.Sink) item monitor after files left sink now = ItemCut item monitor after files left sink now
+ItemEnds (Exit.Fault object.Sink) item monitor after files left sink now = ItemCut item monitor after files left sink
+    now
 ItemEnds Exit.OutOfMemory item monitor after files left sink now =
     ItemStops OutOfMemory item monitor after files left × (now ≡ sink)
 ItemEnds exit item monitor after files left sink now = ⊥

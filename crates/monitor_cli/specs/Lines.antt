@@ -23,7 +23,8 @@ use Rattle.monitor_cli.specs.declared.lines.ScriptRun.{ScriptRun}
 -- From a machine at the start and what was known then: these bytes of the script came, and the source has the rest. Of
 -- what came, the reader holds an end, and the lines before it are done. The monitor is the machine after them, and the
 -- sink took their answers.
-pub record Reached (start : Machine) (before : Known) (came rest : List ℕ) (run : ScriptRun) (sink : SinkKnown) (files : FilesKnown) : Type 0 where
+pub record Reached (start : Machine) (before : Known) (came rest : List ℕ) (run : ScriptRun) (sink : SinkKnown)
+    (files : FilesKnown) : Type 0 where
   pub parts : came ++ rest ≡ before.source.left
   pub short : length came ≤ longest_script
   pub acts : List Act
@@ -40,7 +41,8 @@ pub record Reached (start : Machine) (before : Known) (came rest : List ℕ) (ru
   pub calls : files.calls ≡ before.files.calls ++ calls_in acts
 
 -- A replay that ended so, all but its last line, which is not yet written; the source has the rest.
-pub record BeforeLast (exit : Exit) (start : Machine) (before : Known) (rest : List ℕ) (sink : SinkKnown) (files : FilesKnown) : Type 0 where
+pub record BeforeLast (exit : Exit) (start : Machine) (before : Known) (rest : List ℕ) (sink : SinkKnown)
+    (files : FilesKnown) : Type 0 where
   pub acts : List Act
   pub part : List Outcome
   pub answers : List ℕ
@@ -50,7 +52,8 @@ pub record BeforeLast (exit : Exit) (start : Machine) (before : Known) (rest : L
   pub calls : CallsBy exit acts before.files.calls files.calls
 
 -- No line is left, or the guest is off: the answers are written, and nothing behind them.
-pub record Finished (start : Machine) (before : Known) (rest : List ℕ) (run : ScriptRun) (sink : SinkKnown) (files : FilesKnown) : Type 0 where
+pub record Finished (start : Machine) (before : Known) (rest : List ℕ) (run : ScriptRun) (sink : SinkKnown)
+    (files : FilesKnown) : Type 0 where
   pub came : List ℕ
   pub reached : Reached start before came rest run sink files
   pub done : ((judged run.reader ≡ []) × (rest ≡ [])) ⊎ (is_off reached.last ≡ true)

@@ -17,7 +17,8 @@ use Rattle.monitor_cli.specs.Reading.{HasRead, ReadsBy}
 use Rattle.monitor_cli.specs.Taking.{TookText}
 
 -- the script came to its end, or to a line that is none: its acts, its text and the files are a replay's
-pub record Ended (exit : Exit) (script rest : List ℕ) (start : Machine) (acts : List Act) (part : List Outcome) (text : List ℕ) (saved : Saved) : Type 0 where
+pub record Ended (exit : Exit) (script rest : List ℕ) (start : Machine) (acts : List Act) (part : List Outcome)
+    (text : List ℕ) (saved : Saved) : Type 0 where
   pub end : Machine
   pub replay : IsReplay script start acts exit text end
   pub whole : part ≡ []
@@ -31,7 +32,8 @@ FilesBy (Exit.Fault object.Files) (Some (Item.File name content) ∷ more) m sav
 FilesBy exit left m saved = saved ≡ m.saved
 
 -- a host object failed, or memory was wanted
-pub record Stopped (exit : Exit) (script rest : List ℕ) (start : Machine) (acts : List Act) (part : List Outcome) (text : List ℕ) (saved : Saved) : Type 0 where
+pub record Stopped (exit : Exit) (script rest : List ℕ) (start : Machine) (acts : List Act) (part : List Outcome)
+    (text : List ℕ) (saved : Saved) : Type 0 where
   pub end : Machine
   pub stop : IsStopped script start acts part exit text end
   pub files : FilesBy exit stop.left end saved
@@ -39,7 +41,8 @@ pub record Stopped (exit : Exit) (script rest : List ℕ) (start : Machine) (act
   pub reads : ReadsBy exit rest read.unread end
 
 -- the sink failed
-pub record CutOff (script rest : List ℕ) (start : Machine) (acts : List Act) (part : List Outcome) (text : List ℕ) (saved : Saved) : Type 0 where
+pub record CutOff (script rest : List ℕ) (start : Machine) (acts : List Act) (part : List Outcome) (text : List ℕ)
+    (saved : Saved) : Type 0 where
   pub end : Machine
   pub cut : IsCutOff script start acts text end
   pub whole : part ≡ []
@@ -47,7 +50,8 @@ pub record CutOff (script rest : List ℕ) (start : Machine) (acts : List Act) (
   pub read : HasRead script rest acts
 
 -- the words are no command
-pub record Refused (script rest : List ℕ) (start : Machine) (acts : List Act) (part : List Outcome) (text : List ℕ) (saved : Saved) : Type 0 where
+pub record Refused (script rest : List ℕ) (start : Machine) (acts : List Act) (part : List Outcome) (text : List ℕ)
+    (saved : Saved) : Type 0 where
   pub none : acts ≡ []
   pub whole : part ≡ []
   pub writes : text ≡ last_line Exit.Usage
@@ -57,7 +61,8 @@ pub record Refused (script rest : List ℕ) (start : Machine) (acts : List Act) 
 -- how it went, where it ended so
 abbrev pub Went : Exit → List ℕ → List ℕ → Machine → List Act → List Outcome → List ℕ → Saved → Type 0
 Went Exit.Done script rest start acts part text saved = Ended Exit.Done script rest start acts part text saved
-Went (Exit.Script line) script rest start acts part text saved = Ended (Exit.Script line) script rest start acts part text saved
+Went (Exit.Script line) script rest start acts part text saved = Ended
+    (Exit.Script line) script rest start acts part text saved
 Went (Exit.Fault object.Sink) script rest start acts part text saved = CutOff script rest start acts part text saved
 Went Exit.Usage script rest start acts part text saved = Refused script rest start acts part text saved
 Went exit script rest start acts part text saved = Stopped exit script rest start acts part text saved

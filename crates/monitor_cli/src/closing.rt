@@ -33,7 +33,8 @@ pub fn write_closing<K: Sink>(alloc: Global, monitor: &Monitor, sink: &mut K) ->
 }
 
 fn closing_text(alloc: Global, monitor: &Monitor) -> Result<ByteList, AllocError>
-    ensures { IfOk result (λ text. (saved : Saved) (m : Machine) → IsMonitor monitor.now saved m → text ≡ closing Exit.Done m) }
+    ensures { IfOk result (λ text. (saved : Saved) (m : Machine) → IsMonitor monitor.now saved m →
+        text ≡ closing Exit.Done m) }
 {
     let mut text = console_line(alloc, monitor.console())?;
     if monitor.is_off() {

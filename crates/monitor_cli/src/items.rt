@@ -18,13 +18,17 @@ pub fn run_item<F: Files, K: Sink>(
     files: &mut F,
     sink: &mut K,
 ) -> Result<(), Exit>
-    ensures done { OnOk result (ItemDone item monitor.old monitor.new (F.known files.old) (F.known files.new) (K.known sink.old) (K.known sink.new)) }
+    ensures done { OnOk result (ItemDone item monitor.old monitor.new (F.known files.old) (F.known files.new)
+        (K.known sink.old) (K.known sink.new)) }
     ensures ends { IfErr result (λ exit.
-        ItemEnds exit item monitor.old monitor.new (F.known files.old) (F.known files.new) (K.known sink.old) (K.known sink.new)) }
+        ItemEnds exit item monitor.old monitor.new (F.known files.old) (F.known files.new) (K.known sink.old)
+        (K.known sink.new)) }
     ensures sink { MatchResult result (λ _. (K.known sink.new).health.faults ≡ (K.known sink.old).health.faults)
         (λ exit. SinkCause exit (K.known sink.old).health.faults (K.known sink.new).health.faults) }
-    ensures files { IfErr result (λ exit. FilesCause exit (F.known files.old).health.faults (F.known files.new).health.faults) }
-    ensures lasts { Lasts (F.known files.old).health (F.known files.new).health × Lasts (K.known sink.old).health (K.known sink.new).health }
+    ensures files { IfErr result (λ exit.
+        FilesCause exit (F.known files.old).health.faults (F.known files.new).health.faults) }
+    ensures lasts { Lasts (F.known files.old).health (F.known files.new).health
+        × Lasts (K.known sink.old).health (K.known sink.new).health }
 {
     let text = match monitor.item(item, files) {
         Ok(text) => text,

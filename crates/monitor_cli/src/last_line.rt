@@ -12,7 +12,8 @@ use vm_types::{Exit, Object};
 /// Writes the last line of a run that ended so, without taking memory. After an `Err` the sink has taken a
 /// front of it, and not all.
 pub fn write_last<K: Sink>(sink: &mut K, exit: Exit) -> Result<(), Failed>
-    ensures takes { Tells (K.known sink.old).health → TakesAll (K.known sink.old).taken (K.known sink.new).taken result (last_line exit) }
+    ensures takes { Tells (K.known sink.old).health →
+        TakesAll (K.known sink.old).taken (K.known sink.new).taken result (last_line exit) }
     ensures quiet { IsQuiet exit → sink.new ≡ sink.old }
     ensures called { Called (K.known sink.old).health (K.known sink.new).health result }
 {
@@ -32,7 +33,8 @@ pub fn write_last<K: Sink>(sink: &mut K, exit: Exit) -> Result<(), Failed>
 /// Ends so before a command is begun: writes the last line alone. A sink that fails at it changes nothing.
 pub fn refuse<K: Sink>(exit: Exit, sink: &mut K) -> Exit
     ensures exit { result ≡ exit }
-    ensures writes { Tells (K.known sink.old).health → TookText exit (last_line exit) (K.known sink.old) (K.known sink.new) }
+    ensures writes { Tells (K.known sink.old).health →
+        TookText exit (last_line exit) (K.known sink.old) (K.known sink.new) }
     ensures lasts { Lasts (K.known sink.old).health (K.known sink.new).health }
 {
     let _ = write_last(sink, exit);
@@ -40,7 +42,8 @@ pub fn refuse<K: Sink>(exit: Exit, sink: &mut K) -> Exit
 }
 
 fn write_script_line<K: Sink>(sink: &mut K, line: u64) -> Result<(), Failed>
-    ensures takes { Tells (K.known sink.old).health → TakesAll (K.known sink.old).taken (K.known sink.new).taken result (last_line (Exit.Script line)) }
+    ensures takes { Tells (K.known sink.old).health →
+        TakesAll (K.known sink.old).taken (K.known sink.new).taken result (last_line (Exit.Script line)) }
     ensures called { Called (K.known sink.old).health (K.known sink.new).health result }
 {
     let mut buffer = Buffer::new();

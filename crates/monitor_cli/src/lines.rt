@@ -59,17 +59,21 @@ impl ScriptRun {
         requires { self.old.line + length self.old.reader < 2 ^ 64 }
         ensures count { self.new.line + length self.new.reader ≤ self.old.line + length self.old.reader }
         ensures went { IfOk result (λ paused. Tells (F.known files.old).health → Tells (K.known sink.old).health →
-            (start : Machine) (before : Known) (came rest : List ℕ) → Reached start before came rest self.old (K.known sink.old) (F.known files.old) →
+            (start : Machine) (before : Known) (came rest : List ℕ) →
+            Reached start before came rest self.old (K.known sink.old) (F.known files.old) →
             Reached start before came rest self.new (K.known sink.new) (F.known files.new)) }
         ensures paused { IfOk result (λ paused. PausedBy paused self.new.reader self.new.monitor) }
         ensures ended { IfErr result (λ exit. Tells (F.known files.old).health → Tells (K.known sink.old).health →
-            (start : Machine) (before : Known) (came rest : List ℕ) → Reached start before came rest self.old (K.known sink.old) (F.known files.old) →
+            (start : Machine) (before : Known) (came rest : List ℕ) →
+            Reached start before came rest self.old (K.known sink.old) (F.known files.old) →
             BeforeLast exit start before rest (K.known sink.new) (F.known files.new)) }
         ensures some { IfErr result IsLinesEnd }
         ensures sink { MatchResult result (λ _. (K.known sink.new).health.faults ≡ (K.known sink.old).health.faults)
             (λ exit. SinkCause exit (K.known sink.old).health.faults (K.known sink.new).health.faults) }
-        ensures files { IfErr result (λ exit. FilesCause exit (F.known files.old).health.faults (F.known files.new).health.faults) }
-        ensures lasts { Lasts (F.known files.old).health (F.known files.new).health × Lasts (K.known sink.old).health (K.known sink.new).health }
+        ensures files { IfErr result (λ exit.
+            FilesCause exit (F.known files.old).health.faults (F.known files.new).health.faults) }
+        ensures lasts { Lasts (F.known files.old).health (F.known files.new).health
+            × Lasts (K.known sink.old).health (K.known sink.new).health }
     {
         'lines: loop {
             if self.monitor.is_off() {

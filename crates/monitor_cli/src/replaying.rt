@@ -19,11 +19,14 @@ pub fn replay<I: Source, O: Sink, F: Files>(
     out: &mut Outside<I, O, F>,
 ) -> Exit
     ensures so_far { AllTell (known (I.known out.old.source) (O.known out.old.sink) (F.known out.old.files)) →
-        BeforeLast result (new_machine id (F.known out.old.files).saved) (known (I.known out.old.source) (O.known out.old.sink) (F.known out.old.files))
-            (I.known out.new.source).left (O.known out.new.sink) (F.known out.new.files) }
-    ensures caused { Caused result (known (I.known out.old.source) (O.known out.old.sink) (F.known out.old.files)) (known (I.known out.new.source) (O.known out.new.sink) (F.known out.new.files)) }
+        BeforeLast result (new_machine id (F.known out.old.files).saved)
+        (known (I.known out.old.source) (O.known out.old.sink) (F.known out.old.files))
+        (I.known out.new.source).left (O.known out.new.sink) (F.known out.new.files) }
+    ensures caused { Caused result (known (I.known out.old.source) (O.known out.old.sink) (F.known out.old.files))
+        (known (I.known out.new.source) (O.known out.new.sink) (F.known out.new.files)) }
     ensures no_usage { result ≢ Exit.Usage }
-    ensures lasts { AllLast (known (I.known out.old.source) (O.known out.old.sink) (F.known out.old.files)) (known (I.known out.new.source) (O.known out.new.sink) (F.known out.new.files)) }
+    ensures lasts { AllLast (known (I.known out.old.source) (O.known out.old.sink) (F.known out.old.files))
+        (known (I.known out.new.source) (O.known out.new.sink) (F.known out.new.files)) }
 {
     let mut run = ScriptRun::new(alloc, id);
     if let Err(exit) = run_script(&mut run, &mut out.source, &mut out.files, &mut out.sink) {

@@ -26,19 +26,25 @@ pub fn run_script<I: Source, F: Files, K: Sink>(
     sink: &mut K,
 ) -> Result<(), Exit>
     requires { run.old.line + length run.old.reader ≤ 1 }
-    ensures finished { OnOk result (Tells (I.known source.old).health → Tells (F.known files.old).health → Tells (K.known sink.old).health →
-        (start : Machine) (before : Known) → Reached start before [] (I.known source.old).left run.old (K.known sink.old) (F.known files.old) →
+    ensures finished { OnOk result
+        (Tells (I.known source.old).health → Tells (F.known files.old).health → Tells (K.known sink.old).health →
+        (start : Machine) (before : Known) →
+        Reached start before [] (I.known source.old).left run.old (K.known sink.old) (F.known files.old) →
         Finished start before (I.known source.new).left run.new (K.known sink.new) (F.known files.new)) }
-    ensures ended { IfErr result (λ exit. Tells (I.known source.old).health → Tells (F.known files.old).health → Tells (K.known sink.old).health →
-        (start : Machine) (before : Known) → Reached start before [] (I.known source.old).left run.old (K.known sink.old) (F.known files.old) →
+    ensures ended { IfErr result (λ exit. Tells (I.known source.old).health → Tells (F.known files.old).health →
+        Tells (K.known sink.old).health →
+        (start : Machine) (before : Known) →
+        Reached start before [] (I.known source.old).left run.old (K.known sink.old) (F.known files.old) →
         BeforeLast exit start before (I.known source.new).left (K.known sink.new) (F.known files.new)) }
     ensures some { IfErr result IsRunsEnd }
     ensures source { MatchResult result (λ _. (I.known source.new).health.faults ≡ (I.known source.old).health.faults)
         (λ exit. SourceCause exit (I.known source.old).health.faults (I.known source.new).health.faults) }
     ensures sink { MatchResult result (λ _. (K.known sink.new).health.faults ≡ (K.known sink.old).health.faults)
         (λ exit. SinkCause exit (K.known sink.old).health.faults (K.known sink.new).health.faults) }
-    ensures files { IfErr result (λ exit. FilesCause exit (F.known files.old).health.faults (F.known files.new).health.faults) }
-    ensures lasts { Lasts (I.known source.old).health (I.known source.new).health × Lasts (F.known files.old).health (F.known files.new).health
+    ensures files { IfErr result (λ exit.
+        FilesCause exit (F.known files.old).health.faults (F.known files.new).health.faults) }
+    ensures lasts { Lasts (I.known source.old).health (I.known source.new).health
+        × Lasts (F.known files.old).health (F.known files.new).health
         × Lasts (K.known sink.old).health (K.known sink.new).health }
 {
     let mut piece = [0; PIECE as usize];
@@ -68,7 +74,8 @@ pub fn run_script<I: Source, F: Files, K: Sink>(
 
 // Whether nothing is left behind the longest script; else the line of this number is none.
 fn past_longest<I: Source>(line: u64, source: &mut I) -> Result<(), Exit>
-    ensures end { OnOk result (Tells (I.known source.old).health → ((I.known source.old).left ≡ []) × ((I.known source.new).left ≡ [])) }
+    ensures end { OnOk result (Tells (I.known source.old).health → ((I.known source.old).left ≡ [])
+        × ((I.known source.new).left ≡ [])) }
     ensures more { IfErr result (λ exit. PastBy exit line (I.known source.old) (I.known source.new)) }
     ensures source { MatchResult result (λ _. (I.known source.new).health.faults ≡ (I.known source.old).health.faults)
         (λ exit. SourceCause exit (I.known source.old).health.faults (I.known source.new).health.faults) }

@@ -20,7 +20,8 @@ pub fn firecracker_main<I: Source, O: Sink, F: Files>(
     out: &mut Outside<I, O, F>,
 ) -> Exit
     ensures command { Commanded (map string_bytes words.now) result
-        (known (I.known out.old.source) (O.known out.old.sink) (F.known out.old.files)) (known (I.known out.new.source) (O.known out.new.sink) (F.known out.new.files)) }
+        (known (I.known out.old.source) (O.known out.old.sink) (F.known out.old.files))
+        (known (I.known out.new.source) (O.known out.new.sink) (F.known out.new.files)) }
     ensures unread { result ≡ Exit.Usage → (out.new.source ≡ out.old.source) × (out.new.files ≡ out.old.files) }
 {
     replay_main(alloc, words, out)
@@ -37,7 +38,8 @@ pub fn replay_main<I: Source, O: Sink, F: Files>(
     out: &mut Outside<I, O, F>,
 ) -> Exit
     ensures command { Commanded (map string_bytes words.now) result
-        (known (I.known out.old.source) (O.known out.old.sink) (F.known out.old.files)) (known (I.known out.new.source) (O.known out.new.sink) (F.known out.new.files)) }
+        (known (I.known out.old.source) (O.known out.old.sink) (F.known out.old.files))
+        (known (I.known out.new.source) (O.known out.new.sink) (F.known out.new.files)) }
     ensures unread { result ≡ Exit.Usage → (out.new.source ≡ out.old.source) × (out.new.files ≡ out.old.files) }
 {
     let exit = run_command(alloc, words, out);
@@ -54,10 +56,13 @@ fn run_command<I: Source, O: Sink, F: Files>(
     ensures usage { (result ≡ Exit.Usage) ↔ (is_command (map string_bytes words.now) ≡ false) }
     ensures unread { result ≡ Exit.Usage → out.new ≡ out.old }
     ensures so_far { AllTell (known (I.known out.old.source) (O.known out.old.sink) (F.known out.old.files)) →
-        BeforeLast result (new_machine default_id (F.known out.old.files).saved) (known (I.known out.old.source) (O.known out.old.sink) (F.known out.old.files))
-            (I.known out.new.source).left (O.known out.new.sink) (F.known out.new.files) }
-    ensures caused { Caused result (known (I.known out.old.source) (O.known out.old.sink) (F.known out.old.files)) (known (I.known out.new.source) (O.known out.new.sink) (F.known out.new.files)) }
-    ensures lasts { AllLast (known (I.known out.old.source) (O.known out.old.sink) (F.known out.old.files)) (known (I.known out.new.source) (O.known out.new.sink) (F.known out.new.files)) }
+        BeforeLast result (new_machine default_id (F.known out.old.files).saved)
+        (known (I.known out.old.source) (O.known out.old.sink) (F.known out.old.files))
+        (I.known out.new.source).left (O.known out.new.sink) (F.known out.new.files) }
+    ensures caused { Caused result (known (I.known out.old.source) (O.known out.old.sink) (F.known out.old.files))
+        (known (I.known out.new.source) (O.known out.new.sink) (F.known out.new.files)) }
+    ensures lasts { AllLast (known (I.known out.old.source) (O.known out.old.sink) (F.known out.old.files))
+        (known (I.known out.new.source) (O.known out.new.sink) (F.known out.new.files)) }
 {
     if is_replay(words) {
         replay_default(alloc, out)
@@ -69,11 +74,14 @@ fn run_command<I: Source, O: Sink, F: Files>(
 // The replay on a machine that is given no id.
 fn replay_default<I: Source, O: Sink, F: Files>(alloc: Global, out: &mut Outside<I, O, F>) -> Exit
     ensures so_far { AllTell (known (I.known out.old.source) (O.known out.old.sink) (F.known out.old.files)) →
-        BeforeLast result (new_machine default_id (F.known out.old.files).saved) (known (I.known out.old.source) (O.known out.old.sink) (F.known out.old.files))
-            (I.known out.new.source).left (O.known out.new.sink) (F.known out.new.files) }
-    ensures caused { Caused result (known (I.known out.old.source) (O.known out.old.sink) (F.known out.old.files)) (known (I.known out.new.source) (O.known out.new.sink) (F.known out.new.files)) }
+        BeforeLast result (new_machine default_id (F.known out.old.files).saved)
+        (known (I.known out.old.source) (O.known out.old.sink) (F.known out.old.files))
+        (I.known out.new.source).left (O.known out.new.sink) (F.known out.new.files) }
+    ensures caused { Caused result (known (I.known out.old.source) (O.known out.old.sink) (F.known out.old.files))
+        (known (I.known out.new.source) (O.known out.new.sink) (F.known out.new.files)) }
     ensures no_usage { result ≢ Exit.Usage }
-    ensures lasts { AllLast (known (I.known out.old.source) (O.known out.old.sink) (F.known out.old.files)) (known (I.known out.new.source) (O.known out.new.sink) (F.known out.new.files)) }
+    ensures lasts { AllLast (known (I.known out.old.source) (O.known out.old.sink) (F.known out.old.files))
+        (known (I.known out.new.source) (O.known out.new.sink) (F.known out.new.files)) }
 {
     match TextList::copy_of(alloc, "anonymous-instance") {
         Ok(id) => replay(alloc, id, out),

@@ -1,8 +1,8 @@
 // A script that comes in pieces of each size.
 use super::{Trial, check, never};
 use crate::lines::{Paused, ScriptRun};
-use std::test::Fail;
 use outside_mem::{MemoryFiles, MemorySink};
+use std::test::Fail;
 use vm_types::{Exit, TextList};
 
 const WHOLE: Trial = Trial {

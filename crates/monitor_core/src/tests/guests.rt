@@ -50,8 +50,14 @@ fn looks_and_faults_come_where_they_do(rt: HostRuntime) -> Result<(), Fail> {
     let mut faults = 0;
     for _ in 0..100 {
         match guest.step() {
-            Entry { op: Op::Board(BoardOp::Look), .. } => looks += 1,
-            Entry { reply: Reply::AccessFault, .. } => faults += 1,
+            Entry {
+                op: Op::Board(BoardOp::Look),
+                ..
+            } => looks += 1,
+            Entry {
+                reply: Reply::AccessFault,
+                ..
+            } => faults += 1,
             _ => {}
         }
     }
