@@ -5,7 +5,6 @@ use Rattle.rv_rows.specs.declared.alu.AluOp.TheVariants as AluOp
 use Rattle.rv_rows.specs.declared.alu.MulDivOp.TheVariants as MulDivOp
 use Rattle.rv_rows.specs.declared.branch.Condition.TheVariants as Condition
 use Rattle.rv_rows.specs.declared.memory.LoadKind.TheVariants as LoadKind
-use Rattle.vm_types.specs.declared.op.AmoKind.TheVariants as AmoKind
 use Rattle.rv_rows.specs.declared.memory.Width.TheVariants as Width
 use Rattle.rv_rows.specs.declared.csr.CsrOp.TheVariants as CsrOp
 use Rattle.rv_rows.specs.declared.csr.CsrAccess.TheVariants as CsrAccess
@@ -14,7 +13,6 @@ use Rattle.rv_rows.specs.declared.effect.Effect.TheVariants as Effect
 use Rattle.rv_rows.specs.declared.instr.Instr.TheVariants as Instr
 use Rattle.rv_rows.specs.Alu.{alu}
 use Rattle.rv_rows.specs.MulDiv.{muldiv}
-use Rattle.rv_rows.specs.Amo.{amo_value}
 use Rattle.rv_rows.specs.Branches.{is_taken}
 use Rattle.rv_rows.specs.Loads.{load_value, atomic_load_value}
 use Rattle.rv_rows.specs.Effects.{effect_of}
@@ -74,16 +72,6 @@ div_towards_zero = refl
 rem_sign : muldiv MulDivOp.Rem 0xfffffffffffffff9 2 ≡ 0xffffffffffffffff
 rem_sign = refl
 
--- as words -1 is below 1, whatever the register's upper half
-amomin_word : amo_value AmoKind.Min false 1 0x5ffffffff ≡ 0xffffffff
-amomin_word = refl
-
-amominu_word : amo_value AmoKind.MinUnsigned false 1 0x5ffffffff ≡ 1
-amominu_word = refl
-
-amoadd_word : amo_value AmoKind.Add false 0xffffffff 0x500000002 ≡ 1
-amoadd_word = refl
-
 bge_sign : is_taken Condition.Ge 0xffffffffffffffff 0 ≡ false
 bge_sign = refl
 
@@ -93,12 +81,9 @@ lb_sign = refl
 lwu_no_sign : load_value LoadKind.WordUnsigned 0x80000000 ≡ 0x80000000
 lwu_no_sign = refl
 
--- a reply of more than 32 bits: LR.W and AMOMAX.W take its low word
+-- a reply of more than 32 bits: LR.W takes its low word
 lr_word : atomic_load_value false 0x180000000 ≡ 0xffffffff80000000
 lr_word = refl
-
-amomax_word : amo_value AmoKind.Max false 0x100000001 2 ≡ 2
-amomax_word = refl
 
 -- a jump to an address that 4 doesn't divide traps, and so does a branch, but only where it is taken
 jal_by_2 : effect_of (Instr.Jal X1 2) 0x1000 0 0 ≡ Effect.Trap InstructionMisaligned 0x1002

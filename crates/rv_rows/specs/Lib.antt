@@ -1,5 +1,4 @@
 pub mod Alu
-pub mod Amo
 pub mod Branches
 pub mod Effects
 pub mod Exceptions

@@ -1,5 +1,5 @@
 // A guest's events, one at a time and as a run.
-use crate::Guest;
+use crate::guest::Guest;
 use guest_memory::is_image_fit;
 use std::alloc::{AllocError, Global};
 use std::test::Fail;
