@@ -144,13 +144,13 @@ static const Op MULDIV[] = {
 static const Op AMO_WORD[] = {
     {"Swap", amoswap_word}, {"Add", amoadd_word},   {"Xor", amoxor_word},
     {"And", amoand_word},   {"Or", amoor_word},     {"Min", amomin_word},
-    {"Max", amomax_word},   {"Minu", amominu_word}, {"Maxu", amomaxu_word},
+    {"Max", amomax_word},   {"MinUnsigned", amominu_word}, {"MaxUnsigned", amomaxu_word},
 };
 
 static const Op AMO_DOUBLE[] = {
     {"Swap", amoswap_double}, {"Add", amoadd_double},   {"Xor", amoxor_double},
     {"And", amoand_double},   {"Or", amoor_double},     {"Min", amomin_double},
-    {"Max", amomax_double},   {"Minu", amominu_double}, {"Maxu", amomaxu_double},
+    {"Max", amomax_double},   {"MinUnsigned", amominu_double}, {"MaxUnsigned", amomaxu_double},
 };
 
 static void print_pairs(void) {
@@ -197,9 +197,9 @@ int main(int argc, char **argv) {
     else if (strcmp(family, "muldiv") == 0)
         print_values("VALUES", "MulDivOp", MULDIV, COUNT(MULDIV));
     else if (strcmp(family, "amo_word") == 0)
-        print_values("WORDS", "AmoOp", AMO_WORD, COUNT(AMO_WORD));
+        print_values("WORDS", "AmoKind", AMO_WORD, COUNT(AMO_WORD));
     else if (strcmp(family, "amo_double") == 0)
-        print_values("DOUBLES", "AmoOp", AMO_DOUBLE, COUNT(AMO_DOUBLE));
+        print_values("DOUBLES", "AmoKind", AMO_DOUBLE, COUNT(AMO_DOUBLE));
     else if (strcmp(family, "branches") == 0)
         print_branches();
     else {

@@ -1,7 +1,8 @@
 // Which calls are allowed.
 ghost use Rattle.std.specs.Prelude.{◌≡◌, [], ◌∷◌, ℕ, Option, is_none, not};
 ghost use Rattle.vm_types.specs.declared.item.ApiCall.TheVariants.{InstanceStart};
-ghost use Rattle.api_admission.specs.Admission.{asks_files, first_refusal, has_started, is_fit_by, is_memory_size, refusal_of};
+ghost use Rattle.api_admission.specs.Admission.{asks_files, first_refusal, has_started};
+ghost use Rattle.api_admission.specs.Admission.{is_fit_by, is_memory_size, refusal_of};
 
 use crate::config::{Config, Phase};
 use guest_memory::is_image_fit;
@@ -33,7 +34,8 @@ pub fn refusal_of(
 
 /// Whether the length of the kernel image's file has to be known before a call can be judged.
 pub fn asks_files(call: &ApiCall, phase: Phase, config: &Config) -> bool
-    ensures { (image : Option ℕ) → result ≡ asks_files call.now (record { phase = phase; config = config.now; image = image }) }
+    ensures { (image : Option ℕ) →
+        result ≡ asks_files call.now (record { phase = phase; config = config.now; image = image }) }
 {
     match call {
         ApiCall::InstanceStart => !has_started(phase) && config.kernel_image_path.is_some(),
@@ -53,7 +55,8 @@ fn boot_source_refusal(phase: Phase) -> Option<Refusal>
 
 // A size out of range is told first, whatever the phase.
 fn memory_refusal(mem_size_mib: u64, phase: Phase) -> Option<Refusal>
-    ensures { result ≡ first_refusal ((not (is_memory_size mem_size_mib), Refusal.OutOfRange) ∷ (has_started phase, Refusal.OnlyBeforeBoot) ∷ []) }
+    ensures { result ≡ first_refusal
+        ((not (is_memory_size mem_size_mib), Refusal.OutOfRange) ∷ (has_started phase, Refusal.OnlyBeforeBoot) ∷ []) }
 {
     if !is_memory_size(mem_size_mib) {
         Some(Refusal::OutOfRange)
@@ -77,7 +80,8 @@ fn start_refusal(phase: Phase, config: &Config, image: Option<u64>) -> Option<Re
 }
 
 fn image_refusal(mem_size_mib: u64, image: Option<u64>) -> Option<Refusal>
-    ensures { result ≡ first_refusal ((is_none image, Refusal.NoSuchFile) ∷ (not (is_fit_by image mem_size_mib), Refusal.DoesNotFit) ∷ []) }
+    ensures { result ≡ first_refusal
+        ((is_none image, Refusal.NoSuchFile) ∷ (not (is_fit_by image mem_size_mib), Refusal.DoesNotFit) ∷ []) }
 {
     match image {
         None => Some(Refusal::NoSuchFile),

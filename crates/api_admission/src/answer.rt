@@ -37,7 +37,8 @@ pub fn answer_call(
     config: &Config,
     image: Option<u64>,
 ) -> Result<Answer, AllocError>
-    ensures { IfOk result (λ answer. answer ≡ answer_of call.now id.now (record { phase = phase; config = config.now; image = image })) }
+    ensures { IfOk result (λ answer.
+        answer ≡ answer_of call.now id.now (record { phase = phase; config = config.now; image = image })) }
 {
     match refusal_of(call, phase, config, image) {
         Some(refusal) => Ok(fault_answer(alloc, refusal)?),

@@ -1,5 +1,6 @@
 -- An event does one thing.
-use Rattle.std.proofs.Common.{◌≡◌, ℕ, zero, suc, ◌<◌, true, false, refl, sym, ap, subst, ◌∙◌, List, [], ◌∷◌, length, Option, Some, None, ◌⊎◌, inl, inr, arith, slice_get}
+use Rattle.std.proofs.Common.{◌≡◌, ℕ, zero, suc, ◌<◌, true, false, refl, sym, ap, subst, ◌∙◌, List, [], ◌∷◌, length}
+use Rattle.std.proofs.Common.{Option, Some, None, ◌⊎◌, inl, inr, arith, slice_get}
 use Rattle.vm_types.specs.declared.ids.ActorId.{ActorId}
 use Rattle.vm_types.specs.declared.ids.PlaceId.{PlaceId}
 use Rattle.vm_types.specs.declared.op.Op.{Op}
@@ -23,13 +24,15 @@ out_one (Op.Board act) given r s a b = absurd a.1
 out_one Op.Idle given r s a b = a.1 ∙ sym b.1
 out_one op given r s a b = a.1 ∙ sym b.1
 
-answers_one : (p : PlaceId) (g : Guest) (actor : ActorId) (op : Op) (given : Option Reply) (r s : Reply) → Answers p g actor op given r → Answers p g actor op given s → r ≡ s
+answers_one : (p : PlaceId) (g : Guest) (actor : ActorId) (op : Op) (given : Option Reply) (r s : Reply)
+    → Answers p g actor op given r → Answers p g actor op given s → r ≡ s
 answers_one (PlaceId.Page i) g actor op given r s a b = a.1 ∙ sym b.1
 answers_one PlaceId.Board g actor op given r s a b = a.1 ∙ sym b.1
 answers_one (PlaceId.Port k) g actor op given r s a b = absurd a
 answers_one PlaceId.Out g actor op given r s a b = out_one op given r s a b
 
-from_one : (start : Option Regs) (steps : List Step) (a b : Op) → WantsFrom start steps a → WantsFrom start steps b → a ≡ b
+from_one : (start : Option Regs) (steps : List Step) (a b : Op) → WantsFrom start steps a → WantsFrom start steps b
+    → a ≡ b
 from_one None steps a b x y = absurd x
 from_one (Some start) steps a b x y = one_op start steps a b x y
 
@@ -62,13 +65,15 @@ module _ (g h k : Guest) (event : Event) (d e : Entry) (x : FlatStep g event d h
 
   pub same_after : h ≡ k
   same_after =
-      let middle : after_by g d.place d.actor d.op d.reply ≡ after_by g e.place e.actor e.op e.reply = λ i. after_by g (same_place i) (same_actor_id i) (same_op i) (same_reply i) in
+      let middle : after_by g d.place d.actor d.op d.reply ≡ after_by g e.place e.actor e.op e.reply = λ i. after_by g
+      (same_place i) (same_actor_id i) (same_op i) (same_reply i) in
       x.after ∙ middle ∙ sym y.after
 
 abbrev All : ℕ → ℕ → Guest → Type 0
 All made count h = (made ≡ count) ⊎ ((made < count) × (h.board.off ≡ true))
 
-stopped : (g : Guest) (made count : ℕ) → All 0 count g → (suc made ≡ count) ⊎ (suc made < count) → g.board.off ≡ false → ⊥
+stopped : (g : Guest) (made count : ℕ) → All 0 count g → (suc made ≡ count) ⊎ (suc made < count) → g.board.off ≡ false
+    → ⊥
 stopped g made count (inl none) (inl all) on = omega arith
 stopped g made count (inl none) (inr less) on = omega arith
 stopped g made count (inr off) later on = let is : g.board.off ≡ true = off.1 in cc
@@ -88,21 +93,29 @@ some_left made zero h (inr less) = let short = less.0 in absurd (omega arith)
 some_left made (suc rest) h (inr less) = (rest, refl)
 
 -- the guest is on before the rest, from where the first event leads
-on_behind : (g mid : Guest) (e : Entry) (es : List Entry) → mid ≡ guest_after g e → IsOnBefore g (e ∷ es) → IsOnBefore mid es
+on_behind : (g mid : Guest) (e : Entry) (es : List Entry) → mid ≡ guest_after g e → IsOnBefore g (e ∷ es)
+    → IsOnBefore mid es
 on_behind g mid e es after on = subst (λ (q : Guest). IsOnBefore q es) (sym after) on.1
 
-one_run : (ds es : List Entry) (g h k : Guest) (actor : ActorId) (count : ℕ) → Makes g actor ds h → IsOnBefore g ds → All (length ds) count h → Makes g actor es k → IsOnBefore g es → All (length es) count k → h ≡ k
+one_run : (ds es : List Entry) (g h k : Guest) (actor : ActorId) (count : ℕ) → Makes g actor ds h → IsOnBefore g ds
+    → All (length ds) count h → Makes g actor es k → IsOnBefore g es → All (length es) count k → h ≡ k
 one_run [] [] g h k actor count x on_x m y on_y n = sym x ∙ y
 one_run [] (e ∷ es) g h k actor count x on_x m y on_y n =
-    absurd (stopped g (length es) count (subst (λ (q : Guest). All 0 count q) (sym x) m) (sooner (suc (length es)) count k n) on_y.0)
+    absurd (stopped g (length es) count (subst (λ (q : Guest). All 0 count q) (sym x) m)
+    (sooner (suc (length es)) count k n) on_y.0)
 one_run (d ∷ ds) [] g h k actor count x on_x m y on_y n =
-    absurd (stopped g (length ds) count (subst (λ (q : Guest). All 0 count q) (sym y) n) (sooner (suc (length ds)) count h m) on_x.0)
+    absurd (stopped g (length ds) count (subst (λ (q : Guest). All 0 count q) (sym y) n)
+    (sooner (suc (length ds)) count h m) on_x.0)
 one_run (d ∷ ds) (e ∷ es) g h k actor count x on_x m y on_y n =
     let left = some_left (length ds) count h m in
     let rest : ℕ = left.0 in
     let mid : x.1 ≡ y.1 = same_after g x.1 y.1 (record { actor = actor; reply = None }) d e x.2 y.2 in
     let on_ds : IsOnBefore y.1 ds = subst (λ (q : Guest). IsOnBefore q ds) mid (on_behind g x.1 d ds x.2.after on_x) in
-    one_run ds es y.1 h k actor rest (subst (λ (q : Guest). Makes q actor ds h) mid x.3) on_ds (fewer (length ds) rest h (subst (λ (c : ℕ). All (suc (length ds)) c h) left.1 m)) y.3 (on_behind g y.1 e es y.2.after on_y) (fewer (length es) rest k (subst (λ (c : ℕ). All (suc (length es)) c k) left.1 n))
+    one_run ds es y.1 h k actor rest (subst (λ (q : Guest). Makes q actor ds h) mid x.3) on_ds
+    (fewer (length ds) rest h (subst (λ (c : ℕ). All (suc (length ds)) c h) left.1 m)) y.3
+    (on_behind g y.1 e es y.2.after on_y)
+    (fewer (length es) rest k (subst (λ (c : ℕ). All (suc (length es)) c k) left.1 n))
 
-pub several_one : (g h k : Guest) (actor : ActorId) (count : ℕ) (ds es : List Entry) → StepsBy g actor count ds h → StepsBy g actor count es k → h ≡ k
+pub several_one : (g h k : Guest) (actor : ActorId) (count : ℕ) (ds es : List Entry) → StepsBy g actor count ds h
+    → StepsBy g actor count es k → h ≡ k
 several_one g h k actor count ds es x y = one_run ds es g h k actor count x.made x.on x.all y.made y.on y.all

@@ -24,7 +24,8 @@ opens Turn.Fetch r = refl
 opens Turn.Look r = refl
 opens Turn.Idle r = refl
 
-either : (b : Bool) (x y : Doing) → is_hart_op (op_or_idle (asked x)) ≡ true → is_hart_op (op_or_idle (asked y)) ≡ true → is_hart_op (op_or_idle (asked (cond b x y))) ≡ true
+either : (b : Bool) (x y : Doing) → is_hart_op (op_or_idle (asked x)) ≡ true → is_hart_op (op_or_idle (asked y)) ≡ true
+    → is_hart_op (op_or_idle (asked (cond b x y))) ≡ true
 either true x y first second = first
 either false x y first second = second
 
@@ -33,7 +34,8 @@ performs None word r = refl
 performs (Some Lui) word r = refl
 performs (Some Addi) word r = refl
 performs (Some Ecall) word r =
-    let other : Doing = cond ((reg r a7 == system_reset) && (reg r a6 == 0)) (reset r) (Ends (returned not_supported 0 r)) in
+    let other : Doing = cond ((reg r a7 == system_reset) && (reg r a6 == 0)) (reset r)
+    (Ends (returned not_supported 0 r)) in
     either (reg r a7 == legacy_putchar) (putchar r) other refl
     (either ((reg r a7 == system_reset) && (reg r a6 == 0)) (reset r) (Ends (returned not_supported 0 r)) refl refl)
 

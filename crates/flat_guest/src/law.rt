@@ -10,11 +10,16 @@ ghost use Rattle.flat_guest.specs.Steps.{FlatStep, IsUnstamped, StepsBy};
 
 /// An event does one thing: its op, its place, its reply and the guest after it are determined.
 pub fn one_step()
-    ensures op { (g h k : Guest) (event : Event) (d e : Entry) → FlatStep g event d h → FlatStep g event e k → d.op ≡ e.op }
-    ensures place { (g h k : Guest) (event : Event) (d e : Entry) → FlatStep g event d h → FlatStep g event e k → d.place ≡ e.place }
-    ensures reply { (g h k : Guest) (event : Event) (d e : Entry) → FlatStep g event d h → FlatStep g event e k → d.reply ≡ e.reply }
-    ensures after { (g h k : Guest) (event : Event) (d e : Entry) → FlatStep g event d h → FlatStep g event e k → h ≡ k }
-    ensures several { (g h k : Guest) (actor : ActorId) (count : ℕ) (ds es : List Entry) → StepsBy g actor count ds h → StepsBy g actor count es k → h ≡ k }
+    ensures op { (g h k : Guest) (event : Event) (d e : Entry) →
+        FlatStep g event d h → FlatStep g event e k → d.op ≡ e.op }
+    ensures place { (g h k : Guest) (event : Event) (d e : Entry) →
+        FlatStep g event d h → FlatStep g event e k → d.place ≡ e.place }
+    ensures reply { (g h k : Guest) (event : Event) (d e : Entry) →
+        FlatStep g event d h → FlatStep g event e k → d.reply ≡ e.reply }
+    ensures after { (g h k : Guest) (event : Event) (d e : Entry) →
+        FlatStep g event d h → FlatStep g event e k → h ≡ k }
+    ensures several { (g h k : Guest) (actor : ActorId) (count : ℕ) (ds es : List Entry) →
+        StepsBy g actor count ds h → StepsBy g actor count es k → h ≡ k }
 {}
 
 /// A guest that has started is never stuck: each of its actors always has a next event, and so on.

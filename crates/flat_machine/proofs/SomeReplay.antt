@@ -117,17 +117,17 @@ at_once : (judges : List (Option Item)) (m : Machine) (exit : Exit) (number : �
 at_once judges m exit number ends =
     let none_before : number ≡ 0 + number = omega arith in
     record {
-  acts = [];
-  exit = exit;
-  answers = [];
-  last = m;
-  left = judges;
-  lines = refl;
-  on = tt;
-  ran = (refl, refl);
-  good = tt;
-  ends = subst (λ (n : ℕ). IsEnd exit judges n m) none_before ends;
-}
+      acts = [];
+      exit = exit;
+      answers = [];
+      last = m;
+      left = judges;
+      lines = refl;
+      on = tt;
+      ran = (refl, refl);
+      good = tt;
+      ends = subst (λ (n : ℕ). IsEnd exit judges n m) none_before ends;
+    }
 
 some_ends : (judges : List (Option Item)) (m : Machine) (number : ℕ) (off : Bool) → is_off m ≡ off → SoundBy m.guest → Ends judges m number
 some_ends judges m number true off sound = at_once judges m Exit.Done number (inr off)

@@ -25,7 +25,8 @@ judged_script script =
 
 -- the script's first lines are these acts, and the guest is on before each; they answer so, and leave this machine
 -- and these lines
-pub record Plays (script : List ℕ) (start : Machine) (acts : List Act) (answers : List ℕ) (last : Machine) (left : List (Option Item)) : Type 0 where
+pub record Plays (script : List ℕ) (start : Machine) (acts : List Act) (answers : List ℕ) (last : Machine)
+    (left : List (Option Item)) : Type 0 where
   pub lines : judged_script script ≡ lines_done acts ++ left
   pub on : OnBefore acts start
   pub ran : Run acts start answers last
@@ -51,7 +52,8 @@ closed exit m = m
 
 -- From the machine at the start a script's replay comes to this exit, writes this text and leaves this
 -- machine; its lines up to there are these acts.
-pub record IsReplay (script : List ℕ) (start : Machine) (acts : List Act) (exit : Exit) (text : List ℕ) (end : Machine) : Type 0 where
+pub record IsReplay (script : List ℕ) (start : Machine) (acts : List Act) (exit : Exit) (text : List ℕ)
+    (end : Machine) : Type 0 where
   pub answers : List ℕ
   pub last : Machine
   pub left : List (Option Item)

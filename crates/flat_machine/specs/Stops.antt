@@ -36,7 +36,8 @@ StopsInside left part m text n = (part ≡ []) × (text ≡ []) × (n ≡ m)
 
 -- The lines before were answered, and of the next line these first requests, whose text is not written; the last line
 -- says why it stopped.
-pub record IsStopped (script : List ℕ) (start : Machine) (acts : List Act) (part : List Outcome) (exit : Exit) (text : List ℕ) (end : Machine) : Type 0 where
+pub record IsStopped (script : List ℕ) (start : Machine) (acts : List Act) (part : List Outcome) (exit : Exit)
+    (text : List ℕ) (end : Machine) : Type 0 where
   pub answers : List ℕ
   pub last : Machine
   pub left : List (Option Item)

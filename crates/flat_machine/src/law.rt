@@ -14,13 +14,17 @@ pub fn one_run()
 
 /// A replay in which the machine answers every request is determined, by the script and the machine at the start.
 pub fn one_replay()
-    ensures acts { (script : List ℕ) (m n k : Machine) (acts others : List Act) (exit stop : Exit) (t u : List ℕ) → AllAnswered acts → AllAnswered others →
+    ensures acts { (script : List ℕ) (m n k : Machine) (acts others : List Act) (exit stop : Exit) (t u : List ℕ) →
+        AllAnswered acts → AllAnswered others →
         IsReplay script m acts exit t n → IsReplay script m others stop u k → acts ≡ others }
-    ensures exit { (script : List ℕ) (m n k : Machine) (acts others : List Act) (exit stop : Exit) (t u : List ℕ) → AllAnswered acts → AllAnswered others →
+    ensures exit { (script : List ℕ) (m n k : Machine) (acts others : List Act) (exit stop : Exit) (t u : List ℕ) →
+        AllAnswered acts → AllAnswered others →
         IsReplay script m acts exit t n → IsReplay script m others stop u k → exit ≡ stop }
-    ensures text { (script : List ℕ) (m n k : Machine) (acts others : List Act) (exit stop : Exit) (t u : List ℕ) → AllAnswered acts → AllAnswered others →
+    ensures text { (script : List ℕ) (m n k : Machine) (acts others : List Act) (exit stop : Exit) (t u : List ℕ) →
+        AllAnswered acts → AllAnswered others →
         IsReplay script m acts exit t n → IsReplay script m others stop u k → t ≡ u }
-    ensures after { (script : List ℕ) (m n k : Machine) (acts others : List Act) (exit stop : Exit) (t u : List ℕ) → AllAnswered acts → AllAnswered others →
+    ensures after { (script : List ℕ) (m n k : Machine) (acts others : List Act) (exit stop : Exit) (t u : List ℕ) →
+        AllAnswered acts → AllAnswered others →
         IsReplay script m acts exit t n → IsReplay script m others stop u k → n ≡ k }
 {}
 
@@ -28,5 +32,6 @@ pub fn one_replay()
 /// is never stuck.
 pub fn some_replay()
     ensures { (script id : List ℕ) (saved : Saved) →
-        (acts : List Act) × (exit : Exit) × (text : List ℕ) × (end : Machine) × AllAnswered acts × IsReplay script (new_machine id saved) acts exit text end }
+        (acts : List Act) × (exit : Exit) × (text : List ℕ) × (end : Machine) × AllAnswered acts
+        × IsReplay script (new_machine id saved) acts exit text end }
 {}

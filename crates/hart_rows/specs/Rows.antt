@@ -1,5 +1,6 @@
 -- The instructions, one row for each: mask, match, and a formula in whole numbers modulo 2 ^ 64.
-use Rattle.std.specs.Prelude.{ℕ, ◌+◌, ◌-◌, ◌*◌, ◌/◌, ◌%◌, ◌^◌, ◌==◌, nat_lt, if◌then◌else◌, List, [], ◌∷◌, Option, Some, None, bit_and}
+use Rattle.std.specs.Prelude.{ℕ, ◌+◌, ◌-◌, ◌*◌, ◌/◌, ◌%◌, ◌^◌, ◌==◌, nat_lt, if◌then◌else◌, bit_and}
+use Rattle.std.specs.Prelude.{List, [], ◌∷◌, Option, Some, None}
 use Rattle.hart_rows.specs.declared.regs.Regs.{Regs}
 use Rattle.hart_rows.specs.declared.kind.Kind.{Kind}
 use Rattle.hart_rows.specs.declared.kind.Kind.TheVariants.{Lui, Addi, Ecall}

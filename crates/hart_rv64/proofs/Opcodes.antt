@@ -28,20 +28,29 @@ whole_word w short =
     let small : w % 2 ^ 32 ≡ w = omega arith in
     mask ∙ small
 
-pub none_is : (w : ℕ) → w < 2 ^ 32 → (bit_and w 127 ≡ 55 → ⊥) → (bit_and w 28799 ≡ 19 → ⊥) → (w ≡ 115 → ⊥) → None ≡ kind_of w
+pub none_is : (w : ℕ) → w < 2 ^ 32 → (bit_and w 127 ≡ 55 → ⊥) → (bit_and w 28799 ≡ 19 → ⊥) → (w ≡ 115 → ⊥)
+    → None ≡ kind_of w
 unfolding kind_of
 none_is w short not_lui not_addi not_ecall =
-    rw (ne_eqb (bit_and w 127) 55 not_lui, ne_eqb (bit_and w 28799) 19 not_addi, whole_word w short, ne_eqb w 115 not_ecall) refl
+    rw (
+      ne_eqb (bit_and w 127) 55 not_lui,
+      ne_eqb (bit_and w 28799) 19 not_addi,
+      whole_word w short,
+      ne_eqb w 115
+          not_ecall,
+    ) refl
 
 -- with the opcode of an ADDI, or of an ECALL, or of neither
 pub no_addi : (w : ℕ) → w < 2 ^ 32 → bit_and w 127 ≡ 19 → (bit_and w 28799 ≡ 19 → ⊥) → None ≡ kind_of w
 no_addi w short opcode not_addi =
-    none_is w short (λ is. omega arith) not_addi (λ is. let e : bit_and w 127 ≡ bit_and 115 127 = ap (λ n. bit_and n 127) is in omega arith)
+    none_is w short (λ is. omega arith) not_addi
+    (λ is. let e : bit_and w 127 ≡ bit_and 115 127 = ap (λ n. bit_and n 127) is in omega arith)
 
 pub no_ecall : (w : ℕ) → w < 2 ^ 32 → bit_and w 127 ≡ 115 → (w ≡ 115 → ⊥) → None ≡ kind_of w
 no_ecall w short opcode not_ecall =
     none_is w short (λ is. omega arith) (λ is. let e = addi_opcode w is in omega arith) not_ecall
 
-pub no_opcode : (w : ℕ) → w < 2 ^ 32 → (bit_and w 127 ≡ 55 → ⊥) → (bit_and w 127 ≡ 19 → ⊥) → (bit_and w 127 ≡ 115 → ⊥) → None ≡ kind_of w
+pub no_opcode : (w : ℕ) → w < 2 ^ 32 → (bit_and w 127 ≡ 55 → ⊥) → (bit_and w 127 ≡ 19 → ⊥) → (bit_and w 127 ≡ 115 → ⊥)
+    → None ≡ kind_of w
 no_opcode w short not_lui not_addi not_ecall =
     none_is w short not_lui (λ is. not_addi (addi_opcode w is)) (λ is. not_ecall (ap (λ n. bit_and n 127) is))

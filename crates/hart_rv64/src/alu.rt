@@ -62,7 +62,8 @@ pub fn lui(regs: &mut Regs, word: u32)
 
 /// ADDI: a register and an immediate of 12 bits, modulo 2^64.
 pub fn addi(regs: &mut Regs, word: u32)
-    ensures { regs.new ≡ finished (with_reg regs.old (rd_of word) ((reg regs.old (rs1_of word) + immediate word) % 2 ^ 64)) }
+    ensures { let sum = (reg regs.old (rs1_of word) + immediate word) % 2 ^ 64 in
+        regs.new ≡ finished (with_reg regs.old (rd_of word) sum) }
 {
     let sum = get(regs, rs1(word)).wrapping_add(lower(word));
     put(regs, rd(word), sum);

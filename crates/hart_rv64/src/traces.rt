@@ -18,7 +18,9 @@ fn is_answered(op: &Op, step: &Step) -> bool
 /// The op that continues the steps of a hart that began with these registers, or `None` where no trace begins with
 /// them: what a hart wants once it was answered as the steps say.
 pub fn op_after(start: &Regs, steps: &[Step]) -> Option<Op>
-    ensures { MatchOption result ((op : Op) → Continues start.now steps.now op → ⊥) (λ op. Continues start.now steps.now op) }
+    ensures { MatchOption result
+        ((op : Op) → Continues start.now steps.now op → ⊥)
+        (λ op. Continues start.now steps.now op) }
 {
     let mut hart = Hart::with_regs(*start);
     for step in steps {

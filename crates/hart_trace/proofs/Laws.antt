@@ -1,5 +1,6 @@
 -- The first step of what may still come has the op that is wanted, and what is after it may come after the reply.
-use Rattle.std.proofs.Common.{◌≡◌, refl, sym, ap, subst, ◌∙◌, Bool, true, false, if◌then◌else◌, List, [], ◌∷◌, ◌++◌, MatchBool}
+use Rattle.std.proofs.Common.{◌≡◌, refl, sym, ap, subst, ◌∙◌, Bool, true, false, if◌then◌else◌, List, [], ◌∷◌, ◌++◌}
+use Rattle.std.proofs.Common.{MatchBool}
 use Rattle.hart_rows.specs.declared.regs.Regs.{Regs}
 use Rattle.vm_types.specs.declared.op.Op.{Op}
 use Rattle.vm_types.specs.declared.op.BoardOp.{BoardOp}
@@ -24,34 +25,50 @@ Headed d (e ∷ es) end = (e.op ≡ doing_wants d) × Fits e.op e.reply × Rest 
 fits_of : (a b : Op) (reply : Reply) → a ≡ b → Fits b reply → Fits a reply
 fits_of a b reply e f = subst (λ o. Fits o reply) (sym e) f
 
-asks_tail : (op : Op) (ends : Reply → Regs) (e : Step) (es : List Step) (groups : List (List Step)) (after end : Regs) → Lead after groups end → (b : Bool) → MatchBool b (Completes (Asks op ends) es after) ((es ≡ []) × (ends e.reply ≡ after)) → Rest (if b then Asks op ends else Ends (ends e.reply)) (es ++ joined groups) end
+asks_tail : (op : Op) (ends : Reply → Regs) (e : Step) (es : List Step) (groups : List (List Step)) (after end : Regs)
+    → Lead after groups end → (b : Bool)
+    → MatchBool b (Completes (Asks op ends) es after) ((es ≡ []) × (ends e.reply ≡ after))
+    → Rest (if b then Asks op ends else Ends (ends e.reply)) (es ++ joined groups) end
 asks_tail op ends e es groups after end lead true m = (es, groups, after, m, lead, refl)
 asks_tail op ends e es groups after end lead false m = (es, groups, after, m, lead, refl)
 
-group_head : (r : Regs) (g : List Step) (groups : List (List Step)) (after end : Regs) → Group r g after → Lead after groups end → Headed (Ends r) (g ++ joined groups) end
+group_head : (r : Regs) (g : List Step) (groups : List (List Step)) (after end : Regs) → Group r g after
+    → Lead after groups end → Headed (Ends r) (g ++ joined groups) end
 group_head r [] groups after end group lead = absurd group
 group_head r (e ∷ es) groups after end group lead = (group.0, group.1, (es, groups, after, group.2, lead, refl))
 
-lead_head : (r : Regs) (groups : List (List Step)) (end : Regs) → Lead r groups end → Headed (Ends r) (joined groups) end
+lead_head : (r : Regs) (groups : List (List Step)) (end : Regs) → Lead r groups end
+    → Headed (Ends r) (joined groups) end
 lead_head r [] end lead = tt
 lead_head r (g ∷ groups) end lead = group_head r g groups lead.0 end lead.1 lead.2
 
-parts_head : (d : Doing) (first : List Step) (groups : List (List Step)) (after end : Regs) → Completes d first after → Lead after groups end → Headed d (first ++ joined groups) end
+parts_head : (d : Doing) (first : List Step) (groups : List (List Step)) (after end : Regs) → Completes d first after
+    → Lead after groups end → Headed d (first ++ joined groups) end
 parts_head (Asks op ends) [] groups after end acts lead = absurd acts
-parts_head (Asks op ends) (e ∷ es) groups after end acts lead =
-    (acts.0, fits_of e.op op e.reply acts.0 acts.1, asks_tail op ends e es groups after end lead (is_full e.reply) acts.2)
+parts_head (Asks op ends) (e ∷ es) groups after end acts lead = (
+  acts.0,
+  fits_of e.op op e.reply acts.0 acts.1,
+  asks_tail op ends e es groups after end lead (is_full e.reply)
+      acts.2,
+)
 parts_head (Ends r) first groups after end acts lead =
-    subst (λ xs. Headed (Ends r) (xs ++ joined groups) end) (sym acts.0) (lead_head r groups end (subst (λ q. Lead q groups end) (sym acts.1) lead))
+    subst (λ xs. Headed (Ends r) (xs ++ joined groups) end) (sym acts.0)
+    (lead_head r groups end (subst (λ q. Lead q groups end) (sym acts.1) lead))
 
 pub headed : (d : Doing) (es : List Step) (end : Regs) → Rest d es end → Headed d es end
 headed d es end r = subst (λ xs. Headed d xs end) r.5 (parts_head d r.0 r.1 r.2 end r.3 r.4)
 
-asks_back : (op : Op) (ends : Reply → Regs) (e : Step) (es : List Step) (end : Regs) (b : Bool) → Rest (if b then Asks op ends else Ends (ends e.reply)) es end → (first : List Step) × (groups : List (List Step)) × (after : Regs) × MatchBool b (Completes (Asks op ends) first after) ((first ≡ []) × (ends e.reply ≡ after)) × Lead after groups end × (first ++ joined groups ≡ es)
+asks_back : (op : Op) (ends : Reply → Regs) (e : Step) (es : List Step) (end : Regs) (b : Bool)
+    → Rest (if b then Asks op ends else Ends (ends e.reply)) es end
+    → (first : List Step) × (groups : List (List Step)) × (after : Regs) × MatchBool b
+    (Completes (Asks op ends) first after) ((first ≡ []) × (ends e.reply ≡ after)) × Lead after groups end ×
+    (first ++ joined groups ≡ es)
 asks_back op ends e es end true r = r
 asks_back op ends e es end false r = r
 
 -- and back: a step of the wanted op with a fitting reply goes before what may come after the reply
-pub unheaded : (d : Doing) (e : Step) (es : List Step) (end : Regs) → e.op ≡ doing_wants d → Fits e.op e.reply → Rest (doing_next d e.reply) es end → Rest d (e ∷ es) end
+pub unheaded : (d : Doing) (e : Step) (es : List Step) (end : Regs) → e.op ≡ doing_wants d → Fits e.op e.reply
+    → Rest (doing_next d e.reply) es end → Rest d (e ∷ es) end
 unheaded (Asks op ends) e es end is fits r =
     let t = asks_back op ends e es end (is_full e.reply) r in
     (e ∷ t.0, t.1, t.2, (is, fits_of op e.op e.reply (sym is) fits, t.3), t.4, ap (λ xs. e ∷ xs) t.5)
@@ -73,7 +90,8 @@ abbrev idle_queue : QueueShown
 idle_queue = record { descriptors = 0; available = 0; used = 0; size = 0; is_ready = false; is_kicked = false }
 
 abbrev pub port_settled : PortOp → Reply
-port_settled port.Look = Reply.Port (record { first = idle_queue; second = idle_queue; third = idle_queue; status = 0; was_reset = false })
+port_settled port.Look = Reply.Port
+    (record { first = idle_queue; second = idle_queue; third = idle_queue; status = 0; was_reset = false })
 port_settled (port.Interrupt causes) = Reply.Done
 port_settled port.Break = Reply.Word 0
 
@@ -168,17 +186,25 @@ pub some_rest : (d : Doing) → (es : List Step) × (end : Regs) × Rest d es en
 some_rest (Ends r) = ([], r, rest_nothing r)
 some_rest (Asks op ends) =
     let e : Step = record { op = op; reply = settled op } in
-    let end = ends (settled op) in
-    (e ∷ [], end, unheaded (Asks op ends) e [] end refl (fits-settled op) (subst (λ b. Rest (if b then Asks op ends else Ends end) [] end) (sym (is_full-settled op)) (rest_nothing end)))
+    let end = ends (settled op) in (
+      e ∷ [],
+      end,
+      unheaded (Asks op ends) e [] end refl (fits-settled op)
+          (subst (λ b. Rest (if b then Asks op ends else Ends end) [] end) (sym (is_full-settled op))
+          (rest_nothing end)),
+    )
 
 -- two steps that may come after the same steps have one op
-pub unique : (d : Doing) (es : List Step) (a b : Step) (m n : List Step) (x y : Regs) → Rest d (es ++ a ∷ m) x → Rest d (es ++ b ∷ n) y → a.op ≡ b.op
+pub unique : (d : Doing) (es : List Step) (a b : Step) (m n : List Step) (x y : Regs) → Rest d (es ++ a ∷ m) x
+    → Rest d (es ++ b ∷ n) y → a.op ≡ b.op
 unique d [] a b m n x y r s = (headed d (a ∷ m) x r).0 ∙ sym (headed d (b ∷ n) y s).0
 unique d (e ∷ es) a b m n x y r s =
-    unique (doing_next d e.reply) es a b m n x y (headed d (e ∷ (es ++ a ∷ m)) x r).2 (headed d (e ∷ (es ++ b ∷ n)) y s).2
+    unique (doing_next d e.reply) es a b m n x y (headed d (e ∷ (es ++ a ∷ m)) x r).2
+    (headed d (e ∷ (es ++ b ∷ n)) y s).2
 
 -- any other fitting reply may come in the place of the one that came
-pub other_reply : (d : Doing) (es : List Step) (a b : Step) (m : List Step) (x : Regs) → Rest d (es ++ a ∷ m) x → b.op ≡ a.op → Fits b.op b.reply → (n : List Step) × (y : Regs) × Rest d (es ++ b ∷ n) y
+pub other_reply : (d : Doing) (es : List Step) (a b : Step) (m : List Step) (x : Regs) → Rest d (es ++ a ∷ m) x
+    → b.op ≡ a.op → Fits b.op b.reply → (n : List Step) × (y : Regs) × Rest d (es ++ b ∷ n) y
 other_reply d [] a b m x r same fits =
     let t = some_rest (doing_next d b.reply) in
     (t.0, t.1, unheaded d b t.0 t.1 (same ∙ (headed d (a ∷ m) x r).0) fits t.2)
@@ -188,7 +214,8 @@ other_reply d (e ∷ es) a b m x r same fits =
     (t.0, t.1, unheaded d e (es ++ b ∷ t.0) t.1 h.0 h.1 t.2)
 
 -- after steps that may come there is an op that may come next
-pub some_next : (d : Doing) (es more : List Step) (x : Regs) → Rest d (es ++ more) x → (a : Step) × (n : List Step) × (y : Regs) × Rest d (es ++ a ∷ n) y
+pub some_next : (d : Doing) (es more : List Step) (x : Regs) → Rest d (es ++ more) x
+    → (a : Step) × (n : List Step) × (y : Regs) × Rest d (es ++ a ∷ n) y
 some_next d [] more x r =
     let e : Step = record { op = doing_wants d; reply = settled (doing_wants d) } in
     let t = some_rest (doing_next d e.reply) in

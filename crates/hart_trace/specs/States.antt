@@ -70,7 +70,8 @@ abbrev pub Begins : Regs → ℕ → List Step → Type 0
 Begins r word [] = ⊥
 Begins r word (s ∷ steps) =
     (r.turn ≡ Turn.Fetch)
-    × (piece : List ℕ) × (s ≡ record { op = Op.Read r.pc 4; reply = Reply.Bytes piece }) × (length piece ≡ 4) × (word_of piece ≡ word)
+    × (piece : List ℕ) × (s ≡ record { op = Op.Read r.pc 4; reply = Reply.Bytes piece })
+    × (length piece ≡ 4) × (word_of piece ≡ word)
     × (op : Op) × (asked (does word r) ≡ Some op) × Waits op steps
 
 abbrev pub BegunBy : Option ℕ → Regs → List Step → Type 0

@@ -1,5 +1,6 @@
 -- A hart's trace: whole groups of steps, each leading from the registers before it to those after it.
-use Rattle.std.specs.Prelude.{ℕ, ◌≡◌, ◌+◌, ◌*◌, ◌/◌, ◌^◌, Bool, true, false, List, [], ◌∷◌, ◌++◌, MatchBool, slice_index}
+use Rattle.std.specs.Prelude.{ℕ, ◌≡◌, ◌+◌, ◌*◌, ◌/◌, ◌^◌, Bool, true, false, MatchBool}
+use Rattle.std.specs.Prelude.{List, [], ◌∷◌, ◌++◌, slice_index}
 use Rattle.vm_types.specs.declared.op.Op.{Op}
 use Rattle.vm_types.specs.declared.op.BoardOp.TheVariants as board
 use Rattle.vm_types.specs.declared.reply.Reply.{Reply}

@@ -11,21 +11,31 @@ ghost use Rattle.hart_trace.specs.States.{Hart, LeadsTo, fresh, hart_next, hart_
 
 /// Traces: one op continues steps that go on to a trace, and with every fitting reply to it they go on.
 pub fn one_op()
-    ensures one { (start : Regs) (steps : List Step) (a b : Op) → Continues start steps a → Continues start steps b → a ≡ b }
+    ensures one { (start : Regs) (steps : List Step) (a b : Op) →
+        Continues start steps a → Continues start steps b → a ≡ b }
     ensures some { (start : Regs) (steps : List Step) → IsPrefix start steps → (op : Op) × Continues start steps op }
-    ensures any { (start : Regs) (steps : List Step) (op : Op) (reply : Reply) → Continues start steps op → fits op reply ≡ true → IsPrefix start (steps ++ record { op = op; reply = reply } ∷ []) }
+    ensures any { (start : Regs) (steps : List Step) (op : Op) (reply : Reply) →
+        Continues start steps op → fits op reply ≡ true →
+        IsPrefix start (steps ++ record { op = op; reply = reply } ∷ []) }
 {}
 
 /// Harts: where steps lead to a hart, its want is the op that continues them, and with a fitting reply
 /// they lead to the next hart.
 pub fn hart_follows()
     ensures begins { (start : Regs) → LeadsTo start [] (fresh start) }
-    ensures prefix { (start : Regs) (steps : List Step) (hart : Hart) → LeadsTo start steps hart → IsPrefix start steps }
-    ensures some { (start : Regs) (steps : List Step) → IsPrefix start steps → (hart : Hart) × LeadsTo start steps hart }
-    ensures wants { (start : Regs) (steps : List Step) (hart : Hart) → LeadsTo start steps hart → Continues start steps (hart_wants hart) }
-    ensures only { (start : Regs) (steps : List Step) (hart : Hart) (op : Op) → LeadsTo start steps hart → Continues start steps op → op ≡ hart_wants hart }
-    ensures one { (start : Regs) (steps : List Step) (hart other : Hart) → LeadsTo start steps hart → LeadsTo start steps other → hart ≡ other }
-    ensures goes_on { (start : Regs) (steps : List Step) (hart : Hart) (reply : Reply) → LeadsTo start steps hart → fits (hart_wants hart) reply ≡ true → LeadsTo start (steps ++ record { op = hart_wants hart; reply = reply } ∷ []) (hart_next hart reply) }
+    ensures prefix { (start : Regs) (steps : List Step) (hart : Hart) →
+        LeadsTo start steps hart → IsPrefix start steps }
+    ensures some { (start : Regs) (steps : List Step) →
+        IsPrefix start steps → (hart : Hart) × LeadsTo start steps hart }
+    ensures wants { (start : Regs) (steps : List Step) (hart : Hart) →
+        LeadsTo start steps hart → Continues start steps (hart_wants hart) }
+    ensures only { (start : Regs) (steps : List Step) (hart : Hart) (op : Op) →
+        LeadsTo start steps hart → Continues start steps op → op ≡ hart_wants hart }
+    ensures one { (start : Regs) (steps : List Step) (hart other : Hart) →
+        LeadsTo start steps hart → LeadsTo start steps other → hart ≡ other }
+    ensures goes_on { (start : Regs) (steps : List Step) (hart : Hart) (reply : Reply) →
+        LeadsTo start steps hart → fits (hart_wants hart) reply ≡ true →
+        LeadsTo start (steps ++ record { op = hart_wants hart; reply = reply } ∷ []) (hart_next hart reply) }
 {}
 
 /// Harts want no act on a host object and none on a port, and read whole instruction words.

@@ -8,7 +8,8 @@ use Rattle.std.specs.Option.{is_some, option_to_list, option_copied}
 use Rattle.std.specs.Prelude.{codes, nat_lt, ◌||◌}
 use Rattle.httparse.specs.declared.spans.HeaderSpan.{HeaderSpan}
 use Rattle.httparse.specs.Spans.{header_bytes}
-use Rattle.http_front.specs.Body.{Header, body_length, is_named, length_of}
+use Rattle.refusals.specs.declared.refusal.Refusal.TheVariants as refusal
+use Rattle.http_stream.specs.Body.{Header, body_length, is_named, length_of}
 use Rattle.http_front.specs.Told.{is_named_at, value_at}
 use Rattle.std.proofs.lemmas.Bool.Decides.{nat_tests}
 
@@ -28,7 +29,7 @@ one_more p g xs i x h t =
 -- with the value that was found before
 pub second_found : {X : Type 0} (p : X → Bool) (g : X → List ℕ) (xs : List X) (i : ℕ) (x : X) (found : Option (Bor (List ℕ))) → i < length xs
     → map g (filter p (take i xs)) ≡ option_to_list (option_copied found) → is_some found ≡ true
-    → p (get_or xs i x) ≡ true → length_of (map g (filter p xs)) ≡ Err 9
+    → p (get_or xs i x) ≡ true → length_of (map g (filter p xs)) ≡ Err refusal.BadHead
 second_found p g xs i x None h e s t = cc
 second_found p g xs i x (Some v) h e s t =
     let more : map g (filter p (take (i + 1) xs)) ≡ v.now ∷ g (get_or xs i x) ∷ []
@@ -68,14 +69,14 @@ values_of : {X : Type 0} (f : X → Header) (p : Header → Bool) (xs : List X)
 values_of f p [] = refl
 values_of f p (x ∷ xs) = one_value f p x xs (p (f x)) refl (values_of f p xs)
 
-pub too_many : (front : List ℕ) (spans : List HeaderSpan) → 32 < length spans → Err 9 ≡ body_length (map (header_bytes front) spans)
+pub too_many : (front : List ℕ) (spans : List HeaderSpan) → 32 < length spans → Err refusal.BadHead ≡ body_length (map (header_bytes front) spans)
 unfolding body_length
 too_many front spans many =
     let t : nat_lt 32 (length (map (header_bytes front) spans)) ≡ true = rw (length-map spans (header_bytes front)) (grind (arith, nat_tests)) in
     rw (t) refl
 
 pub encoded : (front : List ℕ) (spans : List HeaderSpan) → list_any (is_named_at (codes "transfer-encoding") front) spans ≡ true
-    → Err 9 ≡ body_length (map (header_bytes front) spans)
+    → Err refusal.BadHead ≡ body_length (map (header_bytes front) spans)
 unfolding body_length
 encoded front spans t = rw (any_of (header_bytes front) (is_named (codes "transfer-encoding")) spans, t, or_true (nat_lt 32 (length (map (header_bytes front) spans)))) refl
   where

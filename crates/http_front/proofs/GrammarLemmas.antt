@@ -8,7 +8,7 @@ use Rattle.std.specs.List.{AllByRecursion}
 use Rattle.std.proofs.lemmas.Bool.Decides.{eqb_tells}
 use Rattle.httparse.specs.Grammar.{is_token_byte, is_uri_byte, LineEnd, crlf, lf, print_end, print_blank, Field, print_field, IsField, RequestHead, print_request, IsRequestHead, EndsInTarget}
 use Rattle.httparse.specs.Spans.{RequestExceeds}
-use Rattle.http_front.specs.Stream.{is_line_byte, has_line}
+use Rattle.http_stream.specs.Stream.{is_line_byte, has_line}
 
 -- ---- how long
 
@@ -33,10 +33,6 @@ head_length h is =
     let a : 3 * length h.fields ≤ length (flat_map print_field h.fields)
     = lines_length h.fields (recursion_from_All IsField h.fields is.fields) in
     simp (length-append) (omega arith)
-
-pub head_has_bytes : (h : RequestHead) → 0 < length (print_request h)
-unfolding print_request
-head_has_bytes h = simp (length-append) (omega arith)
 
 -- so few bytes have no room for so many headers
 pub not_exceeds : (room : ℕ) (front : List ℕ) → length front ≤ 8192 → 2731 ≤ room → RequestExceeds room front → ⊥

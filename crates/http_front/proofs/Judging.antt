@@ -1,7 +1,7 @@
 -- The five rules, at each exit of the code.
 use Rattle.std.proofs.Common.{◌≡◌, ℕ, ◌+◌, ◌<◌, ◌≤◌, inl, inr, true, false, List, [], ◌++◌, length, take, drop, min, length-drop, length-append, ◌-◌, refl, sym, ap, subst, ◌∙◌, arith, Ok, Err}
 use Rattle.std.specs.Prelude.{IsUtf8}
-use Rattle.std.proofs.lemmas.List.{take_all, append-nil, drop-drop, length-take}
+use Rattle.std.proofs.lemmas.List.{take_all, drop-drop, length-take}
 use Rattle.std.proofs.lemmas.Str.{IsUtf8-from_ascii}
 use Rattle.std.proofs.lemmas.Str.Ascii.{IsAscii-from_all}
 use Rattle.httparse.specs.declared.Error.{Error}
@@ -11,14 +11,14 @@ use Rattle.std.proofs.lemmas.Bool.{cases_lt, lt-leb, le-leb}
 use Rattle.std.proofs.lemmas.Bool.Decides.{nat_tests}
 use Rattle.httparse.specs.Grammar.{is_token_byte, IsToken, RequestHead, print_request, ReadsRequest, HasNoRequest, NeverHasRequest, MayBecomeRequest}
 use Rattle.httparse.specs.Spans.{RequestExceeds}
-use Rattle.http_front.specs.declared.request.Next.TheVariants as next
-use Rattle.http_front.specs.Body.{Header, body_length}
+use Rattle.refusals.specs.declared.refusal.Refusal.{Refusal}
+use Rattle.refusals.specs.declared.refusal.Refusal.TheVariants as refusal
+use Rattle.http_stream.specs.declared.request.Next.TheVariants as next
+use Rattle.http_stream.specs.Body.{Header, body_length}
 use Rattle.http_front.specs.Told.{taking, TellsOf}
-use Rattle.http_front.specs.Stream.{window, is_early, has_line, headers_of, waits, refused, by_head, Judged, too_long, hopeless, unfinished, head, Answer}
+use Rattle.http_stream.specs.Stream.{window, is_early, has_line, headers_of, waits, refused, by_head, Judged, too_long, hopeless, unfinished, head, Answer}
+use Rattle.http_stream.proofs.CutLemmas.{window_is, no_request}
 use Rattle.http_front.proofs.GrammarLemmas.{in_target_no_line}
-
-pub window_is : (s : List ℕ) → length s ≤ 8192 → window s ≡ s
-window_is s h = take_all 8192 s h
 
 pub judged_unfinished : (s : List ℕ) → is_early s ≡ false → length s ≤ 8192 → HasNoRequest (window s) → MayBecomeRequest (window s)
     → Judged s (waits s)
@@ -30,13 +30,10 @@ judged_unfinished s late short none may =
           let t : is_early s ≡ true = grind (arith, nat_tests) in cc
     ]
 
-pub no_request : (s : List ℕ) → NeverHasRequest s → HasNoRequest s
-no_request s never = subst HasNoRequest (append-nil s) (never [])
-
-pub judged_too_long : (s : List ℕ) → 8192 < length s → HasNoRequest (window s) → Judged s (refused 9)
+pub judged_too_long : (s : List ℕ) → 8192 < length s → HasNoRequest (window s) → Judged s (refused refusal.BadHead)
 judged_too_long s long none = too_long none long refl
 
-pub judged_hopeless : (s : List ℕ) → is_early s ≡ false → NeverHasRequest (window s) → Judged s (refused 9)
+pub judged_hopeless : (s : List ℕ) → is_early s ≡ false → NeverHasRequest (window s) → Judged s (refused refusal.BadHead)
 judged_hopeless s late never = elim (cases_lt 8192 (length s)) [
   | inl long ↦ too_long (no_request (window s) never) long refl
   | inr short ↦ hopeless late short (subst NeverHasRequest (window_is s short) never) refl
@@ -48,7 +45,7 @@ judged_head s h rest a late reads e = head h rest late reads e
 
 -- ---- what a head gives
 
-pub head_refused : (s : List ℕ) (h : RequestHead) (hs : List Header) (n : ℕ) → hs ≡ headers_of h → Err n ≡ body_length hs
+pub head_refused : (s : List ℕ) (h : RequestHead) (hs : List Header) (n : Refusal) → hs ≡ headers_of h → Err n ≡ body_length hs
     → refused n ≡ by_head s h
 head_refused s h hs n e f = rw (← e, ← f) refl
 

@@ -1,6 +1,6 @@
 pub mod BodyLemmas
-pub mod CutLemmas
 pub mod GrammarLemmas
 pub mod Judging
+pub mod LoopLemmas
 pub mod Replies
 pub mod TooFew

@@ -3,7 +3,7 @@ use Rattle.std.proofs.Common.{◌≡◌, ℕ, ◌<◌, ◌≤◌, ◌&&◌, true
 use Rattle.std.specs.Prelude.{nat_le, nat_lt, unwrap_or, option_map}
 use Rattle.std.proofs.lemmas.Bool.Decides.{nat_tests}
 use Rattle.http.specs.StatusCode.{reason_phrase}
-use Rattle.http_front.specs.Reply.{phrase}
+use Rattle.http_stream.specs.Reply.{phrase}
 
 in_range : (n : ℕ) → 100 ≤ n → n < 1000 → (nat_le 100 n && nat_lt n 1000) ≡ true
 in_range n low high = grind (arith, nat_tests)

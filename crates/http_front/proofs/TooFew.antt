@@ -2,12 +2,12 @@
 use Rattle.std.proofs.Common.{◌≡◌, ℕ, ◌+◌, ◌-◌, ◌≤◌, Bool, false, List, [], ◌∷◌, ◌++◌, length, take, drop, refl, sym, ap, subst, ◌∙◌, arith, append_assoc, length-append, length-drop}
 use Rattle.std.proofs.lemmas.List.{append-nil, take_all}
 use Rattle.httparse.specs.Grammar.{RequestHead, ReadsRequest}
-use Rattle.http_front.specs.declared.request.Next.{Next}
-use Rattle.http_front.specs.declared.request.Next.TheVariants as next
-use Rattle.http_front.specs.Stream.{window, is_early, waits, Judged, early}
+use Rattle.http_stream.specs.declared.request.Next.{Next}
+use Rattle.http_stream.specs.declared.request.Next.TheVariants as next
+use Rattle.http_stream.specs.Stream.{window, is_early, waits, Judged, early}
 use Rattle.http_front.specs.Told.{AreTooFew, Tells, TellsOf}
 use Rattle.http_front.proofs.Judging.{head_is_judged}
-use Rattle.http_front.proofs.CutLemmas.{head_stays}
+use Rattle.http_stream.proofs.CutLemmas.{head_stays}
 
 -- a stream that waits does so with these bytes or fewer
 pub too_few_here : (s : List ℕ) → Judged s (waits s) → AreTooFew s (length s)

@@ -1,5 +1,2 @@
-pub mod Body
-pub mod Cuts
-pub mod Reply
-pub mod Stream
+pub mod Loops
 pub mod Told

@@ -4,12 +4,12 @@ use Rattle.httparse.specs.declared.spans.HeaderSpan.{HeaderSpan}
 use Rattle.httparse.specs.declared.spans.RequestSpans.{RequestSpans}
 use Rattle.httparse.specs.Grammar.{RequestHead, HasNoRequest, NeverHasRequest, MayBecomeRequest}
 use Rattle.httparse.specs.Spans.{IsRequestAt, IsRequestOf, IsRequestWithin, header_bytes, span_bytes}
-use Rattle.http_front.specs.Body.{is_named}
+use Rattle.http_stream.specs.Body.{is_named}
 use Rattle.http_front.specs.declared.head.Search.{Search}
 use Rattle.http_front.specs.declared.head.Search.TheVariants.{Found, Unfinished, Hopeless}
-use Rattle.http_front.specs.declared.request.Next.{Next}
-use Rattle.http_front.specs.declared.request.Next.TheVariants as next
-use Rattle.http_front.specs.Stream.{Answer, Judged, by_head, refused, waits}
+use Rattle.http_stream.specs.declared.request.Next.{Next}
+use Rattle.http_stream.specs.declared.request.Next.TheVariants as next
+use Rattle.http_stream.specs.Stream.{Answer, Judged, by_head, refused, waits}
 
 -- the header that the spans cover has that name
 abbrev pub is_named_at : List ℕ → List ℕ → HeaderSpan → Bool
@@ -37,14 +37,14 @@ taking stream n used = record { next = n; after = record { pending = drop used s
 abbrev pub Tells : List ℕ → Next → ℕ → Type 0
 Tells stream (next.Request r) count = (count ≤ length stream) × Judged stream (taking stream (next.Request r) count)
 Tells stream next.None count = (length stream ≤ count) × AreTooFew stream count
-Tells stream (next.Bad n) count = Judged stream (refused n)
+Tells stream (next.Bad why) count = Judged stream (refused why)
 
 -- the same of a stream whose head is h
 abbrev pub TellsOf : List ℕ → RequestHead → Next → ℕ → Type 0
 TellsOf stream h (next.Request r) count = (count ≤ length stream) × (taking stream (next.Request r) count ≡ by_head stream h)
 TellsOf stream h next.None count =
     (length stream ≤ count) × ((more : List ℕ) → length (stream ++ more) ≤ count → waits (stream ++ more) ≡ by_head (stream ++ more) h)
-TellsOf stream h (next.Bad n) count = refused n ≡ by_head stream h
+TellsOf stream h (next.Bad why) count = refused why ≡ by_head stream h
 
 -- the same of any head that the spans are those of
 abbrev pub TellsByHead : List ℕ → List HeaderSpan → RequestSpans → List ℕ → Next → ℕ → Type 0

@@ -2,29 +2,25 @@
 ghost use Rattle.std.specs.Prelude.{◌≡◌, ◌≤◌, length, map, codes, All, IfOk};
 ghost use Rattle.std.specs.List.{filter, list_any};
 ghost use Rattle.httparse.specs.Spans.{IsHeaderWithin, header_bytes};
-ghost use Rattle.http_front.specs.Body.{body_length, length_of, length_value};
+ghost use Rattle.http_stream.specs.Body.{body_length, length_of, length_value};
 ghost use Rattle.http_front.specs.Told.{is_named_at, value_at};
 
 use httparse::spans::HeaderSpan;
+use refusals::Refusal;
 
 const MOST_HEADERS: usize = 32;
 
 const LONGEST_BODY: usize = 65_536;
 
-/// The number of the refusal of a head.
-pub const BAD_HEAD: u8 = 9;
-
-const TOO_LARGE: u8 = 8;
-
-/// The length of the body in bytes, or the number of the refusal: 9 for too many headers, any
-/// Transfer-Encoding, a second Content-Length or one that is no decimal number, and 8 for too large a body.
-pub fn body_length(front: &[u8], spans: &[HeaderSpan]) -> Result<usize, u8>
+/// The length of the body in bytes, or the refusal: `BadHead` for too many headers, any Transfer-Encoding, a second
+/// Content-Length or one that is no decimal number, and `TooLarge` for too large a body.
+pub fn body_length(front: &[u8], spans: &[HeaderSpan]) -> Result<usize, Refusal>
     requires { All (IsHeaderWithin (length front.now)) spans.now }
     ensures value { result ≡ body_length (map (header_bytes front.now) spans.now) }
     ensures bound { IfOk result (λ n. n ≤ 65536) }
 {
     if spans.len() > MOST_HEADERS || has_encoding(front, spans) {
-        return Err(BAD_HEAD);
+        return Err(Refusal::BadHead);
     }
     content_length(front, spans)
 }
@@ -41,7 +37,7 @@ fn has_encoding(front: &[u8], spans: &[HeaderSpan]) -> bool
     false
 }
 
-fn content_length(front: &[u8], spans: &[HeaderSpan]) -> Result<usize, u8>
+fn content_length(front: &[u8], spans: &[HeaderSpan]) -> Result<usize, Refusal>
     requires { All (IsHeaderWithin (length front.now)) spans.now }
     ensures value { result ≡ length_of (map (value_at front.now) (filter (is_named_at (codes "content-length") front.now) spans.now)) }
     ensures bound { IfOk result (λ n. n ≤ 65536) }
@@ -50,7 +46,7 @@ fn content_length(front: &[u8], spans: &[HeaderSpan]) -> Result<usize, u8>
     for span in spans {
         if is_named(front, span, b"content-length") {
             if found.is_some() {
-                return Err(BAD_HEAD);
+                return Err(Refusal::BadHead);
             }
             found = Some(span.value.of(front));
         }
@@ -69,22 +65,22 @@ fn is_named(front: &[u8], span: &HeaderSpan, name: &[u8]) -> bool
 }
 
 // A number of any length: past the limit its value isn't kept.
-fn length_value(text: &[u8]) -> Result<usize, u8>
+fn length_value(text: &[u8]) -> Result<usize, Refusal>
     ensures value { result ≡ length_value text.now }
     ensures bound { IfOk result (λ n. n ≤ 65536) }
 {
     if text.is_empty() {
-        return Err(BAD_HEAD);
+        return Err(Refusal::BadHead);
     }
     let mut value = 0;
     for b in text {
         if !b.is_ascii_digit() {
-            return Err(BAD_HEAD);
+            return Err(Refusal::BadHead);
         }
         value = (value * 10 + (*b - b'0') as usize).min(LONGEST_BODY + 1);
     }
     if value > LONGEST_BODY {
-        return Err(TOO_LARGE);
+        return Err(Refusal::TooLarge);
     }
     Ok(value)
 }

@@ -1,9 +1,9 @@
 // The bytes of a connection, and the requests in them.
 ghost use Rattle.std.specs.Prelude.{◌≡◌, ◌≤◌, ◌++◌, [], true, false, drop, length, IfOk, OnOk, OnErr};
-ghost use Rattle.http_front.specs.Stream.{Judged};
+ghost use Rattle.http_stream.specs.Stream.{Judged};
 
-use crate::request::Next;
 use crate::rules::judge;
+use http_stream::Next;
 use httparse::spans::HeaderSpan;
 use std::alloc::{AllocError, Global};
 use std::marker::Model;
@@ -24,7 +24,7 @@ pub struct Front {
 
 impl Model for Front {
     ghost use Rattle.std.specs.Prelude.{◌≤◌, drop, length};
-    ghost use Rattle.http_front.specs.Stream.{Connection};
+    ghost use Rattle.http_stream.specs.Stream.{Connection};
     ghost use Rattle.http_front.specs.Told.{AreTooFew};
 
     ghost Value = { Connection };
@@ -94,12 +94,12 @@ impl Front {
                 self.too_few = count;
                 Ok(Next::None)
             }
-            Next::Bad(number) => {
+            Next::Bad(why) => {
                 self.bytes.clear();
                 self.taken = 0;
                 self.too_few = 0;
                 self.failed = true;
-                Ok(Next::Bad(number))
+                Ok(Next::Bad(why))
             }
         }
     }

@@ -2,12 +2,11 @@
 ghost use Rattle.std.specs.Prelude.{◌≡◌, ◌≤◌, length, map, All, IfOk, IsUtf8, OnOk};
 ghost use Rattle.httparse.specs.Grammar.{RequestHead};
 ghost use Rattle.httparse.specs.Spans.{IsHeaderWithin, IsRequestOf, IsRequestWithin, header_bytes};
-ghost use Rattle.http_front.specs.Stream.{head_limit, window};
+ghost use Rattle.http_stream.specs.Stream.{head_limit, window};
 ghost use Rattle.http_front.specs.Told.{Finds, TellsByHead};
 
 use crate::body::body_length;
-use crate::headers::HeaderList;
-use crate::request::{Next, Request};
+use http_stream::{HeaderList, Next, Request};
 use httparse::Status;
 use httparse::spans::{EMPTY_HEADER_SPAN, HeaderSpan, RequestSpans, parse_request};
 use std::alloc::{AllocError, Global};
@@ -85,7 +84,7 @@ pub fn by_head(
     let spans = &spans[..head.headers];
     let length = match body_length(front, spans) {
         Ok(length) => length,
-        Err(number) => return Ok((Next::Bad(number), 0)),
+        Err(why) => return Ok((Next::Bad(why), 0)),
     };
     let rest = &stream[head.len..];
     if length > rest.len() {

@@ -1,10 +1,11 @@
 // All requests of a stream that comes in pieces.
 ghost use Rattle.std.specs.Prelude.{◌≡◌, ◌++◌, List, ℕ, false, IfOk, OnOk};
 ghost use Rattle.std.specs.List.{flat_map};
-ghost use Rattle.http_front.specs.Cuts.{Drains, Reads};
+ghost use Rattle.http_front.specs.Loops.{Drains};
+ghost use Rattle.http_stream.specs.Cuts.{Reads};
 
 use crate::front::Front;
-use crate::request::{Next, Request};
+use http_stream::{Next, Request};
 use std::alloc::{AllocError, Global};
 use vm_types::ByteList;
 

@@ -1,6 +1,6 @@
 // The bytes of a reply.
 ghost use Rattle.std.specs.Prelude.{◌≡◌, ◌++◌, IfOk, string_bytes};
-ghost use Rattle.http_front.specs.Reply.{connection, empty_head, head, phrase, reply};
+ghost use Rattle.http_stream.specs.Reply.{connection, empty_head, head, phrase, reply};
 
 use http::StatusCode;
 use std::alloc::{AllocError, Global};
@@ -52,7 +52,7 @@ fn connection(close: bool) -> &'static str
     if close { "close" } else { "keep-alive" }
 }
 
-#[tactic(auto, unfolding(crate::specs::Reply::phrase))]
+#[tactic(auto, unfolding(http_stream::specs::Reply::phrase))]
 fn phrase(status: u16) -> &'static str
     ensures { result.now ≡ phrase status }
 {

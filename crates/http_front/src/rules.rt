@@ -1,12 +1,12 @@
 // The five rules that a stream is judged by.
 ghost use Rattle.std.specs.Prelude.{◌≡◌, IfOk};
-ghost use Rattle.http_front.specs.Stream.{has_line, is_early, is_line_byte, window};
+ghost use Rattle.http_stream.specs.Stream.{has_line, is_early, is_line_byte, window};
 ghost use Rattle.http_front.specs.Told.{Tells};
 
-use crate::body::BAD_HEAD;
 use crate::head::{Search, by_head, find_head, make_room};
-use crate::request::Next;
+use http_stream::Next;
 use httparse::spans::HeaderSpan;
+use refusals::Refusal;
 use std::alloc::{AllocError, Global};
 
 const HEAD_LIMIT: usize = 8_192;
@@ -32,10 +32,10 @@ pub fn judge(
             if stream.len() <= HEAD_LIMIT {
                 Ok((Next::None, stream.len()))
             } else {
-                Ok((Next::Bad(BAD_HEAD), 0))
+                Ok((Next::Bad(Refusal::BadHead), 0))
             }
         }
-        Search::Hopeless => Ok((Next::Bad(BAD_HEAD), 0)),
+        Search::Hopeless => Ok((Next::Bad(Refusal::BadHead), 0)),
     }
 }
 

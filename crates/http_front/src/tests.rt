@@ -1,6 +1,7 @@
-// Streams with the requests in them, cut anywhere, and replies.
+// Streams with the requests in them, cut anywhere, replies, and requests that are sent.
 use crate::pieces::{drain_all, take_piece};
-use crate::{Front, HeaderList, Next, Request, any_cutting, requests, write_reply};
+use crate::{Front, requests, write_reply, write_request};
+use http_stream::{Next, Request};
 use std::test::Fail;
 use vm_types::ByteList;
 
@@ -39,7 +40,8 @@ fn given(rt: &HostRuntime, pieces: &[&[u8]]) -> Result<String, Fail> {
                     text.push_str("-")?;
                     break;
                 }
-                Next::Bad(number) => {
+                Next::Bad(why) => {
+                    let number = why.number();
                     let bad = format!(in alloc; "{number}")?;
                     text.push_str(bad.as_str())?;
                 }
@@ -85,7 +87,7 @@ fn a_body_cut_at_every_byte(rt: HostRuntime) -> Result<(), Fail> {
 }
 
 #[test]
-fn streams(rt: HostRuntime) -> Result<(), Fail> {
+fn each_piece_of_a_stream_gives_what_has_come(rt: HostRuntime) -> Result<(), Fail> {
     for (pieces, expected) in [
         (["", ""], "--"),
         (
@@ -220,20 +222,6 @@ fn headers_are_kept_in_their_order(rt: HostRuntime) -> Result<(), Fail> {
 }
 
 #[test]
-fn a_list_of_headers(rt: HostRuntime) -> Result<(), Fail> {
-    let alloc = rt.alloc();
-    let mut headers = HeaderList::new(alloc);
-    headers.push(
-        ByteList::copy_of(alloc, b"a")?,
-        ByteList::copy_of(alloc, b"b")?,
-    )?;
-    assert_eq!(rt; headers.len(), 1);
-    assert_eq!(rt; headers.as_slice()[0].0.as_slice(), b"a".as_slice());
-    assert_eq!(rt; headers.as_slice()[0].1.as_slice(), b"b".as_slice());
-    Ok(())
-}
-
-#[test]
 fn all_pieces_of_a_stream(rt: HostRuntime) -> Result<(), Fail> {
     let alloc = rt.alloc();
     let mut pieces = Vec::new(alloc);
@@ -257,12 +245,11 @@ fn all_pieces_of_a_stream(rt: HostRuntime) -> Result<(), Fail> {
     drain_all(&mut front, &mut out)?;
     take_piece(&mut front, &mut out, GET.as_bytes())?;
     assert_eq!(rt; out.len(), 1);
-    any_cutting();
     Ok(())
 }
 
 #[test]
-fn replies(rt: HostRuntime) -> Result<(), Fail> {
+fn a_reply_has_its_phrase_and_its_length(rt: HostRuntime) -> Result<(), Fail> {
     let fault = "{\"fault_message\":\"14: no boot source was given\"}";
     for (status, body, close, expected) in [
         (
@@ -316,6 +303,44 @@ fn replies(rt: HostRuntime) -> Result<(), Fail> {
     ] {
         let reply = write_reply(rt.alloc(), status, body.as_bytes(), close)?;
         assert_eq!(rt; reply.as_slice(), expected.as_bytes());
+    }
+    Ok(())
+}
+
+#[test]
+fn a_request_that_is_sent_is_read_back(rt: HostRuntime) -> Result<(), Fail> {
+    let body = "{\"action_type\":\"InstanceStart\"}";
+    for (method, path, body, bytes, read) in [
+        (
+            "PUT",
+            "/actions",
+            body,
+            "PUT /actions HTTP/1.1\r\nContent-Length: 31\r\n\r\n{\"action_type\":\"InstanceStart\"}",
+            "PUT /actions 1 {\"action_type\":\"InstanceStart\"}|-",
+        ),
+        (
+            "GET",
+            "/",
+            "",
+            "GET / HTTP/1.1\r\nContent-Length: 0\r\n\r\n",
+            "GET / 1 |-",
+        ),
+        (
+            "G(T",
+            "/",
+            "",
+            "G(T / HTTP/1.1\r\nContent-Length: 0\r\n\r\n",
+            "9-",
+        ),
+    ] {
+        let sent = write_request(
+            rt.alloc(),
+            method.as_bytes(),
+            path.as_bytes(),
+            body.as_bytes(),
+        )?;
+        assert_eq!(rt; sent.as_slice(), bytes.as_bytes());
+        assert_eq!(rt; given(&rt, &[sent.as_slice()])?.as_str(), read);
     }
     Ok(())
 }

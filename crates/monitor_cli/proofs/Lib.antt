@@ -1,4 +1,6 @@
-pub mod Answering
-pub mod Goes
-pub mod Parts
-pub mod Reading
+mod Arriving
+mod Commanding
+mod Counts
+mod Finishing
+mod Halting
+mod Parts

@@ -1,8 +1,8 @@
-pub mod Before
-pub mod Ending
-pub mod Items
-pub mod Leaving
+pub mod Answering
+pub mod Command
+pub mod Counting
+pub mod Known
 pub mod Lines
+pub mod Reading
 pub mod Replay
 pub mod Taking
-pub mod Whole

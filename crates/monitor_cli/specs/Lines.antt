@@ -1,64 +1,82 @@
--- Lines of a script that comes in pieces, run one after another.
-use Rattle.std.specs.Prelude.{◌≡◌, ◌+◌, ℕ, false, true, List, [], ◌∷◌, ◌++◌, length, map, Option, Some, None}
+-- A replay on its way, and before its last line.
+use Rattle.std.specs.Prelude.{◌≡◌, ◌≤◌, ◌+◌, ◌⊎◌, ℕ, true, false, List, [], ◌∷◌, ◌++◌, length}
 use Rattle.vm_types.specs.Causes.{RoseBy}
 use Rattle.vm_types.specs.Saved.{Saved}
 use Rattle.vm_types.specs.declared.exit.Exit.{Exit}
 use Rattle.vm_types.specs.declared.exit.Object.TheVariants as object
-use Rattle.vm_types.specs.declared.item.Item.{Item}
+use Rattle.vm_outside.specs.Known.{FilesKnown, SinkKnown, SourceKnown, Tells}
 use Rattle.script_lines.specs.Lines.{judged}
+use Rattle.script_lines.specs.Output.{last_line}
 use Rattle.flat_machine.specs.Machine.{Machine, is_off}
-use Rattle.flat_machine.specs.Run.{Act, Run, failures}
-use Rattle.flat_machine.specs.Stops.{AtAct, IsAtFile, stop_failures}
+use Rattle.flat_machine.specs.Outcome.{Outcome}
+use Rattle.flat_machine.specs.Replay.{longest_script}
+use Rattle.flat_machine.specs.Run.{Act, AllAnswered, OnBefore, Run, calls_in, failures, lines_done}
 use Rattle.monitor_core.specs.declared.monitor.Monitor.{Monitor}
 use Rattle.monitor_core.specs.State.{IsMonitor}
-use Rattle.monitor_cli.specs.Leaving.{FilesAt}
-use Rattle.monitor_cli.specs.Taking.{TookFront}
+use Rattle.monitor_cli.specs.Counting.{CallsBy, Counted}
+use Rattle.monitor_cli.specs.Known.{Known}
+use Rattle.monitor_cli.specs.Replay.{Went}
 use Rattle.monitor_cli.specs.declared.lines.Paused.{Paused}
 use Rattle.monitor_cli.specs.declared.lines.Paused.TheVariants.{Off, Empty}
+use Rattle.monitor_cli.specs.declared.lines.ScriptRun.{ScriptRun}
 
--- A replay on its way: of the bytes that came, these are held and the lines before them are done; the monitor
--- is the machine after them, and the sink took their answers behind what it had before.
-pub record Reached (came : List ℕ) (start : Machine) (before held : List ℕ) (line : ℕ) (monitor : Monitor) (saved : Saved) (taken : List ℕ) (faults_before faults_now : ℕ) : Type 0 where
+-- From a machine at the start and what was known then: these bytes of the script came, and the source has the rest. Of
+-- what came, the reader holds an end, and the lines before it are done. The monitor is the machine after them, and the
+-- sink took their answers.
+pub record Reached (start : Machine) (before : Known) (came rest : List ℕ) (run : ScriptRun) (sink : SinkKnown)
+    (files : FilesKnown) : Type 0 where
+  pub parts : came ++ rest ≡ before.source.left
+  pub short : length came ≤ longest_script
   pub acts : List Act
   pub answers : List ℕ
   pub last : Machine
-  pub lines : (more : List ℕ) → judged (came ++ more) ≡ map (λ act. Some act.item) acts ++ judged (held ++ more)
+  pub lines : (more : List ℕ) → judged (came ++ more) ≡ lines_done acts ++ judged (run.reader ++ more)
+  pub on : OnBefore acts start
   pub ran : Run acts start answers last
-  pub number : line ≡ length acts + 1
-  pub is : IsMonitor monitor saved last
-  pub takes : taken ≡ before ++ answers
-  pub failed : RoseBy (failures acts) faults_before faults_now
+  pub number : run.line ≡ length acts + 1
+  pub is : IsMonitor run.monitor files.saved last
+  pub takes : sink.taken ≡ before.sink.taken ++ answers
+  pub rose : RoseBy (failures acts) before.files.health.faults files.health.faults
+  pub kept : AllAnswered acts → files.health.faults ≡ before.files.health.faults
+  pub calls : files.calls ≡ before.files.calls ++ calls_in acts
 
--- why the next line is not done, whatever bytes come behind, and what the files hold
-abbrev pub HaltsBy : Exit → (List ℕ → List (Option Item)) → ℕ → Machine → Saved → Type 0
-HaltsBy (Exit.Script line) left number m saved =
-    (line ≡ number) × (is_off m ≡ false) × (saved ≡ m.saved)
-    × ((more : List ℕ) → (behind : List (Option Item)) × (left more ≡ None ∷ behind))
-HaltsBy (Exit.Fault object.Files) left number m saved =
-    (is_off m ≡ false) × ((more : List ℕ) → IsAtFile (left more) × FilesAt (left more) m saved)
-HaltsBy (Exit.Fault object.Sink) left number m saved = saved ≡ m.saved
-HaltsBy Exit.OutOfMemory left number m saved = saved ≡ m.saved
-HaltsBy exit left number m saved = ⊥
-
--- the sink took the answers behind what it had; where it failed, those before the last act's, and a front of that one
-abbrev pub TakesBy : Exit → Machine → List Act → Machine → List ℕ → List ℕ → List ℕ → Type 0
-TakesBy (Exit.Fault object.Sink) start acts last before answers taken =
-    (whole : List ℕ) × (cut : List ℕ) × (at : AtAct start acts whole cut last) × TookFront cut (before ++ whole) taken
-TakesBy exit start acts last before answers taken = taken ≡ before ++ answers
-
--- a replay that stopped at a line
-pub record Halted (exit : Exit) (came : List ℕ) (start : Machine) (before : List ℕ) (saved : Saved) (taken : List ℕ) (faults_before faults_now : ℕ) : Type 0 where
+-- A replay that ended so, all but its last line, which is not yet written; the source has the rest.
+pub record BeforeLast (exit : Exit) (start : Machine) (before : Known) (rest : List ℕ) (sink : SinkKnown)
+    (files : FilesKnown) : Type 0 where
   pub acts : List Act
+  pub part : List Outcome
   pub answers : List ℕ
-  pub last : Machine
-  pub left : List ℕ → List (Option Item)
-  pub lines : (more : List ℕ) → judged (came ++ more) ≡ map (λ act. Some act.item) acts ++ left more
-  pub ran : Run acts start answers last
-  pub halts : HaltsBy exit left (length acts + 1) last saved
-  pub takes : TakesBy exit start acts last before answers taken
-  pub failed : RoseBy (failures acts + stop_failures exit) faults_before faults_now
+  pub went : Went exit before.source.left rest start acts part (answers ++ last_line exit) files.saved
+  pub took : sink.taken ≡ before.sink.taken ++ answers
+  pub counted : Counted exit acts part before.files.health.faults files.health.faults
+  pub calls : CallsBy exit acts before.files.calls files.calls
+
+-- No line is left, or the guest is off: the answers are written, and nothing behind them.
+pub record Finished (start : Machine) (before : Known) (rest : List ℕ) (run : ScriptRun) (sink : SinkKnown)
+    (files : FilesKnown) : Type 0 where
+  pub came : List ℕ
+  pub reached : Reached start before came rest run sink files
+  pub done : ((judged run.reader ≡ []) × (rest ≡ [])) ⊎ (is_off reached.last ≡ true)
 
 -- no line is done any more: the guest is off, or no line is whole
 abbrev pub PausedBy : Paused → List ℕ → Monitor → Type 0
 PausedBy Off held monitor = (saved : Saved) (m : Machine) → IsMonitor monitor saved m → is_off m ≡ true
-PausedBy Empty held monitor = (judged held ≡ []) × ((saved : Saved) (m : Machine) → IsMonitor monitor saved m → is_off m ≡ false)
+PausedBy Empty held monitor =
+    (judged held ≡ []) × ((saved : Saved) (m : Machine) → IsMonitor monitor saved m → is_off m ≡ false)
+
+-- a script's run ends in no other way than these, and the run of lines that came not by the source
+abbrev pub IsRunsEnd : Exit → Type 0
+IsRunsEnd Exit.Done = ⊥
+IsRunsEnd Exit.Usage = ⊥
+IsRunsEnd exit = Unit {0}
+
+abbrev pub IsLinesEnd : Exit → Type 0
+IsLinesEnd (Exit.Fault object.Source) = ⊥
+IsLinesEnd exit = IsRunsEnd exit
+
+-- a byte came behind the longest script, or the source failed
+abbrev pub PastBy : Exit → ℕ → SourceKnown → SourceKnown → Type 0
+PastBy (Exit.Script line) number old new =
+    (line ≡ number) × (Tells old.health → (byte : ℕ) × (old.left ≡ byte ∷ new.left))
+PastBy (Exit.Fault object.Source) number old new = Tells old.health → new.left ≡ old.left
+PastBy exit number old new = ⊥

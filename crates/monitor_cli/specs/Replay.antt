@@ -1,62 +1,81 @@
 -- What a replay owes: how it ended, what the sink took and what the files hold, by the flat machine.
-use Rattle.std.specs.Prelude.{◌≡◌, ℕ, Bool, true, false, List, [], ◌∷◌, ◌++◌, codes, map, Option, Some}
-use Rattle.std.specs.Str.{bytes_eq}
+use Rattle.std.specs.Prelude.{◌≡◌, ℕ, List, [], ◌∷◌, Option, Some}
 use Rattle.vm_types.specs.Causes.{Rose}
-use Rattle.vm_types.specs.Saved.{Saved}
+use Rattle.vm_types.specs.Saved.{Saved, SameOthers}
 use Rattle.vm_types.specs.declared.exit.Exit.{Exit}
 use Rattle.vm_types.specs.declared.exit.Object.TheVariants as object
 use Rattle.vm_types.specs.declared.item.Item.{Item}
 use Rattle.script_lines.specs.Output.{last_line}
 use Rattle.flat_machine.specs.Machine.{Machine}
-use Rattle.flat_machine.specs.Replay.{IsReplay, judged_script}
-use Rattle.flat_machine.specs.Run.{Act, all_answered, items_in, shortages}
+use Rattle.flat_machine.specs.Outcome.{Outcome}
+use Rattle.flat_machine.specs.Replay.{IsReplay}
+use Rattle.flat_machine.specs.Run.{Act, AllAnswered, shortages}
 use Rattle.flat_machine.specs.Stops.{IsCutOff, IsStopped}
-use Rattle.monitor_cli.specs.Leaving.{AllCame, FilesAt}
+use Rattle.monitor_cli.specs.Counting.{CallsBy, Counted}
+use Rattle.monitor_cli.specs.Known.{Known}
+use Rattle.monitor_cli.specs.Reading.{HasRead, ReadsBy}
 use Rattle.monitor_cli.specs.Taking.{TookText}
 
--- the one command so far
-abbrev pub is_command : List (List ℕ) → Bool
-is_command (word ∷ []) = bytes_eq word (codes "replay")
-is_command words = false
-
 -- the script came to its end, or to a line that is none: its acts, its text and the files are a replay's
-pub record Ends (exit : Exit) (script : List ℕ) (start : Machine) (acts : List Act) (text : List ℕ) (saved : Saved) (files_before files_now : ℕ) : Type 0 where
+pub record Ended (exit : Exit) (script rest : List ℕ) (start : Machine) (acts : List Act) (part : List Outcome)
+    (text : List ℕ) (saved : Saved) : Type 0 where
   pub end : Machine
-  pub replay : IsReplay script start acts exit text end files_before files_now
+  pub replay : IsReplay script start acts exit text end
+  pub whole : part ≡ []
   pub files : saved ≡ end.saved
+  pub read : HasRead script rest acts
+  pub reads : ReadsBy exit rest read.unread end
 
--- How it went, where it ended so; the source has the rest of the script left. Where the words are no command,
--- nothing is read.
-abbrev pub EndsAs : Exit → List ℕ → List ℕ → Machine → List Act → List ℕ → Saved → ℕ → ℕ → Type 0
-EndsAs Exit.Done script rest start acts text saved files_before files_now =
-    Ends Exit.Done script start acts text saved files_before files_now
-EndsAs (Exit.Script line) script rest start acts text saved files_before files_now =
-    Ends (Exit.Script line) script start acts text saved files_before files_now
-EndsAs (Exit.Fault object.Sink) script rest start acts text saved files_before files_now =
-    (cut : IsCutOff script start acts text files_before files_now) × (saved ≡ cut.last.saved)
-EndsAs (Exit.Fault object.Source) script rest start acts text saved files_before files_now =
-    (stop : IsStopped script start acts (Exit.Fault object.Source) text files_before files_now) × (saved ≡ stop.last.saved) × AllCame script rest acts
-EndsAs (Exit.Fault object.Files) script rest start acts text saved files_before files_now =
-    (stop : IsStopped script start acts (Exit.Fault object.Files) text files_before files_now) × FilesAt stop.left stop.last saved
-EndsAs Exit.OutOfMemory script rest start acts text saved files_before files_now =
-    (stop : IsStopped script start acts Exit.OutOfMemory text files_before files_now) × (saved ≡ stop.last.saved)
-EndsAs Exit.Usage script rest start acts text saved files_before files_now =
-    (acts ≡ []) × (text ≡ last_line Exit.Usage) × (saved ≡ start.saved)
+-- files that failed at a file line hold what the machine's do, but for that line's own name
+abbrev pub FilesBy : Exit → List (Option Item) → Machine → Saved → Type 0
+FilesBy (Exit.Fault object.Files) (Some (Item.File name content) ∷ more) m saved = SameOthers m.saved name saved
+FilesBy exit left m saved = saved ≡ m.saved
 
--- The replay of a script from this machine, whose text the sink took behind what it had. Where the files' count did
--- not rise and 503 was not answered, the machine answered each act.
-pub record Replayed (exit : Exit) (script rest : List ℕ) (start : Machine) (before taken : List ℕ) (saved : Saved) (sink_before sink_now files_before files_now : ℕ) : Type 0 where
+-- a host object failed, or memory was wanted
+pub record Stopped (exit : Exit) (script rest : List ℕ) (start : Machine) (acts : List Act) (part : List Outcome)
+    (text : List ℕ) (saved : Saved) : Type 0 where
+  pub end : Machine
+  pub stop : IsStopped script start acts part exit text end
+  pub files : FilesBy exit stop.left end saved
+  pub read : HasRead script rest acts
+  pub reads : ReadsBy exit rest read.unread end
+
+-- the sink failed
+pub record CutOff (script rest : List ℕ) (start : Machine) (acts : List Act) (part : List Outcome) (text : List ℕ)
+    (saved : Saved) : Type 0 where
+  pub end : Machine
+  pub cut : IsCutOff script start acts text end
+  pub whole : part ≡ []
+  pub files : saved ≡ end.saved
+  pub read : HasRead script rest acts
+
+-- the words are no command
+pub record Refused (script rest : List ℕ) (start : Machine) (acts : List Act) (part : List Outcome) (text : List ℕ)
+    (saved : Saved) : Type 0 where
+  pub none : acts ≡ []
+  pub whole : part ≡ []
+  pub writes : text ≡ last_line Exit.Usage
+  pub files : saved ≡ start.saved
+  pub unread : rest ≡ script
+
+-- how it went, where it ended so
+abbrev pub Went : Exit → List ℕ → List ℕ → Machine → List Act → List Outcome → List ℕ → Saved → Type 0
+Went Exit.Done script rest start acts part text saved = Ended Exit.Done script rest start acts part text saved
+Went (Exit.Script line) script rest start acts part text saved = Ended
+    (Exit.Script line) script rest start acts part text saved
+Went (Exit.Fault object.Sink) script rest start acts part text saved = CutOff script rest start acts part text saved
+Went Exit.Usage script rest start acts part text saved = Refused script rest start acts part text saved
+Went exit script rest start acts part text saved = Stopped exit script rest start acts part text saved
+
+-- The replay of a script from this machine, whose text the sink took behind what it had; of the line at which it stopped,
+-- these first requests were answered. Where the files' count did not rise and 503 was not answered, the machine answered
+-- every request, so that by `one_replay` the text and the files are determined.
+pub record Replayed (exit : Exit) (start : Machine) (before now : Known) : Type 0 where
   pub acts : List Act
+  pub part : List Outcome
   pub text : List ℕ
-  pub ended : EndsAs exit script rest start acts text saved files_before files_now
-  pub took : TookText exit text before taken sink_before sink_now
-  pub plain : (Rose files_before files_now → ⊥) → shortages acts ≡ 0 → acts ≡ all_answered (items_in acts)
-
--- each line of the script is an item
-abbrev pub IsWellFormed : List ℕ → Type 0
-IsWellFormed script = (items : List Item) × (judged_script script ≡ map Some items)
-
--- no count of faults rose
-abbrev pub NoneRose : ℕ → ℕ → ℕ → ℕ → ℕ → ℕ → Type 0
-NoneRose source_before source_now sink_before sink_now files_before files_now =
-    (Rose source_before source_now → ⊥) × (Rose sink_before sink_now → ⊥) × (Rose files_before files_now → ⊥)
+  pub went : Went exit before.source.left now.source.left start acts part text now.files.saved
+  pub took : TookText exit text before.sink now.sink
+  pub counted : Counted exit acts part before.files.health.faults now.files.health.faults
+  pub calls : CallsBy exit acts before.files.calls now.files.calls
+  pub plain : (Rose before.files.health.faults now.files.health.faults → ⊥) → shortages acts ≡ 0 → AllAnswered acts

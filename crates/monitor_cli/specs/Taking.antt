@@ -1,14 +1,10 @@
 -- What a sink took of a text.
-use Rattle.std.specs.Prelude.{◌≡◌, ◌≢◌, ◌≤◌, ℕ, List, [], ◌++◌, length, take, ◌⊎◌}
+use Rattle.std.specs.Prelude.{◌≡◌, ◌≢◌, ◌≤◌, ℕ, List, [], ◌++◌, length, ◌⊎◌}
 use Rattle.vm_types.specs.Causes.{Rose}
 use Rattle.vm_types.specs.declared.exit.Exit.{Exit}
+use Rattle.vm_types.specs.declared.exit.Object.TheVariants as object
+use Rattle.vm_outside.specs.Known.{SinkKnown}
 use Rattle.script_lines.specs.Output.{last_line}
-
--- a front of the text, behind what it had
-pub record TookPart (text before taken : List ℕ) : Type 0 where
-  pub count : ℕ
-  pub some : count ≤ length text
-  pub bytes : taken ≡ before ++ take count text
 
 -- a front of it, and not all
 pub record TookFront (text before taken : List ℕ) : Type 0 where
@@ -19,10 +15,16 @@ pub record TookFront (text before taken : List ℕ) : Type 0 where
   pub lacks : rest ≢ []
 
 -- All of the text, behind what it had; but where its count of faults rose, it may lack the last line, or its end.
-pub record TookText (exit : Exit) (text before taken : List ℕ) (faults_before faults_now : ℕ) : Type 0 where
+pub record TookText (exit : Exit) (text : List ℕ) (before now : SinkKnown) : Type 0 where
   pub part : List ℕ
   pub rest : List ℕ
-  pub took : taken ≡ before ++ part
+  pub took : now.taken ≡ before.taken ++ part
   pub whole : part ++ rest ≡ text
   pub short : length rest ≤ length (last_line exit)
-  pub cause : (rest ≡ []) ⊎ Rose faults_before faults_now
+  pub cause : ((rest ≡ []) × (now.health.faults ≡ before.health.faults)) ⊎ Rose before.health.faults now.health.faults
+
+-- no last line is written of these
+abbrev pub IsQuiet : Exit → Type 0
+IsQuiet Exit.Done = Unit {0}
+IsQuiet (Exit.Fault object.Sink) = Unit {0}
+IsQuiet exit = ⊥

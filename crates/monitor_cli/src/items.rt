@@ -1,6 +1,8 @@
 // One item, and its text to the sink.
-ghost use Rattle.std.specs.Prelude.{◌≤◌, IfErr, OnOk};
-ghost use Rattle.monitor_cli.specs.Items.{ItemDone, ItemStops, LineCause};
+ghost use Rattle.std.specs.Prelude.{◌≡◌, IfErr, MatchResult, OnOk};
+ghost use Rattle.vm_outside.specs.Known.{Lasts};
+ghost use Rattle.monitor_cli.specs.Answering.{ItemDone, ItemEnds};
+ghost use Rattle.monitor_cli.specs.Known.{FilesCause, SinkCause};
 
 use monitor_core::{ItemError, Monitor};
 use vm_outside::{Failed, Files, Sink, write_all};
@@ -16,15 +18,17 @@ pub fn run_item<F: Files, K: Sink>(
     files: &mut F,
     sink: &mut K,
 ) -> Result<(), Exit>
-    ensures done { OnOk result (ItemDone (F.tells files.old × K.tells sink.old) item monitor.old monitor.new (F.saved files.old) (F.saved files.new)
-        (K.taken sink.old) (K.taken sink.new) (F.faults files.old) (F.faults files.new)) }
-    ensures stopped { IfErr result (λ exit. ItemStops exit (F.tells files.old × K.tells sink.old) item monitor.old monitor.new (F.saved files.old) (F.saved files.new)
-        (K.taken sink.old) (K.taken sink.new) (F.faults files.old) (F.faults files.new)) }
-    ensures cause { IfErr result (λ exit. LineCause exit (F.faults files.old) (F.faults files.new) (K.faults sink.old) (K.faults sink.new)) }
-    ensures tells_files { F.tells files.old → F.tells files.new }
-    ensures tells_sink { K.tells sink.old → K.tells sink.new }
-    ensures later_files { F.faults files.old ≤ F.faults files.new }
-    ensures later_sink { K.faults sink.old ≤ K.faults sink.new }
+    ensures done { OnOk result (ItemDone item monitor.old monitor.new (F.known files.old) (F.known files.new)
+        (K.known sink.old) (K.known sink.new)) }
+    ensures ends { IfErr result (λ exit.
+        ItemEnds exit item monitor.old monitor.new (F.known files.old) (F.known files.new) (K.known sink.old)
+        (K.known sink.new)) }
+    ensures sink { MatchResult result (λ _. (K.known sink.new).health.faults ≡ (K.known sink.old).health.faults)
+        (λ exit. SinkCause exit (K.known sink.old).health.faults (K.known sink.new).health.faults) }
+    ensures files { IfErr result (λ exit.
+        FilesCause exit (F.known files.old).health.faults (F.known files.new).health.faults) }
+    ensures lasts { Lasts (F.known files.old).health (F.known files.new).health
+        × Lasts (K.known sink.old).health (K.known sink.new).health }
 {
     let text = match monitor.item(item, files) {
         Ok(text) => text,

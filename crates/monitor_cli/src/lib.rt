@@ -6,7 +6,7 @@
 //! `replaying`, which joins a script's run (`script`, `lines`, `items`) and its ending.
 #![tactic(auto)]
 
-mod ending;
+mod closing;
 mod items;
 mod last_line;
 mod lines;

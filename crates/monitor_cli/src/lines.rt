@@ -1,7 +1,8 @@
 // The lines that a reader holds, run one after another.
-ghost use Rattle.std.specs.Prelude.{◌<◌, ◌≤◌, ◌+◌, ◌^◌, ℕ, List, IfErr, IfOk, length};
+ghost use Rattle.std.specs.Prelude.{◌<◌, ◌≤◌, ◌+◌, ◌^◌, ℕ, List, IfErr, IfOk, MatchResult, length};
+ghost use Rattle.vm_outside.specs.Known.{Lasts, Tells};
 ghost use Rattle.flat_machine.specs.Machine.{Machine};
-ghost use Rattle.monitor_cli.specs.Items.{LineCause};
+ghost use Rattle.monitor_cli.specs.Known.{FilesCause, SinkCause};
 
 use crate::items::run_item;
 use monitor_core::{LineReader, Monitor, Next};
@@ -31,7 +32,8 @@ impl ScriptRun {
     ghost use Rattle.vm_types.specs.Saved.{Saved};
     ghost use Rattle.flat_machine.specs.Machine.{new_machine};
     ghost use Rattle.monitor_core.specs.State.{IsMonitor};
-    ghost use Rattle.monitor_cli.specs.Lines.{Halted, PausedBy, Reached};
+    ghost use Rattle.monitor_cli.specs.Known.{Known};
+    ghost use Rattle.monitor_cli.specs.Lines.{BeforeLast, IsLinesEnd, PausedBy, Reached};
 
     /// A machine of this id that has not started, and no line.
     pub fn new(alloc: Global, id: TextList) -> ScriptRun
@@ -56,18 +58,22 @@ impl ScriptRun {
     ) -> Result<Paused, Exit>
         requires { self.old.line + length self.old.reader < 2 ^ 64 }
         ensures count { self.new.line + length self.new.reader ≤ self.old.line + length self.old.reader }
-        ensures went { IfOk result (λ paused. F.tells files.old → K.tells sink.old → (came : List ℕ) (start : Machine) (before : List ℕ) (i : ℕ) →
-            Reached came start before self.old.reader self.old.line self.old.monitor (F.saved files.old) (K.taken sink.old) i (F.faults files.old) →
-            Reached came start before self.new.reader self.new.line self.new.monitor (F.saved files.new) (K.taken sink.new) i (F.faults files.new)) }
+        ensures went { IfOk result (λ paused. Tells (F.known files.old).health → Tells (K.known sink.old).health →
+            (start : Machine) (before : Known) (came rest : List ℕ) →
+            Reached start before came rest self.old (K.known sink.old) (F.known files.old) →
+            Reached start before came rest self.new (K.known sink.new) (F.known files.new)) }
         ensures paused { IfOk result (λ paused. PausedBy paused self.new.reader self.new.monitor) }
-        ensures halted { IfErr result (λ exit. F.tells files.old → K.tells sink.old → (came : List ℕ) (start : Machine) (before : List ℕ) (i : ℕ) →
-            Reached came start before self.old.reader self.old.line self.old.monitor (F.saved files.old) (K.taken sink.old) i (F.faults files.old) →
-            Halted exit came start before (F.saved files.new) (K.taken sink.new) i (F.faults files.new)) }
-        ensures cause { IfErr result (λ exit. LineCause exit (F.faults files.old) (F.faults files.new) (K.faults sink.old) (K.faults sink.new)) }
-        ensures tells_files { F.tells files.old → F.tells files.new }
-        ensures tells_sink { K.tells sink.old → K.tells sink.new }
-        ensures later_files { F.faults files.old ≤ F.faults files.new }
-        ensures later_sink { K.faults sink.old ≤ K.faults sink.new }
+        ensures ended { IfErr result (λ exit. Tells (F.known files.old).health → Tells (K.known sink.old).health →
+            (start : Machine) (before : Known) (came rest : List ℕ) →
+            Reached start before came rest self.old (K.known sink.old) (F.known files.old) →
+            BeforeLast exit start before rest (K.known sink.new) (F.known files.new)) }
+        ensures some { IfErr result IsLinesEnd }
+        ensures sink { MatchResult result (λ _. (K.known sink.new).health.faults ≡ (K.known sink.old).health.faults)
+            (λ exit. SinkCause exit (K.known sink.old).health.faults (K.known sink.new).health.faults) }
+        ensures files { IfErr result (λ exit.
+            FilesCause exit (F.known files.old).health.faults (F.known files.new).health.faults) }
+        ensures lasts { Lasts (F.known files.old).health (F.known files.new).health
+            × Lasts (K.known sink.old).health (K.known sink.new).health }
     {
         'lines: loop {
             if self.monitor.is_off() {

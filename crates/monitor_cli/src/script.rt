@@ -1,8 +1,9 @@
 // A whole script, read in pieces and run.
-ghost use Rattle.std.specs.Prelude.{◌≡◌, ◌≤◌, ◌+◌, ◌^◌, [], ℕ, List, IfErr, OnOk, length};
+ghost use Rattle.std.specs.Prelude.{◌≡◌, ◌≤◌, ◌+◌, ◌^◌, [], ℕ, IfErr, MatchResult, OnOk, length};
+ghost use Rattle.vm_outside.specs.Known.{Lasts, Tells};
 ghost use Rattle.flat_machine.specs.Machine.{Machine};
-ghost use Rattle.monitor_cli.specs.Lines.{Reached};
-ghost use Rattle.monitor_cli.specs.Whole.{EndedEarly, Finished, PastBy, ScriptCause};
+ghost use Rattle.monitor_cli.specs.Known.{FilesCause, Known, SinkCause, SourceCause};
+ghost use Rattle.monitor_cli.specs.Lines.{BeforeLast, Finished, IsRunsEnd, PastBy, Reached};
 
 use crate::lines::{Paused, ScriptRun};
 use vm_outside::{Files, Sink, Source};
@@ -25,19 +26,26 @@ pub fn run_script<I: Source, F: Files, K: Sink>(
     sink: &mut K,
 ) -> Result<(), Exit>
     requires { run.old.line + length run.old.reader ≤ 1 }
-    ensures finished { OnOk result (I.tells source.old → F.tells files.old → K.tells sink.old → (start : Machine) (before : List ℕ) (i : ℕ) →
-        Reached [] start before run.old.reader run.old.line run.old.monitor (F.saved files.old) (K.taken sink.old) i (F.faults files.old) →
-        Finished (I.left source.old) start before run.new.monitor (F.saved files.new) (K.taken sink.new) i (F.faults files.new)) }
-    ensures early { IfErr result (λ exit. I.tells source.old → F.tells files.old → K.tells sink.old → (start : Machine) (before : List ℕ) (i : ℕ) →
-        Reached [] start before run.old.reader run.old.line run.old.monitor (F.saved files.old) (K.taken sink.old) i (F.faults files.old) →
-        EndedEarly exit (I.left source.old) (I.left source.new) start before (F.saved files.new) (K.taken sink.new) i (F.faults files.new)) }
-    ensures cause { IfErr result (λ exit. ScriptCause exit (I.faults source.old) (I.faults source.new) (F.faults files.old) (F.faults files.new) (K.faults sink.old) (K.faults sink.new)) }
-    ensures tells_source { I.tells source.old → I.tells source.new }
-    ensures tells_files { F.tells files.old → F.tells files.new }
-    ensures tells_sink { K.tells sink.old → K.tells sink.new }
-    ensures later_source { I.faults source.old ≤ I.faults source.new }
-    ensures later_files { F.faults files.old ≤ F.faults files.new }
-    ensures later_sink { K.faults sink.old ≤ K.faults sink.new }
+    ensures finished { OnOk result
+        (Tells (I.known source.old).health → Tells (F.known files.old).health → Tells (K.known sink.old).health →
+        (start : Machine) (before : Known) →
+        Reached start before [] (I.known source.old).left run.old (K.known sink.old) (F.known files.old) →
+        Finished start before (I.known source.new).left run.new (K.known sink.new) (F.known files.new)) }
+    ensures ended { IfErr result (λ exit. Tells (I.known source.old).health → Tells (F.known files.old).health →
+        Tells (K.known sink.old).health →
+        (start : Machine) (before : Known) →
+        Reached start before [] (I.known source.old).left run.old (K.known sink.old) (F.known files.old) →
+        BeforeLast exit start before (I.known source.new).left (K.known sink.new) (F.known files.new)) }
+    ensures some { IfErr result IsRunsEnd }
+    ensures source { MatchResult result (λ _. (I.known source.new).health.faults ≡ (I.known source.old).health.faults)
+        (λ exit. SourceCause exit (I.known source.old).health.faults (I.known source.new).health.faults) }
+    ensures sink { MatchResult result (λ _. (K.known sink.new).health.faults ≡ (K.known sink.old).health.faults)
+        (λ exit. SinkCause exit (K.known sink.old).health.faults (K.known sink.new).health.faults) }
+    ensures files { IfErr result (λ exit.
+        FilesCause exit (F.known files.old).health.faults (F.known files.new).health.faults) }
+    ensures lasts { Lasts (I.known source.old).health (I.known source.new).health
+        × Lasts (F.known files.old).health (F.known files.new).health
+        × Lasts (K.known sink.old).health (K.known sink.new).health }
 {
     let mut piece = [0; PIECE as usize];
     let mut came = 0;
@@ -66,10 +74,12 @@ pub fn run_script<I: Source, F: Files, K: Sink>(
 
 // Whether nothing is left behind the longest script; else the line of this number is none.
 fn past_longest<I: Source>(line: u64, source: &mut I) -> Result<(), Exit>
-    ensures end { OnOk result (I.tells source.old → I.left source.old ≡ []) }
-    ensures more { IfErr result (λ exit. PastBy (I.tells source.old) exit line (I.left source.old) (I.left source.new) (I.faults source.old) (I.faults source.new)) }
-    ensures tells { I.tells source.old → I.tells source.new }
-    ensures later { I.faults source.old ≤ I.faults source.new }
+    ensures end { OnOk result (Tells (I.known source.old).health → ((I.known source.old).left ≡ [])
+        × ((I.known source.new).left ≡ [])) }
+    ensures more { IfErr result (λ exit. PastBy exit line (I.known source.old) (I.known source.new)) }
+    ensures source { MatchResult result (λ _. (I.known source.new).health.faults ≡ (I.known source.old).health.faults)
+        (λ exit. SourceCause exit (I.known source.old).health.faults (I.known source.new).health.faults) }
+    ensures lasts { Lasts (I.known source.old).health (I.known source.new).health }
 {
     let mut byte = [0; 1];
     match source.read(&mut byte) {

@@ -1,44 +1,36 @@
-// Whole scripts over objects in memory, by the commands' words.
-mod failures;
+// Pieces of each size, and the words of a command. Whole scripts with their output, and objects that fail at each place,
+// are the cases of the program that replays them.
 mod pieces;
-mod scripts;
 mod words;
 
 use crate::{Outside, firecracker_main, replay_main};
+use outside_mem::{Failing, MemoryFiles, MemorySink, MemorySource};
 use std::alloc::{AllocError, Global};
 use std::process::Abort;
 use std::test::Fail;
-use vm_outside::{Failing, MemoryFiles, MemorySink, MemorySource};
 use vm_types::Exit;
 
-/// The calls before a failing one, for an object that never fails.
-const NEVER: u64 = 1_000_000;
-
-/// A script, how many bytes a call takes at most, how many calls of each object come before one that fails, how the
-/// replay ends, and what the sink took.
+/// A script, how many bytes a call takes at most, how the replay ends, and what the sink took.
 #[derive(Clone, Copy, Drop)]
 struct Trial {
     script: &'static str,
     most: usize,
-    source_fails: u64,
-    sink_fails: u64,
-    files_fails: u64,
     exit: Exit,
     text: &'static str,
 }
 
 type Memory = Outside<MemorySource, MemorySink, MemoryFiles>;
 
-fn failing(alloc: Global, call: u64) -> Result<Failing, AllocError> {
-    Ok(Failing::new(vec![in alloc; call]?))
+fn never(alloc: Global) -> Failing {
+    Failing::new(Vec::new(alloc))
 }
 
-fn outside(alloc: Global, trial: &Trial) -> Result<Memory, Fail> {
+fn outside(alloc: Global, trial: &Trial) -> Result<Memory, AllocError> {
     let script = trial.script.as_bytes().to_vec(alloc)?;
     Ok(Outside {
-        source: MemorySource::new(script, trial.most, failing(alloc, trial.source_fails)?),
-        sink: MemorySink::new(alloc, trial.most, failing(alloc, trial.sink_fails)?),
-        files: MemoryFiles::new(alloc, failing(alloc, trial.files_fails)?),
+        source: MemorySource::new(script, trial.most, never(alloc)),
+        sink: MemorySink::new(alloc, trial.most, never(alloc)),
+        files: MemoryFiles::new(alloc, never(alloc)),
     })
 }
 

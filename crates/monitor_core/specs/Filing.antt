@@ -12,7 +12,8 @@ use Rattle.monitor_core.specs.declared.loading.LoadError.{LoadError}
 -- made, written whole and synced
 pub record SavesFile (old : FilesKnown) (name content : List ℕ) (new : FilesKnown) : Type 0 where
   pub saved : new.saved ≡ insert old.saved name content
-  pub calls : new.calls ≡ old.calls ++ Making name ∷ Made name ∷ Writing name 0 content ∷ Synced name (Some content) ∷ []
+  pub calls : new.calls ≡ old.calls ++ Making name ∷ Made name ∷ Writing name 0 content ∷ Synced name
+      (Some content) ∷ []
 
 -- some of these calls were made, and every other name holds what it held
 pub record SavesPart (old : FilesKnown) (name : List ℕ) (new : FilesKnown) : Type 0 where

@@ -80,5 +80,6 @@ pub record ItemStops (why : ItemError) (item : Item) (monitor after : Monitor) (
   pub rose : RoseBy (flat.failed_in part + error_failures why) known.health.faults left.health.faults
   pub same : part ≡ [] → after ≡ monitor
   pub went : Tells known.health → (m : Machine) → IsMonitor monitor known.saved m
-      → (n : Machine) × PartStep item part m unwritten n × IsMonitor after n.saved n × LeavesFiles item n.saved left.saved
+      → (n : Machine) × PartStep item part m unwritten n × IsMonitor after n.saved n
+      × LeavesFiles item n.saved left.saved
   pub calls : Tells known.health → LeavesCalls item known.calls left.calls

@@ -15,7 +15,12 @@ abbrev pub image_in : Config → Saved → Option (List ℕ)
 image_in config saved = option_and_then (get saved) config.kernel_image_path
 
 abbrev pub start_facts : Config → Saved → Facts
-start_facts config saved = record { phase = NotStarted; config = config; image = option_map length (image_in config saved) }
+start_facts config saved = record {
+  phase = NotStarted;
+  config = config;
+  image = option_map length
+      (image_in config saved);
+}
 
 abbrev pub StartGives : Started → Config → Saved → Type 0
 StartGives (Started.Guest p) config saved =

@@ -101,7 +101,8 @@ impl Guest {
     /// So many events of the hart, or as many as there are before the guest is off.
     pub fn run(&mut self, count: u64)
         ensures { (g : FlatGuest) → IsGuest self.old.memory self.old.board self.old.hart g →
-            (es : List Entry) × (h : FlatGuest) × StepsBy g (ActorId.Hart 0) count es h × IsGuest self.new.memory self.new.board self.new.hart h }
+            (es : List Entry) × (h : FlatGuest) × StepsBy g (ActorId.Hart 0) count es h
+            × IsGuest self.new.memory self.new.board self.new.hart h }
     {
         let mut left = count;
         while left > 0 && !self.is_off() {

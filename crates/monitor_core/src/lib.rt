@@ -1,9 +1,9 @@
 //! The monitor: the lines of a script that comes in pieces, and the machine that answers their items.
 //!
 //! `LineReader` holds what came and was not given. `Monitor` takes an item at a time, over any files: each
-//! machine that it was takes the item as the flat machine does, or it is answered 500 or 503 and nothing
-//! changes. Its guest has a hart of its own (`hart_rv64`); memory and board are the plain programs of the
-//! definitions, as a first body.
+//! machine that it was takes the item as the flat machine does, each request answered by the machine, 500 or 503; or the
+//! item is not done to its end, and the machine is where the first of its requests left it. Its guest is memory, in one
+//! piece so far, a board, and one hart (`hart_rv64`).
 #![tactic(auto)]
 
 mod guest;
@@ -18,8 +18,6 @@ mod starting;
 mod tests;
 mod texts;
 
-pub use guest::Guest;
 pub use item_error::ItemError;
 pub use line_reader::{LineReader, Next};
 pub use monitor::Monitor;
-pub use starting::Started;

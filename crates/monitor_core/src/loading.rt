@@ -22,7 +22,8 @@ pub fn load<F: Files>(
     name: &str,
     len: u64,
 ) -> Result<Vec<u8>, LoadError>
-    ensures bytes { IfOk result (λ bytes. Tells (F.known files.old).health → (content : List ℕ) → get (F.known files.old).saved name.now ≡ Some content → len ≡ length content → bytes.items ≡ content) }
+    ensures bytes { IfOk result (λ bytes. Tells (F.known files.old).health → (content : List ℕ) →
+        get (F.known files.old).saved name.now ≡ Some content → len ≡ length content → bytes.items ≡ content) }
     ensures same { Tells (F.known files.old).health → SameFiles (F.known files.old) (F.known files.new) }
     ensures cause { LoadCause result (F.known files.old).health.faults (F.known files.new).health.faults }
     ensures lasts { Lasts (F.known files.old).health (F.known files.new).health }

@@ -81,7 +81,8 @@ impl Monitor {
     fn request<F: Files>(&mut self, call: ApiCall, files: &mut F) -> Result<Replied, AllocError>
         ensures went { IfOk result (λ r. Tells (F.known files.old).health →
             RequestGoes call r.text r.outcome self.old (F.known files.old).saved self.new (F.known files.new).saved) }
-        ensures cause { IfOk result (λ r. OutcomeCause r.outcome (F.known files.old).health.faults (F.known files.new).health.faults) }
+        ensures cause { IfOk result (λ r.
+            OutcomeCause r.outcome (F.known files.old).health.faults (F.known files.new).health.faults) }
         ensures same { Tells (F.known files.old).health → SameFiles (F.known files.old) (F.known files.new) }
         ensures lasts { Lasts (F.known files.old).health (F.known files.new).health }
         ensures err { OnErr result (self.new ≡ self.old) }
@@ -96,8 +97,10 @@ impl Monitor {
 
     // A request for which no file is asked.
     fn answer(&mut self, call: ApiCall, phase: Phase) -> Result<Replied, AllocError>
-        requires { (image : Option ℕ) → asks_files_of call (record { phase = phase; config = self.old.config; image = image }) ≡ false }
-        ensures went { IfOk result (λ r. (saved : Saved) (m : Machine) → IsMonitor self.old saved m → phase ≡ phase_by m.guest →
+        requires { (image : Option ℕ) →
+            asks_files_of call (record { phase = phase; config = self.old.config; image = image }) ≡ false }
+        ensures went { IfOk result (λ r. (saved : Saved) (m : Machine) → IsMonitor self.old saved m →
+            phase ≡ phase_by m.guest →
             (n : Machine) × RequestStep (outcome_by r.outcome saved) call m r.text n × IsMonitor self.new saved n) }
         ensures unasked { IfOk result (λ r. IsUnasked r.outcome) }
         ensures err { OnErr result (self.new ≡ self.old) }
@@ -119,10 +122,14 @@ impl Monitor {
         phase: Phase,
         files: &mut F,
     ) -> Result<Replied, AllocError>
-        requires { (image : Option ℕ) → asks_files_of call (record { phase = phase; config = self.old.config; image = image }) ≡ true }
-        ensures went { IfOk result (λ r. Tells (F.known files.old).health → (m : Machine) → IsMonitor self.old (F.known files.old).saved m → phase ≡ phase_by m.guest →
-            (n : Machine) × RequestStep (outcome_by r.outcome (F.known files.new).saved) call m r.text n × IsMonitor self.new (F.known files.new).saved n) }
-        ensures cause { IfOk result (λ r. OutcomeCause r.outcome (F.known files.old).health.faults (F.known files.new).health.faults) }
+        requires { (image : Option ℕ) →
+            asks_files_of call (record { phase = phase; config = self.old.config; image = image }) ≡ true }
+        ensures went { IfOk result (λ r. Tells (F.known files.old).health → (m : Machine) →
+            IsMonitor self.old (F.known files.old).saved m → phase ≡ phase_by m.guest →
+            (n : Machine) × RequestStep (outcome_by r.outcome (F.known files.new).saved) call m r.text n
+            × IsMonitor self.new (F.known files.new).saved n) }
+        ensures cause { IfOk result (λ r.
+            OutcomeCause r.outcome (F.known files.old).health.faults (F.known files.new).health.faults) }
         ensures same { Tells (F.known files.old).health → SameFiles (F.known files.old) (F.known files.new) }
         ensures lasts { Lasts (F.known files.old).health (F.known files.new).health }
         ensures err { OnErr result (self.new ≡ self.old) }
@@ -166,8 +173,10 @@ impl Monitor {
     /// Errors: `FilesFailed` where a call on the files failed at a file line; `OutOfMemory` where there was
     /// no memory, not even for an answer that says so.
     pub fn item<F: Files>(&mut self, item: Item, files: &mut F) -> Result<ByteList, ItemError>
-        ensures goes { IfOk result (λ text. ItemGoes item text self.old self.new (F.known files.old) (F.known files.new)) }
-        ensures stops { IfErr result (λ why. ItemStops why item self.old self.new (F.known files.old) (F.known files.new)) }
+        ensures goes { IfOk result (λ text.
+            ItemGoes item text self.old self.new (F.known files.old) (F.known files.new)) }
+        ensures stops { IfErr result (λ why.
+            ItemStops why item self.old self.new (F.known files.old) (F.known files.new)) }
         ensures lasts { Lasts (F.known files.old).health (F.known files.new).health }
     {
         match item {

@@ -7,8 +7,10 @@ use vm_outside::{Failed, Files};
 
 /// Makes the file of this name with these bytes. An `Err` leaves every other name as it was.
 pub fn save<F: Files>(files: &mut F, name: &str, content: &[u8]) -> Result<(), Failed>
-    ensures saved { OnOk result (Tells (F.known files.old).health → SavesFile (F.known files.old) name.now content.now (F.known files.new)) }
-    ensures begun { OnErr result (Tells (F.known files.old).health → SavesPart (F.known files.old) name.now (F.known files.new)) }
+    ensures saved { OnOk result (Tells (F.known files.old).health →
+        SavesFile (F.known files.old) name.now content.now (F.known files.new)) }
+    ensures begun { OnErr result (Tells (F.known files.old).health →
+        SavesPart (F.known files.old) name.now (F.known files.new)) }
     ensures called { Called (F.known files.old).health (F.known files.new).health result }
 {
     files.make(name)?;

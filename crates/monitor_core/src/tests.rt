@@ -4,8 +4,8 @@ mod files;
 mod guests;
 mod lines;
 
-use std::alloc::{AllocError, Global};
 use outside_mem::{Failing, MemoryFiles};
+use std::alloc::{AllocError, Global};
 
 // Files of which the calls of these numbers fail.
 fn files_of(alloc: Global, failing: &[u64]) -> Result<MemoryFiles, AllocError> {

@@ -16,7 +16,8 @@ pub fn call_text(
     phase: Phase,
     config: &Config,
 ) -> Result<ByteList, AllocError>
-    ensures { IfOk result (λ text. text ≡ reply_line (answer_of call.now id.now (record { phase = phase; config = config.now; image = None }))) }
+    ensures { IfOk result (λ text.
+        text ≡ reply_line (answer_of call.now id.now (record { phase = phase; config = config.now; image = None }))) }
 {
     let answer = answer_call(alloc, call, id, phase, config, None)?;
     Ok(script_lines::reply_line(alloc, &answer)?)

@@ -163,7 +163,8 @@ fn write_content(
     at: u64,
     bytes: &[u8],
 ) -> Result<bool, AllocError>
-    ensures written { result ≡ Ok true → PutsAt files.old name.now at bytes.now files.new × (log.new.items ≡ FileEvent.Wrote name.now at bytes.now ∷ log.old.items) }
+    ensures written { result ≡ Ok true → PutsAt files.old name.now at bytes.now files.new
+        × (log.new.items ≡ FileEvent.Wrote name.now at bytes.now ∷ log.old.items) }
     ensures unchanged { (result ≡ Ok true → ⊥) → (files.new ≡ files.old) × (log.new.items ≡ log.old.items) }
 {
     let event = FileEvent::Wrote {

@@ -40,15 +40,19 @@ impl<'a, R: rt::Files> Files for Folder<'a, R> {
     ghost known = { λ f. record { health = untold f.faults; saved = nothing_saved; calls = [] } };
 
     fn size(&mut self, name: &str) -> Result<Option<u64>, Failed>
-        ensures counts { CountsFailure (⟦<Folder<'a, R> as Files>⟧.known self.old).health.faults (⟦<Folder<'a, R> as Files>⟧.known self.new).health.faults result }
-        ensures called { Called (⟦<Folder<'a, R> as Files>⟧.known self.old).health (⟦<Folder<'a, R> as Files>⟧.known self.new).health result }
+        ensures counts { CountsFailure (⟦<Folder<'a, R> as Files>⟧.known self.old).health.faults
+            (⟦<Folder<'a, R> as Files>⟧.known self.new).health.faults result }
+        ensures called { Called (⟦<Folder<'a, R> as Files>⟧.known self.old).health
+            (⟦<Folder<'a, R> as Files>⟧.known self.new).health result }
     {
         counted(&mut self.faults, named_file::length(self.rt, name))
     }
 
     fn read_at(&mut self, name: &str, at: u64, buf: &mut [u8]) -> Result<(), Failed>
-        ensures counts { CountsFailure (⟦<Folder<'a, R> as Files>⟧.known self.old).health.faults (⟦<Folder<'a, R> as Files>⟧.known self.new).health.faults result }
-        ensures called { Called (⟦<Folder<'a, R> as Files>⟧.known self.old).health (⟦<Folder<'a, R> as Files>⟧.known self.new).health result }
+        ensures counts { CountsFailure (⟦<Folder<'a, R> as Files>⟧.known self.old).health.faults
+            (⟦<Folder<'a, R> as Files>⟧.known self.new).health.faults result }
+        ensures called { Called (⟦<Folder<'a, R> as Files>⟧.known self.old).health
+            (⟦<Folder<'a, R> as Files>⟧.known self.new).health result }
     {
         counted(
             &mut self.faults,
@@ -57,8 +61,10 @@ impl<'a, R: rt::Files> Files for Folder<'a, R> {
     }
 
     fn write_at(&mut self, name: &str, at: u64, bytes: &[u8]) -> Result<(), Failed>
-        ensures counts { CountsFailure (⟦<Folder<'a, R> as Files>⟧.known self.old).health.faults (⟦<Folder<'a, R> as Files>⟧.known self.new).health.faults result }
-        ensures called { Called (⟦<Folder<'a, R> as Files>⟧.known self.old).health (⟦<Folder<'a, R> as Files>⟧.known self.new).health result }
+        ensures counts { CountsFailure (⟦<Folder<'a, R> as Files>⟧.known self.old).health.faults
+            (⟦<Folder<'a, R> as Files>⟧.known self.new).health.faults result }
+        ensures called { Called (⟦<Folder<'a, R> as Files>⟧.known self.old).health
+            (⟦<Folder<'a, R> as Files>⟧.known self.new).health result }
     {
         counted(
             &mut self.faults,
@@ -69,15 +75,19 @@ impl<'a, R: rt::Files> Files for Folder<'a, R> {
     /// It waits until the disk has the file and the folder's entry for it. Of a link, the entry of
     /// the file that it leads to is left out.
     fn sync(&mut self, name: &str) -> Result<(), Failed>
-        ensures counts { CountsFailure (⟦<Folder<'a, R> as Files>⟧.known self.old).health.faults (⟦<Folder<'a, R> as Files>⟧.known self.new).health.faults result }
-        ensures called { Called (⟦<Folder<'a, R> as Files>⟧.known self.old).health (⟦<Folder<'a, R> as Files>⟧.known self.new).health result }
+        ensures counts { CountsFailure (⟦<Folder<'a, R> as Files>⟧.known self.old).health.faults
+            (⟦<Folder<'a, R> as Files>⟧.known self.new).health.faults result }
+        ensures called { Called (⟦<Folder<'a, R> as Files>⟧.known self.old).health
+            (⟦<Folder<'a, R> as Files>⟧.known self.new).health result }
     {
         counted(&mut self.faults, named_file::sync(self.rt, name))
     }
 
     fn make(&mut self, name: &str) -> Result<(), Failed>
-        ensures counts { CountsFailure (⟦<Folder<'a, R> as Files>⟧.known self.old).health.faults (⟦<Folder<'a, R> as Files>⟧.known self.new).health.faults result }
-        ensures called { Called (⟦<Folder<'a, R> as Files>⟧.known self.old).health (⟦<Folder<'a, R> as Files>⟧.known self.new).health result }
+        ensures counts { CountsFailure (⟦<Folder<'a, R> as Files>⟧.known self.old).health.faults
+            (⟦<Folder<'a, R> as Files>⟧.known self.new).health.faults result }
+        ensures called { Called (⟦<Folder<'a, R> as Files>⟧.known self.old).health
+            (⟦<Folder<'a, R> as Files>⟧.known self.new).health result }
     {
         counted(&mut self.faults, named_file::make(self.rt, name))
     }

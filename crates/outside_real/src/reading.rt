@@ -39,8 +39,10 @@ impl<R: Read + Drop> Source for Reading<R> {
 
     fn read(&mut self, buf: &mut [u8]) -> Result<usize, Failed>
         ensures bound { IfOk result (λ n. n ≤ length buf.new) }
-        ensures counts { CountsFailure (⟦<Reading<R> as Source>⟧.known self.old).health.faults (⟦<Reading<R> as Source>⟧.known self.new).health.faults result }
-        ensures called { Called (⟦<Reading<R> as Source>⟧.known self.old).health (⟦<Reading<R> as Source>⟧.known self.new).health result }
+        ensures counts { CountsFailure (⟦<Reading<R> as Source>⟧.known self.old).health.faults
+            (⟦<Reading<R> as Source>⟧.known self.new).health.faults result }
+        ensures called { Called (⟦<Reading<R> as Source>⟧.known self.old).health
+            (⟦<Reading<R> as Source>⟧.known self.new).health result }
     {
         counted(&mut self.faults, tries::read_some(&mut self.reader, buf))
     }

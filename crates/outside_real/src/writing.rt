@@ -42,8 +42,10 @@ impl<W: Write + Drop> Sink for Writing<W> {
     fn write(&mut self, bytes: &[u8]) -> Result<usize, Failed>
         ensures bound { IfOk result (λ n. n ≤ length bytes.now) }
         ensures some { IfOk result (λ n. 0 < length bytes.now → 0 < n) }
-        ensures counts { CountsFailure (⟦<Writing<W> as Sink>⟧.known self.old).health.faults (⟦<Writing<W> as Sink>⟧.known self.new).health.faults result }
-        ensures called { Called (⟦<Writing<W> as Sink>⟧.known self.old).health (⟦<Writing<W> as Sink>⟧.known self.new).health result }
+        ensures counts { CountsFailure (⟦<Writing<W> as Sink>⟧.known self.old).health.faults
+            (⟦<Writing<W> as Sink>⟧.known self.new).health.faults result }
+        ensures called { Called (⟦<Writing<W> as Sink>⟧.known self.old).health
+            (⟦<Writing<W> as Sink>⟧.known self.new).health result }
     {
         counted(&mut self.faults, send_some(&mut self.writer, bytes))
     }

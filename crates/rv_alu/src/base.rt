@@ -4,8 +4,8 @@ ghost use Rattle.std.specs.Int.{int_shr};
 ghost use Rattle.rv_rows.specs.Numbers.{signed_64, signed_32, modulo_64};
 ghost use Rattle.rv_rows.specs.Alu.{alu};
 
-use crate::numbers::{sign_extended_32, word};
 use rv_rows::AluOp;
+use rv_rows::numbers::{low_word, sign_extended_word};
 
 #[inline]
 fn sra(a: u64, b: u64) -> u64
@@ -18,7 +18,7 @@ fn sra(a: u64, b: u64) -> u64
 fn sraw(a: u64, b: u64) -> u64
     ensures { result ≡ modulo_64 (int_shr (signed_32 a) (b % 2 ^ 5)) }
 {
-    let shifted = word(a).cast_signed() >> (b % 32) as u32;
+    let shifted = low_word(a).cast_signed() >> (b % 32) as u32;
     (shifted as i64).cast_unsigned()
 }
 
@@ -37,10 +37,10 @@ pub fn alu(op: AluOp, a: u64, b: u64) -> u64
         AluOp::Sra => sra(a, b),
         AluOp::Or => a | b,
         AluOp::And => a & b,
-        AluOp::Addw => sign_extended_32(word(a.wrapping_add(b))),
-        AluOp::Subw => sign_extended_32(word(a.wrapping_sub(b))),
-        AluOp::Sllw => sign_extended_32(word(a << (b % 32))),
-        AluOp::Srlw => sign_extended_32(word(a) >> (b % 32) as u32),
+        AluOp::Addw => sign_extended_word(low_word(a.wrapping_add(b))),
+        AluOp::Subw => sign_extended_word(low_word(a.wrapping_sub(b))),
+        AluOp::Sllw => sign_extended_word(low_word(a << (b % 32))),
+        AluOp::Srlw => sign_extended_word(low_word(a) >> (b % 32) as u32),
         AluOp::Sraw => sraw(a, b),
     }
 }

@@ -2,19 +2,19 @@
 ghost use Rattle.std.specs.Prelude.{◌≡◌};
 ghost use Rattle.rv_rows.specs.Branches.{is_taken};
 
-use rv_rows::Test;
+use rv_rows::Condition;
 
 /// Whether a branch is taken, by the values of its two registers (unprivileged manual, 2.5, "Conditional Branches").
 #[inline]
-pub fn is_taken(test: Test, a: u64, b: u64) -> bool
-    ensures { result ≡ is_taken test a b }
+pub fn is_taken(condition: Condition, a: u64, b: u64) -> bool
+    ensures { result ≡ is_taken condition a b }
 {
-    match test {
-        Test::Eq => a == b,
-        Test::Ne => a != b,
-        Test::Lt => a.cast_signed() < b.cast_signed(),
-        Test::Ge => a.cast_signed() >= b.cast_signed(),
-        Test::Ltu => a < b,
-        Test::Geu => a >= b,
+    match condition {
+        Condition::Eq => a == b,
+        Condition::Ne => a != b,
+        Condition::Lt => a.cast_signed() < b.cast_signed(),
+        Condition::Ge => a.cast_signed() >= b.cast_signed(),
+        Condition::Ltu => a < b,
+        Condition::Geu => a >= b,
     }
 }

@@ -5,8 +5,8 @@ ghost use Rattle.rv_rows.specs.Numbers.{modulo_64, modulo_32};
 ghost use Rattle.rv_rows.specs.declared.alu.MulDivOp.{MulDivOp};
 ghost use Rattle.rv_rows.specs.MulDiv.{muldiv};
 
-use crate::numbers::{sign_extended_32, word};
 use rv_rows::MulDivOp;
+use rv_rows::numbers::{low_word, sign_extended_word};
 
 /// The high 64 bits of a product.
 #[inline]
@@ -75,12 +75,12 @@ fn word_quotient(a: i32, b: i32) -> u32
 fn divw(a: u64, b: u64) -> u64
     ensures { result ≡ muldiv MulDivOp.Divw a b }
 {
-    let a = word(a).cast_signed();
-    let b = word(b);
+    let a = low_word(a).cast_signed();
+    let b = low_word(b);
     if b == 0 {
         u64::MAX
     } else {
-        sign_extended_32(word_quotient(a, b.cast_signed()))
+        sign_extended_word(word_quotient(a, b.cast_signed()))
     }
 }
 
@@ -88,11 +88,11 @@ fn divw(a: u64, b: u64) -> u64
 fn divuw(a: u64, b: u64) -> u64
     ensures { result ≡ muldiv MulDivOp.Divuw a b }
 {
-    let b = word(b);
+    let b = low_word(b);
     if b == 0 {
         u64::MAX
     } else {
-        sign_extended_32(word(a) / b)
+        sign_extended_word(low_word(a) / b)
     }
 }
 
@@ -100,12 +100,12 @@ fn divuw(a: u64, b: u64) -> u64
 fn remw(a: u64, b: u64) -> u64
     ensures { result ≡ muldiv MulDivOp.Remw a b }
 {
-    let a = word(a);
-    let b = word(b);
+    let a = low_word(a);
+    let b = low_word(b);
     if b == 0 {
-        sign_extended_32(a)
+        sign_extended_word(a)
     } else {
-        sign_extended_32(
+        sign_extended_word(
             a.cast_signed()
                 .wrapping_rem(b.cast_signed())
                 .cast_unsigned(),
@@ -117,9 +117,9 @@ fn remw(a: u64, b: u64) -> u64
 fn remuw(a: u64, b: u64) -> u64
     ensures { result ≡ muldiv MulDivOp.Remuw a b }
 {
-    let a = word(a);
-    let b = word(b);
-    sign_extended_32(if b == 0 { a } else { a % b })
+    let a = low_word(a);
+    let b = low_word(b);
+    sign_extended_word(if b == 0 { a } else { a % b })
 }
 
 /// What an operation of the extension M computes of two values (unprivileged manual, 7.1 and 7.2).
@@ -135,7 +135,7 @@ pub fn muldiv(op: MulDivOp, a: u64, b: u64) -> u64
         MulDivOp::Divu => if b == 0 { u64::MAX } else { a / b },
         MulDivOp::Rem => rem(a, b),
         MulDivOp::Remu => if b == 0 { a } else { a % b },
-        MulDivOp::Mulw => sign_extended_32(word(a.wrapping_mul(b))),
+        MulDivOp::Mulw => sign_extended_word(low_word(a.wrapping_mul(b))),
         MulDivOp::Divw => divw(a, b),
         MulDivOp::Divuw => divuw(a, b),
         MulDivOp::Remw => remw(a, b),

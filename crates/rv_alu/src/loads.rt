@@ -1,37 +1,36 @@
 // What a load puts into its register.
-ghost use Rattle.std.specs.Prelude.{◌≡◌, ◌<◌, ◌*◌, ◌^◌};
-ghost use Rattle.rv_rows.specs.Loads.{load_bytes, width_bytes, loaded, width_loaded};
+ghost use Rattle.std.specs.Prelude.{◌≡◌};
+ghost use Rattle.rv_rows.specs.Loads.{load_value, atomic_load_value};
 
-use crate::numbers::{sign_extended_8, sign_extended_16, sign_extended_32};
-use rv_rows::{LoadKind, Width};
+use rv_rows::LoadKind;
+use rv_rows::numbers::{low_word, sign_extended, sign_extended_word};
 
-/// What a load puts into its register, by the number that the loaded bytes spell, so below 2^8, 2^16, 2^32 or 2^64 as
-/// the kind says (unprivileged manual, 2.6 and 5.3).
+/// What a load puts into its register, by the number in memory, the low byte first, of which it takes the low 1, 2, 4
+/// or 8 bytes (unprivileged manual, 2.6 and 5.3).
 #[inline]
-pub fn loaded(kind: LoadKind, n: u64) -> u64
-    requires { n < 2 ^ (8 * load_bytes kind) }
-    ensures { result ≡ loaded kind n }
+pub fn load_value(kind: LoadKind, n: u64) -> u64
+    ensures { result ≡ load_value kind n }
 {
     match kind {
-        LoadKind::Byte => sign_extended_8(n),
-        LoadKind::Half => sign_extended_16(n),
-        LoadKind::Word => sign_extended_32(n as u32),
-        LoadKind::Double
-        | LoadKind::ByteUnsigned
-        | LoadKind::HalfUnsigned
-        | LoadKind::WordUnsigned => n,
+        LoadKind::Byte => sign_extended(8, n % 0x100),
+        LoadKind::Half => sign_extended(16, n % 0x1_0000),
+        LoadKind::Word => sign_extended_word(low_word(n)),
+        LoadKind::Double => n,
+        LoadKind::ByteUnsigned => n % 0x100,
+        LoadKind::HalfUnsigned => n % 0x1_0000,
+        LoadKind::WordUnsigned => low_word(n) as u64,
     }
 }
 
-/// What LR or an atomic memory operation puts into its register, by the number that the loaded bytes spell, so below
-/// 2^32 or 2^64 as the width says (unprivileged manual, 8.2 and 8.4).
+/// What LR or an atomic memory operation puts into its register, by the number in memory, of which it takes the low
+/// 32 bits where it isn't wide (unprivileged manual, 8.2 and 8.4).
 #[inline]
-pub fn width_loaded(width: Width, n: u64) -> u64
-    requires { n < 2 ^ (8 * width_bytes width) }
-    ensures { result ≡ width_loaded width n }
+pub fn atomic_load_value(wide: bool, n: u64) -> u64
+    ensures { result ≡ atomic_load_value wide n }
 {
-    match width {
-        Width::Word => sign_extended_32(n as u32),
-        Width::Double => n,
+    if wide {
+        n
+    } else {
+        sign_extended_word(low_word(n))
     }
 }

@@ -1,9 +1,7 @@
 // The tables with edge operands are printed by bench/arithmetic/run.
 
 mod alu_edges;
-mod amo_edges;
 mod branch_edges;
-mod effects;
 mod loads;
 mod muldiv_edges;
 mod pairs;

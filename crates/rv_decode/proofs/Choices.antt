@@ -5,7 +5,7 @@ use Rattle.std.proofs.lemmas.Nat.{and_comm}
 use Rattle.std.proofs.lemmas.Nat.Bits.{and_high}
 use Rattle.std.proofs.Math.Dec.{eqb}
 use Rattle.rv_rows.specs.declared.instr.Instr.{Instr}
-use Rattle.rv_decode.specs.Functions.{funct5, funct6, funct7, made}
+use Rattle.rv_decode.specs.Functions.{funct5, funct6, funct7, with_choice}
 
 pub below_8 : (P : ℕ → Type 0) → P 0 → P 1 → P 2 → P 3 → P 4 → P 5 → P 6 → P 7 → (n : ℕ) → n < 8 → P n
 below_8 P p0 p1 p2 p3 p4 p5 p6 p7 zero small = p0
@@ -31,10 +31,10 @@ below_32 P each n small =
     let e : n / 4 * 4 + n % 4 ≡ n = omega arith in
     subst P e (each (n / 4) (omega arith) (n % 4) (omega arith))
 
-pub made_cond : {A : Type 0} (form : A → ℕ → Instr) (b : Bool) (x y : Option A) (word : ℕ) →
-    made form (cond b x y) word ≡ cond b (made form x word) (made form y word)
-made_cond form true x y word = refl
-made_cond form false x y word = refl
+pub with_choice-cond : {A : Type 0} (form : A → ℕ → Instr) (b : Bool) (x y : Option A) (word : ℕ) →
+    with_choice form (cond b x y) word ≡ cond b (with_choice form x word) (with_choice form y word)
+with_choice-cond form true x y word = refl
+with_choice-cond form false x y word = refl
 
 -- what goes by three numbers, and is None at all others
 pub at_three : (F : ℕ → Option Instr) (k l m : ℕ) (x y z : Option Instr) → F k ≡ x → F l ≡ y → F m ≡ z →

@@ -6,7 +6,7 @@ use Rattle.std.proofs.Math.Dec.{eqb}
 use Rattle.std.proofs.Math.Nat.{mod-eq_of_lt}
 use Rattle.std.proofs.Math.Bool.{and_comm as both_comm, and_assoc as both_assoc}
 use Rattle.rv_rows.specs.declared.instr.Instr.{Instr}
-use Rattle.rv_rows.specs.Table.{Line, rows, first_row, instr_of}
+use Rattle.rv_rows.specs.Table.{Encoding, rows, first_row, instr_of}
 use Rattle.rv_rows.specs.Fields.{bits}
 use Rattle.rv_decode.proofs.Split.{fits, fits_split}
 
@@ -27,19 +27,19 @@ field_fits-is : (width mask matched field : ℕ) → field < 2 ^ width → field
 field_fits-is width mask matched field small = by_mask width mask matched field small (eqb mask (2 ^ width - 1)) refl
 
 -- opcode, funct3, funct7, rs2, rs1 and rd
-abbrev pub line_fits : Line → ℕ → ℕ → ℕ → ℕ → ℕ → ℕ → Bool
-line_fits line o f g b a d =
-    field_fits 7 (bits 6 0 line.mask) (bits 6 0 line.matched) o
-    && (field_fits 3 (bits 14 12 line.mask) (bits 14 12 line.matched) f
-    && (field_fits 7 (line.mask / 2 ^ 25) (line.matched / 2 ^ 25) g
-    && (field_fits 5 (bits 24 20 line.mask) (bits 24 20 line.matched) b
-    && (field_fits 5 (bits 19 15 line.mask) (bits 19 15 line.matched) a
-    && field_fits 5 (bits 11 7 line.mask) (bits 11 7 line.matched) d))))
+abbrev pub encoding_fits : Encoding → ℕ → ℕ → ℕ → ℕ → ℕ → ℕ → Bool
+encoding_fits it o f g b a d =
+    field_fits 7 (bits 6 0 it.mask) (bits 6 0 it.matched) o
+    && (field_fits 3 (bits 14 12 it.mask) (bits 14 12 it.matched) f
+    && (field_fits 7 (it.mask / 2 ^ 25) (it.matched / 2 ^ 25) g
+    && (field_fits 5 (bits 24 20 it.mask) (bits 24 20 it.matched) b
+    && (field_fits 5 (bits 19 15 it.mask) (bits 19 15 it.matched) a
+    && field_fits 5 (bits 11 7 it.mask) (bits 11 7 it.matched) d))))
 
 -- the first row whose fields fit
-abbrev pub first_by : List Line → ℕ → ℕ → ℕ → ℕ → ℕ → ℕ → ℕ → Option Instr
+abbrev pub first_by : List Encoding → ℕ → ℕ → ℕ → ℕ → ℕ → ℕ → ℕ → Option Instr
 first_by [] word o f g b a d = None
-first_by (line ∷ more) word o f g b a d = cond (line_fits line o f g b a d) (Some (line.instr word)) (first_by more word o f g b a d)
+first_by (it ∷ more) word o f g b a d = cond (encoding_fits it o f g b a d) (Some (it.instr word)) (first_by more word o f g b a d)
 
 swap : (x y z : Bool) → (x && (y && z)) ≡ (y && (x && z))
 swap true y z = refl
@@ -78,33 +78,33 @@ in_place mask matched n =
     ∙ ap (λ t. fits (bits 19 15 mask) (bits 19 15 matched) (bits 19 15 n) && t) (fits_split 20 5 mask matched n))))
 
 -- by what the fields of the word are
-abbrev pub by_fields : List Line → ℕ → Option Instr
-by_fields lines word = first_by lines word (bits 6 0 word) (bits 14 12 word) (bits 31 25 word) (bits 24 20 word) (bits 19 15 word) (bits 11 7 word)
+abbrev pub by_fields : List Encoding → ℕ → Option Instr
+by_fields encodings word = first_by encodings word (bits 6 0 word) (bits 14 12 word) (bits 31 25 word) (bits 24 20 word) (bits 19 15 word) (bits 11 7 word)
 
 top_fits : (mask matched word : ℕ) → word < 2 ^ 32 → fits mask matched (word / 2 ^ 25) ≡ field_fits 7 mask matched (bits 31 25 word)
 top_fits mask matched word small =
     let top : word / 2 ^ 25 ≡ bits 31 25 word = omega arith in
     ap (λ k. fits mask matched k) top ∙ sym (field_fits-is 7 mask matched (bits 31 25 word) (omega arith))
 
-line_fits-is : (line : Line) (word : ℕ) → word < 2 ^ 32 →
-    fits line.mask line.matched word
-    ≡ line_fits line (bits 6 0 word) (bits 14 12 word) (bits 31 25 word) (bits 24 20 word) (bits 19 15 word) (bits 11 7 word)
-line_fits-is line word small =
-    in_place line.mask line.matched word
-    ∙ reordered (fits (bits 6 0 line.mask) (bits 6 0 line.matched) (bits 6 0 word)) (fits (bits 11 7 line.mask) (bits 11 7 line.matched) (bits 11 7 word))
-    (fits (bits 14 12 line.mask) (bits 14 12 line.matched) (bits 14 12 word)) (fits (bits 19 15 line.mask) (bits 19 15 line.matched) (bits 19 15 word))
-    (fits (bits 24 20 line.mask) (bits 24 20 line.matched) (bits 24 20 word)) (fits (line.mask / 2 ^ 25) (line.matched / 2 ^ 25) (word / 2 ^ 25))
-    ∙ rw (top_fits (line.mask / 2 ^ 25) (line.matched / 2 ^ 25) word small) (
-    rw (field_fits-is 7 (bits 6 0 line.mask) (bits 6 0 line.matched) (bits 6 0 word) (omega arith)) (
-    rw (field_fits-is 3 (bits 14 12 line.mask) (bits 14 12 line.matched) (bits 14 12 word) (omega arith)) (
-    rw (field_fits-is 5 (bits 24 20 line.mask) (bits 24 20 line.matched) (bits 24 20 word) (omega arith)) (
-    rw (field_fits-is 5 (bits 19 15 line.mask) (bits 19 15 line.matched) (bits 19 15 word) (omega arith)) (
-    rw (field_fits-is 5 (bits 11 7 line.mask) (bits 11 7 line.matched) (bits 11 7 word) (omega arith)) refl)))))
+encoding_fits-is : (it : Encoding) (word : ℕ) → word < 2 ^ 32 →
+    fits it.mask it.matched word
+    ≡ encoding_fits it (bits 6 0 word) (bits 14 12 word) (bits 31 25 word) (bits 24 20 word) (bits 19 15 word) (bits 11 7 word)
+encoding_fits-is it word small =
+    in_place it.mask it.matched word
+    ∙ reordered (fits (bits 6 0 it.mask) (bits 6 0 it.matched) (bits 6 0 word)) (fits (bits 11 7 it.mask) (bits 11 7 it.matched) (bits 11 7 word))
+    (fits (bits 14 12 it.mask) (bits 14 12 it.matched) (bits 14 12 word)) (fits (bits 19 15 it.mask) (bits 19 15 it.matched) (bits 19 15 word))
+    (fits (bits 24 20 it.mask) (bits 24 20 it.matched) (bits 24 20 word)) (fits (it.mask / 2 ^ 25) (it.matched / 2 ^ 25) (word / 2 ^ 25))
+    ∙ rw (top_fits (it.mask / 2 ^ 25) (it.matched / 2 ^ 25) word small) (
+    rw (field_fits-is 7 (bits 6 0 it.mask) (bits 6 0 it.matched) (bits 6 0 word) (omega arith)) (
+    rw (field_fits-is 3 (bits 14 12 it.mask) (bits 14 12 it.matched) (bits 14 12 word) (omega arith)) (
+    rw (field_fits-is 5 (bits 24 20 it.mask) (bits 24 20 it.matched) (bits 24 20 word) (omega arith)) (
+    rw (field_fits-is 5 (bits 19 15 it.mask) (bits 19 15 it.matched) (bits 19 15 word) (omega arith)) (
+    rw (field_fits-is 5 (bits 11 7 it.mask) (bits 11 7 it.matched) (bits 11 7 word) (omega arith)) refl)))))
 
-pub first_row-by : (lines : List Line) (word : ℕ) → word < 2 ^ 32 → first_row lines word ≡ by_fields lines word
+pub first_row-by : (encodings : List Encoding) (word : ℕ) → word < 2 ^ 32 → first_row encodings word ≡ by_fields encodings word
 first_row-by [] word small = refl
-first_row-by (line ∷ more) word small =
-    rw (and_comm word line.mask) (rw (line_fits-is line word small) (rw (first_row-by more word small) refl))
+first_row-by (it ∷ more) word small =
+    rw (and_comm word it.mask) (rw (encoding_fits-is it word small) (rw (first_row-by more word small) refl))
 
 -- what a word of this opcode is, and of this funct3
 pub instr_of-by : (word o : ℕ) → word < 2 ^ 32 → bits 6 0 word ≡ o →

@@ -1,13 +1,12 @@
 -- What the function fields of a word choose in each group, by the number of the field (unprivileged manual, chapter 24,
 -- "RV32/64G Instruction Set Listings").
-use Rattle.std.specs.Prelude.{ℕ, ◌==◌, if◌then◌else◌, List, [], ◌∷◌, Option, Some, None}
+use Rattle.std.specs.Prelude.{ℕ, Bool, true, false, ◌==◌, if◌then◌else◌, List, [], ◌∷◌, Option, Some, None}
 use Rattle.rv_rows.specs.declared.alu.AluOp.{AluOp}
 use Rattle.rv_rows.specs.declared.alu.MulDivOp.{MulDivOp}
-use Rattle.rv_rows.specs.declared.branch.Test.{Test}
+use Rattle.rv_rows.specs.declared.branch.Condition.{Condition}
 use Rattle.rv_rows.specs.declared.memory.LoadKind.{LoadKind}
-use Rattle.rv_rows.specs.declared.memory.StoreSize.{StoreSize}
-use Rattle.rv_rows.specs.declared.memory.AmoOp.{AmoOp}
 use Rattle.rv_rows.specs.declared.memory.Width.{Width}
+use Rattle.vm_types.specs.declared.op.AmoKind.{AmoKind}
 use Rattle.rv_rows.specs.declared.csr.CsrOp.{CsrOp}
 use Rattle.rv_rows.specs.declared.instr.Instr.{Instr}
 use Rattle.rv_rows.specs.declared.instr.Instr.TheVariants.{StoreConditional, Amo}
@@ -32,15 +31,15 @@ funct6 word = bits 31 26 word
 abbrev pub funct5 : ℕ → ℕ
 funct5 word = bits 31 27 word
 
--- what a number chooses in a list
-abbrev pub chosen : {A : Type 0} → List (ℕ × A) → ℕ → Option A
-chosen [] n = None
-chosen (pair ∷ more) n = if n == pair.0 then Some pair.1 else chosen more n
+-- the choice of a number in a list
+abbrev pub choice : {A : Type 0} → List (ℕ × A) → ℕ → Option A
+choice [] n = None
+choice (pair ∷ more) n = if n == pair.0 then Some pair.1 else choice more n
 
--- the instruction that a word is by what was chosen
-abbrev pub made : {A : Type 0} → (A → ℕ → Instr) → Option A → ℕ → Option Instr
-made form None word = None
-made form (Some choice) word = Some (form choice word)
+-- the instruction that a word is by what is chosen
+abbrev pub with_choice : {A : Type 0} → (A → ℕ → Instr) → Option A → ℕ → Option Instr
+with_choice form None word = None
+with_choice form (Some it) word = Some (form it word)
 
 -- by funct3
 abbrev pub load_kinds : List (ℕ × LoadKind)
@@ -49,11 +48,14 @@ load_kinds =
     ∷ (4, LoadKind.ByteUnsigned) ∷ (5, LoadKind.HalfUnsigned) ∷ (6, LoadKind.WordUnsigned)
     ∷ []
 
-abbrev pub store_sizes : List (ℕ × StoreSize)
-store_sizes = (0, StoreSize.Byte) ∷ (1, StoreSize.Half) ∷ (2, StoreSize.Word) ∷ (3, StoreSize.Double) ∷ []
+abbrev pub store_widths : List (ℕ × Width)
+store_widths = (0, Width.Byte) ∷ (1, Width.Half) ∷ (2, Width.Word) ∷ (3, Width.Double) ∷ []
 
-abbrev pub branch_tests : List (ℕ × Test)
-branch_tests = (0, Test.Eq) ∷ (1, Test.Ne) ∷ (4, Test.Lt) ∷ (5, Test.Ge) ∷ (6, Test.Ltu) ∷ (7, Test.Geu) ∷ []
+abbrev pub branch_conditions : List (ℕ × Condition)
+branch_conditions =
+    (0, Condition.Eq) ∷ (1, Condition.Ne) ∷ (4, Condition.Lt) ∷ (5, Condition.Ge) ∷ (6, Condition.Ltu)
+    ∷ (7, Condition.Geu)
+    ∷ []
 
 -- OP-IMM, where it is no shift
 abbrev pub immediate_ops : List (ℕ × AluOp)
@@ -87,8 +89,9 @@ abbrev pub word_muldiv_ops : List (ℕ × MulDivOp)
 word_muldiv_ops =
     (0, MulDivOp.Mulw) ∷ (4, MulDivOp.Divw) ∷ (5, MulDivOp.Divuw) ∷ (6, MulDivOp.Remw) ∷ (7, MulDivOp.Remuw) ∷ []
 
-abbrev pub widths : List (ℕ × Width)
-widths = (2, Width.Word) ∷ (3, Width.Double) ∷ []
+-- whether it is of 8 bytes, else of 4
+abbrev pub atomic_widths : List (ℕ × Bool)
+atomic_widths = (2, false) ∷ (3, true) ∷ []
 
 abbrev pub csr_ops : List (ℕ × CsrOp)
 csr_ops = (1, CsrOp.Write) ∷ (2, CsrOp.Set) ∷ (3, CsrOp.Clear) ∷ []
@@ -111,22 +114,22 @@ abbrev pub right_word_shifts : List (ℕ × AluOp)
 right_word_shifts = (0, AluOp.Srlw) ∷ (0x20, AluOp.Sraw) ∷ []
 
 -- by funct5: AMO, where it is neither LR nor SC
-abbrev pub amo_ops : List (ℕ × AmoOp)
-amo_ops =
-    (0, AmoOp.Add) ∷ (1, AmoOp.Swap) ∷ (4, AmoOp.Xor) ∷ (8, AmoOp.Or) ∷ (0xc, AmoOp.And)
-    ∷ (0x10, AmoOp.Min) ∷ (0x14, AmoOp.Max) ∷ (0x18, AmoOp.Minu) ∷ (0x1c, AmoOp.Maxu)
+abbrev pub amo_kinds : List (ℕ × AmoKind)
+amo_kinds =
+    (0, AmoKind.Add) ∷ (1, AmoKind.Swap) ∷ (4, AmoKind.Xor) ∷ (8, AmoKind.Or) ∷ (0xc, AmoKind.And)
+    ∷ (0x10, AmoKind.Min) ∷ (0x14, AmoKind.Max) ∷ (0x18, AmoKind.MinUnsigned) ∷ (0x1c, AmoKind.MaxUnsigned)
     ∷ []
 
 -- AMO of this width: LR wants rs2 to be 0
-abbrev pub atomic_by : Width → ℕ → ℕ → ℕ → Option Instr
-atomic_by width rs2 n word =
-    if n == 2 then (if rs2 == 0 then Some (lr_type width word) else None)
-    else if n == 3 then Some (r_type (StoreConditional width) word)
-    else made (λ op. r_type (Amo op width)) (chosen amo_ops n) word
+abbrev pub atomic_by : Bool → ℕ → ℕ → ℕ → Option Instr
+atomic_by wide rs2 n word =
+    if n == 2 then (if rs2 == 0 then Some (lr_type wide word) else None)
+    else if n == 3 then Some (r_type (StoreConditional wide) word)
+    else with_choice (λ kind. r_type (Amo kind wide)) (choice amo_kinds n) word
 
-abbrev pub atomic : Width → ℕ → Option Instr
-atomic width word = atomic_by width (bits 24 20 word) (funct5 word) word
+abbrev pub atomic : Bool → ℕ → Option Instr
+atomic wide word = atomic_by wide (bits 24 20 word) (funct5 word) word
 
-abbrev pub atomic_of : Option Width → ℕ → Option Instr
+abbrev pub atomic_of : Option Bool → ℕ → Option Instr
 atomic_of None word = None
-atomic_of (Some width) word = atomic width word
+atomic_of (Some wide) word = atomic wide word

@@ -6,8 +6,7 @@ use crate::function_fields::opcode;
 use crate::groups::{
     amo, branch, jalr, load, misc_mem, op, op_32, op_imm, op_imm_32, store, system,
 };
-use rv_rows::Instr;
-use rv_rows::fields::{j_immediate, rd, u_immediate};
+use rv_rows::{Instr, operands};
 
 /// What this word is, or `None` where it is an illegal instruction.
 #[tactic(auto, using(crate::proofs::Opcodes::upper_words, crate::proofs::Opcodes::pc_words, crate::proofs::Opcodes::jumps, crate::proofs::Opcodes::other_opcodes))]
@@ -18,25 +17,16 @@ pub fn decode(word: u32) -> Option<Instr>
         0x03 => load(word),
         0x0f => misc_mem(word),
         0x13 => op_imm(word),
-        0x17 => Some(Instr::Auipc {
-            rd: rd(word),
-            offset: u_immediate(word),
-        }),
+        0x17 => Some(operands::auipc(word)),
         0x1b => op_imm_32(word),
         0x23 => store(word),
         0x2f => amo(word),
         0x33 => op(word),
-        0x37 => Some(Instr::Lui {
-            rd: rd(word),
-            value: u_immediate(word),
-        }),
+        0x37 => Some(operands::lui(word)),
         0x3b => op_32(word),
         0x63 => branch(word),
         0x67 => jalr(word),
-        0x6f => Some(Instr::Jal {
-            rd: rd(word),
-            offset: j_immediate(word),
-        }),
+        0x6f => Some(operands::jal(word)),
         0x73 => system(word),
         _ => None,
     }

@@ -1,13 +1,13 @@
 // What the function fields of a word choose in each group.
 ghost use Rattle.std.specs.Prelude.{◌≡◌};
-ghost use Rattle.rv_decode.specs.Functions.{funct3, funct5, funct6, funct7, chosen, load_kinds, store_sizes, branch_tests, immediate_ops, left_shifts, right_shifts, left_word_shifts, right_word_shifts, alu_ops, other_alu_ops, muldiv_ops, word_ops, other_word_ops, word_muldiv_ops, widths, amo_ops, csr_ops, csr_imm_ops};
+ghost use Rattle.rv_decode.specs.Functions.{funct3, funct5, funct6, funct7, choice, load_kinds, store_widths, branch_conditions, immediate_ops, left_shifts, right_shifts, left_word_shifts, right_word_shifts, alu_ops, other_alu_ops, muldiv_ops, word_ops, other_word_ops, word_muldiv_ops, atomic_widths, amo_kinds, csr_ops, csr_imm_ops};
 
 use crate::function_fields::{funct3, funct5, funct6, funct7};
-use rv_rows::{AluOp, AmoOp, CsrOp, LoadKind, MulDivOp, StoreSize, Test, Width};
+use rv_rows::{AluOp, AmoKind, Condition, CsrOp, LoadKind, MulDivOp, Width};
 
 /// LOAD by funct3.
 pub fn load_kind(word: u32) -> Option<LoadKind>
-    ensures { result ≡ chosen load_kinds (funct3 word) }
+    ensures { result ≡ choice load_kinds (funct3 word) }
 {
     match funct3(word) {
         0 => Some(LoadKind::Byte),
@@ -22,36 +22,36 @@ pub fn load_kind(word: u32) -> Option<LoadKind>
 }
 
 /// STORE by funct3.
-pub fn store_size(word: u32) -> Option<StoreSize>
-    ensures { result ≡ chosen store_sizes (funct3 word) }
+pub fn store_width(word: u32) -> Option<Width>
+    ensures { result ≡ choice store_widths (funct3 word) }
 {
     match funct3(word) {
-        0 => Some(StoreSize::Byte),
-        1 => Some(StoreSize::Half),
-        2 => Some(StoreSize::Word),
-        3 => Some(StoreSize::Double),
+        0 => Some(Width::Byte),
+        1 => Some(Width::Half),
+        2 => Some(Width::Word),
+        3 => Some(Width::Double),
         _ => None,
     }
 }
 
 /// BRANCH by funct3.
-pub fn branch_test(word: u32) -> Option<Test>
-    ensures { result ≡ chosen branch_tests (funct3 word) }
+pub fn branch_condition(word: u32) -> Option<Condition>
+    ensures { result ≡ choice branch_conditions (funct3 word) }
 {
     match funct3(word) {
-        0 => Some(Test::Eq),
-        1 => Some(Test::Ne),
-        4 => Some(Test::Lt),
-        5 => Some(Test::Ge),
-        6 => Some(Test::Ltu),
-        7 => Some(Test::Geu),
+        0 => Some(Condition::Eq),
+        1 => Some(Condition::Ne),
+        4 => Some(Condition::Lt),
+        5 => Some(Condition::Ge),
+        6 => Some(Condition::Ltu),
+        7 => Some(Condition::Geu),
         _ => None,
     }
 }
 
 /// OP-IMM by funct3, where it is no shift.
 pub fn immediate_op(word: u32) -> Option<AluOp>
-    ensures { result ≡ chosen immediate_ops (funct3 word) }
+    ensures { result ≡ choice immediate_ops (funct3 word) }
 {
     match funct3(word) {
         0 => Some(AluOp::Add),
@@ -66,7 +66,7 @@ pub fn immediate_op(word: u32) -> Option<AluOp>
 
 /// OP-IMM with funct3 1, by funct6.
 pub fn left_shift(word: u32) -> Option<AluOp>
-    ensures { result ≡ chosen left_shifts (funct6 word) }
+    ensures { result ≡ choice left_shifts (funct6 word) }
 {
     match funct6(word) {
         0 => Some(AluOp::Sll),
@@ -76,7 +76,7 @@ pub fn left_shift(word: u32) -> Option<AluOp>
 
 /// OP-IMM with funct3 5, by funct6.
 pub fn right_shift(word: u32) -> Option<AluOp>
-    ensures { result ≡ chosen right_shifts (funct6 word) }
+    ensures { result ≡ choice right_shifts (funct6 word) }
 {
     match funct6(word) {
         0 => Some(AluOp::Srl),
@@ -87,7 +87,7 @@ pub fn right_shift(word: u32) -> Option<AluOp>
 
 /// OP-IMM-32 with funct3 1, by funct7.
 pub fn left_word_shift(word: u32) -> Option<AluOp>
-    ensures { result ≡ chosen left_word_shifts (funct7 word) }
+    ensures { result ≡ choice left_word_shifts (funct7 word) }
 {
     match funct7(word) {
         0 => Some(AluOp::Sllw),
@@ -97,7 +97,7 @@ pub fn left_word_shift(word: u32) -> Option<AluOp>
 
 /// OP-IMM-32 with funct3 5, by funct7.
 pub fn right_word_shift(word: u32) -> Option<AluOp>
-    ensures { result ≡ chosen right_word_shifts (funct7 word) }
+    ensures { result ≡ choice right_word_shifts (funct7 word) }
 {
     match funct7(word) {
         0 => Some(AluOp::Srlw),
@@ -108,7 +108,7 @@ pub fn right_word_shift(word: u32) -> Option<AluOp>
 
 /// OP with funct7 0, by funct3.
 pub fn alu_op(word: u32) -> Option<AluOp>
-    ensures { result ≡ chosen alu_ops (funct3 word) }
+    ensures { result ≡ choice alu_ops (funct3 word) }
 {
     match funct3(word) {
         0 => Some(AluOp::Add),
@@ -125,7 +125,7 @@ pub fn alu_op(word: u32) -> Option<AluOp>
 
 /// OP with funct7 0x20, by funct3.
 pub fn other_alu_op(word: u32) -> Option<AluOp>
-    ensures { result ≡ chosen other_alu_ops (funct3 word) }
+    ensures { result ≡ choice other_alu_ops (funct3 word) }
 {
     match funct3(word) {
         0 => Some(AluOp::Sub),
@@ -136,7 +136,7 @@ pub fn other_alu_op(word: u32) -> Option<AluOp>
 
 /// OP with funct7 1, by funct3.
 pub fn muldiv_op(word: u32) -> Option<MulDivOp>
-    ensures { result ≡ chosen muldiv_ops (funct3 word) }
+    ensures { result ≡ choice muldiv_ops (funct3 word) }
 {
     match funct3(word) {
         0 => Some(MulDivOp::Mul),
@@ -153,7 +153,7 @@ pub fn muldiv_op(word: u32) -> Option<MulDivOp>
 
 /// OP-32 with funct7 0, by funct3.
 pub fn word_op(word: u32) -> Option<AluOp>
-    ensures { result ≡ chosen word_ops (funct3 word) }
+    ensures { result ≡ choice word_ops (funct3 word) }
 {
     match funct3(word) {
         0 => Some(AluOp::Addw),
@@ -165,7 +165,7 @@ pub fn word_op(word: u32) -> Option<AluOp>
 
 /// OP-32 with funct7 0x20, by funct3.
 pub fn other_word_op(word: u32) -> Option<AluOp>
-    ensures { result ≡ chosen other_word_ops (funct3 word) }
+    ensures { result ≡ choice other_word_ops (funct3 word) }
 {
     match funct3(word) {
         0 => Some(AluOp::Subw),
@@ -176,7 +176,7 @@ pub fn other_word_op(word: u32) -> Option<AluOp>
 
 /// OP-32 with funct7 1, by funct3.
 pub fn word_muldiv_op(word: u32) -> Option<MulDivOp>
-    ensures { result ≡ chosen word_muldiv_ops (funct3 word) }
+    ensures { result ≡ choice word_muldiv_ops (funct3 word) }
 {
     match funct3(word) {
         0 => Some(MulDivOp::Mulw),
@@ -188,38 +188,38 @@ pub fn word_muldiv_op(word: u32) -> Option<MulDivOp>
     }
 }
 
-/// AMO by funct3.
-pub fn width(word: u32) -> Option<Width>
-    ensures { result ≡ chosen widths (funct3 word) }
+/// AMO by funct3: whether it is of 8 bytes, else of 4.
+pub fn is_wide(word: u32) -> Option<bool>
+    ensures { result ≡ choice atomic_widths (funct3 word) }
 {
     match funct3(word) {
-        2 => Some(Width::Word),
-        3 => Some(Width::Double),
+        2 => Some(false),
+        3 => Some(true),
         _ => None,
     }
 }
 
 /// AMO by funct5, where it is neither LR nor SC.
-pub fn amo_op(word: u32) -> Option<AmoOp>
-    ensures { result ≡ chosen amo_ops (funct5 word) }
+pub fn amo_kind(word: u32) -> Option<AmoKind>
+    ensures { result ≡ choice amo_kinds (funct5 word) }
 {
     match funct5(word) {
-        0 => Some(AmoOp::Add),
-        1 => Some(AmoOp::Swap),
-        4 => Some(AmoOp::Xor),
-        8 => Some(AmoOp::Or),
-        0xc => Some(AmoOp::And),
-        0x10 => Some(AmoOp::Min),
-        0x14 => Some(AmoOp::Max),
-        0x18 => Some(AmoOp::Minu),
-        0x1c => Some(AmoOp::Maxu),
+        0 => Some(AmoKind::Add),
+        1 => Some(AmoKind::Swap),
+        4 => Some(AmoKind::Xor),
+        8 => Some(AmoKind::Or),
+        0xc => Some(AmoKind::And),
+        0x10 => Some(AmoKind::Min),
+        0x14 => Some(AmoKind::Max),
+        0x18 => Some(AmoKind::MinUnsigned),
+        0x1c => Some(AmoKind::MaxUnsigned),
         _ => None,
     }
 }
 
 /// SYSTEM by funct3, where the source is a register.
 pub fn csr_op(word: u32) -> Option<CsrOp>
-    ensures { result ≡ chosen csr_ops (funct3 word) }
+    ensures { result ≡ choice csr_ops (funct3 word) }
 {
     match funct3(word) {
         1 => Some(CsrOp::Write),
@@ -231,7 +231,7 @@ pub fn csr_op(word: u32) -> Option<CsrOp>
 
 /// SYSTEM by funct3, where the source is an immediate.
 pub fn csr_imm_op(word: u32) -> Option<CsrOp>
-    ensures { result ≡ chosen csr_imm_ops (funct3 word) }
+    ensures { result ≡ choice csr_imm_ops (funct3 word) }
 {
     match funct3(word) {
         5 => Some(CsrOp::Write),

@@ -5,13 +5,12 @@ ghost use Rattle.rv_rows.specs.Table.{instr_of};
 
 use crate::function_fields::{funct3, funct5, funct7};
 use crate::functions::{
-    alu_op, amo_op, branch_test, csr_imm_op, csr_op, immediate_op, left_shift, left_word_shift,
-    load_kind, muldiv_op, other_alu_op, other_word_op, right_shift, right_word_shift, store_size,
-    width, word_muldiv_op, word_op,
+    alu_op, amo_kind, branch_condition, csr_imm_op, csr_op, immediate_op, is_wide, left_shift,
+    left_word_shift, load_kind, muldiv_op, other_alu_op, other_word_op, right_shift,
+    right_word_shift, store_width, word_muldiv_op, word_op,
 };
-use crate::operands::{alu, csr_number, csr_register, immediate, muldiv, shift, word_shift};
-use rv_rows::fields::{b_immediate, bits, i_immediate, rd, rs1, rs2, s_immediate};
-use rv_rows::{AluOp, Instr, Width};
+use rv_rows::fields::bits;
+use rv_rows::{AluOp, Instr, operands};
 
 /// LOAD, opcode 0x03.
 #[tactic(auto, using(crate::proofs::Opcodes::loads))]
@@ -19,15 +18,8 @@ pub fn load(word: u32) -> Option<Instr>
     requires { opcode word ≡ 0x03 }
     ensures { result ≡ instr_of word }
 {
-    match load_kind(word) {
-        Some(kind) => Some(Instr::Load {
-            kind,
-            rd: rd(word),
-            rs1: rs1(word),
-            offset: i_immediate(word),
-        }),
-        None => None,
-    }
+    let kind = load_kind(word)?;
+    Some(operands::load(kind, word))
 }
 
 /// MISC-MEM, opcode 0x0f: fences, whatever their fields.
@@ -50,9 +42,9 @@ pub fn op_imm(word: u32) -> Option<Instr>
     ensures { result ≡ instr_of word }
 {
     match funct3(word) {
-        1 => shift(left_shift(word), word),
-        5 => shift(right_shift(word), word),
-        _ => immediate(immediate_op(word), word),
+        1 => Some(operands::shift(left_shift(word)?, word)),
+        5 => Some(operands::shift(right_shift(word)?, word)),
+        _ => Some(operands::alu_immediate(immediate_op(word)?, word)),
     }
 }
 
@@ -63,9 +55,9 @@ pub fn op_imm_32(word: u32) -> Option<Instr>
     ensures { result ≡ instr_of word }
 {
     match funct3(word) {
-        0 => immediate(Some(AluOp::Addw), word),
-        1 => word_shift(left_word_shift(word), word),
-        5 => word_shift(right_word_shift(word), word),
+        0 => Some(operands::alu_immediate(AluOp::Addw, word)),
+        1 => Some(operands::word_shift(left_word_shift(word)?, word)),
+        5 => Some(operands::word_shift(right_word_shift(word)?, word)),
         _ => None,
     }
 }
@@ -76,49 +68,24 @@ pub fn store(word: u32) -> Option<Instr>
     requires { opcode word ≡ 0x23 }
     ensures { result ≡ instr_of word }
 {
-    match store_size(word) {
-        Some(size) => Some(Instr::Store {
-            size,
-            rs1: rs1(word), // the base of the address
-            rs2: rs2(word), // what is stored
-            offset: s_immediate(word),
-        }),
-        None => None,
-    }
+    let width = store_width(word)?;
+    Some(operands::store(width, word))
 }
 
-/// AMO of this width, whatever aq and rl. LR wants rs2 to be 0.
-fn amo_of(width: Width, word: u32) -> Option<Instr>
-    ensures { result ≡ atomic width word }
+/// AMO, of 8 bytes where it is wide, whatever aq and rl. LR wants rs2 to be 0.
+fn atomic(wide: bool, word: u32) -> Option<Instr>
+    ensures { result ≡ atomic wide word }
 {
     match funct5(word) {
         2 => {
             if bits(word, 24, 20) == 0 {
-                Some(Instr::LoadReserved {
-                    width,
-                    rd: rd(word),
-                    rs1: rs1(word),
-                })
+                Some(operands::load_reserved(wide, word))
             } else {
                 None
             }
         }
-        3 => Some(Instr::StoreConditional {
-            width,
-            rd: rd(word),
-            rs1: rs1(word),
-            rs2: rs2(word),
-        }),
-        _ => match amo_op(word) {
-            Some(op) => Some(Instr::Amo {
-                op,
-                width,
-                rd: rd(word),
-                rs1: rs1(word),
-                rs2: rs2(word),
-            }),
-            None => None,
-        },
+        3 => Some(operands::store_conditional(wide, word)),
+        _ => Some(operands::amo(amo_kind(word)?, wide, word)),
     }
 }
 
@@ -128,10 +95,8 @@ pub fn amo(word: u32) -> Option<Instr>
     requires { opcode word ≡ 0x2f }
     ensures { result ≡ instr_of word }
 {
-    match width(word) {
-        Some(width) => amo_of(width, word),
-        None => None,
-    }
+    let wide = is_wide(word)?;
+    atomic(wide, word)
 }
 
 /// OP, opcode 0x33.
@@ -141,9 +106,9 @@ pub fn op(word: u32) -> Option<Instr>
     ensures { result ≡ instr_of word }
 {
     match funct7(word) {
-        0 => alu(alu_op(word), word),
-        1 => muldiv(muldiv_op(word), word),
-        0x20 => alu(other_alu_op(word), word),
+        0 => Some(operands::alu(alu_op(word)?, word)),
+        1 => Some(operands::muldiv(muldiv_op(word)?, word)),
+        0x20 => Some(operands::alu(other_alu_op(word)?, word)),
         _ => None,
     }
 }
@@ -155,9 +120,9 @@ pub fn op_32(word: u32) -> Option<Instr>
     ensures { result ≡ instr_of word }
 {
     match funct7(word) {
-        0 => alu(word_op(word), word),
-        1 => muldiv(word_muldiv_op(word), word),
-        0x20 => alu(other_word_op(word), word),
+        0 => Some(operands::alu(word_op(word)?, word)),
+        1 => Some(operands::muldiv(word_muldiv_op(word)?, word)),
+        0x20 => Some(operands::alu(other_word_op(word)?, word)),
         _ => None,
     }
 }
@@ -168,15 +133,8 @@ pub fn branch(word: u32) -> Option<Instr>
     requires { opcode word ≡ 0x63 }
     ensures { result ≡ instr_of word }
 {
-    match branch_test(word) {
-        Some(test) => Some(Instr::Branch {
-            test,
-            rs1: rs1(word),
-            rs2: rs2(word),
-            offset: b_immediate(word),
-        }),
-        None => None,
-    }
+    let condition = branch_condition(word)?;
+    Some(operands::branch(condition, word))
 }
 
 /// JALR, opcode 0x67.
@@ -186,11 +144,7 @@ pub fn jalr(word: u32) -> Option<Instr>
     ensures { result ≡ instr_of word }
 {
     if funct3(word) == 0 {
-        Some(Instr::Jalr {
-            rd: rd(word),
-            rs1: rs1(word),
-            offset: i_immediate(word),
-        })
+        Some(operands::jalr(word))
     } else {
         None
     }
@@ -228,8 +182,8 @@ pub fn system(word: u32) -> Option<Instr>
     if number == 0 {
         privileged(word)
     } else if number < 4 {
-        csr_register(csr_op(word), word)
+        Some(operands::csr_register(csr_op(word)?, word))
     } else {
-        csr_number(csr_imm_op(word), word)
+        Some(operands::csr_immediate(csr_imm_op(word)?, word))
     }
 }

@@ -9,12 +9,9 @@ mod dispatch;
 mod function_fields;
 mod functions;
 mod groups;
-mod operands;
 
 pub use dispatch::decode;
-pub use rv_rows::{
-    AluOp, AmoOp, CsrOp, Instr, LoadKind, MulDivOp, Register, StoreSize, Test, Width,
-};
+pub use rv_rows::{AluOp, AmoKind, Condition, CsrOp, Instr, LoadKind, MulDivOp, Register, Width};
 
 #[cfg(test)]
 mod tests;

@@ -1,12 +1,10 @@
 -- The definitions at the manual's corner cases, worked out by hand.
-use Rattle.std.proofs.Common.{◌≡◌, ◌-◌, ◌^◌, false, refl}
+use Rattle.std.proofs.Common.{◌≡◌, ◌-◌, ◌^◌, true, false, refl}
 use Rattle.rv_rows.specs.declared.register.Register.TheVariants.{X0, X1, X2, X3}
 use Rattle.rv_rows.specs.declared.alu.AluOp.TheVariants as AluOp
 use Rattle.rv_rows.specs.declared.alu.MulDivOp.TheVariants as MulDivOp
-use Rattle.rv_rows.specs.declared.branch.Test.TheVariants as Test
+use Rattle.rv_rows.specs.declared.branch.Condition.TheVariants as Condition
 use Rattle.rv_rows.specs.declared.memory.LoadKind.TheVariants as LoadKind
-use Rattle.rv_rows.specs.declared.memory.StoreSize.TheVariants as StoreSize
-use Rattle.rv_rows.specs.declared.memory.AmoOp.TheVariants as AmoOp
 use Rattle.rv_rows.specs.declared.memory.Width.TheVariants as Width
 use Rattle.rv_rows.specs.declared.csr.CsrOp.TheVariants as CsrOp
 use Rattle.rv_rows.specs.declared.csr.CsrAccess.TheVariants as CsrAccess
@@ -15,9 +13,8 @@ use Rattle.rv_rows.specs.declared.effect.Effect.TheVariants as Effect
 use Rattle.rv_rows.specs.declared.instr.Instr.TheVariants as Instr
 use Rattle.rv_rows.specs.Alu.{alu}
 use Rattle.rv_rows.specs.MulDiv.{muldiv}
-use Rattle.rv_rows.specs.Amo.{amo_stored}
 use Rattle.rv_rows.specs.Branches.{is_taken}
-use Rattle.rv_rows.specs.Loads.{loaded}
+use Rattle.rv_rows.specs.Loads.{load_value, atomic_load_value}
 use Rattle.rv_rows.specs.Effects.{effect_of}
 
 -- -2 ^ 63 shifted by 63, and by 64 + 1; -2 ^ 31 as a word, by 31
@@ -75,24 +72,18 @@ div_towards_zero = refl
 rem_sign : muldiv MulDivOp.Rem 0xfffffffffffffff9 2 ≡ 0xffffffffffffffff
 rem_sign = refl
 
--- as words -1 is below 1, whatever the register's upper half
-amomin_word : amo_stored AmoOp.Min Width.Word 1 0x5ffffffff ≡ 0xffffffff
-amomin_word = refl
-
-amominu_word : amo_stored AmoOp.Minu Width.Word 1 0x5ffffffff ≡ 1
-amominu_word = refl
-
-amoadd_word : amo_stored AmoOp.Add Width.Word 0xffffffff 0x500000002 ≡ 1
-amoadd_word = refl
-
-bge_sign : is_taken Test.Ge 0xffffffffffffffff 0 ≡ false
+bge_sign : is_taken Condition.Ge 0xffffffffffffffff 0 ≡ false
 bge_sign = refl
 
-lb_sign : loaded LoadKind.Byte 0x80 ≡ 0xffffffffffffff80
+lb_sign : load_value LoadKind.Byte 0x80 ≡ 0xffffffffffffff80
 lb_sign = refl
 
-lwu_no_sign : loaded LoadKind.WordUnsigned 0x80000000 ≡ 0x80000000
+lwu_no_sign : load_value LoadKind.WordUnsigned 0x80000000 ≡ 0x80000000
 lwu_no_sign = refl
+
+-- a reply of more than 32 bits: LR.W takes its low word
+lr_word : atomic_load_value false 0x180000000 ≡ 0xffffffff80000000
+lr_word = refl
 
 -- a jump to an address that 4 doesn't divide traps, and so does a branch, but only where it is taken
 jal_by_2 : effect_of (Instr.Jal X1 2) 0x1000 0 0 ≡ Effect.Trap InstructionMisaligned 0x1002
@@ -101,10 +92,10 @@ jal_by_2 = refl
 jalr_drops_bit_0 : effect_of (Instr.Jalr X1 X2 5) 0x1000 0x2000 0 ≡ Effect.Jump X1 0x1004 0x2004
 jalr_drops_bit_0 = refl
 
-beq_taken_by_2 : effect_of (Instr.Branch Test.Eq X1 X2 2) 0x1000 7 7 ≡ Effect.Trap InstructionMisaligned 0x1002
+beq_taken_by_2 : effect_of (Instr.Branch Condition.Eq X1 X2 2) 0x1000 7 7 ≡ Effect.Trap InstructionMisaligned 0x1002
 beq_taken_by_2 = refl
 
-beq_not_taken_by_2 : effect_of (Instr.Branch Test.Eq X1 X2 2) 0x1000 7 8 ≡ Effect.Nothing
+beq_not_taken_by_2 : effect_of (Instr.Branch Condition.Eq X1 X2 2) 0x1000 7 8 ≡ Effect.Nothing
 beq_not_taken_by_2 = refl
 
 -- the address wraps
@@ -120,13 +111,13 @@ lw_by_2 = refl
 lb_anywhere : effect_of (Instr.Load LoadKind.Byte X1 X2 3) 0 0x1000 0 ≡ Effect.Load LoadKind.Byte X1 0x1003
 lb_anywhere = refl
 
-sh_low_bytes : effect_of (Instr.Store StoreSize.Half X1 X2 2) 0 0x1000 0x12345 ≡ Effect.Store StoreSize.Half 0x1002 0x2345
+sh_low_bytes : effect_of (Instr.Store Width.Half X1 X2 2) 0 0x1000 0x12345 ≡ Effect.Store Width.Half 0x1002 0x2345
 sh_low_bytes = refl
 
-lr_is_a_load : effect_of (Instr.LoadReserved Width.Double X1 X2) 0 0x1004 0 ≡ Effect.Trap LoadMisaligned 0x1004
+lr_is_a_load : effect_of (Instr.LoadReserved true X1 X2) 0 0x1004 0 ≡ Effect.Trap LoadMisaligned 0x1004
 lr_is_a_load = refl
 
-sc_is_a_store : effect_of (Instr.StoreConditional Width.Word X1 X2 X3) 0 0x1002 0 ≡ Effect.Trap StoreMisaligned 0x1002
+sc_is_a_store : effect_of (Instr.StoreConditional false X1 X2 X3) 0 0x1002 0 ≡ Effect.Trap StoreMisaligned 0x1002
 sc_is_a_store = refl
 
 -- CSRRS with x0 doesn't write, whatever a is, but CSRRW does

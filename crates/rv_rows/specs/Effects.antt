@@ -13,23 +13,23 @@ use Rattle.rv_rows.specs.Registers.{number}
 use Rattle.rv_rows.specs.Alu.{alu}
 use Rattle.rv_rows.specs.MulDiv.{muldiv}
 use Rattle.rv_rows.specs.Branches.{is_taken}
-use Rattle.rv_rows.specs.Loads.{load_bytes, store_bytes, width_bytes, low_bytes}
+use Rattle.rv_rows.specs.Loads.{load_bytes, width_bytes, atomic_bytes, low_bytes}
 
 -- a sum of addresses
-abbrev pub at : ℕ → ℕ → ℕ
-at base offset = (base + offset) % 2 ^ 64
+abbrev pub address_sum : ℕ → ℕ → ℕ
+address_sum base offset = (base + offset) % 2 ^ 64
 
 -- The targets of jumps and taken branches are multiples of 4: a jump or taken branch to another address traps itself
 -- (unprivileged manual, 2.5), and the target goes into stval (privileged manual, supervisor part, "stval").
-abbrev pub to : ℕ → Effect → Effect
-to target effect = if target % 4 == 0 then effect else Effect.Trap InstructionMisaligned target
+abbrev pub transfer : ℕ → Effect → Effect
+transfer target effect = if target % 4 == 0 then effect else Effect.Trap InstructionMisaligned target
 
 abbrev pub jump : Register → ℕ → ℕ → Effect
-jump rd pc target = to target (Effect.Jump rd (at pc 4) target)
+jump rd pc target = transfer target (Effect.Jump rd (address_sum pc 4) target)
 
 -- an access of some bytes at an address that isn't a multiple of them traps, and the address goes into stval
-abbrev pub aligned : ℕ → ℕ → Exception → Effect → Effect
-aligned size address exception effect = if address % size == 0 then effect else Effect.Trap exception address
+abbrev pub if_aligned : ℕ → ℕ → Exception → Effect → Effect
+if_aligned size address exception effect = if address % size == 0 then effect else Effect.Trap exception address
 
 -- a CSR instruction that sets or clears bits doesn't write where its source is x0, or the immediate 0 (9.1)
 abbrev pub csr_access : CsrOp → ℕ → ℕ → CsrAccess
@@ -40,22 +40,23 @@ csr_access CsrOp.Clear source value = if source == 0 then Read else Clear value
 -- a is the value of rs1, and b of rs2
 abbrev pub effect_of : Instr → ℕ → ℕ → ℕ → Effect
 effect_of (Lui rd value) pc a b = Effect.Put rd value
-effect_of (Auipc rd offset) pc a b = Effect.Put rd (at pc offset)
-effect_of (Jal rd offset) pc a b = jump rd pc (at pc offset)
-effect_of (Jalr rd rs1 offset) pc a b = jump rd pc (at a offset / 2 * 2)
-effect_of (Branch test rs1 rs2 offset) pc a b =
-    if is_taken test a b then to (at pc offset) (Effect.Branch (at pc offset)) else Effect.Nothing
+effect_of (Auipc rd offset) pc a b = Effect.Put rd (address_sum pc offset)
+effect_of (Jal rd offset) pc a b = jump rd pc (address_sum pc offset)
+effect_of (Jalr rd rs1 offset) pc a b = jump rd pc (address_sum a offset / 2 * 2)
+effect_of (Branch condition rs1 rs2 offset) pc a b =
+    if is_taken condition a b then transfer (address_sum pc offset) (Effect.Branch (address_sum pc offset)) else Effect.Nothing
 effect_of (Load kind rd rs1 offset) pc a b =
-    aligned (load_bytes kind) (at a offset) LoadMisaligned (Effect.Load kind rd (at a offset))
-effect_of (Store size rs1 rs2 offset) pc a b =
-    aligned (store_bytes size) (at a offset) StoreMisaligned (Effect.Store size (at a offset) (low_bytes (store_bytes size) b))
+    if_aligned (load_bytes kind) (address_sum a offset) LoadMisaligned (Effect.Load kind rd (address_sum a offset))
+effect_of (Store width rs1 rs2 offset) pc a b =
+    if_aligned (width_bytes width) (address_sum a offset) StoreMisaligned
+    (Effect.Store width (address_sum a offset) (low_bytes (width_bytes width) b))
 effect_of (AluImm op rd rs1 value) pc a b = Effect.Put rd (alu op a value)
 effect_of (Alu op rd rs1 rs2) pc a b = Effect.Put rd (alu op a b)
 effect_of (MulDiv op rd rs1 rs2) pc a b = Effect.Put rd (muldiv op a b)
-effect_of (LoadReserved width rd rs1) pc a b = aligned (width_bytes width) a LoadMisaligned (Effect.LoadReserved width rd a)
-effect_of (StoreConditional width rd rs1 rs2) pc a b =
-    aligned (width_bytes width) a StoreMisaligned (Effect.StoreConditional width rd a (low_bytes (width_bytes width) b))
-effect_of (Amo op width rd rs1 rs2) pc a b = aligned (width_bytes width) a StoreMisaligned (Effect.Amo op width rd a b)
+effect_of (LoadReserved wide rd rs1) pc a b = if_aligned (atomic_bytes wide) a LoadMisaligned (Effect.LoadReserved wide rd a)
+effect_of (StoreConditional wide rd rs1 rs2) pc a b =
+    if_aligned (atomic_bytes wide) a StoreMisaligned (Effect.StoreConditional wide rd a (low_bytes (atomic_bytes wide) b))
+effect_of (Amo kind wide rd rs1 rs2) pc a b = if_aligned (atomic_bytes wide) a StoreMisaligned (Effect.Amo kind wide rd a b)
 effect_of Fence pc a b = Effect.Nothing
 effect_of FenceI pc a b = Effect.Nothing
 effect_of Ecall pc a b = Effect.Ecall

@@ -7,25 +7,25 @@ use Rattle.rv_rows.specs.declared.table.Row.{Row}
 use Rattle.rv_rows.specs.Table.{r_type, i_type, s_type, b_type, u_type, j_type, shift, word_shift, lr_type, csr_type, csr_imm_type, plain}
 
 -- the instruction that a word of this form is
-abbrev pub made : Form → ℕ → Instr
-made Form.Lui = u_type Lui
-made Form.Auipc = u_type Auipc
-made Form.Jal = j_type Jal
-made Form.Jalr = i_type Jalr
-made (Form.Branch test) = b_type (Branch test)
-made (Form.Load kind) = i_type (Load kind)
-made (Form.Store size) = s_type (Store size)
-made (Form.Immediate op) = i_type (AluImm op)
-made (Form.Shift op) = shift (AluImm op)
-made (Form.WordShift op) = word_shift (AluImm op)
-made (Form.Alu op) = r_type (Alu op)
-made (Form.MulDiv op) = r_type (MulDiv op)
-made (Form.LoadReserved width) = lr_type width
-made (Form.StoreConditional width) = r_type (StoreConditional width)
-made (Form.Amo op width) = r_type (Amo op width)
-made (Form.Csr op) = csr_type op
-made (Form.CsrImm op) = csr_imm_type op
-made (Form.Plain instr) = plain instr
+abbrev pub instr_of_form : Form → ℕ → Instr
+instr_of_form Form.Lui = u_type Lui
+instr_of_form Form.Auipc = u_type Auipc
+instr_of_form Form.Jal = j_type Jal
+instr_of_form Form.Jalr = i_type Jalr
+instr_of_form (Form.Branch condition) = b_type (Branch condition)
+instr_of_form (Form.Load kind) = i_type (Load kind)
+instr_of_form (Form.Store width) = s_type (Store width)
+instr_of_form (Form.AluImmediate op) = i_type (AluImm op)
+instr_of_form (Form.Shift op) = shift (AluImm op)
+instr_of_form (Form.WordShift op) = word_shift (AluImm op)
+instr_of_form (Form.Alu op) = r_type (Alu op)
+instr_of_form (Form.MulDiv op) = r_type (MulDiv op)
+instr_of_form (Form.LoadReserved wide) = lr_type wide
+instr_of_form (Form.StoreConditional wide) = r_type (StoreConditional wide)
+instr_of_form (Form.Amo kind wide) = r_type (Amo kind wide)
+instr_of_form (Form.CsrRegister op) = csr_type op
+instr_of_form (Form.CsrImmediate op) = csr_imm_type op
+instr_of_form (Form.Plain instr) = plain instr
 
 -- the form of the first row that fits
 abbrev pub first_fit : List Row → ℕ → Option Form

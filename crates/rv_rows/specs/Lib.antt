@@ -1,5 +1,4 @@
 pub mod Alu
-pub mod Amo
 pub mod Branches
 pub mod Effects
 pub mod Exceptions
@@ -7,6 +6,7 @@ pub mod Fields
 pub mod Forms
 pub mod Loads
 pub mod MulDiv
+pub mod Names
 pub mod Numbers
 pub mod Registers
 pub mod Sources

@@ -1,27 +1,26 @@
 -- The table of instructions, one row each, as the manuals list them (unprivileged manual, chapter 24, "RV32/64G
 -- Instruction Set Listings"; privileged manual, "RISC-V Privileged Instruction Set Listings"): mask, match, and the
 -- instruction as a function of the word.
-use Rattle.std.specs.Prelude.{ℕ, ◌==◌, if◌then◌else◌, List, [], ◌∷◌, Option, Some, None, bit_and}
+use Rattle.std.specs.Prelude.{ℕ, Bool, true, false, ◌==◌, if◌then◌else◌, List, [], ◌∷◌, Option, Some, None, bit_and}
 use Rattle.rv_rows.specs.declared.register.Register.{Register}
 use Rattle.rv_rows.specs.declared.alu.AluOp.TheVariants as AluOp
 use Rattle.rv_rows.specs.declared.alu.MulDivOp.TheVariants as MulDivOp
-use Rattle.rv_rows.specs.declared.branch.Test.TheVariants as Test
+use Rattle.rv_rows.specs.declared.branch.Condition.TheVariants as Condition
 use Rattle.rv_rows.specs.declared.memory.LoadKind.TheVariants as LoadKind
-use Rattle.rv_rows.specs.declared.memory.StoreSize.TheVariants as StoreSize
-use Rattle.rv_rows.specs.declared.memory.AmoOp.TheVariants as AmoOp
-use Rattle.rv_rows.specs.declared.memory.Width.{Width}
+use Rattle.rv_rows.specs.declared.memory.Width.TheVariants as Width
+use Rattle.vm_types.specs.declared.op.AmoKind.TheVariants as AmoKind
 use Rattle.rv_rows.specs.declared.csr.CsrOp.{CsrOp}
 use Rattle.rv_rows.specs.declared.instr.Instr.{Instr}
 use Rattle.rv_rows.specs.declared.instr.Instr.TheVariants.{Lui, Auipc, Jal, Jalr, Branch, Load, Store, AluImm, Alu, MulDiv, LoadReserved, StoreConditional, Amo, Fence, FenceI, Ecall, Ebreak, Sret, Wfi, SfenceVma, Csr, CsrImm}
 use Rattle.rv_rows.specs.Fields.{rd_field, rs1_field, rs2_field, csr_field, csr_immediate, i_immediate, s_immediate, b_immediate, u_immediate, j_immediate, shift_amount, word_shift_amount}
 
 -- a word is a row's instruction where its bits under the mask are those that must match
-pub record Line : Type 0 where
+pub record Encoding : Type 0 where
   pub mask : ℕ
   pub matched : ℕ
   pub instr : ℕ → Instr
 
-abbrev pub row : ℕ → ℕ → (ℕ → Instr) → Line
+abbrev pub row : ℕ → ℕ → (ℕ → Instr) → Encoding
 row mask matched instr = record { mask = mask; matched = matched; instr = instr }
 
 -- the types of the manual (2.2 and 2.3)
@@ -50,9 +49,16 @@ shift instr word = instr (rd_field word) (rs1_field word) (shift_amount word)
 abbrev pub word_shift : (Register → Register → ℕ → Instr) → ℕ → Instr
 word_shift instr word = instr (rd_field word) (rs1_field word) (word_shift_amount word)
 
+-- the suffixes of the extension A (8.1): 4 bytes, and 8
+abbrev pub dot_w : Bool
+dot_w = false
+
+abbrev pub dot_d : Bool
+dot_d = true
+
 -- LR has no second register (8.2)
-abbrev pub lr_type : Width → ℕ → Instr
-lr_type width word = LoadReserved width (rd_field word) (rs1_field word)
+abbrev pub lr_type : Bool → ℕ → Instr
+lr_type wide word = LoadReserved wide (rd_field word) (rs1_field word)
 
 -- the CSR instructions (9.1)
 abbrev pub csr_type : CsrOp → ℕ → Instr
@@ -65,19 +71,19 @@ csr_imm_type op word = CsrImm op (rd_field word) (csr_field word) (csr_immediate
 abbrev pub plain : Instr → ℕ → Instr
 plain instr word = instr
 
-abbrev pub rows : List Line
+abbrev pub rows : List Encoding
 rows =
     -- RV32I and RV64I. The other fields of FENCE may be anything (2.7).
     row 0x0000007f 0x00000037 (u_type Lui)
     ∷ row 0x0000007f 0x00000017 (u_type Auipc)
     ∷ row 0x0000007f 0x0000006f (j_type Jal)
     ∷ row 0x0000707f 0x00000067 (i_type Jalr)
-    ∷ row 0x0000707f 0x00000063 (b_type (Branch Test.Eq))
-    ∷ row 0x0000707f 0x00001063 (b_type (Branch Test.Ne))
-    ∷ row 0x0000707f 0x00004063 (b_type (Branch Test.Lt))
-    ∷ row 0x0000707f 0x00005063 (b_type (Branch Test.Ge))
-    ∷ row 0x0000707f 0x00006063 (b_type (Branch Test.Ltu))
-    ∷ row 0x0000707f 0x00007063 (b_type (Branch Test.Geu))
+    ∷ row 0x0000707f 0x00000063 (b_type (Branch Condition.Eq))
+    ∷ row 0x0000707f 0x00001063 (b_type (Branch Condition.Ne))
+    ∷ row 0x0000707f 0x00004063 (b_type (Branch Condition.Lt))
+    ∷ row 0x0000707f 0x00005063 (b_type (Branch Condition.Ge))
+    ∷ row 0x0000707f 0x00006063 (b_type (Branch Condition.Ltu))
+    ∷ row 0x0000707f 0x00007063 (b_type (Branch Condition.Geu))
     ∷ row 0x0000707f 0x00000003 (i_type (Load LoadKind.Byte))
     ∷ row 0x0000707f 0x00001003 (i_type (Load LoadKind.Half))
     ∷ row 0x0000707f 0x00002003 (i_type (Load LoadKind.Word))
@@ -85,10 +91,10 @@ rows =
     ∷ row 0x0000707f 0x00004003 (i_type (Load LoadKind.ByteUnsigned))
     ∷ row 0x0000707f 0x00005003 (i_type (Load LoadKind.HalfUnsigned))
     ∷ row 0x0000707f 0x00006003 (i_type (Load LoadKind.WordUnsigned))
-    ∷ row 0x0000707f 0x00000023 (s_type (Store StoreSize.Byte))
-    ∷ row 0x0000707f 0x00001023 (s_type (Store StoreSize.Half))
-    ∷ row 0x0000707f 0x00002023 (s_type (Store StoreSize.Word))
-    ∷ row 0x0000707f 0x00003023 (s_type (Store StoreSize.Double))
+    ∷ row 0x0000707f 0x00000023 (s_type (Store Width.Byte))
+    ∷ row 0x0000707f 0x00001023 (s_type (Store Width.Half))
+    ∷ row 0x0000707f 0x00002023 (s_type (Store Width.Word))
+    ∷ row 0x0000707f 0x00003023 (s_type (Store Width.Double))
     ∷ row 0x0000707f 0x00000013 (i_type (AluImm AluOp.Add))
     ∷ row 0x0000707f 0x00002013 (i_type (AluImm AluOp.Slt))
     ∷ row 0x0000707f 0x00003013 (i_type (AluImm AluOp.Sltu))
@@ -144,28 +150,28 @@ rows =
     ∷ row 0xfe00707f 0x0200603b (r_type (MulDiv MulDivOp.Remw))
     ∷ row 0xfe00707f 0x0200703b (r_type (MulDiv MulDivOp.Remuw))
     -- RV32A and RV64A: aq and rl, bits 26 and 25, may be any, and LR wants rs2 to be 0
-    ∷ row 0xf9f0707f 0x1000202f (lr_type Width.Word)
-    ∷ row 0xf800707f 0x1800202f (r_type (StoreConditional Width.Word))
-    ∷ row 0xf800707f 0x0800202f (r_type (Amo AmoOp.Swap Width.Word))
-    ∷ row 0xf800707f 0x0000202f (r_type (Amo AmoOp.Add Width.Word))
-    ∷ row 0xf800707f 0x2000202f (r_type (Amo AmoOp.Xor Width.Word))
-    ∷ row 0xf800707f 0x6000202f (r_type (Amo AmoOp.And Width.Word))
-    ∷ row 0xf800707f 0x4000202f (r_type (Amo AmoOp.Or Width.Word))
-    ∷ row 0xf800707f 0x8000202f (r_type (Amo AmoOp.Min Width.Word))
-    ∷ row 0xf800707f 0xa000202f (r_type (Amo AmoOp.Max Width.Word))
-    ∷ row 0xf800707f 0xc000202f (r_type (Amo AmoOp.Minu Width.Word))
-    ∷ row 0xf800707f 0xe000202f (r_type (Amo AmoOp.Maxu Width.Word))
-    ∷ row 0xf9f0707f 0x1000302f (lr_type Width.Double)
-    ∷ row 0xf800707f 0x1800302f (r_type (StoreConditional Width.Double))
-    ∷ row 0xf800707f 0x0800302f (r_type (Amo AmoOp.Swap Width.Double))
-    ∷ row 0xf800707f 0x0000302f (r_type (Amo AmoOp.Add Width.Double))
-    ∷ row 0xf800707f 0x2000302f (r_type (Amo AmoOp.Xor Width.Double))
-    ∷ row 0xf800707f 0x6000302f (r_type (Amo AmoOp.And Width.Double))
-    ∷ row 0xf800707f 0x4000302f (r_type (Amo AmoOp.Or Width.Double))
-    ∷ row 0xf800707f 0x8000302f (r_type (Amo AmoOp.Min Width.Double))
-    ∷ row 0xf800707f 0xa000302f (r_type (Amo AmoOp.Max Width.Double))
-    ∷ row 0xf800707f 0xc000302f (r_type (Amo AmoOp.Minu Width.Double))
-    ∷ row 0xf800707f 0xe000302f (r_type (Amo AmoOp.Maxu Width.Double))
+    ∷ row 0xf9f0707f 0x1000202f (lr_type dot_w)
+    ∷ row 0xf800707f 0x1800202f (r_type (StoreConditional dot_w))
+    ∷ row 0xf800707f 0x0800202f (r_type (Amo AmoKind.Swap dot_w))
+    ∷ row 0xf800707f 0x0000202f (r_type (Amo AmoKind.Add dot_w))
+    ∷ row 0xf800707f 0x2000202f (r_type (Amo AmoKind.Xor dot_w))
+    ∷ row 0xf800707f 0x6000202f (r_type (Amo AmoKind.And dot_w))
+    ∷ row 0xf800707f 0x4000202f (r_type (Amo AmoKind.Or dot_w))
+    ∷ row 0xf800707f 0x8000202f (r_type (Amo AmoKind.Min dot_w))
+    ∷ row 0xf800707f 0xa000202f (r_type (Amo AmoKind.Max dot_w))
+    ∷ row 0xf800707f 0xc000202f (r_type (Amo AmoKind.MinUnsigned dot_w))
+    ∷ row 0xf800707f 0xe000202f (r_type (Amo AmoKind.MaxUnsigned dot_w))
+    ∷ row 0xf9f0707f 0x1000302f (lr_type dot_d)
+    ∷ row 0xf800707f 0x1800302f (r_type (StoreConditional dot_d))
+    ∷ row 0xf800707f 0x0800302f (r_type (Amo AmoKind.Swap dot_d))
+    ∷ row 0xf800707f 0x0000302f (r_type (Amo AmoKind.Add dot_d))
+    ∷ row 0xf800707f 0x2000302f (r_type (Amo AmoKind.Xor dot_d))
+    ∷ row 0xf800707f 0x6000302f (r_type (Amo AmoKind.And dot_d))
+    ∷ row 0xf800707f 0x4000302f (r_type (Amo AmoKind.Or dot_d))
+    ∷ row 0xf800707f 0x8000302f (r_type (Amo AmoKind.Min dot_d))
+    ∷ row 0xf800707f 0xa000302f (r_type (Amo AmoKind.Max dot_d))
+    ∷ row 0xf800707f 0xc000302f (r_type (Amo AmoKind.MinUnsigned dot_d))
+    ∷ row 0xf800707f 0xe000302f (r_type (Amo AmoKind.MaxUnsigned dot_d))
     -- the privileged manual, supervisor part: SFENCE.VMA takes any rs1 and rs2, and wants rd to be 0
     ∷ row 0xffffffff 0x10200073 (plain Sret)
     ∷ row 0xffffffff 0x10500073 (plain Wfi)
@@ -173,9 +179,9 @@ rows =
     ∷ []
 
 -- the first row that fits a word
-abbrev pub first_row : List Line → ℕ → Option Instr
+abbrev pub first_row : List Encoding → ℕ → Option Instr
 first_row [] word = None
-first_row (line ∷ more) word = if bit_and word line.mask == line.matched then Some (line.instr word) else first_row more word
+first_row (it ∷ more) word = if bit_and word it.mask == it.matched then Some (it.instr word) else first_row more word
 
 -- what a word is, or None where it is no instruction
 unfoldable pub instr_of : ℕ → Option Instr

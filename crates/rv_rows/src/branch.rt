@@ -1,8 +1,8 @@
 // When a branch is taken.
 
-/// The test of a conditional branch (unprivileged manual, 2.5, "Conditional Branches").
+/// When a conditional branch is taken (unprivileged manual, 2.5, "Conditional Branches").
 #[derive(Clone, Copy, Debug, PartialEq, Eq, Drop)]
-pub enum Test {
+pub enum Condition {
     Eq,
     Ne,
     Lt,

@@ -2,8 +2,9 @@
 
 use crate::csr::CsrAccess;
 use crate::exception::Exception;
-use crate::memory::{AmoOp, LoadKind, StoreSize, Width};
+use crate::memory::{LoadKind, Width};
 use crate::register::Register;
+use vm_types::AmoKind;
 
 /// What an instruction does, before any memory or CSR is asked. Where nothing else is said, the next instruction is
 /// the one behind it.
@@ -32,22 +33,22 @@ pub enum Effect {
         rd: Register,
         address: u64,
     },
-    /// The value, of no more than the size, is stored at this address.
+    /// The value, of no more bits than the width has, is stored at this address.
     Store {
-        size: StoreSize,
+        width: Width,
         address: u64,
         value: u64,
     },
     /// rd gets what is loaded from this address, which the hart reserves.
     LoadReserved {
-        width: Width,
+        wide: bool,
         rd: Register,
         address: u64,
     },
-    /// Where the hart holds a reservation, the value, of no more than the width, is stored at this address; rd gets 0
-    /// where it was stored, or else 1.
+    /// Where the hart holds a reservation, the value, of 32 bits where it isn't wide, is stored at this address; rd
+    /// gets 0 where it was stored, or else 1.
     StoreConditional {
-        width: Width,
+        wide: bool,
         rd: Register,
         address: u64,
         value: u64,
@@ -55,8 +56,8 @@ pub enum Effect {
     /// rd gets what is loaded from this address, and what the operation makes of it and of the value, the whole
     /// register, is stored there.
     Amo {
-        op: AmoOp,
-        width: Width,
+        kind: AmoKind,
+        wide: bool,
         rd: Register,
         address: u64,
         value: u64,

@@ -1,7 +1,8 @@
 // The fields of a word and its immediates.
 ghost use Rattle.std.specs.Prelude.{◌≡◌, ◌+◌, ◌-◌, ◌<◌, ◌≤◌, ◌^◌};
-ghost use Rattle.rv_rows.specs.Fields.{bits, sign_extended, rd_field, rs1_field, rs2_field, csr_field, i_immediate, s_immediate, b_immediate, u_immediate, j_immediate, shift_amount, word_shift_amount, csr_immediate};
+ghost use Rattle.rv_rows.specs.Fields.{bits, rd_field, rs1_field, rs2_field, csr_field, i_immediate, s_immediate, b_immediate, u_immediate, j_immediate, shift_amount, word_shift_amount, csr_immediate};
 
+use crate::numbers::sign_extended;
 use crate::register::Register;
 
 /// Bits `high` to `low` of the word: `inst[high:low]` in the manual.
@@ -13,53 +14,6 @@ pub fn bits(word: u32, high: u32, low: u32) -> u32
     ensures bound { result < 2 ^ (high + 1 - low) }
 {
     (word >> low) % (1 << (high + 1 - low))
-}
-
-/// A number of 12 bits, its sign extended.
-fn sign_extended_12(n: u32) -> u64
-    requires { n < 2 ^ 12 }
-    ensures { result ≡ sign_extended 12 n }
-{
-    if n < 0x800 {
-        n as u64
-    } else {
-        n as u64 + 0xffff_ffff_ffff_f000
-    }
-}
-
-/// A number of 13 bits, its sign extended.
-fn sign_extended_13(n: u32) -> u64
-    requires { n < 2 ^ 13 }
-    ensures { result ≡ sign_extended 13 n }
-{
-    if n < 0x1000 {
-        n as u64
-    } else {
-        n as u64 + 0xffff_ffff_ffff_e000
-    }
-}
-
-/// A number of 21 bits, its sign extended.
-fn sign_extended_21(n: u32) -> u64
-    requires { n < 2 ^ 21 }
-    ensures { result ≡ sign_extended 21 n }
-{
-    if n < 0x10_0000 {
-        n as u64
-    } else {
-        n as u64 + 0xffff_ffff_ffe0_0000
-    }
-}
-
-/// A number of 32 bits, its sign extended.
-fn sign_extended_32(n: u32) -> u64
-    ensures { result ≡ sign_extended 32 n }
-{
-    if n < 0x8000_0000 {
-        n as u64
-    } else {
-        n as u64 + 0xffff_ffff_0000_0000
-    }
 }
 
 /// Bits 7 to 11: the destination.
@@ -101,45 +55,45 @@ pub fn csr_immediate(word: u32) -> u64
 pub fn i_immediate(word: u32) -> u64
     ensures { result ≡ i_immediate word }
 {
-    sign_extended_12(bits(word, 31, 20))
+    sign_extended(12, bits(word, 31, 20) as u64)
 }
 
 /// The immediate of the S-type.
 pub fn s_immediate(word: u32) -> u64
     ensures { result ≡ s_immediate word }
 {
-    sign_extended_12(bits(word, 31, 25) * 0x20 + bits(word, 11, 7))
+    let n = bits(word, 31, 25) * 0x20 + bits(word, 11, 7);
+    sign_extended(12, n as u64)
 }
 
 /// The immediate of the B-type.
 pub fn b_immediate(word: u32) -> u64
     ensures { result ≡ b_immediate word }
 {
-    sign_extended_13(
-        bits(word, 31, 31) * 0x1000
-            + bits(word, 7, 7) * 0x800
-            + bits(word, 30, 25) * 0x20
-            + bits(word, 11, 8) * 2,
-    )
+    let n = bits(word, 31, 31) * 0x1000
+        + bits(word, 7, 7) * 0x800
+        + bits(word, 30, 25) * 0x20
+        + bits(word, 11, 8) * 2;
+    sign_extended(13, n as u64)
 }
 
 /// The immediate of the U-type.
 pub fn u_immediate(word: u32) -> u64
     ensures { result ≡ u_immediate word }
 {
-    sign_extended_32(bits(word, 31, 12) * 0x1000)
+    let n = bits(word, 31, 12) * 0x1000;
+    sign_extended(32, n as u64)
 }
 
 /// The immediate of the J-type.
 pub fn j_immediate(word: u32) -> u64
     ensures { result ≡ j_immediate word }
 {
-    sign_extended_21(
-        bits(word, 31, 31) * 0x10_0000
-            + bits(word, 19, 12) * 0x1000
-            + bits(word, 20, 20) * 0x800
-            + bits(word, 30, 21) * 2,
-    )
+    let n = bits(word, 31, 31) * 0x10_0000
+        + bits(word, 19, 12) * 0x1000
+        + bits(word, 20, 20) * 0x800
+        + bits(word, 30, 21) * 2;
+    sign_extended(21, n as u64)
 }
 
 /// Bits 20 to 25: the amount of a shift.

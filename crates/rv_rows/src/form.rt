@@ -1,16 +1,14 @@
 // The forms of the table's rows: which fields a word has, and what instruction they make.
 ghost use Rattle.std.specs.Prelude.{◌≡◌};
-ghost use Rattle.rv_rows.specs.Forms.{made};
+ghost use Rattle.rv_rows.specs.Forms.{instr_of_form};
 
 use crate::alu::{AluOp, MulDivOp};
-use crate::branch::Test;
+use crate::branch::Condition;
 use crate::csr::CsrOp;
-use crate::fields::{
-    b_immediate, csr, csr_immediate, i_immediate, j_immediate, rd, rs1, rs2, s_immediate,
-    shift_amount, u_immediate, word_shift_amount,
-};
 use crate::instr::Instr;
-use crate::memory::{AmoOp, LoadKind, StoreSize, Width};
+use crate::memory::{LoadKind, Width};
+use crate::operands;
+use vm_types::AmoKind;
 
 /// What a row makes of a word.
 #[derive(Clone, Copy, Debug, PartialEq, Eq, Drop)]
@@ -19,123 +17,48 @@ pub enum Form {
     Auipc,
     Jal,
     Jalr,
-    Branch(Test),
+    Branch(Condition),
     Load(LoadKind),
-    Store(StoreSize),
-    Immediate(AluOp),
+    Store(Width),
+    AluImmediate(AluOp),
     Shift(AluOp),
     WordShift(AluOp),
     Alu(AluOp),
     MulDiv(MulDivOp),
-    LoadReserved(Width),
-    StoreConditional(Width),
-    Amo(AmoOp, Width),
-    Csr(CsrOp),
-    CsrImm(CsrOp),
+    /// Of 8 bytes where it is true, else of 4.
+    LoadReserved(bool),
+    /// Of 8 bytes where it is true, else of 4.
+    StoreConditional(bool),
+    /// Of 8 bytes where it is true, else of 4.
+    Amo(AmoKind, bool),
+    CsrRegister(CsrOp),
+    CsrImmediate(CsrOp),
     /// The instruction has no operands.
     Plain(Instr),
 }
 
 /// The instruction that a word of this form is.
 pub fn instr(form: Form, word: u32) -> Instr
-    ensures { result ≡ made form word }
+    ensures { result ≡ instr_of_form form word }
 {
     match form {
-        Form::Lui => Instr::Lui {
-            rd: rd(word),
-            value: u_immediate(word),
-        },
-        Form::Auipc => Instr::Auipc {
-            rd: rd(word),
-            offset: u_immediate(word),
-        },
-        Form::Jal => Instr::Jal {
-            rd: rd(word),
-            offset: j_immediate(word),
-        },
-        Form::Jalr => Instr::Jalr {
-            rd: rd(word),
-            rs1: rs1(word),
-            offset: i_immediate(word),
-        },
-        Form::Branch(test) => Instr::Branch {
-            test,
-            rs1: rs1(word),
-            rs2: rs2(word),
-            offset: b_immediate(word),
-        },
-        Form::Load(kind) => Instr::Load {
-            kind,
-            rd: rd(word),
-            rs1: rs1(word),
-            offset: i_immediate(word),
-        },
-        Form::Store(size) => Instr::Store {
-            size,
-            rs1: rs1(word),
-            rs2: rs2(word),
-            offset: s_immediate(word),
-        },
-        Form::Immediate(op) => Instr::AluImm {
-            op,
-            rd: rd(word),
-            rs1: rs1(word),
-            value: i_immediate(word),
-        },
-        Form::Shift(op) => Instr::AluImm {
-            op,
-            rd: rd(word),
-            rs1: rs1(word),
-            value: shift_amount(word),
-        },
-        Form::WordShift(op) => Instr::AluImm {
-            op,
-            rd: rd(word),
-            rs1: rs1(word),
-            value: word_shift_amount(word),
-        },
-        Form::Alu(op) => Instr::Alu {
-            op,
-            rd: rd(word),
-            rs1: rs1(word),
-            rs2: rs2(word),
-        },
-        Form::MulDiv(op) => Instr::MulDiv {
-            op,
-            rd: rd(word),
-            rs1: rs1(word),
-            rs2: rs2(word),
-        },
-        Form::LoadReserved(width) => Instr::LoadReserved {
-            width,
-            rd: rd(word),
-            rs1: rs1(word),
-        },
-        Form::StoreConditional(width) => Instr::StoreConditional {
-            width,
-            rd: rd(word),
-            rs1: rs1(word),
-            rs2: rs2(word),
-        },
-        Form::Amo(op, width) => Instr::Amo {
-            op,
-            width,
-            rd: rd(word),
-            rs1: rs1(word),
-            rs2: rs2(word),
-        },
-        Form::Csr(op) => Instr::Csr {
-            op,
-            rd: rd(word),
-            csr: csr(word),
-            rs1: rs1(word),
-        },
-        Form::CsrImm(op) => Instr::CsrImm {
-            op,
-            rd: rd(word),
-            csr: csr(word),
-            value: csr_immediate(word),
-        },
+        Form::Lui => operands::lui(word),
+        Form::Auipc => operands::auipc(word),
+        Form::Jal => operands::jal(word),
+        Form::Jalr => operands::jalr(word),
+        Form::Branch(condition) => operands::branch(condition, word),
+        Form::Load(kind) => operands::load(kind, word),
+        Form::Store(width) => operands::store(width, word),
+        Form::AluImmediate(op) => operands::alu_immediate(op, word),
+        Form::Shift(op) => operands::shift(op, word),
+        Form::WordShift(op) => operands::word_shift(op, word),
+        Form::Alu(op) => operands::alu(op, word),
+        Form::MulDiv(op) => operands::muldiv(op, word),
+        Form::LoadReserved(wide) => operands::load_reserved(wide, word),
+        Form::StoreConditional(wide) => operands::store_conditional(wide, word),
+        Form::Amo(kind, wide) => operands::amo(kind, wide, word),
+        Form::CsrRegister(op) => operands::csr_register(op, word),
+        Form::CsrImmediate(op) => operands::csr_immediate(op, word),
         Form::Plain(instr) => instr,
     }
 }

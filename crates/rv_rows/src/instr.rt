@@ -3,10 +3,11 @@ ghost use Rattle.std.specs.Prelude.{◌≡◌};
 ghost use Rattle.rv_rows.specs.Sources.{rs1_of, rs2_of};
 
 use crate::alu::{AluOp, MulDivOp};
-use crate::branch::Test;
+use crate::branch::Condition;
 use crate::csr::CsrOp;
-use crate::memory::{AmoOp, LoadKind, StoreSize, Width};
+use crate::memory::{LoadKind, Width};
 use crate::register::Register;
+use vm_types::AmoKind;
 
 /// An instruction. Immediates and offsets are sign-extended to 64 bits.
 #[derive(Clone, Copy, Debug, PartialEq, Eq, Drop)]
@@ -29,7 +30,7 @@ pub enum Instr {
         offset: u64,
     },
     Branch {
-        test: Test,
+        condition: Condition,
         rs1: Register,
         rs2: Register,
         offset: u64,
@@ -41,7 +42,7 @@ pub enum Instr {
         offset: u64,
     },
     Store {
-        size: StoreSize,
+        width: Width,
         rs1: Register,
         rs2: Register,
         offset: u64,
@@ -66,19 +67,19 @@ pub enum Instr {
         rs2: Register,
     },
     LoadReserved {
-        width: Width,
+        wide: bool,
         rd: Register,
         rs1: Register,
     },
     StoreConditional {
-        width: Width,
+        wide: bool,
         rd: Register,
         rs1: Register,
         rs2: Register,
     },
     Amo {
-        op: AmoOp,
-        width: Width,
+        kind: AmoKind,
+        wide: bool,
         rd: Register,
         rs1: Register,
         rs2: Register,

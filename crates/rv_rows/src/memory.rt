@@ -1,8 +1,13 @@
 // How much an access takes, and what becomes of it.
+ghost use Rattle.std.specs.Prelude.{◌≡◌, ◌<◌};
+ghost use Rattle.rv_rows.specs.Loads.{load_width, width_bytes, atomic_width};
 
-/// The width of an instruction of the extension A: 4 or 8 bytes (unprivileged manual, chapter 8).
+/// How many bytes an access takes, of a store the low ones of its register: 1, 2, 4 or 8 (unprivileged manual, 2.6
+/// and 5.3). The instructions of the extension A take 4, or 8 where they are `wide` (chapter 8).
 #[derive(Clone, Copy, Debug, PartialEq, Eq, Drop)]
 pub enum Width {
+    Byte,
+    Half,
     Word,
     Double,
 }
@@ -20,25 +25,41 @@ pub enum LoadKind {
     WordUnsigned,
 }
 
-/// How many of a register's low bytes a store puts into memory: 1, 2, 4 or 8 (unprivileged manual, 2.6 and 5.3).
-#[derive(Clone, Copy, Debug, PartialEq, Eq, Drop)]
-pub enum StoreSize {
-    Byte,
-    Half,
-    Word,
-    Double,
+impl Width {
+    /// How many bytes an instruction of the extension A takes: 8 where it is wide, else 4.
+    #[inline]
+    pub fn of_atomic(wide: bool) -> Width
+        ensures { result ≡ atomic_width wide }
+    {
+        if wide { Width::Double } else { Width::Word }
+    }
+
+    /// The number of bytes.
+    #[inline]
+    pub fn bytes(self) -> usize
+        ensures is { result ≡ width_bytes self }
+        ensures some { 0 < result }
+    {
+        match self {
+            Width::Byte => 1,
+            Width::Half => 2,
+            Width::Word => 4,
+            Width::Double => 8,
+        }
+    }
 }
 
-/// What an atomic memory operation makes of what was loaded and of a register (unprivileged manual, 8.4).
-#[derive(Clone, Copy, Debug, PartialEq, Eq, Drop)]
-pub enum AmoOp {
-    Swap,
-    Add,
-    Xor,
-    And,
-    Or,
-    Min,
-    Max,
-    Minu,
-    Maxu,
+impl LoadKind {
+    /// How many bytes the load takes.
+    #[inline]
+    pub fn width(self) -> Width
+        ensures { result ≡ load_width self }
+    {
+        match self {
+            LoadKind::Byte | LoadKind::ByteUnsigned => Width::Byte,
+            LoadKind::Half | LoadKind::HalfUnsigned => Width::Half,
+            LoadKind::Word | LoadKind::WordUnsigned => Width::Word,
+            LoadKind::Double => Width::Double,
+        }
+    }
 }

@@ -1,5 +1,8 @@
 // What words are, by other assemblers and disassemblers.
 
-mod names;
+mod corners;
+mod immediates;
+mod offsets;
 mod operands;
+mod registers;
 mod words;

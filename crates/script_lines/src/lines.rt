@@ -10,7 +10,8 @@ pub fn first_line(text: &[u8]) -> Option<usize>
     ensures within { IfSome result (λ end. end < length text.now) }
     ensures lines { IfSome result (λ end. lines_of text.now ≡ take end text.now ∷ lines_of (drop (end + 1) text.now)) }
     ensures none_judged { IfNone result (judged text.now ≡ []) }
-    ensures judged { IfSome result (λ end. judged text.now ≡ item_of (take end text.now) ∷ judged (drop (end + 1) text.now)) }
+    ensures judged { IfSome result
+        (λ end. judged text.now ≡ item_of (take end text.now) ∷ judged (drop (end + 1) text.now)) }
 {
     find_end(text)
 }

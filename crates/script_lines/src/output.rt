@@ -1,6 +1,7 @@
 // The lines that a run writes.
 ghost use Rattle.std.specs.Prelude.{◌≡◌, ◌++◌, ◌<◌, IfOk, OnOk};
-ghost use Rattle.script_lines.specs.Output.{body_part, console_line, hex_digit, last_line, no_actor_line, not_running_line, reply_line, shown};
+ghost use Rattle.script_lines.specs.Output.{body_part, console_line, hex_digit, last_line};
+ghost use Rattle.script_lines.specs.Output.{no_actor_line, not_running_line, reply_line, shown};
 
 use api_admission::Answer;
 use itoa::Buffer;

@@ -226,15 +226,9 @@ fn last_lines(rt: HostRuntime) -> Result<(), Fail> {
             Exit::Script { line: u64::MAX },
             ". script 18446744073709551615\n",
         ),
-        (
-            Exit::Fault(Object::Source),
-            ". fault Source\n",
-        ),
+        (Exit::Fault(Object::Source), ". fault Source\n"),
         (Exit::Fault(Object::Sink), ""),
-        (
-            Exit::Fault(Object::Files),
-            ". fault Files\n",
-        ),
+        (Exit::Fault(Object::Files), ". fault Files\n"),
         (Exit::OutOfMemory, ". memory\n"),
     ] {
         assert_eq!(rt;

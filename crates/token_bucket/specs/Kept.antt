@@ -45,5 +45,6 @@ last_of_all = 2 ^ 64 - 1
 -- that is later
 pub record IsWait (rate : Rate) (start : Start) (needs : List Need) (tokens wait : ℕ) : Type 0 where
   pub not_before : last_moment start needs ≤ wait
-  pub none_before : (now : ℕ) → last_moment start needs ≤ now → now < wait → may_pass rate start needs tokens now ≡ false
+  pub none_before : (now : ℕ) → last_moment start needs ≤ now → now < wait →
+      may_pass rate start needs tokens now ≡ false
   pub passes : wait < last_of_all → may_pass rate start needs tokens wait ≡ true

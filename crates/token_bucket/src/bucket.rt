@@ -1,5 +1,6 @@
 // The bucket: the burst that is left, what is owed, and when.
-ghost use Rattle.std.specs.Prelude.{◌≡◌, ◌+◌, ◌-◌, ◌*◌, ◌^◌, ◌<◌, ◌⊎◌, ◌↔◌, ℕ, List, [], ◌∷◌, max, false, IsTrue, IsNone, IfSome};
+ghost use Rattle.std.specs.Prelude.{◌≡◌, ◌+◌, ◌-◌, ◌*◌, ◌^◌, ◌<◌, ◌⊎◌, ◌↔◌};
+ghost use Rattle.std.specs.Prelude.{ℕ, List, [], ◌∷◌, max, false, IsTrue, IsNone, IfSome};
 ghost use Rattle.token_bucket.specs.Rate.{full, rate_of};
 ghost use Rattle.token_bucket.specs.Allowance.{Start, Need, fits, may_pass, moment_at, saved, NeverFall};
 ghost use Rattle.token_bucket.specs.Kept.{Keeps, IsWait, kept_at};

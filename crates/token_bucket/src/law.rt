@@ -16,5 +16,6 @@ pub fn rate_bound()
     ensures { (rate : Rate) (start : Start) (after window before : List Need) (from to : ℕ) →
         IsLife rate start (after ++ (window ++ before)) → IsWithin from to window →
         rate.refill * total window ≤
-        rate.refill * (start.burst - total before + rate.size + excess rate start window before) + rate.size * (to - from) }
+        rate.refill * (start.burst - total before + rate.size + excess rate start window before) + rate.size *
+        (to - from) }
 {}

@@ -1,8 +1,8 @@
 // A script that comes in pieces of each size.
-use super::{NEVER, Trial, check, failing};
+use super::{Trial, check, never};
 use crate::lines::{Paused, ScriptRun};
+use outside_mem::{MemoryFiles, MemorySink};
 use std::test::Fail;
-use vm_outside::{MemoryFiles, MemorySink};
 use vm_types::{Exit, TextList};
 
 const WHOLE: Trial = Trial {
@@ -16,9 +16,6 @@ step h0 9\n\
 stop\n\
 api GET /\n",
     most: 4096,
-    source_fails: NEVER,
-    sink_fails: NEVER,
-    files_fails: NEVER,
     exit: Exit::Done,
     text: "< 204\n< 204\n< 204\n! A\n. off\n",
 };
@@ -48,8 +45,8 @@ fn scripts_in_pieces_of_each_size(rt: HostRuntime) -> Result<(), Fail> {
 fn lines_pause_where_none_is_whole(rt: HostRuntime) -> Result<(), Fail> {
     let alloc = rt.alloc();
     let mut run = ScriptRun::new(alloc, TextList::copy_of(alloc, "anonymous-instance")?);
-    let mut sink = MemorySink::new(alloc, 5000, failing(alloc, NEVER)?);
-    let mut files = MemoryFiles::new(alloc, failing(alloc, NEVER)?);
+    let mut sink = MemorySink::new(alloc, 5000, never(alloc));
+    let mut files = MemoryFiles::new(alloc, never(alloc));
     run.reader.feed(b"step h0 1\nstep h")?;
     assert_eq!(rt; run.run_lines(&mut files, &mut sink), Ok(Paused::Empty));
     assert_eq!(rt; run.line, 2);

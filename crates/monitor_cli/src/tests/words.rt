@@ -1,5 +1,5 @@
 // The words of a command.
-use super::{NEVER, Trial, firecracker_main, outside, replay_main, words_of};
+use super::{Trial, firecracker_main, outside, replay_main, words_of};
 use std::test::Fail;
 use vm_outside::Source;
 use vm_types::Exit;
@@ -7,9 +7,6 @@ use vm_types::Exit;
 const TRIAL: Trial = Trial {
     script: "api GET /\n",
     most: 4096,
-    source_fails: NEVER,
-    sink_fails: NEVER,
-    files_fails: NEVER,
     exit: Exit::Done,
     text: "< 200 {\"app_name\":\"Firecracker\",\"id\":\"anonymous-instance\",\"state\":\"Not started\",\"vmm_version\":\"1.0-rv64\"}\n",
 };

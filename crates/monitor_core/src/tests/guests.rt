@@ -1,5 +1,5 @@
 // A guest's events, one at a time and as a run.
-use crate::Guest;
+use crate::guest::Guest;
 use guest_memory::is_image_fit;
 use std::alloc::{AllocError, Global};
 use std::test::Fail;
@@ -32,11 +32,12 @@ fn a_guest_puts_a_byte_and_turns_itself_off(rt: HostRuntime) -> Result<(), Fail>
     Ok(())
 }
 
-fn guest_of(alloc: Global, image: &[u8]) -> Option<Guest> {
+// A guest of this image; one that doesn't fit gets none.
+fn guest_of(alloc: Global, image: &[u8]) -> Result<Guest, AllocError> {
     if !is_image_fit(4, image.len() as u64) {
-        return None;
+        return Err(AllocError);
     }
-    Guest::start(alloc, 4, image).ok()
+    Guest::start(alloc, 4, image)
 }
 
 // A look comes after every 32nd instruction, and the word behind the 30 putchars is illegal: with stvec 0 each event
@@ -45,13 +46,19 @@ fn guest_of(alloc: Global, image: &[u8]) -> Option<Guest> {
 fn looks_and_faults_come_where_they_do(rt: HostRuntime) -> Result<(), Fail> {
     let alloc = rt.alloc();
     let image = many_bytes(alloc)?;
-    let mut guest = guest_of(alloc, &image).ok_or(Fail)?;
+    let mut guest = guest_of(alloc, &image)?;
     let mut looks = 0;
     let mut faults = 0;
     for _ in 0..100 {
         match guest.step() {
-            Entry { op: Op::Board(BoardOp::Look), .. } => looks += 1,
-            Entry { reply: Reply::AccessFault, .. } => faults += 1,
+            Entry {
+                op: Op::Board(BoardOp::Look),
+                ..
+            } => looks += 1,
+            Entry {
+                reply: Reply::AccessFault,
+                ..
+            } => faults += 1,
             _ => {}
         }
     }

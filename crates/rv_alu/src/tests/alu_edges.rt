@@ -4,7 +4,7 @@ use crate::alu;
 use rv_rows::AluOp;
 
 #[test]
-fn the_base_at_edges(rt: HostRuntime) {
+fn the_base_computes_at_edges_what_the_host_does(rt: HostRuntime) {
     for (op, values) in VALUES {
         for i in 0..30 {
             let (a, b) = PAIRS[i];

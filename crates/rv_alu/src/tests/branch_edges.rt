@@ -1,19 +1,26 @@
-// The tests of branches at the edges of their operands.
+// The conditions of branches at the edges of their operands.
 use super::pairs::PAIRS;
 use crate::is_taken;
-use rv_rows::Test;
+use rv_rows::Condition;
 
-const TESTS: [Test; 6] = [Test::Eq, Test::Ne, Test::Lt, Test::Ge, Test::Ltu, Test::Geu];
+const CONDITIONS: [Condition; 6] = [
+    Condition::Eq,
+    Condition::Ne,
+    Condition::Lt,
+    Condition::Ge,
+    Condition::Ltu,
+    Condition::Geu,
+];
 
 #[test]
-fn branches_at_edges(rt: HostRuntime) {
+fn branches_are_taken_at_edges_as_the_host_compares(rt: HostRuntime) {
     for i in 0..30 {
         let (a, b) = PAIRS[i];
         for j in 0..6 {
-            let test = TESTS[j];
+            let condition = CONDITIONS[j];
             assert!(rt;
-                is_taken(test, a, b) == TAKEN[i][j],
-                "{test:?} of {a} and {b}"
+                is_taken(condition, a, b) == TAKEN[i][j],
+                "{condition:?} of {a} and {b}"
             );
         }
     }

@@ -4,7 +4,7 @@ use crate::muldiv;
 use rv_rows::MulDivOp;
 
 #[test]
-fn the_extension_m_at_edges(rt: HostRuntime) {
+fn the_extension_m_computes_at_edges_what_the_host_does(rt: HostRuntime) {
     for (op, values) in VALUES {
         for i in 0..30 {
             let (a, b) = PAIRS[i];

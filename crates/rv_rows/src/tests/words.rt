@@ -1,152 +1,168 @@
-// What words are, by GNU binutils 2.40 and LLVM 14.
-use super::names::name;
-use crate::*;
+// Words and what they are, by GNU binutils 2.40: the name without aq and rl, or - where it is no instruction of RV64IMA.
+use super::corners::CORNERS;
+use crate::instr_of;
 
-#[test]
-fn one_word_of_each(rt: HostRuntime) {
-    let words = [
-        (0x1e7e_a437, "lui"),
-        (0xb74c_9917, "auipc"),
-        (0xb06c_dc6f, "jal"),
-        (0x5d7f_8467, "jalr"),
-        (0xf885_0563, "beq"),
-        (0xb0f0_1c63, "bne"),
-        (0x3ad7_43e3, "blt"),
-        (0x6743_52e3, "bge"),
-        (0xb13c_e663, "bltu"),
-        (0x2a76_f063, "bgeu"),
-        (0x0d12_8303, "lb"),
-        (0x264a_1d83, "lh"),
-        (0x70f1_a683, "lw"),
-        (0x2a3c_ba83, "ld"),
-        (0xb743_4303, "lbu"),
-        (0x7411_5283, "lhu"),
-        (0x861b_ea83, "lwu"),
-        (0x001d_8ca3, "sb"),
-        (0x01f3_1623, "sh"),
-        (0x5040_a623, "sw"),
-        (0x0d25_b723, "sd"),
-        (0x4035_8113, "addi"),
-        (0xa294_a913, "slti"),
-        (0x40d5_b093, "sltiu"),
-        (0x0079_cc93, "xori"),
-        (0xb3ac_e213, "ori"),
-        (0x43b1_7c93, "andi"),
-        (0x01f1_9a93, "slli"),
-        (0x0291_d393, "srli"),
-        (0x418a_5993, "srai"),
-        (0x011e_80b3, "add"),
-        (0x40e6_0d33, "sub"),
-        (0x0085_16b3, "sll"),
-        (0x001e_afb3, "slt"),
-        (0x0073_32b3, "sltu"),
-        (0x0015_cab3, "xor"),
-        (0x0054_ddb3, "srl"),
-        (0x4153_d533, "sra"),
-        (0x00c7_e3b3, "or"),
-        (0x017c_fcb3, "and"),
-        (0x01cf_029b, "addiw"),
-        (0x0157_189b, "slliw"),
-        (0x0166_d89b, "srliw"),
-        (0x4190_519b, "sraiw"),
-        (0x0143_82bb, "addw"),
-        (0x4149_0f3b, "subw"),
-        (0x00fa_983b, "sllw"),
-        (0x0161_5bbb, "srlw"),
-        (0x41c9_5e3b, "sraw"),
-        (0x0330_000f, "fence"),
-        (0x0000_0073, "ecall"),
-        (0x0010_0073, "ebreak"),
-        (0x0000_100f, "fence.i"),
-        (0x1801_10f3, "csrrw"),
-        (0xc010_21f3, "csrrs"),
-        (0xfff3_32f3, "csrrc"),
-        (0x100f_d3f3, "csrrwi"),
-        (0x1440_6473, "csrrsi"),
-        (0x0000_f4f3, "csrrci"),
-        (0x0282_8e33, "mul"),
-        (0x0321_9533, "mulh"),
-        (0x02bd_23b3, "mulhsu"),
-        (0x02d6_3133, "mulhu"),
-        (0x0308_ceb3, "div"),
-        (0x02fc_5bb3, "divu"),
-        (0x0220_6bb3, "rem"),
-        (0x02c2_7133, "remu"),
-        (0x02f3_04bb, "mulw"),
-        (0x03e5_4cbb, "divw"),
-        (0x03e5_d63b, "divuw"),
-        (0x0263_ebbb, "remw"),
-        (0x0344_f6bb, "remuw"),
-        (0x1403_a2af, "lr.w"),
-        (0x1e08_22af, "sc.w"),
-        (0x0c04_26af, "amoswap.w"),
-        (0x026b_a7af, "amoadd.w"),
-        (0x2345_242f, "amoxor.w"),
-        (0x6442_a2af, "amoand.w"),
-        (0x467a_a5af, "amoor.w"),
-        (0x8226_22af, "amomin.w"),
-        (0xa667_a92f, "amomax.w"),
-        (0xc59f_2b2f, "amominu.w"),
-        (0xe303_242f, "amomaxu.w"),
-        (0x1608_33af, "lr.d"),
-        (0x18c7_34af, "sc.d"),
-        (0x0f06_baaf, "amoswap.d"),
-        (0x0284_382f, "amoadd.d"),
-        (0x24a1_beaf, "amoxor.d"),
-        (0x61ba_b92f, "amoand.d"),
-        (0x41b7_3e2f, "amoor.d"),
-        (0x81f5_32af, "amomin.d"),
-        (0xa695_342f, "amomax.d"),
-        (0xc463_342f, "amominu.d"),
-        (0xe10d_bdaf, "amomaxu.d"),
-        (0x1020_0073, "sret"),
-        (0x1050_0073, "wfi"),
-        (0x1220_8073, "sfence.vma"),
-    ];
-    for (word, wanted) in words {
-        assert!(rt; name(word) == wanted, "at {word}");
+/// The manual's name of a word, or `-` where it is no instruction.
+fn name(word: u32) -> &'static str {
+    match instr_of(word) {
+        Some(instr) => instr.name(),
+        None => "-",
     }
 }
 
 #[test]
-fn no_instruction(rt: HostRuntime) {
-    // three of each opcode, as far as there are, and then LR with rs2 x1, SRET with rd x1, SFENCE.VMA with rd x1, WFI
-    // with rs1 x1, MRET, the reserved funct3 4 of SYSTEM and 2 of MISC-MEM, SLLIW by 32, SLLI by 127, and functions
-    // that OP-IMM, OP, OP-32, OP-IMM-32 and AMO don't have
-    let words = [
-        0x7a00_c8e7,
-        0xe301_2e67,
-        0x5aab_bce7,
-        0xb2f5_3e63,
-        0xfa8c_ace3,
-        0x9dcd_a263,
-        0x4994_fc83,
-        0x1832_fc03,
-        0xf69e_7583,
-        0xe247_6ba3,
-        0xb754_4d23,
-        0x04c6_4123,
-        0x1012_21af,
-        0x1020_00f3,
-        0x1200_00f3,
-        0x1050_8073,
-        0x3020_0073,
-        0x0000_4073,
-        0x0000_200f,
-        0x0204_949b,
-        0x07f1_9113,
-        0x2001_5093,
-        0x4000_1033,
-        0x0400_0033,
-        0x0000_203b,
-        0x0200_103b,
-        0x0000_201b,
-        0x2800_202f,
-        0x0000_102f,
-        0x0000_0000,
-        0xffff_ffff,
-    ];
-    for word in words {
-        assert!(rt; instr_of(word).is_none(), "at {word}");
+fn words_have_the_names_that_binutils_gives_them(rt: HostRuntime) {
+    let mut seen: u32 = 0;
+    for text in [WORDS, CORNERS] {
+        for line in text.lines() {
+            if let Some((wanted, words)) = line.split_once(' ')
+                && wanted != "#"
+            {
+                for digits in words.split(' ') {
+                    let Ok(word) = u32::from_str_radix(digits, 16) else {
+                        assert!(rt; false, "no number");
+                        return;
+                    };
+                    assert!(rt; name(word) == wanted, "at {word}");
+                    seen = seen.wrapping_add(1);
+                }
+            }
+        }
     }
+    assert_eq!(rt; seen, 967);
 }
+
+const WORDS: &str = "
+lui 1e7ea437 f38b2fb7 dc28ffb7 e255acb7 99dd2537 6bad6bb7 8c3d5f37 c6cd75b7 c0433cb7 70eb9a37
+lui 9d3c7db7 49889337 731c9437 e4163237 adec6f37
+auipc b74c9917 c051ac17 36e53717 9015b797 8e449817 c8130617 f472bb17 1b252817 c2553617 cd64a717
+auipc a14d5997 5044df17 d65f4597 ee8b9e17 42c79c17
+jal b06cdc6f c2425fef 68e217ef 9701476f 27855a6f 910ab86f 20a958ef 54379b6f 51edc8ef dde56d6f
+jal 253676ef 44a73def f8e5586f c5bd74ef 4b20cfef
+jalr 5d7f8467 235086e7 8bcd0ae7 46af8c67 17840d67 987f0be7 3db48867 6e848467 ce4b8b67 e9588fe7
+jalr e6f18de7 30a40fe7 78ac8ae7 ba4b0767 956e0267
+- 7a00c8e7 e3012e67 5aabbce7 24dcac67 f83c61e7 609d6f67 97d15567 b2bc5267 53853967 f7a36667
+- 76035267 86806ee7 f247b367 149e6f67 11fbec67 73d2fd67 62e03de7 ccd944e7 74fb97e7 8a70bde7
+- e5eec867 06ce2ae7 dc483867 f8cc5ce7 f8844e67 9a19e0e7 bb811c67 e7b36de7 273a4567 788518e7
+- b78af267 b0c1a867 3d09dbe7 d93313e7 0a919c67 30484ce7 969fa267 61b1c6e7 042f7867 37f3ebe7
+- 08b6f767 c8dbb067 505a3167 94917367 9a2ac867 2a9695e7 1f4652e7 13737a67 7510c367 1c6e5e67
+- ce216267 66a27c67 3e8b79e7 433ee1e7 2b4366e7 e983f1e7 415e9ee7 b4e6a8e7 cd963f67 1d9dd167
+- 8cb91be7 5b0d1e67 fa9495e7 778bcd67 83f713e7 08dfae67 f894efe7 4a939d67 a6e0d167 3460a467
+- 9e24aa67 12417567 8c25ed67 7ec9cbe7 8aaaf267 896913e7 1663d767 03df9b67 8e4e45e7 acc42b67
+- 2bec31e7 c19e5ae7 4767d367 a7d3f9e7 13065467 215ac667 911fcbe7 c769eae7 b18523e7 cc849a67
+- 7eb6de67 2380ffe7 6129bde7 b2aeb1e7 6b2b49e7 56af27e7 5b205ee7 ae80d8e7 a6792567 1d96bf67
+- 3ea87f67 983bab67 ae1e66e7 2dfcdee7 074f30e7 c0205f67 9b7839e7 1cf65d67 0104a2e7 4fa33e67
+- f0b645e7 71be4de7 f2ca68e7 a22e9ce7 71af2667 18a2bee7 117943e7 f40924e7 c4f27967 f0b2a567
+- 403be967 4be3bce7 d16d3467 9cc6fee7 345f2a67 b2f53e63 fa8cace3 9dcda263 e97732e3 099630e3
+- 2b7a3ce3 8fd035e3 0374b663 6de425e3 ff5c37e3 1deeb9e3 58d5a0e3 a8ac3b63 cc3a39e3 7c57aee3
+- 58afbce3 76b9b1e3 7f74a163 79bf3d63 3f81bde3 02ceb8e3 cd313763 5d69bfe3 13683de3 a23d3963
+- 42b6be63 5b9a38e3 9b3dbfe3 51773463 f5c6bee3 ae08b7e3 dd19b763 c507a363 b5ab3ee3 34cc2063
+- 13f1ab63 6b1a35e3 e867bc63 96dba2e3 b87f2ae3 230dade3 d57eaf63 ec192b63 4994fc83 1832fc03
+- f69e7583 8ee87483 1ea3fc83 fd33ff03 d8f5f803 42287183 f1147f03 07b17c03 40c5f583 de1b7503
+- 09d47183 db14f983 ee39f483 7464fe83 4747f683 65cbf303 c1547803 e2476ba3 b7544d23 04c64123
+- 71957823 32e15ba3 98286ea3 3368e2a3 086acb23 4fd0fd23 6ba67923 6694c9a3 156848a3 2f8e4523
+- 82ff7b23 4e2f72a3 34c778a3 01c8cc23 e0337323 59fa6423 ff8fc2a3 70bdce23 26566823 dcbddc23
+- 56d4c7a3 9a825623 2b67d123 bc17c7a3 30b5e423 0fb8c0a3 fd6b5823 6b647a23 8edc5423 22a5efa3
+bge 674352e3 99ff51e3 a2e8de63 10fa5be3 a0995563 d180d9e3 dad55463 a3ea5be3 9d6cd5e3 4fb0d4e3
+bge eae75863 5b315863 06235063
+bltu b13ce663 2cf5e863 d324e563 88ed6b63 818aeb63 9e266b63 fe5961e3 5239e5e3 00e164e3 685be8e3
+bltu b67eede3 4eba6863 d325ece3 2e686d63 76366b63
+bgeu 2a76f063 8957fa63 437ef363 bce6f3e3 98bc7fe3 69fd7f63 f29c72e3 63b87d63 e46c71e3 daa8f7e3
+bgeu 6f797e63 15a6fd63 a4c5fde3 cbb079e3 9a3df063
+blt 3ad743e3 ec144f63 ab8e4063 71e04d63 60bec963 be3b4be3 371e40e3 2e5dc8e3 4f1843e3 a937cbe3
+blt a59ec363 cb10c663 ea1bc8e3
+beq f8850563 0f260a63 3e7705e3 07758de3 1f850e63 19350063 75c884e3 eeb18e63 acf60763 5bb70be3
+beq 5c340363 8a560863 1a6688e3 9e0e8c63 b1db0963
+bne b0f01c63 491b10e3 d4c09d63 fd701a63 5fbe16e3 71801363 eb0c11e3 c0eb1663 17569363 fdd49763
+bne 193a1d63 599e99e3 1a3296e3 c4b01be3 51b49363
+lw 70f1a683 259d2f83 c351a203 3806a883 4191a403 8d632e03 a298ab83 e3b0a183 d275ad03 d5482b03
+lw 33942e03 d73f2103 4106ac83 8658a003 6747ab03
+lb 0d128303 62d98783 db828603 c8b28d03 11648703 0af08203 a5ce0283 43a38f83 35258903 36a00e03
+lb b3800e03 a17c0203 76e20c03 adf60503 44118b03
+lh 264a1d83 ee429e03 4b8c1703 17bc1103 96861503 eaca9103 7d149c03 33ac9883 ea569803 af5a1203
+lh 2c341d03 6eb99c03 5e361783
+ld 2a3cba83 6e043603 5df6bd03 d2fa3f83 b0903803 5c10bb03 cc553d83 44abbd83 35343483 8555bc83
+ld ad153983 7e07b303 670c3403 0d643f03 6583bf83
+lbu b7434303 699f4883 89ffc083 e8d2c603 4c73cb83 33ba4903 0a1dc803 21dc4083 6e48cb83 9ba14a03
+lbu 4304cd83 bb464d03 449ac783 b8c74283 cf37c883
+lhu 74115283 70eb5503 349f5a03 2bb9db83 5cf75483 7a90d483 0ff25a03 c35c5183 6c345183 b469dd03
+lhu bd88d903 54a85683 6338df83 21275183
+lwu 861bea83 1a61e683 6412e583 c2936c83 22a2ee03 4977ed03 b802e103 f8c4e603 6f5ce003 efe86a03
+lwu aed9e083 bef36803 579dec83 c985e103 77396703
+sh 01f31623 80e81aa3 716f9b23 97719fa3 b45590a3 95a69023 870898a3 b70d13a3 57c99023 baba1b23
+sh 86a614a3 18041ca3 0f959523 05171ca3 f1761aa3
+sb 001d8ca3 b1a18223 66590323 09f78023 8b7e0b23 76be0523 cece8623 85850823 10d38f23
+sw 5040a623 97e62523 09ee2fa3 193ca123 dc6225a3 f7d42423 d0d7a4a3 d043a723 8c7fa623 d07a2e23
+sw 06ea2fa3 aec5a223 893529a3 bfecada3 fcc1a223
+sd 0d25b723 c4d433a3 e5eab8a3 63da3123 0b7db2a3 797a3323 d923b4a3 ecd1b123 0e78bc23 2585b4a3
+sd 22d33a23 e084baa3 8e0a3923 4c733923 1ed7b723
+sltiu 40d5b093 01cebc93 5abfb893 01f4b613 416aba93 4329be13 85053593 4970b113 9d393893 02c03893
+sltiu 030c3993 6381b613 3f8f3f13 4031b413 fa26bc13
+xori 0079cc93 6381c793 40aa4d13 43c74393 2ac8c413 417a4e13 037ac113 03a74513 408ac713 0374cd13
+xori b652c313 da874093 10f6c793
+srai 418a5993 417ddd13 413cdf93 427c5913
+addi 40358113 414d8713 42c08013 03670e93 41968813 01670913 48de8193 024f0813 40438d13 ce810e93
+addi 63948a13 0b630213 08ad0f93 68ea0293 418a0293
+andi 43b17c93 bcc57013 cb07fc93 024b7093 437f7f93 40297a13 034cf993 0051f793 f1ed7b93 3853fd93
+andi f655f793 42e2fb93 32bd7c13 02047193 01e17813
+ori b3ace213 ca32e713 03ace913 40d06413 01806e13 06a4eb93 a0e2e693 43a0ec13 42b66793 4122e913
+ori d598e793 02706a93 429bee13 2c00e493 45eaec93
+srli 0291d393 00325713 00f95313 01f15593 00a4d493 028a5993
+slti a294a913 d94ca713 d4812593 d1c6a493 016f2a13 84832013 0d1aa193 03adab93 fa69ac13 e4c4a693
+slti c4782c13 0214a013 01852993 1d80af13 01172513
+slli 01f19a93 033c9993 03e09a93 03001893
+div 0308ceb3 023b4fb3 0394c833 02224eb3 02d0ca33 02e643b3 026a4e33
+mulh 03219533 03e09cb3 03609b33
+or 00c7e3b3 003beeb3 00146833 01ee63b3 0061ebb3 0005e733 00df68b3 015c61b3
+srl 0054ddb3 003c5633 017ed9b3 01d450b3 01925933 010b5fb3
+mul 02828e33 02b30033 03440b33
+sub 40e60d33 41b385b3 41e581b3 41890233 41a481b3 407481b3 409c0833
+rem 02206bb3 034fe5b3 032c6d33 034266b3 03436db3 0289e333
+sll 008516b3 00671c33 00921133 00389b33 00e614b3 019f9ab3 009299b3
+add 011e80b3 018380b3 01cb0eb3 00ac05b3
+remu 02c27133 0209fe33
+xor 0015cab3 015ac933 00ea4233 00654e33 015943b3
+and 017cfcb3 00a87b33 005c72b3 013bf0b3
+mulhu 02d63133 034d3a33 039337b3 0299bab3 027931b3 0338ba33
+sra 4153d533 4182df33 40515833 41415633 404e5f33 41f0d8b3 4067ddb3 41b6dcb3
+divu 02fc5bb3
+slt 001eafb3 008baeb3 00bda4b3 0186ab33
+mulhsu 02bd23b3 03872bb3
+addiw 01cf029b 3d050c1b 9eea0d1b 8593849b 4224021b 00de849b 00aa031b 65678a9b 0066849b 4112869b
+addiw 4016801b 42338a1b e2d0041b 6463041b 45b48b1b
+sraiw 4190519b 4013d01b 4165591b
+srliw 0166d89b 00ec531b 01c75d1b 01eeda1b 0188de1b
+slliw 0157189b 0133911b 0062109b
+mulw 02f304bb 028585bb 039e8dbb 03478cbb
+divuw 03e5d63b 03365e3b 0365dd3b 02b3dfbb 02fa5abb 023b5f3b 0298563b
+sraw 41c95e3b 40b8583b 41c2d93b 40605cbb 4007dbbb
+divw 03e54cbb 033e46bb 037047bb 03c7cabb
+sllw 00fa983b 00df1a3b 00349bbb 002a98bb 01b9123b
+srlw 01615bbb 005655bb 0003543b 018c5d3b 0084dbbb 006e51bb 01495cbb
+remw 0263ebbb 036b69bb 0280e0bb
+addw 014382bb 0135853b 00cb8e3b 00bf013b 01ae073b 00b90bbb 001d083b 0143863b
+remuw 0344f6bb 03757dbb
+subw 41490f3b 41808fbb 40878bbb
+amoadd.d 0284382f 037833af 052db7af 063238af 00b5b22f 02c5b8af 0258bdaf 02c2342f 06aab9af
+sc.w 1e0822af 1dec212f 1d3da42f 1d62212f 1b3ea8af 1dc42c2f 1b79aa2f 1e452e2f
+amominu.d c463342f c6303f2f c3bb312f c23bb52f c44b33af c57f31af c03cb82f c67633af c5a6b5af
+sc.d 18c734af 1d75bb2f 1eec32af 1d9d37af
+amomax.d a695342f a68fbdaf a7eb382f a735bcaf a170372f a347342f a022b6af a1d9392f a68ebeaf a0bcb7af
+amoxor.d 24a1beaf 247f33af 243b322f 2688b02f 25ae352f 2268b3af 2613bb2f 224c332f 26a93daf
+lr.d 160833af
+lr.w 1403a2af 1206222f 140827af 160eab2f 140eaa2f 160b262f 1404ab2f 100126af
+amominu.w c59f2b2f c423a42f c7f3ac2f c308ad2f c4752d2f c305afaf c500272f
+amoadd.w 026ba7af 0528252f 05bda52f 06e4a32f
+amoxor.w 2345242f 265ca4af 26a9abaf 2426242f 247f202f 206ea8af 257b262f 20e6ac2f 267023af 248ca0af
+amoor.d 41b73e2f 4377332f 4213b52f 415ebeaf 4753beaf 4288b62f
+amomin.w 822622af 85c8ae2f 80fda92f
+amoand.d 61bab92f 62a0bbaf 6583b3af 67c63d2f 658c33af
+amoswap.w 0c0426af 0caa24af 088329af 0bce22af 0cda2b2f 081da6af 0f4e27af
+amoswap.d 0f06baaf 0b6e342f 0cf93baf 0cbb352f 0d9133af 08b3b4af
+amomaxu.w e303242f
+amoor.w 467aa5af 416923af 47fa20af 40d8ab2f 4183a0af 44b8acaf 45aa2a2f
+amomaxu.d e10dbdaf e40c36af e4e93caf
+amoand.w 6442a2af 61c7a5af 613d222f 625b2caf
+amomax.w a667a92f a168a9af a5e5222f a64ba52f a1d1a0af a17724af
+amomin.d 81f532af
+";

@@ -1,12 +1,12 @@
 use Rattle.std.proofs.Common.{List, ℕ, arith, sym, ap, ◌∙◌, take, length-drop, subst}
 use Rattle.std.proofs.lemmas.List.{take_all}
 use Rattle.std.specs.Prelude.{IsUtf8}
-use Rattle.http_front.specs.Body.{body_length}
+use Rattle.http_stream.specs.Body.{body_length}
 use Rattle.http_front.proofs.Judging.{head_refused, body_waits, head_gives, token_text}
 use Rattle.http_front.proofs.head.by_head.Goals as goal
 
 pub returns-in-Err : goal.returns-in-Err
-returns-in-Err c = λ h at. head_refused c.args.stream.now h _ c.in-Err.number at.fields (sym c.in-Err.is ∙ c.body_length.ensures.value)
+returns-in-Err c = λ h at. head_refused c.args.stream.now h _ c.in-Err.why at.fields (sym c.in-Err.is ∙ c.body_length.ensures.value)
 
 pub returns-then-length-rest : goal.returns-then-length-rest
 returns-then-length-rest c = λ h at.

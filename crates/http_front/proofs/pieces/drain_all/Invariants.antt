@@ -1,5 +1,5 @@
 use Rattle.std.proofs.Common.{◌≡◌, length, false}
-use Rattle.http_front.specs.Cuts.{Continues}
+use Rattle.http_front.specs.Loops.{Continues}
 use Rattle.http_front.proofs.pieces.drain_all.Given as goal
 
 abbrev pub invariant-requests : goal.invariant-requests

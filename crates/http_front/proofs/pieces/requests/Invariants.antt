@@ -1,6 +1,6 @@
 use Rattle.std.proofs.Common.{take}
 use Rattle.std.specs.List.{flat_map}
-use Rattle.http_front.specs.Cuts.{Reads}
+use Rattle.http_stream.specs.Cuts.{Reads}
 use Rattle.http_front.proofs.pieces.requests.Given as goal
 
 abbrev pub invariant-loop-piece : goal.invariant-loop-piece

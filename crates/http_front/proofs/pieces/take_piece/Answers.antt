@@ -1,6 +1,6 @@
 use Rattle.std.proofs.Common.{sym}
 use Rattle.std.proofs.lemmas.Result.{on_ok_weaker}
-use Rattle.http_front.proofs.CutLemmas.{piece_failed, piece_taken}
+use Rattle.http_front.proofs.LoopLemmas.{piece_failed, piece_taken}
 use Rattle.http_front.proofs.pieces.take_piece.Goals as goal
 
 pub returns-then-is_failed : goal.returns-then-is_failed

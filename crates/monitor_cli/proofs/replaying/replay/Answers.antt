@@ -1,12 +1,34 @@
-use Rattle.monitor_cli.proofs.Answering.{begun, early_answered, finished_answered}
+use Rattle.monitor_cli.proofs.Arriving.{begun}
+use Rattle.monitor_cli.proofs.Commanding.{closing_not_usage, not_usage}
+use Rattle.monitor_cli.proofs.Counts.{closing_files, closing_sink, closing_source, lasts_more}
+use Rattle.monitor_cli.proofs.Finishing.{closes}
 use Rattle.monitor_cli.proofs.replaying.replay.Goals as goal
 
 pub returns-in-Err-clause-so_far : goal.returns-in-Err-clause-so_far
-returns-in-Err-clause-so_far g c = λ ti to tf.
-    early_answered _ _ _ _ _ _ _ c.in-Err.exit _
-    (c.in-Err.ensures.early ti tf to _ _ _ (begun _ _ _ _ _ _ _ c.new-run.ensures.reader c.new-run.ensures.line (c.new-run.ensures.monitor _)))
+returns-in-Err-clause-so_far g c = λ told.
+    c.in-Err.ensures.ended told.source told.files told.sink _ _ (begun _ _ _ c.new-run.ensures.reader c.new-run.ensures.line (c.new-run.ensures.monitor _))
+
+pub returns-in-Err-clause-no_usage : goal.returns-in-Err-clause-no_usage
+returns-in-Err-clause-no_usage g c = not_usage c.in-Err.exit c.in-Err.ensures.some
 
 pub returns-clause-so_far : goal.returns-clause-so_far
-returns-clause-so_far g c = λ ti to tf.
-    let done = c.in_default.ensures.finished ti tf to _ _ _ (begun _ _ _ _ _ _ _ c.new-run.ensures.reader c.new-run.ensures.line (c.new-run.ensures.monitor _)) in
-    finished_answered _ _ _ _ _ _ _ c.write_ending.result _ _ _ done (c.write_ending.ensures.ends (c.run_script.ensures.tells_sink to) _ done.last done.is)
+returns-clause-so_far g c = λ told.
+    let done = c.in_default.ensures.finished told.source told.files told.sink _ _ (begun _ _ _ c.new-run.ensures.reader c.new-run.ensures.line (c.new-run.ensures.monitor _)) in
+    closes _ _ _ _ _ _ done c.write_closing.result _ (c.write_closing.ensures.closes (c.run_script.ensures.lasts.2.still told.sink) _ done.reached.last done.reached.is)
+
+pub returns-clause-caused : goal.returns-clause-caused
+returns-clause-caused g c =
+    let end = c.write_closing.ensures.some in
+    record {
+      source = closing_source c.write_closing.result _ _ end c.in_default.ensures.source;
+      sink = closing_sink c.write_closing.result _ _ _ end c.in_default.ensures.sink c.write_closing.ensures.cause;
+      files = closing_files c.write_closing.result _ _ end;
+    }
+
+pub returns-clause-no_usage : goal.returns-clause-no_usage
+returns-clause-no_usage g c = closing_not_usage c.write_closing.result c.write_closing.ensures.some
+
+pub returns-clause-lasts : goal.returns-clause-lasts
+returns-clause-lasts g c =
+    let ran = c.run_script.ensures.lasts in
+    record { source = ran.0; files = ran.1; sink = lasts_more _ _ _ ran.2 c.write_closing.ensures.lasts }

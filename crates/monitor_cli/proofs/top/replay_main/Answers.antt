@@ -1,13 +1,12 @@
-use Rattle.monitor_cli.proofs.Answering.{complete, never, replayed}
+use Rattle.std.proofs.Common.{ap}
+use Rattle.monitor_cli.specs.Known.{known}
+use Rattle.monitor_cli.proofs.Commanding.{commanded}
 use Rattle.monitor_cli.proofs.top.replay_main.Goals as goal
 
-pub returns-clause-replayed : goal.returns-clause-replayed
-returns-clause-replayed g c = λ ti to tf.
+pub returns-clause-command : goal.returns-clause-command
+returns-clause-command g c =
     let ran = c.run_command-exit.ensures in
-    replayed c.run_command-exit.result _ _ _ _ _ _ _ _ _ _ _ _ c.write_last.result _ (ran.tells_sink to) (ran.so_far ti to tf) c.write_last.ensures.all
-    (c.write_last.ensures.part (ran.tells_sink to)) ran.later_sink c.write_last.ensures.cause
-
-pub returns-clause-complete : goal.returns-clause-complete
-returns-clause-complete g c = λ ti to tf command good none.
-    let ran = c.run_command-exit.ensures in
-    complete c.run_command-exit.result _ _ _ _ _ _ _ _ _ _ _ _ (never _ ran.usage.0 command) (ran.so_far ti to tf) ran.fault good _ c.write_last.ensures.cause.later none
+    let wrote = c.write_last.ensures in
+    commanded _ c.run_command-exit.result _ _ _ c.write_last.result ran.usage
+    (λ is. ap (λ out. known (g.I.Source.known out.source) (g.O.Sink.known out.sink) (g.F.Files.known out.files)) (ran.unread is))
+    ran.so_far ran.caused ran.lasts wrote.takes (λ is. ap g.O.Sink.known (wrote.quiet is)) wrote.called

@@ -1,6 +1,6 @@
 use Rattle.std.proofs.Common.{◌≡◌, List, [], true, false, drop, length-drop, ℕ, arith, refl, sym, ap, ◌∙◌}
 use Rattle.std.proofs.lemmas.List.{drop-drop}
-use Rattle.http_front.specs.declared.request.Next.TheVariants as next
+use Rattle.http_stream.specs.declared.request.Next.TheVariants as next
 use Rattle.http_front.specs.Told.{Tells}
 use Rattle.http_front.proofs.TooFew.{told_behind, too_few_now, answered}
 use Rattle.http_front.proofs.front.Front.next.Goals as goal
@@ -40,6 +40,6 @@ returns-in-None-clause-judged c = λ lives.
 pub returns-in-Bad-clause-judged : goal.returns-in-Bad-clause-judged
 returns-in-Bad-clause-judged c = λ lives.
     let s : List ℕ = drop c.self.inside.taken c.self.inside.bytes.items in
-    let told : Tells s (next.Bad c.in-Bad.number) c.in_ok-next.count
+    let told : Tells s (next.Bad c.in-Bad.why) c.in_ok-next.count
     = rw c.in-Bad.is at (told_behind c.deref.result.now c.self.inside.bytes.items c.self.inside.taken _ _ c.in_ok-next.ensures c.deref.ensures.value) in
     answered s c.args.self.now.pending [] _ _ true true told (ap (λ x. x.pending) c.self.view_is) c.clear.ensures.items refl

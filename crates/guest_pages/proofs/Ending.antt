@@ -1,0 +1,47 @@
+-- Where no hart has reserved anything, a write ends nothing; and what becomes of granules inside a page.
+use Rattle.std.proofs.Common.{◌≡◌, ℕ, zero, suc, ◌%◌, Bool, true, false, cond, ◌&&◌, not, List, [], ◌∷◌, Option, Some, None, is_some, length, set, zero-add, arith, refl, ap, ◌∙◌}
+use Rattle.std.specs.List.{count_by}
+use Rattle.std.proofs.lemmas.List.Sums.{sum_by-cons}
+use Rattle.vm_types.specs.declared.ids.ActorId.{ActorId}
+use Rattle.vm_types.specs.declared.ids.ActorId.TheVariants.{Hart}
+use Rattle.vm_types.specs.Ids.{same_actor}
+use Rattle.guest_memory.specs.Reserved.{hart_limit, reaches, granule_start, slots_after}
+use Rattle.guest_pages.specs.Flat.{AreInside}
+
+pub length-slots_after : (writer : ActorId) (at len slot : ℕ) (slots : List (Option ℕ)) → length (slots_after writer at len slot slots) ≡ length slots
+length-slots_after writer at len slot [] = refl
+length-slots_after writer at len slot (held ∷ rest) = ap suc (length-slots_after writer at len (suc slot) rest)
+
+pub nothing_ends : (writer : ActorId) (at len slot : ℕ) (slots : List (Option ℕ)) → 0 ≡ count_by is_some slots → slots ≡ slots_after writer at len slot slots
+nothing_ends writer at len slot [] none = refl
+nothing_ends writer at len slot (None ∷ rest) none =
+    ap (λ (l : List (Option ℕ)). None ∷ l) (nothing_ends writer at len (suc slot) rest (none ∙ sum_by-cons {X = Option ℕ} (λ x. cond (is_some x) 1 0) None rest ∙ zero-add (count_by is_some rest)))
+nothing_ends writer at len slot (Some offset ∷ rest) none =
+    let more = none ∙ sum_by-cons {X = Option ℕ} (λ x. cond (is_some x) 1 0) (Some offset) rest in absurd (omega (arith, more))
+
+pub inside_after : (writer : ActorId) (at len slot : ℕ) (slots : List (Option ℕ)) → AreInside slots → AreInside (slots_after writer at len slot slots)
+inside_after writer at len slot [] are = tt
+inside_after writer at len slot (None ∷ rest) are = inside_after writer at len (suc slot) rest are
+inside_after writer at len slot (Some offset ∷ rest) are =
+    by_test (reaches at len (granule_start slot offset) && not (same_actor (Hart (slot % hart_limit)) writer)) (slots_after writer at len (suc slot) rest) (inside_after writer at len (suc slot) rest are.1)
+  where
+    by_test : (b : Bool) (more : List (Option ℕ)) → AreInside more → AreInside (cond b None (Some offset) ∷ more)
+    by_test true more inside = inside
+    by_test false more inside = (are.0, inside)
+
+rest_inside : (held : Option ℕ) (rest : List (Option ℕ)) → AreInside (held ∷ rest) → AreInside rest
+rest_inside None rest are = are
+rest_inside (Some offset) rest are = are.1
+
+first_inside : (held : Option ℕ) (rest : List (Option ℕ)) → AreInside (held ∷ rest) → AreInside (held ∷ [])
+first_inside None rest are = tt
+first_inside (Some offset) rest are = (are.0, tt)
+
+both_inside : (held : Option ℕ) (rest : List (Option ℕ)) → AreInside (held ∷ []) → AreInside rest → AreInside (held ∷ rest)
+both_inside None rest first are = are
+both_inside (Some offset) rest first are = (first.0, are)
+
+pub inside_set : (slots : List (Option ℕ)) (k : ℕ) (held : Option ℕ) → AreInside (held ∷ []) → AreInside slots → AreInside (set slots k held)
+inside_set [] k held fits are = tt
+inside_set (old ∷ rest) zero held fits are = both_inside held rest fits (rest_inside old rest are)
+inside_set (old ∷ rest) (suc k) held fits are = both_inside old (set rest k held) (first_inside old rest are) (inside_set rest k held fits (rest_inside old rest are))

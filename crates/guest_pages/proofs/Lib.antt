@@ -1,0 +1,9 @@
+pub mod Ending
+pub mod Here
+pub mod Joined
+pub mod Loading
+pub mod Marking
+pub mod Sets
+pub mod Slotted
+pub mod Staying
+pub mod Touching

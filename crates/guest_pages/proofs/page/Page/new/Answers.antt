@@ -1,0 +1,5 @@
+use Rattle.guest_pages.proofs.Sets.{page_made}
+use Rattle.guest_pages.proofs.page.Page.new.Goals as goal
+
+pub returns : goal.returns
+returns c = page_made c.args.number c.in_ok-bytes.bytes.value c.in_ok-bytes.ensures

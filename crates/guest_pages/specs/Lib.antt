@@ -1,0 +1,4 @@
+pub mod Fitting
+pub mod Flat
+pub mod Marks
+pub mod Pages

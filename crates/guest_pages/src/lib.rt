@@ -1,0 +1,16 @@
+//! Guest memory in pages of 4,096 bytes: each with its bytes, what harts have reserved in it, and a mark.
+//!
+//! A page is a place, and marked exactly where an act has written it since the mark was cleared. `PageSet` is all of
+//! them, and the one memory of the definition: an act on the page that has its bytes is the act on that memory, and
+//! a block that is loaded into pages is put there. `law` has what holds of marks.
+#![tactic(auto)]
+
+mod law;
+mod page;
+mod page_set;
+#[cfg(test)]
+mod tests;
+
+pub use law::marks_follow_acts;
+pub use page::Page;
+pub use page_set::PageSet;

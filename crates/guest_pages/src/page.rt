@@ -1,0 +1,319 @@
+// One page of guest memory.
+ghost use Rattle.std.specs.Prelude.{◌≡◌, ◌≤◌, ◌<◌, ◌+◌, ◌*◌, ◌%◌, true, length, replicate, IfOk, is_some};
+ghost use Rattle.std.specs.List.{count_by};
+ghost use Rattle.vm_types.specs.declared.op.Op.{Op};
+ghost use Rattle.guest_memory.specs.Reserved.{slots_after};
+ghost use Rattle.guest_memory.specs.Words.{width_of};
+ghost use Rattle.guest_pages.specs.Pages.{PageValue, filled, is_within, new_page, page_holding, page_read, page_reserving, page_start, page_touch, page_word, page_written, patched, unmarked};
+
+use amo_table::amo_value;
+use guest_memory::{
+    HART_LIMIT, PAGE_SIZE, RAM_START, end_written, granule_of, held_by, hold, is_granule, put,
+    width_of, word_at,
+};
+use std::alloc::{AllocError, Global};
+use std::marker::Model;
+use vm_types::{ActorId, AmoKind, GuestAddr, Op, Piece, Place, Reply};
+
+/// 4,096 bytes, for each hart what it has reserved of them, and a mark that a write sets.
+///
+/// `holders` is how many harts have reserved something here, mostly none: a write tests it before it looks at harts.
+#[derive(Drop)]
+pub struct Page {
+    bytes: Box<[u8; 4096]>,
+    number: u32,
+    holders: usize,
+    reserved: [Option<u16>; 32],
+    marked: bool,
+}
+
+impl Model for Page {
+    ghost use Rattle.std.specs.Prelude.{◌≡◌, length, is_some};
+    ghost use Rattle.std.specs.List.{count_by};
+    ghost use Rattle.guest_pages.specs.Pages.{PageValue};
+
+    ghost Value = { PageValue };
+
+    ghost view = { λ p. record { number = p.number; bytes = p.bytes.value; reserved = p.reserved; marked = p.marked } };
+
+    ghost invariant = { λ p. (length p.bytes.value ≡ 4096) × (length p.reserved ≡ 32) × (p.holders ≡ count_by is_some p.reserved) };
+}
+
+impl Page {
+    /// Zeros, with nothing reserved and no mark.
+    pub fn new(alloc: Global, number: u32) -> Result<Page, AllocError>
+        ensures { IfOk result (λ page. page ≡ new_page number) }
+    {
+        let bytes = zeros(alloc)?;
+        Ok(Page {
+            bytes,
+            number,
+            holders: 0,
+            reserved: [None; 32],
+            marked: false,
+        })
+    }
+
+    /// The number of this page, from 0.
+    pub fn number(&self) -> u32
+        ensures { result ≡ self.now.number }
+    {
+        self.number
+    }
+
+    pub fn bytes(&self) -> &[u8]
+        ensures bytes { result.now ≡ self.now.bytes }
+        ensures size { length result.now ≡ 4096 }
+    {
+        let bytes: &[u8; 4096] = &self.bytes;
+        bytes
+    }
+
+    /// Whether an act wrote the page since the mark was cleared.
+    pub fn is_marked(&self) -> bool
+        ensures { result ≡ self.now.marked }
+    {
+        self.marked
+    }
+
+    pub fn clear_mark(&mut self)
+        ensures { self.new ≡ unmarked self.old }
+    {
+        self.marked = false;
+    }
+
+    /// Puts these bytes in the place of all that there are, and marks nothing.
+    pub fn fill(&mut self, bytes: &[u8])
+        requires { length bytes.now ≡ 4096 }
+        ensures { self.new ≡ filled bytes.now self.old }
+    {
+        let held: &mut [u8; 4096] = &mut self.bytes;
+        held.copy_from_slice(bytes);
+    }
+
+    /// Puts these bytes in the place of as many from an offset on, and marks nothing.
+    pub fn patch(&mut self, offset: usize, piece: &[u8])
+        requires { offset + length piece.now ≤ 4096 }
+        ensures { self.new ≡ patched offset piece.now self.old }
+    {
+        let bytes: &mut [u8; 4096] = &mut self.bytes;
+        put(bytes, offset, piece);
+    }
+
+    /// For each hart, the offset of the granule that it has reserved here.
+    pub fn reservations(&self) -> &[Option<u16>]
+        ensures slots { result.now ≡ self.now.reserved }
+        ensures harts { length result.now ≡ 32 }
+    {
+        &self.reserved
+    }
+
+    /// The hart has the granule at this offset reserved, and what it had here before is gone. This marks nothing.
+    pub fn hold(&mut self, hart: u8, offset: u16)
+        requires hart { hart < 32 }
+        requires inside { offset < 4096 }
+        requires granule { offset % 8 ≡ 0 }
+        ensures { self.new ≡ page_holding hart offset self.old }
+    {
+        self.reserved[hart as usize] = Some(offset);
+        self.holders = count_holders(&self.reserved);
+    }
+}
+
+fn zeros(alloc: Global) -> Result<Box<[u8; 4096]>, AllocError>
+    ensures { IfOk result (λ bytes. bytes.value ≡ replicate 4096 0) }
+{
+    let Ok(bytes) = Box::new(alloc, [0; 4096]) else {
+        return Err(AllocError);
+    };
+    Ok(bytes)
+}
+
+fn count_holders(reserved: &[Option<u16>]) -> usize
+    ensures { result ≡ count_by is_some reserved.now }
+{
+    reserved.iter().filter(|held| held.is_some()).count()
+}
+
+// Ends what the write of another reaches, and answers how many harts have something reserved then.
+fn end_reserved(
+    reserved: &mut [Option<u16>],
+    holders: usize,
+    number: u32,
+    writer: ActorId,
+    at: GuestAddr,
+    len: usize,
+) -> usize
+    requires slots { length reserved.old ≡ 32 }
+    requires holders { holders ≡ count_by is_some reserved.old }
+    ensures ended { reserved.new ≡ slots_after writer at len (32 * number) reserved.old }
+    ensures count { result ≡ count_by is_some reserved.new }
+{
+    if holders == 0 {
+        return 0;
+    }
+    end_written(reserved, HART_LIMIT * number as usize, writer, at, len);
+    count_holders(reserved)
+}
+
+fn page_start(number: u32) -> u64
+    ensures { result ≡ page_start number }
+{
+    RAM_START + 4096 * number as u64
+}
+
+// Whether these bytes, one at least, are in the page of this number.
+fn is_within(number: u32, at: GuestAddr, len: usize) -> bool
+    ensures { result ≡ is_within number 4096 at len }
+{
+    let start = page_start(number);
+    if len < 1 || at < start || PAGE_SIZE < len {
+        return false;
+    }
+    at - start <= (PAGE_SIZE - len) as u64
+}
+
+impl Page {
+    fn read(&self, at: GuestAddr, len: usize) -> Piece
+        requires most { len ≤ 64 }
+        requires inside { is_within self.now.number 4096 at len ≡ true }
+        ensures { result ≡ page_read self.now at len }
+    {
+        let offset = (at - page_start(self.number)) as usize;
+        Piece::from_slice(&self.bytes[offset..offset + len])
+    }
+
+    fn word(&self, at: GuestAddr, wide: bool) -> u64
+        requires { is_within self.now.number 4096 at (width_of wide) ≡ true }
+        ensures { result ≡ page_word self.now at wide }
+    {
+        let bytes: &[u8; 4096] = &self.bytes;
+        word_at(bytes, (at - page_start(self.number)) as usize, wide)
+    }
+
+    // Writes these bytes, which are the page's, and marks it.
+    fn write(&mut self, writer: ActorId, at: GuestAddr, piece: &[u8])
+        requires { is_within self.old.number 4096 at (length piece.now) ≡ true }
+        ensures { self.new ≡ page_written self.old writer at piece.now }
+    {
+        let offset = (at - page_start(self.number)) as usize;
+        self.holders = end_reserved(
+            &mut self.reserved,
+            self.holders,
+            self.number,
+            writer,
+            at,
+            piece.len(),
+        );
+        let bytes: &mut [u8; 4096] = &mut self.bytes;
+        put(bytes, offset, piece);
+        self.marked = true;
+    }
+
+    fn reserve(&mut self, actor: ActorId, held: Option<u16>)
+        ensures { self.new ≡ page_reserving self.old actor held }
+    {
+        hold(&mut self.reserved, 0, actor, held);
+        self.holders = count_holders(&self.reserved);
+    }
+
+    fn atomic_operation(
+        &mut self,
+        actor: ActorId,
+        at: GuestAddr,
+        value: u64,
+        kind: AmoKind,
+        wide: bool,
+    ) -> Reply
+        ensures reply { result ≡ (page_touch self.old actor (Op.Amo at value kind wide)).0 }
+        ensures page { self.new ≡ (page_touch self.old actor (Op.Amo at value kind wide)).1 }
+    {
+        if !is_within(self.number, at, width_of(wide)) {
+            return Reply::AccessFault;
+        }
+        let old = self.word(at, wide);
+        let bytes = amo_value(kind, wide, old, value).to_le_bytes();
+        self.write(actor, at, &bytes[..width_of(wide)]);
+        Reply::Word(old)
+    }
+
+    fn load_reserved(&mut self, actor: ActorId, at: GuestAddr, wide: bool) -> Reply
+        ensures reply { result ≡ (page_touch self.old actor (Op.Lr at wide)).0 }
+        ensures page { self.new ≡ (page_touch self.old actor (Op.Lr at wide)).1 }
+    {
+        if !is_within(self.number, at, width_of(wide)) {
+            return Reply::AccessFault;
+        }
+        let word = self.word(at, wide);
+        self.reserve(actor, Some(granule_of(at)));
+        Reply::Word(word)
+    }
+
+    fn store_conditional(
+        &mut self,
+        actor: ActorId,
+        at: GuestAddr,
+        value: u64,
+        wide: bool,
+    ) -> Reply
+        ensures reply { result ≡ (page_touch self.old actor (Op.Sc at value wide)).0 }
+        ensures page { self.new ≡ (page_touch self.old actor (Op.Sc at value wide)).1 }
+    {
+        if !is_within(self.number, at, width_of(wide)) {
+            return Reply::AccessFault;
+        }
+        if !is_granule(granule_of(at), held_by(&self.reserved, 0, actor)) {
+            self.reserve(actor, None);
+            return Reply::Word(1);
+        }
+        let bytes = value.to_le_bytes();
+        self.write(actor, at, &bytes[..width_of(wide)]);
+        self.reserve(actor, None);
+        Reply::Word(0)
+    }
+}
+
+impl Place for Page {
+    ghost use Rattle.guest_memory.specs.Memory.{is_access};
+    ghost use Rattle.guest_pages.specs.Pages.{PageValue, page_touch};
+    ghost use Rattle.guest_pages.specs.Fitting.{page_fits};
+
+    ghost Value = { PageValue };
+
+    ghost value = { λ p. p };
+
+    ghost touch = { page_touch };
+
+    ghost serves = { is_access };
+
+    ghost replies_fit = { page_fits };
+
+    fn act(&mut self, actor: ActorId, op: &Op) -> Reply {
+        match op {
+            Op::Read { at, len } => {
+                if *len <= Piece::MOST && is_within(self.number, *at, *len) {
+                    Reply::Bytes(self.read(*at, *len))
+                } else {
+                    Reply::AccessFault
+                }
+            }
+            Op::Write { at, piece } => {
+                if is_within(self.number, *at, piece.len()) {
+                    self.write(actor, *at, piece.as_slice());
+                    Reply::Done
+                } else {
+                    Reply::AccessFault
+                }
+            }
+            Op::Amo {
+                at,
+                value,
+                kind,
+                wide,
+            } => self.atomic_operation(actor, *at, *value, *kind, *wide),
+            Op::Lr { at, wide } => self.load_reserved(actor, *at, *wide),
+            Op::Sc { at, value, wide } => self.store_conditional(actor, *at, *value, *wide),
+            _ => Reply::AccessFault,
+        }
+    }
+}

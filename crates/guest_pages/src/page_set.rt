@@ -1,0 +1,148 @@
+// All pages of guest memory.
+ghost use Rattle.std.specs.Prelude.{◌≡◌, ◌≤◌, ◌<◌, ◌+◌, ◌*◌, ◌%◌, ◌^◌, ℕ, length, take, drop, slice_set, slice_index_or, IfOk};
+ghost use Rattle.vm_types.specs.declared.ids.PlaceId.{PlaceId};
+ghost use Rattle.guest_memory.specs.Memory.{touch};
+ghost use Rattle.guest_memory.specs.Route.{access_place};
+ghost use Rattle.guest_pages.specs.Pages.{PageValue, cleared, empty_memory, filled, flat_of, loaded, marks_of, new_pages, page_holding, page_touch, unmarked};
+
+use crate::page::Page;
+use guest_memory::PAGE_SIZE;
+use std::alloc::{AllocError, Global};
+use std::marker::Model;
+use vm_types::{ActorId, Op, Place, Reply};
+
+/// The pages in order, which contracts see as the list of their values, and by `flat_of` as the one memory.
+#[derive(Drop)]
+pub struct PageSet {
+    pages: Vec<Page>,
+}
+
+impl Model for PageSet {
+    ghost use Rattle.std.specs.Prelude.{List};
+    ghost use Rattle.guest_pages.specs.Pages.{PageValue};
+    ghost use Rattle.guest_pages.specs.Flat.{ArePages};
+
+    ghost Value = { List PageValue };
+
+    ghost view = { λ s. s.pages.items };
+
+    ghost invariant = { λ s. ArePages 0 s.pages.items };
+}
+
+impl PageSet {
+    /// So many pages of zeros.
+    pub fn new(alloc: Global, count: u32) -> Result<PageSet, AllocError>
+        ensures pages { IfOk result (λ pages. pages ≡ new_pages 0 count) }
+        ensures memory { IfOk result (λ pages. flat_of pages ≡ empty_memory count) }
+    {
+        let mut pages = Vec::with_capacity(alloc, count as usize)?;
+        for number in 0..count {
+            pages.push(Page::new(alloc, number)?)?;
+        }
+        Ok(PageSet { pages })
+    }
+
+    /// How many pages there are.
+    pub fn len(&self) -> usize
+        ensures pages { result ≡ length self.now }
+        ensures bytes { length (flat_of self.now).bytes ≡ 4096 * result }
+    {
+        self.pages.len()
+    }
+
+    /// The page of this number.
+    pub fn page(&self, number: usize) -> &Page
+        requires { number < length self.now }
+        ensures page { result.now ≡ slice_index_or self.now number result.now }
+        ensures bytes { result.now.bytes ≡ take 4096 (drop (4096 * number) (flat_of self.now).bytes) }
+    {
+        &self.pages[number]
+    }
+
+    /// The act of this actor, which is on this page.
+    pub fn act(&mut self, number: usize, actor: ActorId, op: &Op) -> Reply
+        requires { access_place (length (flat_of self.old).bytes) op.now ≡ PlaceId.Page number }
+        ensures number { number < length self.old }
+        ensures reply { result ≡ (touch (flat_of self.old) actor op.now).0 }
+        ensures memory { flat_of self.new ≡ (touch (flat_of self.old) actor op.now).1 }
+        ensures page { (d : PageValue) → result ≡ (page_touch (slice_index_or self.old number d) actor op.now).0 }
+        ensures pages { (d : PageValue) → self.new ≡ slice_set self.old number (page_touch (slice_index_or self.old number d) actor op.now).1 }
+        ensures len { length self.new ≡ length self.old }
+    {
+        self.pages[number].act(actor, op)
+    }
+
+    /// Takes every mark away.
+    pub fn clear_marks(&mut self)
+        ensures { self.new ≡ cleared self.old }
+    {
+        clear_all(&mut self.pages);
+    }
+
+    /// Takes the mark of one page away.
+    pub fn clear_mark(&mut self, number: usize)
+        requires { number < length self.old }
+        ensures { (d : PageValue) → self.new ≡ slice_set self.old number (unmarked (slice_index_or self.old number d)) }
+    {
+        self.pages[number].clear_mark();
+    }
+
+    /// Puts these bytes, as many as a page has, into a page, and marks nothing.
+    pub fn fill(&mut self, number: usize, bytes: &[u8])
+        requires number { number < length self.old }
+        requires whole { length bytes.now ≡ 4096 }
+        ensures { (d : PageValue) → self.new ≡ slice_set self.old number (filled bytes.now (slice_index_or self.old number d)) }
+    {
+        self.pages[number].fill(bytes);
+    }
+
+    // Puts a piece into one page.
+    fn patch(&mut self, number: usize, offset: usize, piece: &[u8])
+        requires number { number < length self.old }
+        requires inside { offset + length piece.now ≤ 4096 }
+        ensures memory { flat_of self.new ≡ loaded (4096 * number + offset) piece.now (flat_of self.old) }
+        ensures marks { marks_of self.new ≡ marks_of self.old }
+        ensures pages { length self.new ≡ length self.old }
+    {
+        self.pages[number].patch(offset, piece);
+    }
+
+    /// Puts a block into memory at an offset from its start, over as many pages as it needs, and marks nothing.
+    pub fn load(&mut self, offset: usize, block: &[u8])
+        requires inside { offset + length block.now ≤ 4096 * length self.old }
+        requires small { length self.old < 2 ^ 52 }
+        ensures memory { flat_of self.new ≡ loaded offset block.now (flat_of self.old) }
+        ensures marks { marks_of self.new ≡ marks_of self.old }
+        ensures pages { length self.new ≡ length self.old }
+    {
+        let _pages = &self.pages;
+        let mut done = 0;
+        while done < block.len() {
+            let at = offset + done;
+            let inner = at % PAGE_SIZE;
+            let count = (PAGE_SIZE - inner).min(block.len() - done);
+            self.patch(at / PAGE_SIZE, inner, &block[done..done + count]);
+            done += count;
+        }
+    }
+
+    /// The hart has the granule at this offset of a page reserved, and what it had there before is gone. This marks
+    /// nothing.
+    pub fn hold(&mut self, number: usize, hart: u8, offset: u16)
+        requires number { number < length self.old }
+        requires hart { hart < 32 }
+        requires inside { offset < 4096 }
+        requires granule { offset % 8 ≡ 0 }
+        ensures { (d : PageValue) → self.new ≡ slice_set self.old number (page_holding hart offset (slice_index_or self.old number d)) }
+    {
+        self.pages[number].hold(hart, offset);
+    }
+}
+
+fn clear_all(pages: &mut [Page])
+    ensures { pages.new ≡ cleared pages.old }
+{
+    for page in pages.iter_mut() {
+        page.clear_mark();
+    }
+}

@@ -1,0 +1,5 @@
+pub mod Body
+pub mod Cuts
+pub mod Reply
+pub mod Sent
+pub mod Stream

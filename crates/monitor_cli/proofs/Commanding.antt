@@ -1,0 +1,185 @@
+-- From a replay before its last line to what a command owes.
+use Rattle.std.specs.Prelude.{◌↔◌, IfErr, OnOk}
+use Rattle.std.proofs.Common.{◌≡◌, ◌≢◌, zero, suc, ◌+◌, ◌≤◌, inl, inr, ◌⊎◌, Result, Ok, Err, ℕ, Bool, true, false, refl, sym, ap, subst, ◌∙◌, List, [], ◌∷◌, ◌++◌, map, Option, Some, None, arith}
+use Rattle.std.proofs.lemmas.List.{append-nil}
+use Rattle.vm_types.specs.Causes.{Rose, RoseBy}
+use Rattle.vm_types.specs.declared.exit.Exit.{Exit}
+use Rattle.vm_types.specs.declared.exit.Object.TheVariants as object
+use Rattle.vm_types.specs.declared.item.Item.{Item}
+use Rattle.vm_outside.specs.Known.{Called, FilesKnown, SinkKnown, Tells}
+use Rattle.vm_outside.specs.Passing.{TakesAll}
+use Rattle.script_lines.specs.Output.{last_line}
+use Rattle.flat_machine.specs.Machine.{Machine, new_machine}
+use Rattle.flat_machine.specs.Outcome.{AreAnswered, Outcome, failed_in, short_in}
+use Rattle.flat_machine.specs.Outcome.Outcome.{Answered, Failed, NoMemory}
+use Rattle.flat_machine.specs.Replay.{default_id, judged_script}
+use Rattle.flat_machine.specs.Run.{Act, AllAnswered, failures, lines_done, shortages}
+use Rattle.flat_machine.specs.Stops.{stop_failures}
+use Rattle.monitor_cli.specs.Answering.{IsClosing}
+use Rattle.monitor_cli.specs.Command.{Commanded, IsWellFormed, Unbegun, is_command}
+use Rattle.monitor_cli.specs.Known.{AllLast, AllTell, Caused, Known, NoneRose, Told}
+use Rattle.monitor_cli.specs.Lines.{BeforeLast, IsRunsEnd}
+use Rattle.monitor_cli.specs.Replay.{Replayed}
+use Rattle.monitor_cli.specs.Taking.{IsQuiet, TookText}
+use Rattle.monitor_cli.proofs.Counts.{lasts_more, sink_by, sink_told}
+use Rattle.monitor_cli.proofs.Halting.{not_inside}
+use Rattle.monitor_cli.proofs.Parts.{told_text}
+
+-- there was no memory for anything
+pub nothing_begun : (start : Machine) (before : Known) → start.saved ≡ before.files.saved → BeforeLast Exit.OutOfMemory start before before.source.left before.sink before.files
+nothing_begun start before files = record {
+  acts = [];
+  part = [];
+  answers = [];
+  went = record {
+    end = start;
+    stop = record {
+      answers = [];
+      last = start;
+      left = judged_script before.source.left;
+      plays = record { lines = refl; on = tt; ran = (refl, refl) };
+      stops = tt;
+      unwritten = [];
+      inside = not_inside (judged_script before.source.left) start;
+      writes = refl;
+    };
+    files = sym files;
+    read = record { came = []; parts = refl; unread = []; lines = refl };
+    reads = tt;
+  };
+  took = sym (append-nil before.sink.taken);
+  counted = record { rose = omega arith; kept = tt };
+  calls = sym (append-nil before.files.calls);
+}
+
+-- the words are no command
+pub refused : (start : Machine) (before : Known) → start.saved ≡ before.files.saved → BeforeLast Exit.Usage start before before.source.left before.sink before.files
+refused start before files = record {
+  acts = [];
+  part = [];
+  answers = [];
+  went = record { none = refl; whole = refl; writes = refl; files = sym files; unread = refl };
+  took = sym (append-nil before.sink.taken);
+  counted = record { rose = omega arith; kept = λ good. refl };
+  calls = sym (append-nil before.files.calls);
+}
+
+-- requests that were neither answered 500 nor 503 were answered by the machine
+are_answered : (outcomes : List Outcome) → failed_in outcomes ≡ 0 → short_in outcomes ≡ 0 → AreAnswered outcomes
+are_answered [] f s = tt
+are_answered (Answered ∷ outcomes) f s = are_answered outcomes f s
+are_answered (Failed left ∷ outcomes) f s = absurd (omega (arith, f))
+are_answered (NoMemory ∷ outcomes) f s = absurd (omega (arith, s))
+
+all_answered : (acts : List Act) → failures acts ≡ 0 → shortages acts ≡ 0 → AllAnswered acts
+all_answered [] f s = tt
+all_answered (act ∷ acts) f s =
+    (are_answered act.outcomes (omega (arith, f)) (omega (arith, s)), all_answered acts (omega (arith, f)) (omega (arith, s)))
+
+none_failed : (n k l i j : ℕ) → RoseBy (n + k + l) i j → (Rose i j → ⊥) → n ≡ 0
+none_failed zero k l i j rose none = refl
+none_failed (suc n) k l i j rose none = absurd (none (omega (arith, rose)))
+
+-- a line that is none stands in no script of items
+abbrev behind : List (Option Item) → List (Option Item)
+behind [] = []
+behind (line ∷ lines) = lines
+
+no_none : (acts : List Act) (items : List Item) (more : List (Option Item)) → map Some items ≡ lines_done acts ++ None ∷ more → ⊥
+no_none [] [] more is = cc is
+no_none [] (item ∷ items) more is = cc is
+no_none (act ∷ acts) [] more is = cc is
+no_none (act ∷ acts) (item ∷ items) more is = no_none acts items more (ap behind is)
+
+-- a script of items with no failure comes to its end, or to want of memory
+complete : (exit : Exit) (start : Machine) (before now : Known) (rest : List ℕ) (sink : SinkKnown) (files : FilesKnown) → exit ≢ Exit.Usage → BeforeLast exit start before rest sink files → Told exit before now → IsWellFormed before.source.left → NoneRose before now
+    → (exit ≡ Exit.Done) ⊎ (exit ≡ Exit.OutOfMemory)
+complete Exit.Done start before now rest sink files command so_far told good none = inl refl
+complete Exit.OutOfMemory start before now rest sink files command so_far told good none = inr refl
+complete Exit.Usage start before now rest sink files command so_far told good none = absurd (command refl)
+complete (Exit.Fault object.Source) start before now rest sink files command so_far told good none = absurd (none.source told.source)
+complete (Exit.Fault object.Sink) start before now rest sink files command so_far told good none = absurd (none.sink told.sink)
+complete (Exit.Fault object.Files) start before now rest sink files command so_far told good none = absurd (none.files told.files)
+complete (Exit.Script line) start before now rest sink files command so_far told good none =
+    let replay = so_far.went.replay in
+    absurd (no_none so_far.acts good.0 replay.ends.2 (sym good.1 ∙ replay.plays.lines ∙ ap (λ (l : List (Option Item)). lines_done so_far.acts ++ l) replay.ends.3))
+
+not_both : (b : Bool) → b ≡ true → b ≡ false → ⊥
+not_both b is not =
+    let both : true ≡ false = sym is ∙ not in
+    cc both
+
+-- the last line is written behind the answers, or a front of it
+module _ (words : List (List ℕ)) (exit : Exit) (before mid : Known) (sink : SinkKnown) {E : Type 0} (result : Result (Unit {0}) E)
+    (usage : (exit ≡ Exit.Usage) ↔ (is_command words ≡ false)) (unread : exit ≡ Exit.Usage → mid ≡ before)
+    (so_far : AllTell before → BeforeLast exit (new_machine default_id before.files.saved) before mid.source.left mid.sink mid.files)
+    (caused : Caused exit before mid) (lasts : AllLast before mid) (takes : Tells mid.sink.health → TakesAll mid.sink.taken sink.taken result (last_line exit))
+    (quiet : IsQuiet exit → sink ≡ mid.sink) (called : Called mid.sink.health sink.health result) where
+  abbrev now : Known
+  now = record { source = mid.source; sink = sink; files = mid.files }
+
+  told : Told exit before now
+  told = record {
+    source = caused.source;
+    sink = sink_told exit before.sink.health.faults mid.sink.health.faults sink.health.faults caused.sink called.lasts.later
+        (λ is. ap (λ (s : SinkKnown). s.health.faults) (quiet is));
+    files = caused.files;
+  }
+
+  replayed : AllTell before → Replayed exit (new_machine default_id before.files.saved) before now
+  replayed tells =
+      let ran = so_far tells in
+      record {
+        acts = ran.acts;
+        part = ran.part;
+        text = ran.answers ++ last_line exit;
+        went = ran.went;
+        took = told_text exit before.sink mid.sink sink ran.answers result ran.took lasts.sink.later
+            (sink_by exit before.sink.health.faults mid.sink.health.faults caused.sink) (takes (lasts.sink.still tells.sink)) called;
+        counted = ran.counted;
+        calls = ran.calls;
+        plain = λ none enough. all_answered ran.acts
+            (none_failed (failures ran.acts) (failed_in ran.part) (stop_failures exit) before.files.health.faults mid.files.health.faults ran.counted.rose none) enough;
+      }
+
+  unbegun : exit ≡ Exit.Usage → Unbegun Exit.Usage before now
+  unbegun is =
+      let same = unread is in
+      record {
+        writes = λ tells. subst (λ (e : Exit). TookText e (last_line e) before.sink sink) is
+            (told_text exit before.sink mid.sink sink [] result (ap (λ (k : Known). k.sink.taken) same ∙ sym (append-nil before.sink.taken)) lasts.sink.later
+            (inl (ap (λ (k : Known). k.sink.health.faults) same)) (takes (lasts.sink.still tells)) called);
+        source = ap (λ (k : Known). k.source) same;
+        files = ap (λ (k : Known). k.files) same;
+      }
+
+  pub commanded : Commanded words exit before now
+  commanded = record {
+    usage = usage;
+    unbegun = unbegun;
+    replayed = replayed;
+    told = told;
+    complete = λ tells command good none.
+        complete exit (new_machine default_id before.files.saved) before now mid.source.left mid.sink mid.files (λ is. not_both (is_command words) command (usage.0 is)) (so_far tells) told good none;
+    lasts = record {
+      source = lasts.source;
+      sink = lasts_more before.sink.health mid.sink.health sink.health lasts.sink called.lasts;
+      files = lasts.files;
+    };
+  }
+
+-- a run of a script is no usage
+pub not_usage : (exit : Exit) → IsRunsEnd exit → exit ≢ Exit.Usage
+not_usage exit end is = subst IsRunsEnd is end
+
+pub closing_not_usage : (exit : Exit) → IsClosing exit → exit ≢ Exit.Usage
+closing_not_usage exit end is = subst IsClosing is end
+
+-- behind the longest script
+pub past_end : (r : Result (Unit {0}) Exit) {A B : Type 0} → OnOk r A → (A → B) → OnOk r B
+past_end (Ok u) there goes = goes there
+past_end (Err e) there goes = tt
+
+pub past_early : (r : Result (Unit {0}) Exit) {P Q : Exit → Type 0} → IfErr r P → ((exit : Exit) → P exit → Q exit) → IfErr r Q
+past_early (Ok u) there goes = tt
+past_early (Err e) there goes = goes e there

@@ -1,0 +1,92 @@
+-- Counts of faults that rise one after another, and causes by how a replay ended.
+use Rattle.std.proofs.Common.{◌≡◌, ℕ, ◌+◌, ◌≤◌, refl, ◌∙◌, ◌⊎◌, inl, inr, arith}
+use Rattle.std.proofs.Math.Nat.{le_refl}
+use Rattle.vm_types.specs.Causes.{Rose, RoseBy}
+use Rattle.vm_types.specs.declared.exit.Exit.{Exit}
+use Rattle.vm_types.specs.declared.exit.Object.TheVariants as object
+use Rattle.vm_outside.specs.Known.{Health, Lasts, Tells}
+use Rattle.monitor_cli.specs.Answering.{IsClosing}
+use Rattle.monitor_cli.specs.Known.{FilesCause, SinkCause, SinkTold, SourceCause}
+use Rattle.monitor_cli.specs.Lines.{IsLinesEnd}
+use Rattle.monitor_cli.specs.Taking.{IsQuiet}
+
+pub rose_more : (n k i j l : ℕ) → RoseBy n i j → RoseBy k j l → RoseBy (n + k) i l
+rose_more n k i j l first second = omega arith
+
+pub rose_kept : (n i j l : ℕ) → RoseBy n i j → l ≡ j → RoseBy n i l
+rose_kept n i j l rose kept = omega (arith, rose, kept)
+
+pub none_more : (n i j : ℕ) → RoseBy n i j → RoseBy (n + 0 + 0) i j
+none_more n i j rose = omega (arith, rose)
+
+pub one_of_more : (n i j : ℕ) → RoseBy (n + 1) i j → Rose i j
+one_of_more n i j rose = omega (arith, rose)
+
+pub later_rose : (i mid j : ℕ) → i ≤ mid → Rose mid j → Rose i j
+later_rose i mid j later rose = omega (arith, later, rose)
+
+pub rose_later : (i mid j : ℕ) → Rose i mid → mid ≤ j → Rose i j
+rose_later i mid j rose later = omega (arith, later, rose)
+
+pub lasts_same : (h : Health) → Lasts h h
+lasts_same h = record { still = λ t. t; later = le_refl h.faults }
+
+pub lasts_more : (a b c : Health) → Lasts a b → Lasts b c → Lasts a c
+lasts_more a b c first second = record { still = λ t. second.still (first.still t); later = omega (arith, first.later, second.later) }
+
+-- what a call on another object means for each way to end
+pub source_stays : (exit : Exit) (i j : ℕ) → IsLinesEnd exit → j ≡ i → SourceCause exit i j
+source_stays (Exit.Fault object.Source) i j end same = absurd end
+source_stays (Exit.Fault object.Sink) i j end same = same
+source_stays (Exit.Fault object.Files) i j end same = same
+source_stays Exit.Done i j end same = same
+source_stays Exit.Usage i j end same = same
+source_stays (Exit.Script line) i j end same = same
+source_stays Exit.OutOfMemory i j end same = same
+
+-- the sink's count by the time of the last line
+pub sink_by : (exit : Exit) (i j : ℕ) → SinkCause exit i j → (j ≡ i) ⊎ Rose i j
+sink_by (Exit.Fault object.Sink) i j cause = inr cause
+sink_by (Exit.Fault object.Source) i j cause = inl cause
+sink_by (Exit.Fault object.Files) i j cause = inl cause
+sink_by Exit.Done i j cause = inl cause
+sink_by Exit.Usage i j cause = inl cause
+sink_by (Exit.Script line) i j cause = inl cause
+sink_by Exit.OutOfMemory i j cause = inl cause
+
+pub sink_told : (exit : Exit) (i mid j : ℕ) → SinkCause exit i mid → mid ≤ j → (IsQuiet exit → j ≡ mid) → SinkTold exit i j
+sink_told (Exit.Fault object.Sink) i mid j cause later quiet = rose_later i mid j cause later
+sink_told Exit.Done i mid j cause later quiet = quiet tt ∙ cause
+sink_told (Exit.Fault object.Source) i mid j cause later quiet = tt
+sink_told (Exit.Fault object.Files) i mid j cause later quiet = tt
+sink_told Exit.Usage i mid j cause later quiet = tt
+sink_told (Exit.Script line) i mid j cause later quiet = tt
+sink_told Exit.OutOfMemory i mid j cause later quiet = tt
+
+-- and where a script's run is done, by its closing text
+pub closing_source : (exit : Exit) (i j : ℕ) → IsClosing exit → j ≡ i → SourceCause exit i j
+closing_source Exit.Done i j is same = same
+closing_source (Exit.Fault object.Sink) i j is same = same
+closing_source Exit.OutOfMemory i j is same = same
+closing_source (Exit.Fault object.Source) i j is same = absurd is
+closing_source (Exit.Fault object.Files) i j is same = absurd is
+closing_source Exit.Usage i j is same = absurd is
+closing_source (Exit.Script line) i j is same = absurd is
+
+pub closing_sink : (exit : Exit) (i mid j : ℕ) → IsClosing exit → mid ≡ i → SinkCause exit mid j → SinkCause exit i j
+closing_sink Exit.Done i mid j is same cause = cause ∙ same
+closing_sink (Exit.Fault object.Sink) i mid j is same cause = omega (arith, same, cause)
+closing_sink Exit.OutOfMemory i mid j is same cause = cause ∙ same
+closing_sink (Exit.Fault object.Source) i mid j is same cause = absurd is
+closing_sink (Exit.Fault object.Files) i mid j is same cause = absurd is
+closing_sink Exit.Usage i mid j is same cause = absurd is
+closing_sink (Exit.Script line) i mid j is same cause = absurd is
+
+pub closing_files : (exit : Exit) (i j : ℕ) → IsClosing exit → FilesCause exit i j
+closing_files Exit.Done i j is = tt
+closing_files (Exit.Fault object.Sink) i j is = tt
+closing_files Exit.OutOfMemory i j is = tt
+closing_files (Exit.Fault object.Source) i j is = absurd is
+closing_files (Exit.Fault object.Files) i j is = absurd is
+closing_files Exit.Usage i j is = absurd is
+closing_files (Exit.Script line) i j is = absurd is

@@ -1,0 +1,7 @@
+use Rattle.std.proofs.Common.{◌∙◌}
+use Rattle.monitor_cli.proofs.Parts.{took_front}
+use Rattle.monitor_cli.proofs.closing.write_closing.Goals as goal
+
+pub returns-clause-closes : goal.returns-clause-closes
+returns-clause-closes g c = λ told saved m is.
+    took_front c.as_slice.result.now _ _ _ (c.as_slice.ensures ∙ c.in-Ok.ensures saved m is) (c.in-Err.ensures.takes told)

@@ -1,0 +1,4 @@
+pub mod Does
+pub mod Doing
+pub mod Replies
+pub mod Sbi

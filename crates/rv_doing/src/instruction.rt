@@ -1,0 +1,122 @@
+// What the word of an instruction does.
+ghost use Rattle.std.specs.Prelude.{◌≡◌};
+ghost use Rattle.rv_doing.specs.Doing.{asked, ended};
+ghost use Rattle.rv_doing.specs.Does.{effect_at, performed, does};
+
+use crate::access::{conditional_op, store_op};
+use crate::csr::{csr_performed, csr_wanted};
+use crate::replies::{end_amo, end_conditional, end_load, end_reserve, end_store, end_with};
+use crate::sbi::{call_performed, call_wanted};
+use rv_decode::decode;
+use rv_effect::effect;
+use rv_rows::{Effect, Exception, Instr};
+use rv_supervisor::{Regs, finish, jump, return_from_trap, trap, wait};
+use vm_types::{Op, Reply};
+
+/// What the instruction does, with the values of the registers that it reads.
+fn effect_at(instr: Instr, regs: &Regs) -> Effect
+    ensures { result ≡ effect_at instr regs.now }
+{
+    effect(instr, regs.pc, regs.get(instr.rs1()), regs.get(instr.rs2()))
+}
+
+/// The access that the effect of this word asks for, if any.
+fn effect_wanted(effect: Effect, word: u32, regs: &Regs) -> Option<Op>
+    ensures { result ≡ asked (performed effect word regs.now) }
+{
+    match effect {
+        Effect::Put { .. }
+        | Effect::Jump { .. }
+        | Effect::Branch { .. }
+        | Effect::Nothing
+        | Effect::Trap { .. }
+        | Effect::Sret
+        | Effect::Wfi => None,
+        Effect::Load { kind, address, .. } => Some(Op::Read {
+            at: address,
+            len: kind.width().bytes(),
+        }),
+        Effect::Store {
+            width,
+            address,
+            value,
+        } => Some(store_op(width, address, value)),
+        Effect::LoadReserved { wide, address, .. } => Some(Op::Lr { at: address, wide }),
+        Effect::StoreConditional {
+            wide,
+            address,
+            value,
+            ..
+        } => { conditional_op(wide, address, value, regs) }
+        Effect::Amo {
+            kind,
+            wide,
+            address,
+            value,
+            ..
+        } => Some(Op::Amo {
+            at: address,
+            value,
+            kind,
+            wide,
+        }),
+        Effect::Csr { rd, csr, access } => csr_wanted(csr, rd, access, word, regs),
+        Effect::Ecall => call_wanted(regs),
+    }
+}
+
+/// What the effect of this word makes of the registers, by the last reply.
+fn effect_performed(effect: Effect, word: u32, regs: &mut Regs, reply: Reply)
+    ensures { regs.new ≡ ended (performed effect word regs.old) reply }
+{
+    match effect {
+        Effect::Put { rd, value } => end_with(rd, value, regs),
+        Effect::Jump { rd, link, target } => {
+            regs.put(rd, link);
+            jump(regs, target);
+        }
+        Effect::Branch { target } => jump(regs, target),
+        Effect::Nothing => finish(regs),
+        Effect::Load { kind, rd, address } => end_load(kind, rd, address, reply, regs),
+        Effect::Store { address, .. } => end_store(address, reply, regs),
+        Effect::LoadReserved { wide, rd, address } => end_reserve(wide, rd, address, reply, regs),
+        Effect::StoreConditional { rd, address, .. } => end_conditional(rd, address, reply, regs),
+        Effect::Amo {
+            wide,
+            rd,
+            address,
+            ..
+        } => end_amo(wide, rd, address, reply, regs),
+        Effect::Csr { rd, csr, access } => csr_performed(csr, rd, access, word, regs, reply),
+        Effect::Trap { exception, value } => trap(regs, exception, value),
+        Effect::Ecall => call_performed(regs, reply),
+        Effect::Sret => return_from_trap(regs),
+        Effect::Wfi => wait(regs),
+    }
+}
+
+/// The access that this word asks for behind its fetch, if any.
+#[tactic(auto, unfolding(crate::specs::Does::does))]
+pub fn wanted(word: u32, regs: &Regs) -> Option<Op>
+    ensures { result ≡ asked (does word regs.now) }
+{
+    match decode(word) {
+        Some(instr) => effect_wanted(effect_at(instr, regs), word, regs),
+        None => None,
+    }
+}
+
+/// What this word makes of the registers, by the last reply to what it asks for. Where it asks for nothing, the reply
+/// is not looked at.
+#[tactic(auto, unfolding(crate::specs::Does::does))]
+pub fn perform(word: u32, regs: &mut Regs, reply: Reply)
+    ensures { regs.new ≡ ended (does word regs.old) reply }
+{
+    match decode(word) {
+        Some(instr) => {
+            let effect = effect_at(instr, regs);
+            effect_performed(effect, word, regs, reply)
+        }
+        None => trap(regs, Exception::IllegalInstruction, word as u64),
+    }
+}

@@ -1,0 +1,15 @@
+//! What an instruction of RV64IMA with Zicsr does, before any memory or CSR is asked.
+//!
+//! `effect` takes the instruction, its address and the values of the two registers that it reads, and gives what
+//! `rv_rows/specs/Effects.antt` gives: a value for a register, a jump, an access that is aligned, what a CSR
+//! instruction asks for, or a trap.
+#![tactic(auto)]
+
+mod accesses;
+mod csr;
+mod effects;
+mod jumps;
+#[cfg(test)]
+mod tests;
+
+pub use effects::effect;

@@ -1,0 +1,3 @@
+pub mod Csrs
+pub mod Ends
+pub mod Registers
