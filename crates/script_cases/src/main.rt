@@ -1,0 +1,67 @@
+//! Replays whole scripts over objects in memory, and compares what they come to with what is stored.
+//!
+//! A case is a few files in a folder of `data/`, whose README says how they are written: a script, or the name of
+//! another case's; its output and status; and where it matters the words of the command, the greatest piece that source
+//! and sink take, the calls that are to fail, the files that are there at the start, and what they hold at the end. The
+//! program finds the cases where it runs, and prints a line for each. Its status is 1 where a case differs, and 2 where
+//! one can't be read.
+//!
+//! Read `given` and `case`, what a case says; then `replaying`, and `difference` for what is compared.
+#![tactic(auto)]
+
+mod case;
+mod difference;
+mod given;
+mod held;
+mod listing;
+mod replaying;
+
+use crate::case::{Case, read_case};
+use crate::difference::difference;
+use crate::listing::case_names;
+use crate::replaying::replay;
+use anyhow::{Context, Result};
+use std::alloc::Global;
+use std::process::ExitCode;
+use std::rt::Files;
+
+fn main(rt: HostRuntime) -> ExitCode {
+    match replay_all(&rt) {
+        Ok(true) => ExitCode::SUCCESS,
+        Ok(false) => ExitCode::FAILURE,
+        Err(e) => {
+            let _ = eprintln!(rt; "{e:?}");
+            ExitCode::from(2)
+        }
+    }
+}
+
+// Whether each case comes to what is stored.
+fn replay_all<R: Files + Print + AllocGlobal + Clone + Drop>(rt: &R) -> Result<bool> {
+    let mut count = 0u64;
+    let mut differ = 0u64;
+    for name in case_names(rt)? {
+        let case = read_case(rt, name.as_str()).context(format_args!("{name}"))?;
+        count = count.saturating_add(1);
+        match difference_of(rt.alloc(), &case)? {
+            None => println!(rt; "{name} ok")?,
+            Some(told) => {
+                differ = differ.saturating_add(1);
+                println!(rt; "{name}: {told}")?;
+            }
+        }
+    }
+    println!(rt; "{count} cases, {differ} differ")?;
+    Ok(count > 0 && differ == 0)
+}
+
+// What differs, at the first of the case's sizes of pieces at which something does.
+fn difference_of(alloc: Global, case: &Case) -> Result<Option<String>> {
+    for most in case.given.pieces.iter() {
+        let replayed = replay(alloc, case, *most)?;
+        if let Some(told) = difference(alloc, &replayed, &case.wanted)? {
+            return Ok(Some(format!(in alloc; "in pieces of {most}: {told}")?));
+        }
+    }
+    Ok(None)
+}
