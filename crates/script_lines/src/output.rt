@@ -1,9 +1,10 @@
 // The lines that a run writes.
-ghost use Rattle.std.specs.Prelude.{◌≡◌, ◌++◌, ◌<◌, IfOk, OnOk};
-ghost use Rattle.script_lines.specs.Output.{body_part, console_line, hex_digit, last_line, no_actor_line, not_running_line, reply_line, shown};
+ghost use Rattle.std.specs.Prelude.{◌≡◌, ◌++◌, IfOk, OnOk};
+ghost use Rattle.script_lines.specs.Output.{body_part, console_line, last_line, no_actor_line, not_running_line, reply_line, shown};
 
 use api_admission::Answer;
 use itoa::Buffer;
+use script_text::hex_digit;
 use std::alloc::{AllocError, Global};
 use vm_types::{ByteList, Exit, Object};
 
@@ -54,17 +55,6 @@ fn append_shown(line: &mut ByteList, byte: u8) -> Result<(), AllocError>
         line.append(&[b'\\', b'x', hex_digit(byte / 16), hex_digit(byte % 16)])?;
     }
     Ok(())
-}
-
-fn hex_digit(nibble: u8) -> u8
-    requires { nibble < 16 }
-    ensures { result ≡ hex_digit nibble }
-{
-    if nibble < 10 {
-        b'0' + nibble
-    } else {
-        b'a' - 10 + nibble
-    }
 }
 
 /// The line of a step line before the start.

@@ -22,7 +22,7 @@ ends : (c : ℕ) (cs : List ℕ) → c ≡ 10 → lines_of (c ∷ cs) ≡ [] ∷
 ends c cs is = grind (arith, nat_tests)
 
 -- the first line of a text, whatever comes behind
-first_end : (text more : List ℕ) (i : ℕ) → i < length text → get_or text i 0 ≡ 10 → LacksEnd text i
+pub first_end : (text more : List ℕ) (i : ℕ) → i < length text → get_or text i 0 ≡ 10 → LacksEnd text i
     → lines_of (text ++ more) ≡ take i text ∷ lines_of (drop (suc i) text ++ more)
 first_end [] more i lt is before = absurd (omega arith)
 first_end (c ∷ cs) more zero lt is before = ends c (cs ++ more) is

@@ -37,7 +37,8 @@ abbrev pub both : {X Y Z : Type 0} → (X → Y → Z) → Option X → Option Y
 both make (Some x) (Some y) = Some (make x y)
 both make x y = None
 
-abbrev pub both_of : {X Y Z : Type 0} → (List ℕ → Option X) → (List ℕ → Option Y) → (X → Y → Z) → Option (List ℕ × List ℕ) → Option Z
+abbrev pub both_of : {X Y Z : Type 0} → (List ℕ → Option X) → (List ℕ → Option Y) → (X → Y → Z)
+    → Option (List ℕ × List ℕ) → Option Z
 both_of word rest make (Some parts) = both make (word parts.0) (rest parts.1)
 both_of word rest make None = None
 

@@ -28,7 +28,8 @@ pub fn bytes_from(alloc: Global, text: &[u8]) -> Result<Option<ByteList>, AllocE
 
 fn byte_from(high: u8, low: u8) -> Option<u8>
     ensures none { IfNone result ((rest : Option (List ℕ)) → byte_onto (nibble_of high) (nibble_of low) rest ≡ None) }
-    ensures byte { IfSome result (λ byte. (rest : List ℕ) → byte_onto (nibble_of high) (nibble_of low) (Some rest) ≡ Some (byte ∷ rest)) }
+    ensures byte { IfSome result (λ byte.
+        (rest : List ℕ) → byte_onto (nibble_of high) (nibble_of low) (Some rest) ≡ Some (byte ∷ rest)) }
 {
     let high = nibble_from(high)?;
     let low = nibble_from(low)?;

@@ -19,7 +19,9 @@ pub fn one_line()
 /// A text is its lines, each with its LF, and bytes without one. The lines of items, each with its LF, are judged as
 /// those items.
 pub fn whole_text()
-    ensures parts { (text : List ℕ) → (rest : List ℕ) × (flat_map (λ line. line ++ 10 ∷ []) (lines_of text) ++ rest ≡ text) × Lacks 10 rest }
+    ensures parts { (text : List ℕ)
+        → (rest : List ℕ) × (flat_map (λ line. line ++ 10 ∷ []) (lines_of text) ++ rest ≡ text) × Lacks 10 rest }
     ensures clean { (text : List ℕ) → All (Lacks 10) (lines_of text) }
-    ensures script { (items : List Item) → All IsWritable items → judged (flat_map (λ it. line_of it ++ 10 ∷ []) items) ≡ map (λ it. Some it) items }
+    ensures script { (items : List Item) → All IsWritable items
+        → judged (flat_map (λ it. line_of it ++ 10 ∷ []) items) ≡ map (λ it. Some it) items }
 {}

@@ -29,9 +29,14 @@ mod text;
 mod words;
 mod writing;
 
+pub use appending::hex_digit;
+pub use hex_bytes::bytes_from;
 pub use item::{HostReply, Item};
 pub use law::{one_line, whole_text};
 pub use line_reader::{LineReader, Next};
+pub use number::{is_digit, number_from};
 pub use output::{Misfit, memory_line, misfit_line, register_line, waits_line};
 pub use reading::read_line;
+pub use text::text_from;
+pub use words::{behind, is_line, space_at};
 pub use writing::write_item;

@@ -37,7 +37,8 @@ impl Model for LineReader {
 
     ghost view = { λ r. drop r.at r.bytes.items };
 
-    ghost invariant = { λ r. (r.at + r.searched ≤ length r.bytes.items) × LacksEnd (drop r.at r.bytes.items) r.searched };
+    ghost invariant = { λ r. (r.at + r.searched ≤ length r.bytes.items)
+        × LacksEnd (drop r.at r.bytes.items) r.searched };
 }
 
 impl LineReader {

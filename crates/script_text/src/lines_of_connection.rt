@@ -66,7 +66,8 @@ fn call_from(alloc: Global, rest: &[u8]) -> Result<Option<Item>, AllocError>
 }
 
 fn target_from(rest: &[u8]) -> Option<(&[u8], &[u8])>
-    ensures { MatchOption result (target_of rest.now ≡ None) (λ target. target_of rest.now ≡ Some (target.0.now, target.1.now)) }
+    ensures { MatchOption result (target_of rest.now ≡ None)
+        (λ target. target_of rest.now ≡ Some (target.0.now, target.1.now)) }
 {
     match cut(rest) {
         Some((path, body)) => if path.is_empty() {

@@ -4,7 +4,8 @@ ghost use Rattle.script_text.specs.Words.{behind, cut, nothing_behind};
 
 /// What is behind these bytes at the front.
 pub fn behind<'a>(front: &[u8], line: &'a [u8]) -> Option<&'a [u8]>
-    ensures { MatchOption result (behind front.now line.now ≡ None) (λ rest. behind front.now line.now ≡ Some rest.now) }
+    ensures { MatchOption result (behind front.now line.now ≡ None)
+        (λ rest. behind front.now line.now ≡ Some rest.now) }
 {
     line.strip_prefix(front)
 }
