@@ -12,7 +12,7 @@ use Rattle.vm_types.specs.declared.item.ApiCall.{ApiCall}
 use Rattle.vm_types.specs.declared.item.Item.{Item}
 use Rattle.script_lines.specs.Output.{not_running_line, no_actor_line}
 use Rattle.flat_guest.specs.Guest.{Guest, is_actor}
-use Rattle.flat_guest.specs.Plain.{IsGuest}
+use Rattle.flat_guest.specs.Body.{IsGuest}
 use Rattle.flat_guest.specs.Steps.{StepsBy}
 use Rattle.flat_machine.specs.Outcome as flat
 use Rattle.monitor_core.specs.declared.outcome.Outcome.{Outcome}

@@ -12,7 +12,7 @@ use Rattle.api_admission.specs.Admission.{Facts, asks_files, configured, first_r
 use Rattle.api_admission.specs.Answers.{answer_by, answer_of, refused}
 use Rattle.script_lines.specs.Output.{reply_line}
 use Rattle.flat_guest.specs.Guest.{Guest}
-use Rattle.flat_guest.specs.Plain.{IsGuest}
+use Rattle.flat_guest.specs.Body.{IsGuest}
 use Rattle.flat_guest.specs.Start.{started}
 use Rattle.monitor_core.specs.declared.outcome.Outcome.{Outcome}
 use Rattle.monitor_core.specs.declared.outcome.Outcome.TheVariants.{Answered, Failed, NoMemory}

@@ -6,7 +6,7 @@ use Rattle.vm_types.specs.declared.item.ApiCall.TheVariants.{InstanceStart}
 use Rattle.api_admission.specs.declared.config.Config.{Config}
 use Rattle.api_admission.specs.declared.config.Phase.TheVariants.{NotStarted}
 use Rattle.api_admission.specs.Admission.{Facts, refusal_of}
-use Rattle.flat_guest.specs.Plain.{IsGuest}
+use Rattle.flat_guest.specs.Body.{IsGuest}
 use Rattle.flat_guest.specs.Start.{started}
 use Rattle.monitor_core.specs.declared.starting.Started.{Started}
 

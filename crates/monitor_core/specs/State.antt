@@ -2,7 +2,7 @@
 use Rattle.std.specs.Prelude.{◌≡◌, Option, Some, None}
 use Rattle.vm_types.specs.Saved.{Saved}
 use Rattle.flat_guest.specs.Guest as flat
-use Rattle.flat_guest.specs.Plain.{IsGuest}
+use Rattle.flat_guest.specs.Body.{IsGuest}
 use Rattle.flat_machine.specs.Machine.{Machine}
 use Rattle.monitor_core.specs.declared.guest.Guest.{Guest}
 use Rattle.monitor_core.specs.declared.monitor.Monitor.{Monitor}

@@ -2,8 +2,8 @@
 ghost use Rattle.std.specs.Prelude.{◌≡◌, ◌≤◌, ◌^◌, true, length, IfOk};
 ghost use Rattle.guest_memory.specs.Boot.{image_fits};
 
-use board_table::PlainBoard;
-use flat_guest::{place, tree_address};
+use board_table::Board;
+use flat_guest::{Layout, place, tree_address};
 use guest_memory::{PlainMemory, start_memory};
 use hart_rv64::Hart;
 use std::alloc::{AllocError, Global};
@@ -17,7 +17,7 @@ const IMAGE_START: GuestAddr = 0x8020_0000;
 #[derive(Drop)]
 pub struct Guest {
     memory: PlainMemory,
-    board: PlainBoard,
+    board: Board,
     hart: Hart,
     ghost small: { length memory.bytes ≤ 2 ^ 40 },
 }
@@ -25,8 +25,9 @@ pub struct Guest {
 impl Guest {
     ghost use Rattle.std.specs.Prelude.{List, None};
     ghost use Rattle.vm_types.specs.declared.entry.Entry.{Entry};
-    ghost use Rattle.flat_guest.specs.Guest.{Guest as FlatGuest, place_of};
-    ghost use Rattle.flat_guest.specs.Plain.{IsGuest, reply_at};
+    ghost use Rattle.flat_guest.specs.Guest.{Guest as FlatGuest};
+    ghost use Rattle.flat_guest.specs.Places.{place_of, without_devices};
+    ghost use Rattle.flat_guest.specs.Body.{IsGuest, reply_at};
     ghost use Rattle.flat_guest.specs.Start.{started};
     ghost use Rattle.flat_guest.specs.Steps.{FlatStep, StepsBy, board_after, guest_after, memory_after};
 
@@ -40,16 +41,20 @@ impl Guest {
         let tree = tree_address(mem_size_mib);
         Ok(Guest {
             memory,
-            board: PlainBoard::new(),
+            board: Board::new(),
             hart: Hart::new(IMAGE_START, 0, tree),
         })
     }
 
     // Where an op of the hart acts.
     fn route(&self, op: &Op) -> PlaceId
-        ensures { result ≡ place_of (length self.now.memory.bytes) op.now }
+        ensures { result ≡ place_of (without_devices (length self.now.memory.bytes)) op.now }
     {
-        place(self.memory.len(), op)
+        let there = Layout {
+            memory_size: self.memory.len(),
+            ports: 0,
+        };
+        place(there, op)
     }
 
     // What an op of the hart is answered where it acts.

@@ -1,9 +1,4 @@
 // Why an item is not answered.
-ghost use Rattle.std.specs.Prelude.{◌≡◌};
-ghost use Rattle.monitor_core.specs.declared.item_error.ItemError.TheVariants.{OutOfMemory};
-
-use std::alloc::AllocError;
-
 /// Why an item is not answered.
 #[derive(Clone, Copy, Debug, PartialEq, Eq, Drop)]
 pub enum ItemError {
@@ -11,12 +6,4 @@ pub enum ItemError {
     FilesFailed,
     /// There was no memory, not even for an answer that says so.
     OutOfMemory,
-}
-
-impl From<AllocError> for ItemError {
-    ghost from_gives = { λ _ e. e ≡ OutOfMemory };
-
-    fn from(_: AllocError) -> Self {
-        ItemError::OutOfMemory
-    }
 }

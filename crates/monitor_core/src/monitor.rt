@@ -176,11 +176,14 @@ impl Monitor {
                 Ok(()) => Ok(ByteList::new(self.alloc)),
                 Err(Failed) => Err(ItemError::FilesFailed),
             },
-            Item::Api(call) => {
-                let replied = self.request(call, files)?;
-                Ok(replied.text)
-            }
-            Item::Step { actor, count } => Ok(self.step(actor, count)?),
+            Item::Api(call) => match self.request(call, files) {
+                Ok(replied) => Ok(replied.text),
+                Err(_) => Err(ItemError::OutOfMemory),
+            },
+            Item::Step { actor, count } => match self.step(actor, count) {
+                Ok(text) => Ok(text),
+                Err(_) => Err(ItemError::OutOfMemory),
+            },
         }
     }
 

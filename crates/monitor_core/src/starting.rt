@@ -1,6 +1,6 @@
 // What a start comes to.
 ghost use Rattle.std.specs.Prelude.{◌≡◌, ◌≤◌, is_some, true, IfSome};
-ghost use Rattle.flat_guest.specs.Plain.{IsGuest};
+ghost use Rattle.flat_guest.specs.Body.{IsGuest};
 ghost use Rattle.flat_guest.specs.Start.{started};
 ghost use Rattle.vm_outside.specs.Filing.{SameFiles};
 ghost use Rattle.vm_outside.specs.Known.{Lasts, Tells};
