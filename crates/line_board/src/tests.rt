@@ -41,9 +41,10 @@ fn a_full_ring_stores_nothing(rt: HostRuntime) -> Result<(), Fail> {
         assert_eq!(rt; act(&mut board, BoardOp::Putchar { byte: 65 }), Reply::Done);
     }
     assert_eq!(rt; act(&mut board, BoardOp::Putchar { byte: 66 }), Reply::Full);
-    let mut drained = [0; 5000];
+    let mut drained = [0; 4096];
     assert_eq!(rt; board.drain(&mut drained), 4096);
-    assert!(rt; drained[..4096].iter().all(|byte| *byte == 65));
+    assert!(rt; drained.iter().all(|byte| *byte == 65));
+    assert_eq!(rt; board.drain(&mut drained), 0);
     assert_eq!(rt; act(&mut board, BoardOp::Putchar { byte: 66 }), Reply::Done);
     Ok(())
 }
