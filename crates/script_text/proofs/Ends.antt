@@ -1,5 +1,5 @@
 -- Where the first line ends, and lines that are too long.
-use Rattle.std.proofs.Common.{◌≡◌, ℕ, zero, suc, ◌+◌, ◌-◌, ◌<◌, ◌≤◌, min, List, [], ◌∷◌, ◌++◌, length, get_or, take, drop, map, Option, None, inl, inr, refl, sym, ◌∙◌, ap, subst, arith, append-nil, append_assoc, length-append, length-drop}
+use Rattle.std.proofs.Common.{◌≡◌, ℕ, zero, suc, ◌+◌, ◌-◌, ◌<◌, ◌≤◌, min, List, [], ◌∷◌, ◌++◌, length, get_or, take, drop, map, Option, None, Some, inl, inr, refl, sym, ◌∙◌, ap, subst, arith, append-nil, append_assoc, length-append, length-drop}
 use Rattle.std.proofs.lemmas.Bool.{cases_lt, lt-leb}
 use Rattle.std.proofs.lemmas.Bool.Decides.{nat_tests}
 use Rattle.std.proofs.lemmas.List.{get_or_append_left, get_or-take, length-take, take-append-drop, take-take, take_all}
@@ -7,7 +7,7 @@ use Rattle.script_text.specs.declared.item.Item.{Item}
 use Rattle.script_text.specs.Ends.{LacksEnd, StopsAt}
 use Rattle.script_text.specs.Items.{item_of, longest}
 use Rattle.script_text.specs.Lines.{judged, lines_of, onto}
-use Rattle.script_text.specs.Reader.{IsFirst, IsNext, Shortens, Takes}
+use Rattle.script_text.specs.Reader.{Gives, IsFirst, IsNext, Shortens, Takes}
 use Rattle.script_text.specs.declared.line_reader.Next.{Next}
 use Rattle.script_text.specs.declared.line_reader.Next.TheVariants as next
 
@@ -198,30 +198,27 @@ none_first held end stops all = record {
   lacks = stops.lacks;
 }
 
+-- the first line is judged so, and what is behind it remains
+goes_on : (held : List ℕ) (end : ℕ) (o : Option Item) → StopsAt held end → end < length held → item_of (take end held) ≡ o
+    → (length (drop (end + 1) held) < length held) × ((more : List ℕ) → judged (held ++ more) ≡ o ∷ judged (drop (end + 1) held ++ more))
+goes_on held end o stops lt is = (
+  omega (arith, lt, length-drop (end + 1) held),
+  λ more. judged_first held more end lt (stops.stops lt) stops.lacks
+      ∙ ap (λ (x : Option Item). x ∷ judged (drop (end + 1) held ++ more)) is,
+)
+
+gives_next : (held : List ℕ) (end : ℕ) (n : Next) → StopsAt held end → end < length held → IsNext (take end held) n → Gives held n (drop (end + 1) held)
+gives_next held end (next.Line it) stops lt is = goes_on held end (Some it) stops lt is
+gives_next held end next.Bad stops lt is = goes_on held end None stops lt is
+gives_next held end next.Nothing stops lt is = absurd is
+
 pub some_first : (held : List ℕ) (end : ℕ) (n : Next) → StopsAt held end → (end ≡ length held → ⊥) → IsNext (take end held) n
     → IsFirst held (record { next = n; used = end + 1; searched = 0 })
-some_first held end (next.Line it) stops other is =
+some_first held end n stops other is =
     let lt : end < length held = omega (arith, stops.within, other) in
     record {
       used = omega (arith, lt);
-      gives = (
-        omega (arith, lt, length-drop (end + 1) held),
-        λ more. judged_first held more end lt (stops.stops lt) stops.lacks
-            ∙ ap (λ (o : Option Item). o ∷ judged (drop (end + 1) held ++ more)) is,
-      );
+      gives = gives_next held end n stops lt is;
       searched = omega arith;
       lacks = λ k less. absurd (omega (arith, less));
     }
-some_first held end next.Bad stops other is =
-    let lt : end < length held = omega (arith, stops.within, other) in
-    record {
-      used = omega (arith, lt);
-      gives = (
-        omega (arith, lt, length-drop (end + 1) held),
-        λ more. judged_first held more end lt (stops.stops lt) stops.lacks
-            ∙ ap (λ (o : Option Item). o ∷ judged (drop (end + 1) held ++ more)) is,
-      );
-      searched = omega arith;
-      lacks = λ k less. absurd (omega (arith, less));
-    }
-some_first held end next.Nothing stops other is = absurd is
