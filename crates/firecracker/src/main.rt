@@ -1,12 +1,11 @@
 // The monitor's program: the real objects, the call, and the status that it answers.
 #![tactic(auto)]
 
-use monitor_cli::{Outside, firecracker_main, refuse};
+use monitor_cli::{NoWords, Outside, firecracker_main};
 use outside_real::{Folder, Reading, Writing};
 use std::io::ErrorKind;
 use std::process::ExitCode;
 use std::{env, io};
-use vm_types::Exit;
 
 fn main(rt: HostRuntime) -> ExitCode {
     let mut out = Outside {
@@ -14,13 +13,16 @@ fn main(rt: HostRuntime) -> ExitCode {
         sink: Writing::new(rt.stdout()),
         files: Folder::new(&rt),
     };
-    let exit = match words(&rt) {
-        Ok(words) => firecracker_main(rt.alloc(), &words, &mut out),
-        Err(e) if e.kind() == ErrorKind::OutOfMemory => refuse(Exit::OutOfMemory, &mut out.sink),
-        // A word that is no text is no command's.
-        Err(_) => refuse(Exit::Usage, &mut out.sink),
-    };
+    let words = words(&rt).map_err(|e| why(&e));
+    let exit = firecracker_main(rt.alloc(), words, &mut out);
     ExitCode::from(exit.status())
+}
+
+fn why(error: &io::Error) -> NoWords {
+    match error.kind() {
+        ErrorKind::OutOfMemory => NoWords::OutOfMemory,
+        _ => NoWords::NotText,
+    }
 }
 
 // The words behind the program's name.

@@ -16,8 +16,8 @@ abbrev pub IsAtFile : List (Option Item) → Type 0
 IsAtFile left =
     (name : List ℕ) × (content : List ℕ) × (more : List (Option Item)) × (left ≡ Some (File name content) ∷ more)
 
--- where it stops: for the files alone at a file line; for the source before a line that did not come whole; for want
--- of memory anywhere
+-- where it stops: for the files alone at a file line; for the source while the guest is on; for want of memory
+-- anywhere
 abbrev pub StopsBy : Exit → List (Option Item) → Machine → Type 0
 StopsBy (Exit.Fault object.Files) left m = (is_off m ≡ false) × IsAtFile left
 StopsBy (Exit.Fault object.Source) left m = is_off m ≡ false
@@ -45,6 +45,7 @@ pub record IsStopped (script : List ℕ) (start : Machine) (acts : List Act) (pa
   pub stops : StopsBy exit left last
   pub unwritten : List ℕ
   pub inside : StopsInside left part last unwritten end
+  pub on : (part ≡ []) ⊎ (is_off last ≡ false)
   pub writes : text ≡ answers ++ last_line exit
 
 -- What is being written when the sink fails: the text of the last act, behind those of the acts before it; or the

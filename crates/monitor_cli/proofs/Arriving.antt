@@ -40,7 +40,7 @@ begun start before run empty first is = record {
   calls = sym (append-nil before.files.calls);
 }
 
-pub fed : (start : Machine) (before : Known) (came piece rest now : List ℕ) (run : ScriptRun) (sink : SinkKnown) (files : FilesKnown) → now ≡ run.reader ++ piece → length (came ++ piece) ≤ longest_script
+pub fed : (start : Machine) (before : Known) (came piece rest now : List ℕ) (run : ScriptRun) (sink : SinkKnown) (files : FilesKnown) → ((more : List ℕ) → judged (now ++ more) ≡ judged ((run.reader ++ piece) ++ more)) → length (came ++ piece) ≤ longest_script
     → Reached start before came (piece ++ rest) run sink files → Reached start before (came ++ piece) rest (record run { reader = now }) sink files
 fed start before came piece rest now run sink files is small r = record {
   parts = append_assoc came piece rest ∙ r.parts;
@@ -49,7 +49,7 @@ fed start before came piece rest now run sink files is small r = record {
   answers = r.answers;
   last = r.last;
   lines = λ more. ap judged (append_assoc came piece more) ∙ r.lines (piece ++ more)
-      ∙ ap (λ (l : List ℕ). lines_done r.acts ++ judged l) (sym (append_assoc run.reader piece more) ∙ ap (λ (l : List ℕ). l ++ more) (sym is));
+      ∙ ap (λ (l : List (Option Item)). lines_done r.acts ++ l) (ap judged (sym (append_assoc run.reader piece more)) ∙ sym (is more));
   on = r.on;
   ran = r.ran;
   number = r.number;
@@ -118,5 +118,5 @@ spread script came rest start acts answers last left is small lines on ran =
         on = on;
         ran = ran;
       };
-      read = record { came = came; parts = is; unread = left []; lines = ap judged (sym (append-nil came)) ∙ lines [] };
+      read = record { came = came; parts = is; undone = left []; lines = ap judged (sym (append-nil came)) ∙ lines [] };
     }

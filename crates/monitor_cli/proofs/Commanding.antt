@@ -16,12 +16,13 @@ use Rattle.flat_machine.specs.Replay.{default_id, judged_script}
 use Rattle.flat_machine.specs.Run.{Act, AllAnswered, failures, lines_done, shortages}
 use Rattle.flat_machine.specs.Stops.{stop_failures}
 use Rattle.monitor_cli.specs.Answering.{IsClosing}
-use Rattle.monitor_cli.specs.Command.{Commanded, IsWellFormed, Unbegun, is_command}
-use Rattle.monitor_cli.specs.Known.{AllLast, AllTell, Caused, Known, NoneRose, Told}
+use Rattle.monitor_cli.specs.Command.{Commanded, IsWellFormed, Unbegun, Wordless, exit_of, is_command}
+use Rattle.monitor_cli.specs.Known.{AllLast, AllTell, Caused, CausedSoFar, Known, NoneRose, SinkCause}
 use Rattle.monitor_cli.specs.Lines.{BeforeLast, IsRunsEnd}
 use Rattle.monitor_cli.specs.Replay.{Replayed}
 use Rattle.monitor_cli.specs.Taking.{IsQuiet, TookText}
-use Rattle.monitor_cli.proofs.Counts.{lasts_more, sink_by, sink_told}
+use Rattle.monitor_cli.specs.declared.words.NoWords.{NoWords}
+use Rattle.monitor_cli.proofs.Counts.{lasts_more, sink_told}
 use Rattle.monitor_cli.proofs.Halting.{not_inside}
 use Rattle.monitor_cli.proofs.Parts.{told_text}
 
@@ -30,7 +31,7 @@ pub nothing_begun : (start : Machine) (before : Known) → start.saved ≡ befor
 nothing_begun start before files = record {
   acts = [];
   part = [];
-  answers = [];
+  written = [];
   went = record {
     end = start;
     stop = record {
@@ -41,26 +42,15 @@ nothing_begun start before files = record {
       stops = tt;
       unwritten = [];
       inside = not_inside (judged_script before.source.left) start;
+      on = inl refl;
       writes = refl;
     };
     files = sym files;
-    read = record { came = []; parts = refl; unread = []; lines = refl };
+    read = record { came = []; parts = refl; undone = []; lines = refl };
     reads = tt;
   };
   took = sym (append-nil before.sink.taken);
   counted = record { rose = omega arith; kept = tt };
-  calls = sym (append-nil before.files.calls);
-}
-
--- the words are no command
-pub refused : (start : Machine) (before : Known) → start.saved ≡ before.files.saved → BeforeLast Exit.Usage start before before.source.left before.sink before.files
-refused start before files = record {
-  acts = [];
-  part = [];
-  answers = [];
-  went = record { none = refl; whole = refl; writes = refl; files = sym files; unread = refl };
-  took = sym (append-nil before.sink.taken);
-  counted = record { rose = omega arith; kept = λ good. refl };
   calls = sym (append-nil before.files.calls);
 }
 
@@ -92,7 +82,7 @@ no_none (act ∷ acts) [] more is = cc is
 no_none (act ∷ acts) (item ∷ items) more is = no_none acts items more (ap behind is)
 
 -- a script of items with no failure comes to its end, or to want of memory
-complete : (exit : Exit) (start : Machine) (before now : Known) (rest : List ℕ) (sink : SinkKnown) (files : FilesKnown) → exit ≢ Exit.Usage → BeforeLast exit start before rest sink files → Told exit before now → IsWellFormed before.source.left → NoneRose before now
+complete : (exit : Exit) (start : Machine) (before now : Known) (rest : List ℕ) (sink : SinkKnown) (files : FilesKnown) → exit ≢ Exit.Usage → BeforeLast exit start before rest sink files → Caused exit before now → IsWellFormed before.source.left → NoneRose before now
     → (exit ≡ Exit.Done) ⊎ (exit ≡ Exit.OutOfMemory)
 complete Exit.Done start before now rest sink files command so_far told good none = inl refl
 complete Exit.OutOfMemory start before now rest sink files command so_far told good none = inr refl
@@ -104,21 +94,53 @@ complete (Exit.Script line) start before now rest sink files command so_far told
     let replay = so_far.went.replay in
     absurd (no_none so_far.acts good.0 replay.ends.2 (sym good.1 ∙ replay.plays.lines ∙ ap (λ (l : List (Option Item)). lines_done so_far.acts ++ l) replay.ends.3))
 
-not_both : (b : Bool) → b ≡ true → b ≡ false → ⊥
+pub not_both : (b : Bool) → b ≡ true → b ≡ false → ⊥
 not_both b is not =
     let both : true ≡ false = sym is ∙ not in
     cc both
 
+-- a last line alone
+sink_still : (exit : Exit) (n : ℕ) → (IsQuiet exit → ⊥) → SinkCause exit n n
+sink_still (Exit.Fault object.Sink) n never = absurd (never tt)
+sink_still (Exit.Fault object.Source) n never = refl
+sink_still (Exit.Fault object.Files) n never = refl
+sink_still Exit.Done n never = refl
+sink_still Exit.Usage n never = refl
+sink_still (Exit.Script line) n never = refl
+sink_still Exit.OutOfMemory n never = refl
+
+pub line_alone : (exit : Exit) (before : Known) (sink : SinkKnown) {E : Type 0} (result : Result (Unit {0}) E) → (IsQuiet exit → ⊥)
+    → (Tells before.sink.health → TakesAll before.sink.taken sink.taken result (last_line exit)) → Called before.sink.health sink.health result → Unbegun exit before (record { source = before.source; sink = sink; files = before.files })
+line_alone exit before sink result never takes called = record {
+  writes = λ tells. told_text before.sink before.sink sink [] result (sym (append-nil before.sink.taken)) exit (sink_still exit before.sink.health.faults never) (λ quiet. absurd (never quiet)) (takes tells) called;
+  source = refl;
+  files = refl;
+}
+
+never_quiet : (why : NoWords) → IsQuiet (exit_of why) → ⊥
+never_quiet NoWords.NotText quiet = quiet
+never_quiet NoWords.OutOfMemory quiet = quiet
+
+pub wordless : (why : NoWords) (exit result : Exit) (before now : Known) → exit ≡ exit_of why → result ≡ exit → ((IsQuiet exit → ⊥) → Unbegun exit before now) → AllLast before now → Wordless why result before now
+wordless why exit result before now is same unbegun lasts = record {
+  ends = same ∙ is;
+  unbegun = subst (λ (e : Exit). Unbegun e before now) is (unbegun (subst (λ (e : Exit). IsQuiet e → ⊥) (sym is) (never_quiet why)));
+  lasts = lasts;
+}
+
+pub if_err : {T : Type 0} (words : Result T NoWords) (why : NoWords) (P : NoWords → Type 0) → words ≡ Err why → P why → IfErr words P
+if_err {T} words why P is holds = subst (λ (w : Result T NoWords). IfErr w P) (sym is) holds
+
 -- the last line is written behind the answers, or a front of it
 module _ (words : List (List ℕ)) (exit : Exit) (before mid : Known) (sink : SinkKnown) {E : Type 0} (result : Result (Unit {0}) E)
     (usage : (exit ≡ Exit.Usage) ↔ (is_command words ≡ false)) (unread : exit ≡ Exit.Usage → mid ≡ before)
-    (so_far : AllTell before → BeforeLast exit (new_machine default_id before.files.saved) before mid.source.left mid.sink mid.files)
-    (caused : Caused exit before mid) (lasts : AllLast before mid) (takes : Tells mid.sink.health → TakesAll mid.sink.taken sink.taken result (last_line exit))
+    (so_far : AllTell before → is_command words ≡ true → BeforeLast exit (new_machine default_id before.files.saved) before mid.source.left mid.sink mid.files)
+    (caused : CausedSoFar exit before mid) (lasts : AllLast before mid) (takes : Tells mid.sink.health → TakesAll mid.sink.taken sink.taken result (last_line exit))
     (quiet : IsQuiet exit → sink ≡ mid.sink) (called : Called mid.sink.health sink.health result) where
   abbrev now : Known
   now = record { source = mid.source; sink = sink; files = mid.files }
 
-  told : Told exit before now
+  told : Caused exit before now
   told = record {
     source = caused.source;
     sink = sink_told exit before.sink.health.faults mid.sink.health.faults sink.health.faults caused.sink called.lasts.later
@@ -126,16 +148,15 @@ module _ (words : List (List ℕ)) (exit : Exit) (before mid : Known) (sink : Si
     files = caused.files;
   }
 
-  replayed : AllTell before → Replayed exit (new_machine default_id before.files.saved) before now
-  replayed tells =
-      let ran = so_far tells in
+  replayed : AllTell before → is_command words ≡ true → Replayed exit (new_machine default_id before.files.saved) before now
+  replayed tells command =
+      let ran = so_far tells command in
       record {
         acts = ran.acts;
         part = ran.part;
-        text = ran.answers ++ last_line exit;
+        text = ran.written ++ last_line exit;
         went = ran.went;
-        took = told_text exit before.sink mid.sink sink ran.answers result ran.took lasts.sink.later
-            (sink_by exit before.sink.health.faults mid.sink.health.faults caused.sink) (takes (lasts.sink.still tells.sink)) called;
+        took = told_text before.sink mid.sink sink ran.written result ran.took exit caused.sink quiet (takes (lasts.sink.still tells.sink)) called;
         counted = ran.counted;
         calls = ran.calls;
         plain = λ none enough. all_answered ran.acts
@@ -147,8 +168,7 @@ module _ (words : List (List ℕ)) (exit : Exit) (before mid : Known) (sink : Si
       let same = unread is in
       record {
         writes = λ tells. subst (λ (e : Exit). TookText e (last_line e) before.sink sink) is
-            (told_text exit before.sink mid.sink sink [] result (ap (λ (k : Known). k.sink.taken) same ∙ sym (append-nil before.sink.taken)) lasts.sink.later
-            (inl (ap (λ (k : Known). k.sink.health.faults) same)) (takes (lasts.sink.still tells)) called);
+            (told_text before.sink mid.sink sink [] result (ap (λ (k : Known). k.sink.taken) same ∙ sym (append-nil before.sink.taken)) exit caused.sink quiet (takes (lasts.sink.still tells)) called);
         source = ap (λ (k : Known). k.source) same;
         files = ap (λ (k : Known). k.files) same;
       }
@@ -160,7 +180,7 @@ module _ (words : List (List ℕ)) (exit : Exit) (before mid : Known) (sink : Si
     replayed = replayed;
     told = told;
     complete = λ tells command good none.
-        complete exit (new_machine default_id before.files.saved) before now mid.source.left mid.sink mid.files (λ is. not_both (is_command words) command (usage.0 is)) (so_far tells) told good none;
+        complete exit (new_machine default_id before.files.saved) before now mid.source.left mid.sink mid.files (λ is. not_both (is_command words) command (usage.0 is)) (so_far tells command) told good none;
     lasts = record {
       source = lasts.source;
       sink = lasts_more before.sink.health mid.sink.health sink.health lasts.sink called.lasts;

@@ -44,16 +44,7 @@ source_stays Exit.Usage i j end same = same
 source_stays (Exit.Script line) i j end same = same
 source_stays Exit.OutOfMemory i j end same = same
 
--- the sink's count by the time of the last line
-pub sink_by : (exit : Exit) (i j : ℕ) → SinkCause exit i j → (j ≡ i) ⊎ Rose i j
-sink_by (Exit.Fault object.Sink) i j cause = inr cause
-sink_by (Exit.Fault object.Source) i j cause = inl cause
-sink_by (Exit.Fault object.Files) i j cause = inl cause
-sink_by Exit.Done i j cause = inl cause
-sink_by Exit.Usage i j cause = inl cause
-sink_by (Exit.Script line) i j cause = inl cause
-sink_by Exit.OutOfMemory i j cause = inl cause
-
+-- the sink's count behind the last line
 pub sink_told : (exit : Exit) (i mid j : ℕ) → SinkCause exit i mid → mid ≤ j → (IsQuiet exit → j ≡ mid) → SinkTold exit i j
 sink_told (Exit.Fault object.Sink) i mid j cause later quiet = rose_later i mid j cause later
 sink_told Exit.Done i mid j cause later quiet = quiet tt ∙ cause

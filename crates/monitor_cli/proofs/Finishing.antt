@@ -55,7 +55,7 @@ module _ (start : Machine) (before : Known) (rest : List ℕ) (run : ScriptRun) 
           ran = r.ran;
         };
         ends = inl refl;
-        read = record { came = done.came; parts = r.parts; unread = []; lines = lines };
+        read = record { came = done.came; parts = r.parts; undone = []; lines = lines };
         reads = inl none.1;
       }
   whole_by (inr off) =
@@ -79,7 +79,7 @@ module _ (start : Machine) (before : Known) (rest : List ℕ) (run : ScriptRun) 
   closes Exit.Done now wrote = record {
     acts = r.acts;
     part = [];
-    answers = r.answers ++ closing Exit.Done r.last;
+    written = r.answers ++ closing Exit.Done r.last;
     went = record {
       end = drained r.last;
       replay = record {
@@ -91,7 +91,7 @@ module _ (start : Machine) (before : Known) (rest : List ℕ) (run : ScriptRun) 
         writes = append-nil (r.answers ++ closing Exit.Done r.last);
         leaves = refl;
       };
-      whole = refl;
+      unbegun = refl;
       files = r.is.files_is;
       read = all.read;
       reads = reads_by all.reads;
@@ -103,7 +103,7 @@ module _ (start : Machine) (before : Known) (rest : List ℕ) (run : ScriptRun) 
   closes (Exit.Fault object.Sink) now wrote = record {
     acts = r.acts;
     part = [];
-    answers = r.answers ++ wrote.front;
+    written = r.answers ++ wrote.front;
     went = record {
       end = r.last;
       cut = record {
@@ -119,7 +119,7 @@ module _ (start : Machine) (before : Known) (rest : List ℕ) (run : ScriptRun) 
         parts = wrote.parts;
         lacks = wrote.lacks;
       };
-      whole = refl;
+      unbegun = refl;
       files = r.is.files_is;
       read = all.read;
     };
@@ -130,7 +130,7 @@ module _ (start : Machine) (before : Known) (rest : List ℕ) (run : ScriptRun) 
   closes Exit.OutOfMemory now wrote = record {
     acts = r.acts;
     part = [];
-    answers = r.answers;
+    written = r.answers;
     went = record {
       end = r.last;
       stop = record {
@@ -141,6 +141,7 @@ module _ (start : Machine) (before : Known) (rest : List ℕ) (run : ScriptRun) 
         stops = tt;
         unwritten = [];
         inside = not_inside all.left r.last;
+        on = inl refl;
         writes = refl;
       };
       files = r.is.files_is;

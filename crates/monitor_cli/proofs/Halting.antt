@@ -8,7 +8,7 @@ use Rattle.vm_types.specs.Saved.{Saved}
 use Rattle.vm_types.specs.declared.exit.Exit.{Exit}
 use Rattle.vm_types.specs.declared.exit.Object.TheVariants as object
 use Rattle.vm_types.specs.declared.item.Item.{Item}
-use Rattle.vm_outside.specs.Calls.{FileCall}
+use Rattle.vm_outside.specs.Calls.{FileCall, MakesFront}
 use Rattle.vm_outside.specs.Known.{FilesKnown, SinkKnown, SourceKnown, Tells}
 use Rattle.script_lines.specs.Lines.{judged}
 use Rattle.script_lines.specs.Output.{last_line}
@@ -23,6 +23,7 @@ use Rattle.monitor_core.specs.declared.item_error.ItemError.{ItemError}
 use Rattle.monitor_core.specs.declared.monitor.Monitor.{Monitor}
 use Rattle.monitor_core.specs.Going.{IsFile, ItemStops, LeavesCalls, LeavesFiles}
 use Rattle.monitor_cli.specs.Answering.{ItemCut, ItemEnds}
+use Rattle.monitor_cli.specs.Counting.{CallsBy}
 use Rattle.monitor_cli.specs.Known.{Known}
 use Rattle.monitor_cli.specs.Lines.{BeforeLast, PastBy, Reached}
 use Rattle.monitor_cli.specs.Reading.{HasRead}
@@ -64,11 +65,12 @@ other_left Item.Nothing saved left never leaves = leaves
 other_left (Item.Api call) saved left never leaves = leaves
 other_left (Item.Step actor count) saved left never leaves = leaves
 
-file_calls : (item : Item) (calls left : List FileCall) → IsFile item → LeavesCalls item calls left → (more : List FileCall) × (left ≡ calls ++ more)
-file_calls (Item.File name content) calls left is leaves = leaves
-file_calls Item.Nothing calls left is leaves = absurd is
-file_calls (Item.Api call) calls left is leaves = absurd is
-file_calls (Item.Step actor count) calls left is leaves = absurd is
+file_calls : (item : Item) (more : List (Option Item)) (script : List ℕ) (acts : List Act) (before calls left : List FileCall) → IsFile item → judged_script script ≡ lines_done acts ++ Some item ∷ more → calls ≡ before ++ calls_in acts → LeavesCalls item calls left → CallsBy (Exit.Fault object.Files) script acts before left
+file_calls (Item.File name content) more script acts before calls left is lines same leaves =
+    (name, content, more, lines, subst (λ (c : List FileCall). MakesFront (calls_of (Item.File name content)) c left) same leaves)
+file_calls Item.Nothing more script acts before calls left is lines same leaves = absurd is
+file_calls (Item.Api call) more script acts before calls left is lines same leaves = absurd is
+file_calls (Item.Step actor count) more script acts before calls left is lines same leaves = absurd is
 
 other_calls : (item : Item) (calls left : List FileCall) → (IsFile item → ⊥) → LeavesCalls item calls left → left ≡ calls
 other_calls (Item.File name content) calls left never leaves = absurd (never tt)
@@ -100,7 +102,7 @@ module _ (start : Machine) (before : Known) (came rest : List ℕ) (run : Script
   read_more piece left is = record {
     came = came ++ piece;
     parts = append_assoc came piece left ∙ ap (λ (l : List ℕ). came ++ l) (sym is) ∙ r.parts;
-    unread = held piece;
+    undone = held piece;
     lines = r.lines piece;
   }
 
@@ -108,7 +110,7 @@ module _ (start : Machine) (before : Known) (came rest : List ℕ) (run : Script
   source_failed empty on = record {
     acts = r.acts;
     part = [];
-    answers = r.answers;
+    written = r.answers;
     went = record {
       end = r.last;
       stop = record {
@@ -119,10 +121,11 @@ module _ (start : Machine) (before : Known) (came rest : List ℕ) (run : Script
         stops = on;
         unwritten = [];
         inside = not_inside (held here.more ++ here.behind) r.last;
+        on = inl refl;
         writes = refl;
       };
       files = r.is.files_is;
-      read = record { came = came; parts = r.parts; unread = []; lines = all_done empty ∙ sym (append-nil (lines_done r.acts)) };
+      read = record { came = came; parts = r.parts; undone = []; lines = all_done empty ∙ sym (append-nil (lines_done r.acts)) };
       reads = refl;
     };
     took = r.takes;
@@ -135,7 +138,7 @@ module _ (start : Machine) (before : Known) (came rest : List ℕ) (run : Script
   no_memory piece left is = record {
     acts = r.acts;
     part = [];
-    answers = r.answers;
+    written = r.answers;
     went = record {
       end = r.last;
       stop = record {
@@ -146,6 +149,7 @@ module _ (start : Machine) (before : Known) (came rest : List ℕ) (run : Script
         stops = tt;
         unwritten = [];
         inside = not_inside (held here.more ++ here.behind) r.last;
+        on = inl refl;
         writes = refl;
       };
       files = r.is.files_is;
@@ -162,7 +166,7 @@ module _ (start : Machine) (before : Known) (came rest : List ℕ) (run : Script
   none_next lines more left none all on read = record {
     acts = r.acts;
     part = [];
-    answers = r.answers;
+    written = r.answers;
     went = record {
       end = r.last;
       replay = record {
@@ -174,7 +178,7 @@ module _ (start : Machine) (before : Known) (came rest : List ℕ) (run : Script
         writes = refl;
         leaves = refl;
       };
-      whole = refl;
+      unbegun = refl;
       files = r.is.files_is;
       read = read;
       reads = tt;
@@ -220,11 +224,10 @@ module _ (start : Machine) (before : Known) (came rest : List ℕ) (run : Script
     files_failed : ItemStops ItemError.FilesFailed item run.monitor after files left → now ≡ sink → BeforeLast (Exit.Fault object.Files) start before rest now left
     files_failed stops same =
         let went = stops.went files_told r.last r.is in
-        let begun = file_calls item files.calls left.calls stops.cause (stops.calls files_told) in
         record {
           acts = r.acts;
           part = stops.part;
-          answers = r.answers;
+          written = r.answers;
           went = record {
             end = went.0;
             stop = record {
@@ -235,6 +238,7 @@ module _ (start : Machine) (before : Known) (came rest : List ℕ) (run : Script
               stops = (on, at_file item (judged (behind ++ at_it.more) ++ at_it.behind) stops.cause);
               unwritten = stops.unwritten;
               inside = went.1;
+              on = inr on;
               writes = refl;
             };
             files = file_left item (judged (behind ++ at_it.more) ++ at_it.behind) went.0 left.saved stops.cause went.3;
@@ -247,7 +251,7 @@ module _ (start : Machine) (before : Known) (came rest : List ℕ) (run : Script
                 (rose_more (failures r.acts) (failed_in stops.part + 1) faults files.health.faults left.health.faults r.rose stops.rose);
             kept = tt;
           };
-          calls = (begun.0, begun.1 ∙ ap (λ (l : List FileCall). l ++ begun.0) r.calls ∙ append_assoc before.files.calls (calls_in r.acts) begun.0);
+          calls = file_calls item (judged (behind ++ at_it.more) ++ at_it.behind) script r.acts before.files.calls files.calls left.calls stops.cause at_it.plays.lines r.calls (stops.calls files_told);
         }
       where
         sums : (a b c : ℕ) → a + (b + c) ≡ a + b + c
@@ -259,7 +263,7 @@ module _ (start : Machine) (before : Known) (came rest : List ℕ) (run : Script
         record {
           acts = r.acts;
           part = stops.part;
-          answers = r.answers;
+          written = r.answers;
           went = record {
             end = went.0;
             stop = record {
@@ -270,6 +274,7 @@ module _ (start : Machine) (before : Known) (came rest : List ℕ) (run : Script
               stops = tt;
               unwritten = stops.unwritten;
               inside = went.1;
+              on = inr on;
               writes = refl;
             };
             files = other_left item went.0.saved left.saved stops.cause went.3;
@@ -300,7 +305,7 @@ module _ (start : Machine) (before : Known) (came rest : List ℕ) (run : Script
         record {
           acts = acts;
           part = [];
-          answers = r.answers ++ took.front;
+          written = r.answers ++ took.front;
           went = record {
             end = went.0;
             cut = record {
@@ -316,7 +321,7 @@ module _ (start : Machine) (before : Known) (came rest : List ℕ) (run : Script
               parts = took.parts;
               lacks = took.lacks;
             };
-            whole = refl;
+            unbegun = refl;
             files = went.2.files_is;
             read = spreads.read;
           };

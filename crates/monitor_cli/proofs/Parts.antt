@@ -1,14 +1,15 @@
 -- A sink that takes a front of a text.
-use Rattle.std.proofs.Common.{◌≡◌, ◌≢◌, ◌≤◌, ◌<◌, ◌+◌, ◌⊎◌, inl, inr, ℕ, List, [], ◌∷◌, ◌++◌, length, take, drop, Result, Ok, Err, take-append-drop, length-drop, refl, sym, ap, ◌∙◌, append_assoc, arith, length-append}
+use Rattle.std.proofs.Common.{◌≡◌, ◌≢◌, ◌≤◌, ◌<◌, ◌+◌, ◌⊎◌, inl, inr, ℕ, List, [], ◌∷◌, ◌++◌, length, take, drop, Result, Ok, Err, take-append-drop, length-drop, refl, sym, ap, subst, ◌∙◌, append_assoc, arith, length-append}
 use Rattle.std.proofs.Math.Seq.{take-append-add}
 use Rattle.std.proofs.lemmas.List.{append-nil, take-append-le}
 use Rattle.vm_types.specs.Causes.{Rose}
 use Rattle.vm_types.specs.declared.exit.Exit.{Exit}
+use Rattle.vm_types.specs.declared.exit.Object.TheVariants as object
 use Rattle.vm_outside.specs.Known.{Called, SinkKnown}
 use Rattle.vm_outside.specs.Passing.{TakesAll, TakesPart}
 use Rattle.script_lines.specs.Output.{last_line}
-use Rattle.monitor_cli.specs.Taking.{TookFront, TookText}
-use Rattle.monitor_cli.proofs.Counts.{later_rose, rose_later}
+use Rattle.monitor_cli.specs.Known.{SinkCause}
+use Rattle.monitor_cli.specs.Taking.{IsQuiet, TookFront, TookText}
 
 -- a front of the first text is one of both
 pub part_more : (old now one two : List ℕ) → TakesPart old now one → TakesPart old now (one ++ two)
@@ -47,27 +48,64 @@ took_front bytes text before taken is took = record {
   lacks = not_empty (drop took.0 bytes) (omega (arith, took.1, length-drop took.0 bytes));
 }
 
-kept_or_rose : (i mid j : ℕ) → (mid ≡ i) ⊎ Rose i mid → j ≡ mid → (◌≡◌ {A = List ℕ} [] [] × (j ≡ i)) ⊎ Rose i j
-kept_or_rose i mid j (inl same) kept = inl (refl, kept ∙ same)
-kept_or_rose i mid j (inr rose) kept = inr (rose_later i mid j rose (omega (arith, kept)))
+-- a last line behind the answers, where the sink's count had not risen before
+record LastTook (line text : List ℕ) (before now : SinkKnown) : Type 0 where
+  part : List ℕ
+  rest : List ℕ
+  took : now.taken ≡ before.taken ++ part
+  parts : part ++ rest ≡ text
+  short : length rest ≤ length line
+  cause : ((rest ≡ []) × (now.health.faults ≡ before.health.faults)) ⊎ ((rest ≢ []) × Rose before.health.faults now.health.faults)
 
--- the last line behind the answers
-pub told_text : (exit : Exit) (before mid now : SinkKnown) (answers : List ℕ) {E : Type 0} (result : Result (Unit {0}) E) → mid.taken ≡ before.taken ++ answers → before.health.faults ≤ mid.health.faults
-    → (mid.health.faults ≡ before.health.faults) ⊎ Rose before.health.faults mid.health.faults → TakesAll mid.taken now.taken result (last_line exit) → Called mid.health now.health result → TookText exit (answers ++ last_line exit) before now
-told_text exit before mid now answers (Ok u) took later by all called = record {
-  part = answers ++ last_line exit;
+last_took : (line : List ℕ) (before mid now : SinkKnown) (answers : List ℕ) {E : Type 0} (result : Result (Unit {0}) E) → mid.taken ≡ before.taken ++ answers → mid.health.faults ≡ before.health.faults
+    → TakesAll mid.taken now.taken result line → Called mid.health now.health result → LastTook line (answers ++ line) before now
+last_took line before mid now answers (Ok u) took same all called = record {
+  part = answers ++ line;
   rest = [];
-  took = all_behind before.taken mid.taken now.taken answers (last_line exit) took all;
-  whole = append-nil (answers ++ last_line exit);
+  took = all_behind before.taken mid.taken now.taken answers line took all;
+  parts = append-nil (answers ++ line);
   short = omega arith;
-  cause = kept_or_rose before.health.faults mid.health.faults now.health.faults by called.kept;
+  cause = inl (refl, called.kept ∙ same);
 }
-told_text exit before mid now answers (Err e) took later by part called = record {
-  part = answers ++ take part.0 (last_line exit);
-  rest = drop part.0 (last_line exit);
-  took = all_behind before.taken mid.taken now.taken answers (take part.0 (last_line exit)) took part.2;
-  whole = append_assoc answers (take part.0 (last_line exit)) (drop part.0 (last_line exit))
-      ∙ ap (λ (l : List ℕ). answers ++ l) (take-append-drop part.0 (last_line exit));
+last_took line before mid now answers (Err e) took same part called = record {
+  part = answers ++ take part.0 line;
+  rest = drop part.0 line;
+  took = all_behind before.taken mid.taken now.taken answers (take part.0 line) took part.2;
+  parts = append_assoc answers (take part.0 line) (drop part.0 line) ∙ ap (λ (l : List ℕ). answers ++ l) (take-append-drop part.0 line);
   short = omega (arith, length-drop {A = ℕ});
-  cause = inr (later_rose before.health.faults mid.health.faults now.health.faults later called.failed);
+  cause = inr (not_empty (drop part.0 line) (omega (arith, part.1, length-drop part.0 line)), omega (arith, same, called.failed));
 }
+
+module _ (before mid now : SinkKnown) (answers : List ℕ) {E : Type 0} (result : Result (Unit {0}) E) (took : mid.taken ≡ before.taken ++ answers) where
+  by_last : (exit : Exit) → mid.health.faults ≡ before.health.faults → TakesAll mid.taken now.taken result (last_line exit) → Called mid.health now.health result → LastTook (last_line exit) (answers ++ last_line exit) before now
+  by_last exit same takes called = last_took (last_line exit) before mid now answers result took same takes called
+
+  pub told_text : (exit : Exit) → SinkCause exit before.health.faults mid.health.faults → (IsQuiet exit → now ≡ mid) → TakesAll mid.taken now.taken result (last_line exit) → Called mid.health now.health result → TookText exit (answers ++ last_line exit) before now
+  told_text (Exit.Fault object.Sink) cause quiet takes called =
+      let same = quiet tt in
+      record {
+        part = answers;
+        rest = [];
+        took = ap (λ (s : SinkKnown). s.taken) same ∙ took;
+        parts = refl;
+        short = omega arith;
+        cause = (refl, subst (λ (s : SinkKnown). Rose before.health.faults s.health.faults) (sym same) cause);
+      }
+  told_text (Exit.Fault object.Source) same quiet takes called =
+      let t = by_last (Exit.Fault object.Source) same takes called in
+      record { part = t.part; rest = t.rest; took = t.took; parts = t.parts; short = t.short; cause = t.cause }
+  told_text (Exit.Fault object.Files) same quiet takes called =
+      let t = by_last (Exit.Fault object.Files) same takes called in
+      record { part = t.part; rest = t.rest; took = t.took; parts = t.parts; short = t.short; cause = t.cause }
+  told_text Exit.Done same quiet takes called =
+      let t = by_last Exit.Done same takes called in
+      record { part = t.part; rest = t.rest; took = t.took; parts = t.parts; short = t.short; cause = t.cause }
+  told_text Exit.Usage same quiet takes called =
+      let t = by_last Exit.Usage same takes called in
+      record { part = t.part; rest = t.rest; took = t.took; parts = t.parts; short = t.short; cause = t.cause }
+  told_text (Exit.Script line) same quiet takes called =
+      let t = by_last (Exit.Script line) same takes called in
+      record { part = t.part; rest = t.rest; took = t.took; parts = t.parts; short = t.short; cause = t.cause }
+  told_text Exit.OutOfMemory same quiet takes called =
+      let t = by_last Exit.OutOfMemory same takes called in
+      record { part = t.part; rest = t.rest; took = t.took; parts = t.parts; short = t.short; cause = t.cause }

@@ -7,16 +7,17 @@ use Rattle.vm_outside.specs.Known.{Tells}
 use Rattle.script_lines.specs.Output.{last_line}
 use Rattle.flat_machine.specs.Machine.{new_machine}
 use Rattle.flat_machine.specs.Replay.{default_id, judged_script}
-use Rattle.monitor_cli.specs.Known.{AllLast, AllTell, Known, NoneRose, Told}
+use Rattle.monitor_cli.specs.Known.{AllLast, AllTell, Known, NoneRose, Caused}
 use Rattle.monitor_cli.specs.Replay.{Replayed}
 use Rattle.monitor_cli.specs.Taking.{TookText}
+use Rattle.monitor_cli.specs.declared.words.NoWords.{NoWords}
 
 -- the one command so far
 abbrev pub is_command : List (List ℕ) → Bool
 is_command (word ∷ []) = bytes_eq word (codes "replay")
 is_command words = false
 
--- every line of the script asks for something, and it is no longer than a script may be
+-- each line of the script is an item, and it is no longer than a script may be
 abbrev pub IsWellFormed : List ℕ → Type 0
 IsWellFormed script = (items : List Item) × (judged_script script ≡ map Some items)
 
@@ -28,15 +29,28 @@ pub record Unbegun (exit : Exit) (before now : Known) : Type 0 where
 
 -- What the call of a command answers, from what was known of the host objects to what is known now.
 -- usage: Usage exactly where the words are no command, and then its last line is all that is done.
--- replayed: the replay equals the flat machine, where the objects tell their content.
--- told: a fault is named only where that object's count rose in this call, and none is passed over.
+-- replayed: else the replay equals the flat machine, where the objects tell their content.
+-- told: a fault is named only where that object's count rose in this call; those of source and sink are all named, but
+-- for a sink that failed at the last line.
 -- complete: a command, a script of items and no failure come to the script's end, or to want of memory.
 -- lasts: what told its content still does, and no count has fallen.
 pub record Commanded (words : List (List ℕ)) (exit : Exit) (before now : Known) : Type 0 where
   pub usage : (exit ≡ Exit.Usage) ↔ (is_command words ≡ false)
   pub unbegun : exit ≡ Exit.Usage → Unbegun Exit.Usage before now
-  pub replayed : AllTell before → Replayed exit (new_machine default_id before.files.saved) before now
-  pub told : Told exit before now
+  pub replayed : AllTell before → is_command words ≡ true
+      → Replayed exit (new_machine default_id before.files.saved) before now
+  pub told : Caused exit before now
   pub complete : AllTell before → is_command words ≡ true → IsWellFormed before.source.left → NoneRose before now
       → (exit ≡ Exit.Done) ⊎ (exit ≡ Exit.OutOfMemory)
+  pub lasts : AllLast before now
+
+-- how the program ends where its words can't be had: a word that is no text is none of a command's
+abbrev pub exit_of : NoWords → Exit
+exit_of NoWords.NotText = Exit.Usage
+exit_of NoWords.OutOfMemory = Exit.OutOfMemory
+
+-- and then that is all it does
+pub record Wordless (why : NoWords) (exit : Exit) (before now : Known) : Type 0 where
+  pub ends : exit ≡ exit_of why
+  pub unbegun : Unbegun (exit_of why) before now
   pub lasts : AllLast before now

@@ -10,8 +10,8 @@ pub record Known : Type 0 where
   pub sink : SinkKnown
   pub files : FilesKnown
 
-abbrev pub known : SourceKnown → SinkKnown → FilesKnown → Known
-known source sink files = record { source = source; sink = sink; files = files }
+abbrev pub all_known : SourceKnown → SinkKnown → FilesKnown → Known
+all_known source sink files = record { source = source; sink = sink; files = files }
 
 -- each tells its content
 pub record AllTell (k : Known) : Type 0 where
@@ -53,13 +53,13 @@ FilesCause (Exit.Fault object.Files) before now = Rose before now
 FilesCause exit before now = Unit {0}
 
 -- before the last line: each fault that is named has its cause, and those of source and sink are named
-pub record Caused (exit : Exit) (before now : Known) : Type 0 where
+pub record CausedSoFar (exit : Exit) (before now : Known) : Type 0 where
   pub source : SourceCause exit before.source.health.faults now.source.health.faults
   pub sink : SinkCause exit before.sink.health.faults now.sink.health.faults
   pub files : FilesCause exit before.files.health.faults now.files.health.faults
 
 -- and at the end
-pub record Told (exit : Exit) (before now : Known) : Type 0 where
+pub record Caused (exit : Exit) (before now : Known) : Type 0 where
   pub source : SourceCause exit before.source.health.faults now.source.health.faults
   pub sink : SinkTold exit before.sink.health.faults now.sink.health.faults
   pub files : FilesCause exit before.files.health.faults now.files.health.faults

@@ -45,11 +45,11 @@ pub record BeforeLast (exit : Exit) (start : Machine) (before : Known) (rest : L
     (files : FilesKnown) : Type 0 where
   pub acts : List Act
   pub part : List Outcome
-  pub answers : List ℕ
-  pub went : Went exit before.source.left rest start acts part (answers ++ last_line exit) files.saved
-  pub took : sink.taken ≡ before.sink.taken ++ answers
+  pub written : List ℕ
+  pub went : Went exit before.source.left rest start acts part (written ++ last_line exit) files.saved
+  pub took : sink.taken ≡ before.sink.taken ++ written
   pub counted : Counted exit acts part before.files.health.faults files.health.faults
-  pub calls : CallsBy exit acts before.files.calls files.calls
+  pub calls : CallsBy exit before.source.left acts before.files.calls files.calls
 
 -- No line is left, or the guest is off: the answers are written, and nothing behind them.
 pub record Finished (start : Machine) (before : Known) (rest : List ℕ) (run : ScriptRun) (sink : SinkKnown)
@@ -64,7 +64,7 @@ PausedBy Off held monitor = (saved : Saved) (m : Machine) → IsMonitor monitor 
 PausedBy Empty held monitor =
     (judged held ≡ []) × ((saved : Saved) (m : Machine) → IsMonitor monitor saved m → is_off m ≡ false)
 
--- a script's run ends in no other way than these, and the run of lines that came not by the source
+-- how a script's run ends before its closing text; the run of the lines that are held never by the source
 abbrev pub IsRunsEnd : Exit → Type 0
 IsRunsEnd Exit.Done = ⊥
 IsRunsEnd Exit.Usage = ⊥

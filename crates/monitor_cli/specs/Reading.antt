@@ -11,12 +11,12 @@ use Rattle.flat_machine.specs.Run.{Act, lines_done}
 pub record HasRead (script rest : List ℕ) (acts : List Act) : Type 0 where
   pub came : List ℕ
   pub parts : came ++ rest ≡ script
-  pub unread : List (Option Item)
-  pub lines : judged came ≡ lines_done acts ++ unread
+  pub undone : List (Option Item)
+  pub lines : judged came ≡ lines_done acts ++ undone
 
 -- where the script was done, nothing is left of it, or the guest is off; where the source failed, every whole line
 -- that came was done
 abbrev pub ReadsBy : Exit → List ℕ → List (Option Item) → Machine → Type 0
-ReadsBy Exit.Done rest unread m = (rest ≡ []) ⊎ (is_off m ≡ true)
-ReadsBy (Exit.Fault object.Source) rest unread m = unread ≡ []
-ReadsBy exit rest unread m = Unit {0}
+ReadsBy Exit.Done rest undone m = (rest ≡ []) ⊎ (is_off m ≡ true)
+ReadsBy (Exit.Fault object.Source) rest undone m = undone ≡ []
+ReadsBy exit rest undone m = Unit {0}

@@ -21,10 +21,10 @@ pub record Ended (exit : Exit) (script rest : List ℕ) (start : Machine) (acts 
     (text : List ℕ) (saved : Saved) : Type 0 where
   pub end : Machine
   pub replay : IsReplay script start acts exit text end
-  pub whole : part ≡ []
+  pub unbegun : part ≡ []
   pub files : saved ≡ end.saved
   pub read : HasRead script rest acts
-  pub reads : ReadsBy exit rest read.unread end
+  pub reads : ReadsBy exit rest read.undone end
 
 -- files that failed at a file line hold what the machine's do, but for that line's own name
 abbrev pub FilesBy : Exit → List (Option Item) → Machine → Saved → Type 0
@@ -38,25 +38,16 @@ pub record Stopped (exit : Exit) (script rest : List ℕ) (start : Machine) (act
   pub stop : IsStopped script start acts part exit text end
   pub files : FilesBy exit stop.left end saved
   pub read : HasRead script rest acts
-  pub reads : ReadsBy exit rest read.unread end
+  pub reads : ReadsBy exit rest read.undone end
 
 -- the sink failed
 pub record CutOff (script rest : List ℕ) (start : Machine) (acts : List Act) (part : List Outcome) (text : List ℕ)
     (saved : Saved) : Type 0 where
   pub end : Machine
   pub cut : IsCutOff script start acts text end
-  pub whole : part ≡ []
+  pub unbegun : part ≡ []
   pub files : saved ≡ end.saved
   pub read : HasRead script rest acts
-
--- the words are no command
-pub record Refused (script rest : List ℕ) (start : Machine) (acts : List Act) (part : List Outcome) (text : List ℕ)
-    (saved : Saved) : Type 0 where
-  pub none : acts ≡ []
-  pub whole : part ≡ []
-  pub writes : text ≡ last_line Exit.Usage
-  pub files : saved ≡ start.saved
-  pub unread : rest ≡ script
 
 -- how it went, where it ended so
 abbrev pub Went : Exit → List ℕ → List ℕ → Machine → List Act → List Outcome → List ℕ → Saved → Type 0
@@ -64,12 +55,13 @@ Went Exit.Done script rest start acts part text saved = Ended Exit.Done script r
 Went (Exit.Script line) script rest start acts part text saved = Ended
     (Exit.Script line) script rest start acts part text saved
 Went (Exit.Fault object.Sink) script rest start acts part text saved = CutOff script rest start acts part text saved
-Went Exit.Usage script rest start acts part text saved = Refused script rest start acts part text saved
+Went Exit.Usage script rest start acts part text saved = ⊥
 Went exit script rest start acts part text saved = Stopped exit script rest start acts part text saved
 
--- The replay of a script from this machine, whose text the sink took behind what it had; of the line at which it stopped,
--- these first requests were answered. Where the files' count did not rise and 503 was not answered, the machine answered
--- every request, so that by `one_replay` the text and the files are determined.
+-- The replay of a script from this machine, whose text the sink took behind what it had; of the line at which it
+-- stopped, these first requests were answered. Where the files' count did not rise and 503 was not answered, the machine
+-- answered every request, so that by `one_replay` the text and the files of a script that came to its end are
+-- determined.
 pub record Replayed (exit : Exit) (start : Machine) (before now : Known) : Type 0 where
   pub acts : List Act
   pub part : List Outcome
@@ -77,5 +69,5 @@ pub record Replayed (exit : Exit) (start : Machine) (before now : Known) : Type 
   pub went : Went exit before.source.left now.source.left start acts part text now.files.saved
   pub took : TookText exit text before.sink now.sink
   pub counted : Counted exit acts part before.files.health.faults now.files.health.faults
-  pub calls : CallsBy exit acts before.files.calls now.files.calls
+  pub calls : CallsBy exit before.source.left acts before.files.calls now.files.calls
   pub plain : (Rose before.files.health.faults now.files.health.faults → ⊥) → shortages acts ≡ 0 → AllAnswered acts

@@ -14,14 +14,20 @@ pub record TookFront (text before taken : List ℕ) : Type 0 where
   pub parts : front ++ rest ≡ text
   pub lacks : rest ≢ []
 
+-- all was taken and no fault counted, or a part is missing and the count rose; where the sink's fault is named there is
+-- no last line that could be missing
+abbrev pub TookBy : Exit → List ℕ → ℕ → ℕ → Type 0
+TookBy (Exit.Fault object.Sink) rest before now = (rest ≡ []) × Rose before now
+TookBy exit rest before now = ((rest ≡ []) × (now ≡ before)) ⊎ ((rest ≢ []) × Rose before now)
+
 -- All of the text, behind what it had; but where its count of faults rose, it may lack the last line, or its end.
 pub record TookText (exit : Exit) (text : List ℕ) (before now : SinkKnown) : Type 0 where
   pub part : List ℕ
   pub rest : List ℕ
   pub took : now.taken ≡ before.taken ++ part
-  pub whole : part ++ rest ≡ text
+  pub parts : part ++ rest ≡ text
   pub short : length rest ≤ length (last_line exit)
-  pub cause : ((rest ≡ []) × (now.health.faults ≡ before.health.faults)) ⊎ Rose before.health.faults now.health.faults
+  pub cause : TookBy exit rest before.health.faults now.health.faults
 
 -- no last line is written of these
 abbrev pub IsQuiet : Exit → Type 0

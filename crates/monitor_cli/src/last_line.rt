@@ -1,9 +1,9 @@
 // The last line of a run.
 ghost use Rattle.std.specs.Prelude.{◌≡◌, ◌++◌};
 ghost use Rattle.script_lines.specs.Output.{last_line};
-ghost use Rattle.vm_outside.specs.Known.{Called, Lasts, Tells};
+ghost use Rattle.vm_outside.specs.Known.{Called, Tells};
 ghost use Rattle.vm_outside.specs.Passing.{TakesAll};
-ghost use Rattle.monitor_cli.specs.Taking.{IsQuiet, TookText};
+ghost use Rattle.monitor_cli.specs.Taking.{IsQuiet};
 
 use itoa::Buffer;
 use vm_outside::{Failed, Sink, write_all};
@@ -28,17 +28,6 @@ pub fn write_last<K: Sink>(sink: &mut K, exit: Exit) -> Result<(), Failed>
         },
         Exit::OutOfMemory => write_all(sink, b". memory\n"),
     }
-}
-
-/// Ends so before a command is begun: writes the last line alone. A sink that fails at it changes nothing.
-pub fn refuse<K: Sink>(exit: Exit, sink: &mut K) -> Exit
-    ensures exit { result ≡ exit }
-    ensures writes { Tells (K.known sink.old).health →
-        TookText exit (last_line exit) (K.known sink.old) (K.known sink.new) }
-    ensures lasts { Lasts (K.known sink.old).health (K.known sink.new).health }
-{
-    let _ = write_last(sink, exit);
-    exit
 }
 
 fn write_script_line<K: Sink>(sink: &mut K, line: u64) -> Result<(), Failed>

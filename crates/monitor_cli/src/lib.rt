@@ -14,10 +14,11 @@ mod outside;
 mod replaying;
 mod script;
 mod top;
+mod words;
 
-pub use last_line::refuse;
 pub use outside::Outside;
 pub use top::{firecracker_main, replay_main};
+pub use words::NoWords;
 
 #[cfg(test)]
 mod tests;

@@ -1,7 +1,7 @@
 // The replay of a script, all but its last line.
 ghost use Rattle.std.specs.Prelude.{◌≢◌};
 ghost use Rattle.flat_machine.specs.Machine.{new_machine};
-ghost use Rattle.monitor_cli.specs.Known.{AllLast, AllTell, Caused, known};
+ghost use Rattle.monitor_cli.specs.Known.{AllLast, AllTell, CausedSoFar, all_known};
 ghost use Rattle.monitor_cli.specs.Lines.{BeforeLast};
 
 use crate::closing::write_closing;
@@ -18,15 +18,15 @@ pub fn replay<I: Source, O: Sink, F: Files>(
     id: TextList,
     out: &mut Outside<I, O, F>,
 ) -> Exit
-    ensures so_far { AllTell (known (I.known out.old.source) (O.known out.old.sink) (F.known out.old.files)) →
+    ensures so_far { AllTell (all_known (I.known out.old.source) (O.known out.old.sink) (F.known out.old.files)) →
         BeforeLast result (new_machine id (F.known out.old.files).saved)
-        (known (I.known out.old.source) (O.known out.old.sink) (F.known out.old.files))
+        (all_known (I.known out.old.source) (O.known out.old.sink) (F.known out.old.files))
         (I.known out.new.source).left (O.known out.new.sink) (F.known out.new.files) }
-    ensures caused { Caused result (known (I.known out.old.source) (O.known out.old.sink) (F.known out.old.files))
-        (known (I.known out.new.source) (O.known out.new.sink) (F.known out.new.files)) }
+    ensures caused { CausedSoFar result (all_known (I.known out.old.source) (O.known out.old.sink) (F.known out.old.files))
+        (all_known (I.known out.new.source) (O.known out.new.sink) (F.known out.new.files)) }
     ensures no_usage { result ≢ Exit.Usage }
-    ensures lasts { AllLast (known (I.known out.old.source) (O.known out.old.sink) (F.known out.old.files))
-        (known (I.known out.new.source) (O.known out.new.sink) (F.known out.new.files)) }
+    ensures lasts { AllLast (all_known (I.known out.old.source) (O.known out.old.sink) (F.known out.old.files))
+        (all_known (I.known out.new.source) (O.known out.new.sink) (F.known out.new.files)) }
 {
     let mut run = ScriptRun::new(alloc, id);
     if let Err(exit) = run_script(&mut run, &mut out.source, &mut out.files, &mut out.sink) {

@@ -1,30 +1,54 @@
 // The top calls: a command's words, and what it does.
-ghost use Rattle.std.specs.Prelude.{◌≡◌, ◌≢◌, ◌↔◌, false, map, string_bytes};
+ghost use Rattle.std.specs.Prelude.{◌≡◌, ◌≢◌, ◌↔◌, IfErr, IfOk, false, map, string_bytes, true};
 ghost use Rattle.flat_machine.specs.Machine.{new_machine};
 ghost use Rattle.flat_machine.specs.Replay.{default_id};
-ghost use Rattle.monitor_cli.specs.Command.{Commanded, is_command};
-ghost use Rattle.monitor_cli.specs.Known.{AllLast, AllTell, Caused, known};
+ghost use Rattle.monitor_cli.specs.Command.{Commanded, Unbegun, Wordless, is_command};
+ghost use Rattle.monitor_cli.specs.Known.{AllLast, AllTell, CausedSoFar, all_known};
 ghost use Rattle.monitor_cli.specs.Lines.{BeforeLast};
+ghost use Rattle.monitor_cli.specs.Taking.{IsQuiet};
 
 use crate::last_line::write_last;
 use crate::outside::Outside;
 use crate::replaying::replay;
+use crate::words::{NoWords, is_replay};
 use std::alloc::Global;
 use vm_outside::{Files, Sink, Source};
 use vm_types::{Exit, TextList};
 
-/// The command of these words, which are those behind the program's name: `replay`, and so far no other.
+/// The command of these words, which are those behind the program's name: `replay`, and so far no other. Where the words
+/// can't be had, the last line that says so is all that is written.
 pub fn firecracker_main<I: Source, O: Sink, F: Files>(
     alloc: Global,
-    words: &[String],
+    words: Result<Vec<String>, NoWords>,
     out: &mut Outside<I, O, F>,
 ) -> Exit
-    ensures command { Commanded (map string_bytes words.now) result
-        (known (I.known out.old.source) (O.known out.old.sink) (F.known out.old.files))
-        (known (I.known out.new.source) (O.known out.new.sink) (F.known out.new.files)) }
+    ensures command { IfOk words (λ words. Commanded (map string_bytes words.items) result
+        (all_known (I.known out.old.source) (O.known out.old.sink) (F.known out.old.files))
+        (all_known (I.known out.new.source) (O.known out.new.sink) (F.known out.new.files))) }
+    ensures wordless { IfErr words (λ why. Wordless why result
+        (all_known (I.known out.old.source) (O.known out.old.sink) (F.known out.old.files))
+        (all_known (I.known out.new.source) (O.known out.new.sink) (F.known out.new.files))) }
     ensures unread { result ≡ Exit.Usage → (out.new.source ≡ out.old.source) × (out.new.files ≡ out.old.files) }
 {
-    replay_main(alloc, words, out)
+    match words {
+        Ok(words) => replay_main(alloc, &words, out),
+        Err(why) => refuse(why.exit(), out),
+    }
+}
+
+// Ends so before a command is begun.
+fn refuse<I: Source, O: Sink, F: Files>(exit: Exit, out: &mut Outside<I, O, F>) -> Exit
+    ensures ends { result ≡ exit }
+    ensures unbegun { (IsQuiet exit → ⊥) → Unbegun exit
+        (all_known (I.known out.old.source) (O.known out.old.sink) (F.known out.old.files))
+        (all_known (I.known out.new.source) (O.known out.new.sink) (F.known out.new.files)) }
+    ensures unread { (out.new.source ≡ out.old.source) × (out.new.files ≡ out.old.files) }
+    ensures lasts { AllLast
+        (all_known (I.known out.old.source) (O.known out.old.sink) (F.known out.old.files))
+        (all_known (I.known out.new.source) (O.known out.new.sink) (F.known out.new.files)) }
+{
+    let _ = write_last(&mut out.sink, exit);
+    exit
 }
 
 /// Reads a script from the source, replays it over the files, and writes its output to the sink.
@@ -38,8 +62,8 @@ pub fn replay_main<I: Source, O: Sink, F: Files>(
     out: &mut Outside<I, O, F>,
 ) -> Exit
     ensures command { Commanded (map string_bytes words.now) result
-        (known (I.known out.old.source) (O.known out.old.sink) (F.known out.old.files))
-        (known (I.known out.new.source) (O.known out.new.sink) (F.known out.new.files)) }
+        (all_known (I.known out.old.source) (O.known out.old.sink) (F.known out.old.files))
+        (all_known (I.known out.new.source) (O.known out.new.sink) (F.known out.new.files)) }
     ensures unread { result ≡ Exit.Usage → (out.new.source ≡ out.old.source) × (out.new.files ≡ out.old.files) }
 {
     let exit = run_command(alloc, words, out);
@@ -55,14 +79,15 @@ fn run_command<I: Source, O: Sink, F: Files>(
 ) -> Exit
     ensures usage { (result ≡ Exit.Usage) ↔ (is_command (map string_bytes words.now) ≡ false) }
     ensures unread { result ≡ Exit.Usage → out.new ≡ out.old }
-    ensures so_far { AllTell (known (I.known out.old.source) (O.known out.old.sink) (F.known out.old.files)) →
+    ensures so_far { AllTell (all_known (I.known out.old.source) (O.known out.old.sink) (F.known out.old.files)) →
+        is_command (map string_bytes words.now) ≡ true →
         BeforeLast result (new_machine default_id (F.known out.old.files).saved)
-        (known (I.known out.old.source) (O.known out.old.sink) (F.known out.old.files))
+        (all_known (I.known out.old.source) (O.known out.old.sink) (F.known out.old.files))
         (I.known out.new.source).left (O.known out.new.sink) (F.known out.new.files) }
-    ensures caused { Caused result (known (I.known out.old.source) (O.known out.old.sink) (F.known out.old.files))
-        (known (I.known out.new.source) (O.known out.new.sink) (F.known out.new.files)) }
-    ensures lasts { AllLast (known (I.known out.old.source) (O.known out.old.sink) (F.known out.old.files))
-        (known (I.known out.new.source) (O.known out.new.sink) (F.known out.new.files)) }
+    ensures caused { CausedSoFar result (all_known (I.known out.old.source) (O.known out.old.sink) (F.known out.old.files))
+        (all_known (I.known out.new.source) (O.known out.new.sink) (F.known out.new.files)) }
+    ensures lasts { AllLast (all_known (I.known out.old.source) (O.known out.old.sink) (F.known out.old.files))
+        (all_known (I.known out.new.source) (O.known out.new.sink) (F.known out.new.files)) }
 {
     if is_replay(words) {
         replay_default(alloc, out)
@@ -73,28 +98,18 @@ fn run_command<I: Source, O: Sink, F: Files>(
 
 // The replay on a machine that is given no id.
 fn replay_default<I: Source, O: Sink, F: Files>(alloc: Global, out: &mut Outside<I, O, F>) -> Exit
-    ensures so_far { AllTell (known (I.known out.old.source) (O.known out.old.sink) (F.known out.old.files)) →
+    ensures so_far { AllTell (all_known (I.known out.old.source) (O.known out.old.sink) (F.known out.old.files)) →
         BeforeLast result (new_machine default_id (F.known out.old.files).saved)
-        (known (I.known out.old.source) (O.known out.old.sink) (F.known out.old.files))
+        (all_known (I.known out.old.source) (O.known out.old.sink) (F.known out.old.files))
         (I.known out.new.source).left (O.known out.new.sink) (F.known out.new.files) }
-    ensures caused { Caused result (known (I.known out.old.source) (O.known out.old.sink) (F.known out.old.files))
-        (known (I.known out.new.source) (O.known out.new.sink) (F.known out.new.files)) }
+    ensures caused { CausedSoFar result (all_known (I.known out.old.source) (O.known out.old.sink) (F.known out.old.files))
+        (all_known (I.known out.new.source) (O.known out.new.sink) (F.known out.new.files)) }
     ensures no_usage { result ≢ Exit.Usage }
-    ensures lasts { AllLast (known (I.known out.old.source) (O.known out.old.sink) (F.known out.old.files))
-        (known (I.known out.new.source) (O.known out.new.sink) (F.known out.new.files)) }
+    ensures lasts { AllLast (all_known (I.known out.old.source) (O.known out.old.sink) (F.known out.old.files))
+        (all_known (I.known out.new.source) (O.known out.new.sink) (F.known out.new.files)) }
 {
     match TextList::copy_of(alloc, "anonymous-instance") {
         Ok(id) => replay(alloc, id, out),
         Err(_) => Exit::OutOfMemory,
-    }
-}
-
-// Whether these words are the command.
-fn is_replay(words: &[String]) -> bool
-    ensures { result ≡ is_command (map string_bytes words.now) }
-{
-    match words {
-        [word] => word.as_str() == "replay",
-        _ => false,
     }
 }

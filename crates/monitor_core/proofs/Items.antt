@@ -1,5 +1,5 @@
 -- What an item makes of the monitor is what it makes of each machine that it is.
-use Rattle.std.proofs.Common.{◌≡◌, ℕ, ◌+◌, ◌≤◌, ◌==◌, nat_lt, arith, Bool, true, false, MatchBool, refl, sym, ap, subst, ◌∙◌, List, [], ◌∷◌, ◌++◌, length, Option, Some, None}
+use Rattle.std.proofs.Common.{◌≡◌, ℕ, ◌+◌, ◌≤◌, ◌==◌, nat_lt, arith, Bool, true, false, MatchBool, refl, sym, ap, subst, ◌∙◌, List, [], ◌∷◌, ◌++◌, length, Option, Some, None, inl}
 use Rattle.std.proofs.lemmas.Bool.Decides.{nat_tests}
 use Rattle.std.proofs.lemmas.List.{append-nil}
 use Rattle.std.specs.FinMap.{insert}
@@ -18,7 +18,7 @@ use Rattle.flat_machine.specs.Outcome as flat
 use Rattle.monitor_core.specs.declared.outcome.Outcome.{Outcome}
 use Rattle.monitor_core.specs.declared.outcome.Outcome.TheVariants.{Answered, Failed, NoMemory}
 use Rattle.flat_machine.specs.Machine.{Machine}
-use Rattle.flat_machine.specs.Items.{ItemStep, Moves, StepsLine, calls_of}
+use Rattle.flat_machine.specs.Items.{ItemStep, Moves, StepsLine, calls_of, requests_of}
 use Rattle.flat_machine.specs.Requests.{RequestStep}
 use Rattle.vm_outside.specs.Calls.{FileCall}
 use Rattle.vm_outside.specs.Filing.{SameFiles}
@@ -26,7 +26,7 @@ use Rattle.vm_outside.specs.Known.{FilesKnown, Tells}
 use Rattle.monitor_core.specs.declared.item_error.ItemError.{ItemError}
 use Rattle.hart_rows.specs.declared.regs.Regs.{Regs}
 use Rattle.monitor_core.specs.Filing.{SavesFile, SavesPart}
-use Rattle.monitor_core.specs.Going.{IsCounted, IsFile, ItemCause, ItemGoes, ItemStops, LeavesCalls, LeavesFiles, OutcomeCause, RequestGoes, error_failures, outcome_by}
+use Rattle.monitor_core.specs.Going.{CallsFiles, CountsFaults, IsFile, IsStart, ItemCause, ItemGoes, ItemStops, LeavesCalls, LeavesFiles, OutcomeCause, RequestGoes, error_failures, outcome_by}
 use Rattle.monitor_core.specs.declared.guest.Guest as own
 use Rattle.monitor_core.specs.declared.monitor.Monitor.{Monitor}
 use Rattle.monitor_core.specs.State.{IsGuestBy, IsMonitor}
@@ -106,10 +106,10 @@ abbrev Went : Item → List flat.Outcome → Machine → List ℕ → Monitor �
 Went item outcomes m text after saved = (n : Machine) × ItemStep item outcomes m text n × IsMonitor after saved n
 
 -- no request wants no fault
-none_counted : (before now : ℕ) → now ≡ before → IsCounted [] before now
+none_counted : (before now : ℕ) → now ≡ before → CountsFaults [] before now
 none_counted before now same = record { rose = omega (arith, same); kept = λ good. same }
 
-one_counted : (outcome : Outcome) (left : Saved) (before now : ℕ) → OutcomeCause outcome before now → IsCounted (outcome_by outcome left ∷ []) before now
+one_counted : (outcome : Outcome) (left : Saved) (before now : ℕ) → OutcomeCause outcome before now → CountsFaults (outcome_by outcome left ∷ []) before now
 one_counted Answered left before now cause = record { rose = omega (arith, cause); kept = λ good. cause }
 one_counted Failed left before now cause = record { rose = cause; kept = λ good. absurd good }
 one_counted NoMemory left before now cause = record { rose = omega (arith, cause); kept = λ good. absurd good }
@@ -121,6 +121,8 @@ same_calls item other calls left is none same =
 pub nothing_goes : (monitor : Monitor) (known : FilesKnown) (item : Item) (text : List ℕ) → item ≡ Item.Nothing → text ≡ [] → ItemGoes item text monitor monitor known known
 nothing_goes monitor known item text nothing quiet = record {
   outcomes = [];
+  each = ap (λ (i : Item). length (requests_of i)) (sym nothing);
+  uncalled = λ never. refl;
   counted = none_counted known.health.faults known.health.faults refl;
   went = λ told m is. (m, subst (λ (i : Item). ItemStep i [] m text m) (sym nothing) (refl, quiet, refl), is);
   calls = λ told. same_calls item Item.Nothing known.calls known.calls nothing refl refl;
@@ -142,7 +144,9 @@ file_went monitor saved left m item name content text is file made quiet =
 pub file_goes : (monitor : Monitor) (known left : FilesKnown) (item : Item) (name content text : List ℕ) → item ≡ Item.File name content → text ≡ [] → left.health.faults ≡ known.health.faults → (Tells known.health → SavesFile known name content left) → ItemGoes item text monitor monitor known left
 file_goes monitor known left item name content text file quiet kept saves = record {
   outcomes = [];
+  each = ap (λ (i : Item). length (requests_of i)) (sym file);
   counted = none_counted known.health.faults left.health.faults kept;
+  uncalled = λ never. kept;
   went = λ told m is. file_went monitor known.saved left.saved m item name content text is file (saves told).saved quiet;
   calls = λ told. (saves told).calls ∙ ap (λ (i : Item). known.calls ++ calls_of i) (sym file);
 }
@@ -156,9 +160,11 @@ api_went after saved m item call outcome text api went = (
 )
 
 pub api_goes : (monitor after : Monitor) (known left : FilesKnown) (item : Item) (call : ApiCall) (outcome : Outcome) (text : List ℕ) → item ≡ Item.Api call → OutcomeCause outcome known.health.faults left.health.faults
-    → (Tells known.health → RequestGoes call text outcome monitor known.saved after left.saved) → (Tells known.health → SameFiles known left) → ItemGoes item text monitor after known left
-api_goes monitor after known left item call outcome text api cause goes same = record {
+    → (Tells known.health → RequestGoes call text outcome monitor known.saved after left.saved) → (Tells known.health → SameFiles known left) → ((IsStart call → ⊥) → left.health.faults ≡ known.health.faults) → ItemGoes item text monitor after known left
+api_goes monitor after known left item call outcome text api cause goes same uncalled = record {
   outcomes = outcome_by outcome left.saved ∷ [];
+  each = ap (λ (i : Item). length (requests_of i)) (sym api);
+  uncalled = λ never. uncalled (λ is. never (subst CallsFiles (sym api) is));
   counted = one_counted outcome left.saved known.health.faults left.health.faults cause;
   went = λ told m is. api_went after left.saved m item call outcome text api (goes told m is);
   calls = λ told. same_calls item (Item.Api call) known.calls left.calls api refl (same told).calls;
@@ -167,6 +173,8 @@ api_goes monitor after known left item call outcome text api cause goes same = r
 pub step_goes : (monitor after : Monitor) (known : FilesKnown) (item : Item) (actor : ActorId) (count : ℕ) (text : List ℕ) → item ≡ Item.Step actor count → ((saved : Saved) (m : Machine) → IsMonitor monitor saved m → Moved actor count m text after saved) → ItemGoes item text monitor after known known
 step_goes monitor after known item actor count text step moves = record {
   outcomes = [];
+  each = ap (λ (i : Item). length (requests_of i)) (sym step);
+  uncalled = λ never. refl;
   counted = none_counted known.health.faults known.health.faults refl;
   went = λ told m is. let moved = moves known.saved m is in
       (moved.0, subst (λ (i : Item). ItemStep i [] m text moved.0) (sym step) (refl, moved.1), moved.2);
@@ -175,9 +183,11 @@ step_goes monitor after known item actor count text step moves = record {
 
 -- an item of which nothing was done
 stops_at_once : (why : ItemError) (item : Item) (monitor after : Monitor) (known left : FilesKnown) → ItemCause item why → RoseBy (0 + error_failures why) known.health.faults left.health.faults → after ≡ monitor
-    → (Tells known.health → LeavesFiles item known.saved left.saved) → (Tells known.health → LeavesCalls item known.calls left.calls) → ItemStops why item monitor after known left
-stops_at_once why item monitor after known left cause rose same files calls = record {
+    → ((CallsFiles item → ⊥) → left.health.faults ≡ known.health.faults) → (Tells known.health → LeavesFiles item known.saved left.saved) → (Tells known.health → LeavesCalls item known.calls left.calls) → ItemStops why item monitor after known left
+stops_at_once why item monitor after known left cause rose same uncalled files calls = record {
   part = [];
+  few = inl refl;
+  uncalled = uncalled;
   unwritten = [];
   cause = cause;
   rose = rose;
@@ -191,15 +201,15 @@ stops_at_once why item monitor after known left cause rose same files calls = re
   calls = calls;
 }
 
-pub file_stops : (monitor : Monitor) (known left : FilesKnown) (item : Item) (name content : List ℕ) → item ≡ Item.File name content → Rose known.health.faults left.health.faults → (Tells known.health → SavesPart known name left) → ItemStops ItemError.FilesFailed item monitor monitor known left
+pub file_stops : (monitor : Monitor) (known left : FilesKnown) (item : Item) (name content : List ℕ) → item ≡ Item.File name content → Rose known.health.faults left.health.faults → (Tells known.health → SavesPart known name content left) → ItemStops ItemError.FilesFailed item monitor monitor known left
 file_stops monitor known left item name content file rose part =
     subst (λ (i : Item). ItemStops ItemError.FilesFailed i monitor monitor known left) (sym file)
-    (stops_at_once ItemError.FilesFailed (Item.File name content) monitor monitor known left tt rose refl (λ told. (part told).others) (λ told. ((part told).more, (part told).calls)))
+    (stops_at_once ItemError.FilesFailed (Item.File name content) monitor monitor known left tt rose refl (λ never. absurd (never tt)) (λ told. (part told).others) (λ told. (part told).calls))
 
 -- an item that is no file line, for want of memory
 pub other_stops : (why : ItemError) (item other : Item) (monitor after : Monitor) (known left : FilesKnown) → item ≡ other → why ≡ ItemError.OutOfMemory → (IsFile other → ⊥) → known.health.faults ≤ left.health.faults → after ≡ monitor
-    → (Tells known.health → LeavesFiles other known.saved left.saved) → (Tells known.health → LeavesCalls other known.calls left.calls) → ItemStops why item monitor after known left
-other_stops why item other monitor after known left is memory no_file later same files calls =
+    → ((CallsFiles other → ⊥) → left.health.faults ≡ known.health.faults) → (Tells known.health → LeavesFiles other known.saved left.saved) → (Tells known.health → LeavesCalls other known.calls left.calls) → ItemStops why item monitor after known left
+other_stops why item other monitor after known left is memory no_file later same uncalled files calls =
     subst (λ (i : Item). ItemStops why i monitor after known left) (sym is)
     (subst (λ (w : ItemError). ItemStops w other monitor after known left) (sym memory)
-    (stops_at_once ItemError.OutOfMemory other monitor after known left no_file (omega (arith, later)) same files calls))
+    (stops_at_once ItemError.OutOfMemory other monitor after known left no_file (omega (arith, later)) same uncalled files calls))

@@ -16,7 +16,7 @@ use Rattle.flat_guest.specs.Body.{IsGuest}
 use Rattle.flat_guest.specs.Start.{started}
 use Rattle.monitor_core.specs.declared.outcome.Outcome.{Outcome}
 use Rattle.monitor_core.specs.declared.outcome.Outcome.TheVariants.{Answered, Failed, NoMemory}
-use Rattle.monitor_core.specs.Going.{outcome_by}
+use Rattle.monitor_core.specs.Going.{IsStart, outcome_by}
 use Rattle.flat_machine.specs.Machine.{Machine, phase_by}
 use Rattle.flat_machine.specs.Requests.{RequestStep, after_by, facts_of, guest_by, guest_from}
 use Rattle.monitor_core.specs.declared.guest.Guest as own
@@ -137,6 +137,9 @@ asked_start InstanceStart phase config asked =
     let here = asked_phase phase (is_some config.kernel_image_path) asked in
     (refl, here.0, here.1)
 asked_start GetInstance phase config asked = cc
+
+pub is_start : (call : ApiCall) (phase : Phase) (config : Config) → asks_files call (facts phase config None) ≡ true → IsStart call
+is_start call phase config asked = subst IsStart (sym (asked_start call phase config asked).0) tt
 
 start_made : (monitor : Monitor) (saved : Saved) (g : Option Guest) (guest : own.Guest) (image text : List ℕ) → Phase.NotStarted ≡ phase_by g → refusal_of InstanceStart (start_facts monitor.config saved) ≡ None → image_in monitor.config saved ≡ Some image
     → IsGuest guest.memory guest.board guest.hart (started monitor.config.mem_size_mib image) → text ≡ reply_line (record { status = 204; body = None })

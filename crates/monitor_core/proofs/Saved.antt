@@ -11,10 +11,12 @@ use Rattle.std.specs.FinMap.{get, insert, same_map, get-insert, slice_cmp-IsAnti
 use Rattle.std.proofs.lemmas.Map.Text.{is_eq-slice_cmp}
 use Rattle.std.specs.Str.{bytes_eq}
 use Rattle.vm_types.specs.Saved.{SameOthers, Saved, overwritten, written}
-use Rattle.vm_outside.specs.Calls.{FileCall, MayBegin}
+use Rattle.vm_outside.specs.Calls.{FileCall, MakesFront, MayBegin}
 use Rattle.vm_outside.specs.Calls.FileCall.{Making, Made, Writing, Synced}
 use Rattle.vm_outside.specs.Filing.{MakesFile, MayChange, SameFiles, Syncs, WritesAt}
 use Rattle.vm_outside.specs.Known.{FilesKnown}
+use Rattle.vm_types.specs.declared.item.Item.TheVariants.{File}
+use Rattle.flat_machine.specs.Items.{calls_of}
 use Rattle.monitor_core.specs.Filing.{SavesFile, SavesPart}
 
 same_cond : {A : Type 0} (b : Bool) (x y z : A) → cond b x (cond b y z) ≡ cond b x z
@@ -79,32 +81,54 @@ not_there m name other bytes differs =
     get-insert nat_list_cmp_total m name bytes other
     ∙ ap (λ (b : Bool). cond b (Some bytes) (get m other)) (is_eq-slice_cmp other name ∙ other_name name other differs)
 
--- and where one of its calls failed, some were done, and every other name holds what it did
-begun_more : (old new : List FileCall) (call : FileCall) → MayBegin old call new → (more : List FileCall) × (new ≡ old ++ more)
-begun_more old new call (inl same) = ([], same ∙ sym (append-nil old))
-begun_more old new call (inr one) = (call ∷ [], one)
+-- and where one of its calls failed, the first of them were done, and every other name holds what it did
+module _ (name bytes : List ℕ) where
+  make_begun : (old new : List FileCall) → MayBegin old (Making name) new → MakesFront (calls_of (File name bytes)) old new
+  make_begun old new (inl same) = record { done = []; rest = calls_of (File name bytes); parts = refl; lacks = λ is. cc; calls = same ∙ sym (append-nil old) }
+  make_begun old new (inr one) = record {
+    done = Making name ∷ [];
+    rest = Made name ∷ Writing name 0 bytes ∷ Synced name (Some bytes) ∷ [];
+    parts = refl;
+    lacks = λ is. cc;
+    calls = one;
+  }
 
-pub make_failed : (old left : FilesKnown) (name : List ℕ) (call : FileCall) → MayChange old name call left → SavesPart old name left
-make_failed old left name call change =
-    let more = begun_more old.calls left.calls call change.calls in
-    record { others = change.others; more = more.0; calls = more.1 }
+  write_begun : (old made new : List FileCall) → made ≡ old ++ Making name ∷ Made name ∷ [] → MayBegin made (Writing name 0 bytes) new → MakesFront (calls_of (File name bytes)) old new
+  write_begun old made new before (inl same) = record {
+    done = Making name ∷ Made name ∷ [];
+    rest = Writing name 0 bytes ∷ Synced name (Some bytes) ∷ [];
+    parts = refl;
+    lacks = λ is. cc;
+    calls = same ∙ before;
+  }
+  write_begun old made new before (inr one) = record {
+    done = Making name ∷ Made name ∷ Writing name 0 bytes ∷ [];
+    rest = Synced name (Some bytes) ∷ [];
+    parts = refl;
+    lacks = λ is. cc;
+    calls = one ∙ ap (λ (l : List FileCall). l ++ Writing name 0 bytes ∷ []) before ∙ append_assoc old (Making name ∷ Made name ∷ []) (Writing name 0 bytes ∷ []);
+  }
 
-pub write_failed : (old made left : FilesKnown) (name : List ℕ) (call : FileCall) → MakesFile old name made → MayChange made name call left → SavesPart old name left
-write_failed old made left name call makes change =
-    let more = begun_more made.calls left.calls call change.calls in
-    record {
-      others = λ other differs. change.others other differs ∙ ap (λ (m : Saved). get m other) makes.saved ∙ not_there old.saved name other [] differs;
-      more = Making name ∷ Made name ∷ more.0;
-      calls = more.1 ∙ ap (λ (l : List FileCall). l ++ more.0) makes.calls ∙ append_assoc old.calls (Making name ∷ Made name ∷ []) more.0;
-    }
+  pub make_failed : (old left : FilesKnown) → MayChange old name (Making name) left → SavesPart old name bytes left
+  make_failed old left change = record { others = change.others; calls = make_begun old.calls left.calls change.calls }
 
-pub sync_failed : (old made wrote left : FilesKnown) (name bytes : List ℕ) → MakesFile old name made → WritesAt made name 0 bytes wrote → SameFiles wrote left → SavesPart old name left
-sync_failed old made wrote left name bytes makes writes same =
-    record {
-      others = λ other differs. ap (λ (m : Saved). get m other) (same.saved ∙ saved_whole old made wrote name bytes makes writes) ∙ not_there old.saved name other bytes differs;
-      more = Making name ∷ Made name ∷ Writing name 0 bytes ∷ [];
+  pub write_failed : (old made left : FilesKnown) → MakesFile old name made → MayChange made name (Writing name 0 bytes) left → SavesPart old name bytes left
+  write_failed old made left makes change = record {
+    others = λ other differs. change.others other differs ∙ ap (λ (m : Saved). get m other) makes.saved ∙ not_there old.saved name other [] differs;
+    calls = write_begun old.calls made.calls left.calls makes.calls change.calls;
+  }
+
+  pub sync_failed : (old made wrote left : FilesKnown) → MakesFile old name made → WritesAt made name 0 bytes wrote → SameFiles wrote left → SavesPart old name bytes left
+  sync_failed old made wrote left makes writes same = record {
+    others = λ other differs. ap (λ (m : Saved). get m other) (same.saved ∙ saved_whole old made wrote name bytes makes writes) ∙ not_there old.saved name other bytes differs;
+    calls = record {
+      done = Making name ∷ Made name ∷ Writing name 0 bytes ∷ [];
+      rest = Synced name (Some bytes) ∷ [];
+      parts = refl;
+      lacks = λ is. cc;
       calls = same.calls ∙ calls_wrote old made wrote name bytes makes writes;
-    }
+    };
+  }
 
 -- what holds anyhow holds of an `Err`
 pub on_err : {T E : Type 0} (r : Result T E) (P : Type 0) → P → OnErr r P

@@ -1,10 +1,11 @@
 -- What a file made whole leaves, and why a start or a load came to what it did.
-use Rattle.std.specs.Prelude.{◌≡◌, ◌≤◌, ℕ, List, [], ◌∷◌, ◌++◌, Some, Result, Ok, Err}
+use Rattle.std.specs.Prelude.{◌≡◌, ℕ, List, ◌++◌, Result, Ok, Err}
 use Rattle.std.specs.FinMap.{insert}
 use Rattle.vm_types.specs.Causes.{Rose}
 use Rattle.vm_types.specs.Saved.{SameOthers}
-use Rattle.vm_outside.specs.Calls.{FileCall}
-use Rattle.vm_outside.specs.Calls.FileCall.{Making, Made, Writing, Synced}
+use Rattle.vm_types.specs.declared.item.Item.TheVariants.{File}
+use Rattle.vm_outside.specs.Calls.{MakesFront}
+use Rattle.flat_machine.specs.Items.{calls_of}
 use Rattle.vm_outside.specs.Known.{FilesKnown}
 use Rattle.monitor_core.specs.declared.starting.Started.{Started}
 use Rattle.monitor_core.specs.declared.loading.LoadError.{LoadError}
@@ -12,19 +13,16 @@ use Rattle.monitor_core.specs.declared.loading.LoadError.{LoadError}
 -- made, written whole and synced
 pub record SavesFile (old : FilesKnown) (name content : List ℕ) (new : FilesKnown) : Type 0 where
   pub saved : new.saved ≡ insert old.saved name content
-  pub calls : new.calls ≡ old.calls ++ Making name ∷ Made name ∷ Writing name 0 content ∷ Synced name
-      (Some content) ∷ []
+  pub calls : new.calls ≡ old.calls ++ calls_of (File name content)
 
--- some of these calls were made, and every other name holds what it held
-pub record SavesPart (old : FilesKnown) (name : List ℕ) (new : FilesKnown) : Type 0 where
+-- the first of these calls were made, and every other name holds what it held
+pub record SavesPart (old : FilesKnown) (name content : List ℕ) (new : FilesKnown) : Type 0 where
   pub others : SameOthers old.saved name new.saved
-  pub more : List FileCall
-  pub calls : new.calls ≡ old.calls ++ more
+  pub calls : MakesFront (calls_of (File name content)) old.calls new.calls
 
 -- a failure has a fault, and what did not come to one has none
 abbrev pub StartCause : Started → ℕ → ℕ → Type 0
 StartCause Started.FilesFailed before now = Rose before now
-StartCause Started.NoMemory before now = before ≤ now
 StartCause started before now = now ≡ before
 
 abbrev pub LoadCause : {T : Type 0} → Result T LoadError → ℕ → ℕ → Type 0

@@ -1,13 +1,14 @@
 -- How an item goes, and why one is not done to its end.
-use Rattle.std.specs.Prelude.{◌≡◌, ◌≤◌, ℕ, ◌+◌, List, [], ◌∷◌, ◌++◌}
+use Rattle.std.specs.Prelude.{◌≡◌, ◌≤◌, ◌<◌, ◌⊎◌, ℕ, ◌+◌, List, [], ◌++◌, length}
 use Rattle.vm_types.specs.Causes.{Rose, RoseBy}
 use Rattle.vm_types.specs.Saved.{Saved, SameOthers}
 use Rattle.vm_types.specs.declared.item.ApiCall.{ApiCall}
+use Rattle.vm_types.specs.declared.item.ApiCall.TheVariants.{InstanceStart}
 use Rattle.vm_types.specs.declared.item.Item.{Item}
-use Rattle.vm_outside.specs.Calls.{FileCall}
+use Rattle.vm_outside.specs.Calls.{FileCall, MakesFront}
 use Rattle.vm_outside.specs.Known.{FilesKnown, Tells}
 use Rattle.flat_machine.specs.Outcome as flat
-use Rattle.flat_machine.specs.Items.{ItemStep, PartStep, calls_of}
+use Rattle.flat_machine.specs.Items.{ItemStep, PartStep, calls_of, requests_of}
 use Rattle.flat_machine.specs.Machine.{Machine}
 use Rattle.flat_machine.specs.Requests.{RequestStep}
 use Rattle.monitor_core.specs.declared.item_error.ItemError.{ItemError}
@@ -36,14 +37,26 @@ RequestGoes call text outcome monitor saved after left =
     → (n : Machine) × RequestStep (outcome_by outcome left) call m text n × IsMonitor after left n
 
 -- each request that was answered 500 has a fault of the files; where the machine answered every one there is none
-pub record IsCounted (outcomes : List flat.Outcome) (before now : ℕ) : Type 0 where
+pub record CountsFaults (outcomes : List flat.Outcome) (before now : ℕ) : Type 0 where
   pub rose : RoseBy (flat.failed_in outcomes) before now
   pub kept : flat.AreAnswered outcomes → now ≡ before
+
+-- the files are called for a file line and for a start alone
+abbrev pub IsStart : ApiCall → Type 0
+IsStart InstanceStart = Unit {0}
+IsStart call = ⊥
+
+abbrev pub CallsFiles : Item → Type 0
+CallsFiles (Item.File name content) = Unit {0}
+CallsFiles (Item.Api call) = IsStart call
+CallsFiles item = ⊥
 
 -- an item that was done: how its requests went, and what it did to each machine that the monitor was
 pub record ItemGoes (item : Item) (text : List ℕ) (monitor after : Monitor) (known left : FilesKnown) : Type 0 where
   pub outcomes : List flat.Outcome
-  pub counted : IsCounted outcomes known.health.faults left.health.faults
+  pub each : length outcomes ≡ length (requests_of item)
+  pub counted : CountsFaults outcomes known.health.faults left.health.faults
+  pub uncalled : (CallsFiles item → ⊥) → left.health.faults ≡ known.health.faults
   pub went : Tells known.health → (m : Machine) → IsMonitor monitor known.saved m
       → (n : Machine) × ItemStep item outcomes m text n × IsMonitor after left.saved n
   pub calls : Tells known.health → left.calls ≡ known.calls ++ calls_of item
@@ -67,17 +80,19 @@ abbrev pub LeavesFiles : Item → Saved → Saved → Type 0
 LeavesFiles (Item.File name content) saved left = SameOthers saved name left
 LeavesFiles item saved left = left ≡ saved
 
--- and no call was done, but for some of a file line's
+-- and no call was done, but for the first of a file line's
 abbrev pub LeavesCalls : Item → List FileCall → List FileCall → Type 0
-LeavesCalls (Item.File name content) calls left = (more : List FileCall) × (left ≡ calls ++ more)
+LeavesCalls (Item.File name content) calls left = MakesFront (calls_of (Item.File name content)) calls left
 LeavesCalls item calls left = left ≡ calls
 
 -- an item that was not done to its end: the first of its requests went so, and their text is not told
 pub record ItemStops (why : ItemError) (item : Item) (monitor after : Monitor) (known left : FilesKnown) : Type 0 where
   pub part : List flat.Outcome
+  pub few : (part ≡ []) ⊎ (length part < length (requests_of item))
   pub unwritten : List ℕ
   pub cause : ItemCause item why
   pub rose : RoseBy (flat.failed_in part + error_failures why) known.health.faults left.health.faults
+  pub uncalled : (CallsFiles item → ⊥) → left.health.faults ≡ known.health.faults
   pub same : part ≡ [] → after ≡ monitor
   pub went : Tells known.health → (m : Machine) → IsMonitor monitor known.saved m
       → (n : Machine) × PartStep item part m unwritten n × IsMonitor after n.saved n

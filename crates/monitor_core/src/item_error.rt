@@ -1,5 +1,5 @@
-// Why an item is not answered.
-/// Why an item is not answered.
+// Why an item is not done to its end.
+/// Why an item is not done to its end.
 #[derive(Clone, Copy, Debug, PartialEq, Eq, Drop)]
 pub enum ItemError {
     /// A call on the files failed, at a file line.

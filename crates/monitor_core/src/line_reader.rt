@@ -1,5 +1,6 @@
 // Lines of a text that comes in pieces.
-ghost use Rattle.std.specs.Prelude.{◌≡◌, ◌≤◌, ◌++◌, [], drop, length, IfOk, OnErr, OnOk};
+ghost use Rattle.std.specs.Prelude.{◌≡◌, ◌≤◌, ◌+◌, ◌++◌, [], ℕ, List, drop, length, IfOk, OnErr, OnOk};
+ghost use Rattle.script_lines.specs.Lines.{judged};
 ghost use Rattle.monitor_core.specs.Next.{Gives};
 
 use script_lines::{first_line, item_from};
@@ -45,10 +46,12 @@ impl LineReader {
         }
     }
 
-    /// Takes the next piece of the text, and lets go of the lines that were given. An `Err` changes nothing
-    /// of what is held.
+    /// Takes the next piece of the text, and lets go of the lines that were given: whatever comes behind, the lines
+    /// are those of both. An `Err` changes nothing of what is held.
     pub fn feed(&mut self, piece: &[u8]) -> Result<(), AllocError>
-        ensures ok { OnOk result (self.new ≡ self.old ++ piece.now) }
+        ensures ok { OnOk result ((more : List ℕ) →
+            judged (self.new ++ more) ≡ judged ((self.old ++ piece.now) ++ more)) }
+        ensures few { OnOk result (length self.new ≤ length self.old + length piece.now) }
         ensures err { OnErr result (self.new ≡ self.old) }
     {
         self.bytes.drain(..self.at);

@@ -31,7 +31,7 @@ pub struct Monitor {
     guest: Option<Guest>,
 }
 
-/// What an item writes, and how it went.
+/// What a request writes, and how it went.
 #[derive(Drop)]
 struct Replied {
     text: ByteList,
@@ -52,7 +52,7 @@ impl Replied {
 
 impl Monitor {
     ghost use Rattle.api_admission.specs.Admission.{Facts, asks_files as asks_files_of};
-    ghost use Rattle.monitor_core.specs.Going.{ItemGoes, ItemStops, OutcomeCause, RequestGoes, outcome_by};
+    ghost use Rattle.monitor_core.specs.Going.{ItemGoes, ItemStops, IsStart, OutcomeCause, RequestGoes, outcome_by};
     ghost use Rattle.flat_machine.specs.Items.{StepsLine};
     ghost use Rattle.monitor_core.specs.State.{IsMonitor};
 
@@ -77,12 +77,14 @@ impl Monitor {
         }
     }
 
-    // A request. An `Err` changes nothing.
+    // A request. An `Err` changes nothing, and but for a start the files aren't called.
     fn request<F: Files>(&mut self, call: ApiCall, files: &mut F) -> Result<Replied, AllocError>
         ensures went { IfOk result (λ r. Tells (F.known files.old).health →
             RequestGoes call r.text r.outcome self.old (F.known files.old).saved self.new (F.known files.new).saved) }
         ensures cause { IfOk result (λ r.
             OutcomeCause r.outcome (F.known files.old).health.faults (F.known files.new).health.faults) }
+        ensures uncalled { (IsStart call → ⊥) →
+            (F.known files.new).health.faults ≡ (F.known files.old).health.faults }
         ensures same { Tells (F.known files.old).health → SameFiles (F.known files.old) (F.known files.new) }
         ensures lasts { Lasts (F.known files.old).health (F.known files.new).health }
         ensures err { OnErr result (self.new ≡ self.old) }

@@ -10,7 +10,7 @@ pub fn save<F: Files>(files: &mut F, name: &str, content: &[u8]) -> Result<(), F
     ensures saved { OnOk result (Tells (F.known files.old).health →
         SavesFile (F.known files.old) name.now content.now (F.known files.new)) }
     ensures begun { OnErr result (Tells (F.known files.old).health →
-        SavesPart (F.known files.old) name.now (F.known files.new)) }
+        SavesPart (F.known files.old) name.now content.now (F.known files.new)) }
     ensures called { Called (F.known files.old).health (F.known files.new).health result }
 {
     files.make(name)?;

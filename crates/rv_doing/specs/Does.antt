@@ -1,5 +1,5 @@
 -- What each effect does: one line an effect. It ends the instruction, or wants one access and ends it by the reply.
-use Rattle.std.specs.Prelude.{ℕ, ◌%◌, ◌^◌, if◌then◌else◌, Option, Some, None}
+use Rattle.std.specs.Prelude.{ℕ, if◌then◌else◌, Option, Some, None}
 use Rattle.vm_types.specs.declared.op.Op.TheVariants as op
 use Rattle.vm_types.specs.declared.op.BoardOp.TheVariants as board
 use Rattle.le_fields.specs.Fields.{bytes_of}

@@ -44,7 +44,8 @@ effect_of (Auipc rd offset) pc a b = Effect.Put rd (address_sum pc offset)
 effect_of (Jal rd offset) pc a b = jump rd pc (address_sum pc offset)
 effect_of (Jalr rd rs1 offset) pc a b = jump rd pc (address_sum a offset / 2 * 2)
 effect_of (Branch condition rs1 rs2 offset) pc a b =
-    if is_taken condition a b then transfer (address_sum pc offset) (Effect.Branch (address_sum pc offset)) else Effect.Nothing
+    if is_taken condition a b then transfer (address_sum pc offset) (Effect.Branch (address_sum pc offset))
+    else Effect.Nothing
 effect_of (Load kind rd rs1 offset) pc a b =
     if_aligned (load_bytes kind) (address_sum a offset) LoadMisaligned (Effect.Load kind rd (address_sum a offset))
 effect_of (Store width rs1 rs2 offset) pc a b =
@@ -53,10 +54,13 @@ effect_of (Store width rs1 rs2 offset) pc a b =
 effect_of (AluImm op rd rs1 value) pc a b = Effect.Put rd (alu op a value)
 effect_of (Alu op rd rs1 rs2) pc a b = Effect.Put rd (alu op a b)
 effect_of (MulDiv op rd rs1 rs2) pc a b = Effect.Put rd (muldiv op a b)
-effect_of (LoadReserved wide rd rs1) pc a b = if_aligned (atomic_bytes wide) a LoadMisaligned (Effect.LoadReserved wide rd a)
+effect_of (LoadReserved wide rd rs1) pc a b =
+    if_aligned (atomic_bytes wide) a LoadMisaligned (Effect.LoadReserved wide rd a)
 effect_of (StoreConditional wide rd rs1 rs2) pc a b =
-    if_aligned (atomic_bytes wide) a StoreMisaligned (Effect.StoreConditional wide rd a (low_bytes (atomic_bytes wide) b))
-effect_of (Amo kind wide rd rs1 rs2) pc a b = if_aligned (atomic_bytes wide) a StoreMisaligned (Effect.Amo kind wide rd a b)
+    if_aligned (atomic_bytes wide) a StoreMisaligned
+    (Effect.StoreConditional wide rd a (low_bytes (atomic_bytes wide) b))
+effect_of (Amo kind wide rd rs1 rs2) pc a b =
+    if_aligned (atomic_bytes wide) a StoreMisaligned (Effect.Amo kind wide rd a b)
 effect_of Fence pc a b = Effect.Nothing
 effect_of FenceI pc a b = Effect.Nothing
 effect_of Ecall pc a b = Effect.Ecall

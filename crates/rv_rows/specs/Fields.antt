@@ -33,7 +33,8 @@ u_immediate word = sign_extended 32 (bits 31 12 word * 2 ^ 12)
 
 abbrev pub j_immediate : ℕ → ℕ
 j_immediate word =
-    sign_extended 21 (bits 31 31 word * 2 ^ 20 + bits 19 12 word * 2 ^ 12 + bits 20 20 word * 2 ^ 11 + bits 30 21 word * 2)
+    sign_extended 21
+    (bits 31 31 word * 2 ^ 20 + bits 19 12 word * 2 ^ 12 + bits 20 20 word * 2 ^ 11 + bits 30 21 word * 2)
 
 -- the amount of a shift by an immediate (5.2), and in the word forms
 abbrev pub shift_amount : ℕ → ℕ

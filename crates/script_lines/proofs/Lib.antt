@@ -1,9 +1,5 @@
-pub mod Decimals
-pub mod Hex
-pub mod Parts
-pub mod Texts
 pub mod Ends
-pub mod Spaces
 pub mod LineReads
 pub mod LineWrites
-pub mod WholeText
+pub mod Parts
+pub mod Texts

@@ -1,7 +1,7 @@
 -- A line that is read as an item is the one that it is written as, or a comment.
 use Rattle.std.proofs.Common.{◌≡◌, ◌≢◌, ◌⊎◌, ℕ, ◌+◌, ◌<◌, ◌≤◌, ◌==◌, nat_le, Bool, true, false, ◌&&◌, not, if◌then◌else◌, List, [], ◌∷◌, ◌++◌, length, take, drop, codes, Option, Some, None, option_and_then, refl, sym, ◌∙◌, ap, inl, inr, subst, arith}
 use Rattle.std.proofs.lemmas.Bool.{and_parts, eqb-false, eqb-true, leb-true, not-true}
-use Rattle.std.proofs.lemmas.List.Elements.{All-tail, All-take}
+use Rattle.std.proofs.lemmas.List.Elements.{All-take}
 use Rattle.std.proofs.lemmas.Option.{cond_some, option_and_then_some, same_Some}
 use Rattle.std.specs.List.{position}
 use Rattle.vm_types.specs.declared.ids.ActorId.TheVariants.{Hart}
@@ -9,18 +9,19 @@ use Rattle.vm_types.specs.declared.item.ApiCall.{ApiCall}
 use Rattle.vm_types.specs.declared.item.ApiCall.TheVariants.{PutBootSource, PutMachineConfig, InstanceStart, GetInstance}
 use Rattle.vm_types.specs.declared.item.Item.{Item}
 use Rattle.vm_types.specs.declared.item.Item.TheVariants.{Nothing, File, Api, Step}
-use Rattle.script_lines.specs.Items.{api_by, api_of, before, behind, boot_source_by, boot_source_of, call_of, file_at, file_by, file_of, get_of, is_image_path, is_text, item_of, longest, machine_config_by, machine_config_of, nothing_behind, or_else, shape_of, start_of, step_by, step_of, worded}
-use Rattle.script_lines.specs.Numbers.{bytes_of, number_of}
-use Rattle.script_lines.specs.Written.{HasCallForm, HasForm, IsComment, IsName, IsWritable, Lacks, call_line, hex_of, line_of}
-use Rattle.script_lines.proofs.Decimals.{number_reads}
-use Rattle.script_lines.proofs.Hex.{hex_below, hex_reads}
+use Rattle.script_lines.specs.Items.{api_by, api_of, before, boot_source_by, boot_source_of, call_of, file_at, file_by, file_of, get_of, is_image_path, item_of, longest, machine_config_by, machine_config_of, shape_of, start_of, step_by, step_of, worded}
+use Rattle.script_text.specs.Words.{behind, is_text, nothing_behind, or_else}
+use Rattle.script_text.specs.Numbers.{bytes_of, number_of}
+use Rattle.script_lines.specs.Written.{HasCallForm, HasForm, IsComment, IsName, IsWritable, call_line, line_of}
+use Rattle.script_text.specs.Numbers.{hex_of}
+use Rattle.script_text.specs.Written.{Lacks}
+use Rattle.script_text.proofs.Decimals.{number_reads}
+use Rattle.script_text.proofs.Hex.{hex_below, hex_reads}
 use Rattle.script_lines.proofs.LineWrites.{step_line}
-use Rattle.script_lines.proofs.Parts.{before_reads, behind_reads, whole_reads}
-use Rattle.script_lines.proofs.Spaces.{space_lacks, space_reads}
-
-either : {A : Type 0} (x y : Option A) (v : A) → or_else x y ≡ Some v → (x ≡ Some v) ⊎ (y ≡ Some v)
-either (Some x) y v is = inl is
-either None y v is = inr is
+use Rattle.script_lines.proofs.Parts.{before_reads}
+use Rattle.script_text.proofs.Lacking.{lacks_behind}
+use Rattle.script_text.proofs.Parting.{behind_reads, either, whole_reads}
+use Rattle.script_text.proofs.Spaces.{space_lacks, space_reads}
 
 chosen : {A : Type 0} (b : Bool) (x : Option A) (v : A) → (if b then x else None) ≡ Some v → (b ≡ true) × (x ≡ Some v)
 chosen true x v is = (refl, is)
@@ -51,10 +52,6 @@ pub record IsCall (line : List ℕ) (call : ApiCall) : Type 0 where
   pub same : line ≡ call_line call
   pub form : HasCallForm call
 
-lacks_behind : (word rest : List ℕ) → Lacks 10 (word ++ rest) → Lacks 10 rest
-lacks_behind [] rest lacks = lacks
-lacks_behind (c ∷ word) rest lacks = lacks_behind word rest (All-tail (λ (d : ℕ). d ≢ 10) c (word ++ rest) lacks)
-
 file_at_reads : (rest : List ℕ) (at : Option ℕ) (item : Item) → position (λ c. c == 32) rest ≡ at → file_at rest at ≡ Some item → IsLine (codes "file " ++ rest) item
 file_at_reads rest None item found is = absurd (cc)
 file_at_reads rest (Some i) item found is =
@@ -66,7 +63,7 @@ file_at_reads rest (Some i) item found is =
       some = read.some;
       text = read.text;
       spaceless = space_lacks rest i found;
-      one_line = All-take (λ (d : ℕ). d ≢ 10) i rest (lacks_behind (codes "file ") rest lacks);
+      one_line = All-take (λ (d : ℕ). d ≢ 10) i rest (lacks_behind 10 (codes "file ") rest lacks);
     } in
     subst (λ (it : Item). IsLine (codes "file " ++ rest) it) (sym read.is_item)
     (record { same = line; form = λ lacks. (name lacks, hex_below (drop (i + 1) rest) read.content read.is_content) })

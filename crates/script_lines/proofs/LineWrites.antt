@@ -10,13 +10,15 @@ use Rattle.vm_types.specs.declared.item.ApiCall.{ApiCall}
 use Rattle.vm_types.specs.declared.item.ApiCall.TheVariants.{PutBootSource, PutMachineConfig, InstanceStart, GetInstance}
 use Rattle.vm_types.specs.declared.item.Item.{Item}
 use Rattle.vm_types.specs.declared.item.Item.TheVariants.{Nothing, File, Api, Step}
-use Rattle.script_lines.specs.Items.{api_by, boot_source_by, boot_source_of, file_at, file_by, file_of, is_image_path, is_text, item_of, longest, machine_config_by, machine_config_of, or_else, shape_of, step_by, step_of, worded}
-use Rattle.script_lines.specs.Numbers.{bytes_of, number_of}
-use Rattle.script_lines.specs.Written.{HasCallForm, HasForm, IsComment, IsName, IsWritable, call_line, hex_of, line_of}
-use Rattle.script_lines.proofs.Decimals.{number_writes}
-use Rattle.script_lines.proofs.Hex.{hex_writes}
+use Rattle.script_lines.specs.Items.{api_by, boot_source_by, boot_source_of, file_at, file_by, file_of, is_image_path, item_of, longest, machine_config_by, machine_config_of, shape_of, step_by, step_of, worded}
+use Rattle.script_text.specs.Words.{is_text, or_else}
+use Rattle.script_text.specs.Numbers.{bytes_of, number_of}
+use Rattle.script_lines.specs.Written.{HasCallForm, HasForm, IsComment, IsName, IsWritable, call_line, line_of}
+use Rattle.script_text.specs.Numbers.{hex_of}
+use Rattle.script_text.proofs.Decimals.{number_writes}
+use Rattle.script_text.proofs.Hex.{hex_writes}
 use Rattle.script_lines.proofs.Parts.{before_writes}
-use Rattle.script_lines.proofs.Spaces.{space_writes}
+use Rattle.script_text.proofs.Spaces.{space_writes}
 
 first : {A : Type 0} (x y : Option A) (v : A) → x ≡ Some v → or_else x y ≡ Some v
 first {A = A} x y v is = ap (λ (o : Option A). or_else o y) is

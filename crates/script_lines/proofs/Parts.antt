@@ -1,35 +1,17 @@
--- What is behind and before bytes.
-use Rattle.std.proofs.Common.{Bor, MatchOption, ◌≡◌, ℕ, ◌+◌, ◌-◌, ◌==◌, nat_eq, nat_le, Bool, true, false, if◌then◌else◌, ◌&&◌, Option, List, [], ◌∷◌, ◌++◌, length, take, drop, Some, None, refl, sym, ◌∙◌, ap, inl, inr, arith, append-nil, length-append}
+-- What is before bytes at the end.
+use Rattle.std.proofs.Common.{Bor, MatchOption, ◌≡◌, ℕ, ◌+◌, ◌-◌, ◌==◌, nat_eq, nat_le, Bool, true, false, if◌then◌else◌, ◌&&◌, Option, List, [], ◌∷◌, ◌++◌, length, take, drop, Some, None, refl, sym, ◌∙◌, ap, arith, length-append}
 use Rattle.std.proofs.Math.Seq.{drop-append_seam, take-append_seam}
-use Rattle.std.proofs.lemmas.Bool.{and_parts, cases_eq, eq-eqb, le-leb, ne_eqb}
+use Rattle.std.proofs.lemmas.Bool.{and_parts, eq-eqb, le-leb}
 use Rattle.std.proofs.lemmas.Bool.Decides.{nat_tests}
 use Rattle.std.proofs.lemmas.List.{take-append-drop}
-use Rattle.std.proofs.lemmas.Option.{cond_some, same_Some}
+use Rattle.std.proofs.lemmas.Option.{cond_some}
 use Rattle.std.specs.Cmp.Lexicographic.{pointwise}
-use Rattle.script_lines.specs.Items.{behind, before, nothing_behind}
+use Rattle.script_lines.specs.Items.{before}
+use Rattle.script_text.specs.Words.{behind, nothing_behind}
+use Rattle.script_text.proofs.Parting.{whole_reads}
 
 turned : (c d : ℕ) → (c == d) ≡ nat_eq d c
 turned c d = grind (arith, nat_tests)
-
-found_by : (b p : Bool) (rest : Option (List ℕ)) (v : List ℕ) → (p ≡ true → rest ≡ Some v) → (b && p) ≡ true → (if b then rest else None) ≡ Some v
-found_by true p rest v h same = h same
-found_by false p rest v h same = cc
-
-lacks_by : (b p : Bool) (rest : Option (List ℕ)) → (p ≡ false → rest ≡ None) → (b && p) ≡ false → (if b then rest else None) ≡ None
-lacks_by true p rest h same = h same
-lacks_by false p rest h same = refl
-
-pub behind_found : (front line : List ℕ) → pointwise nat_eq (take (length front) line) front ≡ true → behind front line ≡ Some (drop (length front) line)
-behind_found [] line same = refl
-behind_found (c ∷ front) [] same = cc
-behind_found (c ∷ front) (d ∷ line) same =
-    rw (turned c d) (found_by (nat_eq d c) (pointwise nat_eq (take (length front) line) front) (behind front line) (drop (length front) line) (behind_found front line) same)
-
-pub behind_lacks : (front line : List ℕ) → pointwise nat_eq (take (length front) line) front ≡ false → behind front line ≡ None
-behind_lacks [] line same = cc
-behind_lacks (c ∷ front) [] same = refl
-behind_lacks (c ∷ front) (d ∷ line) same =
-    rw (turned c d) (lacks_by (nat_eq d c) (pointwise nat_eq (take (length front) line) front) (behind front line) (behind_lacks front line) same)
 
 whole_by : (b p : Bool) (rest : Option (List ℕ)) → nothing_behind rest ≡ p → nothing_behind (if b then rest else None) ≡ (b && p)
 whole_by true p rest h = h
@@ -58,40 +40,12 @@ before_lacks back line same =
     let none : nothing_behind (behind back (drop (length line - length back) line)) ≡ false = whole back (drop (length line - length back) line) ∙ same in
     rw none (lacks_both (nat_le (length back) (length line)) (take (length line - length back) line))
 
-pub behind_is : (front line : List ℕ) (r : Option (Bor (List ℕ)))
-    → MatchOption r (pointwise nat_eq (take (length front) line) front ≡ false)
-    (λ x. (pointwise nat_eq (take (length front) line) front ≡ true) × (x.now ≡ drop (length front) line) × (length x.now + length front ≡ length line))
-    → MatchOption r (behind front line ≡ None) (λ rest. behind front line ≡ Some rest.now)
-behind_is front line None lacks = behind_lacks front line lacks
-behind_is front line (Some x) found = behind_found front line found.0 ∙ ap Some (sym found.1)
-
 pub before_is : (back line : List ℕ) (r : Option (Bor (List ℕ)))
     → MatchOption r (pointwise nat_eq (drop (length line - length back) line) back ≡ false)
     (λ x. (pointwise nat_eq (drop (length line - length back) line) back ≡ true) × (x.now ≡ take (length line - length back) line) × (length x.now + length back ≡ length line))
     → MatchOption r (before back line ≡ None) (λ rest. before back line ≡ Some rest.now)
 before_is back line None lacks = before_lacks back line lacks
 before_is back line (Some x) found = before_found back line (length x.now) found.2 found.0 ∙ ap Some (sym found.1)
-
--- bytes are behind others exactly where they follow them
-pub behind_reads : (front line rest : List ℕ) → behind front line ≡ Some rest → line ≡ front ++ rest
-behind_reads [] line rest is = same_Some line rest is
-behind_reads (c ∷ front) [] rest is = cc
-behind_reads (c ∷ front) (d ∷ line) rest is =
-    elim (cases_eq c d) [
-      | inl same ↦ let kept = rw (eq-eqb c d same) at is in let tail : line ≡ front ++ rest = behind_reads front line rest kept in cc
-      | inr other ↦ let none = rw (ne_eqb c d other) at is in cc
-    ]
-
-pub behind_writes : (front rest : List ℕ) → behind front (front ++ rest) ≡ Some rest
-behind_writes [] rest = refl
-behind_writes (c ∷ front) rest = rw (eq-eqb c c refl) (behind_writes front rest)
-
-pub whole_reads : (front line : List ℕ) → nothing_behind (behind front line) ≡ true → line ≡ front
-whole_reads front line is = elim (behind front line) as (λ o. o ≡ behind front line → nothing_behind o ≡ true → line ≡ front) [
-  | Some [] ↦ λ e t. behind_reads front line [] (sym e) ∙ append-nil front
-  | Some (c ∷ rest) ↦ λ e t. cc
-  | None ↦ λ e t. cc
-] refl is
 
 pub before_reads : (back line front : List ℕ) → before back line ≡ Some front → line ≡ front ++ back
 before_reads back line front is =

@@ -1,37 +1,23 @@
 -- What a line asks for: words parted by one space, compared byte by byte.
-use Rattle.std.specs.Prelude.{ℕ, ◌+◌, ◌-◌, ◌==◌, nat_le, Bool, true, false, ◌&&◌, ◌||◌, not, if◌then◌else◌, List, [], ◌∷◌, length, take, drop, codes, Option, Some, None, option_and_then, position}
+use Rattle.std.specs.Prelude.{ℕ, ◌+◌, ◌-◌, ◌==◌, nat_le, Bool, ◌&&◌, ◌||◌, not, if◌then◌else◌, List, [], ◌∷◌, length, take, drop, codes, Option, Some, None, option_and_then, position}
 use Rattle.std.specs.List.{list_all}
-use Rattle.std.specs.Str.Lossy.{utf8_valid_len}
 use Rattle.vm_types.specs.declared.ids.ActorId.TheVariants.{Hart}
 use Rattle.vm_types.specs.declared.item.ApiCall.{ApiCall}
 use Rattle.vm_types.specs.declared.item.ApiCall.TheVariants.{PutBootSource, PutMachineConfig, InstanceStart, GetInstance}
 use Rattle.vm_types.specs.declared.item.Item.{Item}
 use Rattle.vm_types.specs.declared.item.Item.TheVariants.{Nothing, File, Api, Step}
-use Rattle.script_lines.specs.Numbers.{is_digit, number_of, bytes_of}
+use Rattle.script_text.specs.Numbers.{is_digit, number_of, bytes_of}
+use Rattle.script_text.specs.Words.{behind, is_text, nothing_behind, or_else}
 
 -- the longest line, without its LF
 abbrev pub longest : ℕ
 longest = 1048576
-
--- what is behind these bytes at the front
-abbrev pub behind : List ℕ → List ℕ → Option (List ℕ)
-behind [] line = Some line
-behind (c ∷ word) [] = None
-behind (c ∷ word) (d ∷ line) = if c == d then behind word line else None
-
-abbrev pub nothing_behind : Option (List ℕ) → Bool
-nothing_behind (Some []) = true
-nothing_behind rest = false
 
 -- what is before these bytes at the end
 abbrev pub before : List ℕ → List ℕ → Option (List ℕ)
 before word line =
     if nat_le (length word) (length line) && nothing_behind (behind word (drop (length line - length word) line))
     then Some (take (length line - length word) line) else None
-
--- the bytes are UTF-8 (Unicode, table 3-7)
-abbrev pub is_text : List ℕ → Bool
-is_text bytes = utf8_valid_len bytes == length bytes
 
 -- `file PATH HEX`: a path is at least one byte, has no space and is UTF-8
 abbrev pub file_by : List ℕ → Option (List ℕ) → Option Item
@@ -86,11 +72,6 @@ start_of rest =
 
 abbrev pub get_of : List ℕ → Option ApiCall
 get_of rest = if nothing_behind (behind (codes "GET /") rest) then Some GetInstance else None
-
--- the first that there is
-abbrev pub or_else : {A : Type 0} → Option A → Option A → Option A
-or_else (Some x) y = Some x
-or_else None y = y
 
 abbrev pub call_of : List ℕ → Option ApiCall
 call_of rest = or_else (boot_source_of rest) (or_else (machine_config_of rest) (or_else (start_of rest) (get_of rest)))

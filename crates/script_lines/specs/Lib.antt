@@ -1,5 +1,4 @@
 pub mod Items
 pub mod Lines
-pub mod Numbers
 pub mod Output
 pub mod Written

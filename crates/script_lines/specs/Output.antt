@@ -1,9 +1,10 @@
 -- The lines that a run writes.
-use Rattle.std.specs.Prelude.{ℕ, ◌+◌, ◌/◌, ◌%◌, ◌==◌, nat_le, nat_lt, ◌&&◌, not, if◌then◌else◌, List, [], ◌∷◌, ◌++◌, codes, Option, Some, None, flat_map}
+use Rattle.std.specs.Prelude.{ℕ, ◌/◌, ◌%◌, ◌==◌, nat_le, ◌&&◌, not, if◌then◌else◌, List, [], ◌∷◌, ◌++◌, codes, Option, Some, None, flat_map}
 use Rattle.std.specs.Fmt.{decimal}
 use Rattle.vm_types.specs.declared.exit.Object.TheVariants as object
 use Rattle.vm_types.specs.declared.exit.Exit.{Exit}
 use Rattle.api_admission.specs.declared.answer.Answer.{Answer}
+use Rattle.script_text.specs.Numbers.{hex_digit}
 
 abbrev pub body_part : Option (List ℕ) → List ℕ
 body_part None = []
@@ -12,9 +13,6 @@ body_part (Some body) = 32 ∷ body
 -- `< S` or `< S BODY`
 abbrev pub reply_line : Answer → List ℕ
 reply_line answer = codes "< " ++ decimal answer.status ++ body_part answer.body ++ codes "\n"
-
-abbrev pub hex_digit : ℕ → ℕ
-hex_digit n = if nat_lt n 10 then 48 + n else 87 + n
 
 -- a byte of the console: 0x20 to 0x7e but the backslash as they are, others as `\x` and two digits
 abbrev pub shown : ℕ → List ℕ

@@ -1,5 +1,5 @@
 -- The line that an item is written as.
-use Rattle.std.specs.Prelude.{◌≡◌, ◌≢◌, ℕ, ◌/◌, ◌%◌, ◌^◌, ◌<◌, ◌≤◌, IsTrue, List, [], ◌∷◌, ◌++◌, length, codes, flat_map}
+use Rattle.std.specs.Prelude.{◌≡◌, ℕ, ◌^◌, ◌<◌, ◌≤◌, IsTrue, List, [], ◌∷◌, ◌++◌, length, codes}
 use Rattle.std.specs.Fmt.{decimal}
 use Rattle.std.specs.List.{All}
 use Rattle.vm_types.specs.declared.ids.ActorId.{ActorId}
@@ -8,12 +8,10 @@ use Rattle.vm_types.specs.declared.item.ApiCall.{ApiCall}
 use Rattle.vm_types.specs.declared.item.ApiCall.TheVariants.{PutBootSource, PutMachineConfig, InstanceStart, GetInstance}
 use Rattle.vm_types.specs.declared.item.Item.{Item}
 use Rattle.vm_types.specs.declared.item.Item.TheVariants.{Nothing, File, Api, Step}
-use Rattle.script_lines.specs.Items.{is_image_path, is_text, longest}
-use Rattle.script_lines.specs.Output.{hex_digit}
-
--- two lower-case digits a byte
-abbrev pub hex_of : List ℕ → List ℕ
-hex_of bytes = flat_map (λ byte. hex_digit (byte / 16) ∷ hex_digit (byte % 16) ∷ []) bytes
+use Rattle.script_lines.specs.Items.{is_image_path, longest}
+use Rattle.script_text.specs.Numbers.{hex_of}
+use Rattle.script_text.specs.Words.{is_text}
+use Rattle.script_text.specs.Written.{Lacks, actor_word}
 
 abbrev pub call_line : ApiCall → List ℕ
 call_line (PutBootSource path) = codes "api PUT /boot-source {\"kernel_image_path\":\"" ++ path ++ codes "\"}"
@@ -22,21 +20,12 @@ call_line (PutMachineConfig mib) =
 call_line InstanceStart = codes "api PUT /actions {\"action_type\":\"InstanceStart\"}"
 call_line GetInstance = codes "api GET /"
 
-abbrev pub actor_word : ActorId → List ℕ
-actor_word Timer = codes "t"
-actor_word (Hart h) = codes "h" ++ decimal h
-actor_word (Device d) = codes "d" ++ decimal d
-
 -- the line, without its LF; what asks for nothing is written as the empty line
 abbrev pub line_of : Item → List ℕ
 line_of Nothing = []
 line_of (File name content) = codes "file " ++ name ++ 32 ∷ hex_of content
 line_of (Api call) = call_line call
 line_of (Step actor count) = codes "step " ++ actor_word actor ++ 32 ∷ decimal count
-
--- none of the bytes is this one
-abbrev pub Lacks : ℕ → List ℕ → Type 0
-Lacks c bytes = All (λ byte. byte ≢ c) bytes
 
 -- a name of a file: UTF-8, not empty, and with neither a space nor an LF
 pub record IsName (name : List ℕ) : Type 0 where

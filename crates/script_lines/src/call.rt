@@ -2,9 +2,9 @@
 ghost use Rattle.std.specs.Prelude.{◌≡◌, IfOk};
 ghost use Rattle.script_lines.specs.Items.{boot_source_of, call_of, get_of, machine_config_of, start_of};
 
-use crate::number::number_from;
 use crate::text::path_from;
-use crate::words::{between, is_line};
+use crate::words::between;
+use script_text::{is_line, number_from};
 use std::alloc::{AllocError, Global};
 use vm_types::ApiCall;
 

@@ -1,12 +1,10 @@
 // A line, read into the item that it asks for.
 ghost use Rattle.std.specs.Prelude.{◌≡◌, IfOk, codes, option_and_then};
-ghost use Rattle.script_lines.specs.Items.{api_of, behind, file_of, item_of, shape_of, step_by, step_of, worded};
+ghost use Rattle.script_text.specs.Words.{behind};
+ghost use Rattle.script_lines.specs.Items.{api_of, file_of, item_of, shape_of, step_by, step_of, worded};
 
 use crate::call::call_from;
-use crate::hex_bytes::bytes_from;
-use crate::number::number_from;
-use crate::text::text_from;
-use crate::words::{behind, space_at};
+use script_text::{behind, bytes_from, number_from, space_at, text_from};
 use std::alloc::{AllocError, Global};
 use vm_types::{ActorId, Item};
 

@@ -2,15 +2,14 @@
 //!
 //! `first_line` finds where the first line of a text ends, and `item_from` reads one line. `reply_line`,
 //! `console_line` and `last_line` give the bytes of what is answered, shown and told at the end, and
-//! `not_running_line` and `no_actor_line` those of a step line that doesn't apply. `one_line` and `whole_text` say what a line and a text are: the line that an item is written as, and lines each with its LF.
+//! `not_running_line` and `no_actor_line` those of a step line that doesn't apply. `one_line` says what a
+//! line is: the one that an item is written as.
 #![tactic(auto)]
 
 mod call;
-mod hex_bytes;
 mod item;
 mod law;
 mod lines;
-mod number;
 mod output;
 #[cfg(test)]
 mod tests;
@@ -18,6 +17,6 @@ mod text;
 mod words;
 
 pub use item::item_from;
-pub use law::{one_line, whole_text};
+pub use law::one_line;
 pub use lines::first_line;
 pub use output::{console_line, last_line, no_actor_line, not_running_line, reply_line};

@@ -1,7 +1,8 @@
 // Where lines end.
 ghost use Rattle.std.specs.Prelude.{◌≡◌, ◌≢◌, ◌+◌, ◌<◌, ℕ, [], ◌∷◌, drop, take, IfNone, IfSome, length, slice_index};
 ghost use Rattle.script_lines.specs.Items.{item_of};
-ghost use Rattle.script_lines.specs.Lines.{judged, lines_of};
+ghost use Rattle.script_lines.specs.Lines.{judged};
+ghost use Rattle.script_text.specs.Lines.{lines_of};
 
 /// Where the first LF is: the bytes before it are the first line, and those behind it hold the others.
 /// `None` where there is no line.

@@ -1,10 +1,10 @@
 // The lines that a run writes.
-ghost use Rattle.std.specs.Prelude.{◌≡◌, ◌++◌, ◌<◌, IfOk, OnOk};
-ghost use Rattle.script_lines.specs.Output.{body_part, console_line, hex_digit, last_line};
-ghost use Rattle.script_lines.specs.Output.{no_actor_line, not_running_line, reply_line, shown};
+ghost use Rattle.std.specs.Prelude.{◌≡◌, ◌++◌, IfOk, OnOk};
+ghost use Rattle.script_lines.specs.Output.{body_part, console_line, last_line, no_actor_line, not_running_line, reply_line, shown};
 
 use api_admission::Answer;
 use itoa::Buffer;
+use script_text::hex_digit;
 use std::alloc::{AllocError, Global};
 use vm_types::{ByteList, Exit, Object};
 
@@ -57,17 +57,6 @@ fn append_shown(line: &mut ByteList, byte: u8) -> Result<(), AllocError>
     Ok(())
 }
 
-fn hex_digit(nibble: u8) -> u8
-    requires { nibble < 16 }
-    ensures { result ≡ hex_digit nibble }
-{
-    if nibble < 10 {
-        b'0' + nibble
-    } else {
-        b'a' - 10 + nibble
-    }
-}
-
 /// The line of a step line before the start.
 pub fn not_running_line(alloc: Global) -> Result<ByteList, AllocError>
     ensures { IfOk result (λ line. line ≡ not_running_line) }
@@ -90,7 +79,7 @@ pub fn last_line(alloc: Global, exit: Exit) -> Result<ByteList, AllocError>
         Exit::Done => Ok(ByteList::new(alloc)),
         Exit::Usage => Ok(ByteList::copy_of(alloc, b". usage\n")?),
         Exit::Script { line } => Ok(script_line(alloc, line)?),
-        Exit::Fault(name) => Ok(fault_line(alloc, name)?),
+        Exit::Fault { name } => Ok(fault_line(alloc, name)?),
         Exit::OutOfMemory => Ok(ByteList::copy_of(alloc, b". memory\n")?),
     }
 }

@@ -1,22 +1,11 @@
 // Bytes that are a text.
 ghost use Rattle.std.specs.Prelude.{◌≡◌, if◌then◌else◌, IfOk};
 ghost use Rattle.std.specs.List.{list_all};
-ghost use Rattle.script_lines.specs.Items.{is_alphanumeric, is_image_path, is_text};
+ghost use Rattle.script_lines.specs.Items.{is_alphanumeric, is_image_path};
 
-use crate::number::is_digit;
+use script_text::{is_digit, text_from};
 use std::alloc::{AllocError, Global};
 use vm_types::TextList;
-
-#[tactic(auto, using(crate::proofs::Texts::text_is))]
-/// The text that these bytes are, if they are UTF-8.
-pub fn text_from(alloc: Global, bytes: &[u8]) -> Result<Option<TextList>, AllocError>
-    ensures { IfOk result (λ text. text ≡ (if is_text bytes.now then Some bytes.now else None)) }
-{
-    match str::from_utf8(bytes) {
-        Ok(text) => Ok(Some(TextList::copy_of(alloc, text)?)),
-        Err(_) => Ok(None),
-    }
-}
 
 /// The path of a kernel image that these bytes are: 1 to 64 ASCII letters and digits.
 pub fn path_from(alloc: Global, bytes: &[u8]) -> Result<Option<TextList>, AllocError>

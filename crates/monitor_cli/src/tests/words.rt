@@ -27,7 +27,10 @@ fn other_words_are_no_command(rt: HostRuntime) -> Result<(), Fail> {
     for case in cases {
         let words = words_of(alloc, case)?;
         let mut out = outside(alloc, &TRIAL)?;
-        assert_eq!(rt; firecracker_main(alloc, &words, &mut out), Exit::Usage);
+        assert_eq!(rt;
+            firecracker_main(alloc, Ok(words_of(alloc, case)?), &mut out),
+            Exit::Usage
+        );
         assert_eq!(rt; out.sink.taken(), b". usage\n".as_slice());
         // Nothing was read.
         let mut all = [0; 64];
@@ -43,7 +46,7 @@ fn the_command(rt: HostRuntime) -> Result<(), Fail> {
     let alloc = rt.alloc();
     let words = words_of(alloc, &["replay"])?;
     let mut out = outside(alloc, &TRIAL)?;
-    assert_eq!(rt; firecracker_main(alloc, &words, &mut out), Exit::Done);
+    assert_eq!(rt; firecracker_main(alloc, Ok(words), &mut out), Exit::Done);
     assert_eq!(rt; str::from_utf8(out.sink.taken()), Ok(TRIAL.text));
     Ok(())
 }

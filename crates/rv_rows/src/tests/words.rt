@@ -1,4 +1,5 @@
-// Words and what they are, by GNU binutils 2.40: the name without aq and rl, or - where it is no instruction of RV64IMA.
+// Words and what they are, by GNU binutils 2.40: the name without aq and rl, or - where a word is no instruction of
+// RV64IMA with Zicsr.
 use super::corners::CORNERS;
 use crate::instr_of;
 

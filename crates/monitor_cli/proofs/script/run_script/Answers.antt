@@ -2,6 +2,7 @@ use Rattle.std.proofs.Common.{arith, refl, ap, sym, ◌+◌, subst, ◌∙◌, �
 use Rattle.std.proofs.lemmas.List.{length-take, take-append-le}
 use Rattle.vm_types.specs.declared.exit.Exit.{Exit}
 use Rattle.vm_types.specs.declared.exit.Object.TheVariants as object
+use Rattle.script_lines.specs.Lines.{judged}
 use Rattle.flat_machine.specs.Replay.{longest_script}
 use Rattle.monitor_cli.specs.Lines.{BeforeLast, Reached}
 use Rattle.monitor_cli.proofs.Arriving.{fed}
@@ -83,10 +84,11 @@ pub pieces-preserved : goal.pieces-preserved
 pieces-preserved g c =
     let was = c.pieces.invariant in
     let ran = c.in-Ok-Empty.ensures in
-    let gave = c.in-Ok-feed.ensures.ok ∙ ap (λ (l : List ℕ). c.run_lines.new.self.reader ++ l) (take-append-le c.in-Ok.count c.read.new.buf _ c.in-Ok.ensures.bound) in
+    let held = take-append-le c.in-Ok.count c.read.new.buf _ c.in-Ok.ensures.bound in
+    let gave = λ (more : List ℕ). c.in-Ok-feed.ensures.ok more ∙ ap (λ (l : List ℕ). judged ((c.run_lines.new.self.reader ++ l) ++ more)) held in
     let piece = take c.in-Ok.count c.read.new.buf in
     record {
-      count = omega (arith, ran.count, was.count, ap length gave, length-append {A = ℕ}, length-take {A = ℕ}, c.in-Ok.ensures.bound);
+      count = omega (arith, ran.count, was.count, c.in-Ok-feed.ensures.few, ap length held, length-take {A = ℕ}, c.in-Ok.ensures.bound);
       small = omega (arith, length-take {A = ℕ}, c.in-Ok.ensures.bound, c.read.auto.buf, c.min-room.ensures, was.small);
       lasts_source = lasts_more _ _ _ was.lasts_source c.in-Ok.ensures.called.lasts;
       lasts_files = lasts_more _ _ _ was.lasts_files ran.lasts.0;

@@ -1,4 +1,4 @@
-use Rattle.std.proofs.Common.{arith, ap, ◌∙◌, ◌++◌, ◌∷◌, []}
+use Rattle.std.proofs.Common.{ap, ◌∙◌, ◌++◌, ◌∷◌, []}
 use Rattle.place_locks.proofs.Grows.{history_grows}
 use Rattle.place_locks.proofs.kept.Kept.act.Goals as goal
 
