@@ -14,7 +14,10 @@ fn words_at_edges(rt: HostRuntime) {
         for i in 0..30 {
             let (old, value) = PAIRS[i];
             let stored = amo_value(kind, false, old, value);
-            assert!(rt; stored == values[i / 3][i % 3], "{kind:?} of {old} and {value}");
+            assert!(rt;
+                stored == values[i / 3][i % 3],
+                "{kind:?} of {old} and {value}"
+            );
         }
     }
 }
@@ -25,7 +28,10 @@ fn doubles_at_edges(rt: HostRuntime) {
         for i in 0..30 {
             let (old, value) = PAIRS[i];
             let stored = amo_value(kind, true, old, value);
-            assert!(rt; stored == values[i / 3][i % 3], "{kind:?} of {old} and {value}");
+            assert!(rt;
+                stored == values[i / 3][i % 3],
+                "{kind:?} of {old} and {value}"
+            );
         }
     }
 }

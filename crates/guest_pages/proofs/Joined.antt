@@ -10,7 +10,6 @@ use Rattle.guest_pages.specs.Flat.{ArePages}
 abbrev bytes_of : List PageValue → List ℕ
 bytes_of pages = flat_map (λ p. p.bytes) pages
 
-
 -- an offset in a later page, from the end of this one
 later : (p : PageValue) (i o : ℕ) → length p.bytes ≡ 4096 → 4096 * suc i + o ≡ length p.bytes + (4096 * i + o)
 later p i o whole = omega arith

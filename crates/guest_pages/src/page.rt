@@ -249,13 +249,7 @@ impl Page {
         Reply::Word(word)
     }
 
-    fn store_conditional(
-        &mut self,
-        actor: ActorId,
-        at: GuestAddr,
-        value: u64,
-        wide: bool,
-    ) -> Reply
+    fn store_conditional(&mut self, actor: ActorId, at: GuestAddr, value: u64, wide: bool) -> Reply
         ensures reply { result ≡ (page_touch self.old actor (Op.Sc at value wide)).0 }
         ensures page { self.new ≡ (page_touch self.old actor (Op.Sc at value wide)).1 }
     {

@@ -43,7 +43,9 @@ fn sc(at: u64) -> Op {
 }
 
 #[test]
-fn a_reservation_ends_where_another_hart_writes_the_same_bytes(rt: HostRuntime) -> Result<(), Fail> {
+fn a_reservation_ends_where_another_hart_writes_the_same_bytes(
+    rt: HostRuntime,
+) -> Result<(), Fail> {
     let mut page = Page::new(rt.alloc(), 1)?;
     for (actor, op, reply, is_marked) in [
         (H0, lr(0x8000_1008), Reply::Word(0), false),
@@ -147,7 +149,10 @@ fn a_block_goes_over_the_ends_of_pages(rt: HostRuntime) -> Result<(), Fail> {
     for number in 0..3 {
         assert_eq!(rt; pages.len(), 3);
         let page = pages.page(number);
-        assert!(rt; page.bytes() == &wanted[4096 * number..4096 * number + 4096], "{number}");
+        assert!(rt;
+            page.bytes() == &wanted[4096 * number..4096 * number + 4096],
+            "{number}"
+        );
         assert!(rt; !page.is_marked());
     }
     Ok(())

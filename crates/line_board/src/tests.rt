@@ -18,7 +18,10 @@ fn bytes_come_out_in_order_over_the_end_of_the_ring(rt: HostRuntime) -> Result<(
         let first = last;
         for _ in 0..3000 {
             last = last.wrapping_add(1);
-            assert_eq!(rt; act(&mut board, BoardOp::Putchar { byte: last }), Reply::Done);
+            assert_eq!(rt;
+                act(&mut board, BoardOp::Putchar { byte: last }),
+                Reply::Done
+            );
         }
         let mut drained = [0; 4096];
         assert_eq!(rt; board.drain(&mut drained[..2999]), 2999);
@@ -47,14 +50,12 @@ fn a_full_ring_stores_nothing(rt: HostRuntime) -> Result<(), Fail> {
 
 #[test]
 fn what_turns_the_guest_off(rt: HostRuntime) -> Result<(), Fail> {
-    for (kind, reason, is_off) in [
-        (0, 0, true),
-        (2, 1, true),
-        (3, 0, false),
-        (0, 2, false),
-    ] {
+    for (kind, reason, is_off) in [(0, 0, true), (2, 1, true), (3, 0, false), (0, 2, false)] {
         let mut board = Board::new(rt.alloc())?;
-        assert_eq!(rt; act(&mut board, BoardOp::Look), Reply::Shown(Shown::Pending(0)));
+        assert_eq!(rt;
+            act(&mut board, BoardOp::Look),
+            Reply::Shown(Shown::Pending(0))
+        );
         let error = if is_off { 0 } else { 0xffff_ffff_ffff_fffd };
         let wanted = Reply::Returned { error, value: 0 };
         assert_eq!(rt; act(&mut board, BoardOp::Reset { kind, reason }), wanted);

@@ -22,7 +22,8 @@ pub fn replay<I: Source, O: Sink, F: Files>(
         BeforeLast result (new_machine id (F.known out.old.files).saved)
         (all_known (I.known out.old.source) (O.known out.old.sink) (F.known out.old.files))
         (I.known out.new.source).left (O.known out.new.sink) (F.known out.new.files) }
-    ensures caused { CausedSoFar result (all_known (I.known out.old.source) (O.known out.old.sink) (F.known out.old.files))
+    ensures caused { CausedSoFar result
+        (all_known (I.known out.old.source) (O.known out.old.sink) (F.known out.old.files))
         (all_known (I.known out.new.source) (O.known out.new.sink) (F.known out.new.files)) }
     ensures no_usage { result ≢ Exit.Usage }
     ensures lasts { AllLast (all_known (I.known out.old.source) (O.known out.old.sink) (F.known out.old.files))

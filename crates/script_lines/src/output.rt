@@ -79,7 +79,7 @@ pub fn last_line(alloc: Global, exit: Exit) -> Result<ByteList, AllocError>
         Exit::Done => Ok(ByteList::new(alloc)),
         Exit::Usage => Ok(ByteList::copy_of(alloc, b". usage\n")?),
         Exit::Script { line } => Ok(script_line(alloc, line)?),
-        Exit::Fault { name } => Ok(fault_line(alloc, name)?),
+        Exit::Fault(name) => Ok(fault_line(alloc, name)?),
         Exit::OutOfMemory => Ok(ByteList::copy_of(alloc, b". memory\n")?),
     }
 }

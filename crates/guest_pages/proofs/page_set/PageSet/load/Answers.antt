@@ -16,10 +16,10 @@ loop-done-preserved c =
     record {
       some = omega arith;
       memory = loaded_more (flat_of c.args.self.now) (flat_of c.loop-done.self) (flat_of c.patch.new.self) block c.args.offset done count at 0 c.loop-done.invariant.memory
-      (c.patch.ensures.memory
-      ∙ ap (λ (j : ℕ). loaded j (take (done + count - done) (drop done block)) (flat_of c.loop-done.self)) place
-      ∙ ap (λ (k : ℕ). loaded at (take k (drop done block)) (flat_of c.loop-done.self)) long)
-      refl (omega (arith, size)) c.loop-done.invariant.some;
+          (c.patch.ensures.memory
+          ∙ ap (λ (j : ℕ). loaded j (take (done + count - done) (drop done block)) (flat_of c.loop-done.self)) place
+          ∙ ap (λ (k : ℕ). loaded at (take k (drop done block)) (flat_of c.loop-done.self)) long)
+          refl (omega (arith, size)) c.loop-done.invariant.some;
       marks = c.patch.ensures.marks ∙ c.loop-done.invariant.marks;
       pages = c.patch.ensures.pages ∙ c.loop-done.invariant.pages;
     }
