@@ -72,11 +72,11 @@ fn read_if_there<R: Files + AllocGlobal>(
     rt: &R,
     name: &str,
     ending: &str,
-) -> Result<Option<Vec<u8>>> {
+) -> io::Result<Option<Vec<u8>>> {
     let path = format!(in rt.alloc(); "{name}.{ending}")?;
-    match fs::read(rt, path.as_str()) {
+    match fs::read(rt, path) {
         Ok(bytes) => Ok(Some(bytes)),
         Err(e) if e.kind() == ErrorKind::NotFound => Ok(None),
-        Err(e) => Err(e).context(format_args!("{path}")),
+        Err(e) => Err(e),
     }
 }

@@ -1,16 +1,22 @@
 // What a replay came to against what is wanted.
+ghost use Rattle.std.specs.Prelude.{◌≡◌, IfOk, IsNone};
+
 use crate::case::Wanted;
 use crate::held::Held;
 use crate::replaying::Replayed;
-use outside_mem::{FileEvent, MemoryFiles};
+use outside_mem::{FileEvent, MemoryFiles, MemorySink};
 use std::alloc::{AllocError, Global};
+use vm_outside::Sink;
 
-/// What differs first, in words, where something does.
+/// What differs first, in words, where something does: output, status, or a file.
 pub fn difference(
     alloc: Global,
     replayed: &Replayed,
     wanted: &Wanted,
-) -> Result<Option<String>, AllocError> {
+) -> Result<Option<String>, AllocError>
+    ensures output { IfOk result (λ told. IsNone told → (⟦<MemorySink as Sink>⟧.known replayed.now.sink).taken ≡ wanted.now.output.items) }
+    ensures status { IfOk result (λ told. IsNone told → replayed.now.status ≡ wanted.now.status) }
+{
     let output = replayed.sink.taken();
     if output != wanted.output.as_slice() {
         let told = output_difference(alloc, text_of(output), text_of(&wanted.output))?;
