@@ -47,18 +47,18 @@ fn looks_and_faults_come_where_they_do(rt: HostRuntime) -> Result<(), Fail> {
     let alloc = rt.alloc();
     let image = many_bytes(alloc)?;
     let mut guest = guest_of(alloc, &image)?;
-    let mut looks = 0;
-    let mut faults = 0;
+    let mut looks = 0_u32;
+    let mut faults = 0_u32;
     for _ in 0..100 {
         match guest.step() {
             Entry {
                 op: Op::Board(BoardOp::Look),
                 ..
-            } => looks += 1,
+            } => looks = looks.wrapping_add(1),
             Entry {
                 reply: Reply::AccessFault,
                 ..
-            } => faults += 1,
+            } => faults = faults.wrapping_add(1),
             _ => {}
         }
     }
