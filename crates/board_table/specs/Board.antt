@@ -3,7 +3,7 @@ use Rattle.std.specs.Prelude.{ℕ, ◌-◌, ◌^◌, nat_lt, Bool, true, false, 
 use Rattle.vm_types.specs.declared.ids.ActorId.{ActorId}
 use Rattle.vm_types.specs.declared.op.Op.{Op}
 use Rattle.vm_types.specs.declared.op.BoardOp.{BoardOp}
-use Rattle.vm_types.specs.declared.op.BoardOp.TheVariants.{Look, Putchar, Reset}
+use Rattle.vm_types.specs.declared.op.BoardOp.TheVariants.{Look, Putchar, Reset, Time, SoftwarePending}
 use Rattle.vm_types.specs.declared.reply.Reply.{Reply}
 use Rattle.vm_types.specs.declared.reply.Shown.TheVariants.{Pending}
 
@@ -40,11 +40,14 @@ reset_by b kind reason =
     if is_reset_allowed kind reason then (Reply.Returned 0 0, record b { off = true })
     else (Reply.Returned invalid_parameter 0, b)
 
--- what each act on the board does; a look shows that nothing is pending
+-- What each act on the board does. There is no timer and no interrupt yet: a look shows that nothing is pending, guest
+-- time is 0, and the software-pending bit reads 0 and keeps nothing.
 abbrev pub board_act : Board → BoardOp → Reply × Board
 board_act b Look = (Reply.Shown (Pending 0), b)
 board_act b (Putchar byte) = put_byte b byte
 board_act b (Reset kind reason) = reset_by b kind reason
+board_act b Time = (Reply.Word 0, b)
+board_act b (SoftwarePending clear set) = (Reply.Word 0, b)
 board_act b act = (Reply.AccessFault, b)
 
 -- What an act is answered by the board, and what it leaves. What isn't an act of the board's is an
@@ -58,6 +61,8 @@ abbrev pub is_known : BoardOp → Bool
 is_known Look = true
 is_known (Putchar byte) = true
 is_known (Reset kind reason) = true
+is_known Time = true
+is_known (SoftwarePending clear set) = true
 is_known act = false
 
 abbrev pub is_board_act : Op → Bool

@@ -3,7 +3,7 @@ use Rattle.std.proofs.Common.{◌≡◌, Bool, true, false, cond, nat_lt, length
 use Rattle.vm_types.specs.declared.ids.ActorId.{ActorId}
 use Rattle.vm_types.specs.declared.op.Op.{Op}
 use Rattle.vm_types.specs.declared.op.BoardOp.{BoardOp}
-use Rattle.vm_types.specs.declared.op.BoardOp.TheVariants.{Look, Putchar, Reset}
+use Rattle.vm_types.specs.declared.op.BoardOp.TheVariants.{Look, Putchar, Reset, Time, SoftwarePending}
 use Rattle.vm_types.specs.declared.reply.Reply.{Reply}
 use Rattle.vm_types.specs.Fits.{fits, board_fits}
 use Rattle.board_table.specs.Board.{Board, board_act, touch, ring_size, is_known, is_board_act}
@@ -24,6 +24,8 @@ act_fits b (Putchar byte) is =
 act_fits b (Reset kind reason) is =
     either_fits (Reset kind reason) (is_reset_allowed kind reason) (Reply.Returned 0 0, record b { off = true })
     (Reply.Returned invalid_parameter 0, b) refl refl
+act_fits b Time is = refl
+act_fits b (SoftwarePending clear set) is = refl
 act_fits b act is = cc
 
 pub board_reply_fits : (b : Board) (actor : ActorId) (op : Op) → is_board_act op ≡ true

@@ -1,5 +1,5 @@
 // Bytes of RAM.
-ghost use Rattle.std.specs.Prelude.{◌≡◌, ◌+◌, ◌≤◌, ◌<◌, ◌^◌, length};
+ghost use Rattle.std.specs.Prelude.{◌≡◌, ◌+◌, ◌≤◌, length};
 ghost use Rattle.guest_memory.specs.Memory.{put_at};
 ghost use Rattle.guest_memory.specs.Ram as ram;
 
@@ -16,14 +16,6 @@ pub fn is_ram(size: usize, at: GuestAddr, len: usize) -> bool
     ensures { result ≡ ram.is_ram size at len }
 {
     at >= RAM_START && (at - RAM_START) as u128 + len as u128 <= size as u128
-}
-
-/// How many pages so many bytes are in.
-pub fn page_count(size: usize) -> usize
-    requires { size < 2 ^ 63 }
-    ensures { result ≡ ram.page_count size }
-{
-    (size + PAGE_SIZE - 1) / PAGE_SIZE
 }
 
 /// Other bytes in the place of as many.

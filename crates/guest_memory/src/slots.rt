@@ -8,14 +8,6 @@ use vm_types::{ActorId, GuestAddr, is_same_actor};
 /// How many harts a machine has at most, and how many slots a page.
 pub const HART_LIMIT: usize = 32;
 
-/// The first slot of the page of an address.
-pub fn first_slot(at: GuestAddr) -> usize
-    requires { RAM_START ≤ at }
-    ensures { result ≡ reserved.first_slot at }
-{
-    HART_LIMIT * ((at - RAM_START) as usize / PAGE_SIZE)
-}
-
 /// The granule that an address is in, by its offset in the page.
 pub fn granule_of(at: GuestAddr) -> u16
     requires { RAM_START ≤ at }

@@ -53,12 +53,17 @@ page_stored p actor at piece =
 -- what an act on a page is answered, and what it leaves
 abbrev pub page_touch : PageValue → ActorId → Op → Reply × PageValue
 page_touch p actor (Read at len) =
-    if nat_le len 64 && is_within p.number (length p.bytes) at len then (Bytes (page_read p at len), p) else (AccessFault, p)
+    if nat_le len 64 && is_within p.number (length p.bytes) at len
+    then (Bytes (page_read p at len), p) else (AccessFault, p)
 page_touch p actor (Write at piece) =
-    if is_within p.number (length p.bytes) at (length piece) then (Done, page_written p actor at piece) else (AccessFault, p)
+    if is_within p.number (length p.bytes) at (length piece)
+    then (Done, page_written p actor at piece) else (AccessFault, p)
 page_touch p actor (Amo at value kind wide) =
     if is_within p.number (length p.bytes) at (width_of wide)
-    then (Word (page_word p at wide), page_written p actor at (word_bytes wide (amo_value kind wide (page_word p at wide) value)))
+    then (
+      Word (page_word p at wide),
+      page_written p actor at (word_bytes wide (amo_value kind wide (page_word p at wide) value)),
+    )
     else (AccessFault, p)
 page_touch p actor (Lr at wide) =
     if is_within p.number (length p.bytes) at (width_of wide)

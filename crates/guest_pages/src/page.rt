@@ -36,7 +36,8 @@ impl Model for Page {
 
     ghost view = { λ p. record { number = p.number; bytes = p.bytes.value; reserved = p.reserved; marked = p.marked } };
 
-    ghost invariant = { λ p. (length p.bytes.value ≡ 4096) × (length p.reserved ≡ 32) × (p.holders ≡ count_by is_some p.reserved) };
+    ghost invariant = { λ p.
+        (length p.bytes.value ≡ 4096) × (length p.reserved ≡ 32) × (p.holders ≡ count_by is_some p.reserved) };
 }
 
 impl Page {

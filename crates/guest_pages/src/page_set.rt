@@ -66,7 +66,8 @@ impl PageSet {
         ensures reply { result ≡ (touch (flat_of self.old) actor op.now).0 }
         ensures memory { flat_of self.new ≡ (touch (flat_of self.old) actor op.now).1 }
         ensures page { (d : PageValue) → result ≡ (page_touch (slice_index_or self.old number d) actor op.now).0 }
-        ensures pages { (d : PageValue) → self.new ≡ slice_set self.old number (page_touch (slice_index_or self.old number d) actor op.now).1 }
+        ensures pages { (d : PageValue) →
+            self.new ≡ slice_set self.old number (page_touch (slice_index_or self.old number d) actor op.now).1 }
         ensures len { length self.new ≡ length self.old }
     {
         self.pages[number].act(actor, op)
@@ -91,7 +92,8 @@ impl PageSet {
     pub fn fill(&mut self, number: usize, bytes: &[u8])
         requires number { number < length self.old }
         requires whole { length bytes.now ≡ 4096 }
-        ensures { (d : PageValue) → self.new ≡ slice_set self.old number (filled bytes.now (slice_index_or self.old number d)) }
+        ensures { (d : PageValue) →
+            self.new ≡ slice_set self.old number (filled bytes.now (slice_index_or self.old number d)) }
     {
         self.pages[number].fill(bytes);
     }
@@ -133,7 +135,8 @@ impl PageSet {
         requires hart { hart < 32 }
         requires inside { offset < 4096 }
         requires granule { offset % 8 ≡ 0 }
-        ensures { (d : PageValue) → self.new ≡ slice_set self.old number (page_holding hart offset (slice_index_or self.old number d)) }
+        ensures { (d : PageValue) →
+            self.new ≡ slice_set self.old number (page_holding hart offset (slice_index_or self.old number d)) }
     {
         self.pages[number].hold(hart, offset);
     }

@@ -1,4 +1,6 @@
 // Acts on pages, what marks them, and a block over the ends of pages.
+mod accesses;
+
 ghost use Rattle.std.specs.Prelude.{◌≤◌, ◌^◌, length};
 
 use crate::{Page, PageSet};

@@ -1,8 +1,7 @@
 // The board as a place.
-ghost use Rattle.std.specs.Prelude.{◌≡◌, ◌++◌, IfOk, length, min, take, drop};
+ghost use Rattle.std.specs.Prelude.{◌≡◌, ◌≤◌, ◌-◌, ◌++◌, IfOk, length, min, take, drop, replicate};
 ghost use Rattle.board_table.specs.Board.{board_act, new_board, put_byte, reset_by};
 
-use circular_buffer::HeapCircularBuffer;
 use std::alloc::{AllocError, Global};
 use std::marker::Model;
 use vm_types::{ActorId, BoardOp, Op, Place, Reply, Shown};
@@ -13,21 +12,24 @@ const RING_SIZE: usize = 4096;
 const INVALID_PARAMETER: u64 = 0xffff_ffff_ffff_fffd;
 
 /// The console's bytes that were not drained, oldest first, and whether the guest is off.
+///
+/// The bytes are the first `held` of the array, so that they can be lent in one piece.
 #[derive(Drop)]
 pub struct Board {
-    console: HeapCircularBuffer<u8>,
+    ring: Box<[u8; 4096]>,
+    held: usize,
     off: bool,
 }
 
 impl Model for Board {
-    ghost use Rattle.std.specs.Prelude.{◌≡◌};
+    ghost use Rattle.std.specs.Prelude.{◌≡◌, ◌≤◌, length, take};
     ghost use Rattle.board_table.specs.Board.{Board as BoardValue};
 
     ghost Value = { BoardValue };
 
-    ghost view = { λ b. record { console = b.console.items; off = b.off } };
+    ghost view = { λ b. record { console = take b.held b.ring.value; off = b.off } };
 
-    ghost invariant = { λ b. b.console.capacity ≡ 4096 };
+    ghost invariant = { λ b. (b.held ≤ 4096) × (length b.ring.value ≡ 4096) };
 }
 
 impl Board {
@@ -35,9 +37,9 @@ impl Board {
     pub fn new(alloc: Global) -> Result<Board, AllocError>
         ensures { IfOk result (λ board. board ≡ new_board) }
     {
-        let console = HeapCircularBuffer::with_capacity(alloc, RING_SIZE)?;
         Ok(Board {
-            console,
+            ring: zeros(alloc)?,
+            held: 0,
             off: false,
         })
     }
@@ -49,13 +51,24 @@ impl Board {
         self.off
     }
 
+    /// What was not drained.
+    pub fn console(&self) -> &[u8]
+        ensures { result.now ≡ self.now.console }
+    {
+        let ring: &[u8; 4096] = &self.ring;
+        &ring[..self.held]
+    }
+
     /// Moves the ring's oldest bytes to the front of `out`, as many as ring and `out` hold, and answers how many.
     pub fn drain(&mut self, out: &mut [u8]) -> usize
         ensures count { result ≡ min (length out.old) (length self.old.console) }
         ensures bytes { out.new ≡ take result self.old.console ++ drop result out.old }
         ensures left { self.new ≡ record self.old { console = drop result self.old.console } }
     {
-        self.console.read_into(out)
+        let ring: &mut [u8; 4096] = &mut self.ring;
+        let count = move_out(ring, self.held, out);
+        self.held -= count;
+        count
     }
 
     fn put_byte(&mut self, byte: u8) -> Reply
@@ -65,9 +78,12 @@ impl Board {
         if self.off {
             return Reply::Done;
         }
-        match self.console.try_push_back(byte) {
-            Ok(()) => Reply::Done,
-            Err(_) => Reply::Full,
+        if self.held < RING_SIZE {
+            self.ring[self.held] = byte;
+            self.held += 1;
+            Reply::Done
+        } else {
+            Reply::Full
         }
     }
 
@@ -94,9 +110,32 @@ impl Board {
             BoardOp::Look => Reply::Shown(Shown::Pending(0)),
             BoardOp::Putchar { byte } => self.put_byte(*byte),
             BoardOp::Reset { kind, reason } => self.reset_by(*kind, *reason),
+            BoardOp::Time | BoardOp::SoftwarePending { .. } => Reply::Word(0),
             _ => Reply::AccessFault,
         }
     }
+}
+
+fn zeros(alloc: Global) -> Result<Box<[u8; 4096]>, AllocError>
+    ensures { IfOk result (λ bytes. bytes.value ≡ replicate 4096 0) }
+{
+    let Ok(bytes) = Box::new(alloc, [0; 4096]) else {
+        return Err(AllocError);
+    };
+    Ok(bytes)
+}
+
+// Moves the oldest of the held bytes to the front of `out`, and those that are left to the front of the ring.
+fn move_out(ring: &mut [u8], held: usize, out: &mut [u8]) -> usize
+    requires { held ≤ length ring.old }
+    ensures count { result ≡ min (length out.old) held }
+    ensures bytes { out.new ≡ take result (take held ring.old) ++ drop result out.old }
+    ensures left { take (held - result) ring.new ≡ drop result (take held ring.old) }
+{
+    let count = out.len().min(held);
+    out[..count].copy_from_slice(&ring[..count]);
+    ring.copy_within(count..held, 0);
+    count
 }
 
 impl Place for Board {

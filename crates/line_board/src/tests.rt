@@ -40,7 +40,22 @@ fn a_full_ring_stores_nothing(rt: HostRuntime) -> Result<(), Fail> {
     for _ in 0..4096 {
         assert_eq!(rt; act(&mut board, BoardOp::Putchar { byte: 65 }), Reply::Done);
     }
-    assert_eq!(rt; act(&mut board, BoardOp::Putchar { byte: 66 }), Reply::Full);
+
+    // it is full, and what is no act of the board changes nothing
+    let read = Op::Read {
+        at: 0x8000_0000,
+        len: 4,
+    };
+    for (op, reply) in [
+        (Op::Board(BoardOp::Putchar { byte: 66 }), Reply::Full),
+        (Op::Board(BoardOp::Look), Reply::Shown(Shown::Pending(0))),
+        (Op::Board(BoardOp::Time), Reply::AccessFault),
+        (read, Reply::AccessFault),
+    ] {
+        assert_eq!(rt; board.act(ActorId::Hart(0), &op), reply);
+        assert_eq!(rt; board.console().len(), 4096);
+        assert!(rt; !board.is_off());
+    }
     let mut drained = [0; 4096];
     assert_eq!(rt; board.drain(&mut drained), 4096);
     assert!(rt; drained.iter().all(|byte| *byte == 65));
@@ -51,7 +66,15 @@ fn a_full_ring_stores_nothing(rt: HostRuntime) -> Result<(), Fail> {
 
 #[test]
 fn what_turns_the_guest_off(rt: HostRuntime) -> Result<(), Fail> {
-    for (kind, reason, is_off) in [(0, 0, true), (2, 1, true), (3, 0, false), (0, 2, false)] {
+    for (kind, reason, is_off) in [
+        (0, 0, true),
+        (1, 0, true),
+        (2, 1, true),
+        (3, 0, false),
+        (0, 2, false),
+        (0x1_0000_0000, 0, false),
+        (0, 0x1_0000_0000, false),
+    ] {
         let mut board = Board::new(rt.alloc())?;
         assert_eq!(rt;
             act(&mut board, BoardOp::Look),

@@ -1,0 +1,40 @@
+-- A world, the guests that it is, and the events that it makes.
+use Rattle.std.specs.Prelude.{ℕ, ◌≡◌, List, length}
+use Rattle.vm_types.specs.declared.entry.Entry.{Entry}
+use Rattle.vm_types.specs.declared.entry.Event.{Event}
+use Rattle.vm_types.specs.declared.op.Op.{Op}
+use Rattle.vm_types.specs.declared.ids.ActorId.{ActorId}
+use Rattle.vm_types.specs.declared.ids.PlaceId.{PlaceId}
+use Rattle.board_table.specs.Board.{Board}
+use Rattle.guest_pages.specs.Pages.{PageValue, flat_of}
+use Rattle.hart_trace.specs.States.{Hart}
+use Rattle.flat_guest.specs.Guest.{Guest}
+use Rattle.flat_guest.specs.Body.{IsGuest}
+use Rattle.flat_guest.specs.Places.{place_of, without_devices}
+use Rattle.flat_guest.specs.Steps.{FlatStep, IsUnstamped, StepsBy, guest_after}
+
+-- pages, the board, and the one hart that there is so far
+pub record WorldValue : Type 0 where
+  pub pages : List PageValue
+  pub board : Board
+  pub hart : Hart
+
+-- the guest's memory is the pages' one memory, its board is the board, and its steps lead to the hart
+abbrev pub IsWorld : WorldValue → Guest → Type 0
+IsWorld w g = IsGuest (flat_of w.pages) w.board w.hart g
+
+-- where an op acts: the pages are all memory, and there is no device
+abbrev pub place_in : WorldValue → Op → PlaceId
+place_in w op = place_of (without_devices (length (flat_of w.pages).bytes)) op
+
+-- the event that this entry tells, of each guest that the world was, to the guest that it is
+pub record MakesEvent (old : WorldValue) (event : Event) (e : Entry) (new : WorldValue) : Type 0 where
+  pub unstamped : IsUnstamped e
+  pub step : (g : Guest) → IsWorld old g → FlatStep g event e (guest_after g e)
+  pub stays : (g : Guest) → IsWorld old g → IsWorld new (guest_after g e)
+
+-- events of one actor, so many of them, or as many as there are until the guest is off
+abbrev pub Runs : WorldValue → ActorId → ℕ → ℕ → WorldValue → Type 0
+Runs old actor count made new =
+    (g : Guest) → IsWorld old g
+    → (es : List Entry) × (h : Guest) × StepsBy g actor count es h × (length es ≡ made) × IsWorld new h

@@ -1,0 +1,15 @@
+//! The world of the machine: guest memory in pages, the board, and the actors; one event of one actor at a time.
+//!
+//! `World::step` makes the flat machine's event (`FlatStep` of `flat_guest/specs/Steps.antt`) of each guest that the
+//! world is, and refuses exactly what isn't one, with nothing changed. `World::run` makes so many events of one actor,
+//! or as many as there are before the guest is off. The one actor so far is hart 0.
+#![tactic(auto)]
+
+mod memory;
+mod step_error;
+#[cfg(test)]
+mod tests;
+mod world;
+
+pub use step_error::{NoActor, NotRam, StepError};
+pub use world::World;

@@ -1,0 +1,68 @@
+// Guest memory as a start makes it, and bytes read out of it.
+ghost use Rattle.std.specs.Prelude.{◌≡◌, ◌≤◌, ◌<◌, ◌+◌, ◌*◌, ◌/◌, ◌%◌, ◌^◌, true, length, take, drop};
+ghost use Rattle.std.specs.Prelude.{IfOk, OnErr, OnOk, is_ok};
+ghost use Rattle.guest_memory.specs.Boot.{boot_memory, image_fits};
+ghost use Rattle.guest_memory.specs.Memory.{read_from};
+ghost use Rattle.guest_memory.specs.Ram.{is_ram};
+ghost use Rattle.guest_pages.specs.Pages.{flat_of};
+
+use crate::step_error::NotRam;
+use guest_memory::{IMAGE_OFFSET, PAGE_SIZE, RAM_START, is_ram};
+use guest_pages::PageSet;
+use std::alloc::{AllocError, Global};
+use vm_types::GuestAddr;
+
+const PAGES_OF_MIB: u32 = 256;
+
+/// So many MiB of zeros with this image in them.
+pub fn boot_pages(alloc: Global, mem_size_mib: u64, image: &[u8]) -> Result<PageSet, AllocError>
+    requires small { mem_size_mib ≤ 2 ^ 20 }
+    requires fits { image_fits mem_size_mib (length image.now) ≡ true }
+    ensures memory { IfOk result (λ pages. flat_of pages ≡ boot_memory mem_size_mib image.now) }
+    ensures few { IfOk result (λ pages. length pages ≤ 2 ^ 28) }
+{
+    let mut pages = PageSet::new(alloc, PAGES_OF_MIB * mem_size_mib as u32)?;
+    pages.load(IMAGE_OFFSET, image);
+    Ok(pages)
+}
+
+/// Reads as many bytes as `out` has, from this address on, over as many pages as they are in.
+pub fn read_pages(pages: &PageSet, at: GuestAddr, out: &mut [u8]) -> Result<(), NotRam>
+    requires { length pages.now ≤ 2 ^ 28 }
+    ensures ram { is_ok result ≡ is_ram (length (flat_of pages.now).bytes) at (length out.old) }
+    ensures ok { OnOk result (out.new ≡ read_from (flat_of pages.now) at (length out.old)) }
+    ensures err { OnErr result (out.new ≡ out.old) }
+{
+    if !is_ram(PAGE_SIZE * pages.len(), at, out.len()) {
+        return Err(NotRam);
+    }
+    copy_out(pages, (at - RAM_START) as usize, out);
+    Ok(())
+}
+
+// The bytes of memory from an offset on, page by page.
+fn copy_out(pages: &PageSet, offset: usize, out: &mut [u8])
+    requires few { length pages.now ≤ 2 ^ 28 }
+    requires whole { length (flat_of pages.now).bytes ≡ 4096 * length pages.now }
+    requires inside { offset + length out.old ≤ 4096 * length pages.now }
+    ensures { out.new ≡ take (length out.old) (drop offset (flat_of pages.now).bytes) }
+{
+    let mut done = 0;
+    while done < out.len() {
+        let from = offset + done;
+        let count = (PAGE_SIZE - from % PAGE_SIZE).min(out.len() - done);
+        out[done..done + count].copy_from_slice(piece(pages, from, count));
+        done += count;
+    }
+}
+
+// These bytes of memory, which are in one page.
+fn piece(pages: &PageSet, from: usize, count: usize) -> &[u8]
+    requires page { from / 4096 < length pages.now }
+    requires inside { from % 4096 + count ≤ 4096 }
+    ensures bytes { result.now ≡ take count (drop from (flat_of pages.now).bytes) }
+    ensures size { length result.now ≡ count }
+{
+    let inner = from % PAGE_SIZE;
+    &pages.page(from / PAGE_SIZE).bytes()[inner..inner + count]
+}

@@ -1,0 +1,232 @@
+// A start, its events one at a time and as a run, and bytes at the ends of pages and of RAM.
+use crate::step_error::refusal_of;
+use crate::{NoActor, NotRam, StepError, World};
+use std::test::Fail;
+use vm_types::{
+    ActorId, AmoKind, BoardOp, Op, OutOp, Piece, PlaceId, Reply, is_same_op, is_same_reply,
+};
+
+const H0: ActorId = ActorId::Hart(0);
+
+// addi a0, x0, 65; addi a7, x0, 1; ecall: putchar; addi a1, x0, 0; lui and addi of a7; ecall: reset
+const PUTS_A_AND_ENDS: [u8; 28] = [
+    0x13, 0x05, 0x10, 0x04, 0x93, 0x08, 0x10, 0x00, 0x73, 0x00, 0x00, 0x00, 0x93, 0x05, 0x00, 0x00,
+    0xb7, 0x58, 0x52, 0x53, 0x93, 0x88, 0x48, 0x35, 0x73, 0x00, 0x00, 0x00,
+];
+
+fn fetch(at: u64) -> Op {
+    Op::Read { at, len: 4 }
+}
+
+fn word(word: u32) -> Reply {
+    Reply::Bytes(Piece::from_slice(&word.to_le_bytes()))
+}
+
+fn clock() -> Op {
+    Op::Out(OutOp::Clock)
+}
+
+// Makes an event of the hart: whether it is a look, and whether it faults.
+fn look_or_fault(world: &mut World) -> (bool, bool) {
+    match world.step(H0, None) {
+        Ok(entry) => (
+            is_same_op(&entry.op, &Op::Board(BoardOp::Look)),
+            is_same_reply(&entry.reply, &Reply::AccessFault),
+        ),
+        Err(_) => (false, false),
+    }
+}
+
+#[test]
+fn each_event_is_one_act_at_its_place(rt: HostRuntime) -> Result<(), Fail> {
+    let mut world = World::start(rt.alloc(), 4, &PUTS_A_AND_ENDS)?;
+    assert_eq!(rt;
+        (world.reg(32), world.reg(10), world.reg(11)),
+        (0x8020_0000, 0, 0x803f_0000)
+    );
+    let put = Op::Board(BoardOp::Putchar { byte: 65 });
+    let reset = Op::Board(BoardOp::Reset { kind: 0, reason: 0 });
+    let is_reset = Reply::Returned { error: 0, value: 0 };
+    let image = PlaceId::Page(512);
+    for (op, place, reply, pc) in [
+        (fetch(0x8020_0000), image, word(0x0410_0513), 0x8020_0004),
+        (fetch(0x8020_0004), image, word(0x0010_0893), 0x8020_0008),
+        (fetch(0x8020_0008), image, word(0x0000_0073), 0x8020_0008),
+        (put, PlaceId::Board, Reply::Done, 0x8020_000c),
+        (fetch(0x8020_000c), image, word(0x0000_0593), 0x8020_0010),
+        (fetch(0x8020_0010), image, word(0x5352_58b7), 0x8020_0014),
+        (fetch(0x8020_0014), image, word(0x3548_8893), 0x8020_0018),
+        (fetch(0x8020_0018), image, word(0x0000_0073), 0x8020_0018),
+        (reset, PlaceId::Board, is_reset, 0x8020_001c),
+    ] {
+        assert!(rt; !world.is_off());
+        assert_eq!(rt; world.want(H0), Some(op.again()));
+        let entry = world.step(H0, None)?;
+        assert_eq!(rt; (entry.actor, entry.place), (H0, place));
+        assert_eq!(rt; entry.op, op);
+        assert_eq!(rt; entry.reply, reply);
+        assert_eq!(rt; world.reg(32), pc);
+    }
+    assert!(rt; world.is_off());
+    let mut out = [0; 2];
+    assert_eq!(rt; world.drain(&mut out), 1);
+    assert_eq!(rt; out, [65, 0]);
+    Ok(())
+}
+
+#[test]
+fn a_run_makes_its_events_or_ends_where_the_guest_is_off(rt: HostRuntime) -> Result<(), Fail> {
+    for (count, made, console, is_off) in [
+        (0, 0, &b""[..], false),
+        (3, 3, &b""[..], false),
+        (4, 4, &b"A"[..], false),
+        (8, 8, &b"A"[..], false),
+        (9, 9, &b"A"[..], true),
+        (1000, 9, &b"A"[..], true),
+    ] {
+        let mut world = World::start(rt.alloc(), 4, &PUTS_A_AND_ENDS)?;
+        assert_eq!(rt; world.run(H0, count), Ok(made), "{count}");
+        assert_eq!(rt; world.console(), console, "{count}");
+        assert_eq!(rt; world.is_off(), is_off, "{count}");
+    }
+    Ok(())
+}
+
+// addi a7, x0, 1; 30 times the ecall of putchar; and then no instruction. A look comes after every 32nd instruction,
+// and the word behind the putchars is illegal: with stvec 0 each event from there on is a fetch that faults, or a look.
+#[test]
+fn looks_and_faults_come_where_they_do(rt: HostRuntime) -> Result<(), Fail> {
+    let mut image = [0; 124];
+    image[..4].copy_from_slice(&[0x93, 0x08, 0x10, 0x00]);
+    for k in 1..31 {
+        image[4 * k] = 0x73;
+    }
+    let mut world = World::start(rt.alloc(), 4, &image)?;
+    let mut looks = 0_u32;
+    let mut faults = 0_u32;
+    for _ in 0..100 {
+        let (is_look, is_fault) = look_or_fault(&mut world);
+        looks = looks.wrapping_add(is_look as u32);
+        faults = faults.wrapping_add(is_fault as u32);
+    }
+    assert_eq!(rt; (world.console().len(), looks, faults), (30, 2, 36));
+    Ok(())
+}
+
+#[test]
+fn what_is_no_event_is_refused(rt: HostRuntime) -> Result<(), Fail> {
+    let mut world = World::start(rt.alloc(), 4, &PUTS_A_AND_ENDS)?;
+    for (actor, reply, why) in [
+        (ActorId::Hart(1), None, StepError::NoActor),
+        (ActorId::Device(0), None, StepError::NoActor),
+        (ActorId::Timer, Some(Reply::Done), StepError::NoActor),
+        (H0, Some(Reply::Done), StepError::NotWaiting),
+    ] {
+        assert_eq!(rt; world.step(actor, reply), Err(why), "{actor:?}");
+        assert_eq!(rt; world.reg(32), 0x8020_0000);
+    }
+    assert_eq!(rt; world.run(ActorId::Hart(1), 1), Err(NoActor));
+    for (op, given, why) in [
+        (clock(), None, Some(StepError::Waits)),
+        (clock(), Some(Reply::Done), Some(StepError::Unfit)),
+        (clock(), Some(Reply::Word(7)), None),
+        (Op::Idle, Some(Reply::Done), Some(StepError::NotWaiting)),
+        (Op::Idle, None, None),
+    ] {
+        assert_eq!(rt; refusal_of(&op, given), why, "{op:?}");
+    }
+    Ok(())
+}
+
+#[test]
+fn bytes_are_in_one_page_or_nowhere(rt: HostRuntime) -> Result<(), Fail> {
+    let world = World::start(rt.alloc(), 4, &PUTS_A_AND_ENDS)?;
+    let amo = Op::Amo {
+        at: 0x8000_0ffc,
+        value: 1,
+        kind: AmoKind::Add,
+        wide: true,
+    };
+    for (op, place) in [
+        (
+            Op::Read {
+                at: 0x8000_0000,
+                len: 1,
+            },
+            PlaceId::Page(0),
+        ),
+        (
+            Op::Read {
+                at: 0x803f_ffff,
+                len: 1,
+            },
+            PlaceId::Page(1023),
+        ),
+        (
+            Op::Read {
+                at: 0x803f_ffff,
+                len: 2,
+            },
+            PlaceId::Out,
+        ),
+        (
+            Op::Read {
+                at: 0x8040_0000,
+                len: 1,
+            },
+            PlaceId::Out,
+        ),
+        (
+            Op::Read {
+                at: 0x7fff_ffff,
+                len: 1,
+            },
+            PlaceId::Out,
+        ),
+        (
+            Op::Read {
+                at: 0x8000_0ffc,
+                len: 4,
+            },
+            PlaceId::Page(0),
+        ),
+        (
+            Op::Read {
+                at: 0x8000_0ffd,
+                len: 4,
+            },
+            PlaceId::Out,
+        ),
+        (amo, PlaceId::Out),
+        (Op::Board(BoardOp::Look), PlaceId::Board),
+        (Op::Idle, PlaceId::Out),
+    ] {
+        assert_eq!(rt; world.route(&op), place, "{op:?}");
+    }
+    Ok(())
+}
+
+#[test]
+fn memory_is_read_over_the_ends_of_pages_and_not_past_its_own(rt: HostRuntime) -> Result<(), Fail> {
+    let mut image = [0; 4100];
+    image[4094..].copy_from_slice(&[1, 2, 3, 4, 5, 6]);
+    let world = World::start(rt.alloc(), 4, &image)?;
+    for (at, read, bytes) in [
+        (0x8020_0ffd, Ok(()), [0, 1, 2, 3]),
+        (0x8020_0fff, Ok(()), [2, 3, 4, 5]),
+        (0x8020_1001, Ok(()), [4, 5, 6, 0]),
+        (0x8000_0000, Ok(()), [0, 0, 0, 0]),
+        (0x803f_fffc, Ok(()), [0, 0, 0, 0]),
+        (0x803f_fffd, Err(NotRam), [9, 9, 9, 9]),
+        (0x7fff_ffff, Err(NotRam), [9, 9, 9, 9]),
+        (0xffff_ffff_ffff_ffff, Err(NotRam), [9, 9, 9, 9]),
+    ] {
+        let mut out = [9; 4];
+        assert_eq!(rt; world.read_memory(at, &mut out), read, "{at}");
+        assert_eq!(rt; out, bytes, "{at}");
+    }
+    let mut whole = [9; 4100];
+    assert_eq!(rt; world.read_memory(0x8020_0000, &mut whole), Ok(()));
+    assert!(rt; whole == image);
+    Ok(())
+}
