@@ -8,7 +8,7 @@ use Rattle.vm_types.specs.declared.reply.Reply.{Reply}
 use Rattle.vm_types.specs.declared.entry.Step.{Step}
 use Rattle.vm_types.specs.declared.entry.Entry.{Entry}
 use Rattle.vm_types.specs.declared.entry.Event.{Event}
-use Rattle.hart_rows.specs.declared.regs.Regs.{Regs}
+use Rattle.rv_supervisor.specs.declared.regs.Regs.{Regs}
 use Rattle.hart_trace.proofs.Traces.{one_op}
 use Rattle.flat_guest.specs.Guest.{Guest, Wants, WantsFrom, layout_of}
 use Rattle.flat_guest.specs.Places.{place_of}

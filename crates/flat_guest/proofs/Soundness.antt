@@ -13,7 +13,7 @@ use Rattle.vm_types.specs.declared.entry.Entry.{Entry}
 use Rattle.vm_types.specs.declared.entry.Event.{Event}
 use Rattle.vm_types.specs.Fits.{fits}
 use Rattle.vm_types.specs.Ids.{same_actor}
-use Rattle.hart_rows.specs.declared.regs.Regs.{Regs}
+use Rattle.rv_supervisor.specs.declared.regs.Regs.{Regs}
 use Rattle.hart_trace.specs.Traces.{IsPrefix, Continues}
 use Rattle.hart_trace.specs.States.{fresh}
 use Rattle.hart_trace.proofs.Traces.{leads_start, hart_prefix, some_hart, some_op, any_reply, wants_only}
@@ -23,7 +23,8 @@ use Rattle.flat_guest.specs.Sound.{IsSound}
 use Rattle.flat_guest.specs.Start.{started}
 use Rattle.flat_guest.specs.Steps.{IsOnBefore, IsUnstamped, StepsBy, Answers, AnswersOut, FlatStep, guest_after}
 use Rattle.flat_guest.specs.Body.{reply_at, out_reply}
-use Rattle.flat_guest.proofs.HartOps.{is_hart_op, hart_op}
+use Rattle.hart_trace.specs.Asks.{is_hart_op}
+use Rattle.hart_trace.proofs.Asks.{hart_asks}
 use Rattle.flat_guest.proofs.Answering.{answers_at, answer_fits}
 
 pub sound_start : (mib : ℕ) (image : List ℕ) → IsSound (started mib image)
@@ -34,7 +35,7 @@ want_op : (start : Regs) (steps : List Step) (op : Op) → IsPrefix start steps 
     → is_hart_op op ≡ true
 want_op start steps op prefix continues =
     let hart = some_hart start steps prefix in
-    subst (λ (o : Op). is_hart_op o ≡ true) (sym (wants_only start steps hart.0 op hart.1 continues)) (hart_op hart.0)
+    subst (λ (o : Op). is_hart_op o ≡ true) (sym (wants_only start steps hart.0 op hart.1 continues)) (hart_asks hart.0)
 
 out_replied : (op : Op) (given : Option Reply) (reply : Reply) → is_hart_op op ≡ true → AnswersOut op given reply
     → reply ≡ out_reply op
@@ -103,7 +104,7 @@ found_or_past : (starts : List Regs) (k : ℕ) → slice_get starts k ≡ None
 found_or_past starts k none (inl found) there = let some = found.2 in cc
 found_or_past starts k none (inr past) there = let long = past.0 in omega arith
 
-missing : (starts : List Regs) (k : ℕ) → slice_get starts k ≡ None → nat_lt k (length starts) ≡ true → ⊥
+pub missing : (starts : List Regs) (k : ℕ) → slice_get starts k ≡ None → nat_lt k (length starts) ≡ true → ⊥
 missing starts k none there =
     found_or_past starts k none (slice_get_cases starts k).1 (ltb-true k (length starts) there)
 

@@ -10,7 +10,7 @@ use Rattle.vm_types.specs.declared.entry.Entry.{Entry}
 use Rattle.vm_types.specs.declared.entry.Event.{Event}
 use Rattle.guest_memory.specs.Memory as memory
 use Rattle.board_table.specs.Board as board
-use Rattle.hart_rows.specs.declared.regs.Regs.{Regs}
+use Rattle.rv_supervisor.specs.declared.regs.Regs.{Regs}
 use Rattle.hart_trace.specs.States.{Hart, LeadsTo, hart_wants, hart_next}
 use Rattle.hart_trace.proofs.Leads.{leads_next}
 use Rattle.hart_trace.proofs.Traces.{hart_continues}
@@ -19,7 +19,7 @@ use Rattle.flat_guest.specs.Places.{place_of, without_devices}
 use Rattle.flat_guest.specs.Steps.{Answers, FlatStep, IsOnBefore, IsUnstamped, Makes, StepsBy, guest_after}
 use Rattle.flat_guest.specs.Steps.{memory_after, board_after}
 use Rattle.flat_guest.specs.Body.{IsGuest, reply_at}
-use Rattle.flat_guest.proofs.HartOps.{hart_op}
+use Rattle.hart_trace.proofs.Asks.{hart_asks}
 use Rattle.flat_guest.proofs.Answering.{answers_at, answer_fits}
 
 abbrev pub hart_event : Event
@@ -51,7 +51,7 @@ module _ (m : memory.Memory) (b : board.Board) (hart : Hart) (g : Guest) (is : I
       (sym is.board_is)
       (subst (λ (n : memory.Memory). Answers placed g (HartId 0) wanted None
       (reply_at placed n g.board (HartId 0) wanted)) (sym is.memory_is)
-      (answers_at g (HartId 0) (without_devices (length m.bytes)) wanted (hart_op hart)))
+      (answers_at g (HartId 0) (without_devices (length m.bytes)) wanted (hart_asks hart)))
 
   step_here : FlatStep g hart_event (entry_of placed wanted replied) (guest_after g (entry_of placed wanted replied))
   step_here = record {
@@ -69,7 +69,7 @@ module _ (m : memory.Memory) (b : board.Board) (hart : Hart) (g : Guest) (is : I
         h.0,
         h.1,
         leads_next h.0 (g.steps (HartId 0)) hart replied h.2
-            (answer_fits m b (HartId 0) (without_devices (length m.bytes)) wanted (hart_op hart)),
+            (answer_fits m b (HartId 0) (without_devices (length m.bytes)) wanted (hart_asks hart)),
       )
 
   stays_here : IsGuest (memory_after placed m (HartId 0) wanted) (board_after placed b (HartId 0) wanted)

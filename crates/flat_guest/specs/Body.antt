@@ -7,7 +7,7 @@ use Rattle.vm_types.specs.declared.op.Op.{Op}
 use Rattle.vm_types.specs.declared.reply.Reply.{Reply}
 use Rattle.guest_memory.specs.Memory as memory
 use Rattle.board_table.specs.Board as board
-use Rattle.hart_rows.specs.declared.regs.Regs.{Regs}
+use Rattle.rv_supervisor.specs.declared.regs.Regs.{Regs}
 use Rattle.hart_trace.specs.States.{Hart, LeadsTo}
 use Rattle.flat_guest.specs.Guest.{Guest}
 

@@ -1,7 +1,7 @@
 -- A guest that is never stuck: the steps of each hart are the first of a trace.
 use Rattle.std.specs.Prelude.{ℕ, ◌≡◌, Some, slice_get}
 use Rattle.vm_types.specs.declared.ids.ActorId.TheVariants.{Hart}
-use Rattle.hart_rows.specs.declared.regs.Regs.{Regs}
+use Rattle.rv_supervisor.specs.declared.regs.Regs.{Regs}
 use Rattle.hart_trace.specs.Traces.{IsPrefix}
 use Rattle.flat_guest.specs.Guest.{Guest}
 

@@ -2,7 +2,7 @@
 use Rattle.std.specs.Prelude.{ℕ, List, [], ◌∷◌}
 use Rattle.guest_memory.specs.Boot.{boot_memory, image_start, tree_start}
 use Rattle.board_table.specs.Board.{new_board}
-use Rattle.hart_rows.specs.Start.{start_regs}
+use Rattle.rv_supervisor.specs.Start.{start_regs}
 use Rattle.flat_guest.specs.Guest.{Guest}
 
 -- One hart, with this much memory and this image in it. It starts at the image, its number 0 in a0 and the device

@@ -1,3 +1,2 @@
-pub mod Does
-pub mod Opcodes
+pub mod Ends
 pub mod Walks

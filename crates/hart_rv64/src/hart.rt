@@ -1,21 +1,21 @@
 // The monitor's hart.
-ghost use Rattle.std.specs.Prelude.{◌≡◌, ◌≤◌, ◌%◌, true};
-ghost use Rattle.vm_types.specs.declared.reply.Reply.{Reply};
+ghost use Rattle.std.specs.Prelude.{◌≡◌, ◌≤◌, ◌%◌, true, false, MatchOption};
+ghost use Rattle.vm_types.specs.declared.op.Op.TheVariants.{Read};
 ghost use Rattle.vm_types.specs.Fits.{fits};
-ghost use Rattle.hart_rows.specs.Doing.{asked, ended};
-ghost use Rattle.hart_rows.specs.Rows.{does};
-ghost use Rattle.hart_trace.specs.States.{op_or_idle};
-ghost use Rattle.hart_rv64.specs.Asked.{op_of};
+ghost use Rattle.rv_doing.specs.Doing.{asked, ended};
+ghost use Rattle.rv_doing.specs.HartOps.{op_of, reply_of};
+ghost use Rattle.guest_memory.specs.Ram.{ram_start};
+ghost use Rattle.hart_trace.specs.Traces.{executes};
 
-use crate::alu::{addi, lui};
-use crate::decode::decode;
-use crate::hart_op::HartOp;
-use crate::sbi::{Call, call_asks, call_ends, call_of, refuse};
-use crate::trap::{fetch_faults, illegal_word};
-use hart_rows::{Kind, Regs, Turn, get, start_regs};
-use hart_trace::{instruction_word, look};
+use crate::begun::Begun;
+use guest_memory::RAM_START;
+use hart_trace::look;
+use rv_doing::{HartOp, HartReply, effect_of_word, perform, wanted};
+use rv_rows::numbers::low_word;
+use rv_rows::{Exception, Register};
+use rv_supervisor::{Regs, Turn, start_regs, trap};
 use std::marker::Model;
-use vm_types::{Actor, Op, Reply};
+use vm_types::{Actor, BoardOp, Op, Reply};
 
 /// A hart: its registers before an instruction, and the instruction's word from its fetch to the reply
 /// that ends it. Contracts see it as the hart of the definition, `Hart` of `hart_trace/specs/States.antt`.
@@ -26,31 +26,34 @@ use vm_types::{Actor, Op, Reply};
 #[derive(Drop)]
 pub struct Hart {
     regs: Regs,
-    begun: Option<u32>,
+    begun: Option<Begun>,
 }
 
 impl Model for Hart {
     ghost use Rattle.hart_trace.specs.States.{Hart as HartState};
+    ghost use Rattle.hart_rv64.specs.Begun.{IsKept, word_in};
 
     ghost Value = { HartState };
 
-    ghost view = { λ h. record { regs = h.regs; begun = h.begun } };
+    ghost view = { λ h. record { regs = h.regs; begun = word_in h.begun } };
+
+    ghost invariant = { λ h. IsKept h.begun h.regs };
 }
 
-// The access that a begun word asks for.
-#[tactic(auto, using(crate::proofs::Does::does_is))]
-fn access(word: u32, regs: &Regs) -> HartOp
-    ensures { op_of result ≡ op_or_idle (asked (does word regs.now)) }
+/// The reply in few bytes, where it fits the op.
+fn fitting(op: HartOp, reply: &Reply) -> Option<HartReply>
+    ensures { MatchOption result
+        (fits (op_of op) reply.now ≡ false)
+        (λ small. (reply_of small ≡ reply.now) × (fits (op_of op) (reply_of small) ≡ true)) }
 {
-    match decode(word) {
-        Some(Kind::Ecall) => call_asks(call_of(regs), regs),
-        _ => HartOp::Idle,
-    }
+    let small = HartReply::of(reply)?;
+    if op.is_fit(&small) { Some(small) } else { None }
 }
 
 impl Hart {
-    ghost use Rattle.hart_trace.specs.States.{fresh, hart_wants, hart_next, hart_stepped, begins_by};
-    ghost use Rattle.hart_rv64.specs.Start.{start_of, register_of};
+    ghost use Rattle.hart_trace.specs.States.{fresh, hart_wants, hart_next, hart_stepped, hart_fetched, begins_by};
+    ghost use Rattle.hart_trace.specs.Shown.{register_of};
+    ghost use Rattle.hart_rv64.specs.Start.{start_of};
 
     /// A hart that begins at `pc`, a multiple of 4, with these arguments in a0 and a1 and 0 in every other
     /// register.
@@ -76,83 +79,93 @@ impl Hart {
         if n == 32 {
             self.regs.pc
         } else {
-            get(&self.regs, n)
+            self.regs.get(Register::from_number(n as u32))
         }
     }
 
+    /// What the hart wants, in few bytes.
     #[inline]
-    fn asks(&self) -> HartOp
+    pub fn asks(&self) -> HartOp
         ensures { op_of result ≡ hart_wants self.now }
     {
         match self.begun {
             None => match self.regs.turn {
                 Turn::Fetch => HartOp::Fetch { pc: self.regs.pc },
-                Turn::Look => HartOp::Look,
-                Turn::Idle => HartOp::Idle,
+                Turn::Look | Turn::WakeLook => HartOp::Board(BoardOp::Look),
+                Turn::Idle | Turn::WakeIdle => HartOp::Idle,
             },
-            Some(word) => access(word, &self.regs),
+            Some(begun) => match wanted(begun.effect, begun.word, &self.regs) {
+                Some(op) => op,
+                None => HartOp::Idle,
+            },
         }
     }
 
-    // Does what the fetched word says, or begins it where it asks for an access. It is out of line so that
-    // there is one copy of it.
+    // Does what the fetched word says, or begins it where it asks for an access. The word is decoded here alone. It
+    // is out of line so that there is one copy of it.
     #[inline(never)]
-    #[tactic(auto, using(crate::proofs::Does::does_is))]
+    #[tactic(auto, using(crate::proofs::Ends::ends_alike))]
     fn execute(&mut self, word: u32)
-        requires { self.old.begun ≡ None }
-        ensures { (reply : Reply) → self.new ≡ begins_by (asked (does word self.old.regs)) word self.old.regs reply }
+        requires between { self.old.begun ≡ None }
+        requires ram { ram_start ≤ self.old.regs.pc }
+        ensures { (reply : Reply) → self.new ≡ begins_by (asked (executes word self.old.regs)) word self.old.regs reply }
     {
-        match decode(word) {
-            Some(Kind::Lui) => lui(&mut self.regs, word),
-            Some(Kind::Addi) => addi(&mut self.regs, word),
-            Some(Kind::Ecall) => match call_of(&self.regs) {
-                Call::Putchar | Call::Reset => self.begun = Some(word),
-                Call::Unsupported => refuse(&mut self.regs),
-            },
-            None => illegal_word(&mut self.regs, word),
+        let effect = effect_of_word(word, &self.regs);
+        match wanted(effect, word, &self.regs) {
+            Some(_) => self.begun = Some(Begun { effect, word }),
+            None => perform(effect, word, &mut self.regs, HartReply::Done),
         }
     }
 
-    // Ends a begun word, by the reply to its access.
-    #[tactic(auto, using(crate::proofs::Does::does_is))]
-    fn complete(&mut self, word: u32, reply: &Reply)
-        ensures { self.new ≡ fresh (ended (does word self.old.regs) reply.now) }
+    // Begins the next instruction by the reply to its fetch, which fits.
+    #[tactic(auto, using(crate::proofs::Ends::fetched_word))]
+    fn fetched(&mut self, reply: HartReply)
+        requires between { self.old.begun ≡ None }
+        requires fit { fits (Read self.old.regs.pc 4) (reply_of reply) ≡ true }
+        ensures { self.new ≡ hart_fetched self.old.regs (reply_of reply) }
     {
-        match decode(word) {
-            Some(Kind::Lui) => lui(&mut self.regs, word),
-            Some(Kind::Addi) => addi(&mut self.regs, word),
-            Some(Kind::Ecall) => call_ends(call_of(&self.regs), &mut self.regs, reply),
-            None => illegal_word(&mut self.regs, word),
+        match reply {
+            HartReply::Bytes { word, .. } if self.regs.pc >= RAM_START => {
+                self.execute(low_word(word));
+            }
+            _ => {
+                let pc = self.regs.pc;
+                trap(&mut self.regs, Exception::InstructionFault, pc);
+            }
         }
-        self.begun = None;
     }
 
     // Goes on by a reply that fits.
-    fn step(&mut self, reply: &Reply)
-        requires { fits (hart_wants self.old) reply.now ≡ true }
-        ensures { self.new ≡ hart_stepped self.old reply.now }
+    fn step(&mut self, reply: HartReply)
+        requires { fits (hart_wants self.old) (reply_of reply) ≡ true }
+        ensures { self.new ≡ hart_stepped self.old (reply_of reply) }
     {
         match self.begun {
             None => match self.regs.turn {
-                Turn::Fetch => match reply {
-                    Reply::Bytes(piece) => self.execute(instruction_word(piece.as_slice())),
-                    _ => fetch_faults(&mut self.regs),
-                },
-                Turn::Look => look(&mut self.regs, reply),
+                Turn::Fetch => self.fetched(reply),
+                Turn::Look | Turn::WakeLook => {
+                    if let HartReply::Shown(shown) = reply {
+                        look(&mut self.regs, shown);
+                    }
+                }
                 Turn::Idle => self.regs.turn = Turn::Look,
+                Turn::WakeIdle => self.regs.turn = Turn::WakeLook,
             },
-            Some(word) => {
-                if !matches!(reply, Reply::Full) {
-                    self.complete(word, reply);
+            Some(begun) => {
+                if !matches!(reply, HartReply::Full) {
+                    self.begun = None;
+                    perform(begun.effect, begun.word, &mut self.regs, reply);
                 }
             }
         }
     }
 
-    fn takes(&mut self, reply: &Reply)
-        ensures { self.new ≡ hart_next self.old reply.now }
+    /// The hart goes on by a reply in few bytes; one that doesn't fit what it wants leaves it.
+    #[inline]
+    pub fn takes(&mut self, reply: HartReply)
+        ensures { self.new ≡ hart_next self.old (reply_of reply) }
     {
-        if self.asks().is_fit(reply) {
+        if self.asks().is_fit(&reply) {
             self.step(reply);
         }
     }
@@ -176,7 +189,10 @@ impl Actor for Hart {
     }
 
     fn give(&mut self, reply: Reply) {
-        self.takes(&reply);
+        let op = self.asks();
+        if let Some(small) = fitting(op, &reply) {
+            self.step(small);
+        }
     }
 }
 

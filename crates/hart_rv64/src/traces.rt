@@ -5,7 +5,7 @@ ghost use Rattle.vm_types.specs.Fits.{Fits};
 ghost use Rattle.hart_trace.specs.Traces.{Continues};
 
 use crate::hart::Hart;
-use hart_rows::Regs;
+use rv_supervisor::Regs;
 use vm_types::{Actor, Op, Step, is_fit, is_same_op};
 
 // Whether the step is this op, with a reply that fits.

@@ -1,46 +1,91 @@
--- What a hart may want: no act on a host object or on a port, and no read but of an instruction word.
-use Rattle.std.proofs.Common.{◌≡◌, ℕ, refl, Bool, true, false, if◌then◌else◌, Option, Some, None, ◌==◌, ◌&&◌}
+-- What a hart asks for is an access, an act on the board or a wait.
+use Rattle.std.proofs.Common.{◌≡◌, ℕ, nat_lt, refl, Bool, true, false, if◌then◌else◌, Option, Some, None, ◌==◌, ◌&&◌}
 use Rattle.vm_types.specs.declared.op.Op.{Op}
-use Rattle.hart_rows.specs.declared.regs.Regs.{Regs}
-use Rattle.hart_rows.specs.declared.regs.Turn.{Turn}
-use Rattle.hart_rows.specs.declared.kind.Kind.{Kind}
-use Rattle.hart_rows.specs.declared.kind.Kind.TheVariants.{Lui, Addi, Ecall}
-use Rattle.hart_rows.specs.Registers.{reg}
-use Rattle.hart_rows.specs.Doing.{Ends, asked}
-use Rattle.hart_rows.specs.Rows.{kind_of, does_by, does}
-use Rattle.hart_rows.specs.Sbi.{a6, a7, legacy_putchar, system_reset, putchar, reset}
-use Rattle.hart_trace.specs.Traces.{opening, is_host_op, is_port_op}
+use Rattle.rv_rows.specs.declared.register.Register.{Register}
+use Rattle.rv_rows.specs.declared.csr.CsrAccess.{CsrAccess}
+use Rattle.rv_rows.specs.declared.effect.Effect.{Effect}
+use Rattle.rv_rows.specs.declared.effect.Effect.TheVariants.{Put, Jump, Branch, Nothing, Load, Store, LoadReserved, StoreConditional, Amo, Csr, Trap, Ecall, Sret, Wfi}
+use Rattle.rv_rows.specs.declared.instr.Instr.{Instr}
+use Rattle.rv_rows.specs.Table.{instr_of}
+use Rattle.rv_supervisor.specs.declared.regs.Regs.{Regs}
+use Rattle.rv_supervisor.specs.declared.regs.Turn.{Turn}
+use Rattle.rv_supervisor.specs.declared.csr.Csr.TheVariants as csr
+use Rattle.rv_supervisor.specs.declared.csr.Csr as csr_type
+use Rattle.rv_supervisor.specs.Registers.{reg, holds}
+use Rattle.rv_supervisor.specs.Csrs.{csr_of, is_read}
+use Rattle.rv_doing.specs.Doing.{Doing, Ends, asked}
+use Rattle.rv_doing.specs.Does.{does, does_by, performed, csr_access, effect_at}
+use Rattle.rv_doing.specs.Sbi.{a6, a7, legacy_putchar, system_reset}
+use Rattle.guest_memory.specs.Ram.{ram_start}
+use Rattle.hart_trace.specs.Traces.{opening, fetch_fault}
+use Rattle.hart_trace.specs.Asks.{is_host_op, is_port_op, is_hart_op}
 use Rattle.hart_trace.specs.States.{Hart, op_or_idle, wants_by, hart_wants}
 
--- what a hart may want
-abbrev pub IsHartAct : Op → Type 0
-IsHartAct op = (is_host_op op ≡ false) × (is_port_op op ≡ false) × ((at len : ℕ) → op ≡ Op.Read at len → len ≡ 4)
+abbrev IsHartDoing : Doing → Type 0
+IsHartDoing d = is_hart_op (op_or_idle (asked d)) ≡ true
 
-opening_is : (turn : Turn) (r : Regs) → IsHartAct (opening turn r)
-opening_is Turn.Fetch r = (refl, refl, λ at len is. cc)
-opening_is Turn.Look r = (refl, refl, λ at len is. cc)
-opening_is Turn.Idle r = (refl, refl, λ at len is. cc)
+opens : (turn : Turn) (r : Regs) → is_hart_op (opening turn r) ≡ true
+opens Turn.Fetch r = refl
+opens Turn.Look r = refl
+opens Turn.WakeLook r = refl
+opens Turn.Idle r = refl
+opens Turn.WakeIdle r = refl
 
-call_is : (r after : Regs) (is_putchar is_reset : Bool)
-    → IsHartAct (op_or_idle (asked (if is_putchar then putchar r else if is_reset then reset r else Ends after)))
-call_is r after true is_reset = (refl, refl, λ at len is. cc)
-call_is r after false true = (refl, refl, λ at len is. cc)
-call_is r after false false = (refl, refl, λ at len is. cc)
+either : (b : Bool) (x y : Doing) → IsHartDoing x → IsHartDoing y → IsHartDoing (if b then x else y)
+either true x y first second = first
+either false x y first second = second
 
-does_is : (kind : Option Kind) (word : ℕ) (r : Regs) → IsHartAct (op_or_idle (asked (does_by kind word r)))
-does_is None word r = (refl, refl, λ at len is. cc)
-does_is (Some Lui) word r = (refl, refl, λ at len is. cc)
-does_is (Some Addi) word r = (refl, refl, λ at len is. cc)
-does_is (Some Ecall) word r =
-    call_is r _ (reg r a7 == legacy_putchar) ((reg r a7 == system_reset) && (reg r a6 == 0))
+accesses : (it : Option csr_type.Csr) (rd : Register) (access : CsrAccess) (word : ℕ) (r : Regs)
+    → IsHartDoing (csr_access it rd access word r)
+accesses None rd access word r = refl
+accesses (Some (csr.Hart it)) rd access word r = refl
+accesses (Some csr.Sip) rd access word r = refl
+accesses (Some csr.Time) rd access word r = either (is_read access) _ _ refl refl
 
-begun_is : (word : ℕ) (r : Regs) → IsHartAct (op_or_idle (asked (does word r)))
+performs : (effect : Effect) (word : ℕ) (r : Regs) → IsHartDoing (performed effect word r)
+performs (Put rd value) word r = refl
+performs (Jump rd link target) word r = refl
+performs (Branch target) word r = refl
+performs Nothing word r = refl
+performs (Load kind rd address) word r = refl
+performs (Store width address value) word r = refl
+performs (LoadReserved wide rd address) word r = refl
+performs (StoreConditional wide rd address value) word r = either (holds r address) _ _ refl refl
+performs (Amo kind wide rd address value) word r = refl
+performs (Csr rd number access) word r = accesses (csr_of number) rd access word r
+performs (Trap exception value) word r = refl
+performs Ecall word r =
+    either (reg r a7 == legacy_putchar) _ _ refl
+    (either ((reg r a7 == system_reset) && (reg r a6 == 0)) _ _ refl refl)
+performs Sret word r = refl
+performs Wfi word r = refl
+
+by_instr : (instr : Option Instr) (word : ℕ) (r : Regs) → IsHartDoing (does_by instr word r)
+by_instr None word r = refl
+by_instr (Some instr) word r = performs (effect_at instr r) word r
+
+does_op : (word : ℕ) (r : Regs) → IsHartDoing (does word r)
 unfolding does
-begun_is word r = does_is (kind_of word) word r
+does_op word r = by_instr (instr_of word) word r
 
-wants_is : (begun : Option ℕ) (r : Regs) → IsHartAct (wants_by begun r)
-wants_is None r = opening_is r.turn r
-wants_is (Some word) r = begun_is word r
+by_begun : (begun : Option ℕ) (r : Regs) → is_hart_op (wants_by begun r) ≡ true
+by_begun None r = opens r.turn r
+by_begun (Some word) r =
+    either (nat_lt r.pc ram_start) (Ends (fetch_fault r)) (does word r) refl (does_op word r)
 
-pub hart_acts : (h : Hart) → IsHartAct (hart_wants h)
-hart_acts h = wants_is h.begun h.regs
+pub hart_asks : (h : Hart) → is_hart_op (hart_wants h) ≡ true
+hart_asks h = by_begun h.begun h.regs
+
+no_host : (op : Op) → is_hart_op op ≡ true → is_host_op op ≡ false
+no_host (Op.Out act) is = cc
+no_host op is = refl
+
+no_port : (op : Op) → is_hart_op op ≡ true → is_port_op op ≡ false
+no_port (Op.Port port act) is = cc
+no_port op is = refl
+
+pub never_host : (h : Hart) → is_host_op (hart_wants h) ≡ false
+never_host h = no_host (hart_wants h) (hart_asks h)
+
+pub never_port : (h : Hart) → is_port_op (hart_wants h) ≡ false
+never_port h = no_port (hart_wants h) (hart_asks h)

@@ -1,7 +1,7 @@
 -- The first step of what may still come has the op that is wanted, and what is after it may come after the reply.
 use Rattle.std.proofs.Common.{◌≡◌, refl, sym, ap, subst, ◌∙◌, Bool, true, false, if◌then◌else◌, List, [], ◌∷◌, ◌++◌}
 use Rattle.std.proofs.Common.{MatchBool}
-use Rattle.hart_rows.specs.declared.regs.Regs.{Regs}
+use Rattle.rv_supervisor.specs.declared.regs.Regs.{Regs}
 use Rattle.vm_types.specs.declared.op.Op.{Op}
 use Rattle.vm_types.specs.declared.op.BoardOp.{BoardOp}
 use Rattle.vm_types.specs.declared.op.BoardOp.TheVariants as board
@@ -13,7 +13,7 @@ use Rattle.vm_types.specs.declared.op.OutOp.TheVariants as out
 use Rattle.vm_types.specs.declared.reply.Reply.{Reply}
 use Rattle.vm_types.specs.declared.reply.Shown.TheVariants.{Stopped}
 use Rattle.vm_types.specs.declared.entry.Step.{Step}
-use Rattle.hart_rows.specs.Doing.{Doing, Ends, Asks}
+use Rattle.rv_doing.specs.Doing.{Doing, Ends, Asks}
 use Rattle.vm_types.specs.Fits.{board_fits, out_fits, port_fits, Fits}
 use Rattle.hart_trace.specs.Traces.{Completes, Group, Lead, joined, is_full}
 use Rattle.hart_trace.proofs.Rest.{Rest, doing_wants, doing_next}

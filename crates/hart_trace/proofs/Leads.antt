@@ -4,18 +4,18 @@ use Rattle.std.proofs.Common.{◌≡◌, ℕ, refl, sym, ap, subst, ◌∙◌, B
 use Rattle.std.proofs.Common.{length, Option, Some, None, append_assoc, MatchBool, ◌==◌}
 use Rattle.std.proofs.lemmas.Bool.{eqb-true}
 use Rattle.std.proofs.lemmas.List.{append-nil}
-use Rattle.hart_rows.specs.declared.regs.Regs.{Regs}
-use Rattle.hart_rows.specs.declared.regs.Turn.{Turn}
+use Rattle.rv_supervisor.specs.declared.regs.Regs.{Regs}
+use Rattle.rv_supervisor.specs.declared.regs.Turn.{Turn}
 use Rattle.vm_types.specs.declared.op.Op.{Op}
 use Rattle.vm_types.specs.declared.op.BoardOp.TheVariants as board
 use Rattle.vm_types.specs.declared.reply.Reply.{Reply}
 use Rattle.vm_types.specs.declared.entry.Step.{Step}
-use Rattle.hart_rows.specs.Doing.{Doing, Ends, Asks, asked, ended}
-use Rattle.hart_rows.specs.Rows.{does}
-use Rattle.hart_rows.specs.Registers.{trapped}
-use Rattle.vm_types.specs.Fits.{fits, Fits}
-use Rattle.hart_trace.specs.Traces.{word_of, Completes, Group, Lead, joined, looked, opening, going, is_full, HartTrace}
+use Rattle.rv_doing.specs.Doing.{Doing, Ends, Asks, asked, ended}
+use Rattle.hart_trace.specs.Traces.{executes}
 use Rattle.hart_trace.specs.Traces.{fetch_fault}
+use Rattle.le_fields.specs.Fields.{little_endian}
+use Rattle.vm_types.specs.Fits.{fits, Fits}
+use Rattle.hart_trace.specs.Traces.{Completes, Group, Lead, joined, looked, opening, going, is_full, HartTrace}
 use Rattle.hart_trace.proofs.Rest.{Rest}
 use Rattle.hart_trace.specs.States.{Hart, fresh, wants_by, hart_wants, stepped_by, begins_by, hart_fetched}
 use Rattle.hart_trace.specs.States.{hart_stepped, hart_next, turned_by, op_or_idle, Waits, Begins, BegunBy, LeadsTo}
@@ -31,7 +31,7 @@ joined-append (g ∷ gs) hs = ap (λ xs. g ++ xs) (joined-append gs hs) ∙ sym 
 -- what a hart is inside
 abbrev pub doing_by : Option ℕ → Regs → Doing
 doing_by None r = Ends r
-doing_by (Some w) r = does w r
+doing_by (Some w) r = executes w r
 
 does_waits : (d : Doing) (op : Op) (ws first : List Step) (after : Regs) → asked d ≡ Some op → Waits op ws
     → Completes d first after → Completes d (ws ++ first) after
@@ -66,16 +66,16 @@ group_by r e es after t is m =
 
 -- the steps of an instruction begun, and then the rest of it, are a group
 begun_group : (r : Regs) (w : ℕ) (part first : List Step) (after : Regs) → Begins r w part
-    → Completes (does w r) first after → Group r (part ++ first) after
+    → Completes (executes w r) first after → Group r (part ++ first) after
 begun_group r w [] first after begun acts = absurd begun
 begun_group r w (e ∷ ws) first after begun acts =
     let piece = begun.1 in
     let fetch : Step = record { op = Op.Read r.pc 4; reply = Reply.Bytes piece } in
-    let rest : Completes (does w r) (ws ++ first) after = does_waits (does w r) begun.5 ws first after begun.6 begun.7
+    let rest : Completes (executes w r) (ws ++ first) after = does_waits (executes w r) begun.5 ws first after begun.6 begun.7
     acts in
     subst (λ (x : Step). Group r (x ∷ (ws ++ first)) after) (sym begun.2)
     (group_by r fetch (ws ++ first) after Turn.Fetch begun.0
-    (refl, ap (λ n. n == 4) begun.3, subst (λ n. Completes (does n r) (ws ++ first) after) (sym begun.4) rest))
+    (refl, ap (λ n. n == 4) begun.3, subst (λ n. Completes (executes n r) (ws ++ first) after) (sym begun.4) rest))
 
 on_by : (start : Regs) (es : List Step) (b : Option ℕ) (r : Regs) (groups : List (List Step)) (part : List Step)
     → Lead start groups r → BegunBy b r part → joined groups ++ part ≡ es → (more : List Step) (end : Regs)
@@ -119,26 +119,26 @@ group_more start r after es g groups part e lead whole group =
 module _ (start r : Regs) (es : List Step) (groups : List (List Step)) (lead : Lead start groups r) where
   -- a word that was fetched begins, or is done
   fetched_word : joined groups ++ [] ≡ es → r.turn ≡ Turn.Fetch → (piece : List ℕ) → length piece ≡ 4 → (o : Option Op)
-      → asked (does (word_of piece) r) ≡ o
+      → asked (executes (little_endian piece) r) ≡ o
       → LeadsTo start (es ++ record { op = Op.Read r.pc 4; reply = Reply.Bytes piece } ∷ [])
-      (begins_by o (word_of piece) r (Reply.Bytes piece))
+      (begins_by o (little_endian piece) r (Reply.Bytes piece))
   fetched_word whole idle piece four (Some op) is =
       let e : Step = record { op = Op.Read r.pc 4; reply = Reply.Bytes piece } in
       (groups, e ∷ [], lead, (idle, piece, refl, four, refl, op, is, tt), rw (← whole) (simp append-nil))
   fetched_word whole idle piece four None is =
       let e : Step = record { op = Op.Read r.pc 4; reply = Reply.Bytes piece } in
-      group_more start r (ended (does (word_of piece) r) (Reply.Bytes piece)) es [] groups [] e lead whole
-      (group_by r e [] (ended (does (word_of piece) r) (Reply.Bytes piece)) Turn.Fetch idle
-      (refl, ap (λ n. n == 4) four, does_none (does (word_of piece) r) (Reply.Bytes piece) is))
+      group_more start r (ended (executes (little_endian piece) r) (Reply.Bytes piece)) es [] groups [] e lead whole
+      (group_by r e [] (ended (executes (little_endian piece) r) (Reply.Bytes piece)) Turn.Fetch idle
+      (refl, ap (λ n. n == 4) four, does_none (executes (little_endian piece) r) (Reply.Bytes piece) is))
 
   after_fetch : joined groups ++ [] ≡ es → r.turn ≡ Turn.Fetch → (reply : Reply) → fits (Op.Read r.pc 4) reply ≡ true
       → LeadsTo start (es ++ record { op = Op.Read r.pc 4; reply = reply } ∷ []) (hart_fetched r reply)
   after_fetch whole idle (Reply.Bytes piece) fit =
-      fetched_word whole idle piece (eqb-true (length piece) 4 fit) (asked (does (word_of piece) r)) refl
+      fetched_word whole idle piece (eqb-true (length piece) 4 fit) (asked (executes (little_endian piece) r)) refl
   after_fetch whole idle Reply.AccessFault fit =
       let e : Step = record { op = Op.Read r.pc 4; reply = Reply.AccessFault } in
-      group_more start r (trapped fetch_fault r.pc r) es [] groups [] e lead whole
-      (group_by r e [] (trapped fetch_fault r.pc r) Turn.Fetch idle (refl, refl, (refl, refl)))
+      group_more start r (fetch_fault r) es [] groups [] e lead whole
+      (group_by r e [] (fetch_fault r) Turn.Fetch idle (refl, refl, (refl, refl)))
   after_fetch whole idle reply fit = cc
 
   after_none : joined groups ++ [] ≡ es → (t : Turn) → r.turn ≡ t → (reply : Reply) → fits (opening t r) reply ≡ true
@@ -148,11 +148,20 @@ module _ (start r : Regs) (es : List Step) (groups : List (List Step)) (lead : L
       let e : Step = record { op = Op.Board board.Look; reply = reply } in
       group_more start r (looked reply r) es [] groups [] e lead whole
       (group_by r e [] (looked reply r) Turn.Look is (refl, fit, (refl, refl)))
+  after_none whole Turn.WakeLook is reply fit =
+      let e : Step = record { op = Op.Board board.Look; reply = reply } in
+      group_more start r (looked reply r) es [] groups [] e lead whole
+      (group_by r e [] (looked reply r) Turn.WakeLook is (refl, fit, (refl, refl)))
   after_none whole Turn.Idle is reply fit =
       let e : Step = record { op = Op.Idle; reply = reply } in
       let after : Regs = record r { turn = Turn.Look } in
       group_more start r after es [] groups [] e lead whole
       (group_by r e [] after Turn.Idle is (refl, fit, (refl, refl)))
+  after_none whole Turn.WakeIdle is reply fit =
+      let e : Step = record { op = Op.Idle; reply = reply } in
+      let after : Regs = record r { turn = Turn.WakeLook } in
+      group_more start r after es [] groups [] e lead whole
+      (group_by r e [] after Turn.WakeIdle is (refl, fit, (refl, refl)))
 
 full_is : (reply : Reply) → is_full reply ≡ true → reply ≡ Reply.Full
 full_is Reply.Full is = refl
@@ -163,13 +172,13 @@ waits_more : (op : Op) (ws : List Step) → Waits op ws → fits op Reply.Full �
 waits_more op [] wait fit = (refl, fit, tt)
 waits_more op (e ∷ ws) wait fit = (wait.0, wait.1, waits_more op ws wait.2 fit)
 
-pub wanted_by : (r : Regs) (w : ℕ) (part : List Step) → Begins r w part → (op : Op) × (asked (does w r) ≡ Some op)
+pub wanted_by : (r : Regs) (w : ℕ) (part : List Step) → Begins r w part → (op : Op) × (asked (executes w r) ≡ Some op)
 wanted_by r w [] begun = absurd begun
 wanted_by r w (e ∷ ws) begun = (begun.5, begun.6)
 
 begins_more : (r : Regs) (w : ℕ) (part : List Step) → Begins r w part
-    → fits (op_or_idle (asked (does w r))) Reply.Full ≡ true
-    → Begins r w (part ++ record { op = op_or_idle (asked (does w r)); reply = Reply.Full } ∷ [])
+    → fits (op_or_idle (asked (executes w r))) Reply.Full ≡ true
+    → Begins r w (part ++ record { op = op_or_idle (asked (executes w r)); reply = Reply.Full } ∷ [])
 begins_more r w [] begun fit = absurd begun
 begins_more r w (e ∷ ws) begun fit =
     let same = ap op_or_idle begun.6 in (
@@ -186,31 +195,31 @@ begins_more r w (e ∷ ws) begun fit =
 
 module _ (start r : Regs) (es : List Step) (groups : List (List Step)) (lead : Lead start groups r) where
   after_begun : (w : ℕ) (part : List Step) → Begins r w part → joined groups ++ part ≡ es → (reply : Reply)
-      → fits (op_or_idle (asked (does w r))) reply ≡ true → (b : Bool) → is_full reply ≡ b
-      → LeadsTo start (es ++ record { op = op_or_idle (asked (does w r)); reply = reply } ∷ [])
-      (if b then record { regs = r; begun = Some w } else fresh (ended (does w r) reply))
+      → fits (op_or_idle (asked (executes w r))) reply ≡ true → (b : Bool) → is_full reply ≡ b
+      → LeadsTo start (es ++ record { op = op_or_idle (asked (executes w r)); reply = reply } ∷ [])
+      (if b then record { regs = r; begun = Some w } else fresh (ended (executes w r) reply))
   after_begun w part begun whole reply fit true full =
       let is : Reply.Full ≡ reply = sym (full_is reply full) in
-      let e : Step = record { op = op_or_idle (asked (does w r)); reply = Reply.Full } in
-      subst (λ (x : Reply). LeadsTo start (es ++ record { op = op_or_idle (asked (does w r)); reply = x } ∷ [])
+      let e : Step = record { op = op_or_idle (asked (executes w r)); reply = Reply.Full } in
+      subst (λ (x : Reply). LeadsTo start (es ++ record { op = op_or_idle (asked (executes w r)); reply = x } ∷ [])
       (record { regs = r; begun = Some w })) is (
         groups,
         part ++ e ∷ [],
         lead,
         begins_more r w part begun
-            (subst (λ (x : Reply). fits (op_or_idle (asked (does w r))) x ≡ true) (sym is) fit),
+            (subst (λ (x : Reply). fits (op_or_idle (asked (executes w r))) x ≡ true) (sym is) fit),
         rw (← whole)
             (sym (append_assoc (joined groups) part (e ∷ []))),
       )
   after_begun w part begun whole reply fit false full =
       let o = wanted_by r w part begun in
       let same = ap op_or_idle o.1 in
-      let e : Step = record { op = op_or_idle (asked (does w r)); reply = reply } in
-      let acts = subst (λ (x : Op). Completes (does w r) (record { op = x; reply = reply } ∷ [])
-      (ended (does w r) reply)) (sym same)
-      (does_last (does w r) o.0 reply o.1 (subst (λ (x : Op). fits x reply ≡ true) same fit) full) in
-      group_more start r (ended (does w r) reply) es [] groups part e lead whole
-      (begun_group r w part (e ∷ []) (ended (does w r) reply) begun acts)
+      let e : Step = record { op = op_or_idle (asked (executes w r)); reply = reply } in
+      let acts = subst (λ (x : Op). Completes (executes w r) (record { op = x; reply = reply } ∷ [])
+      (ended (executes w r) reply)) (sym same)
+      (does_last (executes w r) o.0 reply o.1 (subst (λ (x : Op). fits x reply ≡ true) same fit) full) in
+      group_more start r (ended (executes w r) reply) es [] groups part e lead whole
+      (begun_group r w part (e ∷ []) (ended (executes w r) reply) begun acts)
 
   after_by : (b : Option ℕ) (part : List Step) → BegunBy b r part → joined groups ++ part ≡ es → (reply : Reply)
       → fits (wants_by b r) reply ≡ true

@@ -1,17 +1,17 @@
 -- Steps lead to one hart at most: the one that walking along them gives.
 use Rattle.std.proofs.Common.{◌≡◌, ℕ, refl, sym, ap, subst, ◌∙◌, Bool, true, false, if◌then◌else◌, MatchBool, List, []}
 use Rattle.std.proofs.Common.{◌∷◌, ◌++◌, Option, Some, None, ◌==◌}
-use Rattle.hart_rows.specs.declared.regs.Regs.{Regs}
-use Rattle.hart_rows.specs.declared.regs.Turn.{Turn}
+use Rattle.rv_supervisor.specs.declared.regs.Regs.{Regs}
+use Rattle.rv_supervisor.specs.declared.regs.Turn.{Turn}
 use Rattle.vm_types.specs.declared.op.Op.{Op}
 use Rattle.vm_types.specs.declared.reply.Reply.{Reply}
 use Rattle.vm_types.specs.declared.entry.Step.{Step}
-use Rattle.hart_rows.specs.Doing.{Doing, Ends, Asks, asked, ended}
-use Rattle.hart_rows.specs.Rows.{does}
-use Rattle.hart_rows.specs.Registers.{trapped}
-use Rattle.vm_types.specs.Fits.{fits, Fits}
-use Rattle.hart_trace.specs.Traces.{word_of, Completes, Group, Lead, joined, looked, opening, going, is_full}
+use Rattle.rv_doing.specs.Doing.{Doing, Ends, Asks, asked, ended}
+use Rattle.hart_trace.specs.Traces.{executes}
 use Rattle.hart_trace.specs.Traces.{fetch_fault}
+use Rattle.le_fields.specs.Fields.{little_endian}
+use Rattle.vm_types.specs.Fits.{fits, Fits}
+use Rattle.hart_trace.specs.Traces.{Completes, Group, Lead, joined, looked, opening, going, is_full}
 use Rattle.hart_trace.specs.States.{Hart, fresh, hart_wants, hart_stepped, hart_next, turned_by, begins_by, op_or_idle}
 use Rattle.hart_trace.specs.States.{Waits, Begins, BegunBy, LeadsTo}
 
@@ -49,22 +49,22 @@ ends_of (Asks op ends) es after reply is acts = cc
 fresh_end : (r after : Regs) (es : List Step) → es ≡ [] → r ≡ after → walk (fresh r) es ≡ fresh after
 fresh_end r after es none is = rw none (ap fresh is)
 
-module _ (r : Regs) (w : ℕ) (op : Op) (is : asked (does w r) ≡ Some op) where
-  begun_fit : (reply : Reply) → Fits op reply → fits (op_or_idle (asked (does w r))) reply ≡ true
+module _ (r : Regs) (w : ℕ) (op : Op) (is : asked (executes w r) ≡ Some op) where
+  begun_fit : (reply : Reply) → Fits op reply → fits (op_or_idle (asked (executes w r))) reply ≡ true
   begun_fit reply fit = subst (λ (o : Option Op). fits (op_or_idle o) reply ≡ true) (sym is) fit
 
   walk_last : (e : Step) (es : List Step) (after : Regs) (b : Bool)
-      → (Completes (does w r) es after → walk (record { regs = r; begun = Some w }) es ≡ fresh after)
-      → MatchBool b (Completes (does w r) es after) ((es ≡ []) × (ended (does w r) e.reply ≡ after))
-      → walk (if b then record { regs = r; begun = Some w } else fresh (ended (does w r) e.reply)) es ≡ fresh after
+      → (Completes (executes w r) es after → walk (record { regs = r; begun = Some w }) es ≡ fresh after)
+      → MatchBool b (Completes (executes w r) es after) ((es ≡ []) × (ended (executes w r) e.reply ≡ after))
+      → walk (if b then record { regs = r; begun = Some w } else fresh (ended (executes w r) e.reply)) es ≡ fresh after
   walk_last e es after true on m = on m
-  walk_last e es after false on m = fresh_end (ended (does w r) e.reply) after es m.0 m.1
+  walk_last e es after false on m = fresh_end (ended (executes w r) e.reply) after es m.0 m.1
 
-  walk_does : (es : List Step) (after : Regs) → Completes (does w r) es after
+  walk_does : (es : List Step) (after : Regs) → Completes (executes w r) es after
       → walk (record { regs = r; begun = Some w }) es ≡ fresh after
-  walk_does [] after acts = absurd (parts_of (does w r) op [] after is acts)
+  walk_does [] after acts = absurd (parts_of (executes w r) op [] after is acts)
   walk_does (e ∷ es) after acts =
-      let p = parts_of (does w r) op (e ∷ es) after is acts in
+      let p = parts_of (executes w r) op (e ∷ es) after is acts in
       walk_fit (record { regs = r; begun = Some w }) (fresh after) e es (begun_fit e.reply p.0)
       (walk_last e es after (is_full e.reply) (walk_does es after) p.1)
 
@@ -79,21 +79,23 @@ module _ (r : Regs) (w : ℕ) (op : Op) (is : asked (does w r) ≡ Some op) wher
       (record { op = op; reply = Reply.Full }) es (begun_fit Reply.Full wait.1) (walk_waits es wait.2))
 
 module _ (r : Regs) where
-  walk_word : (piece : List ℕ) (es : List Step) (after : Regs) (o : Option Op) → asked (does (word_of piece) r) ≡ o
-      → Completes (does (word_of piece) r) es after
-      → walk (begins_by o (word_of piece) r (Reply.Bytes piece)) es ≡ fresh after
-  walk_word piece es after (Some op) is acts = walk_does r (word_of piece) op is es after acts
+  walk_word : (piece : List ℕ) (es : List Step) (after : Regs) (o : Option Op) → asked (executes (little_endian piece) r) ≡ o
+      → Completes (executes (little_endian piece) r) es after
+      → walk (begins_by o (little_endian piece) r (Reply.Bytes piece)) es ≡ fresh after
+  walk_word piece es after (Some op) is acts = walk_does r (little_endian piece) op is es after acts
   walk_word piece es after None is acts =
-      let e = ends_of (does (word_of piece) r) es after (Reply.Bytes piece) is acts in
-      fresh_end (ended (does (word_of piece) r) (Reply.Bytes piece)) after es e.0 e.1
+      let e = ends_of (executes (little_endian piece) r) es after (Reply.Bytes piece) is acts in
+      fresh_end (ended (executes (little_endian piece) r) (Reply.Bytes piece)) after es e.0 e.1
 
   walk_turn : (t : Turn) (reply : Reply) (es : List Step) (after : Regs) → Completes (going t r reply) es after
       → walk (turned_by t r reply) es ≡ fresh after
   walk_turn Turn.Look reply es after acts = fresh_end (looked reply r) after es acts.0 acts.1
+  walk_turn Turn.WakeLook reply es after acts = fresh_end (looked reply r) after es acts.0 acts.1
   walk_turn Turn.Idle reply es after acts = fresh_end (record r { turn = Turn.Look }) after es acts.0 acts.1
-  walk_turn Turn.Fetch (Reply.Bytes piece) es after acts = walk_word piece es after (asked (does (word_of piece) r))
+  walk_turn Turn.WakeIdle reply es after acts = fresh_end (record r { turn = Turn.WakeLook }) after es acts.0 acts.1
+  walk_turn Turn.Fetch (Reply.Bytes piece) es after acts = walk_word piece es after (asked (executes (little_endian piece) r))
       refl acts
-  walk_turn Turn.Fetch reply es after acts = fresh_end (trapped fetch_fault r.pc r) after es acts.0 acts.1
+  walk_turn Turn.Fetch reply es after acts = fresh_end (fetch_fault r) after es acts.0 acts.1
 
   walk_group : (g : List Step) (after : Regs) → Group r g after → walk (fresh r) g ≡ fresh after
   walk_group [] after group = absurd group
@@ -108,9 +110,9 @@ module _ (r : Regs) where
       let fetch : Step = record { op = Op.Read r.pc 4; reply = Reply.Bytes piece } in
       let fit : fits (opening r.turn r) (Reply.Bytes piece) ≡ true = subst
       (λ (t : Turn). fits (opening t r) (Reply.Bytes piece) ≡ true) (sym begun.0) (ap (λ n. n == 4) begun.3) in
-      let next : begins_by (asked (does (word_of piece) r)) (word_of piece) r (Reply.Bytes piece) ≡ record
+      let next : begins_by (asked (executes (little_endian piece) r)) (little_endian piece) r (Reply.Bytes piece) ≡ record
       { regs = r; begun = Some w } =
-      subst (λ (n : ℕ). begins_by (asked (does n r)) n r (Reply.Bytes piece) ≡ record { regs = r; begun = Some w })
+      subst (λ (n : ℕ). begins_by (asked (executes n r)) n r (Reply.Bytes piece) ≡ record { regs = r; begun = Some w })
       (sym begun.4) (ap (λ (o : Option Op). begins_by o w r (Reply.Bytes piece)) begun.6) in
       let turned : turned_by r.turn r (Reply.Bytes piece) ≡ record { regs = r; begun = Some w } = ap
       (λ (t : Turn). turned_by t r (Reply.Bytes piece)) begun.0 ∙ next in

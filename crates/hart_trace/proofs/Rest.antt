@@ -3,8 +3,8 @@ use Rattle.std.specs.Prelude.{◌≡◌, List, ◌++◌, if◌then◌else◌}
 use Rattle.vm_types.specs.declared.op.Op.{Op}
 use Rattle.vm_types.specs.declared.reply.Reply.{Reply}
 use Rattle.vm_types.specs.declared.entry.Step.{Step}
-use Rattle.hart_rows.specs.declared.regs.Regs.{Regs}
-use Rattle.hart_rows.specs.Doing.{Doing, Ends, Asks}
+use Rattle.rv_supervisor.specs.declared.regs.Regs.{Regs}
+use Rattle.rv_doing.specs.Doing.{Doing, Ends, Asks}
 use Rattle.hart_trace.specs.Traces.{Completes, Lead, joined, opening, going, is_full}
 
 -- the rest of what is begun, and then whole groups

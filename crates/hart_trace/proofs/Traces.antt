@@ -2,12 +2,12 @@
 use Rattle.std.proofs.Common.{◌≡◌, ℕ, refl, sym, subst, true, List, [], ◌∷◌, ◌++◌, Option, Some, None}
 use Rattle.std.proofs.Common.{append_assoc}
 use Rattle.std.proofs.lemmas.List.{append-nil}
-use Rattle.hart_rows.specs.declared.regs.Regs.{Regs}
+use Rattle.rv_supervisor.specs.declared.regs.Regs.{Regs}
 use Rattle.vm_types.specs.declared.op.Op.{Op}
 use Rattle.vm_types.specs.declared.reply.Reply.{Reply}
 use Rattle.vm_types.specs.declared.entry.Step.{Step}
-use Rattle.hart_rows.specs.Doing.{Doing, Ends, Asks, asked}
-use Rattle.hart_rows.specs.Rows.{does}
+use Rattle.rv_doing.specs.Doing.{Doing, Ends, Asks, asked}
+use Rattle.hart_trace.specs.Traces.{executes}
 use Rattle.vm_types.specs.Fits.{fits}
 use Rattle.hart_trace.specs.Traces.{HartTrace, IsPrefix, Continues}
 use Rattle.hart_trace.proofs.Rest.{Rest, doing_wants, doing_next}
@@ -56,7 +56,7 @@ wants_is : (b : Option ℕ) (r : Regs) (part : List Step) → BegunBy b r part �
 wants_is None r part begun = refl
 wants_is (Some w) r part begun =
     let o = wanted_by r w part begun in
-    wants_asked (does w r) o.0 o.1
+    wants_asked (executes w r) o.0 o.1
 
 -- what the hart wants continues the steps that lead to it
 pub hart_continues : (start : Regs) (es : List Step) (h : Hart) → LeadsTo start es h → Continues start es (hart_wants h)

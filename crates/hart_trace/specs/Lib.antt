@@ -1,2 +1,5 @@
+pub mod Asks
+pub mod Looks
+pub mod Shown
 pub mod States
 pub mod Traces

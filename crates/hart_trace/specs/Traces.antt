@@ -1,60 +1,55 @@
 -- A hart's trace: whole groups of steps, each leading from the registers before it to those after it.
-use Rattle.std.specs.Prelude.{ℕ, ◌≡◌, ◌+◌, ◌*◌, ◌/◌, ◌^◌, Bool, true, false, MatchBool}
-use Rattle.std.specs.Prelude.{List, [], ◌∷◌, ◌++◌, slice_index}
+use Rattle.std.specs.Prelude.{ℕ, ◌≡◌, nat_lt, if◌then◌else◌, Bool, true, false, MatchBool, List, [], ◌∷◌, ◌++◌}
 use Rattle.vm_types.specs.declared.op.Op.{Op}
 use Rattle.vm_types.specs.declared.op.BoardOp.TheVariants as board
 use Rattle.vm_types.specs.declared.reply.Reply.{Reply}
-use Rattle.vm_types.specs.declared.reply.Shown.{Shown}
-use Rattle.vm_types.specs.declared.reply.Shown.TheVariants.{Pending, Stopped, Start}
 use Rattle.vm_types.specs.declared.entry.Step.{Step}
 use Rattle.vm_types.specs.Fits.{Fits}
-use Rattle.hart_rows.specs.declared.regs.Regs.{Regs}
-use Rattle.hart_rows.specs.declared.regs.Turn.{Turn}
-use Rattle.hart_rows.specs.Registers.{with_reg, trapped}
-use Rattle.hart_rows.specs.Doing.{Doing, Ends, Asks}
-use Rattle.hart_rows.specs.Rows.{does}
-use Rattle.hart_rows.specs.Sbi.{a0, a1}
-
--- the instruction word that four bytes are, low byte first (unprivileged manual, "Base
--- Instruction-Length Encoding")
-abbrev pub word_of : List ℕ → ℕ
-word_of bytes =
-    slice_index bytes 0 + 2 ^ 8 * slice_index bytes 1 + 2 ^ 16 * slice_index bytes 2 + 2 ^ 24 * slice_index bytes 3
-
--- what a look makes of a hart. No interrupt is enabled, since nothing can write sie. A stopped hart
--- waits. One that is to start begins at the pc asked for, less its low two bits, with its number in a0
--- and the word in a1 (SBI, "Hart State Management Extension").
-abbrev pub looked_at : Shown → Regs → Regs
-looked_at (Pending bits) r = record r { turn = Turn.Fetch }
-looked_at Stopped r = record r { turn = Turn.Idle }
-looked_at (Start pc number word) r =
-    record (with_reg (with_reg r a0 number) a1 word) { pc = pc / 4 * 4; turn = Turn.Fetch }
+use Rattle.le_fields.specs.Fields.{little_endian}
+use Rattle.guest_memory.specs.Ram.{ram_start}
+use Rattle.rv_rows.specs.declared.exception.Exception.TheVariants.{InstructionFault}
+use Rattle.rv_supervisor.specs.declared.regs.Regs.{Regs}
+use Rattle.rv_supervisor.specs.declared.regs.Turn.{Turn}
+use Rattle.rv_supervisor.specs.Ends.{after_trap}
+use Rattle.rv_doing.specs.Doing.{Doing, Ends, Asks}
+use Rattle.rv_doing.specs.Does.{does}
+use Rattle.hart_trace.specs.Looks.{looked_at}
 
 -- no other reply fits a look
 abbrev pub looked : Reply → Regs → Regs
 looked (Reply.Shown shown) r = looked_at shown r
 looked reply r = r
 
--- exception cause 1: the fetch faults, and stval is its address
-abbrev pub fetch_fault : ℕ
-fetch_fault = 1
+-- a fetch that faults: stval is its address
+abbrev pub fetch_fault : Regs → Regs
+fetch_fault r = after_trap InstructionFault r.pc r
 
--- what the reply to a fetch makes the hart do
+-- What a word that was fetched does. There are no instructions below RAM: at a port or the board the fetch faults,
+-- whatever it read.
+abbrev pub executes : ℕ → Regs → Doing
+executes word r = if nat_lt r.pc ram_start then Ends (fetch_fault r) else does word r
+
+-- what the reply to a fetch makes the hart do: the instruction word has its low byte first (unprivileged manual, "Base
+-- Instruction-Length Encoding")
 abbrev pub fetched : Reply → Regs → Doing
-fetched (Reply.Bytes piece) r = does (word_of piece) r
-fetched reply r = Ends (trapped fetch_fault r.pc r)
+fetched (Reply.Bytes piece) r = executes (little_endian piece) r
+fetched reply r = Ends (fetch_fault r)
 
 -- the op that begins a group: a fetch, a look where one is due, or a wait
 abbrev pub opening : Turn → Regs → Op
 opening Turn.Fetch r = Op.Read r.pc 4
 opening Turn.Look r = Op.Board board.Look
+opening Turn.WakeLook r = Op.Board board.Look
 opening Turn.Idle r = Op.Idle
+opening Turn.WakeIdle r = Op.Idle
 
--- what its reply makes the hart do; a wait is followed by a look
+-- what its reply makes the hart do; a wait is followed by its look
 abbrev pub going : Turn → Regs → Reply → Doing
 going Turn.Fetch r reply = fetched reply r
 going Turn.Look r reply = Ends (looked reply r)
+going Turn.WakeLook r reply = Ends (looked reply r)
 going Turn.Idle r reply = Ends (record r { turn = Turn.Look })
+going Turn.WakeIdle r reply = Ends (record r { turn = Turn.WakeLook })
 
 abbrev pub is_full : Reply → Bool
 is_full Reply.Full = true
@@ -96,13 +91,3 @@ abbrev pub Continues : Regs → List Step → Op → Type 0
 Continues start steps op =
     (reply : Reply) × (more : List Step) × (end : Regs)
     × HartTrace start (steps ++ record { op = op; reply = reply } ∷ more) end
-
--- an act on a host object
-abbrev pub is_host_op : Op → Bool
-is_host_op (Op.Out act) = true
-is_host_op op = false
-
--- an act on a device's port
-abbrev pub is_port_op : Op → Bool
-is_port_op (Op.Port port act) = true
-is_port_op op = false

@@ -1,12 +1,13 @@
 // What holds of every trace and every hart.
-ghost use Rattle.std.specs.Prelude.{◌≡◌, ℕ, true, false, List, [], ◌∷◌, ◌++◌};
+ghost use Rattle.std.specs.Prelude.{◌≡◌, ◌%◌, ℕ, true, false, List, [], ◌∷◌, ◌++◌};
 ghost use Rattle.vm_types.specs.declared.entry.Step.{Step};
 ghost use Rattle.vm_types.specs.declared.op.Op.{Op};
-ghost use Rattle.vm_types.specs.declared.op.Op.TheVariants.{Read};
 ghost use Rattle.vm_types.specs.declared.reply.Reply.{Reply};
 ghost use Rattle.vm_types.specs.Fits.{fits};
-ghost use Rattle.hart_rows.specs.declared.regs.Regs.{Regs};
-ghost use Rattle.hart_trace.specs.Traces.{Continues, IsPrefix, is_host_op, is_port_op};
+ghost use Rattle.rv_supervisor.specs.declared.regs.Regs.{Regs};
+ghost use Rattle.rv_supervisor.specs.Start.{start_regs};
+ghost use Rattle.hart_trace.specs.Asks.{IsAligned, IsNaturalOp, is_hart_op, is_host_op, is_port_op};
+ghost use Rattle.hart_trace.specs.Traces.{Continues, IsPrefix};
 ghost use Rattle.hart_trace.specs.States.{Hart, LeadsTo, fresh, hart_next, hart_wants};
 
 /// Traces: one op continues steps that go on to a trace, and with every fitting reply to it they go on.
@@ -38,9 +39,13 @@ pub fn hart_follows()
         LeadsTo start (steps ++ record { op = hart_wants hart; reply = reply } ∷ []) (hart_next hart reply) }
 {}
 
-/// Harts want no act on a host object and none on a port, and read whole instruction words.
+/// Harts want no act on a host object and none on a port. From a pc at a multiple of 4 on, as at every start, all their
+/// accesses are of 1, 2, 4 or 8 bytes at a multiple of their number, and so inside one granule and one page.
 pub fn hart_asks()
     ensures never_out { (h : Hart) → is_host_op (hart_wants h) ≡ false }
     ensures never_port { (h : Hart) → is_port_op (hart_wants h) ≡ false }
-    ensures reads { (h : Hart) (at len : ℕ) → hart_wants h ≡ Read at len → len ≡ 4 }
+    ensures asks { (h : Hart) → is_hart_op (hart_wants h) ≡ true }
+    ensures natural { (h : Hart) → IsAligned h.regs → IsNaturalOp (hart_wants h) }
+    ensures starts { (pc first second : ℕ) → pc % 4 ≡ 0 → IsAligned (start_regs pc first second) }
+    ensures aligned { (h : Hart) (reply : Reply) → IsAligned h.regs → IsAligned (hart_next h reply).regs }
 {}

@@ -8,8 +8,6 @@ mod base;
 mod branches;
 mod extension_m;
 mod loads;
-#[cfg(test)]
-mod tests;
 
 pub use base::alu;
 pub use branches::is_taken;

@@ -12,6 +12,3 @@ mod groups;
 
 pub use dispatch::decode;
 pub use rv_rows::{AluOp, AmoKind, Condition, CsrOp, Instr, LoadKind, MulDivOp, Register, Width};
-
-#[cfg(test)]
-mod tests;

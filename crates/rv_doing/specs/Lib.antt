@@ -1,4 +1,5 @@
 pub mod Does
 pub mod Doing
+pub mod HartOps
 pub mod Replies
 pub mod Sbi

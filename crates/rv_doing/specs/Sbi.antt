@@ -5,19 +5,13 @@ use Rattle.vm_types.specs.declared.op.BoardOp.TheVariants.{Putchar, Reset}
 use Rattle.vm_types.specs.declared.reply.Reply.{Reply}
 use Rattle.vm_types.specs.declared.reply.Reply.TheVariants.{Returned}
 use Rattle.rv_rows.specs.declared.register.Register.{Register}
-use Rattle.rv_rows.specs.declared.register.Register.TheVariants.{X10, X11, X16, X17}
+use Rattle.rv_rows.specs.declared.register.Register.TheVariants.{X16, X17}
 use Rattle.rv_supervisor.specs.declared.regs.Regs.{Regs}
-use Rattle.rv_supervisor.specs.Registers.{reg, with_reg}
+use Rattle.rv_supervisor.specs.Registers.{reg, with_reg, a0, a1}
 use Rattle.rv_supervisor.specs.Ends.{after_instruction}
 use Rattle.rv_doing.specs.Doing.{Doing, Ends, Asks}
 
--- the registers of a call's arguments and results (SBI, "Binary Encoding")
-abbrev pub a0 : Register
-a0 = X10
-
-abbrev pub a1 : Register
-a1 = X11
-
+-- the registers that say which call it is (SBI, "Binary Encoding")
 abbrev pub a6 : Register
 a6 = X16
 

@@ -3,13 +3,16 @@ ghost use Rattle.std.specs.Prelude.{◌≡◌};
 ghost use Rattle.rv_supervisor.specs.Csrs.{csr_of};
 ghost use Rattle.rv_doing.specs.Doing.{asked, ended};
 ghost use Rattle.rv_doing.specs.Does.{csr_access};
+ghost use Rattle.rv_doing.specs.HartOps.{op_in, reply_of};
 
+use crate::hart_op::HartOp;
+use crate::hart_reply::HartReply;
 use crate::replies::{end_sip, end_time, end_with};
 use rv_rows::{CsrAccess, Exception, Register};
 use rv_supervisor::{
     Csr, Regs, access_csr, csr_of, csr_value, is_read, software_cleared, software_set, trap,
 };
-use vm_types::{BoardOp, Op, Reply};
+use vm_types::BoardOp;
 
 /// The act on the board that a CSR instruction wants, if any.
 pub fn csr_wanted(
@@ -18,17 +21,17 @@ pub fn csr_wanted(
     access: CsrAccess,
     word: u32,
     regs: &Regs,
-) -> Option<Op>
-    ensures { result ≡ asked (csr_access (csr_of number) rd access word regs.now) }
+) -> Option<HartOp>
+    ensures { op_in result ≡ asked (csr_access (csr_of number) rd access word regs.now) }
 {
     match csr_of(number) {
-        Some(Csr::Sip) => Some(Op::Board(BoardOp::SoftwarePending {
+        Some(Csr::Sip) => Some(HartOp::Board(BoardOp::SoftwarePending {
             clear: software_cleared(access),
             set: software_set(access),
         })),
         Some(Csr::Time) => {
             if is_read(access) {
-                Some(Op::Board(BoardOp::Time))
+                Some(HartOp::Board(BoardOp::Time))
             } else {
                 None
             }
@@ -44,9 +47,9 @@ pub fn csr_performed(
     access: CsrAccess,
     word: u32,
     regs: &mut Regs,
-    reply: Reply,
+    reply: HartReply,
 )
-    ensures { regs.new ≡ ended (csr_access (csr_of number) rd access word regs.old) reply }
+    ensures { regs.new ≡ ended (csr_access (csr_of number) rd access word regs.old) (reply_of reply) }
 {
     match csr_of(number) {
         Some(Csr::Hart(csr)) => {

@@ -2,16 +2,17 @@
 ghost use Rattle.std.specs.Prelude.{◌≡◌};
 ghost use Rattle.rv_doing.specs.Doing.{asked, ended};
 ghost use Rattle.rv_doing.specs.Does.{effect_at, performed, does};
+ghost use Rattle.rv_doing.specs.HartOps.{op_in, reply_of};
 
-use crate::access::{conditional_op, store_op};
 use crate::csr::{csr_performed, csr_wanted};
+use crate::hart_op::HartOp;
+use crate::hart_reply::HartReply;
 use crate::replies::{end_amo, end_conditional, end_load, end_reserve, end_store, end_with};
 use crate::sbi::{call_performed, call_wanted};
 use rv_decode::decode;
 use rv_effect::effect;
 use rv_rows::{Effect, Exception, Instr};
 use rv_supervisor::{Regs, finish, jump, return_from_trap, trap, wait};
-use vm_types::{Op, Reply};
 
 /// What the instruction does, with the values of the registers that it reads.
 fn effect_at(instr: Instr, regs: &Regs) -> Effect
@@ -20,9 +21,26 @@ fn effect_at(instr: Instr, regs: &Regs) -> Effect
     effect(instr, regs.pc, regs.get(instr.rs1()), regs.get(instr.rs2()))
 }
 
-/// The access that the effect of this word asks for, if any.
-fn effect_wanted(effect: Effect, word: u32, regs: &Regs) -> Option<Op>
-    ensures { result ≡ asked (performed effect word regs.now) }
+/// What this word does, with the values of the registers that it reads: the one decode of an instruction.
+#[inline]
+#[tactic(auto, unfolding(crate::specs::Does::does))]
+pub fn effect_of_word(word: u32, regs: &Regs) -> Effect
+    ensures { performed result word regs.now ≡ does word regs.now }
+{
+    match decode(word) {
+        Some(instr) => effect_at(instr, regs),
+        None => Effect::Trap {
+            exception: Exception::IllegalInstruction,
+            value: word as u64,
+        },
+    }
+}
+
+/// The access that the effect of this word asks for behind the fetch, if any. An SC of a granule that the hart doesn't
+/// hold asks for none.
+#[inline]
+pub fn wanted(effect: Effect, word: u32, regs: &Regs) -> Option<HartOp>
+    ensures { op_in result ≡ asked (performed effect word regs.now) }
 {
     match effect {
         Effect::Put { .. }
@@ -32,29 +50,43 @@ fn effect_wanted(effect: Effect, word: u32, regs: &Regs) -> Option<Op>
         | Effect::Trap { .. }
         | Effect::Sret
         | Effect::Wfi => None,
-        Effect::Load { kind, address, .. } => Some(Op::Read {
+        Effect::Load { kind, address, .. } => Some(HartOp::Read {
             at: address,
-            len: kind.width().bytes(),
+            width: kind.width(),
         }),
         Effect::Store {
             width,
             address,
             value,
-        } => Some(store_op(width, address, value)),
-        Effect::LoadReserved { wide, address, .. } => Some(Op::Lr { at: address, wide }),
+        } => Some(HartOp::Write {
+            at: address,
+            word: value,
+            width,
+        }),
+        Effect::LoadReserved { wide, address, .. } => Some(HartOp::Lr { at: address, wide }),
         Effect::StoreConditional {
             wide,
             address,
             value,
             ..
-        } => { conditional_op(wide, address, value, regs) }
+        } => {
+            if regs.holds(address) {
+                Some(HartOp::Sc {
+                    at: address,
+                    value,
+                    wide,
+                })
+            } else {
+                None
+            }
+        }
         Effect::Amo {
             kind,
             wide,
             address,
             value,
             ..
-        } => Some(Op::Amo {
+        } => Some(HartOp::Amo {
             at: address,
             value,
             kind,
@@ -65,9 +97,11 @@ fn effect_wanted(effect: Effect, word: u32, regs: &Regs) -> Option<Op>
     }
 }
 
-/// What the effect of this word makes of the registers, by the last reply.
-fn effect_performed(effect: Effect, word: u32, regs: &mut Regs, reply: Reply)
-    ensures { regs.new ≡ ended (performed effect word regs.old) reply }
+/// What the effect of this word makes of the registers, by the last reply to what it asks for. Where it asks for
+/// nothing, the reply is not looked at.
+#[inline]
+pub fn perform(effect: Effect, word: u32, regs: &mut Regs, reply: HartReply)
+    ensures { regs.new ≡ ended (performed effect word regs.old) (reply_of reply) }
 {
     match effect {
         Effect::Put { rd, value } => end_with(rd, value, regs),
@@ -92,31 +126,5 @@ fn effect_performed(effect: Effect, word: u32, regs: &mut Regs, reply: Reply)
         Effect::Ecall => call_performed(regs, reply),
         Effect::Sret => return_from_trap(regs),
         Effect::Wfi => wait(regs),
-    }
-}
-
-/// The access that this word asks for behind its fetch, if any.
-#[tactic(auto, unfolding(crate::specs::Does::does))]
-pub fn wanted(word: u32, regs: &Regs) -> Option<Op>
-    ensures { result ≡ asked (does word regs.now) }
-{
-    match decode(word) {
-        Some(instr) => effect_wanted(effect_at(instr, regs), word, regs),
-        None => None,
-    }
-}
-
-/// What this word makes of the registers, by the last reply to what it asks for. Where it asks for nothing, the reply
-/// is not looked at.
-#[tactic(auto, unfolding(crate::specs::Does::does))]
-pub fn perform(word: u32, regs: &mut Regs, reply: Reply)
-    ensures { regs.new ≡ ended (does word regs.old) reply }
-{
-    match decode(word) {
-        Some(instr) => {
-            let effect = effect_at(instr, regs);
-            effect_performed(effect, word, regs, reply)
-        }
-        None => trap(regs, Exception::IllegalInstruction, word as u64),
     }
 }

@@ -1,16 +1,20 @@
 //! What the word of an instruction does to a hart: RV64IMA with Zicsr, traps and reservations.
 //!
-//! `wanted` is the one access that a word asks for behind its fetch, if any, and `perform` what becomes of the
-//! registers by the last reply to it: both as `specs/Does.antt` says, by the table of `rv_rows`, the effects of its
-//! instructions, and one line an effect.
+//! `effect_of_word` is what a word does, by one decode. `wanted` is the one access that this asks for behind the fetch,
+//! if any, and `perform` what becomes of the registers by the last reply to it: all as `specs/Does.antt` says, by the
+//! table of `rv_rows`, the effects of its instructions, and one line an effect. `HartOp` and `HartReply` are the ops
+//! and replies of harts in few bytes.
 #![tactic(auto)]
 
-mod access;
 mod csr;
+mod hart_op;
+mod hart_reply;
 mod instruction;
 mod replies;
 mod sbi;
 #[cfg(test)]
 mod tests;
 
-pub use instruction::{perform, wanted};
+pub use hart_op::HartOp;
+pub use hart_reply::HartReply;
+pub use instruction::{effect_of_word, perform, wanted};

@@ -1,13 +1,14 @@
 // How the reply to an access ends its instruction.
 ghost use Rattle.std.specs.Prelude.{◌≡◌, if◌then◌else◌};
 ghost use Rattle.rv_supervisor.specs.Registers.{holds, without_granule};
+ghost use Rattle.rv_doing.specs.HartOps.{reply_of};
 ghost use Rattle.rv_doing.specs.Replies.{with_result, after_load, after_store, after_reserve, after_conditional, after_amo, after_time, after_sip};
 
-use le_fields::low_value;
+use crate::hart_reply::HartReply;
 use rv_alu::{atomic_load_value, load_value};
+use rv_effect::low_bytes;
 use rv_rows::{Exception, LoadKind, Register};
 use rv_supervisor::{INTERRUPTS, Regs, finish, trap};
-use vm_types::Reply;
 
 /// The instruction ends with a value for rd.
 pub fn end_with(rd: Register, value: u64, regs: &mut Regs)
@@ -17,32 +18,33 @@ pub fn end_with(rd: Register, value: u64, regs: &mut Regs)
     finish(regs);
 }
 
-pub fn end_load(kind: LoadKind, rd: Register, address: u64, reply: Reply, regs: &mut Regs)
-    ensures { regs.new ≡ after_load kind rd address reply regs.old }
+#[tactic(auto, using(crate::proofs::Widths::low_is))]
+pub fn end_load(kind: LoadKind, rd: Register, address: u64, reply: HartReply, regs: &mut Regs)
+    ensures { regs.new ≡ after_load kind rd address (reply_of reply) regs.old }
 {
     match reply {
-        Reply::Bytes(piece) => {
-            let value = load_value(kind, low_value(piece.as_slice()));
+        HartReply::Bytes { word, width } => {
+            let value = load_value(kind, low_bytes(width, word));
             end_with(rd, value, regs);
         }
         _ => trap(regs, Exception::LoadFault, address),
     }
 }
 
-pub fn end_store(address: u64, reply: Reply, regs: &mut Regs)
-    ensures { regs.new ≡ after_store address reply regs.old }
+pub fn end_store(address: u64, reply: HartReply, regs: &mut Regs)
+    ensures { regs.new ≡ after_store address (reply_of reply) regs.old }
 {
     match reply {
-        Reply::Done => finish(regs),
+        HartReply::Done => finish(regs),
         _ => trap(regs, Exception::StoreFault, address),
     }
 }
 
-pub fn end_reserve(wide: bool, rd: Register, address: u64, reply: Reply, regs: &mut Regs)
-    ensures { regs.new ≡ after_reserve wide rd address reply regs.old }
+pub fn end_reserve(wide: bool, rd: Register, address: u64, reply: HartReply, regs: &mut Regs)
+    ensures { regs.new ≡ after_reserve wide rd address (reply_of reply) regs.old }
 {
     match reply {
-        Reply::Word(old) => {
+        HartReply::Word(old) => {
             regs.hold(address);
             end_with(rd, atomic_load_value(wide, old), regs);
         }
@@ -51,8 +53,8 @@ pub fn end_reserve(wide: bool, rd: Register, address: u64, reply: Reply, regs: &
 }
 
 /// An SC of a granule that the hart doesn't hold fails, and the reply isn't looked at.
-pub fn end_conditional(rd: Register, address: u64, reply: Reply, regs: &mut Regs)
-    ensures { regs.new ≡ (if holds regs.old address then after_conditional rd address reply regs.old
+pub fn end_conditional(rd: Register, address: u64, reply: HartReply, regs: &mut Regs)
+    ensures { regs.new ≡ (if holds regs.old address then after_conditional rd address (reply_of reply) regs.old
         else with_result rd 1 (without_granule regs.old)) }
 {
     let is_held = regs.holds(address);
@@ -62,34 +64,34 @@ pub fn end_conditional(rd: Register, address: u64, reply: Reply, regs: &mut Regs
         return;
     }
     match reply {
-        Reply::Word(failed) => end_with(rd, failed, regs),
+        HartReply::Word(failed) => end_with(rd, failed, regs),
         _ => trap(regs, Exception::StoreFault, address),
     }
 }
 
-pub fn end_amo(wide: bool, rd: Register, address: u64, reply: Reply, regs: &mut Regs)
-    ensures { regs.new ≡ after_amo wide rd address reply regs.old }
+pub fn end_amo(wide: bool, rd: Register, address: u64, reply: HartReply, regs: &mut Regs)
+    ensures { regs.new ≡ after_amo wide rd address (reply_of reply) regs.old }
 {
     match reply {
-        Reply::Word(old) => end_with(rd, atomic_load_value(wide, old), regs),
+        HartReply::Word(old) => end_with(rd, atomic_load_value(wide, old), regs),
         _ => trap(regs, Exception::StoreFault, address),
     }
 }
 
-pub fn end_time(rd: Register, reply: Reply, regs: &mut Regs)
-    ensures { regs.new ≡ after_time rd reply regs.old }
+pub fn end_time(rd: Register, reply: HartReply, regs: &mut Regs)
+    ensures { regs.new ≡ after_time rd (reply_of reply) regs.old }
 {
     match reply {
-        Reply::Word(value) => end_with(rd, value, regs),
+        HartReply::Word(value) => end_with(rd, value, regs),
         _ => finish(regs),
     }
 }
 
-pub fn end_sip(rd: Register, reply: Reply, regs: &mut Regs)
-    ensures { regs.new ≡ after_sip rd reply regs.old }
+pub fn end_sip(rd: Register, reply: HartReply, regs: &mut Regs)
+    ensures { regs.new ≡ after_sip rd (reply_of reply) regs.old }
 {
     match reply {
-        Reply::Word(value) => end_with(rd, value & INTERRUPTS, regs),
+        HartReply::Word(value) => end_with(rd, value & INTERRUPTS, regs),
         _ => finish(regs),
     }
 }

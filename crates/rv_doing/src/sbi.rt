@@ -1,15 +1,14 @@
 // The calls of the supervisor binary interface.
 ghost use Rattle.std.specs.Prelude.{◌≡◌};
 ghost use Rattle.rv_doing.specs.Doing.{asked, ended};
+ghost use Rattle.rv_doing.specs.HartOps.{op_in, reply_of};
 ghost use Rattle.rv_doing.specs.Sbi.{after_call, after_board_call, call};
 
+use crate::hart_op::HartOp;
+use crate::hart_reply::HartReply;
 use rv_rows::Register;
-use rv_supervisor::{Regs, finish};
-use vm_types::{BoardOp, Op, Reply};
-
-const A0: Register = Register::X10;
-
-const A1: Register = Register::X11;
+use rv_supervisor::{A0, A1, Regs, finish};
+use vm_types::BoardOp;
 
 const A6: Register = Register::X16;
 
@@ -30,25 +29,25 @@ fn end_call(error: u64, value: u64, regs: &mut Regs)
     finish(regs);
 }
 
-fn end_board_call(reply: Reply, regs: &mut Regs)
-    ensures { regs.new ≡ after_board_call reply regs.old }
+fn end_board_call(reply: HartReply, regs: &mut Regs)
+    ensures { regs.new ≡ after_board_call (reply_of reply) regs.old }
 {
     match reply {
-        Reply::Returned { error, value } => end_call(error, value, regs),
+        HartReply::Returned { error, value } => end_call(error, value, regs),
         _ => finish(regs),
     }
 }
 
 /// The act on the board that the call wants, if any.
-pub fn call_wanted(regs: &Regs) -> Option<Op>
-    ensures { result ≡ asked (call regs.now) }
+pub fn call_wanted(regs: &Regs) -> Option<HartOp>
+    ensures { op_in result ≡ asked (call regs.now) }
 {
     if regs.get(A7) == LEGACY_PUTCHAR {
-        Some(Op::Board(BoardOp::Putchar {
+        Some(HartOp::Board(BoardOp::Putchar {
             byte: (regs.get(A0) % 0x100) as u8,
         }))
     } else if regs.get(A7) == SYSTEM_RESET && regs.get(A6) == 0 {
-        Some(Op::Board(BoardOp::Reset {
+        Some(HartOp::Board(BoardOp::Reset {
             kind: regs.get(A0),
             reason: regs.get(A1),
         }))
@@ -58,8 +57,8 @@ pub fn call_wanted(regs: &Regs) -> Option<Op>
 }
 
 /// What the call makes of the registers, by the last reply.
-pub fn call_performed(regs: &mut Regs, reply: Reply)
-    ensures { regs.new ≡ ended (call regs.old) reply }
+pub fn call_performed(regs: &mut Regs, reply: HartReply)
+    ensures { regs.new ≡ ended (call regs.old) (reply_of reply) }
 {
     if regs.get(A7) == LEGACY_PUTCHAR {
         regs.put(A0, 0);

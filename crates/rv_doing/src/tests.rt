@@ -1,6 +1,6 @@
 // What words do, by the manuals and by hand; the words are assembled by LLVM 14.
-use crate::{perform, wanted};
-use rv_rows::Register;
+use crate::{HartOp, HartReply, effect_of_word, perform, wanted};
+use rv_rows::{Register, Width};
 use rv_supervisor::{Regs, Turn};
 use vm_types::{AmoKind, BoardOp, Op, Piece, Reply};
 
@@ -30,81 +30,90 @@ fn hart(held: Option<u64>) -> Regs {
     regs
 }
 
-fn bytes(bytes: &[u8]) -> Piece {
-    if bytes.len() <= 64 {
-        Piece::from_slice(bytes)
-    } else {
-        Piece::empty()
-    }
+fn bytes(word: u64, width: Width) -> HartReply {
+    HartReply::Bytes { word, width }
 }
 
-fn read(at: u64, len: usize) -> Option<Op> {
-    Some(Op::Read { at, len })
+fn read(at: u64, width: Width) -> Option<HartOp> {
+    Some(HartOp::Read { at, width })
 }
 
-fn board(act: BoardOp) -> Option<Op> {
-    Some(Op::Board(act))
+fn board(act: BoardOp) -> Option<HartOp> {
+    Some(HartOp::Board(act))
+}
+
+/// What the word asks for; it ends by the reply.
+fn performs(word: u32, regs: &mut Regs, reply: HartReply) -> Option<HartOp> {
+    let effect = effect_of_word(word, regs);
+    let op = wanted(effect, word, regs);
+    perform(effect, word, regs, reply);
+    op
 }
 
 #[test]
 fn words_ask_for_an_access_and_end_by_its_reply(rt: HostRuntime) {
-    let add = Op::Amo {
+    let add = HartOp::Amo {
         at: RAM,
         value: VALUE,
         kind: AmoKind::Add,
         wide: false,
     };
-    let conditional = Op::Sc {
+    let conditional = HartOp::Sc {
         at: RAM,
         value: 0x4433_2211,
         wide: false,
     };
-    let store = Op::Write {
+    let store = HartOp::Write {
         at: RAM + 2,
-        piece: bytes(&[0x11, 0x22]),
+        word: 0x2211,
+        width: Width::Half,
     };
     let pending = BoardOp::SoftwarePending { clear: 2, set: 0 };
-    let lw = bytes(&[1, 0, 0, 0x80]);
     // a word, its access, the reply, and what x5 holds then
     let cases = [
         // lb x5, 1(x1), lwu x5, 0(x1)
         (
             0x0010_8283,
-            read(RAM + 1, 1),
-            Reply::Bytes(bytes(&[0x80])),
+            read(RAM + 1, Width::Byte),
+            bytes(0x1280, Width::Byte),
             0xffff_ffff_ffff_ff80,
         ),
-        (0x0000_e283, read(RAM, 4), Reply::Bytes(lw), 0x8000_0001),
+        (
+            0x0000_e283,
+            read(RAM, Width::Word),
+            bytes(0x8000_0001, Width::Word),
+            0x8000_0001,
+        ),
         // sh x2, 2(x1)
-        (0x0020_9123, Some(store), Reply::Done, 0),
+        (0x0020_9123, Some(store), HartReply::Done, 0),
         // lr.w x5, (x1)
         (
             0x1000_a2af,
-            Some(Op::Lr {
+            Some(HartOp::Lr {
                 at: RAM,
                 wide: false,
             }),
-            Reply::Word(0x1_8000_0000),
+            HartReply::Word(0x1_8000_0000),
             0xffff_ffff_8000_0000,
         ),
         // sc.w x5, x2, (x1), and one that fails
-        (0x1820_a2af, Some(conditional), Reply::Word(0), 0),
-        (0x1820_a2af, Some(conditional), Reply::Word(1), 1),
+        (0x1820_a2af, Some(conditional), HartReply::Word(0), 0),
+        (0x1820_a2af, Some(conditional), HartReply::Word(1), 1),
         // amoadd.w x5, x2, (x1)
-        (0x0020_a2af, Some(add), Reply::Word(5), 5),
+        (0x0020_a2af, Some(add), HartReply::Word(5), 5),
         // csrr x5, time; csrrci x5, sip, 2
-        (0xc010_22f3, board(BoardOp::Time), Reply::Word(9), 9),
-        (0x1441_72f3, board(pending), Reply::Word(0xffff), 0x222),
+        (0xc010_22f3, board(BoardOp::Time), HartReply::Word(9), 9),
+        (0x1441_72f3, board(pending), HartReply::Word(0xffff), 0x222),
         // csrrw x5, sscratch, x2; csrr x5, sstatus
-        (0x1401_12f3, None, Reply::Done, 0x77),
-        (0x1000_22f3, None, Reply::Done, 0x120),
+        (0x1401_12f3, None, HartReply::Done, 0x77),
+        (0x1000_22f3, None, HartReply::Done, 0x120),
         // addi x5, x1, -1
-        (0xfff0_8293, None, Reply::Done, RAM - 1),
+        (0xfff0_8293, None, HartReply::Done, RAM - 1),
     ];
     for (word, op, reply, x5) in cases {
         let mut regs = hart(Some(RAM));
-        assert!(rt; wanted(word, &regs) == op, "the access of {word}");
-        perform(word, &mut regs, reply);
+        let asked = performs(word, &mut regs, reply);
+        assert!(rt; asked == op, "the access of {word}");
         assert!(rt; regs.get(Register::X5) == x5, "x5 after {word}");
         assert!(rt;
             regs.pc == 0x8020_0004 && regs.count == 31,
@@ -135,7 +144,7 @@ fn words_trap_with_their_cause_and_value(rt: HostRuntime) {
     ];
     for (word, scause, stval) in cases {
         let mut regs = hart(Some(RAM));
-        perform(word, &mut regs, Reply::AccessFault);
+        let _asked = performs(word, &mut regs, HartReply::Fault);
         assert!(rt;
             regs.scause == scause && regs.stval == stval,
             "the cause of {word}"
@@ -157,8 +166,7 @@ fn words_trap_with_their_cause_and_value(rt: HostRuntime) {
 fn an_sc_without_its_granule_fails_and_the_system_words_end(rt: HostRuntime) {
     for held in [None, Some(RAM + 8)] {
         let mut regs = hart(held);
-        assert!(rt; wanted(0x1820_b2af, &regs).is_none());
-        perform(0x1820_b2af, &mut regs, Reply::Done);
+        assert!(rt; performs(0x1820_b2af, &mut regs, HartReply::Done).is_none());
         assert!(rt; regs.get(Register::X5) == 1 && regs.held.is_none());
     }
     // csrrw x5, sie, x2; wfi; sret
@@ -168,8 +176,7 @@ fn an_sc_without_its_granule_fails_and_the_system_words_end(rt: HostRuntime) {
         (0x1020_0073, 0x8020_1000, Turn::Look),
     ] {
         let mut regs = hart(None);
-        assert!(rt; wanted(word, &regs).is_none());
-        perform(word, &mut regs, Reply::Done);
+        assert!(rt; performs(word, &mut regs, HartReply::Done).is_none());
         assert!(rt; regs.pc == pc && regs.turn == turn, "after {word}");
     }
     // ecall: putchar of a0's low byte, a reset, and a call that there isn't
@@ -178,26 +185,51 @@ fn an_sc_without_its_granule_fails_and_the_system_words_end(rt: HostRuntime) {
             1,
             0x141,
             board(BoardOp::Putchar { byte: 0x41 }),
-            Reply::Done,
+            HartReply::Done,
             0,
         ),
         (
             0x5352_5354,
             3,
             board(BoardOp::Reset { kind: 3, reason: 0 }),
-            Reply::Returned {
+            HartReply::Returned {
                 error: 0xffff_ffff_ffff_fffd,
                 value: 0,
             },
             0xffff_ffff_ffff_fffd,
         ),
-        (2, 5, None, Reply::Done, 0xffff_ffff_ffff_fffe),
+        (2, 5, None, HartReply::Done, 0xffff_ffff_ffff_fffe),
     ] {
         let mut regs = hart(None);
         regs.put(Register::X17, a7);
         regs.put(Register::X10, a0);
-        assert!(rt; wanted(0x73, &regs) == op);
-        perform(0x73, &mut regs, reply);
+        assert!(rt; performs(0x73, &mut regs, reply) == op);
         assert!(rt; regs.get(Register::X10) == error && regs.pc == 0x8020_0004);
+    }
+}
+
+#[test]
+fn a_small_op_and_reply_stand_for_the_whole(rt: HostRuntime) {
+    let write = HartOp::Write {
+        at: RAM,
+        word: VALUE,
+        width: Width::Word,
+    };
+    let wanted = Op::Write {
+        at: RAM,
+        piece: Piece::from_slice(&[0x11, 0x22, 0x33, 0x44]),
+    };
+    assert!(rt; write.op() == wanted);
+    let fetch = HartOp::Fetch { pc: RAM };
+    assert!(rt; fetch.op() == Op::Read { at: RAM, len: 4 });
+    for (bytes, small) in [
+        (&[0x80][..], Some(bytes(0x80, Width::Byte))),
+        (&[1, 2], Some(bytes(0x201, Width::Half))),
+        (&[1, 2, 3, 4], Some(bytes(0x0403_0201, Width::Word))),
+        (&[1, 2, 3], None),
+        (&[], None),
+    ] {
+        assert!(rt; bytes.len() <= 64);
+        assert!(rt; HartReply::of(&Reply::Bytes(Piece::from_slice(bytes))) == small);
     }
 }

@@ -7,9 +7,9 @@ ghost use Rattle.rv_rows.specs.Loads.{width_bytes, load_bytes, atomic_bytes, low
 
 use rv_rows::{AmoKind, Effect, Exception, LoadKind, Register, Width};
 
-/// The low bytes of a register.
+/// The low bytes of a number, as many as the width has.
 #[inline]
-fn low_bytes(width: Width, value: u64) -> u64
+pub fn low_bytes(width: Width, value: u64) -> u64
     ensures { result ≡ low_bytes (width_bytes width) value }
 {
     match width {

@@ -2,14 +2,13 @@
 //!
 //! `effect` takes the instruction, its address and the values of the two registers that it reads, and gives what
 //! `rv_rows/specs/Effects.antt` gives: a value for a register, a jump, an access that is aligned, what a CSR
-//! instruction asks for, or a trap.
+//! instruction asks for, or a trap. `low_bytes` are a number's bytes of a width.
 #![tactic(auto)]
 
 mod accesses;
 mod csr;
 mod effects;
 mod jumps;
-#[cfg(test)]
-mod tests;
 
+pub use accesses::low_bytes;
 pub use effects::effect;

@@ -11,7 +11,7 @@ use crate::operands;
 use vm_types::AmoKind;
 
 /// What a row makes of a word.
-#[derive(Clone, Copy, Debug, PartialEq, Eq, Drop)]
+#[derive(Clone, Copy, Drop)]
 pub enum Form {
     Lui,
     Auipc,

@@ -34,6 +34,3 @@ pub use memory::{LoadKind, Width};
 pub use register::Register;
 pub use table::instr_of;
 pub use vm_types::AmoKind;
-
-#[cfg(test)]
-mod tests;

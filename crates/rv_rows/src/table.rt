@@ -13,7 +13,7 @@ use vm_types::AmoKind;
 
 /// A row of the table, mask, match and form: a word is of this form where its bits under the mask are those that must
 /// match.
-#[derive(Clone, Copy, Debug, PartialEq, Eq, Drop)]
+#[derive(Clone, Copy, Drop)]
 struct Row(u32, u32, Form);
 
 /// The suffixes .W and .D of the extension A: 4 bytes, and 8.

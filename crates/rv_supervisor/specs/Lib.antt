@@ -1,3 +1,4 @@
 pub mod Csrs
 pub mod Ends
 pub mod Registers
+pub mod Start

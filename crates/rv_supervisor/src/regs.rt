@@ -1,8 +1,14 @@
 // A hart between two instructions.
 ghost use Rattle.std.specs.Prelude.{◌≡◌};
 ghost use Rattle.rv_supervisor.specs.Registers.{reg, with_reg, granule, holds, without_granule};
+ghost use Rattle.rv_supervisor.specs.Start.{start_regs};
 
 use rv_rows::Register;
+
+/// The register of a call's first argument and of its error (SBI, "Binary Encoding").
+pub const A0: Register = Register::X10;
+/// The register of a call's second argument and of its value.
+pub const A1: Register = Register::X11;
 
 /// What a hart begins next.
 #[derive(Clone, Copy, Debug, PartialEq, Eq, Drop)]
@@ -42,6 +48,30 @@ pub struct Regs {
     /// SPIE of sstatus: SIE before the last trap.
     pub status_spie: bool,
     pub turn: Turn,
+}
+
+/// The registers of a hart that begins at `pc` with these arguments in a0 and a1 and 0 in every other register.
+pub fn start_regs(pc: u64, a0: u64, a1: u64) -> Regs
+    ensures { result ≡ start_regs pc a0 a1 }
+{
+    let mut regs = Regs {
+        x: [0; 31],
+        pc,
+        sie: 0,
+        stvec: 0,
+        sscratch: 0,
+        sepc: 0,
+        scause: 0,
+        stval: 0,
+        count: 32,
+        held: None,
+        status_sie: false,
+        status_spie: false,
+        turn: Turn::Fetch,
+    };
+    regs.put(A0, a0);
+    regs.put(A1, a1);
+    regs
 }
 
 impl Regs {

@@ -127,3 +127,16 @@ fn a_look_is_due_after_32_instructions_and_after_a_wfi(rt: HostRuntime) {
     regs.let_go();
     assert!(rt; !regs.holds(0x8021_0008));
 }
+
+#[test]
+fn a_hart_starts_with_its_arguments_and_zeros(rt: HostRuntime) {
+    let mut wanted = Regs {
+        sie: 0,
+        stvec: 0,
+        status_sie: false,
+        ..HART
+    };
+    wanted.put(Register::X10, 3);
+    wanted.put(Register::X11, 0x83ff_0000);
+    assert!(rt; start_regs(0x8020_0000, 3, 0x83ff_0000) == wanted);
+}

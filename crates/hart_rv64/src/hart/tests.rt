@@ -1,7 +1,7 @@
 // What the monitor's hart does, by the manuals' rows.
 use super::*;
-use hart_rows::{A0, A1, put};
-use vm_types::{BoardOp, Piece, Shown};
+use rv_supervisor::{A0, A1};
+use vm_types::{Piece, Shown};
 
 const NOP: u32 = 0x0000_0013;
 
@@ -22,8 +22,8 @@ fn fetch_at(at: u64) -> Op {
 /// A hart with this call and these arguments, and its word fetched.
 fn fetched(word: u32, extension: u64, function: u64, a0: u64, a1: u64) -> Hart {
     let mut regs = start_regs(IMAGE, a0, a1);
-    put(&mut regs, 17, extension);
-    put(&mut regs, 16, function);
+    regs.put(Register::X17, extension);
+    regs.put(Register::X16, function);
     regs.stvec = HANDLER;
     let mut hart = Hart::with_regs(regs);
     hart.give(bytes(word));
@@ -41,11 +41,13 @@ fn an_instruction_ends_behind_itself_or_at_the_handler(rt: HostRuntime) {
         (0xffe5_0613, 5, IMAGE + 4, 0),
         (0x0015_8613, 0, IMAGE + 4, 0),
         (0x0055_0013, 0, IMAGE + 4, 0),
-        // ebreak, wfi, slti, auipc, an ecall with rd x1, and no instruction
-        (0x0010_0073, 0, HANDLER, 2),
-        (0x1050_0073, 0, HANDLER, 2),
-        (0x0000_2013, 0, HANDLER, 2),
-        (0x0000_0017, 0, HANDLER, 2),
+        // sub x12, x11, x10; jalr x12, 1(x10); bne x10, x11, 64
+        (0x40a5_8633, 0xffff_ffff_ffff_fff8, IMAGE + 4, 0),
+        (0x0015_0667, IMAGE + 4, 8, 0),
+        (0x04b5_1063, 0, IMAGE + 64, 0),
+        // ebreak, a write of time, an ecall with rd x1, and no instruction
+        (0x0010_0073, 0, HANDLER, 3),
+        (0xc010_1073, 0, HANDLER, 2),
         (0x0000_00f3, 0, HANDLER, 2),
         (0, 0, HANDLER, 2),
     ] {
@@ -60,6 +62,11 @@ fn an_instruction_ends_behind_itself_or_at_the_handler(rt: HostRuntime) {
     assert_eq!(rt; hart.regs.scause, 1);
     assert_eq!(rt; hart.regs.stval, IMAGE);
     assert_eq!(rt; hart.regs.sepc, IMAGE);
+    // below RAM a fetch faults, whatever it reads
+    let mut hart = Hart::new(0x0200_0000, 0, 0);
+    hart.give(bytes(NOP));
+    assert_eq!(rt; hart.regs.scause, 1);
+    assert_eq!(rt; hart.regs.stval, 0x0200_0000);
 }
 
 #[test]
@@ -103,8 +110,8 @@ fn a_call_returns_in_a0_and_a1(rt: HostRuntime) {
         let mut hart = fetched(ECALL, extension, function, 0x141, 9);
         assert_eq!(rt; hart.want(), op, "{extension}, {function}");
         hart.give(reply);
-        assert_eq!(rt; hart.reg(A0), a0, "{extension}, {function}");
-        assert_eq!(rt; hart.reg(A1), a1, "{extension}, {function}");
+        assert_eq!(rt; hart.regs.get(A0), a0, "{extension}, {function}");
+        assert_eq!(rt; hart.regs.get(A1), a1, "{extension}, {function}");
     }
 }
 

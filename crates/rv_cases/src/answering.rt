@@ -1,0 +1,76 @@
+// What this repository's functions answer to a case, as a text.
+ghost use Rattle.std.specs.Prelude.{◌≡◌, codes};
+ghost use Rattle.std.specs.Option.{option_map, option_map_or};
+ghost use Rattle.rv_rows.specs.Names.{name_of};
+ghost use Rattle.rv_rows.specs.Table.{instr_of};
+ghost use Rattle.rv_rows.specs.Effects.{effect_of};
+
+use crate::given::Given;
+use rv_alu::{atomic_load_value, load_value};
+use rv_decode::decode;
+use rv_effect::effect;
+use rv_rows::{Effect, Instr, instr_of};
+use std::alloc::{AllocError, Global};
+
+/// What a table asks of its words. A word that is no instruction is answered `-`.
+#[derive(Clone, Copy, Drop)]
+pub enum Asked {
+    /// The name of what the table of instructions finds.
+    Name,
+    /// The name of what the decoder finds.
+    DecodedName,
+    /// The instruction with its operands.
+    Operands,
+    /// What it does.
+    Effect,
+    /// The number that it puts into its register: what it computes, or what it makes of `a` in memory.
+    Value,
+}
+
+/// The answer.
+pub fn answer(alloc: Global, asked: Asked, given: Given) -> Result<String, AllocError> {
+    match asked {
+        Asked::Name => name(instr_of(given.word)).to_string(alloc),
+        Asked::DecodedName => name(decode(given.word)).to_string(alloc),
+        Asked::Operands => match instr_of(given.word) {
+            Some(instr) => format!(in alloc; "{instr:?}"),
+            None => "-".to_string(alloc),
+        },
+        Asked::Effect => match effect_on(given) {
+            Some(effect) => format!(in alloc; "{effect:?}"),
+            None => "-".to_string(alloc),
+        },
+        Asked::Value => match value_of(given) {
+            Some(value) => format!(in alloc; "{value:x}"),
+            None => "-".to_string(alloc),
+        },
+    }
+}
+
+fn name(found: Option<Instr>) -> &'static str
+    ensures { result.now ≡ option_map_or name_of found (codes "-") }
+{
+    match found {
+        Some(instr) => instr.name(),
+        None => "-",
+    }
+}
+
+fn effect_on(given: Given) -> Option<Effect>
+    ensures { result ≡ option_map (λ instr. effect_of instr given.pc given.a given.b) (instr_of given.word) }
+{
+    let instr = decode(given.word)?;
+    Some(effect(instr, given.pc, given.a, given.b))
+}
+
+fn value_of(given: Given) -> Option<u64> {
+    let instr = decode(given.word)?;
+    match instr {
+        Instr::Load { kind, .. } => Some(load_value(kind, given.a)),
+        Instr::LoadReserved { wide, .. } => Some(atomic_load_value(wide, given.a)),
+        _ => match effect(instr, given.pc, given.a, given.b) {
+            Effect::Put { value, .. } => Some(value),
+            _ => None,
+        },
+    }
+}
