@@ -1,6 +1,9 @@
 pub mod BodyLemmas
+pub mod ByHead
 pub mod GrammarLemmas
+pub mod Held
 pub mod Judging
 pub mod LoopLemmas
 pub mod Replies
+pub mod Taking
 pub mod TooFew

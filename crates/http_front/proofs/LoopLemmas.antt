@@ -1,10 +1,11 @@
 -- A loop over the requests of a stream, and one over its pieces.
-use Rattle.std.proofs.Common.{◌≡◌, ℕ, inl, inr, Bool, true, false, List, [], ◌∷◌, ◌++◌, refl, sym, ap, subst, ◌∙◌, append_assoc}
+use Rattle.std.proofs.Common.{◌≡◌, ℕ, inl, inr, Bool, true, false, List, [], ◌∷◌, ◌++◌, refl, sym, ap, subst, ◌∙◌, append_assoc, if◌then◌else◌}
 use Rattle.std.proofs.lemmas.List.{append-nil}
 use Rattle.refusals.specs.declared.refusal.Refusal.{Refusal}
 use Rattle.http_stream.specs.declared.request.Request.{Request}
 use Rattle.http_stream.specs.declared.request.Next.TheVariants as next
 use Rattle.http_stream.specs.Stream.{Judged, early, Connection}
+use Rattle.http_stream.specs.Conversation.{arrived}
 use Rattle.http_stream.specs.Cuts.{Reads}
 use Rattle.http_stream.proofs.CutLemmas.{made, request_lives, fails_for_good, cuts_anywhere}
 use Rattle.http_front.specs.Loops.{Continues, Drains}
@@ -32,11 +33,14 @@ drains_bad s old mid c d n (rs, e, k) j =
 pub piece_failed : (s piece : List ℕ) (rs : List Request) (c : Connection) → c.failed ≡ true → Reads s rs c → Reads (s ++ piece) rs c
 piece_failed s piece rs c f x = fails_for_good s piece rs c x f
 
+pending_then : (c : Connection) (piece : List ℕ) → c.failed ≡ false → (arrived c piece).pending ≡ c.pending ++ piece
+pending_then c piece f = ap (λ (b : Bool). (if b then c else record c { pending = c.pending ++ piece }).pending) f
+
 pub piece_taken : (s piece : List ℕ) (old new : List Request) (c d e : Connection) → c.failed ≡ false
-    → d ≡ record c { pending = c.pending ++ piece } → Drains d.pending old new e → Reads s old c → Reads (s ++ piece) new e
+    → d ≡ arrived c piece → Drains d.pending old new e → Reads s old c → Reads (s ++ piece) new e
 piece_taken s piece old new c d e f q (rs, n, x) y =
     let P : List ℕ → Type 0 = λ w. Reads w rs e in
-    let k : d.pending ≡ c.pending ++ piece = ap (λ z. z.pending) q in
+    let k : d.pending ≡ c.pending ++ piece = ap (λ z. z.pending) q ∙ pending_then c piece f in
     let z = cuts_anywhere s piece old rs c e y f (subst P k x) in
     let Q : List Request → Type 0 = λ l. Reads (s ++ piece) l e in subst Q (sym n) z
 

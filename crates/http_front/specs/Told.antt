@@ -1,15 +1,17 @@
 -- What the functions between the parser and the answer return.
-use Rattle.std.specs.Prelude.{◌≡◌, ℕ, ◌≤◌, Bool, List, ◌++◌, length, drop, false}
+use Rattle.std.specs.Prelude.{ℕ, ◌+◌, ◌≤◌, Bool, List, ◌++◌, length, take, drop, map, false}
 use Rattle.httparse.specs.declared.spans.HeaderSpan.{HeaderSpan}
-use Rattle.httparse.specs.declared.spans.RequestSpans.{RequestSpans}
-use Rattle.httparse.specs.Grammar.{RequestHead, HasNoRequest, NeverHasRequest, MayBecomeRequest}
-use Rattle.httparse.specs.Spans.{IsRequestAt, IsRequestOf, IsRequestWithin, header_bytes, span_bytes}
+use Rattle.httparse.specs.Grammar.{HasNoRequest, NeverHasRequest, MayBecomeRequest}
+use Rattle.httparse.specs.Spans.{IsRequestOf, IsRequestWithin, header_bytes, span_bytes}
 use Rattle.http_stream.specs.Body.{is_named}
+use Rattle.http_front.specs.declared.found.Finding.{Finding}
+use Rattle.http_front.specs.declared.found.Finding.TheVariants.{TooFew, Whole, Bad}
+use Rattle.http_front.specs.declared.found.Place.{Place}
 use Rattle.http_front.specs.declared.head.Search.{Search}
 use Rattle.http_front.specs.declared.head.Search.TheVariants.{Found, Unfinished, Hopeless}
-use Rattle.http_stream.specs.declared.request.Next.{Next}
+use Rattle.http_stream.specs.declared.request.Request.{Request}
 use Rattle.http_stream.specs.declared.request.Next.TheVariants as next
-use Rattle.http_stream.specs.Stream.{Answer, Judged, by_head, refused, waits}
+use Rattle.http_stream.specs.Stream.{Connection, Answer, Judged, refused, waits, window}
 
 -- the header that the spans cover has that name
 abbrev pub is_named_at : List ℕ → List ℕ → HeaderSpan → Bool
@@ -27,25 +29,48 @@ Finds front spans Hopeless = NeverHasRequest front
 
 -- with so many bytes of the stream or fewer there is no request yet
 abbrev pub AreTooFew : List ℕ → ℕ → Type 0
-AreTooFew stream count = (more : List ℕ) → length (stream ++ more) ≤ count → Judged (stream ++ more) (waits (stream ++ more))
+AreTooFew stream count =
+    (more : List ℕ) → length (stream ++ more) ≤ count → Judged (stream ++ more) (waits (stream ++ more))
 
--- the answer where a request takes the first used bytes
-abbrev pub taking : List ℕ → Next → ℕ → Answer
-taking stream n used = record { next = n; after = record { pending = drop used stream; failed = false } }
+-- how many bytes the request has that lies there
+abbrev pub size : Place → ℕ
+size p = p.head.len + p.body
 
--- what a stream gives next, and a request's bytes, or how many bytes are too few
-abbrev pub Tells : List ℕ → Next → ℕ → Type 0
-Tells stream (next.Request r) count = (count ≤ length stream) × Judged stream (taking stream (next.Request r) count)
-Tells stream next.None count = (length stream ≤ count) × AreTooFew stream count
-Tells stream (next.Bad why) count = Judged stream (refused why)
+-- the request whose parts lie there
+abbrev pub request_at : List ℕ → List HeaderSpan → Place → Request
+request_at stream spans p = record {
+  method = span_bytes (window stream) p.head.method;
+  path = span_bytes (window stream) p.head.path;
+  headers = map (header_bytes (window stream)) (take p.head.headers spans);
+  body = take p.body (drop p.head.len stream);
+}
 
--- the same of a stream whose head is h
-abbrev pub TellsOf : List ℕ → RequestHead → Next → ℕ → Type 0
-TellsOf stream h (next.Request r) count = (count ≤ length stream) × (taking stream (next.Request r) count ≡ by_head stream h)
-TellsOf stream h next.None count =
-    (length stream ≤ count) × ((more : List ℕ) → length (stream ++ more) ≤ count → waits (stream ++ more) ≡ by_head (stream ++ more) h)
-TellsOf stream h (next.Bad why) count = refused why ≡ by_head stream h
+-- the answer that takes it
+abbrev pub taking : List ℕ → List HeaderSpan → Place → Answer
+taking stream spans p = record {
+  next = next.Request (request_at stream spans p);
+  after = record { pending = drop (size p) stream; failed = false };
+}
 
--- the same of any head that the spans are those of
-abbrev pub TellsByHead : List ℕ → List HeaderSpan → RequestSpans → List ℕ → Next → ℕ → Type 0
-TellsByHead front spans head stream n count = (h : RequestHead) → IsRequestAt front spans head h → TellsOf stream h n count
+-- a request lies there, and the stream gives it
+pub record LiesAt (stream : List ℕ) (spans : List HeaderSpan) (p : Place) : Type 0 where
+  pub within : IsRequestWithin (window stream) spans p.head
+  pub found : IsRequestOf (window stream) spans p.head
+  pub fits : size p ≤ length stream
+  pub judged : Judged stream (taking stream spans p)
+
+-- what was found is so
+abbrev pub Holds : List ℕ → List HeaderSpan → Finding → Type 0
+Holds stream spans (TooFew count) = AreTooFew stream count
+Holds stream spans (Whole p) = LiesAt stream spans p
+Holds stream spans (Bad why) = Judged stream (refused why)
+
+-- and says what the stream gives
+abbrev pub Tells : List ℕ → List HeaderSpan → Finding → Type 0
+Tells stream spans (TooFew count) = (length stream ≤ count) × AreTooFew stream count
+Tells stream spans (Whole p) = LiesAt stream spans p
+Tells stream spans (Bad why) = Judged stream (refused why)
+
+-- the connection that has those bytes
+abbrev pub live : List ℕ → Connection
+live stream = record { pending = stream; failed = false }

@@ -1,8 +1,12 @@
 // The bytes of a connection, and the requests in them.
-ghost use Rattle.std.specs.Prelude.{◌≡◌, ◌≤◌, ◌++◌, [], true, false, drop, length, IfOk, OnOk, OnErr};
-ghost use Rattle.http_stream.specs.Stream.{Judged};
+ghost use Rattle.std.specs.Prelude.{◌≡◌, ◌≤◌, ◌++◌, List, ℕ, true, false, drop, length, IfOk, OnOk, OnErr};
+ghost use Rattle.http_front.specs.Told.{Holds};
+ghost use Rattle.http_stream.specs.Conversation.{IsDue, IsQuiet, Takes, arrived, new_connection};
+ghost use Rattle.http_stream.specs.Stream.{Connection, Judged};
 
-use crate::rules::judge;
+use crate::found::{Finding, copy_next};
+use crate::head::make_room;
+use crate::rules::look;
 use http_stream::Next;
 use httparse::spans::HeaderSpan;
 use std::alloc::{AllocError, Global};
@@ -15,38 +19,50 @@ pub struct Front {
     bytes: Vec<u8>,
     // How many of the bytes are answered.
     taken: usize,
-    // With so many bytes not yet answered, or fewer, there is no request yet.
-    too_few: usize,
+    // What is known of those not yet answered.
+    known: Finding,
     failed: bool,
-    // Room for the parser, kept for the next head.
+    // The parser's room, and where the headers of a request that was found are.
     spans: Vec<HeaderSpan>,
 }
 
 impl Model for Front {
-    ghost use Rattle.std.specs.Prelude.{◌≤◌, drop, length};
+    ghost use Rattle.std.specs.Prelude.{◌≡◌, ◌≤◌, drop, length};
     ghost use Rattle.http_stream.specs.Stream.{Connection};
-    ghost use Rattle.http_front.specs.Told.{AreTooFew};
+    ghost use Rattle.http_front.specs.Told.{Holds};
 
     ghost Value = { Connection };
 
     ghost view = { λ f. record { pending = drop f.taken f.bytes.items; failed = f.failed } };
 
-    ghost invariant = { λ f. (f.taken ≤ length f.bytes.items) × AreTooFew (drop f.taken f.bytes.items) f.too_few };
+    ghost invariant = { λ f. (f.taken ≤ length f.bytes.items) × (length f.spans.items ≡ 2731)
+        × Holds (drop f.taken f.bytes.items) f.spans.items f.known };
 }
 
 impl Front {
-    /// A connection of which no byte has come.
-    pub fn new(alloc: Global) -> Front
-        ensures { result ≡ record { pending = []; failed = false } }
+    /// A connection of which no byte has come, with all the memory that reading heads takes.
+    pub fn new(alloc: Global) -> Result<Front, AllocError>
+        ensures { IfOk result (λ front. front ≡ new_connection) }
     {
-        Front {
+        let spans = make_room(alloc)?;
+        Ok(Front {
             alloc,
             bytes: Vec::new(alloc),
             taken: 0,
-            too_few: 0,
+            known: Finding::TooFew(0),
             failed: false,
-            spans: Vec::new(alloc),
-        }
+            spans,
+        })
+    }
+
+    /// Another connection begins: no byte of it has come.
+    pub fn restart(&mut self)
+        ensures { self.new ≡ new_connection }
+    {
+        self.bytes.clear();
+        self.taken = 0;
+        self.known = Finding::TooFew(0);
+        self.failed = false;
     }
 
     /// Whether the connection has failed.
@@ -58,9 +74,7 @@ impl Front {
 
     /// Takes the next bytes of the stream. A connection that has failed takes none. An `Err` changes nothing.
     pub fn feed(&mut self, bytes: &[u8]) -> Result<(), AllocError>
-        ensures failed { self.old.failed ≡ true → self.new ≡ self.old }
-        ensures ok { self.old.failed ≡ false
-            → OnOk result (self.new ≡ record self.old { pending = self.old.pending ++ bytes.now }) }
+        ensures ok { OnOk result (self.new ≡ arrived self.old bytes.now) }
         ensures err { OnErr result (self.new ≡ self.old) }
     {
         if self.failed {
@@ -68,7 +82,48 @@ impl Front {
         }
         put_behind(self.alloc, &mut self.bytes, self.taken, bytes)?;
         self.taken = 0;
+        self.known = still(self.known);
         Ok(())
+    }
+
+    /// A copy of what the connection gives next, which stays on it; `None` where it gives nothing before more bytes
+    /// come, or has failed. Only the copy takes memory: an `Err` says that something is due.
+    pub fn peek(&mut self) -> Result<Next, AllocError>
+        ensures same { self.new ≡ self.old }
+        ensures quiet { IfOk result (λ next. next ≡ Next.None → IsQuiet self.old) }
+        ensures due { IfOk result (λ next. IsDue next → (d : Connection) × Takes self.old next d) }
+        ensures short { OnErr result ((given : Next) × (d : Connection) × Takes self.old given d) }
+    {
+        if self.failed {
+            return Ok(Next::None);
+        }
+        let stream = &self.bytes[self.taken..];
+        self.known = look(self.known, stream, &mut self.spans);
+        copy_next(self.alloc, stream, &self.spans, self.known)
+    }
+
+    /// Takes from the connection what it gives next, without a copy. After `Bad` it has failed.
+    pub fn skip(&mut self)
+        ensures taken { (given : Next) (d : Connection) → Takes self.old given d → self.new ≡ d }
+        ensures quiet { IsQuiet self.old → self.new ≡ self.old }
+    {
+        if self.failed {
+            return;
+        }
+        self.known = look(self.known, &self.bytes[self.taken..], &mut self.spans);
+        match self.known {
+            Finding::TooFew(_) => {}
+            Finding::Whole(place) => {
+                self.taken += place.head.len + place.body;
+                self.known = Finding::TooFew(0);
+            }
+            Finding::Bad(_) => {
+                self.bytes.clear();
+                self.taken = 0;
+                self.known = Finding::TooFew(0);
+                self.failed = true;
+            }
+        }
     }
 
     /// The next request of the stream. After `Bad` the connection has failed, and answers `None` from then on.
@@ -80,28 +135,20 @@ impl Front {
             → IfOk result (λ next. Judged self.old.pending record { next = next; after = self.new }) }
         ensures err { OnErr result (self.new ≡ self.old) }
     {
-        if self.failed || self.bytes.len() - self.taken <= self.too_few {
-            return Ok(Next::None);
-        }
-        let (next, count) = judge(self.alloc, &self.bytes[self.taken..], &mut self.spans)?;
-        match next {
-            Next::Request(request) => {
-                self.taken += count;
-                self.too_few = 0;
-                Ok(Next::Request(request))
-            }
-            Next::None => {
-                self.too_few = count;
-                Ok(Next::None)
-            }
-            Next::Bad(why) => {
-                self.bytes.clear();
-                self.taken = 0;
-                self.too_few = 0;
-                self.failed = true;
-                Ok(Next::Bad(why))
-            }
-        }
+        let next = self.peek()?;
+        self.skip();
+        Ok(next)
+    }
+}
+
+// What stays known once more bytes have come.
+fn still(known: Finding) -> Finding
+    ensures { (stream more : List ℕ) (spans : List HeaderSpan)
+        → Holds stream spans known → Holds (stream ++ more) spans result }
+{
+    match known {
+        Finding::TooFew(count) => Finding::TooFew(count),
+        _ => Finding::TooFew(0),
     }
 }
 

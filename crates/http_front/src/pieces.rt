@@ -39,7 +39,7 @@ pub fn take_piece(front: &mut Front, out: &mut Vec<Request>, piece: &[u8]) -> Re
 pub fn requests(alloc: Global, pieces: &[ByteList]) -> Result<(Vec<Request>, Front), AllocError>
     ensures { IfOk result (λ r. Reads (flat_map (λ piece. piece) pieces.now) r.0.items r.1) }
 {
-    let mut front = Front::new(alloc);
+    let mut front = Front::new(alloc)?;
     let mut out = Vec::new(alloc);
     for piece in pieces {
         take_piece(&mut front, &mut out, piece.as_slice())?;

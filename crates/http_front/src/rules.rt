@@ -1,41 +1,46 @@
 // The five rules that a stream is judged by.
-ghost use Rattle.std.specs.Prelude.{◌≡◌, IfOk};
+ghost use Rattle.std.specs.Prelude.{◌≡◌, length};
 ghost use Rattle.http_stream.specs.Stream.{has_line, is_early, is_line_byte, window};
-ghost use Rattle.http_front.specs.Told.{Tells};
+ghost use Rattle.http_front.specs.Told.{Holds, Tells};
 
-use crate::head::{Search, by_head, find_head, make_room};
-use http_stream::Next;
+use crate::found::Finding;
+use crate::head::{Search, by_head, find_head};
 use httparse::spans::HeaderSpan;
 use refusals::Refusal;
-use std::alloc::{AllocError, Global};
 
 const HEAD_LIMIT: usize = 8_192;
 
-/// What a stream gives next, and of a request how many bytes it takes; of `None`, how many bytes are too few.
-/// The spans are room that the next call may use again.
-pub fn judge(
-    alloc: Global,
-    stream: &[u8],
-    spans: &mut Vec<HeaderSpan>,
-) -> Result<(Next, usize), AllocError>
-    ensures { IfOk result (λ r. Tells stream.now r.0 r.1) }
+/// What a stream gives next, of which that is known: it is judged only where its bytes are enough for an answer.
+pub fn look(known: Finding, stream: &[u8], spans: &mut [HeaderSpan]) -> Finding
+    requires room { length spans.old ≡ 2731 }
+    requires known { Holds stream.now spans.old known }
+    ensures { Tells stream.now spans.new result }
+{
+    match known {
+        Finding::TooFew(count) if stream.len() > count => judge(stream, spans),
+        _ => known,
+    }
+}
+
+/// What a stream gives next. The spans are the parser's room, and then say where a request's headers are.
+pub fn judge(stream: &[u8], spans: &mut [HeaderSpan]) -> Finding
+    requires room { length spans.old ≡ 2731 }
+    ensures { Tells stream.now spans.new result }
 {
     if is_early(stream) {
-        return Ok((Next::None, stream.len()));
+        return Finding::TooFew(stream.len());
     }
-    make_room(alloc, spans)?;
-    let spans: &mut [HeaderSpan] = spans;
     let front = window(stream);
     match find_head(front, spans) {
-        Search::Found(head) => by_head(alloc, stream, front, spans, head),
+        Search::Found(head) => by_head(stream, front, spans, head),
         Search::Unfinished => {
             if stream.len() <= HEAD_LIMIT {
-                Ok((Next::None, stream.len()))
+                Finding::TooFew(stream.len())
             } else {
-                Ok((Next::Bad(Refusal::BadHead), 0))
+                Finding::Bad(Refusal::BadHead)
             }
         }
-        Search::Hopeless => Ok((Next::Bad(Refusal::BadHead), 0)),
+        Search::Hopeless => Finding::Bad(Refusal::BadHead),
     }
 }
 
@@ -60,7 +65,8 @@ fn is_line_byte(b: u8) -> bool
     b == b'\r' || b == b'\n'
 }
 
-fn window(stream: &[u8]) -> &[u8]
+/// The bytes in which a head must end.
+pub fn window(stream: &[u8]) -> &[u8]
     ensures { result.now ≡ window stream.now }
 {
     &stream[..stream.len().min(HEAD_LIMIT)]

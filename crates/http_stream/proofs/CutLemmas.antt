@@ -219,7 +219,7 @@ request_falls s r c (head h rest late reads p) =
 
 -- ---- whole streams
 
-none_not_failed : (s : List ℕ) (c : Connection) → Judged s (made next.None c)
+pub none_not_failed : (s : List ℕ) (c : Connection) → Judged s (made next.None c)
     → (c.pending ≡ s) × (c.failed ≡ false)
 none_not_failed s c (early e p) = (ap (λ a. a.after.pending) p, ap (λ a. a.after.failed) p)
 none_not_failed s c (too_long none long p) = absurd (bad_not_none _ _ _ (sym p))
@@ -237,7 +237,7 @@ none_not_failed s c (head h rest late reads p) = by_cases (body_length (headers_
           (ap (λ a. a.after.pending) q, ap (λ a. a.after.failed) q)
     ]
 
-bad_failed : (s : List ℕ) (n : Refusal) (c : Connection) → Judged s (made (next.Bad n) c) → c.failed ≡ true
+pub bad_failed : (s : List ℕ) (n : Refusal) (c : Connection) → Judged s (made (next.Bad n) c) → c.failed ≡ true
 bad_failed s n c (early e p) = absurd (bad_not_none _ _ _ p)
 bad_failed s n c (too_long none long p) = ap (λ a. a.after.failed) p
 bad_failed s n c (hopeless e short never p) = ap (λ a. a.after.failed) p

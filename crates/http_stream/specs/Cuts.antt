@@ -11,7 +11,8 @@ Reads stream [] end =
     Judged stream (record { next = next.None; after = end })
     ⊎ (why : Refusal) × Judged stream (record { next = next.Bad why; after = end })
 Reads stream (r ∷ rs) end =
-    (rest : List ℕ) × Judged stream (record { next = next.Request r; after = record { pending = rest; failed = false } })
+    (rest : List ℕ)
+    × Judged stream (record { next = next.Request r; after = record { pending = rest; failed = false } })
     × Reads rest rs end
 
 -- a stream gives one thing

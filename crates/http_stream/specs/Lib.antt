@@ -1,4 +1,6 @@
+pub mod Answers
 pub mod Body
+pub mod Conversation
 pub mod Cuts
 pub mod Reply
 pub mod Sent

@@ -2,15 +2,18 @@
 //!
 //! `specs/Stream.antt` says what a stream of bytes gives next, by the first of five rules that fits, and
 //! `specs/Cuts.antt` what a whole stream gives: `any_cutting` proves that it doesn't depend on how the stream was
-//! cut. `specs/Reply.antt` and `specs/Sent.antt` have the bytes of a reply and of a request.
+//! cut. `specs/Answers.antt` says that every stream has an answer, and only one, which `one_answer` proves.
+//! `specs/Reply.antt` and `specs/Sent.antt` have the bytes of a reply and of a request.
 #![tactic(auto)]
 
+mod answers;
 mod cuts;
 mod headers;
 mod request;
 #[cfg(test)]
 mod tests;
 
+pub use answers::one_answer;
 pub use cuts::any_cutting;
 pub use headers::HeaderList;
 pub use request::{Next, Request};

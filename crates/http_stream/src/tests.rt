@@ -1,5 +1,5 @@
 // A list of headers keeps their order.
-use crate::{HeaderList, any_cutting};
+use crate::{HeaderList, any_cutting, one_answer};
 use std::test::Fail;
 use vm_types::ByteList;
 
@@ -17,5 +17,6 @@ fn headers_are_kept_in_their_order(rt: HostRuntime) -> Result<(), Fail> {
     assert_eq!(rt; headers.as_slice()[0].0.as_slice(), b"b".as_slice());
     assert_eq!(rt; headers.as_slice()[1].0.as_slice(), b"a".as_slice());
     any_cutting();
+    one_answer();
     Ok(())
 }

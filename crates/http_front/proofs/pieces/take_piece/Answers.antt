@@ -10,5 +10,5 @@ returns-then-is_failed c = λ s x.
 pub returns : goal.returns
 returns c = on_ok_weaker c.drain_all.result
     (λ drains. λ s x. piece_taken s c.args.piece.now c.args.out.now.items c.drain_all.new.out.items c.args.front.now c.feed.new.self
-    c.drain_all.new.front (sym c.if-is_failed.ensures) (c.in_ok-feed.ensures.ok (sym c.if-is_failed.ensures)) drains x)
+    c.drain_all.new.front (sym c.if-is_failed.ensures) c.in_ok-feed.ensures.ok drains x)
     c.drain_all.ensures

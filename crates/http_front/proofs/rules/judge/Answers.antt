@@ -1,9 +1,7 @@
 use Rattle.std.proofs.Common.{arith, subst, sym}
-use Rattle.std.proofs.lemmas.Result.{IfOk-weaker}
 use Rattle.httparse.specs.Grammar.{HasNoRequest, NeverHasRequest, MayBecomeRequest}
-use Rattle.http_front.specs.Told.{Tells}
 use Rattle.http_front.proofs.Judging.{window_short, len_fits, judged_unfinished, judged_hopeless}
-use Rattle.http_front.proofs.TooFew.{tells_of, too_few_here}
+use Rattle.http_front.proofs.TooFew.{too_few_here}
 use Rattle.http_front.proofs.rules.judge.Goals as goal
 
 pub find_head-requires-clause-short : goal.find_head-requires-clause-short
@@ -12,13 +10,6 @@ find_head-requires-clause-short c = rw c.window-front.ensures (window_short c.ar
 pub by_head-requires-clause-fits : goal.by_head-requires-clause-fits
 by_head-requires-clause-fits c =
     len_fits c.args.stream.now c.window-front.result.now _ c.window-front.ensures c.in-Found.ensures.0.section.len_fits
-
-pub returns-in-Found : goal.returns-in-Found
-returns-in-Found c =
-    let found = c.in-Found.ensures.1 in
-    IfOk-weaker c.by_head.result _ (λ r. Tells c.args.stream.now r.0 r.1)
-    (λ r e. tells_of c.args.stream.now c.window-front.result.now found.0 _ r.0 r.1 (sym c.if-is_early.ensures) c.window-front.ensures found.1.reads (e found.0 found.1))
-    c.by_head.ensures
 
 pub returns-then-stream-le-HEAD_LIMIT : goal.returns-then-stream-le-HEAD_LIMIT
 returns-then-stream-le-HEAD_LIMIT c = (
