@@ -1,0 +1,113 @@
+-- What a request asks for, or its first refusal.
+use Rattle.std.specs.Prelude.{ℕ, Bool, true, false, List, [], ◌∷◌, if◌then◌else◌, Option, Some, None, is_some, option_and_then, unwrap_or, Result, Ok, Err, codes}
+use Rattle.std.specs.Str.{bytes_eq, is_utf8}
+use Rattle.serde_json.specs.Data.{Data}
+use Rattle.serde_json.specs.Find.{get, as_object}
+use Rattle.serde_json.specs.Read.{read}
+use Rattle.refusals.specs.declared.refusal.Refusal.{Refusal}
+use Rattle.refusals.specs.declared.refusal.Refusal.TheVariants as refused
+use Rattle.http_stream.specs.declared.request.Request.{Request}
+use Rattle.api_calls.specs.Form.{refusal, text_at, number_at, flag_at}
+use Rattle.api_calls.specs.Fields.{form_of}
+use Rattle.api_calls.specs.Routes.{endpoint_of}
+use Rattle.api_calls.specs.declared.call.ApiCall.{ApiCall}
+use Rattle.api_calls.specs.declared.call.ApiCall.TheVariants as call
+use Rattle.api_calls.specs.declared.call.VmState.{VmState}
+use Rattle.api_calls.specs.declared.call.VmState.TheVariants as state
+use Rattle.api_calls.specs.declared.call.SnapshotFiles.{SnapshotFiles}
+use Rattle.api_calls.specs.declared.endpoint.Body.{Body}
+use Rattle.api_calls.specs.declared.endpoint.Body.TheVariants as body
+use Rattle.api_calls.specs.declared.endpoint.Endpoint.{Endpoint}
+use Rattle.api_calls.specs.declared.endpoint.Endpoint.TheVariants as endpoint
+
+-- what the first gives goes on to the second, unless it refuses
+infixl 10 ◌>>=◌
+abbrev pub ◌>>=◌ : {A B : Type 0} → Result A Refusal → (A → Result B Refusal) → Result B Refusal
+(Ok x) >>= f = f x
+(Err why) >>= f = Err why
+
+-- ---- the body
+
+-- RFC 8259, as serde_json reads it: nested up to 127 deep, and of a key that comes twice the last value
+abbrev pub json_of : List ℕ → Option Data
+json_of bytes = if is_utf8 bytes then read bytes else None
+
+abbrev pub object_in : Option Data → Result Data Refusal
+object_in None = Err refused.NotJson
+object_in (Some d) = if is_some (as_object d) then Ok d else Err refused.WrongKind
+
+unfoldable pub object_of : List ℕ → Result Data Refusal
+object_of bytes = object_in (json_of bytes)
+
+abbrev pub unless : Option Refusal → Data → Result Data Refusal
+unless None d = Ok d
+unless (Some why) d = Err why
+
+-- ---- the call of a body by whose tables nothing is refused
+
+abbrev pub text_or_none : Option (List ℕ) → List ℕ
+text_or_none t = unwrap_or t []
+
+abbrev pub is_text : List ℕ → Option (List ℕ) → Bool
+is_text text None = false
+is_text text (Some t) = bytes_eq t text
+
+abbrev pub state_of : Data → VmState
+state_of d = if is_text (codes "Paused") (text_at (codes "state") d) then state.Paused else state.Resumed
+
+-- the text in an object in the body
+abbrev pub text_in : List ℕ → List ℕ → Data → Option (List ℕ)
+text_in place name d = option_and_then (text_at name) (get place d)
+
+abbrev pub this_or : Option (List ℕ) → Option (List ℕ) → Option (List ℕ)
+this_or None t = t
+this_or (Some s) t = Some s
+
+abbrev pub memory_path : Data → Option (List ℕ)
+memory_path d = this_or (text_at (codes "mem_file_path") d) (text_in (codes "mem_backend") (codes "backend_path") d)
+
+abbrev pub made : Body → Data → ApiCall
+made body.BootSource d = call.PutBootSource (record {
+  kernel_image_path = text_or_none (text_at (codes "kernel_image_path") d);
+})
+made body.MachineConfig d = call.PutMachineConfig (record {
+  vcpu_count = unwrap_or (number_at (codes "vcpu_count") d) 0;
+  mem_size_mib = unwrap_or (number_at (codes "mem_size_mib") d) 0;
+  track_dirty_pages = unwrap_or (flag_at (codes "track_dirty_pages") d) false;
+})
+made body.MachinePatch d = call.PatchMachineConfig (record {
+  vcpu_count = number_at (codes "vcpu_count") d;
+  mem_size_mib = number_at (codes "mem_size_mib") d;
+  track_dirty_pages = flag_at (codes "track_dirty_pages") d;
+})
+made body.Action d = call.InstanceStart
+made body.VmState d = call.PatchVm (state_of d)
+made body.SnapshotCreate d = call.CreateSnapshot (record {
+  snapshot_path = text_or_none (text_at (codes "snapshot_path") d);
+  mem_file_path = text_or_none (text_at (codes "mem_file_path") d);
+})
+made body.SnapshotLoad d = call.LoadSnapshot (record {
+  files = record {
+    snapshot_path = text_or_none (text_at (codes "snapshot_path") d);
+    mem_file_path = text_or_none (memory_path d);
+  };
+  resume_vm = unwrap_or (flag_at (codes "resume_vm") d) false;
+})
+
+-- ---- the request
+
+abbrev pub sent : Body → List ℕ → Result ApiCall Refusal
+sent b bytes = do
+  d ← object_of bytes
+  d ← unless (refusal (form_of b) d) d
+  Ok (made b d)
+
+abbrev pub asked : Endpoint → List ℕ → Result ApiCall Refusal
+asked (endpoint.Send b) bytes = sent b bytes
+asked (endpoint.Get part) bytes = Ok (call.Get part)
+
+-- Refused by its path, then by its method, then by its body; the body of a GET is not looked at.
+abbrev pub call_of : Request → Result ApiCall Refusal
+call_of r = do
+  e ← endpoint_of r.path r.method
+  asked e r.body

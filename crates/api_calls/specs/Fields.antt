@@ -1,0 +1,97 @@
+-- The fields of each body, in the order of the API's table. What isn't built is not in it: a field is unknown
+-- then, and a value out of range.
+use Rattle.std.specs.Prelude.{ℕ, Bool, true, false, List, [], ◌∷◌, codes}
+use Rattle.api_calls.specs.Form.{Kind, path, choice, whole, flag, unset, group, Row, Level, Together, free, some_of, either, differing, Form}
+use Rattle.api_calls.specs.declared.endpoint.Body.{Body}
+use Rattle.api_calls.specs.declared.endpoint.Body.TheVariants as body
+
+abbrev needed : List ℕ → Kind → Row
+needed name kind = record { name = name; required = true; kind = kind }
+
+abbrev optional : List ℕ → Kind → Row
+optional name kind = record { name = name; required = false; kind = kind }
+
+-- a body with no object in it
+abbrev flat : List Row → Together → Form
+flat rows together = record { levels = record { place = []; rows = rows } ∷ []; together = together }
+
+abbrev none_alone : Kind
+none_alone = choice (codes "None" ∷ [])
+
+-- PUT /boot-source
+abbrev pub boot_source : Form
+boot_source = flat (needed (codes "kernel_image_path") path ∷ []) free
+
+-- PUT /machine-config: one hart, 4 to 1,024 MiB
+abbrev pub machine_config : Form
+machine_config = flat (
+    needed (codes "vcpu_count") (whole 1 1)
+    ∷ needed (codes "mem_size_mib") (whole 4 1024)
+    ∷ optional (codes "smt") unset
+    ∷ optional (codes "track_dirty_pages") unset
+    ∷ optional (codes "cpu_template") none_alone
+    ∷ optional (codes "huge_pages") none_alone
+    ∷ []) free
+
+-- PATCH /machine-config: the same fields, at least one of them
+abbrev pub machine_patch : Form
+machine_patch = flat (
+    optional (codes "vcpu_count") (whole 1 1)
+    ∷ optional (codes "mem_size_mib") (whole 4 1024)
+    ∷ optional (codes "smt") unset
+    ∷ optional (codes "track_dirty_pages") unset
+    ∷ optional (codes "cpu_template") none_alone
+    ∷ optional (codes "huge_pages") none_alone
+    ∷ []) (some_of (codes "vcpu_count" ∷ codes "mem_size_mib" ∷ codes "smt"
+    ∷ codes "track_dirty_pages" ∷ codes "cpu_template" ∷ codes "huge_pages" ∷ []))
+
+-- PUT /actions
+abbrev pub action : Form
+action = flat (needed (codes "action_type") (choice (codes "InstanceStart" ∷ [])) ∷ []) free
+
+-- PATCH /vm
+abbrev pub vm_state : Form
+vm_state = flat (needed (codes "state") (choice (codes "Paused" ∷ codes "Resumed" ∷ [])) ∷ []) free
+
+-- PUT /snapshot/create: the two paths differ
+abbrev pub snapshot_create : Form
+snapshot_create = flat (
+    needed (codes "snapshot_path") path
+    ∷ needed (codes "mem_file_path") path
+    ∷ optional (codes "snapshot_type") (choice (codes "Full" ∷ []))
+    ∷ []) (differing (codes "snapshot_path") (codes "mem_file_path"))
+
+-- PUT /snapshot/load: the memory's file is named by one of two fields
+abbrev pub snapshot_load : Form
+snapshot_load = record {
+  levels =
+      record {
+        place = [];
+        rows =
+            needed (codes "snapshot_path") path
+            ∷ optional (codes "mem_file_path") path
+            ∷ optional (codes "mem_backend") group
+            ∷ optional (codes "enable_diff_snapshots") unset
+            ∷ optional (codes "track_dirty_pages") unset
+            ∷ optional (codes "resume_vm") flag
+            ∷ [];
+      }
+      ∷ record {
+        place = codes "mem_backend" ∷ [];
+        rows =
+            needed (codes "backend_path") path
+            ∷ needed (codes "backend_type") (choice (codes "File" ∷ []))
+            ∷ [];
+      }
+      ∷ [];
+  together = either (codes "mem_file_path") (codes "mem_backend");
+}
+
+abbrev pub form_of : Body → Form
+form_of body.BootSource = boot_source
+form_of body.MachineConfig = machine_config
+form_of body.MachinePatch = machine_patch
+form_of body.Action = action
+form_of body.VmState = vm_state
+form_of body.SnapshotCreate = snapshot_create
+form_of body.SnapshotLoad = snapshot_load

@@ -1,0 +1,4 @@
+pub mod Form
+pub mod Fields
+pub mod Routes
+pub mod Call

@@ -1,0 +1,83 @@
+// The calls of the API, in the table's order.
+use vm_types::TextList;
+
+/// What a GET tells.
+#[derive(Clone, Copy, Debug, PartialEq, Eq, Drop)]
+pub enum Part {
+    /// GET /: the id of the machine, its phase and its version.
+    Instance,
+    /// GET /version
+    Version,
+    /// GET /machine-config
+    MachineConfig,
+    /// GET /vm/config: all that is configured.
+    VmConfig,
+}
+
+/// What the machine boots.
+#[derive(Drop)]
+pub struct BootSource {
+    /// The name of the kernel image's file, of 1 to 4,095 bytes.
+    pub kernel_image_path: TextList,
+}
+
+/// The machine itself. Simultaneous multithreading is always off.
+#[derive(Clone, Copy, Debug, PartialEq, Eq, Drop)]
+pub struct MachineConfig {
+    /// The number of harts.
+    pub vcpu_count: u64,
+    /// The memory in MiB, from 4 to 1,024.
+    pub mem_size_mib: u64,
+    /// Whether the pages that the guest writes are marked for diff snapshots.
+    pub track_dirty_pages: bool,
+}
+
+/// The fields of a machine that are to be replaced; the others stay.
+#[derive(Clone, Copy, Drop)]
+pub struct MachinePatch {
+    pub vcpu_count: Option<u64>,
+    pub mem_size_mib: Option<u64>,
+    pub track_dirty_pages: Option<bool>,
+}
+
+/// Whether a machine that has started is to stand still or to go on.
+#[derive(Clone, Copy, Debug, PartialEq, Eq, Drop)]
+pub enum VmState {
+    Paused,
+    Resumed,
+}
+
+/// The names of a snapshot's two files.
+#[derive(Drop)]
+pub struct SnapshotFiles {
+    pub snapshot_path: TextList,
+    pub mem_file_path: TextList,
+}
+
+/// The snapshot that is to be loaded, and whether the machine then runs.
+#[derive(Drop)]
+pub struct SnapshotLoad {
+    pub files: SnapshotFiles,
+    pub resume_vm: bool,
+}
+
+/// A call of the API.
+#[derive(Drop)]
+pub enum ApiCall {
+    /// PUT /boot-source
+    PutBootSource(BootSource),
+    /// PUT /machine-config
+    PutMachineConfig(MachineConfig),
+    /// PATCH /machine-config
+    PatchMachineConfig(MachinePatch),
+    /// PUT /actions with InstanceStart
+    InstanceStart,
+    /// PATCH /vm
+    PatchVm(VmState),
+    /// PUT /snapshot/create, of a full snapshot.
+    CreateSnapshot(SnapshotFiles),
+    /// PUT /snapshot/load
+    LoadSnapshot(SnapshotLoad),
+    /// GET of a part
+    Get(Part),
+}

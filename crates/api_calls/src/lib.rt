@@ -1,0 +1,17 @@
+//! What a request asks of the API: the calls as plain data, and the tables by which a request is read as one.
+//!
+//! `specs/Routes.antt` has the paths and their methods, `specs/Fields.antt` the fields of each body, and
+//! `specs/Form.antt` what is asked of fields and which refusal comes first. `specs/Call.antt` puts them together:
+//! the call that a request is, or its first refusal. There is no body here: `api_json` reads requests by these
+//! tables, and the flat machine cites them.
+#![tactic(auto)]
+
+mod call;
+mod endpoint;
+mod test;
+
+pub use call::{
+    ApiCall, BootSource, MachineConfig, MachinePatch, Part, SnapshotFiles, SnapshotLoad, VmState,
+};
+pub use endpoint::{Body, Endpoint};
+pub use test::Test;

@@ -1,0 +1,78 @@
+// A request as a call.
+ghost use Rattle.std.specs.Prelude.{◌≡◌, IfOk};
+ghost use Rattle.serde_json.specs.View.{view};
+ghost use Rattle.api_calls.specs.Call.{call_of, made, sent};
+ghost use Rattle.api_calls.specs.Fields as fields;
+ghost use Rattle.api_json.specs.Gives.{Gives};
+ghost use Rattle.api_json.specs.Tables.{form_of};
+
+use crate::actions::ACTION;
+use crate::body::object_of;
+use crate::boot_source::{self, BOOT_SOURCE};
+use crate::error::ReadError;
+use crate::levels::{Form, refusal};
+use crate::machine_config::{self, MACHINE_CONFIG, MACHINE_PATCH};
+use crate::routes::endpoint_of;
+use crate::snapshot::{self, SNAPSHOT_CREATE, SNAPSHOT_LOAD};
+use crate::vm::{VM_STATE, state_of};
+use api_calls::{ApiCall, Body, Endpoint};
+use http_stream::Request;
+use serde_json::Value;
+use std::alloc::{AllocError, Global};
+
+fn form_of(body: Body) -> &'static Form
+    ensures { form_of result.now ≡ fields.form_of body }
+{
+    match body {
+        Body::BootSource => &BOOT_SOURCE,
+        Body::MachineConfig => &MACHINE_CONFIG,
+        Body::MachinePatch => &MACHINE_PATCH,
+        Body::Action => &ACTION,
+        Body::VmState => &VM_STATE,
+        Body::SnapshotCreate => &SNAPSHOT_CREATE,
+        Body::SnapshotLoad => &SNAPSHOT_LOAD,
+    }
+}
+
+fn make(alloc: Global, body: Body, object: &Value) -> Result<ApiCall, AllocError>
+    ensures { IfOk result (λ found. found ≡ made body (view object.now)) }
+{
+    match body {
+        Body::BootSource => boot_source::put(alloc, object),
+        Body::MachineConfig => Ok(machine_config::put(object)),
+        Body::MachinePatch => Ok(machine_config::patch(object)),
+        Body::Action => Ok(ApiCall::InstanceStart),
+        Body::VmState => Ok(ApiCall::PatchVm(state_of(object))),
+        Body::SnapshotCreate => snapshot::create(alloc, object),
+        Body::SnapshotLoad => snapshot::load(alloc, object),
+    }
+}
+
+fn read_body(alloc: Global, body: Body, bytes: &[u8]) -> Result<ApiCall, ReadError>
+    ensures { Gives result (sent body bytes.now) }
+{
+    let object = object_of(alloc, bytes)?;
+    if let Some(why) = refusal(form_of(body), &object) {
+        return Err(ReadError::Refused(why));
+    }
+    let call = make(alloc, body, &object)?;
+    Ok(call)
+}
+
+/// The call that a request asks for.
+///
+/// `Refused`: by the first of these that fits: its path, its method, its body as JSON, its body as an object, then
+/// a field that is unknown, one that is missing, one of the wrong kind, one out of range. The body of a GET isn't
+/// looked at.
+pub fn read(alloc: Global, request: &Request) -> Result<ApiCall, ReadError>
+    ensures { Gives result (call_of request.now) }
+{
+    let endpoint = endpoint_of(request.path.as_bytes(), request.method.as_bytes())?;
+    match endpoint {
+        Endpoint::Send(body) => {
+            let call = read_body(alloc, body, request.body.as_slice())?;
+            Ok(call)
+        }
+        Endpoint::Get(part) => Ok(ApiCall::Get(part)),
+    }
+}

@@ -1,0 +1,126 @@
+-- Which calls are allowed: the API's table, row by row, without the checks of bodies, which come before.
+use Rattle.std.specs.Prelude.{ℕ, ◌^◌, nat_le, Bool, true, false, not, if◌then◌else◌, List, [], ◌∷◌, length, Option, Some, None, is_none, unwrap_or, Result, Ok, Err}
+use Rattle.guest_memory.specs.Boot.{image_fits}
+use Rattle.refusals.specs.declared.refusal.Refusal.{Refusal}
+use Rattle.refusals.specs.declared.refusal.Refusal.TheVariants as refusal
+use Rattle.api_calls.specs.declared.call.ApiCall.{ApiCall}
+use Rattle.api_calls.specs.declared.call.ApiCall.TheVariants as call
+use Rattle.api_calls.specs.declared.call.MachineConfig.{MachineConfig}
+use Rattle.api_calls.specs.declared.call.MachinePatch.{MachinePatch}
+use Rattle.vm_config.specs.declared.config.Config.{Config}
+use Rattle.vm_config.specs.declared.config.Phase.{Phase}
+use Rattle.vm_config.specs.declared.config.Phase.TheVariants as phase
+use Rattle.vm_config.specs.declared.change.Change.{Change}
+use Rattle.vm_config.specs.declared.change.Change.TheVariants as change
+use Rattle.api_rules.specs.declared.deciding.When.{When}
+use Rattle.api_rules.specs.declared.deciding.When.TheVariants.{BeforeBoot, AfterBoot, Always}
+use Rattle.api_rules.specs.declared.ids.Ids.{Ids}
+
+-- ---- the phase
+
+abbrev pub when_allowed : ApiCall → When
+when_allowed (call.PutBootSource source) = BeforeBoot
+when_allowed (call.PutMachineConfig machine) = BeforeBoot
+when_allowed (call.PatchMachineConfig patch) = BeforeBoot
+when_allowed call.InstanceStart = BeforeBoot
+when_allowed (call.PatchVm state) = AfterBoot
+when_allowed (call.CreateSnapshot files) = AfterBoot
+when_allowed (call.LoadSnapshot load) = BeforeBoot
+when_allowed (call.Get part) = Always
+
+abbrev pub has_started : Phase → Bool
+has_started phase.NotStarted = false
+has_started phase.Running = true
+has_started phase.Paused = true
+
+abbrev pub is_paused : Phase → Bool
+is_paused phase.NotStarted = false
+is_paused phase.Running = false
+is_paused phase.Paused = true
+
+abbrev pub misplaced : When → Phase → Option Refusal
+misplaced BeforeBoot p = if has_started p then Some refusal.OnlyBeforeBoot else None
+misplaced AfterBoot p = if has_started p then None else Some refusal.OnlyAfterBoot
+misplaced Always p = None
+
+-- ---- a call's own refusals: a test and its refusal, one for each row, in order
+
+abbrev pub Rows : Type 0
+Rows = List (Bool × Refusal)
+
+abbrev pub start_rows : Config → Rows
+start_rows config = (is_none config.boot_source, refusal.NoBootSource) ∷ []
+
+-- a number of a snapshot is below 2^63
+abbrev pub create_rows : Phase → Ids → Rows
+create_rows p ids =
+    (not (is_paused p), refusal.NotPaused)
+    ∷ (nat_le (2 ^ 63) ids.next, refusal.NoSlotLeft)
+    ∷ []
+
+abbrev pub load_rows : Config → Rows
+load_rows config = (config.configured, refusal.AlreadyConfigured) ∷ []
+
+abbrev pub own_rows : Phase → Config → Ids → ApiCall → Rows
+own_rows p config ids (call.PutBootSource source) = []
+own_rows p config ids (call.PutMachineConfig machine) = []
+own_rows p config ids (call.PatchMachineConfig patch) = []
+own_rows p config ids call.InstanceStart = start_rows config
+own_rows p config ids (call.PatchVm state) = []
+own_rows p config ids (call.CreateSnapshot files) = create_rows p ids
+own_rows p config ids (call.LoadSnapshot load) = load_rows config
+own_rows p config ids (call.Get part) = []
+
+abbrev pub first_refusal : Rows → Option Refusal
+first_refusal [] = None
+first_refusal (row ∷ rows) = if row.0 then Some row.1 else first_refusal rows
+
+abbrev pub own_refusal : Phase → Config → Ids → ApiCall → Option Refusal
+own_refusal p config ids c = first_refusal (own_rows p config ids c)
+
+-- ---- what an accepted call asks for
+
+-- the given fields replace, and the others stay
+abbrev pub patched : MachineConfig → MachinePatch → MachineConfig
+patched machine patch = record {
+  vcpu_count = unwrap_or patch.vcpu_count machine.vcpu_count;
+  mem_size_mib = unwrap_or patch.mem_size_mib machine.mem_size_mib;
+  track_dirty_pages = unwrap_or patch.track_dirty_pages machine.track_dirty_pages;
+}
+
+abbrev pub change_of : Config → ApiCall → Change
+change_of config (call.PutBootSource source) = change.BootSource source
+change_of config (call.PutMachineConfig machine) = change.MachineConfig machine
+change_of config (call.PatchMachineConfig patch) = change.MachineConfig (patched config.machine patch)
+change_of config call.InstanceStart = change.Start
+change_of config (call.PatchVm state) = change.State state
+change_of config (call.CreateSnapshot files) = change.CreateSnapshot files
+change_of config (call.LoadSnapshot load) = change.LoadSnapshot load
+change_of config (call.Get part) = change.Tell part
+
+-- ---- the decision
+
+-- the first that is there refuses
+abbrev pub unless : Option Refusal → Result Change Refusal → Result Change Refusal
+unless None due = due
+unless (Some why) due = Err why
+
+-- by the phase, then by the call's own refusals
+abbrev pub decision : Phase → Config → Ids → ApiCall → Result Change Refusal
+decision p config ids c =
+    unless (misplaced (when_allowed c) p) (unless (own_refusal p config ids c) (Ok (change_of config c)))
+
+-- ---- what an allowed start is refused by the files, where image is how many bytes its kernel image has
+
+abbrev pub fits_by : Option ℕ → ℕ → Bool
+fits_by None mib = true
+fits_by (Some len) mib = image_fits mib len
+
+abbrev pub image_rows : Config → Option ℕ → Rows
+image_rows config image =
+    (is_none image, refusal.NoSuchFile)
+    ∷ (not (fits_by image config.machine.mem_size_mib), refusal.DoesNotFit)
+    ∷ []
+
+abbrev pub image_refusal : Config → Option ℕ → Option Refusal
+image_refusal config image = first_refusal (image_rows config image)

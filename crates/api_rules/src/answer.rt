@@ -1,0 +1,51 @@
+// What calls are answered.
+ghost use Rattle.std.specs.Prelude.{◌≡◌, IfOk};
+ghost use Rattle.api_rules.specs.Answers.{accepted, refused};
+
+use refusals::{Refusal, fault_text};
+use std::alloc::{AllocError, Global};
+use vm_config::{Change, Config, Phase};
+use vm_types::ByteList;
+
+const OK: u16 = 200;
+
+const NO_CONTENT: u16 = 204;
+
+/// An HTTP status, and the body where there is one.
+#[derive(Drop)]
+pub struct Answer {
+    pub status: u16,
+    pub body: Option<ByteList>,
+}
+
+/// What a refused call is answered.
+pub fn fault_answer(alloc: Global, refusal: Refusal) -> Result<Answer, AllocError>
+    ensures { IfOk result (λ answer. answer ≡ refused refusal) }
+{
+    Ok(Answer {
+        status: refusal.status(),
+        body: Some(fault_text(alloc, refusal)?),
+    })
+}
+
+/// What an accepted call is answered by the machine of this id in this phase.
+pub fn accepted_answer(
+    alloc: Global,
+    change: &Change,
+    id: &str,
+    phase: Phase,
+    config: &Config,
+) -> Result<Answer, AllocError>
+    ensures { IfOk result (λ answer. answer ≡ accepted change.now id.now phase config.now) }
+{
+    match change {
+        Change::Tell(part) => Ok(Answer {
+            status: OK,
+            body: Some(config.json(alloc, *part, id, phase)?),
+        }),
+        _ => Ok(Answer {
+            status: NO_CONTENT,
+            body: None,
+        }),
+    }
+}

@@ -1,0 +1,30 @@
+//! Which calls are allowed, and what each asks for.
+//!
+//! `decide` is the table: a call is refused by the phase, then by the refusals of its own, each in the table's
+//! order, and else it is a change. It takes no memory, and asks no file: what a start is refused by the file of its
+//! kernel image, `image_refusal` says. The definition is `specs/Table.antt`, row by row. `specs/Answers.antt` has what
+//! a call is answered.
+#![tactic(auto)]
+
+mod ids;
+
+// The resources that have rules of their own, in the order of the API's table: PATCH /machine-config,
+mod machine_config;
+
+// PUT /actions,
+mod actions;
+
+// PUT /snapshot/create and PUT /snapshot/load.
+mod snapshot;
+
+// A call, by all of them, and what it is answered.
+mod answer;
+mod deciding;
+#[cfg(test)]
+mod tests;
+
+pub use actions::image_refusal;
+pub use answer::{Answer, accepted_answer, fault_answer};
+pub use deciding::{When, decide};
+pub use ids::{Identity, Ids};
+pub use vm_config::{Change, Config, Phase};

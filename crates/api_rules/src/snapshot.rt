@@ -1,0 +1,34 @@
+// PUT /snapshot/create and PUT /snapshot/load
+ghost use Rattle.std.specs.Prelude.{◌≡◌};
+ghost use Rattle.api_rules.specs.Table as table;
+
+use crate::ids::Ids;
+use refusals::Refusal;
+use vm_config::{Config, Phase};
+
+// Numbers of snapshots are below this.
+const END_OF_NUMBERS: u64 = 1 << 63;
+
+/// What a full snapshot is refused.
+pub fn create_refusal(phase: Phase, ids: &Ids) -> Option<Refusal>
+    ensures { result ≡ table.first_refusal (table.create_rows phase ids.now) }
+{
+    if !matches!(phase, Phase::Paused) {
+        Some(Refusal::NotPaused)
+    } else if ids.next >= END_OF_NUMBERS {
+        Some(Refusal::NoSlotLeft)
+    } else {
+        None
+    }
+}
+
+/// What a load is refused by the configuration.
+pub fn load_refusal(config: &Config) -> Option<Refusal>
+    ensures { result ≡ table.first_refusal (table.load_rows config.now) }
+{
+    if config.configured {
+        Some(Refusal::AlreadyConfigured)
+    } else {
+        None
+    }
+}

@@ -1,0 +1,24 @@
+-- What is configured, and what each change leaves of it.
+use Rattle.std.specs.Prelude.{Bool, true, false, Option, Some, None}
+use Rattle.vm_config.specs.declared.config.Config.{Config}
+use Rattle.vm_config.specs.declared.change.Change.{Change}
+use Rattle.vm_config.specs.declared.change.Change.TheVariants as change
+
+-- no boot source, one hart and 128 MiB
+abbrev pub default_config : Config
+default_config = record {
+  boot_source = None;
+  machine = record { vcpu_count = 1; mem_size_mib = 128; track_dirty_pages = false };
+  configured = false;
+}
+
+-- What is allowed only before boot makes it configured: a boot source, a machine, a start and a load. What was
+-- configured before is replaced.
+abbrev pub changed : Config → Change → Config
+changed config (change.BootSource source) = record config { boot_source = Some source; configured = true }
+changed config (change.MachineConfig machine) = record config { machine = machine; configured = true }
+changed config change.Start = record config { configured = true }
+changed config (change.State state) = config
+changed config (change.CreateSnapshot files) = config
+changed config (change.LoadSnapshot load) = record config { configured = true }
+changed config (change.Tell part) = config

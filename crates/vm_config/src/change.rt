@@ -1,0 +1,21 @@
+// What accepted calls ask for.
+use api_calls::{BootSource, MachineConfig, Part, SnapshotFiles, SnapshotLoad, VmState};
+
+/// What an accepted call asks for.
+#[derive(Drop)]
+pub enum Change {
+    /// This is booted.
+    BootSource(BootSource),
+    /// The machine is this one.
+    MachineConfig(MachineConfig),
+    /// The machine starts.
+    Start,
+    /// The machine stands still or goes on.
+    State(VmState),
+    /// A full snapshot is written.
+    CreateSnapshot(SnapshotFiles),
+    /// A snapshot is loaded.
+    LoadSnapshot(SnapshotLoad),
+    /// A part is told, and nothing changes.
+    Tell(Part),
+}
