@@ -1,23 +1,19 @@
 -- Actors and answers, read and written.
 use Rattle.std.proofs.Common.{◌≡◌, ℕ, ◌^◌, ◌<◌, ◌≤◌, nat_le, List, [], ◌∷◌, ◌++◌, length, codes, Option, Some, None, option_and_then, refl, sym, ◌∙◌, ap, subst, inl, inr, arith, append_assoc}
 use Rattle.std.proofs.lemmas.Bool.{cond-true, le-leb, leb-true}
-use Rattle.std.proofs.lemmas.List.Elements.{All-cons, All-nil}
 use Rattle.std.proofs.lemmas.Option.{cond_some, option_and_then_some}
 use Rattle.std.specs.Fmt.{decimal}
 use Rattle.std.specs.Option.{option_map}
-use Rattle.vm_types.specs.declared.ids.ActorId.{ActorId}
-use Rattle.vm_types.specs.declared.ids.ActorId.TheVariants.{Timer, Hart, Device}
 use Rattle.script_text.specs.declared.item.HostReply.{HostReply}
 use Rattle.script_text.specs.declared.item.HostReply.TheVariants as answer
-use Rattle.script_text.specs.Items.{actor_of, answer_of, hart_of, numbered_answer, part_of, plain_answer, received_of, short_part}
-use Rattle.script_text.specs.Numbers.{bytes_of, hex_of, is_digit, number_within, numbered}
-use Rattle.script_text.specs.Words.{after, bare, or_else}
-use Rattle.script_text.specs.Written.{HasActorForm, HasAnswerForm, Lacks, actor_word, answer_words}
-use Rattle.script_text.proofs.Decimals.{decimal_digits}
-use Rattle.script_text.proofs.Forms.{numbered_reads, numbered_writes, within_reads, within_writes}
-use Rattle.script_text.proofs.Hex.{hex_below, hex_reads, hex_writes}
-use Rattle.script_text.proofs.Lacking.{lacks_failing}
-use Rattle.script_text.proofs.Parting.{after_reads, bare_reads, either, mapped, two_reads, two_writes}
+use Rattle.script_text.specs.Items.{answer_of, numbered_answer, part_of, plain_answer, received_of, short_part}
+use Rattle.script_words.specs.Numbers.{bytes_of, hex_of, number_within, numbered}
+use Rattle.script_words.specs.Words.{after, bare, or_else, two}
+use Rattle.script_text.specs.Written.{HasAnswerForm, answer_words}
+use Rattle.script_words.proofs.Forms.{numbered_reads, numbered_writes, within_reads, within_writes}
+use Rattle.script_words.proofs.Hex.{hex_below, hex_reads, hex_writes}
+use Rattle.script_words.proofs.Parting.{after_reads, bare_reads, either, mapped, two_reads, two_writes}
+use Rattle.script_words.proofs.ActorWords.{decimal_lacks, first}
 
 -- ---- lines of words
 
@@ -31,43 +27,6 @@ line_is a line rest w r v s parts two first second =
 -- the same without what is before
 pub words_are : (w r : List ℕ) → w ++ (32 ∷ []) ++ r ≡ w ++ 32 ∷ r
 words_are w r = append_assoc w (32 ∷ []) r
-
-pub first : {A : Type 0} (x y : Option A) (v : A) → x ≡ Some v → or_else x y ≡ Some v
-first {A = A} x y v is = ap (λ (o : Option A). or_else o y) is
-
-pub decimal_lacks : (n : ℕ) → n < 2 ^ 64 → Lacks 32 (decimal n)
-decimal_lacks n small = lacks_failing is_digit 32 (decimal n) refl (decimal_digits n small)
-
--- ---- actors
-
-abbrev pub IsActor : List ℕ → ActorId → Type 0
-IsActor word actor = (word ≡ actor_word actor) × HasActorForm actor
-
-pub actor_reads : (word : List ℕ) (actor : ActorId) → actor_of word ≡ Some actor → IsActor word actor
-actor_reads word actor is =
-    let timer : Option ActorId = bare (codes "t") Timer word in
-    let hart : Option ActorId = option_map Hart (hart_of word) in
-    let device : Option ActorId = option_map Device (numbered (codes "d") 255 word) in
-    elim (either timer (or_else hart device) actor is) [
-      | inl one ↦ let got = bare_reads (codes "t") word Timer actor one in subst (λ (a : ActorId). IsActor word a) (sym got.1) (got.0, tt)
-      | inr more ↦ elim (either hart device actor more) [
-        | inl one ↦ mapped Hart (hart_of word) actor one (λ h by made. subst (λ (a : ActorId). IsActor word a) (sym made) (numbered_reads (codes "h") word 255 h by))
-        | inr one ↦ mapped Device (numbered (codes "d") 255 word) actor one (λ d by made. subst (λ (a : ActorId). IsActor word a) (sym made) (numbered_reads (codes "d") word 255 d by))
-      ]
-    ]
-
-pub hart_writes : (h : ℕ) → h ≤ 255 → hart_of (actor_word (Hart h)) ≡ Some h
-hart_writes h low = numbered_writes (codes "h") 255 h low (omega arith)
-
-pub actor_writes : (actor : ActorId) → HasActorForm actor → actor_of (actor_word actor) ≡ Some actor
-actor_writes Timer form = refl
-actor_writes (Hart h) form = first (option_map Hart (hart_of (actor_word (Hart h)))) None (Hart h) (ap (option_map Hart) (hart_writes h form))
-actor_writes (Device d) form = ap (option_map Device) (numbered_writes (codes "d") 255 d form (omega arith))
-
-pub actor_lacks : (actor : ActorId) → HasActorForm actor → Lacks 32 (actor_word actor)
-actor_lacks Timer form = All-cons (λ (c : ℕ). c ≡ 32 → ⊥) 116 [] (λ e. omega arith) (All-nil (λ (c : ℕ). c ≡ 32 → ⊥))
-actor_lacks (Hart h) form = All-cons (λ (c : ℕ). c ≡ 32 → ⊥) 104 (decimal h) (λ e. omega arith) (decimal_lacks h (omega arith))
-actor_lacks (Device d) form = All-cons (λ (c : ℕ). c ≡ 32 → ⊥) 100 (decimal d) (λ e. omega arith) (decimal_lacks d (omega arith))
 
 -- ---- answers
 

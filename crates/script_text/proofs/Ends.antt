@@ -1,33 +1,16 @@
 -- Where the first line ends, and lines that are too long.
-use Rattle.std.proofs.Common.{◌≡◌, ℕ, zero, suc, ◌+◌, ◌-◌, ◌<◌, ◌≤◌, min, List, [], ◌∷◌, ◌++◌, length, get_or, take, drop, map, Option, None, Some, inl, inr, refl, sym, ◌∙◌, ap, subst, arith, append-nil, append_assoc, length-append, length-drop}
+use Rattle.std.proofs.Common.{◌≡◌, ℕ, suc, ◌+◌, ◌-◌, ◌<◌, ◌≤◌, min, List, [], ◌∷◌, ◌++◌, length, get_or, take, drop, map, Option, None, Some, inl, inr, refl, sym, ◌∙◌, ap, subst, arith, append-nil, append_assoc, length-append, length-drop}
 use Rattle.std.proofs.lemmas.Bool.{cases_lt, lt-leb}
-use Rattle.std.proofs.lemmas.Bool.Decides.{nat_tests}
 use Rattle.std.proofs.lemmas.List.{get_or_append_left, get_or-take, length-take, take-append-drop, take-take, take_all}
 use Rattle.script_text.specs.declared.item.Item.{Item}
-use Rattle.script_text.specs.Ends.{LacksEnd, StopsAt}
+use Rattle.script_words.specs.Ends.{LacksEnd, StopsAt}
 use Rattle.script_text.specs.Items.{item_of, longest}
-use Rattle.script_text.specs.Lines.{judged, lines_of, onto}
+use Rattle.script_text.specs.Lines.{judged}
+use Rattle.script_words.specs.Lines.{lines_of}
 use Rattle.script_text.specs.Reader.{Gives, IsFirst, IsNext, Shortens, Takes}
 use Rattle.script_text.specs.declared.line_reader.Next.{Next}
 use Rattle.script_text.specs.declared.line_reader.Next.TheVariants as next
-
--- no byte is an LF
-abbrev pub Free : List ℕ → Type 0
-Free text = LacksEnd text (length text)
-
-starts : (c : ℕ) (cs : List ℕ) → (c ≡ 10 → ⊥) → lines_of (c ∷ cs) ≡ onto c (lines_of cs)
-starts c cs other = grind (arith, nat_tests)
-
-ends : (c : ℕ) (cs : List ℕ) → c ≡ 10 → lines_of (c ∷ cs) ≡ [] ∷ lines_of cs
-ends c cs is = grind (arith, nat_tests)
-
--- the first line of a text, whatever comes behind
-pub first_end : (text more : List ℕ) (i : ℕ) → i < length text → get_or text i 0 ≡ 10 → LacksEnd text i
-    → lines_of (text ++ more) ≡ take i text ∷ lines_of (drop (suc i) text ++ more)
-first_end [] more i lt is before = absurd (omega arith)
-first_end (c ∷ cs) more zero lt is before = ends c (cs ++ more) is
-first_end (c ∷ cs) more (suc i) lt is before =
-    starts c (cs ++ more) (before 0 (omega arith)) ∙ ap (onto c) (first_end cs more i (omega arith) is (λ k less. before (suc k) (omega arith)))
+use Rattle.script_words.proofs.Ends.{Free, first_end, lines_under, no_end, under}
 
 pub judged_first : (text more : List ℕ) (i : ℕ) → i < length text → get_or text i 0 ≡ 10 → LacksEnd text i
     → judged (text ++ more) ≡ item_of (take i text) ∷ judged (drop (i + 1) text ++ more)
@@ -35,33 +18,8 @@ judged_first text more i lt is before =
     let next : suc i ≡ i + 1 = omega arith in
     ap (map item_of) (first_end text more i lt is before) ∙ ap (λ (j : ℕ). item_of (take i text) ∷ judged (drop j text ++ more)) next
 
-pub no_end : (text : List ℕ) → Free text → lines_of text ≡ []
-no_end [] none = refl
-no_end (c ∷ cs) none =
-    starts c cs (none 0 (omega arith)) ∙ ap (onto c) (no_end cs (λ k lt. none (suc k) (omega arith)))
-
 pub none_judged : (text : List ℕ) → Free text → judged text ≡ []
 none_judged text none = ap (map item_of) (no_end text none)
-
--- ---- bytes before the first line
-
-abbrev pub under : List ℕ → List (List ℕ) → List (List ℕ)
-under front [] = []
-under front (line ∷ lines) = (front ++ line) ∷ lines
-
-under_none : (lines : List (List ℕ)) → lines ≡ under [] lines
-under_none [] = refl
-under_none (line ∷ lines) = refl
-
-onto_under : (c : ℕ) (front : List ℕ) (lines : List (List ℕ)) → onto c (under front lines) ≡ under (c ∷ front) lines
-onto_under c front [] = refl
-onto_under c front (line ∷ lines) = refl
-
-pub lines_under : (front more : List ℕ) → Free front → lines_of (front ++ more) ≡ under front (lines_of more)
-lines_under [] more free = under_none (lines_of more)
-lines_under (c ∷ front) more free =
-    starts c (front ++ more) (free 0 (omega arith))
-    ∙ (ap (onto c) (lines_under front more (λ k lt. free (suc k) (omega arith))) ∙ onto_under c front (lines_of more))
 
 -- ---- a line that is too long
 

@@ -1,13 +1,5 @@
 pub mod ActorForms
-pub mod Decimals
 pub mod Ends
-pub mod Forms
-pub mod Hex
-pub mod Lacking
 pub mod LineReads
 pub mod LineWrites
-pub mod Parting
 pub mod Scripts
-pub mod Spaces
-pub mod Texts
-pub mod WholeText

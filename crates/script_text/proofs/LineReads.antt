@@ -9,16 +9,18 @@ use Rattle.std.specs.Option.{option_map}
 use Rattle.vm_types.specs.declared.ids.ActorId.TheVariants.{Hart}
 use Rattle.script_text.specs.declared.item.Item.{Item}
 use Rattle.script_text.specs.declared.item.Item.TheVariants as item
-use Rattle.script_text.specs.Items.{actor_line, actor_of, answer_of, api_call, api_of, connection_line, file_of, hart_of, host_line, item_of, longest, memory_of, name_of, register_of, reply_of, shape_of, shown_line, some_target, step_of, target_by, target_of, worded}
-use Rattle.script_text.specs.Numbers.{address_of, address_text, bytes_of, hex_of, number_within, word_of}
-use Rattle.script_text.specs.Words.{after, bare, is_text, or_else, parted, some_word, text_of}
-use Rattle.script_text.specs.Written.{HasForm, IsSpelling, IsWritable, Lacks, actor_word, body_words, line_of}
-use Rattle.script_text.proofs.ActorForms.{actor_reads, answer_reads, line_is}
-use Rattle.script_text.proofs.Forms.{address_reads, few_digits, numbered_reads, within_reads, word_reads}
-use Rattle.script_text.proofs.Hex.{hex_below, hex_reads}
-use Rattle.script_text.proofs.Lacking.{lacks_behind, lacks_front, lacks_unfound}
-use Rattle.script_text.proofs.Spaces.{space_lacks, space_reads}
-use Rattle.script_text.proofs.Parting.{after_reads, bare_reads, either, mapped, two_reads, unless_reads}
+use Rattle.script_text.specs.Items.{actor_line, answer_of, api_call, api_of, connection_line, file_of, host_line, item_of, longest, memory_of, register_of, reply_of, shape_of, shown_line, some_target, step_of, target_by, target_of, worded}
+use Rattle.script_words.specs.Actors.{actor_of, hart_of, actor_word}
+use Rattle.script_words.specs.Words.{name_of, after, bare, is_text, or_else, parted, some_word, text_of, Lacks}
+use Rattle.script_words.specs.Numbers.{address_of, address_text, bytes_of, hex_of, number_within, word_of}
+use Rattle.script_text.specs.Written.{HasForm, IsSpelling, IsWritable, body_words, line_of}
+use Rattle.script_words.proofs.ActorWords.{actor_reads}
+use Rattle.script_text.proofs.ActorForms.{answer_reads, line_is}
+use Rattle.script_words.proofs.Forms.{address_reads, few_digits, numbered_reads, within_reads, word_reads}
+use Rattle.script_words.proofs.Hex.{hex_below, hex_reads}
+use Rattle.script_words.proofs.Lacking.{lacks_behind, lacks_front, lacks_unfound}
+use Rattle.script_words.proofs.Spaces.{space_lacks, space_reads}
+use Rattle.script_words.proofs.Parting.{after_reads, bare_reads, either, mapped, two_reads, unless_reads}
 
 -- a spelling of the item, which has a form where the line has no LF
 pub record IsRead (line : List ℕ) (it : Item) : Type 0 where

@@ -8,15 +8,17 @@ use Rattle.vm_types.specs.declared.ids.ActorId.TheVariants.{Hart}
 use Rattle.script_text.specs.declared.item.HostReply.{HostReply}
 use Rattle.script_text.specs.declared.item.Item.{Item}
 use Rattle.script_text.specs.declared.item.Item.TheVariants as item
-use Rattle.script_text.specs.Items.{actor_of, answer_of, api_call, api_of, file_of, hart_of, item_of, longest, memory_of, name_of, register_of, reply_of, shape_of, some_target, step_of, target_by, target_of, worded}
-use Rattle.script_text.specs.Numbers.{address_of, address_text, bytes_of, hex_of, is_hex, number_within, word_of, word_text}
-use Rattle.script_text.specs.Words.{is_text, or_else, parted, some_word, text_of}
-use Rattle.script_text.specs.Written.{HasForm, IsComment, IsWord, IsWritable, actor_word, answer_words, body_words, line_of}
-use Rattle.script_text.proofs.ActorForms.{actor_lacks, actor_writes, answer_writes, first, hart_writes, words_are}
-use Rattle.script_text.proofs.Forms.{address_writes, address_is_hex, within_writes, word_writes}
-use Rattle.script_text.proofs.Hex.{hex_writes}
-use Rattle.script_text.proofs.Lacking.{lacks_failing, none_found}
-use Rattle.script_text.proofs.Parting.{cut_writes, two_writes, unless_writes}
+use Rattle.script_words.specs.Actors.{actor_of, hart_of, actor_word}
+use Rattle.script_text.specs.Items.{answer_of, api_call, api_of, file_of, item_of, longest, memory_of, register_of, reply_of, shape_of, some_target, step_of, target_by, target_of, worded}
+use Rattle.script_words.specs.Words.{name_of, is_text, or_else, parted, some_word, text_of}
+use Rattle.script_words.specs.Numbers.{address_of, address_text, bytes_of, hex_of, is_hex, number_within, word_of, word_text}
+use Rattle.script_text.specs.Written.{HasForm, IsComment, IsWord, IsWritable, answer_words, body_words, line_of}
+use Rattle.script_words.proofs.ActorWords.{actor_lacks, actor_writes, first, hart_writes}
+use Rattle.script_text.proofs.ActorForms.{answer_writes, words_are}
+use Rattle.script_words.proofs.Forms.{address_writes, address_is_hex, within_writes, word_writes}
+use Rattle.script_words.proofs.Hex.{hex_writes}
+use Rattle.script_words.proofs.Lacking.{lacks_failing, none_found}
+use Rattle.script_words.proofs.Parting.{cut_writes, two_writes, unless_writes}
 
 some_word_writes : (word : List ℕ) → 0 < length word → some_word word ≡ Some word
 some_word_writes [] some = absurd (omega arith)

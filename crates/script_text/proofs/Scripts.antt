@@ -13,12 +13,14 @@ use Rattle.script_text.specs.declared.item.Item.{Item}
 use Rattle.script_text.specs.declared.item.Item.TheVariants as item
 use Rattle.script_text.specs.Items.{item_of}
 use Rattle.script_text.specs.Lines.{judged}
-use Rattle.script_text.specs.Numbers.{address_text, hex_digit, hex_of, is_digit, is_hex, word_text}
-use Rattle.script_text.specs.Written.{HasActorForm, HasAnswerForm, HasForm, IsWritable, Lacks, actor_word, answer_words, body_words, line_of}
-use Rattle.script_text.proofs.Decimals.{decimal_digits}
-use Rattle.script_text.proofs.Ends.{Free, lines_under}
-use Rattle.script_text.proofs.Forms.{address_is_hex}
-use Rattle.script_text.proofs.Lacking.{lacks_failing}
+use Rattle.script_words.specs.Numbers.{address_text, hex_digit, hex_of, is_digit, is_hex, word_text}
+use Rattle.script_words.specs.Actors.{HasActorForm, actor_word}
+use Rattle.script_text.specs.Written.{HasAnswerForm, HasForm, IsWritable, answer_words, body_words, line_of}
+use Rattle.script_words.specs.Words.{Lacks}
+use Rattle.script_words.proofs.Decimals.{decimal_digits}
+use Rattle.script_words.proofs.Ends.{Free, lines_under}
+use Rattle.script_words.proofs.Forms.{address_is_hex}
+use Rattle.script_words.proofs.Lacking.{lacks_failing}
 use Rattle.script_text.proofs.LineWrites.{item_writes}
 
 join : (a b : List ℕ) → Lacks 10 a → Lacks 10 b → Lacks 10 (a ++ b)

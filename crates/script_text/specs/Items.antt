@@ -1,21 +1,16 @@
 -- What a line asks for.
 use Rattle.std.specs.Prelude.{ℕ, ◌==◌, nat_le, if◌then◌else◌, List, [], ◌∷◌, length, codes, Option, Some, None, option_and_then, option_map}
-use Rattle.vm_types.specs.declared.ids.ActorId.{ActorId}
-use Rattle.vm_types.specs.declared.ids.ActorId.TheVariants.{Timer, Hart, Device}
 use Rattle.script_text.specs.declared.item.HostReply.{HostReply}
 use Rattle.script_text.specs.declared.item.HostReply.TheVariants as answer
 use Rattle.script_text.specs.declared.item.Item.{Item}
 use Rattle.script_text.specs.declared.item.Item.TheVariants as item
-use Rattle.script_text.specs.Numbers.{address_of, bytes_of, number_within, numbered, word_of}
-use Rattle.script_text.specs.Words.{after, bare, cut, or_else, some_word, text_of, two}
+use Rattle.script_words.specs.Numbers.{address_of, bytes_of, number_within, numbered, word_of}
+use Rattle.script_words.specs.Words.{after, bare, cut, or_else, some_word, two, name_of}
+use Rattle.script_words.specs.Actors.{actor_of, hart_of}
 
 -- the longest line, without its LF
 abbrev pub longest : ℕ
 longest = 1048576
-
--- a file's name: a word that is UTF-8
-abbrev pub name_of : List ℕ → Option (List ℕ)
-name_of word = option_and_then text_of (some_word word)
 
 -- `file PATH HEX`
 abbrev pub file_of : List ℕ → Option Item
@@ -38,15 +33,6 @@ api_call method target = item.Api method target.0 target.1
 -- `api METHOD PATH` or `api METHOD PATH BODY`: the words are any, and BODY is the rest of the line
 abbrev pub api_of : List ℕ → Option Item
 api_of rest = two some_word target_of api_call rest
-
--- `t`, `hK` and `dK`, K of 8 bits
-abbrev pub hart_of : List ℕ → Option ℕ
-hart_of word = numbered (codes "h") 255 word
-
-abbrev pub actor_of : List ℕ → Option ActorId
-actor_of word =
-    or_else (bare (codes "t") Timer word)
-    (or_else (option_map Hart (hart_of word)) (option_map Device (numbered (codes "d") 255 word)))
 
 -- `step ACTOR N`, N from 1 to 1,000,000,000
 abbrev pub step_of : List ℕ → Option Item

@@ -3,7 +3,7 @@ use Rattle.std.specs.Prelude.{ℕ, List, ◌++◌, codes}
 use Rattle.std.specs.Fmt.{decimal}
 use Rattle.script_text.specs.declared.output.Misfit.{Misfit}
 use Rattle.script_text.specs.declared.output.Misfit.TheVariants as misfit
-use Rattle.script_text.specs.Numbers.{hex_of, word_text}
+use Rattle.script_words.specs.Numbers.{hex_of, word_text}
 
 -- a register: sixteen digits, its most significant first
 abbrev pub register_line : ℕ → List ℕ

@@ -1,6 +1,6 @@
 -- What a reader of lines holds and gives.
 use Rattle.std.specs.Prelude.{◌≡◌, ◌+◌, ◌<◌, ◌≤◌, length, ℕ, min, take, drop, List, [], ◌∷◌, ◌++◌, None, Some}
-use Rattle.script_text.specs.Ends.{LacksEnd, StopsAt}
+use Rattle.script_words.specs.Ends.{LacksEnd, StopsAt}
 use Rattle.script_text.specs.Items.{item_of, longest}
 use Rattle.script_text.specs.Lines.{judged}
 use Rattle.script_text.specs.declared.line_reader.First.{First}

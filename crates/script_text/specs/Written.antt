@@ -1,21 +1,16 @@
 -- The line that an item is written as, and the other spellings that are read as it.
-use Rattle.std.specs.Prelude.{◌≡◌, ◌≢◌, ◌⊎◌, ℕ, ◌^◌, ◌<◌, ◌≤◌, IsTrue, List, [], ◌∷◌, ◌++◌, length, codes, Some}
+use Rattle.std.specs.Prelude.{◌≡◌, ◌⊎◌, ℕ, ◌^◌, ◌<◌, ◌≤◌, IsTrue, List, [], ◌∷◌, ◌++◌, length, codes, Some}
 use Rattle.std.specs.Fmt.{decimal}
 use Rattle.std.specs.List.{All}
-use Rattle.vm_types.specs.declared.ids.ActorId.{ActorId}
-use Rattle.vm_types.specs.declared.ids.ActorId.TheVariants.{Timer, Hart, Device}
+use Rattle.vm_types.specs.declared.ids.ActorId.TheVariants.{Hart}
 use Rattle.script_text.specs.declared.item.HostReply.{HostReply}
 use Rattle.script_text.specs.declared.item.HostReply.TheVariants as answer
 use Rattle.script_text.specs.declared.item.Item.{Item}
 use Rattle.script_text.specs.declared.item.Item.TheVariants as item
 use Rattle.script_text.specs.Items.{longest}
-use Rattle.script_text.specs.Numbers.{address_of, address_text, hex_of, word_text}
-use Rattle.script_text.specs.Words.{is_text}
-
-abbrev pub actor_word : ActorId → List ℕ
-actor_word Timer = codes "t"
-actor_word (Hart h) = codes "h" ++ decimal h
-actor_word (Device d) = codes "d" ++ decimal d
+use Rattle.script_words.specs.Numbers.{address_of, address_text, hex_of, word_text}
+use Rattle.script_words.specs.Words.{is_text, Lacks}
+use Rattle.script_words.specs.Actors.{HasActorForm, actor_word}
 
 abbrev pub answer_words : HostReply → List ℕ
 answer_words answer.Done = codes "ok"
@@ -47,10 +42,6 @@ line_of item.Console = codes "console"
 line_of (item.Register hart number) = codes "reg " ++ actor_word (Hart hart) ++ codes " " ++ decimal number
 line_of (item.Memory address len) = codes "mem " ++ address_text address ++ codes " " ++ decimal len
 
--- none of the bytes is this one
-abbrev pub Lacks : ℕ → List ℕ → Type 0
-Lacks c bytes = All (λ byte. byte ≢ c) bytes
-
 -- one byte or more, and neither a space nor an LF
 pub record IsWord (word : List ℕ) : Type 0 where
   pub some : 0 < length word
@@ -59,11 +50,6 @@ pub record IsWord (word : List ℕ) : Type 0 where
 
 abbrev pub AreBytes : List ℕ → Type 0
 AreBytes bytes = All (λ byte. byte < 256) bytes
-
-abbrev pub HasActorForm : ActorId → Type 0
-HasActorForm Timer = Unit {0}
-HasActorForm (Hart h) = h ≤ 255
-HasActorForm (Device d) = d ≤ 255
 
 abbrev pub HasAnswerForm : HostReply → Type 0
 HasAnswerForm answer.Done = Unit {0}

@@ -1,12 +1,10 @@
 // What a host object is said to answer.
 ghost use Rattle.std.specs.Prelude.{◌≡◌, codes, IfOk};
 ghost use Rattle.script_text.specs.Items.{answer_of, numbered_answer, part_of, plain_answer, received_of, short_part};
-ghost use Rattle.script_text.specs.Words.{after};
+ghost use Rattle.script_words.specs.Words.{after};
 
-use crate::hex_bytes::bytes_from;
 use crate::item::HostReply;
-use crate::number::{number_within, numbered, numbered_32};
-use crate::words::{behind, cut, is_line};
+use script_words::{behind, bytes_from, cut, is_line, number_within, numbered, numbered_32};
 use std::alloc::{AllocError, Global};
 use vm_types::Piece;
 

@@ -4,8 +4,10 @@ ghost use Rattle.std.specs.List.{All};
 ghost use Rattle.script_text.specs.declared.item.Item.{Item};
 ghost use Rattle.script_text.specs.declared.item.Item.TheVariants as item;
 ghost use Rattle.script_text.specs.Items.{item_of, longest};
-ghost use Rattle.script_text.specs.Lines.{judged, lines_of};
-ghost use Rattle.script_text.specs.Written.{IsComment, IsSpelling, IsWritable, Lacks, line_of};
+ghost use Rattle.script_text.specs.Lines.{judged};
+ghost use Rattle.script_words.specs.Lines.{lines_of};
+ghost use Rattle.script_text.specs.Written.{IsComment, IsSpelling, IsWritable, line_of};
+ghost use Rattle.script_words.specs.Words.{Lacks};
 
 /// The line that an item is written as is read as it, and so are its other spellings alone. What a line without an
 /// LF is read as has a line.

@@ -6,37 +6,22 @@
 //! The functions on `= HEX` and `?` lines give the bytes of what is shown and of lines that don't apply.
 #![tactic(auto)]
 
-mod actors;
 mod answers;
-mod appending;
-mod hex_bytes;
-mod hex_number;
 mod item;
 mod law;
 mod line_reader;
-mod lines;
 mod lines_of_actors;
 mod lines_of_connection;
 mod lines_of_host;
 mod lines_shown;
-mod number;
 mod output;
 mod reading;
 mod telling;
-#[cfg(test)]
-mod tests;
-mod text;
-mod words;
 mod writing;
 
-pub use appending::hex_digit;
-pub use hex_bytes::bytes_from;
 pub use item::{HostReply, Item};
 pub use law::{one_line, whole_text};
 pub use line_reader::{LineReader, Next};
-pub use number::{is_digit, number_from};
 pub use output::{Misfit, memory_line, misfit_line, register_line, waits_line};
 pub use reading::read_line;
-pub use text::text_from;
-pub use words::{behind, is_line, space_at};
 pub use writing::write_item;

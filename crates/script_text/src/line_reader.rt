@@ -1,11 +1,11 @@
 // Lines of a text that comes in pieces.
 ghost use Rattle.std.specs.Prelude.{◌≡◌, ◌≤◌, ◌++◌, [], drop, length, take, IfOk, OnErr, OnOk};
-ghost use Rattle.script_text.specs.Ends.{LacksEnd};
+ghost use Rattle.script_words.specs.Ends.{LacksEnd};
 ghost use Rattle.script_text.specs.Reader.{Gives, IsFirst, IsNext, Shortens, Takes};
 
 use crate::item::Item;
-use crate::lines::end_from;
 use crate::reading::{LONGEST, read_line};
+use script_words::end_from;
 use std::alloc::{AllocError, Global};
 use std::marker::Model;
 
@@ -31,7 +31,7 @@ pub struct LineReader {
 
 impl Model for LineReader {
     ghost use Rattle.std.specs.Prelude.{◌+◌, ◌≤◌, List, ℕ, drop, length};
-    ghost use Rattle.script_text.specs.Ends.{LacksEnd};
+    ghost use Rattle.script_words.specs.Ends.{LacksEnd};
 
     ghost Value = { List ℕ };
 

@@ -1,13 +1,11 @@
 // The lines of the actors: `step` and `reply`.
 ghost use Rattle.std.specs.Prelude.{◌≡◌, codes, IfOk};
 ghost use Rattle.script_text.specs.Items.{actor_line, reply_of, step_of};
-ghost use Rattle.script_text.specs.Words.{after};
+ghost use Rattle.script_words.specs.Words.{after};
 
-use crate::actors::actor_from;
 use crate::answers::answer_from;
 use crate::item::Item;
-use crate::number::number_within;
-use crate::words::{behind, cut};
+use script_words::{actor_from, behind, cut, number_within};
 use std::alloc::{AllocError, Global};
 
 const MOST_STEPS: u64 = 1_000_000_000;

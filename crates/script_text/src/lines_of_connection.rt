@@ -2,12 +2,11 @@
 ghost use Rattle.std.specs.Prelude.{◌≡◌, codes, option_map, IfOk, MatchOption, None, Some};
 ghost use Rattle.script_text.specs.declared.item.Item.TheVariants as item;
 ghost use Rattle.script_text.specs.Items.{api_of, connection_line, target_of};
-ghost use Rattle.script_text.specs.Numbers.{bytes_of};
-ghost use Rattle.script_text.specs.Words.{after};
+ghost use Rattle.script_words.specs.Numbers.{bytes_of};
+ghost use Rattle.script_words.specs.Words.{after};
 
-use crate::hex_bytes::bytes_from;
 use crate::item::Item;
-use crate::words::{behind, cut, is_line};
+use script_words::{behind, bytes_from, cut, is_line};
 use std::alloc::{AllocError, Global};
 use vm_types::ByteList;
 

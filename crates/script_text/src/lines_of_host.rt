@@ -2,14 +2,11 @@
 ghost use Rattle.std.specs.Prelude.{◌≡◌, codes, option_map, IfOk};
 ghost use Rattle.script_text.specs.declared.item.Item.TheVariants as item;
 ghost use Rattle.script_text.specs.Items.{file_of, host_line};
-ghost use Rattle.script_text.specs.Numbers.{word_of};
-ghost use Rattle.script_text.specs.Words.{after};
+ghost use Rattle.script_words.specs.Numbers.{word_of};
+ghost use Rattle.script_words.specs.Words.{after};
 
-use crate::hex_bytes::bytes_from;
-use crate::hex_number::word_from;
 use crate::item::Item;
-use crate::text::name_from;
-use crate::words::{behind, cut};
+use script_words::{behind, bytes_from, cut, name_from, word_from};
 use std::alloc::{AllocError, Global};
 
 pub fn host_line_from(alloc: Global, line: &[u8]) -> Result<Option<Item>, AllocError>

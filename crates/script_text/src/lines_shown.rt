@@ -1,13 +1,10 @@
 // The lines of what is shown: `console`, `reg` and `mem`.
 ghost use Rattle.std.specs.Prelude.{◌≡◌, codes};
 ghost use Rattle.script_text.specs.Items.{memory_of, register_of, shown_line};
-ghost use Rattle.script_text.specs.Words.{after};
+ghost use Rattle.script_words.specs.Words.{after};
 
-use crate::actors::hart_from;
-use crate::hex_number::address_from;
 use crate::item::Item;
-use crate::number::number_within;
-use crate::words::{behind, cut, is_line};
+use script_words::{address_from, behind, cut, hart_from, is_line, number_within};
 
 pub fn shown_line_from(line: &[u8]) -> Option<Item>
     ensures { result ≡ shown_line line.now }

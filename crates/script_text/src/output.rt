@@ -2,7 +2,7 @@
 ghost use Rattle.std.specs.Prelude.{◌≡◌, IfOk};
 ghost use Rattle.script_text.specs.Output.{memory_line, misfit_line, register_line, waits_line};
 
-use crate::appending::{append_hex, append_number, append_word};
+use script_words::{append_hex, append_number, append_word};
 use std::alloc::{AllocError, Global};
 use vm_types::ByteList;
 

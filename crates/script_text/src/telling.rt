@@ -3,8 +3,8 @@ ghost use Rattle.std.specs.Prelude.{◌≡◌, IfOk};
 ghost use Rattle.script_text.specs.declared.item.HostReply.TheVariants as answer;
 ghost use Rattle.script_text.specs.Written.{answer_words};
 
-use crate::appending::{append_hex, numbered_words};
 use crate::item::HostReply;
+use script_words::{append_hex, numbered_words};
 use std::alloc::{AllocError, Global};
 use vm_types::ByteList;
 

@@ -1,12 +1,12 @@
 // The line that an item is written as.
 ghost use Rattle.std.specs.Prelude.{◌≡◌, ◌++◌, ◌∷◌, [], codes, IfOk, OnOk};
 ghost use Rattle.script_text.specs.declared.item.Item.TheVariants as item;
-ghost use Rattle.script_text.specs.Numbers.{hex_of};
+ghost use Rattle.script_words.specs.Numbers.{hex_of};
 ghost use Rattle.script_text.specs.Written.{body_words, line_of};
 
-use crate::appending::{actor_word, append_hex, append_number, append_word};
 use crate::item::{HostReply, Item};
 use crate::telling::answer_words;
+use script_words::{actor_word, append_hex, append_number, append_word};
 use std::alloc::{AllocError, Global};
 use vm_types::{ActorId, ByteList};
 

@@ -1,5 +1,5 @@
 use Rattle.script_text.proofs.Scripts.{script_judged}
-use Rattle.script_text.proofs.WholeText.{clean_of, parts_of}
+use Rattle.script_words.proofs.WholeText.{clean_of, parts_of}
 use Rattle.script_text.proofs.law.whole_text.Goals as goal
 
 pub returns-clause-parts : goal.returns-clause-parts

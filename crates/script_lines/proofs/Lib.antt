@@ -1,5 +1,0 @@
-pub mod Ends
-pub mod LineReads
-pub mod LineWrites
-pub mod Parts
-pub mod Texts

@@ -1,4 +1,0 @@
-pub mod Items
-pub mod Lines
-pub mod Output
-pub mod Written

@@ -1,0 +1,10 @@
+pub mod ActorWords
+pub mod Decimals
+pub mod Ends
+pub mod Forms
+pub mod Hex
+pub mod Lacking
+pub mod Parting
+pub mod Spaces
+pub mod Texts
+pub mod WholeText
