@@ -11,8 +11,6 @@ mod memory_files;
 mod memory_sink;
 mod memory_source;
 mod steady_source;
-#[cfg(test)]
-mod tests;
 
 pub use failing::Failing;
 pub use file_event::FileEvent;

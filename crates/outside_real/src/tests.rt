@@ -5,26 +5,31 @@ mod reading;
 mod steps;
 mod writing;
 
-use std::alloc::Global;
+use std::alloc::{AllocError, Global};
 use std::env::Env;
+use std::io::ErrorKind;
 use std::path::AsPath;
-use std::process::Process;
-use std::{env, fs, io, process, rt};
+use std::str::FromStr;
+use std::{env, fs, io, rt};
 
 /// An empty folder of this test's own.
-fn folder_for<R: rt::Files + Env + AllocGlobal>(
-    rt: &R,
-    process: Process,
-    test: &str,
-) -> io::Result<String> {
-    let temporary = env::temp_dir(rt)?;
-    let number = process::id(process);
-    let folder = format!(in rt.alloc(); "{}/outside_real_{number}_{test}", temporary.path_text())?;
-    fs::create_dir(rt, folder.as_str())?;
-    Ok(folder)
+fn folder_for<R: rt::Files + Env + AllocGlobal>(rt: &R, test: &str) -> io::Result<String> {
+    let mut folder = path_in(rt.alloc(), env::temp_dir(rt)?.path_text(), "outside_real_")?;
+    folder.push_str(test)?;
+    for _ in 0..100 {
+        match fs::create_dir(rt, folder.as_str()) {
+            Ok(()) => return Ok(folder),
+            Err(e) if e.kind() == ErrorKind::AlreadyExists => folder.push('_')?,
+            Err(e) => return Err(e),
+        }
+    }
+    Err(io::Error::from(ErrorKind::AlreadyExists))
 }
 
 /// The path of a name in a folder.
-fn path_in(alloc: Global, folder: &str, name: &str) -> io::Result<String> {
-    Ok(format!(in alloc; "{folder}/{name}")?)
+fn path_in(alloc: Global, folder: &str, name: &str) -> Result<String, AllocError> {
+    let mut path = String::from_str(alloc, folder)?;
+    path.push('/')?;
+    path.push_str(name)?;
+    Ok(path)
 }

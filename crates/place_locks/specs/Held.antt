@@ -16,7 +16,8 @@ pub record IsEntryOf (e : Entry) (actor : ActorId) (place : PlaceId) (op : Op) (
   pub stamp_is : e.stamp ≡ 1 + max clock e.before
 
 -- the history is of this place alone, its stamps rise, and with its replies it leads from the value v to the value w
-pub record IsHistory {V : Type 0} (touch : V → ActorId → Op → Reply × V) (place : PlaceId) (v : V) (history : List Entry) (w : V) : Type 0 where
+pub record IsHistory {V : Type 0} (touch : V → ActorId → Op → Reply × V)
+    (place : PlaceId) (v : V) (history : List Entry) (w : V) : Type 0 where
   pub replays : Replays touch v history w
   pub rises : Rises 0 history
   pub own : AllByRecursion (λ (e : Entry). e.place ≡ place) history

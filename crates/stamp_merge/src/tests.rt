@@ -1,12 +1,7 @@
-// Orders and comparisons as tables, and the laws at a place and an actor.
-ghost use Rattle.std.specs.Prelude.{◌≡◌, IfOk, vec_len};
-
-use crate::{
-    History, Journal, Layout, agreed_order, compare, copy_all, merge, one_clock, one_order,
-};
-use std::alloc::{AllocError, Global};
+// An order, a comparison, and the laws at a place and an actor.
+use crate::{History, Layout, agreed_order, compare, one_clock, one_order, sort_all};
 use std::test::Fail;
-use vm_types::{Actor, ActorId, Entry, Op, Place, PlaceId, Reply, Torn, is_same_actor};
+use vm_types::{Actor, ActorId, Entry, Op, Place, PlaceId, Reply, Torn};
 
 fn entry(stamp: u64, actor: ActorId, place: PlaceId) -> Entry {
     Entry {
@@ -19,127 +14,51 @@ fn entry(stamp: u64, actor: ActorId, place: PlaceId) -> Entry {
     }
 }
 
-fn journal(alloc: Global, actor: ActorId, stamps: [u64; 2]) -> Result<Journal, AllocError>
-    ensures { IfOk result (λ j. vec_len j.entries ≡ 2) }
-{
-    let [first, second] = stamps;
-    let mut entries = Vec::with_capacity(alloc, 2)?;
-    let both = [
-        entry(first, actor, PlaceId::Board),
-        entry(second, actor, PlaceId::Board),
-    ];
-    copy_all(&both, &mut entries);
-    Ok(Journal { actor, entries })
+fn of(stamp: u64, actor: ActorId) -> Entry {
+    entry(stamp, actor, PlaceId::Board)
 }
 
 // By stamp, and at one stamp the timer, the harts and the devices.
 #[test]
-fn journals_are_merged_by_stamp_and_then_by_actor(rt: HostRuntime) -> Result<(), Fail> {
-    let alloc = rt.alloc();
-    let journals = [
-        journal(alloc, ActorId::Device(0), [2, 5])?,
-        journal(alloc, ActorId::Hart(1), [1, 2])?,
-        journal(alloc, ActorId::Hart(0), [1, 3])?,
-        journal(alloc, ActorId::Timer, [2, 4])?,
+fn entries_go_by_stamp_and_then_by_actor(rt: HostRuntime) {
+    let mut entries = [
+        of(2, ActorId::Device(0)),
+        of(1, ActorId::Hart(1)),
+        of(2, ActorId::Hart(1)),
+        of(1, ActorId::Hart(0)),
+        of(2, ActorId::Timer),
     ];
-    let mut all = Vec::with_capacity(alloc, 8)?;
-    merge(&journals, &mut all);
-    let order = [
-        (1, ActorId::Hart(0)),
-        (1, ActorId::Hart(1)),
-        (2, ActorId::Timer),
-        (2, ActorId::Hart(1)),
-        (2, ActorId::Device(0)),
-        (3, ActorId::Hart(0)),
-        (4, ActorId::Timer),
-        (5, ActorId::Device(0)),
+    let sorted = [
+        of(1, ActorId::Hart(0)),
+        of(1, ActorId::Hart(1)),
+        of(2, ActorId::Timer),
+        of(2, ActorId::Hart(1)),
+        of(2, ActorId::Device(0)),
     ];
-    assert!(rt; all.len() == 8);
-    for (found, (stamp, actor)) in all.iter().zip(order) {
-        assert!(rt; found.stamp == stamp && is_same_actor(found.actor, actor));
-    }
-    Ok(())
-}
-
-fn history(
-    alloc: Global,
-    lock: PlaceId,
-    kept: PlaceId,
-    entries: &[Entry],
-) -> Result<History, AllocError>
-    ensures { IfOk result (λ h. h.lock ≡ lock) }
-{
-    let mut list = Vec::with_capacity(alloc, entries.len())?;
-    copy_all(entries, &mut list);
-    Ok(History {
-        lock,
-        kept,
-        entries: list,
-    })
-}
-
-// The events against the histories of page 0, which came back as `kept`, and port 0.
-fn compared(
-    alloc: Global,
-    events: &[Entry],
-    page: &[Entry],
-    port: &[Entry],
-    kept: PlaceId,
-) -> Result<Result<(), Torn>, AllocError> {
-    let histories = [
-        history(alloc, PlaceId::Page(0), kept, page)?,
-        history(alloc, PlaceId::Port(0), PlaceId::Port(0), port)?,
-    ];
-    let mut met = [7, 7];
-    Ok(compare(events, &histories, Layout { pages: 1, ports: 1 }, &mut met))
-}
-
-fn torn(
-    place: PlaceId,
-    index: usize,
-    kept: Option<Entry>,
-    other: Option<Entry>,
-) -> Result<(), Torn> {
-    Err(Torn::Entry {
-        place,
-        index,
-        kept,
-        other,
-    })
+    sort_all(&mut entries);
+    assert!(rt; entries == sorted);
 }
 
 #[test]
-fn histories_agree_or_are_torn_where_they_part(rt: HostRuntime) -> Result<(), Fail> {
-    let alloc = rt.alloc();
+fn a_history_agrees_or_is_torn_where_an_entry_is_lost(rt: HostRuntime) -> Result<(), Fail> {
+    let layout = Layout { pages: 1, ports: 0 };
     let page = PlaceId::Page(0);
-    let hart = ActorId::Hart(0);
-    let a = || entry(1, hart, page);
-    let b = || entry(2, ActorId::Hart(1), PlaceId::Port(0));
-    let out = || entry(2, hart, PlaceId::Out);
-    let c = || entry(3, hart, page);
-    let lost = || entry(4, hart, PlaceId::Board);
-    let all = [a(), b(), out(), c()];
-    assert!(rt; compared(alloc, &all, &[a(), c()], &[b()], page)? == Ok(()));
-    // The last entry of a journal is lost, or that of a history.
-    let short = compared(alloc, &[a(), b(), out()], &[a(), c()], &[b()], page)?;
-    assert!(rt; short == torn(page, 1, Some(c()), None));
-    let short = compared(alloc, &all, &[a()], &[b()], page)?;
-    assert!(rt; short == torn(page, 1, None, Some(c())));
-    // Two entries stand the other way round.
-    let swapped = compared(alloc, &all, &[c(), a()], &[b()], page)?;
-    assert!(rt; swapped == torn(page, 0, Some(c()), Some(a())));
-    // No lock is of that place.
-    let stray = compared(alloc, &[a(), lost()], &[a()], &[], page)?;
-    assert!(rt; stray == torn(PlaceId::Board, 0, None, Some(lost())));
-    // Another place was kept under the lock.
-    let other = compared(alloc, &all, &[a(), c()], &[b()], PlaceId::Page(1))?;
-    assert!(rt;
-        other
-            == Err(Torn::Place {
-                place: page,
-                kept: PlaceId::Page(1)
-            })
-    );
+    let a = entry(1, ActorId::Hart(0), page);
+    let out = entry(2, ActorId::Hart(0), PlaceId::Out);
+    let c = entry(3, ActorId::Hart(1), page);
+    let kept = [History {
+        lock: page,
+        kept: page,
+        entries: vec![in rt.alloc(); a, c]?,
+    }];
+    assert!(rt; compare(&[a, out, c], &kept, layout, &mut [7]) == Ok(()));
+    let torn = Err(Torn::Entry {
+        place: page,
+        index: 1,
+        kept: Some(c),
+        other: None,
+    });
+    assert!(rt; compare(&[a, out], &kept, layout, &mut [7]) == torn);
     Ok(())
 }
 

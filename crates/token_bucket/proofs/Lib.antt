@@ -1,3 +1,4 @@
+mod Examples
 pub mod Largest
 pub mod Moves
 pub mod Waits

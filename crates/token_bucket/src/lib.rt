@@ -7,8 +7,6 @@
 mod bucket;
 mod law;
 mod state;
-#[cfg(test)]
-mod tests;
 
 pub use bucket::Bucket;
 pub use law::{rate_bound, some_start};
