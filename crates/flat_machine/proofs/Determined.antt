@@ -1,55 +1,127 @@
 -- Requests, items and runs are determined.
-use Rattle.std.proofs.Common.{◌≡◌, Bool, true, false, MatchBool, refl, sym, ap, subst, ◌∙◌, List, [], ◌∷◌, ◌++◌, Option, Some, None, ℕ}
+use Rattle.std.proofs.Common.{◌≡◌, Bool, true, false, MatchBool, refl, sym, ap, subst, ◌∙◌, List, [], ◌∷◌, ◌++◌, length, Option, Some, None, ℕ, slice_get, arith}
 use Rattle.vm_types.specs.declared.ids.ActorId.{ActorId}
-use Rattle.vm_types.specs.declared.item.ApiCall.{ApiCall}
-use Rattle.vm_types.specs.declared.item.Item.{Item}
-use Rattle.script_lines.specs.Output.{no_actor_line}
+use Rattle.vm_types.specs.declared.ids.ActorId.TheVariants.{Hart as HartId}
+use Rattle.vm_types.specs.declared.entry.Step.{Step}
+use Rattle.guest_memory.specs.Ram.{is_ram}
+use Rattle.rv_supervisor.specs.declared.regs.Regs.{Regs}
+use Rattle.hart_trace.specs.States.{Hart}
+use Rattle.hart_trace.specs.Shown.{register_of}
+use Rattle.hart_trace.proofs.OneHart.{one_hart}
+use Rattle.http_stream.specs.Conversation.{IsDetermined, arrived}
+use Rattle.http_stream.specs.Sent.{sent}
+use Rattle.http_stream.proofs.ConversationLemmas.{as_many_due, one_conversation}
+use Rattle.script_text.specs.declared.item.Item.{Item}
+use Rattle.script_text.specs.declared.item.Item.TheVariants as item
+use Rattle.script_text.specs.Output.{register_line}
 use Rattle.flat_guest.specs.Guest.{Guest, is_actor}
 use Rattle.flat_guest.proofs.Determined.{several_one}
 use Rattle.flat_machine.specs.Outcome.{AreAnswered, Outcome}
 use Rattle.flat_machine.specs.Outcome.Outcome.{Answered, Failed, NoMemory}
 use Rattle.flat_machine.specs.Machine.{Machine}
-use Rattle.flat_machine.specs.Items.{ItemStep, Moves, StepsLine, requests_of}
-use Rattle.flat_machine.specs.Requests.{RequestStep, RequestsStep}
+use Rattle.flat_machine.specs.Items.{ItemStep, MemoryLine, Moves, RegisterLine, RepliesLine, ShowsFrom, StepsLine, Talks}
+use Rattle.flat_machine.specs.Requests.{RequestStep}
 use Rattle.flat_machine.specs.Run.{Act, Run}
 
 -- one text and one machine
 abbrev Same : List ℕ → List ℕ → Machine → Machine → Type 0
 Same t u n k = (t ≡ u) × (n ≡ k)
 
-request_one : (outcome : Outcome) (call : ApiCall) (m n k : Machine) (t u : List ℕ) → RequestStep outcome call m t n → RequestStep outcome call m u k → Same t u n k
-request_one Answered call m n k t u x y = (x.0 ∙ sym y.0, x.1 ∙ sym y.1)
-request_one (Failed left) call m n k t u x y = (x.2 ∙ sym y.2, x.3 ∙ sym y.3)
-request_one NoMemory call m n k t u x y = (x.0 ∙ sym y.0, x.1 ∙ sym y.1)
+-- what equations say
+both : {s t u : List ℕ} {m n k : Machine} → (t ≡ s) × (n ≡ m) → (u ≡ s) × (k ≡ m) → Same t u n k
+both x y = (x.0 ∙ sym y.0, x.1 ∙ sym y.1)
 
-requests_one : (calls : List ApiCall) (outcomes : List Outcome) (m n k : Machine) (t u : List ℕ) → RequestsStep calls outcomes m t n → RequestsStep calls outcomes m u k → Same t u n k
-requests_one [] [] m n k t u x y = (x.0 ∙ sym y.0, x.1 ∙ sym y.1)
-requests_one [] (outcome ∷ outcomes) m n k t u x y = absurd x
-requests_one (call ∷ calls) [] m n k t u x y = absurd x
-requests_one (call ∷ calls) (outcome ∷ outcomes) m n k t u x y =
-    let first = request_one outcome call m x.1 y.1 x.0 y.0 x.3 y.3 in
-    let rest = requests_one calls outcomes y.1 n k x.2 y.2 (subst (λ (q : Machine). RequestsStep calls outcomes q x.2 n) first.1 x.4) y.4 in
-    (x.5 ∙ ap (λ (s : List ℕ). s ++ x.2) first.0 ∙ ap (λ (s : List ℕ). y.0 ++ s) rest.0 ∙ sym y.5, rest.1)
+-- ---- requests
 
-moves_one : (g : Guest) (actor : ActorId) (count : ℕ) (m n k : Machine) (t u : List ℕ) → Moves g actor count m t n → Moves g actor count m u k → Same t u n k
+request_one : IsDetermined RequestStep
+request_one Answered given m t u n k x y = both x y
+request_one (Failed left) given m t u n k x y = (x.2 ∙ sym y.2, x.3 ∙ sym y.3)
+request_one NoMemory given m t u n k x y = both x y
+
+talks_one : (bytes : List ℕ) (outcomes : List Outcome) (m n k : Machine) (t u : List ℕ) → Talks bytes outcomes m t n
+    → Talks bytes outcomes m u k → Same t u n k
+talks_one bytes outcomes m n k t u (d, mid, talk, leaves) (e, other, talks, left) =
+    let same = one_conversation RequestStep outcomes (arrived m.connection bytes) d e m mid other t u request_one talk talks in
+    (same.0, leaves ∙ (λ j. record (same.2 j) { connection = same.1 j }) ∙ sym left)
+
+-- requests that the machine answers went so, one each
+answered_as_long : (outcomes others : List Outcome) → AreAnswered outcomes → AreAnswered others
+    → length outcomes ≡ length others → outcomes ≡ others
+answered_as_long [] [] good fine long = refl
+answered_as_long [] (other ∷ others) good fine long = absurd (omega arith)
+answered_as_long (outcome ∷ outcomes) [] good fine long = absurd (omega arith)
+answered_as_long (Answered ∷ outcomes) (Answered ∷ others) good fine long =
+    ap (λ (l : List Outcome). Answered ∷ l) (answered_as_long outcomes others good fine (omega arith))
+answered_as_long (Failed left ∷ outcomes) (other ∷ others) good fine long = absurd good
+answered_as_long (NoMemory ∷ outcomes) (other ∷ others) good fine long = absurd good
+answered_as_long (Answered ∷ outcomes) (Failed left ∷ others) good fine long = absurd fine
+answered_as_long (Answered ∷ outcomes) (NoMemory ∷ others) good fine long = absurd fine
+
+talks_answered : (bytes : List ℕ) (outcomes others : List Outcome) (m n k : Machine) (t u : List ℕ)
+    → AreAnswered outcomes → AreAnswered others → Talks bytes outcomes m t n → Talks bytes others m u k → outcomes ≡ others
+talks_answered bytes outcomes others m n k t u good fine (d, mid, talk, leaves) (e, other, talks, left) =
+    answered_as_long outcomes others good fine
+    (as_many_due RequestStep outcomes others (arrived m.connection bytes) d e m m mid other t u talk talks)
+
+-- ---- events, and what is shown
+
+moves_one : (g : Guest) (actor : ActorId) (count : ℕ) (m n k : Machine) (t u : List ℕ) → Moves g actor count m t n
+    → Moves g actor count m u k → Same t u n k
 moves_one g actor count m n k t u x y = (
   x.quiet ∙ sym y.quiet,
   x.leaves ∙ ap (λ (h : Guest). record m { guest = Some h }) (several_one g x.end y.end actor count x.entries y.entries x.made y.made) ∙ sym y.leaves,
 )
 
-line_by : (there : Bool) (g : Guest) (actor : ActorId) (count : ℕ) (m n k : Machine) (t u : List ℕ) → MatchBool there (Moves g actor count m t n) ((t ≡ no_actor_line) × (n ≡ m)) → MatchBool there (Moves g actor count m u k) ((u ≡ no_actor_line) × (k ≡ m)) → Same t u n k
-line_by true g actor count m n k t u x y = moves_one g actor count m n k t u x y
-line_by false g actor count m n k t u x y = (x.0 ∙ sym y.0, x.1 ∙ sym y.1)
+-- either way there is one
+one_by : {A B C D : Type 0} {t u : List ℕ} {n k : Machine} (there : Bool) → (A → C → Same t u n k)
+    → (B → D → Same t u n k) → MatchBool there A B → MatchBool there C D → Same t u n k
+one_by true there none x y = there x y
+one_by false there none x y = none x y
 
-line_one : (guest : Option Guest) (actor : ActorId) (count : ℕ) (m n k : Machine) (t u : List ℕ) → StepsLine guest actor count m t n → StepsLine guest actor count m u k → Same t u n k
-line_one None actor count m n k t u x y = (x.0 ∙ sym y.0, x.1 ∙ sym y.1)
-line_one (Some g) actor count m n k t u x y = line_by (is_actor g actor) g actor count m n k t u x y
+steps_one : (guest : Option Guest) (actor : ActorId) (count : ℕ) (m n k : Machine) (t u : List ℕ)
+    → StepsLine guest actor count m t n → StepsLine guest actor count m u k → Same t u n k
+steps_one None actor count m n k t u x y = both x y
+steps_one (Some g) actor count m n k t u x y =
+    one_by (is_actor g actor) (moves_one g actor count m n k t u) both x y
 
-pub item_one : (item : Item) (outcomes : List Outcome) (m n k : Machine) (t u : List ℕ) → ItemStep item outcomes m t n → ItemStep item outcomes m u k → Same t u n k
-item_one Item.Nothing outcomes m n k t u x y = (x.1 ∙ sym y.1, x.2 ∙ sym y.2)
-item_one (Item.File name content) outcomes m n k t u x y = (x.1 ∙ sym y.1, x.2 ∙ sym y.2)
-item_one (Item.Api call) outcomes m n k t u x y = requests_one (requests_of (Item.Api call)) outcomes m n k t u x y
-item_one (Item.Step actor count) outcomes m n k t u x y = line_one m.guest actor count m n k t u x.1 y.1
+replies_one : (guest : Option Guest) (actor : ActorId) (m n k : Machine) (t u : List ℕ) → RepliesLine guest actor m t n
+    → RepliesLine guest actor m u k → Same t u n k
+replies_one None actor m n k t u x y = both x y
+replies_one (Some g) actor m n k t u x y = one_by (is_actor g actor) both both x y
+
+shows_one : (start : Option Regs) (steps : List Step) (number : ℕ) (t u : List ℕ) → ShowsFrom start steps number t
+    → ShowsFrom start steps number u → t ≡ u
+shows_one None steps number t u x y = absurd x
+shows_one (Some start) steps number t u (h, leads, is) (q, to, be) =
+    is ∙ ap (λ (r : Hart). register_line (register_of r number)) (one_hart start steps h q leads to) ∙ sym be
+
+register_one : (guest : Option Guest) (hart number : ℕ) (m n k : Machine) (t u : List ℕ)
+    → RegisterLine guest hart number m t n → RegisterLine guest hart number m u k → Same t u n k
+register_one None hart number m n k t u x y = both x y
+register_one (Some g) hart number m n k t u x y =
+    one_by (is_actor g (HartId hart))
+    (λ a b. (shows_one (slice_get g.starts hart) (g.steps (HartId hart)) number t u a.0 b.0, a.1 ∙ sym b.1)) both x y
+
+memory_one : (guest : Option Guest) (at len : ℕ) (m n k : Machine) (t u : List ℕ) → MemoryLine guest at len m t n
+    → MemoryLine guest at len m u k → Same t u n k
+memory_one None at len m n k t u x y = both x y
+memory_one (Some g) at len m n k t u x y = one_by (is_ram (length g.memory.bytes) at len) both both x y
+
+-- ---- items and runs
+
+pub item_one : (it : Item) (outcomes : List Outcome) (m n k : Machine) (t u : List ℕ) → ItemStep it outcomes m t n
+    → ItemStep it outcomes m u k → Same t u n k
+item_one (item.Bytes bytes) outcomes m n k t u x y = talks_one bytes outcomes m n k t u x y
+item_one (item.Api method path body) outcomes m n k t u x y = talks_one (sent method path body) outcomes m n k t u x y
+item_one item.Nothing outcomes m n k t u x y = both x.1 y.1
+item_one (item.File name content) outcomes m n k t u x y = both x.1 y.1
+item_one (item.Lineage lineage) outcomes m n k t u x y = both x.1 y.1
+item_one item.Connect outcomes m n k t u x y = both x.1 y.1
+item_one (item.Step actor count) outcomes m n k t u x y = steps_one m.guest actor count m n k t u x.1 y.1
+item_one (item.Reply actor reply) outcomes m n k t u x y = replies_one m.guest actor m n k t u x.1 y.1
+item_one item.Console outcomes m n k t u x y = both x.1 y.1
+item_one (item.Register hart number) outcomes m n k t u x y = register_one m.guest hart number m n k t u x.1 y.1
+item_one (item.Memory at len) outcomes m n k t u x y = memory_one m.guest at len m n k t u x.1 y.1
 
 pub run_one : (acts : List Act) (m n k : Machine) (t u : List ℕ) → Run acts m t n → Run acts m u k → Same t u n k
 run_one [] m n k t u x y = (x.0 ∙ sym y.0, sym x.1 ∙ y.1)
@@ -64,27 +136,18 @@ run_text acts m n k t u x y = (run_one acts m n k t u x y).0
 pub run_after : (acts : List Act) (m n k : Machine) (t u : List ℕ) → Run acts m t n → Run acts m u k → n ≡ k
 run_after acts m n k t u x y = (run_one acts m n k t u x y).1
 
--- requests that the machine answers went so, one each
-answered_first : (outcome : Outcome) (outcomes : List Outcome) → AreAnswered (outcome ∷ outcomes) → (outcome ≡ Answered) × AreAnswered outcomes
-answered_first Answered outcomes good = (refl, good)
-answered_first (Failed left) outcomes good = absurd good
-answered_first NoMemory outcomes good = absurd good
-
-requests_answered : (calls : List ApiCall) (outcomes others : List Outcome) (m l n k : Machine) (t u : List ℕ) → AreAnswered outcomes → AreAnswered others → RequestsStep calls outcomes m t n → RequestsStep calls others l u k → outcomes ≡ others
-requests_answered [] [] [] m l n k t u good fine x y = refl
-requests_answered [] (outcome ∷ outcomes) others m l n k t u good fine x y = absurd x
-requests_answered [] [] (other ∷ others) m l n k t u good fine x y = absurd y
-requests_answered (call ∷ calls) [] others m l n k t u good fine x y = absurd x
-requests_answered (call ∷ calls) (outcome ∷ outcomes) [] m l n k t u good fine x y = absurd y
-requests_answered (call ∷ calls) (outcome ∷ outcomes) (other ∷ others) m l n k t u good fine x y =
-    let one = answered_first outcome outcomes good in
-    let two = answered_first other others fine in
-    let first : outcome ≡ other = one.0 ∙ sym two.0 in
-    let rest : outcomes ≡ others = requests_answered calls outcomes others x.1 y.1 n k x.2 y.2 one.1 two.1 x.4 y.4 in
-    λ j. first j ∷ rest j
-
-pub item_answered : (item : Item) (outcomes others : List Outcome) (m n k : Machine) (t u : List ℕ) → AreAnswered outcomes → AreAnswered others → ItemStep item outcomes m t n → ItemStep item others m u k → outcomes ≡ others
-item_answered Item.Nothing outcomes others m n k t u good fine x y = x.0 ∙ sym y.0
-item_answered (Item.File name content) outcomes others m n k t u good fine x y = x.0 ∙ sym y.0
-item_answered (Item.Api call) outcomes others m n k t u good fine x y = requests_answered (requests_of (Item.Api call)) outcomes others m m n k t u good fine x y
-item_answered (Item.Step actor count) outcomes others m n k t u good fine x y = x.0 ∙ sym y.0
+pub item_answered : (it : Item) (outcomes others : List Outcome) (m n k : Machine) (t u : List ℕ) → AreAnswered outcomes
+    → AreAnswered others → ItemStep it outcomes m t n → ItemStep it others m u k → outcomes ≡ others
+item_answered (item.Bytes bytes) outcomes others m n k t u good fine x y =
+    talks_answered bytes outcomes others m n k t u good fine x y
+item_answered (item.Api method path body) outcomes others m n k t u good fine x y =
+    talks_answered (sent method path body) outcomes others m n k t u good fine x y
+item_answered item.Nothing outcomes others m n k t u good fine x y = x.0 ∙ sym y.0
+item_answered (item.File name content) outcomes others m n k t u good fine x y = x.0 ∙ sym y.0
+item_answered (item.Lineage lineage) outcomes others m n k t u good fine x y = x.0 ∙ sym y.0
+item_answered item.Connect outcomes others m n k t u good fine x y = x.0 ∙ sym y.0
+item_answered (item.Step actor count) outcomes others m n k t u good fine x y = x.0 ∙ sym y.0
+item_answered (item.Reply actor reply) outcomes others m n k t u good fine x y = x.0 ∙ sym y.0
+item_answered item.Console outcomes others m n k t u good fine x y = x.0 ∙ sym y.0
+item_answered (item.Register hart number) outcomes others m n k t u good fine x y = x.0 ∙ sym y.0
+item_answered (item.Memory at len) outcomes others m n k t u good fine x y = x.0 ∙ sym y.0

@@ -2,3 +2,4 @@ pub mod Determined
 pub mod OneReplay
 pub mod Pushed
 pub mod SomeReplay
+pub mod WholeLines

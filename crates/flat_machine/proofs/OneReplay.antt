@@ -1,6 +1,6 @@
 -- A replay in which the machine answers every request is determined.
-use Rattle.std.proofs.Common.{◌≡◌, ℕ, ◌+◌, true, false, refl, sym, ap, subst, ◌∙◌, List, [], ◌∷◌, ◌++◌, length, Option, Some, None, inl, inr}
-use Rattle.vm_types.specs.declared.item.Item.{Item}
+use Rattle.std.proofs.Common.{◌≡◌, ℕ, ◌+◌, false, refl, sym, ap, subst, ◌∙◌, List, [], ◌∷◌, ◌++◌, length, Option, Some, inl, inr}
+use Rattle.script_text.specs.declared.item.Item.{Item}
 use Rattle.vm_types.specs.declared.exit.Exit.{Exit}
 use Rattle.flat_machine.specs.Outcome.{Outcome}
 use Rattle.flat_machine.specs.Machine.{Machine, is_off}

@@ -1,7 +1,7 @@
 -- A run that goes on by one act.
 use Rattle.std.proofs.Common.{◌≡◌, ℕ, ◌+◌, false, refl, sym, ap, subst, ◌∙◌, List, [], ◌∷◌, ◌++◌, length, Option, Some, arith, append_assoc}
 use Rattle.std.proofs.lemmas.List.{append-nil}
-use Rattle.vm_types.specs.declared.item.Item.{Item}
+use Rattle.script_text.specs.declared.item.Item.{Item}
 use Rattle.vm_outside.specs.Calls.{FileCall}
 use Rattle.flat_machine.specs.Outcome.{AreAnswered, failed_in}
 use Rattle.flat_machine.specs.Machine.{Machine, is_off}

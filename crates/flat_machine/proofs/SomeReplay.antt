@@ -1,34 +1,53 @@
 -- Every script has a replay.
-use Rattle.std.proofs.Common.{◌≡◌, ℕ, ◌+◌, Bool, true, false, MatchBool, refl, sym, ap, subst, ◌∙◌, List, [], ◌∷◌, ◌++◌, length, map, Option, Some, None, inl, inr, arith}
+use Rattle.std.proofs.Common.{◌≡◌, ℕ, zero, suc, ◌+◌, Bool, true, false, MatchBool, refl, ap, subst, List, [], ◌∷◌, ◌++◌, length, Option, Some, None, Result, Ok, Err, slice_get, inl, inr, arith}
 use Rattle.std.specs.FinMap.{insert}
 use Rattle.vm_types.specs.Saved.{Saved}
 use Rattle.vm_types.specs.declared.ids.ActorId.{ActorId}
+use Rattle.vm_types.specs.declared.ids.ActorId.TheVariants.{Hart as HartId}
 use Rattle.vm_types.specs.declared.entry.Entry.{Entry}
 use Rattle.vm_types.specs.declared.entry.Event.{Event}
-use Rattle.vm_types.specs.declared.item.ApiCall.{ApiCall}
-use Rattle.vm_types.specs.declared.item.Item.{Item}
+use Rattle.vm_types.specs.declared.entry.Step.{Step}
 use Rattle.vm_types.specs.declared.exit.Exit.{Exit}
+use Rattle.guest_memory.specs.Memory.{read_from}
+use Rattle.guest_memory.specs.Ram.{is_ram}
+use Rattle.rv_supervisor.specs.declared.regs.Regs.{Regs}
+use Rattle.hart_trace.specs.Traces.{IsPrefix}
+use Rattle.hart_trace.specs.Shown.{register_of}
+use Rattle.hart_trace.proofs.Traces.{some_hart}
+use Rattle.http_stream.specs.declared.request.Next.{Next}
+use Rattle.http_stream.specs.Conversation.{arrived, new_connection}
+use Rattle.http_stream.specs.Sent.{sent}
+use Rattle.http_stream.proofs.ConversationLemmas.{each, some_conversation}
 use Rattle.refusals.specs.declared.refusal.Refusal.{Refusal}
-use Rattle.api_admission.specs.Admission.{refusal_of}
-use Rattle.api_admission.specs.Answers.{answer_of}
-use Rattle.script_lines.specs.Output.{no_actor_line, not_running_line, reply_line}
+use Rattle.vm_config.specs.declared.change.Change.{Change}
+use Rattle.vm_config.specs.declared.change.Change.TheVariants as change
+use Rattle.script_text.specs.declared.item.Item.{Item}
+use Rattle.script_text.specs.declared.item.Item.TheVariants as item
+use Rattle.script_text.specs.declared.output.Misfit.{Misfit}
+use Rattle.script_text.specs.declared.output.Misfit.TheVariants as misfit
+use Rattle.script_text.specs.Output.{memory_line, misfit_line, register_line}
+use Rattle.script_output.specs.Output.{console_line, reply_line}
 use Rattle.flat_guest.specs.Guest.{Guest, is_actor}
 use Rattle.flat_guest.specs.Sound.{IsSound}
 use Rattle.flat_guest.specs.Steps.{Makes}
-use Rattle.flat_guest.proofs.Soundness.{actor_steps, sound_next, sound_start}
+use Rattle.flat_guest.proofs.Soundness.{actor_steps, missing, sound_next, sound_start}
 use Rattle.flat_machine.specs.Outcome.{AreAnswered, Outcome}
 use Rattle.flat_machine.specs.Outcome.Outcome.{Answered}
-use Rattle.flat_machine.specs.Machine.{Machine, is_off, new_machine}
-use Rattle.flat_machine.specs.Items.{ItemStep, Moves, StepsLine}
+use Rattle.flat_machine.specs.Machine.{Machine, console_of, drained, drained_guest, is_off, new_machine}
+use Rattle.flat_machine.specs.Items.{ItemStep, MemoryLine, Misfits, Moves, RegisterLine, RepliesLine, Shows, ShowsFrom, StepsLine, Talks}
 use Rattle.flat_machine.specs.Replay.{IsEnd, IsReplay, closed, closing, judged_script}
-use Rattle.flat_machine.specs.Requests.{after_by, after_request, facts_of, guest_by, guest_from, image_of}
+use Rattle.flat_machine.specs.Requests.{RequestStep, after_by, allowed, answer_by, guest_by, guest_from, image_of}
 use Rattle.flat_machine.specs.Run.{Act, AllAnswered, OnBefore, Run, lines_done}
 use Rattle.flat_machine.proofs.Determined.{item_one}
 
--- a machine whose guest is never stuck
+-- ---- a machine whose guest is never stuck
+
 abbrev SoundBy : Option Guest → Type 0
 SoundBy None = Unit {0}
 SoundBy (Some g) = IsSound g
+
+abbrev Sound : Machine → Type 0
+Sound m = SoundBy m.guest
 
 made_sound : (es : List Entry) (g h : Guest) (actor : ActorId) → Makes g actor es h → IsSound g → IsSound h
 made_sound [] g h actor made sound = subst (λ (q : Guest). IsSound q) made sound
@@ -40,66 +59,160 @@ from_sound : (mib : ℕ) (image : Option (List ℕ)) (guest : Option Guest) → 
 from_sound mib (Some image) guest sound = sound_start mib image
 from_sound mib None guest sound = sound
 
-call_sound : (call : ApiCall) (m : Machine) → SoundBy m.guest → SoundBy (guest_by call m)
-call_sound ApiCall.InstanceStart m sound = from_sound m.config.mem_size_mib (image_of m) m.guest sound
-call_sound (ApiCall.PutBootSource path) m sound = sound
-call_sound (ApiCall.PutMachineConfig mib) m sound = sound
-call_sound ApiCall.GetInstance m sound = sound
+change_sound : (it : Change) (m : Machine) → Sound m → SoundBy (guest_by m it)
+change_sound change.Start m sound = from_sound m.config.machine.mem_size_mib (image_of m) m.guest sound
+change_sound (change.BootSource source) m sound = sound
+change_sound (change.MachineConfig machine) m sound = sound
+change_sound (change.State state) m sound = sound
+change_sound (change.CreateSnapshot files) m sound = sound
+change_sound (change.LoadSnapshot load) m sound = sound
+change_sound (change.Tell part) m sound = sound
 
-request_sound : (refusal : Option Refusal) (call : ApiCall) (m : Machine) → SoundBy m.guest → SoundBy (after_by refusal call m).guest
-request_sound (Some refusal) call m sound = sound
-request_sound None call m sound = call_sound call m sound
+result_sound : (made : Result Change Refusal) (m : Machine) → Sound m → Sound (after_by m made)
+result_sound (Ok it) m sound = change_sound it m sound
+result_sound (Err why) m sound = sound
 
-record Goes (item : Item) (m : Machine) : Type 0 where
+drained_sound : (guest : Option Guest) → SoundBy guest → SoundBy (drained_guest guest)
+drained_sound None sound = sound
+drained_sound (Some g) sound = sound
+
+-- ---- what is due is answered
+
+some_request : (given : Next) (m : Machine) → Sound m
+    → (text : List ℕ) × (n : Machine) × RequestStep Answered given m text n × Sound n
+some_request given m sound = (
+  reply_line (answer_by m (allowed m given)),
+  after_by m (allowed m given),
+  (refl, refl),
+  result_sound (allowed m given) m sound,
+)
+
+each_answered : (count : ℕ) → AreAnswered (each count Answered)
+each_answered zero = tt
+each_answered (suc count) = each_answered count
+
+-- ---- each item is done
+
+record Goes (it : Item) (m : Machine) : Type 0 where
   outcomes : List Outcome
   text : List ℕ
   next : Machine
-  step : ItemStep item outcomes m text next
+  step : ItemStep it outcomes m text next
   good : AreAnswered outcomes
-  sound : SoundBy next.guest
+  sound : Sound next
 
-some_moves : (there : Bool) (g : Guest) (actor : ActorId) (count : ℕ) (m : Machine) → is_actor g actor ≡ there → m.guest ≡ Some g → IsSound g
-    → (text : List ℕ) × (n : Machine) × MatchBool there (Moves g actor count m text n) ((text ≡ no_actor_line) × (n ≡ m)) × SoundBy n.guest
-some_moves true g actor count m there is sound =
+record Said (bytes : List ℕ) (m : Machine) : Type 0 where
+  outcomes : List Outcome
+  text : List ℕ
+  next : Machine
+  talk : Talks bytes outcomes m text next
+  good : AreAnswered outcomes
+  sound : Sound next
+
+some_talk : (bytes : List ℕ) (m : Machine) → Sound m → Said bytes m
+some_talk bytes m sound =
+    let all = some_conversation RequestStep Answered Sound some_request (arrived m.connection bytes) m sound in record {
+      outcomes = each all.0 Answered;
+      text = all.1;
+      next = record all.3 { connection = all.2 };
+      talk = (all.2, all.3, all.4, refl);
+      good = each_answered all.0;
+      sound = all.5;
+    }
+
+-- what a line that brings no request writes and leaves
+abbrev Does : (List ℕ → Machine → Type 0) → Type 0
+Does Step = (text : List ℕ) × (n : Machine) × Step text n × Sound n
+
+misfit_does : (why : Misfit) (m : Machine) → Sound m → Does (Misfits why m)
+misfit_does why m sound = (misfit_line why, m, (refl, refl), sound)
+
+-- either way something is done
+does_by : (there : Bool) (Yes No : List ℕ → Machine → Type 0) → (there ≡ true → Does Yes) → Does No
+    → Does (λ text n. MatchBool there (Yes text n) (No text n))
+does_by true Yes No yea nay = yea refl
+does_by false Yes No yea nay = nay
+
+some_moves : (g : Guest) (actor : ActorId) (count : ℕ) (m : Machine) → IsSound g → is_actor g actor ≡ true
+    → Does (Moves g actor count m)
+some_moves g actor count m sound there =
     let made = actor_steps count g actor sound there in (
       [],
       record m { guest = Some made.1 },
       record { entries = made.0; end = made.1; made = made.2; quiet = refl; leaves = refl },
       made_sound made.0 g made.1 actor made.2.made sound,
     )
-some_moves false g actor count m there is sound =
-    (no_actor_line, m, (refl, refl), subst (λ (o : Option Guest). SoundBy o) (sym is) sound)
 
-some_line : (guest : Option Guest) (actor : ActorId) (count : ℕ) (m : Machine) → m.guest ≡ guest → SoundBy guest
-    → (text : List ℕ) × (n : Machine) × StepsLine guest actor count m text n × SoundBy n.guest
-some_line None actor count m is sound =
-    (not_running_line, m, (refl, refl), subst (λ (o : Option Guest). SoundBy o) (sym is) tt)
-some_line (Some g) actor count m is sound = some_moves (is_actor g actor) g actor count m refl is sound
+some_steps : (guest : Option Guest) (actor : ActorId) (count : ℕ) (m : Machine) → Sound m → SoundBy guest
+    → Does (StepsLine guest actor count m)
+some_steps None actor count m sound own = misfit_does misfit.NotRunning m sound
+some_steps (Some g) actor count m sound own =
+    does_by (is_actor g actor) (Moves g actor count m) (Misfits misfit.NoActor m) (some_moves g actor count m own)
+    (misfit_does misfit.NoActor m sound)
 
-some_item : (item : Item) (m : Machine) → SoundBy m.guest → Goes item m
-some_item Item.Nothing m sound = record { outcomes = []; text = []; next = m; step = (refl, refl, refl); good = tt; sound = sound }
-some_item (Item.File name content) m sound = record {
-  outcomes = [];
-  text = [];
-  next = record m { saved = insert m.saved name content };
-  step = (refl, refl, refl);
-  good = tt;
-  sound = sound;
-}
-some_item (Item.Api call) m sound =
-    let reply : List ℕ = reply_line (answer_of call m.id (facts_of m)) in
-    let after : Machine = after_request call m in
-    record {
-      outcomes = Answered ∷ [];
-      text = reply ++ [];
-      next = after;
-      step = (reply, after, [], (refl, refl), (refl, refl), refl);
-      good = tt;
-      sound = request_sound (refusal_of call (facts_of m)) call m sound;
-    }
-some_item (Item.Step actor count) m sound =
-    let line = some_line m.guest actor count m refl sound in
-    record { outcomes = []; text = line.0; next = line.1; step = (refl, line.2); good = tt; sound = line.3 }
+some_reply : (guest : Option Guest) (actor : ActorId) (m : Machine) → Sound m → Does (RepliesLine guest actor m)
+some_reply None actor m sound = misfit_does misfit.NotRunning m sound
+some_reply (Some g) actor m sound =
+    does_by (is_actor g actor) (Misfits misfit.NotWaiting m) (Misfits misfit.NoActor m)
+    (λ there. misfit_does misfit.NotWaiting m sound) (misfit_does misfit.NoActor m sound)
+
+some_shown : (start : Option Regs) (steps : List Step) (number : ℕ) → (start ≡ None → ⊥)
+    → ((first : Regs) → start ≡ Some first → IsPrefix first steps) → (text : List ℕ) × ShowsFrom start steps number text
+some_shown None steps number some sound = absurd (some refl)
+some_shown (Some start) steps number some sound =
+    let hart = some_hart start steps (sound start refl) in
+    (register_line (register_of hart.0 number), (hart.0, hart.1, refl))
+
+some_register : (guest : Option Guest) (hart number : ℕ) (m : Machine) → Sound m → SoundBy guest
+    → Does (RegisterLine guest hart number m)
+some_register None hart number m sound own = misfit_does misfit.NoMachine m sound
+some_register (Some g) hart number m sound own =
+    does_by (is_actor g (HartId hart)) (λ text n. Shows g hart number text × (n ≡ m)) (Misfits misfit.NoActor m)
+    (λ there. let shown = some_shown (slice_get g.starts hart) (g.steps (HartId hart)) number
+    (λ none. missing g.starts hart none there) (own hart) in (shown.0, m, (shown.1, refl), sound))
+    (misfit_does misfit.NoActor m sound)
+
+some_memory : (guest : Option Guest) (at len : ℕ) (m : Machine) → Sound m → Does (MemoryLine guest at len m)
+some_memory None at len m sound = misfit_does misfit.NoMachine m sound
+some_memory (Some g) at len m sound =
+    does_by (is_ram (length g.memory.bytes) at len)
+    (λ text n. (text ≡ memory_line (read_from g.memory at len)) × (n ≡ m)) (Misfits misfit.OutsideMemory m)
+    (λ there. (memory_line (read_from g.memory at len), m, (refl, refl), sound)) (misfit_does misfit.OutsideMemory m sound)
+
+quietly : (it : Item) (m : Machine) (text : List ℕ) (n : Machine) → ItemStep it [] m text n → Sound n → Goes it m
+quietly it m text n step sound =
+    record { outcomes = []; text = text; next = n; step = step; good = tt; sound = sound }
+
+some_item : (it : Item) (m : Machine) → Sound m → Goes it m
+some_item (item.Bytes bytes) m sound =
+    let said = some_talk bytes m sound in
+    record { outcomes = said.outcomes; text = said.text; next = said.next; step = said.talk; good = said.good; sound = said.sound }
+some_item (item.Api method path body) m sound =
+    let said = some_talk (sent method path body) m sound in
+    record { outcomes = said.outcomes; text = said.text; next = said.next; step = said.talk; good = said.good; sound = said.sound }
+some_item item.Nothing m sound = quietly item.Nothing m [] m (refl, (refl, refl)) sound
+some_item (item.File name content) m sound =
+    quietly (item.File name content) m [] (record m { saved = insert m.saved name content }) (refl, (refl, refl)) sound
+some_item (item.Lineage lineage) m sound =
+    quietly (item.Lineage lineage) m [] (record m { ids = record m.ids { lineage = lineage } }) (refl, (refl, refl)) sound
+some_item item.Connect m sound =
+    quietly item.Connect m [] (record m { connection = new_connection }) (refl, (refl, refl)) sound
+some_item (item.Step actor count) m sound =
+    let line = some_steps m.guest actor count m sound sound in
+    quietly (item.Step actor count) m line.0 line.1 (refl, line.2) line.3
+some_item (item.Reply actor reply) m sound =
+    let line = some_reply m.guest actor m sound in
+    quietly (item.Reply actor reply) m line.0 line.1 (refl, line.2) line.3
+some_item item.Console m sound =
+    quietly item.Console m (console_line (console_of m)) (drained m) (refl, (refl, refl)) (drained_sound m.guest sound)
+some_item (item.Register hart number) m sound =
+    let line = some_register m.guest hart number m sound sound in
+    quietly (item.Register hart number) m line.0 line.1 (refl, line.2) line.3
+some_item (item.Memory at len) m sound =
+    let line = some_memory m.guest at len m sound in
+    quietly (item.Memory at len) m line.0 line.1 (refl, line.2) line.3
+
+-- ---- and each script
 
 record Ends (judges : List (Option Item)) (m : Machine) (number : ℕ) : Type 0 where
   acts : List Act
@@ -129,7 +242,7 @@ at_once judges m exit number ends =
       ends = subst (λ (n : ℕ). IsEnd exit judges n m) none_before ends;
     }
 
-some_ends : (judges : List (Option Item)) (m : Machine) (number : ℕ) (off : Bool) → is_off m ≡ off → SoundBy m.guest → Ends judges m number
+some_ends : (judges : List (Option Item)) (m : Machine) (number : ℕ) (off : Bool) → is_off m ≡ off → Sound m → Ends judges m number
 some_ends judges m number true off sound = at_once judges m Exit.Done number (inr off)
 some_ends [] m number false on sound = at_once [] m Exit.Done number (inl refl)
 some_ends (None ∷ more) m number false on sound = at_once (None ∷ more) m (Exit.Script number) number (refl, on, more, refl)

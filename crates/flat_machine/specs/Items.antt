@@ -1,19 +1,59 @@
 -- What an item of a script does to the flat machine.
-use Rattle.std.specs.Prelude.{ℕ, ◌≡◌, List, [], ◌∷◌, Option, Some, None, MatchBool}
+use Rattle.std.specs.Prelude.{ℕ, ◌≡◌, ◌⊎◌, List, [], ◌∷◌, Option, Some, None, MatchBool, slice_get, length}
 use Rattle.std.specs.FinMap.{insert}
 use Rattle.vm_types.specs.declared.ids.ActorId.{ActorId}
+use Rattle.vm_types.specs.declared.ids.ActorId.TheVariants.{Hart as HartId}
 use Rattle.vm_types.specs.declared.entry.Entry.{Entry}
-use Rattle.vm_types.specs.declared.item.ApiCall.{ApiCall}
-use Rattle.vm_types.specs.declared.item.Item.{Item}
-use Rattle.vm_types.specs.declared.item.Item.TheVariants.{Nothing, File, Api, Step}
-use Rattle.script_lines.specs.Output.{not_running_line, no_actor_line}
+use Rattle.vm_types.specs.declared.entry.Step.{Step}
+use Rattle.http_stream.specs.Stream.{Connection}
+use Rattle.http_stream.specs.Sent.{sent}
+use Rattle.http_stream.specs.Conversation.{arrived, new_connection, Conversation, ConversationFront}
+use Rattle.script_text.specs.declared.item.Item.{Item}
+use Rattle.script_text.specs.declared.item.Item.TheVariants as item
+use Rattle.script_text.specs.declared.output.Misfit.{Misfit}
+use Rattle.script_text.specs.declared.output.Misfit.TheVariants as misfit
+use Rattle.script_text.specs.Output.{misfit_line, register_line, memory_line}
+use Rattle.script_output.specs.Output.{console_line}
+use Rattle.guest_memory.specs.Memory.{read_from}
+use Rattle.guest_memory.specs.Ram.{is_ram}
+use Rattle.rv_supervisor.specs.declared.regs.Regs.{Regs}
+use Rattle.hart_trace.specs.States.{Hart, LeadsTo}
+use Rattle.hart_trace.specs.Shown.{register_of}
 use Rattle.flat_guest.specs.Guest.{Guest, is_actor}
 use Rattle.flat_guest.specs.Steps.{StepsBy}
 use Rattle.vm_outside.specs.Calls.{FileCall}
 use Rattle.vm_outside.specs.Calls.FileCall.{Making, Made, Writing, Synced}
 use Rattle.flat_machine.specs.Outcome.{Outcome}
-use Rattle.flat_machine.specs.Machine.{Machine}
-use Rattle.flat_machine.specs.Requests.{FrontStep, RequestsStep}
+use Rattle.flat_machine.specs.Machine.{Machine, console_of, drained}
+use Rattle.flat_machine.specs.Requests.{RequestStep}
+
+-- ---- bytes on the connection
+
+-- the bytes that an item puts on the connection
+abbrev pub bytes_of : Item → List ℕ
+bytes_of (item.Bytes bytes) = bytes
+bytes_of (item.Api method path body) = sent method path body
+bytes_of it = []
+
+-- everything that the connection gives with these bytes is answered
+abbrev pub Talks : List ℕ → List Outcome → Machine → List ℕ → Machine → Type 0
+Talks bytes outcomes m text n =
+    (after : Connection) × (mid : Machine)
+    × Conversation RequestStep outcomes (arrived m.connection bytes) m text after mid
+    × (n ≡ record mid { connection = after })
+
+-- only the first of it, and something is still due
+abbrev pub TalksFront : List ℕ → List Outcome → Machine → List ℕ → Machine → Type 0
+TalksFront bytes outcomes m text n =
+    (after : Connection) × (mid : Machine)
+    × ConversationFront RequestStep outcomes (arrived m.connection bytes) m text after mid
+    × (n ≡ record mid { connection = after })
+
+-- ---- events, and what is shown
+
+-- a line that doesn't apply changes nothing
+abbrev pub Misfits : Misfit → Machine → List ℕ → Machine → Type 0
+Misfits why m text n = (text ≡ misfit_line why) × (n ≡ m)
 
 -- the events of an actor write nothing
 pub record Moves (g : Guest) (actor : ActorId) (count : ℕ) (m : Machine) (text : List ℕ) (n : Machine) : Type 0 where
@@ -23,31 +63,68 @@ pub record Moves (g : Guest) (actor : ActorId) (count : ℕ) (m : Machine) (text
   pub quiet : text ≡ []
   pub leaves : n ≡ record m { guest = Some end }
 
--- a step line; where it doesn't apply it changes nothing
 abbrev pub StepsLine : Option Guest → ActorId → ℕ → Machine → List ℕ → Machine → Type 0
-StepsLine None actor count m text n = (text ≡ not_running_line) × (n ≡ m)
+StepsLine None actor count m text n = Misfits misfit.NotRunning m text n
 StepsLine (Some g) actor count m text n =
-    MatchBool (is_actor g actor) (Moves g actor count m text n) ((text ≡ no_actor_line) × (n ≡ m))
+    MatchBool (is_actor g actor) (Moves g actor count m text n) (Misfits misfit.NoActor m text n)
 
--- the requests that an item brings, in their order
-abbrev pub requests_of : Item → List ApiCall
-requests_of (Api call) = call ∷ []
-requests_of item = []
+-- no actor that there is wants an act on a host object
+abbrev pub RepliesLine : Option Guest → ActorId → Machine → List ℕ → Machine → Type 0
+RepliesLine None actor m text n = Misfits misfit.NotRunning m text n
+RepliesLine (Some g) actor m text n =
+    MatchBool (is_actor g actor) (Misfits misfit.NotWaiting m text n) (Misfits misfit.NoActor m text n)
+
+-- a register of the hart that these steps lead to
+abbrev pub ShowsFrom : Option Regs → List Step → ℕ → List ℕ → Type 0
+ShowsFrom None steps number text = ⊥
+ShowsFrom (Some start) steps number text =
+    (h : Hart) × LeadsTo start steps h × (text ≡ register_line (register_of h number))
+
+abbrev pub Shows : Guest → ℕ → ℕ → List ℕ → Type 0
+Shows g k number text = ShowsFrom (slice_get g.starts k) (g.steps (HartId k)) number text
+
+abbrev pub RegisterLine : Option Guest → ℕ → ℕ → Machine → List ℕ → Machine → Type 0
+RegisterLine None k number m text n = Misfits misfit.NoMachine m text n
+RegisterLine (Some g) k number m text n =
+    MatchBool (is_actor g (HartId k)) (Shows g k number text × (n ≡ m)) (Misfits misfit.NoActor m text n)
+
+-- bytes of RAM
+abbrev pub MemoryLine : Option Guest → ℕ → ℕ → Machine → List ℕ → Machine → Type 0
+MemoryLine None at len m text n = Misfits misfit.NoMachine m text n
+MemoryLine (Some g) at len m text n =
+    MatchBool (is_ram (length g.memory.bytes) at len) ((text ≡ memory_line (read_from g.memory at len)) × (n ≡ m))
+    (Misfits misfit.OutsideMemory m text n)
+
+-- ---- an item
+
+-- an item that brings no request
+abbrev pub QuietStep : Item → Machine → List ℕ → Machine → Type 0
+QuietStep item.Nothing m text n = (text ≡ []) × (n ≡ m)
+QuietStep (item.File name content) m text n =
+    (text ≡ []) × (n ≡ record m { saved = insert m.saved name content })
+QuietStep (item.Lineage lineage) m text n =
+    (text ≡ []) × (n ≡ record m { ids = record m.ids { lineage = lineage } })
+QuietStep item.Connect m text n = (text ≡ []) × (n ≡ record m { connection = new_connection })
+QuietStep (item.Step actor count) m text n = StepsLine m.guest actor count m text n
+QuietStep (item.Reply actor reply) m text n = RepliesLine m.guest actor m text n
+QuietStep item.Console m text n = (text ≡ console_line (console_of m)) × (n ≡ drained m)
+QuietStep (item.Register hart number) m text n = RegisterLine m.guest hart number m text n
+QuietStep (item.Memory address len) m text n = MemoryLine m.guest address len m text n
+QuietStep it m text n = ⊥
 
 -- from m the item, whose requests went so, writes the text and leaves n
 abbrev pub ItemStep : Item → List Outcome → Machine → List ℕ → Machine → Type 0
-ItemStep Nothing outcomes m text n = (outcomes ≡ []) × (text ≡ []) × (n ≡ m)
-ItemStep (File name content) outcomes m text n =
-    (outcomes ≡ []) × (text ≡ []) × (n ≡ record m { saved = insert m.saved name content })
-ItemStep (Api call) outcomes m text n = RequestsStep (requests_of (Api call)) outcomes m text n
-ItemStep (Step actor count) outcomes m text n = (outcomes ≡ []) × StepsLine m.guest actor count m text n
+ItemStep (item.Bytes bytes) outcomes m text n = Talks bytes outcomes m text n
+ItemStep (item.Api method path body) outcomes m text n = Talks (sent method path body) outcomes m text n
+ItemStep it outcomes m text n = (outcomes ≡ []) × QuietStep it m text n
 
--- as far as an item came that was not done to its end: the first of its requests
+-- As far as an item came that was not done to its end: nothing of it, or the first of its requests.
 abbrev pub PartStep : Item → List Outcome → Machine → List ℕ → Machine → Type 0
-PartStep item outcomes m text n = FrontStep outcomes (requests_of item) m text n
+PartStep it outcomes m text n =
+    ((outcomes ≡ []) × (text ≡ []) × (n ≡ m)) ⊎ TalksFront (bytes_of it) outcomes m text n
 
 -- the calls on the files that an item makes which is done: a file line's file is made, written whole and synced
 abbrev pub calls_of : Item → List FileCall
-calls_of (File name content) =
+calls_of (item.File name content) =
     Making name ∷ Made name ∷ Writing name 0 content ∷ Synced name (Some content) ∷ []
-calls_of item = []
+calls_of it = []

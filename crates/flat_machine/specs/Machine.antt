@@ -1,28 +1,43 @@
 -- The flat machine as data.
 use Rattle.std.specs.Prelude.{ℕ, Bool, false, List, [], Option, Some, None}
 use Rattle.vm_types.specs.Saved.{Saved}
-use Rattle.api_admission.specs.declared.config.Config.{Config}
-use Rattle.api_admission.specs.declared.config.Phase.{Phase}
+use Rattle.http_stream.specs.Stream.{Connection}
+use Rattle.http_stream.specs.Conversation.{new_connection}
+use Rattle.vm_config.specs.declared.config.Config.{Config}
+use Rattle.vm_config.specs.declared.config.Phase.{Phase}
+use Rattle.vm_config.specs.declared.config.Phase.TheVariants as phase
+use Rattle.vm_config.specs.Changes.{default_config}
+use Rattle.api_rules.specs.declared.ids.Ids.{Ids}
 use Rattle.flat_guest.specs.Guest.{Guest}
 
--- its id, what was configured, what each name holds in the files, and the guest once it has started
+-- its id, its lineage with the snapshots that it knows, what was configured, the connection on which requests come, what
+-- each name holds in the files, and the guest once it has started
 pub record Machine : Type 0 where
   pub id : List ℕ
+  pub ids : Ids
   pub config : Config
+  pub connection : Connection
   pub saved : Saved
   pub guest : Option Guest
 
--- no boot source, and 128 MiB
-abbrev pub default_config : Config
-default_config = record { kernel_image_path = None; mem_size_mib = 128 }
+-- of no lineage, and without a snapshot
+abbrev pub first_ids : Ids
+first_ids = record { lineage = 0; base = None; next = 1 }
 
 -- a machine that has not started, over these files
 abbrev pub new_machine : List ℕ → Saved → Machine
-new_machine id saved = record { id = id; config = default_config; saved = saved; guest = None }
+new_machine id saved = record {
+  id = id;
+  ids = first_ids;
+  config = default_config;
+  connection = new_connection;
+  saved = saved;
+  guest = None;
+}
 
 abbrev pub phase_by : Option Guest → Phase
-phase_by None = Phase.NotStarted
-phase_by (Some g) = Phase.Running
+phase_by None = phase.NotStarted
+phase_by (Some g) = phase.Running
 
 -- the guest has turned itself off
 abbrev pub off_by : Option Guest → Bool

@@ -1,10 +1,10 @@
 -- The replay of a whole script.
 use Rattle.std.specs.Prelude.{ℕ, ◌≡◌, ◌+◌, ◌^◌, nat_le, true, false, if◌then◌else◌, List, [], ◌∷◌, ◌++◌, length, take, codes, Option, None, ◌⊎◌}
-use Rattle.vm_types.specs.declared.item.Item.{Item}
+use Rattle.script_text.specs.declared.item.Item.{Item}
 use Rattle.vm_types.specs.declared.exit.Exit.{Exit}
 use Rattle.vm_types.specs.declared.exit.Exit.TheVariants.{Done, Script}
-use Rattle.script_lines.specs.Lines.{judged}
-use Rattle.script_lines.specs.Output.{console_line, last_line, off_line}
+use Rattle.script_text.specs.Lines.{judged}
+use Rattle.script_output.specs.Output.{console_line, last_line, off_line}
 use Rattle.flat_machine.specs.Machine.{Machine, console_of, drained, is_off}
 use Rattle.flat_machine.specs.Run.{Act, OnBefore, Run, lines_done}
 

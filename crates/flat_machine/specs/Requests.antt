@@ -1,73 +1,88 @@
--- What a request does to the flat machine.
-use Rattle.std.specs.Prelude.{ℕ, ◌≡◌, true, List, [], ◌∷◌, ◌++◌, length, Option, Some, None, option_map, option_and_then}
+-- What the flat machine makes of a request.
+use Rattle.std.specs.Prelude.{ℕ, ◌≡◌, List, length, Option, Some, None, option_map, Result, Ok, Err}
 use Rattle.std.specs.FinMap.{get}
 use Rattle.vm_types.specs.Saved.{Saved}
-use Rattle.vm_types.specs.declared.item.ApiCall.{ApiCall}
-use Rattle.vm_types.specs.declared.item.ApiCall.TheVariants.{InstanceStart}
 use Rattle.refusals.specs.declared.refusal.Refusal.{Refusal}
 use Rattle.refusals.specs.declared.refusal.Refusal.TheVariants as refusal
-use Rattle.api_admission.specs.Admission.{Facts, asks_files, configured, refusal_of}
-use Rattle.api_admission.specs.Answers.{answer_of, refused}
-use Rattle.script_lines.specs.Output.{reply_line}
+use Rattle.http_stream.specs.declared.request.Next.{Next}
+use Rattle.http_stream.specs.declared.request.Next.TheVariants as next
+use Rattle.api_calls.specs.declared.call.ApiCall.{ApiCall}
+use Rattle.api_calls.specs.declared.call.ApiCall.TheVariants as call
+use Rattle.api_calls.specs.declared.call.BootSource.{BootSource}
+use Rattle.api_calls.specs.Call.{call_of, ◌>>=◌}
+use Rattle.vm_config.specs.declared.change.Change.{Change}
+use Rattle.vm_config.specs.declared.change.Change.TheVariants as change
+use Rattle.vm_config.specs.Changes.{changed}
+use Rattle.api_rules.specs.declared.answer.Answer.{Answer}
+use Rattle.api_rules.specs.Answers.{accepted, refused}
+use Rattle.api_rules.specs.Table.{decision, image_refusal, unless}
+use Rattle.script_output.specs.Output.{reply_line}
 use Rattle.flat_guest.specs.Guest.{Guest}
 use Rattle.flat_guest.specs.Start.{started}
 use Rattle.flat_machine.specs.Outcome.{Outcome}
 use Rattle.flat_machine.specs.Outcome.Outcome.{Answered, Failed, NoMemory}
 use Rattle.flat_machine.specs.Machine.{Machine, phase_by}
 
+-- a call that is read and that the machine doesn't make yet is refused as a path that isn't there
+abbrev pub built : ApiCall → Result ApiCall Refusal
+built (call.PatchVm state) = Err refusal.NoSuchPath
+built (call.CreateSnapshot files) = Err refusal.NoSuchPath
+built (call.LoadSnapshot load) = Err refusal.NoSuchPath
+built it = Ok it
+
+-- what is due asks for this change, or is refused: by its bytes, as a call, and by the machine
+abbrev pub decided : Machine → Next → Result Change Refusal
+decided m (next.Request request) = do
+  it ← call_of request
+  it ← built it
+  decision (phase_by m.guest) m.config m.ids it
+decided m (next.Bad why) = Err why
+decided m next.None = Err refusal.BadHead
+
 -- the bytes of the kernel image: of the file under the configured path, if there are both
+abbrev pub image_by : Option BootSource → Saved → Option (List ℕ)
+image_by None saved = None
+image_by (Some source) saved = get saved source.kernel_image_path
+
 abbrev pub image_of : Machine → Option (List ℕ)
-image_of m = option_and_then (get m.saved) m.config.kernel_image_path
+image_of m = image_by m.config.boot_source m.saved
 
--- what the admission table asks
-abbrev pub facts_of : Machine → Facts
-facts_of m = record { phase = phase_by m.guest; config = m.config; image = option_map length (image_of m) }
+-- a start is also refused by the files, which it alone asks
+abbrev pub by_files : Machine → Change → Result Change Refusal
+by_files m change.Start = unless (image_refusal m.config (option_map length (image_of m))) (Ok change.Start)
+by_files m it = Ok it
 
--- a start makes the guest; any other call leaves it
+abbrev pub allowed : Machine → Next → Result Change Refusal
+allowed m given = do
+  it ← decided m given
+  by_files m it
+
+-- what is answered
+abbrev pub answer_by : Machine → Result Change Refusal → Answer
+answer_by m (Ok it) = accepted it m.id (phase_by m.guest) m.config
+answer_by m (Err why) = refused why
+
+-- a start makes the guest; any other change leaves it
 abbrev pub guest_from : ℕ → Option (List ℕ) → Option Guest → Option Guest
 guest_from mib (Some image) guest = Some (started mib image)
 guest_from mib None guest = guest
 
-abbrev pub guest_by : ApiCall → Machine → Option Guest
-guest_by InstanceStart m = guest_from m.config.mem_size_mib (image_of m) m.guest
-guest_by call m = m.guest
+abbrev pub guest_by : Machine → Change → Option Guest
+guest_by m change.Start = guest_from m.config.machine.mem_size_mib (image_of m) m.guest
+guest_by m it = m.guest
 
--- an allowed call configures or starts, and a refused one changes nothing
-abbrev pub after_by : Option Refusal → ApiCall → Machine → Machine
-after_by (Some refusal) call m = m
-after_by None call m =
-    record m { config = configured call m.config; guest = guest_by call m }
+-- a refused call changes nothing
+abbrev pub after_by : Machine → Result Change Refusal → Machine
+after_by m (Ok it) = record m { config = changed m.config it; guest = guest_by m it }
+after_by m (Err why) = m
 
-abbrev pub after_request : ApiCall → Machine → Machine
-after_request call m = after_by (refusal_of call (facts_of m)) call m
-
--- what a failed call on the files may leave of them: a start, which alone asks them, changes none
-abbrev pub MayLeave : ApiCall → Saved → Saved → Type 0
-MayLeave call saved left = left ≡ saved
-
--- What a request writes and leaves, by how it went: answered by the machine; 500 where a call on the
--- files failed, which a start alone makes, once it is allowed and has a boot source; 503 where there was
--- no memory. The last two change nothing but what the failed call left of the files.
-abbrev pub RequestStep : Outcome → ApiCall → Machine → List ℕ → Machine → Type 0
-RequestStep Answered call m text n =
-    (text ≡ reply_line (answer_of call m.id (facts_of m))) × (n ≡ after_request call m)
-RequestStep (Failed left) call m text n =
-    (asks_files call (facts_of m) ≡ true) × MayLeave call m.saved left
+-- What is written and left where something is due, by how it went: answered by the machine; 500 where a call on the
+-- files failed, which a start alone makes; 503 where there was no memory. The last two change nothing but what the
+-- failed call left of the files, and a start changes none.
+abbrev pub RequestStep : Outcome → Next → Machine → List ℕ → Machine → Type 0
+RequestStep Answered given m text n =
+    (text ≡ reply_line (answer_by m (allowed m given))) × (n ≡ after_by m (allowed m given))
+RequestStep (Failed left) given m text n =
+    (decided m given ≡ Ok change.Start) × (left ≡ m.saved)
     × (text ≡ reply_line (refused refusal.OutsideFailed)) × (n ≡ record m { saved = left })
-RequestStep NoMemory call m text n = (text ≡ reply_line (refused refusal.OutOfMemory)) × (n ≡ m)
-
--- requests one after another, each with how it went
-abbrev pub RequestsStep : List ApiCall → List Outcome → Machine → List ℕ → Machine → Type 0
-RequestsStep [] [] m text n = (text ≡ []) × (n ≡ m)
-RequestsStep (call ∷ calls) (outcome ∷ outcomes) m text n =
-    (first : List ℕ) × (mid : Machine) × (rest : List ℕ)
-    × RequestStep outcome call m first mid × RequestsStep calls outcomes mid rest n × (text ≡ first ++ rest)
-RequestsStep calls outcomes m text n = ⊥
-
--- the first of these requests, and not all where there is one, each with how it went
-abbrev pub FrontStep : List Outcome → List ApiCall → Machine → List ℕ → Machine → Type 0
-FrontStep [] calls m text n = (text ≡ []) × (n ≡ m)
-FrontStep (outcome ∷ outcomes) (call ∷ next ∷ calls) m text n =
-    (first : List ℕ) × (mid : Machine) × (rest : List ℕ)
-    × RequestStep outcome call m first mid × FrontStep outcomes (next ∷ calls) mid rest n × (text ≡ first ++ rest)
-FrontStep outcomes calls m text n = ⊥
+RequestStep NoMemory given m text n = (text ≡ reply_line (refused refusal.OutOfMemory)) × (n ≡ m)

@@ -1,6 +1,6 @@
 -- The run of the flat machine over acts.
 use Rattle.std.specs.Prelude.{ℕ, ◌≡◌, ◌+◌, false, List, [], ◌∷◌, ◌++◌, map, Option, Some}
-use Rattle.vm_types.specs.declared.item.Item.{Item}
+use Rattle.script_text.specs.declared.item.Item.{Item}
 use Rattle.vm_outside.specs.Calls.{FileCall}
 use Rattle.flat_machine.specs.Outcome.{AreAnswered, Outcome, failed_in, short_in}
 use Rattle.flat_machine.specs.Machine.{Machine, is_off}

@@ -1,10 +1,10 @@
 -- How a replay stops early: a host object's failure or want of memory ended it.
 use Rattle.std.specs.Prelude.{ℕ, ◌≡◌, ◌≢◌, ◌+◌, false, List, [], ◌∷◌, ◌++◌, length, Option, Some, ◌⊎◌}
-use Rattle.vm_types.specs.declared.item.Item.{Item}
-use Rattle.vm_types.specs.declared.item.Item.TheVariants.{File}
+use Rattle.script_text.specs.declared.item.Item.{Item}
+use Rattle.script_text.specs.declared.item.Item.TheVariants.{File}
 use Rattle.vm_types.specs.declared.exit.Object.TheVariants as object
 use Rattle.vm_types.specs.declared.exit.Exit.{Exit}
-use Rattle.script_lines.specs.Output.{last_line}
+use Rattle.script_output.specs.Output.{last_line}
 use Rattle.flat_machine.specs.Items.{ItemStep, PartStep}
 use Rattle.flat_machine.specs.Machine.{Machine, is_off}
 use Rattle.flat_machine.specs.Outcome.{Outcome}
@@ -16,13 +16,13 @@ abbrev pub IsAtFile : List (Option Item) → Type 0
 IsAtFile left =
     (name : List ℕ) × (content : List ℕ) × (more : List (Option Item)) × (left ≡ Some (File name content) ∷ more)
 
--- where it stops: for the files alone at a file line; for the source while the guest is on; for want of memory
--- anywhere
-abbrev pub StopsBy : Exit → List (Option Item) → Machine → Type 0
-StopsBy (Exit.Fault object.Files) left m = (is_off m ≡ false) × IsAtFile left
-StopsBy (Exit.Fault object.Source) left m = is_off m ≡ false
-StopsBy Exit.OutOfMemory left m = Unit {0}
-StopsBy exit left m = ⊥
+-- where it stops: for the files alone at a file line; for the source while the guest is on, when nothing of the next
+-- line is done; for want of memory anywhere
+abbrev pub StopsBy : Exit → List (Option Item) → List Outcome → Machine → Type 0
+StopsBy (Exit.Fault object.Files) left part m = (is_off m ≡ false) × IsAtFile left
+StopsBy (Exit.Fault object.Source) left part m = (is_off m ≡ false) × (part ≡ [])
+StopsBy Exit.OutOfMemory left part m = Unit {0}
+StopsBy exit left part m = ⊥
 
 -- the failure at a file line is one more than those answered 500
 abbrev pub stop_failures : Exit → ℕ
@@ -42,10 +42,10 @@ pub record IsStopped (script : List ℕ) (start : Machine) (acts : List Act) (pa
   pub last : Machine
   pub left : List (Option Item)
   pub plays : Plays script start acts answers last left
-  pub stops : StopsBy exit left last
+  pub stops : StopsBy exit left part last
   pub unwritten : List ℕ
   pub inside : StopsInside left part last unwritten end
-  pub on : (part ≡ []) ⊎ (is_off last ≡ false)
+  pub on : (end ≡ last) ⊎ (is_off last ≡ false)
   pub writes : text ≡ answers ++ last_line exit
 
 -- What is being written when the sink fails: the text of the last act, behind those of the acts before it; or the

@@ -1,10 +1,14 @@
 // What holds of every machine and script.
-ghost use Rattle.std.specs.Prelude.{◌≡◌, ℕ, List};
+ghost use Rattle.std.specs.Prelude.{[], ◌≡◌, ℕ, List};
 ghost use Rattle.vm_types.specs.declared.exit.Exit.{Exit};
+ghost use Rattle.vm_types.specs.declared.exit.Object.{Object};
 ghost use Rattle.vm_types.specs.Saved.{Saved};
+ghost use Rattle.http_stream.specs.Conversation.{IsQuiet};
 ghost use Rattle.flat_machine.specs.Machine.{Machine, new_machine};
+ghost use Rattle.flat_machine.specs.Outcome.{Outcome};
 ghost use Rattle.flat_machine.specs.Replay.{IsReplay};
 ghost use Rattle.flat_machine.specs.Run.{Act, AllAnswered, Run};
+ghost use Rattle.flat_machine.specs.Stops.{IsStopped};
 
 /// A run is determined: acts from one machine write one text and leave one machine.
 pub fn one_run()
@@ -34,4 +38,14 @@ pub fn some_replay()
     ensures { (script id : List ℕ) (saved : Saved) →
         (acts : List Act) × (exit : Exit) × (text : List ℕ) × (end : Machine) × AllAnswered acts
         × IsReplay script (new_machine id saved) acts exit text end }
+{}
+
+/// Between two lines nothing is due on the connection; so where a host object failed, whole lines were answered, and
+/// no request of the line that was next.
+pub fn whole_lines()
+    ensures quiet { (acts : List Act) (id : List ℕ) (saved : Saved) (text : List ℕ) (n : Machine) →
+        Run acts (new_machine id saved) text n → IsQuiet n.connection }
+    ensures fault { (script id : List ℕ) (saved : Saved) (acts : List Act) (part : List Outcome) (name : Object)
+        (text : List ℕ) (end : Machine) →
+        IsStopped script (new_machine id saved) acts part (Exit.Fault name) text end → part ≡ [] }
 {}

@@ -2,10 +2,10 @@
 use Rattle.std.proofs.Common.{◌≡◌, ℕ, ◌+◌, ◌-◌, ◌≤◌, nat_le, Bool, true, false, cond, List, [], ◌∷◌, ◌++◌, length, take, Option, Some, None, refl, sym, ap, subst, ◌∙◌, append_assoc, arith}
 use Rattle.std.proofs.Math.Seq.{take-append-add}
 use Rattle.std.proofs.lemmas.List.{append-nil}
-use Rattle.vm_types.specs.declared.item.Item.{Item}
+use Rattle.script_text.specs.declared.item.Item.{Item}
 use Rattle.vm_outside.specs.Calls.{FileCall}
 use Rattle.vm_outside.specs.Known.{FilesKnown, SinkKnown, Tells}
-use Rattle.script_lines.specs.Lines.{judged}
+use Rattle.script_text.specs.Lines.{judged}
 use Rattle.flat_machine.specs.Items.{calls_of}
 use Rattle.flat_machine.specs.Machine.{Machine, is_off}
 use Rattle.flat_machine.specs.Outcome.{failed_in}

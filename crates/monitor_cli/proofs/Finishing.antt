@@ -4,9 +4,9 @@ use Rattle.std.proofs.lemmas.Bool.{le-leb}
 use Rattle.std.proofs.lemmas.List.{append-nil}
 use Rattle.vm_types.specs.declared.exit.Exit.{Exit}
 use Rattle.vm_types.specs.declared.exit.Object.TheVariants as object
-use Rattle.vm_types.specs.declared.item.Item.{Item}
+use Rattle.script_text.specs.declared.item.Item.{Item}
 use Rattle.vm_outside.specs.Known.{FilesKnown, SinkKnown}
-use Rattle.script_lines.specs.Lines.{judged}
+use Rattle.script_text.specs.Lines.{judged}
 use Rattle.flat_guest.specs.Guest.{Guest}
 use Rattle.flat_machine.specs.Machine.{Machine, drained, drained_guest, is_off, off_by}
 use Rattle.flat_machine.specs.Replay.{IsEnd, Plays, closing, judged_script, longest_script}

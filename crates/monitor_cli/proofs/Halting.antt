@@ -7,11 +7,11 @@ use Rattle.vm_types.specs.Causes.{RoseBy}
 use Rattle.vm_types.specs.Saved.{Saved}
 use Rattle.vm_types.specs.declared.exit.Exit.{Exit}
 use Rattle.vm_types.specs.declared.exit.Object.TheVariants as object
-use Rattle.vm_types.specs.declared.item.Item.{Item}
+use Rattle.script_text.specs.declared.item.Item.{Item}
 use Rattle.vm_outside.specs.Calls.{FileCall, MakesFront}
 use Rattle.vm_outside.specs.Known.{FilesKnown, SinkKnown, SourceKnown, Tells}
-use Rattle.script_lines.specs.Lines.{judged}
-use Rattle.script_lines.specs.Output.{last_line}
+use Rattle.script_text.specs.Lines.{judged}
+use Rattle.script_output.specs.Output.{last_line}
 use Rattle.flat_machine.specs.Items.{calls_of}
 use Rattle.flat_machine.specs.Machine.{Machine, is_off}
 use Rattle.flat_machine.specs.Outcome.{failed_in}
@@ -36,7 +36,7 @@ use Rattle.monitor_cli.proofs.Counts.{none_more, rose_more}
 pub not_inside : (left : List (Option Item)) (m : Machine) → StopsInside left [] m [] m
 not_inside [] m = (refl, refl, refl)
 not_inside (None ∷ left) m = (refl, refl, refl)
-not_inside (Some item ∷ left) m = (refl, refl)
+not_inside (Some item ∷ left) m = inl (refl, refl, refl)
 
 not_short : (n most : ℕ) → most < n → nat_le n most ≡ false
 not_short n most more = grind (arith, nat_tests)
@@ -49,34 +49,24 @@ long_judged script came left is full more =
 
 at_file : (item : Item) (lines : List (Option Item)) → IsFile item → IsAtFile (Some item ∷ lines)
 at_file (Item.File name content) lines is = (name, content, lines, refl)
-at_file Item.Nothing lines is = absurd is
-at_file (Item.Api call) lines is = absurd is
-at_file (Item.Step actor count) lines is = absurd is
+at_file item lines is = absurd is
 
 file_left : (item : Item) (lines : List (Option Item)) (m : Machine) (left : Saved) → IsFile item → LeavesFiles item m.saved left → FilesBy (Exit.Fault object.Files) (Some item ∷ lines) m left
 file_left (Item.File name content) lines m left is leaves = leaves
-file_left Item.Nothing lines m left is leaves = absurd is
-file_left (Item.Api call) lines m left is leaves = absurd is
-file_left (Item.Step actor count) lines m left is leaves = absurd is
+file_left item lines m left is leaves = absurd is
 
 other_left : (item : Item) (saved left : Saved) → (IsFile item → ⊥) → LeavesFiles item saved left → left ≡ saved
 other_left (Item.File name content) saved left never leaves = absurd (never tt)
-other_left Item.Nothing saved left never leaves = leaves
-other_left (Item.Api call) saved left never leaves = leaves
-other_left (Item.Step actor count) saved left never leaves = leaves
+other_left item saved left never leaves = leaves
 
 file_calls : (item : Item) (more : List (Option Item)) (script : List ℕ) (acts : List Act) (before calls left : List FileCall) → IsFile item → judged_script script ≡ lines_done acts ++ Some item ∷ more → calls ≡ before ++ calls_in acts → LeavesCalls item calls left → CallsBy (Exit.Fault object.Files) script acts before left
 file_calls (Item.File name content) more script acts before calls left is lines same leaves =
     (name, content, more, lines, subst (λ (c : List FileCall). MakesFront (calls_of (Item.File name content)) c left) same leaves)
-file_calls Item.Nothing more script acts before calls left is lines same leaves = absurd is
-file_calls (Item.Api call) more script acts before calls left is lines same leaves = absurd is
-file_calls (Item.Step actor count) more script acts before calls left is lines same leaves = absurd is
+file_calls item more script acts before calls left is lines same leaves = absurd is
 
 other_calls : (item : Item) (calls left : List FileCall) → (IsFile item → ⊥) → LeavesCalls item calls left → left ≡ calls
 other_calls (Item.File name content) calls left never leaves = absurd (never tt)
-other_calls Item.Nothing calls left never leaves = leaves
-other_calls (Item.Api call) calls left never leaves = leaves
-other_calls (Item.Step actor count) calls left never leaves = leaves
+other_calls item calls left never leaves = leaves
 
 module _ (start : Machine) (before : Known) (came rest : List ℕ) (run : ScriptRun) (sink : SinkKnown) (files : FilesKnown) (r : Reached start before came rest run sink files) where
   abbrev script : List ℕ
@@ -118,7 +108,7 @@ module _ (start : Machine) (before : Known) (came rest : List ℕ) (run : Script
         last = r.last;
         left = held here.more ++ here.behind;
         plays = here.plays;
-        stops = on;
+        stops = (on, refl);
         unwritten = [];
         inside = not_inside (held here.more ++ here.behind) r.last;
         on = inl refl;

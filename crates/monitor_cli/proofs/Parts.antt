@@ -7,7 +7,7 @@ use Rattle.vm_types.specs.declared.exit.Exit.{Exit}
 use Rattle.vm_types.specs.declared.exit.Object.TheVariants as object
 use Rattle.vm_outside.specs.Known.{Called, SinkKnown}
 use Rattle.vm_outside.specs.Passing.{TakesAll, TakesPart}
-use Rattle.script_lines.specs.Output.{last_line}
+use Rattle.script_output.specs.Output.{last_line}
 use Rattle.monitor_cli.specs.Known.{SinkCause}
 use Rattle.monitor_cli.specs.Taking.{IsQuiet, TookFront, TookText}
 

@@ -2,7 +2,7 @@
 use Rattle.std.specs.Prelude.{◌≡◌, ℕ, List, ◌++◌}
 use Rattle.vm_types.specs.declared.exit.Exit.{Exit}
 use Rattle.vm_types.specs.declared.exit.Object.TheVariants as object
-use Rattle.vm_types.specs.declared.item.Item.{Item}
+use Rattle.script_text.specs.declared.item.Item.{Item}
 use Rattle.vm_outside.specs.Known.{FilesKnown, SinkKnown, Tells}
 use Rattle.monitor_core.specs.declared.item_error.ItemError.TheVariants.{FilesFailed, OutOfMemory}
 use Rattle.monitor_core.specs.declared.monitor.Monitor.{Monitor}

@@ -2,9 +2,9 @@
 use Rattle.std.specs.Prelude.{◌≡◌, ◌↔◌, ◌⊎◌, ℕ, Bool, true, false, List, [], ◌∷◌, ◌++◌, codes, map, Option, Some}
 use Rattle.std.specs.Str.{bytes_eq}
 use Rattle.vm_types.specs.declared.exit.Exit.{Exit}
-use Rattle.vm_types.specs.declared.item.Item.{Item}
+use Rattle.script_text.specs.declared.item.Item.{Item}
 use Rattle.vm_outside.specs.Known.{Tells}
-use Rattle.script_lines.specs.Output.{last_line}
+use Rattle.script_output.specs.Output.{last_line}
 use Rattle.flat_machine.specs.Machine.{new_machine}
 use Rattle.flat_machine.specs.Replay.{default_id, judged_script}
 use Rattle.monitor_cli.specs.Known.{AllLast, AllTell, Known, NoneRose, Caused}

@@ -3,8 +3,8 @@ use Rattle.std.specs.Prelude.{◌≡◌, ℕ, ◌+◌, List, ◌∷◌, ◌++◌
 use Rattle.vm_types.specs.Causes.{RoseBy}
 use Rattle.vm_types.specs.declared.exit.Exit.{Exit}
 use Rattle.vm_types.specs.declared.exit.Object.TheVariants as object
-use Rattle.vm_types.specs.declared.item.Item.{Item}
-use Rattle.vm_types.specs.declared.item.Item.TheVariants.{File}
+use Rattle.script_text.specs.declared.item.Item.{Item}
+use Rattle.script_text.specs.declared.item.Item.TheVariants.{File}
 use Rattle.vm_outside.specs.Calls.{FileCall, MakesFront}
 use Rattle.flat_machine.specs.Items.{calls_of}
 use Rattle.flat_machine.specs.Outcome.{Outcome, failed_in}

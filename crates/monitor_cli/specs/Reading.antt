@@ -2,8 +2,8 @@
 use Rattle.std.specs.Prelude.{◌≡◌, true, ℕ, List, [], ◌++◌, Option, ◌⊎◌}
 use Rattle.vm_types.specs.declared.exit.Exit.{Exit}
 use Rattle.vm_types.specs.declared.exit.Object.TheVariants as object
-use Rattle.vm_types.specs.declared.item.Item.{Item}
-use Rattle.script_lines.specs.Lines.{judged}
+use Rattle.script_text.specs.declared.item.Item.{Item}
+use Rattle.script_text.specs.Lines.{judged}
 use Rattle.flat_machine.specs.Machine.{Machine, is_off}
 use Rattle.flat_machine.specs.Run.{Act, lines_done}
 

@@ -4,8 +4,8 @@ use Rattle.vm_types.specs.Causes.{Rose}
 use Rattle.vm_types.specs.Saved.{Saved, SameOthers}
 use Rattle.vm_types.specs.declared.exit.Exit.{Exit}
 use Rattle.vm_types.specs.declared.exit.Object.TheVariants as object
-use Rattle.vm_types.specs.declared.item.Item.{Item}
-use Rattle.script_lines.specs.Output.{last_line}
+use Rattle.script_text.specs.declared.item.Item.{Item}
+use Rattle.script_output.specs.Output.{last_line}
 use Rattle.flat_machine.specs.Machine.{Machine}
 use Rattle.flat_machine.specs.Outcome.{Outcome}
 use Rattle.flat_machine.specs.Replay.{IsReplay}

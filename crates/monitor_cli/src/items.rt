@@ -5,8 +5,9 @@ ghost use Rattle.monitor_cli.specs.Answering.{ItemDone, ItemEnds};
 ghost use Rattle.monitor_cli.specs.Known.{FilesCause, SinkCause};
 
 use monitor_core::{ItemError, Monitor};
+use script_text::Item;
 use vm_outside::{Failed, Files, Sink, write_all};
-use vm_types::{Exit, Item, Object};
+use vm_types::{Exit, Object};
 
 /// One item, and what it writes to the sink.
 ///

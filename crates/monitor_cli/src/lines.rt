@@ -5,8 +5,9 @@ ghost use Rattle.flat_machine.specs.Machine.{Machine};
 ghost use Rattle.monitor_cli.specs.Known.{FilesCause, SinkCause};
 
 use crate::items::run_item;
-use monitor_core::{LineReader, Monitor, Next};
-use std::alloc::Global;
+use monitor_core::Monitor;
+use script_text::{LineReader, Next};
+use std::alloc::{AllocError, Global};
 use vm_outside::{Files, Sink};
 use vm_types::{Exit, TextList};
 
@@ -36,16 +37,16 @@ impl ScriptRun {
     ghost use Rattle.monitor_cli.specs.Lines.{BeforeLast, IsLinesEnd, PausedBy, Reached};
 
     /// A machine of this id that has not started, and no line.
-    pub fn new(alloc: Global, id: TextList) -> ScriptRun
-        ensures reader { result.reader ≡ [] }
-        ensures line { result.line ≡ 1 }
-        ensures monitor { (saved : Saved) → IsMonitor result.monitor saved (new_machine id saved) }
+    pub fn new(alloc: Global, id: TextList) -> Result<ScriptRun, AllocError>
+        ensures reader { IfOk result (λ run. run.reader ≡ []) }
+        ensures line { IfOk result (λ run. run.line ≡ 1) }
+        ensures monitor { IfOk result (λ run. (saved : Saved) → IsMonitor run.monitor saved (new_machine id saved)) }
     {
-        ScriptRun {
+        Ok(ScriptRun {
             reader: LineReader::new(alloc),
-            monitor: Monitor::new(alloc, id),
+            monitor: Monitor::new(alloc, id)?,
             line: 1,
-        }
+        })
     }
 
     /// Runs the lines that are whole, until the guest is off.

@@ -29,7 +29,9 @@ pub fn replay<I: Source, O: Sink, F: Files>(
     ensures lasts { AllLast (all_known (I.known out.old.source) (O.known out.old.sink) (F.known out.old.files))
         (all_known (I.known out.new.source) (O.known out.new.sink) (F.known out.new.files)) }
 {
-    let mut run = ScriptRun::new(alloc, id);
+    let Ok(mut run) = ScriptRun::new(alloc, id) else {
+        return Exit::OutOfMemory;
+    };
     if let Err(exit) = run_script(&mut run, &mut out.source, &mut out.files, &mut out.sink) {
         return exit;
     }

@@ -1,215 +1,273 @@
 -- What an item makes of the monitor is what it makes of each machine that it is.
-use Rattle.std.proofs.Common.{◌≡◌, ℕ, ◌+◌, ◌≤◌, ◌==◌, nat_lt, arith, Bool, true, false, MatchBool, refl, sym, ap, subst, ◌∙◌, List, [], ◌∷◌, ◌++◌, length, Option, Some, None, inl}
-use Rattle.std.proofs.lemmas.Bool.Decides.{nat_tests}
+use Rattle.std.proofs.Common.{◌≡◌, ℕ, ◌+◌, ◌≤◌, arith, Bool, true, false, MatchBool, refl, sym, ap, subst, ◌∙◌, List, [], ◌∷◌, ◌++◌, Option, Some, None, ◌⊎◌, inl, inr}
 use Rattle.std.proofs.lemmas.List.{append-nil}
+use Rattle.std.proofs.lemmas.Result.{err_from_is_err_and}
+use Rattle.std.specs.Prelude.{IfErr, Result}
+use Rattle.std.specs.Result.{IsErrAnd}
 use Rattle.std.specs.FinMap.{insert}
 use Rattle.vm_types.specs.Causes.{Rose, RoseBy}
 use Rattle.vm_types.specs.Saved.{Saved}
-use Rattle.vm_types.specs.Ids.{same_actor}
-use Rattle.vm_types.specs.declared.ids.ActorId.{ActorId}
-use Rattle.vm_types.specs.declared.entry.Entry.{Entry}
-use Rattle.vm_types.specs.declared.item.ApiCall.{ApiCall}
-use Rattle.vm_types.specs.declared.item.Item.{Item}
-use Rattle.script_lines.specs.Output.{not_running_line, no_actor_line}
-use Rattle.flat_guest.specs.Guest.{Guest, is_actor}
-use Rattle.flat_guest.specs.Body.{IsGuest}
-use Rattle.flat_guest.specs.Steps.{StepsBy}
-use Rattle.flat_machine.specs.Outcome as flat
-use Rattle.monitor_core.specs.declared.outcome.Outcome.{Outcome}
-use Rattle.monitor_core.specs.declared.outcome.Outcome.TheVariants.{Answered, Failed, NoMemory}
-use Rattle.flat_machine.specs.Machine.{Machine}
-use Rattle.flat_machine.specs.Items.{ItemStep, Moves, StepsLine, calls_of, requests_of}
-use Rattle.flat_machine.specs.Requests.{RequestStep}
 use Rattle.vm_outside.specs.Calls.{FileCall}
-use Rattle.vm_outside.specs.Filing.{SameFiles}
-use Rattle.vm_outside.specs.Known.{FilesKnown, Tells}
+use Rattle.vm_outside.specs.Known.{FilesKnown, Lasts, Tells}
+use Rattle.http_stream.specs.Stream.{Connection}
+use Rattle.http_stream.specs.Sent.{sent}
+use Rattle.http_stream.specs.Conversation.{arrived, new_connection, Conversation, ConversationFront}
+use Rattle.script_text.specs.declared.item.Item.{Item}
+use Rattle.api_rules.specs.declared.ids.Ids.{Ids}
+use Rattle.flat_machine.specs.Outcome as flat
+use Rattle.flat_machine.specs.Machine.{Machine}
+use Rattle.flat_machine.specs.Items.{ItemStep, PartStep, QuietStep, Talks, TalksFront, bytes_of, calls_of}
+use Rattle.flat_machine.specs.Requests.{RequestStep}
 use Rattle.monitor_core.specs.declared.item_error.ItemError.{ItemError}
-use Rattle.hart_rows.specs.declared.regs.Regs.{Regs}
-use Rattle.monitor_core.specs.Filing.{SavesFile, SavesPart}
-use Rattle.monitor_core.specs.Going.{CallsFiles, CountsFaults, IsFile, IsStart, ItemCause, ItemGoes, ItemStops, LeavesCalls, LeavesFiles, OutcomeCause, RequestGoes, error_failures, outcome_by}
-use Rattle.monitor_core.specs.declared.guest.Guest as own
 use Rattle.monitor_core.specs.declared.monitor.Monitor.{Monitor}
-use Rattle.monitor_core.specs.State.{IsGuestBy, IsMonitor}
-
-no_guest : (p : Option own.Guest) (g : Option Guest) → IsGuestBy p g → p ≡ None → g ≡ None
-no_guest None None is none = refl
-no_guest (Some p) None is none = refl
-no_guest None (Some g) is none = absurd is
-no_guest (Some p) (Some g) is none = cc
-
-some_guest : (p : Option own.Guest) (q : own.Guest) (g : Option Guest) → IsGuestBy p g → p ≡ Some q → (h : Guest) × (g ≡ Some h) × IsGuest q.memory q.board q.hart h
-some_guest None q None is some = cc
-some_guest None q (Some g) is some = cc
-some_guest (Some p) q None is some = absurd is
-some_guest (Some p) q (Some g) is some =
-    let same : p ≡ q = cc in
-    (g, refl, subst (λ (x : own.Guest). IsGuest x.memory x.board x.hart g) same is)
-
--- the actors of a guest with one hart
-hart_there : (g : Guest) (start : Regs) → g.starts ≡ start ∷ [] → is_actor g (ActorId.Hart 0) ≡ true
-hart_there g start one = ap (λ (starts : List Regs). nat_lt 0 (length starts)) one
-
-past : (k : ℕ) → (k == 0) ≡ false → nat_lt k 1 ≡ false
-past k other = grind (arith, nat_tests)
-
-others_not : (g : Guest) (start : Regs) (actor : ActorId) → g.starts ≡ start ∷ [] → same_actor actor (ActorId.Hart 0) ≡ false → is_actor g actor ≡ false
-others_not g start (ActorId.Hart k) one other =
-    let here : nat_lt k (length g.starts) ≡ nat_lt k 1 = ap (λ (starts : List Regs). nat_lt k (length starts)) one in
-    here ∙ past k other
-others_not g start ActorId.Timer one other = refl
-others_not g start (ActorId.Device k) one other = refl
-
--- some machine that the monitor is after the step line
-abbrev pub Moved : ActorId → ℕ → Machine → List ℕ → Monitor → Saved → Type 0
-Moved actor count m text after saved = (n : Machine) × StepsLine m.guest actor count m text n × IsMonitor after saved n
-
-pub step_refused : (monitor : Monitor) (saved : Saved) (m : Machine) (actor : ActorId) (count : ℕ) (text : List ℕ) → IsMonitor monitor saved m → monitor.guest ≡ None → text ≡ not_running_line → Moved actor count m text monitor saved
-step_refused monitor saved m actor count text is none writes =
-    let nothing = no_guest monitor.guest m.guest is.guest_is none in
-    (m, subst (λ (g : Option Guest). StepsLine g actor count m text m) (sym nothing) (writes, refl), is)
-
-pub step_no_actor : (monitor : Monitor) (saved : Saved) (m : Machine) (guest : own.Guest) (actor : ActorId) (count : ℕ) (text : List ℕ) → IsMonitor monitor saved m → monitor.guest ≡ Some guest → same_actor actor (ActorId.Hart 0) ≡ false → text ≡ no_actor_line
-    → Moved actor count m text (record monitor { guest = Some guest }) saved
-step_no_actor monitor saved m guest actor count text is some other writes =
-    let h = some_guest monitor.guest guest m.guest is.guest_is some in
-    let hart = h.2.hart_is in
-    let none : is_actor h.0 actor ≡ false = others_not h.0 hart.0 actor hart.1 other in (
-      m,
-      subst (λ (g : Option Guest). StepsLine g actor count m text m) (sym h.1)
-          (subst (λ (b : Bool). MatchBool b (Moves h.0 actor count m text m) ((text ≡ no_actor_line) × (m ≡ m))) (sym none) (writes, refl)),
-      record {
-        id_is = is.id_is;
-        config_is = is.config_is;
-        files_is = is.files_is;
-        guest_is = subst (λ (p : Option own.Guest). IsGuestBy p m.guest) some is.guest_is;
-      },
-    )
-
-pub step_moves : (monitor : Monitor) (saved : Saved) (m : Machine) (guest left : own.Guest) (actor : ActorId) (count : ℕ) (text : List ℕ) → IsMonitor monitor saved m → monitor.guest ≡ Some guest → actor ≡ ActorId.Hart 0 → text ≡ []
-    → ((g : Guest) → IsGuest guest.memory guest.board guest.hart g → (es : List Entry) × (h : Guest) × StepsBy g (ActorId.Hart 0) count es h × IsGuest left.memory left.board left.hart h)
-    → Moved actor count m text (record monitor { guest = Some left }) saved
-step_moves monitor saved m guest left actor count text is some hart quiet ran =
-    let g = some_guest monitor.guest guest m.guest is.guest_is some in
-    let made = ran g.0 g.2 in
-    let n : Machine = record m { guest = Some made.1 } in
-    let there : is_actor g.0 (ActorId.Hart 0) ≡ true = hart_there g.0 g.2.hart_is.0 g.2.hart_is.1 in
-    let moved : Moves g.0 (ActorId.Hart 0) count m text n = record { entries = made.0; end = made.1; made = made.2; quiet = quiet; leaves = refl } in (
-      n,
-      subst (λ (a : ActorId). StepsLine m.guest a count m text n) (sym hart)
-          (subst (λ (o : Option Guest). StepsLine o (ActorId.Hart 0) count m text n) (sym g.1)
-          (subst (λ (b : Bool). MatchBool b (Moves g.0 (ActorId.Hart 0) count m text n) ((text ≡ no_actor_line) × (n ≡ m))) (sym there) moved)),
-      record { id_is = is.id_is; config_is = is.config_is; files_is = is.files_is; guest_is = made.3 },
-    )
-
--- some machine that the monitor is after the item
-abbrev Went : Item → List flat.Outcome → Machine → List ℕ → Monitor → Saved → Type 0
-Went item outcomes m text after saved = (n : Machine) × ItemStep item outcomes m text n × IsMonitor after saved n
+use Rattle.monitor_core.specs.Filing.{SavesFile, SavesPart}
+use Rattle.monitor_core.specs.Going.{CallsFiles, CountsFaults, Gave, GaveFront, GivesStart, IsFile, ItemCause, ItemGoes, ItemStops, Leads, LeadsFront, LeavesCalls, LeavesFiles, error_failures}
+use Rattle.monitor_core.specs.State.{IsBeside, IsMonitor}
+use Rattle.monitor_core.specs.Talking.{HasAnswered, HasHalted, HasStopped, HasTalked}
+use Rattle.monitor_core.proofs.Talks.{begins_due, begins_quiet}
 
 -- no request wants no fault
 none_counted : (before now : ℕ) → now ≡ before → CountsFaults [] before now
 none_counted before now same = record { rose = omega (arith, same); kept = λ good. same }
 
-one_counted : (outcome : Outcome) (left : Saved) (before now : ℕ) → OutcomeCause outcome before now → CountsFaults (outcome_by outcome left ∷ []) before now
-one_counted Answered left before now cause = record { rose = omega (arith, cause); kept = λ good. cause }
-one_counted Failed left before now cause = record { rose = cause; kept = λ good. absurd good }
-one_counted NoMemory left before now cause = record { rose = omega (arith, cause); kept = λ good. absurd good }
+-- ---- an item that brings no request
 
-same_calls : (item other : Item) (calls left : List FileCall) → item ≡ other → calls_of other ≡ [] → left ≡ calls → left ≡ calls ++ calls_of item
-same_calls item other calls left is none same =
-    same ∙ sym (append-nil calls) ∙ ap (λ (l : List FileCall). calls ++ l) (sym none) ∙ ap (λ (i : Item). calls ++ calls_of i) (sym is)
+pub quiet_goes : (item it : Item) (monitor after : Monitor) (known : FilesKnown) (text : List ℕ) → item ≡ it
+    → Leads it [] monitor.front after.front → calls_of it ≡ []
+    → ((saved : Saved) (m : Machine) → IsMonitor monitor saved m → (n : Machine) × ItemStep it [] m text n × IsMonitor after saved n)
+    → ItemGoes item text monitor after known known
+quiet_goes item it monitor after known text is given none went =
+    subst (λ (i : Item). ItemGoes i text monitor after known known) (sym is) (record {
+      outcomes = [];
+      given = given;
+      counted = none_counted known.health.faults known.health.faults refl;
+      uncalled = λ never. refl;
+      went = λ told m here. went known.saved m here;
+      calls = λ told. sym (append-nil known.calls) ∙ ap (λ (l : List FileCall). known.calls ++ l) (sym none);
+    })
 
-pub nothing_goes : (monitor : Monitor) (known : FilesKnown) (item : Item) (text : List ℕ) → item ≡ Item.Nothing → text ≡ [] → ItemGoes item text monitor monitor known known
-nothing_goes monitor known item text nothing quiet = record {
-  outcomes = [];
-  each = ap (λ (i : Item). length (requests_of i)) (sym nothing);
-  uncalled = λ never. refl;
-  counted = none_counted known.health.faults known.health.faults refl;
-  went = λ told m is. (m, subst (λ (i : Item). ItemStep i [] m text m) (sym nothing) (refl, quiet, refl), is);
-  calls = λ told. same_calls item Item.Nothing known.calls known.calls nothing refl refl;
+pub file_goes : (item : Item) (monitor : Monitor) (known left : FilesKnown) (name content text : List ℕ) → item ≡ Item.File name content
+    → text ≡ [] → left.health.faults ≡ known.health.faults → (Tells known.health → SavesFile known name content left)
+    → ItemGoes item text monitor monitor known left
+file_goes item monitor known left name content text is quiet kept saves =
+    subst (λ (i : Item). ItemGoes i text monitor monitor known left) (sym is) (record {
+      outcomes = [];
+      given = (refl, refl);
+      counted = none_counted known.health.faults left.health.faults kept;
+      uncalled = λ never. kept;
+      went = λ told m here.
+          let n : Machine = record m { saved = insert m.saved name content } in (
+            n,
+            (refl, (quiet, refl)),
+            record {
+              id_is = here.id_is;
+              ids_is = here.ids_is;
+              config_is = here.config_is;
+              connection_is = here.connection_is;
+              files_is = (saves told).saved ∙ ap (λ (s : Saved). insert s name content) here.files_is;
+              guest_is = here.guest_is;
+            },
+          );
+      calls = λ told. (saves told).calls;
+    })
+
+-- ---- an item that brings bytes
+
+with_bytes : (monitor : Monitor) (saved : Saved) (m : Machine) (d : Connection) → IsMonitor monitor saved m → IsBeside (record monitor { front = d }) saved m
+with_bytes monitor saved m d is = record {
+  id_is = is.id_is;
+  ids_is = is.ids_is;
+  config_is = is.config_is;
+  connection_is = refl;
+  files_is = is.files_is;
+  guest_is = is.guest_is;
 }
 
-file_went : (monitor : Monitor) (saved left : Saved) (m : Machine) (item : Item) (name content text : List ℕ) → IsMonitor monitor saved m → item ≡ Item.File name content → left ≡ insert saved name content → text ≡ [] → Went item [] m text monitor left
-file_went monitor saved left m item name content text is file made quiet =
-    let n : Machine = record m { saved = insert m.saved name content } in (
-      n,
-      subst (λ (i : Item). ItemStep i [] m text n) (sym file) (refl, quiet, refl),
-      record {
-        id_is = is.id_is;
-        config_is = is.config_is;
-        files_is = made ∙ ap (λ (s : Saved). insert s name content) is.files_is;
-        guest_is = is.guest_is;
-      },
+abbrev pub on : Monitor → List ℕ → Monitor
+on monitor bytes = record monitor { front = arrived monitor.front bytes }
+
+bytes_went : (monitor after : Monitor) (known left : FilesKnown) (bytes text : List ℕ) (m : Machine) → (talked : HasTalked (on monitor bytes) after text known left)
+    → Tells known.health → IsMonitor monitor known.saved m → (n : Machine) × Talks bytes talked.answered.outcomes m text n × IsMonitor after left.saved n
+bytes_went monitor after known left bytes text m talked told is =
+    let p = talked.answered.went told m (with_bytes monitor known.saved m (arrived monitor.front bytes) is) in (
+      record p.0 { connection = after.front },
+      (
+        after.front,
+        p.0,
+        subst (λ (c : Connection). Conversation RequestStep talked.answered.outcomes (arrived c bytes) m text after.front p.0) is.connection_is
+            (begins_quiet RequestStep talked.answered.outcomes (arrived monitor.front bytes) after.front m p.0 text p.1 talked.quiet),
+        refl,
+      ),
+      p.2,
     )
 
-pub file_goes : (monitor : Monitor) (known left : FilesKnown) (item : Item) (name content text : List ℕ) → item ≡ Item.File name content → text ≡ [] → left.health.faults ≡ known.health.faults → (Tells known.health → SavesFile known name content left) → ItemGoes item text monitor monitor known left
-file_goes monitor known left item name content text file quiet kept saves = record {
-  outcomes = [];
-  each = ap (λ (i : Item). length (requests_of i)) (sym file);
-  counted = none_counted known.health.faults left.health.faults kept;
-  uncalled = λ never. kept;
-  went = λ told m is. file_went monitor known.saved left.saved m item name content text is file (saves told).saved quiet;
-  calls = λ told. (saves told).calls ∙ ap (λ (i : Item). known.calls ++ calls_of i) (sym file);
-}
+gave : (monitor after : Monitor) (known left : FilesKnown) (bytes text : List ℕ) (talked : HasTalked (on monitor bytes) after text known left)
+    → Gave talked.answered.outcomes (arrived monitor.front bytes) after.front
+gave monitor after known left bytes text talked =
+    begins_quiet {W = flat.Outcome} {M = Unit {0}} (λ how given m text n. Unit {0}) talked.answered.outcomes (arrived monitor.front bytes) after.front tt tt [] talked.answered.given talked.quiet
 
-api_went : (after : Monitor) (saved : Saved) (m : Machine) (item : Item) (call : ApiCall) (outcome : Outcome) (text : List ℕ) → item ≡ Item.Api call
-    → (n : Machine) × RequestStep (outcome_by outcome saved) call m text n × IsMonitor after saved n → Went item (outcome_by outcome saved ∷ []) m text after saved
-api_went after saved m item call outcome text api went = (
-  went.0,
-  subst (λ (i : Item). ItemStep i (outcome_by outcome saved ∷ []) m text went.0) (sym api) (text, went.0, [], went.1, (refl, refl), sym (append-nil text)),
-  went.2,
-)
+pub bytes_goes : (item : Item) (monitor after : Monitor) (known left : FilesKnown) (bytes text : List ℕ) → item ≡ Item.Bytes bytes
+    → HasTalked (on monitor bytes) after text known left → ItemGoes item text monitor after known left
+bytes_goes item monitor after known left bytes text is talked =
+    subst (λ (i : Item). ItemGoes i text monitor after known left) (sym is) (record {
+      outcomes = talked.answered.outcomes;
+      given = gave monitor after known left bytes text talked;
+      counted = talked.answered.counted;
+      uncalled = talked.answered.uncalled;
+      went = λ told m here. bytes_went monitor after known left bytes text m talked told here;
+      calls = λ told. (talked.answered.files told).calls ∙ sym (append-nil known.calls);
+    })
 
-pub api_goes : (monitor after : Monitor) (known left : FilesKnown) (item : Item) (call : ApiCall) (outcome : Outcome) (text : List ℕ) → item ≡ Item.Api call → OutcomeCause outcome known.health.faults left.health.faults
-    → (Tells known.health → RequestGoes call text outcome monitor known.saved after left.saved) → (Tells known.health → SameFiles known left) → ((IsStart call → ⊥) → left.health.faults ≡ known.health.faults) → ItemGoes item text monitor after known left
-api_goes monitor after known left item call outcome text api cause goes same uncalled = record {
-  outcomes = outcome_by outcome left.saved ∷ [];
-  each = ap (λ (i : Item). length (requests_of i)) (sym api);
-  uncalled = λ never. uncalled (λ is. never (subst CallsFiles (sym api) is));
-  counted = one_counted outcome left.saved known.health.faults left.health.faults cause;
-  went = λ told m is. api_went after left.saved m item call outcome text api (goes told m is);
-  calls = λ told. same_calls item (Item.Api call) known.calls left.calls api refl (same told).calls;
-}
+pub api_goes : (item : Item) (monitor after : Monitor) (known left : FilesKnown) (method path body text : List ℕ) → item ≡ Item.Api method path body
+    → HasTalked (on monitor (sent method path body)) after text known left → ItemGoes item text monitor after known left
+api_goes item monitor after known left method path body text is talked =
+    subst (λ (i : Item). ItemGoes i text monitor after known left) (sym is) (record {
+      outcomes = talked.answered.outcomes;
+      given = gave monitor after known left (sent method path body) text talked;
+      counted = talked.answered.counted;
+      uncalled = talked.answered.uncalled;
+      went = λ told m here. bytes_went monitor after known left (sent method path body) text m talked told here;
+      calls = λ told. (talked.answered.files told).calls ∙ sym (append-nil known.calls);
+    })
 
-pub step_goes : (monitor after : Monitor) (known : FilesKnown) (item : Item) (actor : ActorId) (count : ℕ) (text : List ℕ) → item ≡ Item.Step actor count → ((saved : Saved) (m : Machine) → IsMonitor monitor saved m → Moved actor count m text after saved) → ItemGoes item text monitor after known known
-step_goes monitor after known item actor count text step moves = record {
-  outcomes = [];
-  each = ap (λ (i : Item). length (requests_of i)) (sym step);
-  uncalled = λ never. refl;
-  counted = none_counted known.health.faults known.health.faults refl;
-  went = λ told m is. let moved = moves known.saved m is in
-      (moved.0, subst (λ (i : Item). ItemStep i [] m text moved.0) (sym step) (refl, moved.1), moved.2);
-  calls = λ told. same_calls item (Item.Step actor count) known.calls known.calls step refl refl;
-}
+-- ---- an item that is not done to its end
 
--- an item of which nothing was done
+-- nothing of it was done
 stops_at_once : (why : ItemError) (item : Item) (monitor after : Monitor) (known left : FilesKnown) → ItemCause item why → RoseBy (0 + error_failures why) known.health.faults left.health.faults → after ≡ monitor
-    → ((CallsFiles item → ⊥) → left.health.faults ≡ known.health.faults) → (Tells known.health → LeavesFiles item known.saved left.saved) → (Tells known.health → LeavesCalls item known.calls left.calls) → ItemStops why item monitor after known left
+    → ((CallsFiles monitor item → ⊥) → left.health.faults ≡ known.health.faults) → (Tells known.health → LeavesFiles item known.saved left.saved) → (Tells known.health → LeavesCalls item known.calls left.calls) → ItemStops why item monitor after known left
 stops_at_once why item monitor after known left cause rose same uncalled files calls = record {
   part = [];
-  few = inl refl;
-  uncalled = uncalled;
   unwritten = [];
+  given = inl (refl, ap (λ (q : Monitor). q.front) same);
   cause = cause;
   rose = rose;
-  same = λ none. same;
+  uncalled = uncalled;
+  same = λ none. subst (λ (q : Monitor). q ≡ record monitor { front = q.front }) (sym same) refl;
   went = λ told m is. (
     m,
-    (refl, refl),
-    subst (λ (q : Monitor). IsMonitor q m.saved m) (sym same) (record { id_is = is.id_is; config_is = is.config_is; files_is = refl; guest_is = is.guest_is }),
+    inl (refl, refl, refl),
+    subst (λ (q : Monitor). IsMonitor q m.saved m) (sym same) (record { id_is = is.id_is; ids_is = is.ids_is; config_is = is.config_is; connection_is = is.connection_is; files_is = refl; guest_is = is.guest_is }),
     subst (λ (s : Saved). LeavesFiles item s left.saved) is.files_is (files told),
   );
   calls = calls;
 }
 
-pub file_stops : (monitor : Monitor) (known left : FilesKnown) (item : Item) (name content : List ℕ) → item ≡ Item.File name content → Rose known.health.faults left.health.faults → (Tells known.health → SavesPart known name content left) → ItemStops ItemError.FilesFailed item monitor monitor known left
-file_stops monitor known left item name content file rose part =
+pub file_stops : (item : Item) (monitor : Monitor) (known left : FilesKnown) (name content : List ℕ) → item ≡ Item.File name content → Rose known.health.faults left.health.faults → (Tells known.health → SavesPart known name content left) → ItemStops ItemError.FilesFailed item monitor monitor known left
+file_stops item monitor known left name content file rose part =
     subst (λ (i : Item). ItemStops ItemError.FilesFailed i monitor monitor known left) (sym file)
     (stops_at_once ItemError.FilesFailed (Item.File name content) monitor monitor known left tt rose refl (λ never. absurd (never tt)) (λ told. (part told).others) (λ told. (part told).calls))
 
--- an item that is no file line, for want of memory
-pub other_stops : (why : ItemError) (item other : Item) (monitor after : Monitor) (known left : FilesKnown) → item ≡ other → why ≡ ItemError.OutOfMemory → (IsFile other → ⊥) → known.health.faults ≤ left.health.faults → after ≡ monitor
-    → ((CallsFiles other → ⊥) → left.health.faults ≡ known.health.faults) → (Tells known.health → LeavesFiles other known.saved left.saved) → (Tells known.health → LeavesCalls other known.calls left.calls) → ItemStops why item monitor after known left
-other_stops why item other monitor after known left is memory no_file later same uncalled files calls =
+pub quiet_stops : (why : ItemError) (item it : Item) (monitor after : Monitor) (known : FilesKnown) → item ≡ it → why ≡ ItemError.OutOfMemory → (IsFile it → ⊥) → after ≡ monitor
+    → LeavesFiles it known.saved known.saved → LeavesCalls it known.calls known.calls → ItemStops why item monitor after known known
+quiet_stops why item it monitor after known is memory no_file same files calls =
+    subst (λ (i : Item). ItemStops why i monitor after known known) (sym is)
+    (subst (λ (w : ItemError). ItemStops w it monitor after known known) (sym memory)
+    (stops_at_once ItemError.OutOfMemory it monitor after known known no_file (omega arith) same (λ never. refl) (λ told. files) (λ told. calls)))
+
+part_went : (monitor after : Monitor) (known left : FilesKnown) (bytes : List ℕ) (m : Machine) → (stopped : HasStopped (on monitor bytes) after known left)
+    → Tells known.health → IsMonitor monitor known.saved m
+    → (n : Machine) × TalksFront bytes stopped.answered.outcomes m stopped.text n × IsMonitor after stopped.before.saved n
+part_went monitor after known left bytes m stopped told is =
+    let p = stopped.answered.went told m (with_bytes monitor known.saved m (arrived monitor.front bytes) is) in (
+      record p.0 { connection = after.front },
+      (
+        after.front,
+        p.0,
+        subst (λ (c : Connection). ConversationFront RequestStep stopped.answered.outcomes (arrived c bytes) m stopped.text after.front p.0) is.connection_is
+            (begins_due RequestStep stopped.answered.outcomes (arrived monitor.front bytes) after.front m p.0 stopped.text p.1 stopped.due),
+        refl,
+      ),
+      p.2,
+    )
+
+-- some bytes of an item came, and the first of what is due was answered
+stops_within : (item : Item) (monitor after : Monitor) (known left : FilesKnown) (bytes : List ℕ) → bytes_of item ≡ bytes → (IsFile item → ⊥)
+    → ((CallsFiles monitor item → ⊥) → GivesStart (arrived monitor.front bytes) → ⊥)
+    → ((saved was : Saved) → was ≡ saved → LeavesFiles item saved was) → ((calls was : List FileCall) → was ≡ calls → LeavesCalls item calls was)
+    → HasStopped (on monitor bytes) after known left → ItemStops ItemError.OutOfMemory item monitor after known left
+stops_within item monitor after known left bytes of no_file never files calls stopped = record {
+  part = stopped.answered.outcomes;
+  unwritten = stopped.text;
+  given = inr (subst (λ (b : List ℕ). GaveFront stopped.answered.outcomes (arrived monitor.front b) after.front) (sym of)
+      (begins_due {W = flat.Outcome} {M = Unit {0}} (λ how given m text n. Unit {0}) stopped.answered.outcomes (arrived monitor.front bytes) after.front tt tt [] stopped.answered.given stopped.due));
+  cause = no_file;
+  rose = let k = stopped.answered.counted.rose in let l = stopped.later in omega (arith, k, l);
+  uncalled = λ none. stopped.uncalled (never none);
+  same = λ none. stopped.answered.same none;
+  went = λ told m is.
+      let p = part_went monitor after known left bytes m stopped told is in (
+        p.0,
+        inr (subst (λ (b : List ℕ). TalksFront b stopped.answered.outcomes m stopped.text p.0) (sym of) p.1),
+        subst (λ (s : Saved). IsMonitor after s p.0) p.2.files_is p.2,
+        files p.0.saved left.saved ((stopped.files (stopped.answered.lasts.still told)).saved ∙ p.2.files_is),
+      );
+  calls = λ told. calls known.calls left.calls ((stopped.files (stopped.answered.lasts.still told)).calls ∙ (stopped.answered.files told).calls);
+}
+
+halts : (item : Item) (monitor after : Monitor) (known left : FilesKnown) (bytes : List ℕ) → bytes_of item ≡ bytes → (IsFile item → ⊥)
+    → ((CallsFiles monitor item → ⊥) → GivesStart (arrived monitor.front bytes) → ⊥)
+    → ((saved was : Saved) → was ≡ saved → LeavesFiles item saved was) → ((calls was : List FileCall) → was ≡ calls → LeavesCalls item calls was)
+    → HasHalted bytes monitor after known left → ItemStops ItemError.OutOfMemory item monitor after known left
+halts item monitor after known left bytes of no_file never files calls (inl (same, kept)) =
+    subst (λ (k : FilesKnown). ItemStops ItemError.OutOfMemory item monitor after known k) (sym kept)
+    (stops_at_once ItemError.OutOfMemory item monitor after known known no_file (omega arith) same (λ none. refl) (λ told. files known.saved known.saved refl) (λ told. calls known.calls known.calls refl))
+halts item monitor after known left bytes of no_file never files calls (inr stopped) =
+    stops_within item monitor after known left bytes of no_file never files calls stopped
+
+pub bytes_stops : (why : ItemError) (item : Item) (monitor after : Monitor) (known left : FilesKnown) (bytes : List ℕ) → item ≡ Item.Bytes bytes → why ≡ ItemError.OutOfMemory
+    → HasHalted bytes monitor after known left → ItemStops why item monitor after known left
+bytes_stops why item monitor after known left bytes is memory halted =
     subst (λ (i : Item). ItemStops why i monitor after known left) (sym is)
-    (subst (λ (w : ItemError). ItemStops w other monitor after known left) (sym memory)
-    (stops_at_once ItemError.OutOfMemory other monitor after known left no_file (omega (arith, later)) same uncalled files calls))
+    (subst (λ (w : ItemError). ItemStops w (Item.Bytes bytes) monitor after known left) (sym memory)
+    (halts (Item.Bytes bytes) monitor after known left bytes refl (λ file. file) (λ none. none) (λ saved was same. same) (λ calls was same. same) halted))
+
+pub api_stops : (why : ItemError) (item : Item) (monitor after : Monitor) (known left : FilesKnown) (method path body : List ℕ) → item ≡ Item.Api method path body → why ≡ ItemError.OutOfMemory
+    → HasHalted (sent method path body) monitor after known left → ItemStops why item monitor after known left
+api_stops why item monitor after known left method path body is memory halted =
+    subst (λ (i : Item). ItemStops why i monitor after known left) (sym is)
+    (subst (λ (w : ItemError). ItemStops w (Item.Api method path body) monitor after known left) (sym memory)
+    (halts (Item.Api method path body) monitor after known left (sent method path body) refl (λ file. file) (λ none. none) (λ saved was same. same) (λ calls was same. same) halted))
+
+-- ---- each line that brings no request
+
+pub nothing_goes : (item : Item) (monitor : Monitor) (known : FilesKnown) (text : List ℕ) → item ≡ Item.Nothing → text ≡ [] → ItemGoes item text monitor monitor known known
+nothing_goes item monitor known text is quiet =
+    quiet_goes item Item.Nothing monitor monitor known text is (refl, refl) refl (λ saved m here. (m, (refl, (quiet, refl)), here))
+
+pub lineage_goes : (item : Item) (monitor : Monitor) (known : FilesKnown) (lineage : ℕ) (text : List ℕ) → item ≡ Item.Lineage lineage → text ≡ []
+    → ItemGoes item text monitor (record monitor { ids = record monitor.ids { lineage = lineage } }) known known
+lineage_goes item monitor known lineage text is quiet =
+    quiet_goes item (Item.Lineage lineage) monitor (record monitor { ids = record monitor.ids { lineage = lineage } }) known text is (refl, refl) refl (λ saved m here. (
+      record m { ids = record m.ids { lineage = lineage } },
+      (refl, (quiet, refl)),
+      record {
+        id_is = here.id_is;
+        ids_is = ap (λ (ids : Ids). record ids { lineage = lineage }) here.ids_is;
+        config_is = here.config_is;
+        connection_is = here.connection_is;
+        files_is = here.files_is;
+        guest_is = here.guest_is;
+      },
+    ))
+
+pub connect_goes : (item : Item) (monitor : Monitor) (known : FilesKnown) (d : Connection) (text : List ℕ) → item ≡ Item.Connect → text ≡ [] → d ≡ new_connection
+    → ItemGoes item text monitor (record monitor { front = d }) known known
+connect_goes item monitor known d text is quiet new =
+    quiet_goes item Item.Connect monitor (record monitor { front = d }) known text is (refl, new) refl (λ saved m here. (
+      record m { connection = new_connection },
+      (refl, (quiet, refl)),
+      record {
+        id_is = here.id_is;
+        ids_is = here.ids_is;
+        config_is = here.config_is;
+        connection_is = new;
+        files_is = here.files_is;
+        guest_is = here.guest_is;
+      },
+    ))
+
+-- want of memory, as `?` hands it on
+pub on_memory : {T : Type 0} (r : Result T ItemError) (P : ItemError → Type 0) → IsErrAnd r (λ e. e ≡ ItemError.OutOfMemory) → P ItemError.OutOfMemory → IfErr r P
+on_memory {T} r P is holds =
+    let e = err_from_is_err_and r is in
+    subst (λ (x : Result T ItemError). IfErr x P) (sym e.1) (subst P (sym e.2) holds)

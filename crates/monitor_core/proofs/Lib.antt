@@ -1,4 +1,5 @@
-pub mod Behind
 pub mod Saved
-pub mod Requests
+pub mod Talks
+pub mod Plans
 pub mod Items
+pub mod Lines

@@ -10,12 +10,12 @@ use Rattle.std.specs.Cmp.Lexicographic.{slice_cmp, nat_list_cmp_total}
 use Rattle.std.specs.FinMap.{get, insert, same_map, get-insert, slice_cmp-IsAntisymmetric, nat_cmp-IsAntisymmetric}
 use Rattle.std.proofs.lemmas.Map.Text.{is_eq-slice_cmp}
 use Rattle.std.specs.Str.{bytes_eq}
-use Rattle.vm_types.specs.Saved.{SameOthers, Saved, overwritten, written}
+use Rattle.vm_types.specs.Saved.{Saved, overwritten, written}
 use Rattle.vm_outside.specs.Calls.{FileCall, MakesFront, MayBegin}
 use Rattle.vm_outside.specs.Calls.FileCall.{Making, Made, Writing, Synced}
 use Rattle.vm_outside.specs.Filing.{MakesFile, MayChange, SameFiles, Syncs, WritesAt}
 use Rattle.vm_outside.specs.Known.{FilesKnown}
-use Rattle.vm_types.specs.declared.item.Item.TheVariants.{File}
+use Rattle.script_text.specs.declared.item.Item.TheVariants.{File}
 use Rattle.flat_machine.specs.Items.{calls_of}
 use Rattle.monitor_core.specs.Filing.{SavesFile, SavesPart}
 

@@ -1,13 +1,12 @@
--- What a file made whole leaves, and why a start or a load came to what it did.
+-- What a file made whole leaves, and why a load came to what it did.
 use Rattle.std.specs.Prelude.{◌≡◌, ℕ, List, ◌++◌, Result, Ok, Err}
 use Rattle.std.specs.FinMap.{insert}
 use Rattle.vm_types.specs.Causes.{Rose}
 use Rattle.vm_types.specs.Saved.{SameOthers}
-use Rattle.vm_types.specs.declared.item.Item.TheVariants.{File}
+use Rattle.script_text.specs.declared.item.Item.TheVariants.{File}
 use Rattle.vm_outside.specs.Calls.{MakesFront}
 use Rattle.flat_machine.specs.Items.{calls_of}
 use Rattle.vm_outside.specs.Known.{FilesKnown}
-use Rattle.monitor_core.specs.declared.starting.Started.{Started}
 use Rattle.monitor_core.specs.declared.loading.LoadError.{LoadError}
 
 -- made, written whole and synced
@@ -21,10 +20,6 @@ pub record SavesPart (old : FilesKnown) (name content : List ℕ) (new : FilesKn
   pub calls : MakesFront (calls_of (File name content)) old.calls new.calls
 
 -- a failure has a fault, and what did not come to one has none
-abbrev pub StartCause : Started → ℕ → ℕ → Type 0
-StartCause Started.FilesFailed before now = Rose before now
-StartCause started before now = now ≡ before
-
 abbrev pub LoadCause : {T : Type 0} → Result T LoadError → ℕ → ℕ → Type 0
 LoadCause (Ok bytes) before now = now ≡ before
 LoadCause (Err LoadError.Failed) before now = Rose before now

@@ -1,62 +1,76 @@
 -- How an item goes, and why one is not done to its end.
-use Rattle.std.specs.Prelude.{◌≡◌, ◌≤◌, ◌<◌, ◌⊎◌, ℕ, ◌+◌, List, [], ◌++◌, length}
-use Rattle.vm_types.specs.Causes.{Rose, RoseBy}
+use Rattle.std.specs.Prelude.{◌≡◌, ◌⊎◌, ℕ, ◌+◌, false, List, [], ◌∷◌, ◌++◌, Ok}
+use Rattle.vm_types.specs.Causes.{RoseBy}
 use Rattle.vm_types.specs.Saved.{Saved, SameOthers}
-use Rattle.vm_types.specs.declared.item.ApiCall.{ApiCall}
-use Rattle.vm_types.specs.declared.item.ApiCall.TheVariants.{InstanceStart}
-use Rattle.vm_types.specs.declared.item.Item.{Item}
 use Rattle.vm_outside.specs.Calls.{FileCall, MakesFront}
 use Rattle.vm_outside.specs.Known.{FilesKnown, Tells}
-use Rattle.flat_machine.specs.Outcome as flat
-use Rattle.flat_machine.specs.Items.{ItemStep, PartStep, calls_of, requests_of}
+use Rattle.http_stream.specs.declared.request.Request.{Request}
+use Rattle.http_stream.specs.Stream.{Connection}
+use Rattle.http_stream.specs.Cuts.{Reads}
+use Rattle.http_stream.specs.Sent.{sent}
+use Rattle.http_stream.specs.Conversation.{arrived, new_connection, Conversation, ConversationFront}
+use Rattle.api_calls.specs.declared.call.ApiCall.TheVariants.{InstanceStart}
+use Rattle.api_calls.specs.Call.{call_of}
+use Rattle.script_text.specs.declared.item.Item.{Item}
+use Rattle.flat_machine.specs.Outcome.{Outcome, AreAnswered, failed_in}
+use Rattle.flat_machine.specs.Items.{ItemStep, PartStep, bytes_of, calls_of}
 use Rattle.flat_machine.specs.Machine.{Machine}
-use Rattle.flat_machine.specs.Requests.{RequestStep}
 use Rattle.monitor_core.specs.declared.item_error.ItemError.{ItemError}
 use Rattle.monitor_core.specs.declared.item_error.ItemError.TheVariants.{FilesFailed, OutOfMemory}
 use Rattle.monitor_core.specs.declared.monitor.Monitor.{Monitor}
-use Rattle.monitor_core.specs.declared.outcome.Outcome.{Outcome}
-use Rattle.monitor_core.specs.declared.outcome.Outcome.TheVariants.{Answered, Failed, NoMemory}
 use Rattle.monitor_core.specs.State.{IsMonitor}
 
--- how a request went, as the flat machine has it: a failed call left of the files what they hold now
-abbrev pub outcome_by : Outcome → Saved → flat.Outcome
-outcome_by Answered left = flat.Outcome.Answered
-outcome_by Failed left = flat.Outcome.Failed left
-outcome_by NoMemory left = flat.Outcome.NoMemory
+-- ---- the connection
 
--- each 500 has a fault of its own, and an answer has none
-abbrev pub OutcomeCause : Outcome → ℕ → ℕ → Type 0
-OutcomeCause Answered before now = now ≡ before
-OutcomeCause Failed before now = Rose before now
-OutcomeCause NoMemory before now = before ≤ now
+-- Everything that the connection c gives is answered, each in its way, which leaves d. It says nothing of the answers, so
+-- it holds whether or not the files tell what they hold.
+abbrev pub Gave : List Outcome → Connection → Connection → Type 0
+Gave outcomes c d =
+    Conversation {W = Outcome} {M = Unit {0}} (λ how given m text n. Unit {0}) outcomes c tt [] d tt
 
--- each machine that the monitor was takes the call so, and the monitor is the machine after it
-abbrev pub RequestGoes : ApiCall → List ℕ → Outcome → Monitor → Saved → Monitor → Saved → Type 0
-RequestGoes call text outcome monitor saved after left =
-    (m : Machine) → IsMonitor monitor saved m
-    → (n : Machine) × RequestStep (outcome_by outcome left) call m text n × IsMonitor after left n
+-- only the first of it, and something is still due
+abbrev pub GaveFront : List Outcome → Connection → Connection → Type 0
+GaveFront outcomes c d =
+    ConversationFront {W = Outcome} {M = Unit {0}} (λ how given m text n. Unit {0}) outcomes c tt [] d tt
+
+-- the connection after an item: with its bytes everything that is due was answered; or it is a new one; or as it was
+abbrev pub Leads : Item → List Outcome → Connection → Connection → Type 0
+Leads (Item.Bytes bytes) outcomes c d = Gave outcomes (arrived c bytes) d
+Leads (Item.Api method path body) outcomes c d = Gave outcomes (arrived c (sent method path body)) d
+Leads Item.Connect outcomes c d = (outcomes ≡ []) × (d ≡ new_connection)
+Leads item outcomes c d = (outcomes ≡ []) × (d ≡ c)
+
+-- ---- the files
 
 -- each request that was answered 500 has a fault of the files; where the machine answered every one there is none
-pub record CountsFaults (outcomes : List flat.Outcome) (before now : ℕ) : Type 0 where
-  pub rose : RoseBy (flat.failed_in outcomes) before now
-  pub kept : flat.AreAnswered outcomes → now ≡ before
+pub record CountsFaults (outcomes : List Outcome) (before now : ℕ) : Type 0 where
+  pub rose : RoseBy (failed_in outcomes) before now
+  pub kept : AreAnswered outcomes → now ≡ before
+
+-- one of the requests is a start
+abbrev pub HasStart : List Request → Type 0
+HasStart [] = ⊥
+HasStart (r ∷ rs) = (call_of r ≡ Ok InstanceStart) ⊎ HasStart rs
+
+-- one of the requests that the connection gives is a start
+abbrev pub GivesStart : Connection → Type 0
+GivesStart c = (c.failed ≡ false) × (rs : List Request) × (d : Connection) × Reads c.pending rs d × HasStart rs
 
 -- the files are called for a file line and for a start alone
-abbrev pub IsStart : ApiCall → Type 0
-IsStart InstanceStart = Unit {0}
-IsStart call = ⊥
+abbrev pub CallsFiles : Monitor → Item → Type 0
+CallsFiles monitor (Item.File name content) = Unit {0}
+CallsFiles monitor (Item.Bytes bytes) = GivesStart (arrived monitor.front bytes)
+CallsFiles monitor (Item.Api method path body) = GivesStart (arrived monitor.front (sent method path body))
+CallsFiles monitor item = ⊥
 
-abbrev pub CallsFiles : Item → Type 0
-CallsFiles (Item.File name content) = Unit {0}
-CallsFiles (Item.Api call) = IsStart call
-CallsFiles item = ⊥
+-- ---- an item
 
 -- an item that was done: how its requests went, and what it did to each machine that the monitor was
 pub record ItemGoes (item : Item) (text : List ℕ) (monitor after : Monitor) (known left : FilesKnown) : Type 0 where
-  pub outcomes : List flat.Outcome
-  pub each : length outcomes ≡ length (requests_of item)
+  pub outcomes : List Outcome
+  pub given : Leads item outcomes monitor.front after.front
   pub counted : CountsFaults outcomes known.health.faults left.health.faults
-  pub uncalled : (CallsFiles item → ⊥) → left.health.faults ≡ known.health.faults
+  pub uncalled : (CallsFiles monitor item → ⊥) → left.health.faults ≡ known.health.faults
   pub went : Tells known.health → (m : Machine) → IsMonitor monitor known.saved m
       → (n : Machine) × ItemStep item outcomes m text n × IsMonitor after left.saved n
   pub calls : Tells known.health → left.calls ≡ known.calls ++ calls_of item
@@ -85,15 +99,19 @@ abbrev pub LeavesCalls : Item → List FileCall → List FileCall → Type 0
 LeavesCalls (Item.File name content) calls left = MakesFront (calls_of (Item.File name content)) calls left
 LeavesCalls item calls left = left ≡ calls
 
+-- as far as the connection came: as it was, or with the item's bytes the first of what is due was answered
+abbrev pub LeadsFront : Item → List Outcome → Connection → Connection → Type 0
+LeadsFront item part c d = ((part ≡ []) × (d ≡ c)) ⊎ GaveFront part (arrived c (bytes_of item)) d
+
 -- an item that was not done to its end: the first of its requests went so, and their text is not told
 pub record ItemStops (why : ItemError) (item : Item) (monitor after : Monitor) (known left : FilesKnown) : Type 0 where
-  pub part : List flat.Outcome
-  pub few : (part ≡ []) ⊎ (length part < length (requests_of item))
+  pub part : List Outcome
   pub unwritten : List ℕ
+  pub given : LeadsFront item part monitor.front after.front
   pub cause : ItemCause item why
-  pub rose : RoseBy (flat.failed_in part + error_failures why) known.health.faults left.health.faults
-  pub uncalled : (CallsFiles item → ⊥) → left.health.faults ≡ known.health.faults
-  pub same : part ≡ [] → after ≡ monitor
+  pub rose : RoseBy (failed_in part + error_failures why) known.health.faults left.health.faults
+  pub uncalled : (CallsFiles monitor item → ⊥) → left.health.faults ≡ known.health.faults
+  pub same : part ≡ [] → after ≡ record monitor { front = after.front }
   pub went : Tells known.health → (m : Machine) → IsMonitor monitor known.saved m
       → (n : Machine) × PartStep item part m unwritten n × IsMonitor after n.saved n
       × LeavesFiles item n.saved left.saved

@@ -40,7 +40,7 @@ pub fn load<F: Files>(
     Ok(bytes)
 }
 
-fn zeros(alloc: Global, len: usize) -> Result<Vec<u8>, AllocError>
+pub fn zeros(alloc: Global, len: usize) -> Result<Vec<u8>, AllocError>
     ensures { IfOk result (λ bytes. length bytes.items ≡ len) }
 {
     Ok(vec![in alloc; 0u8; len]?)

@@ -1,7 +1,7 @@
 // How a request went.
 
 /// How a request went: answered by the machine; answered 500 because a call on the files failed; or answered 503 for
-/// want of memory. After the last two the machine's own data are as before, and the run goes on.
+/// want of memory. After the last two nothing but the connection has changed, and the run goes on.
 #[derive(Clone, Copy, Debug, PartialEq, Eq, Drop)]
 pub enum Outcome {
     Answered,

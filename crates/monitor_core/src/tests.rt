@@ -1,7 +1,6 @@
-// Files, the guest, and lines that come in pieces. What the monitor answers to whole scripts is shown by the cases of
+// Files, and a line of each kind. What the monitor answers to whole scripts is shown by the cases of
 // the program that replays them.
 mod files;
-mod guests;
 mod lines;
 
 use outside_mem::{Failing, MemoryFiles};

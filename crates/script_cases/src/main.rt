@@ -6,6 +6,8 @@
 //! program finds the cases where it runs, and prints a line for each. Its status is 1 where a case differs, and 2 where
 //! one can't be read.
 //!
+//! Before them it shows how the objects in memory cut bytes into pieces.
+//!
 //! Read `given` and `case`, what a case says; then `replaying`, and `difference` for what is compared.
 #![tactic(auto)]
 
@@ -14,11 +16,13 @@ mod difference;
 mod given;
 mod held;
 mod listing;
+mod pieces;
 mod replaying;
 
 use crate::case::{Case, read_case};
 use crate::difference::difference;
 use crate::listing::case_names;
+use crate::pieces::pieces_of;
 use crate::replaying::replay;
 use anyhow::{Context, Result};
 use std::alloc::Global;
@@ -38,6 +42,13 @@ fn main(rt: HostRuntime) -> ExitCode {
 
 // Whether each case comes to what is stored.
 fn replay_all<R: Files + Print + AllocGlobal + Clone + Drop>(rt: &R) -> Result<bool> {
+    for most in [0, 1, 3, 9] {
+        println!(rt; "pieces of {most}: {}", pieces_of(rt.alloc(), most, &[])?)?;
+    }
+    println!(rt;
+        "pieces of 3, calls 1 and 3 failing: {}",
+        pieces_of(rt.alloc(), 3, &[1, 3])?
+    )?;
     let mut count = 0u64;
     let mut differ = 0u64;
     for name in case_names(rt)? {

@@ -1,79 +1,52 @@
-// A text in pieces of each size gives the same lines.
-use crate::{LineReader, Next};
-use std::alloc::{AllocError, Global};
+// The lines of a script, one of each kind. Whole scripts with their output are the cases of the program.
+use crate::Monitor;
+use crate::tests::files_of;
+use script_text::read_line;
 use std::test::Fail;
-use vm_types::Item;
+use vm_types::TextList;
 
-const TEXT: &str = "\
-# a comment\n\
-file k 00ff\n\
-stop\n\
-\n\
-step h0 7\n\
-api GET /\n\
-step h0 01\n\
-api PUT /actions {\"action_type\":\"InstanceStart\"}\n\
-step h0 8";
+const SOURCE: &str = "api PUT /boot-source {\"kernel_image_path\":\"k\"}";
 
-const ITEMS: &str = "nothing|file k of [0, 255]|bad|nothing|Hart(0) steps 7|api|bad|api|";
+const MACHINE: &str = "api PUT /machine-config {\"vcpu_count\":1,\"mem_size_mib\":4}";
 
-/// As many reads as find each line and the end.
-const READS: usize = 9;
-
-fn shown(alloc: Global, next: &Next) -> Result<String, AllocError> {
-    match next {
-        Next::Nothing => Ok(String::new(alloc)),
-        Next::Bad => String::from_str(alloc, "bad|"),
-        Next::Line(Item::Nothing) => String::from_str(alloc, "nothing|"),
-        Next::Line(Item::Api(_)) => String::from_str(alloc, "api|"),
-        Next::Line(Item::File { name, content }) => {
-            format!(in alloc; "file {} of {:?}|", name.as_str(), content.as_slice())
-        }
-        Next::Line(Item::Step { actor, count }) => format!(in alloc; "{actor:?} steps {count}|"),
-    }
-}
-
-// Puts what so many reads give behind what was seen.
-fn read_all(alloc: Global, reader: &mut LineReader, seen: &mut String) -> Result<(), AllocError> {
-    for _ in 0..READS {
-        let next = reader.next()?;
-        seen.push_str(shown(alloc, &next)?.as_str())?;
-    }
-    Ok(())
-}
+const START: &str = "api PUT /actions {\"action_type\":\"InstanceStart\"}";
 
 #[test]
-fn pieces_of_each_size(rt: HostRuntime) -> Result<(), Fail> {
+fn each_line_is_answered(rt: HostRuntime) -> Result<(), Fail> {
     let alloc = rt.alloc();
-    for size in [1, 2, 3, 7, 11, 50, 1000] {
-        let mut reader = LineReader::new(alloc);
-        let mut seen = String::new(alloc);
-        for piece in TEXT.as_bytes().chunks(size) {
-            reader.feed(piece)?;
-            read_all(alloc, &mut reader, &mut seen)?;
+    let mut files = files_of(alloc, &[])?;
+    let mut monitor = Monitor::new(alloc, TextList::copy_of(alloc, "a")?)?;
+    for (line, wanted) in [
+        ("", ""),
+        ("file k 6f000000", ""),
+        ("lineage 0000000000000007", ""),
+        ("console", ""),
+        ("reg h0 0", "? no machine\n"),
+        ("mem 80000000 4", "? no machine\n"),
+        ("reply h0 ok", "? not running\n"),
+        ("step h0 1", "? not running\n"),
+        ("bytes 47", ""),
+        ("conn", ""),
+        (SOURCE, "< 204\n"),
+        (MACHINE, "< 204\n"),
+        (START, "< 204\n"),
+        ("mem 80200000 4", "= 6f000000\n"),
+        ("mem 0 1", "? outside memory\n"),
+        ("reg h0 0", "= 0000000000000000\n"),
+        ("reg h1 0", "? no actor\n"),
+        ("reply h0 ok", "? not waiting\n"),
+        ("reply h1 ok", "? no actor\n"),
+        ("step h0 1", ""),
+    ] {
+        match read_line(alloc, line.as_bytes())? {
+            None => assert!(rt; false, "{line}"),
+            Some(item) => match monitor.item(item, &mut files) {
+                Ok(text) => assert_eq!(rt; text.as_slice(), wanted.as_bytes(), "{line}"),
+                Err(_) => assert!(rt; false, "{line}"),
+            },
         }
-        assert_eq!(rt; seen.as_str(), ITEMS, "pieces of {size}");
-        reader.feed(b"1\n")?;
-        read_all(alloc, &mut reader, &mut seen)?;
-        assert!(rt;
-            seen.as_str().ends_with("api|Hart(0) steps 81|"),
-            "pieces of {size}"
-        );
     }
-    Ok(())
-}
-
-#[test]
-fn lines_wait_until_they_are_asked_for(rt: HostRuntime) -> Result<(), Fail> {
-    let alloc = rt.alloc();
-    let mut reader = LineReader::new(alloc);
-    let mut seen = String::new(alloc);
-    read_all(alloc, &mut reader, &mut seen)?;
-    assert_eq!(rt; seen.as_str(), "");
-    for piece in TEXT.as_bytes().chunks(5) {
-        reader.feed(piece)?;
-    }
-    read_all(alloc, &mut reader, &mut seen)?;
-    assert_eq!(rt; seen.as_str(), ITEMS);
+    assert!(rt; !monitor.is_off());
+    assert_eq!(rt; monitor.console(), b"".as_slice());
     Ok(())
 }

@@ -1,27 +1,31 @@
+use Rattle.std.proofs.Common.{refl}
 use Rattle.monitor_cli.proofs.Arriving.{begun}
-use Rattle.monitor_cli.proofs.Commanding.{closing_not_usage, not_usage}
+use Rattle.monitor_cli.proofs.Commanding.{closing_not_usage, not_usage, nothing_begun}
 use Rattle.monitor_cli.proofs.Counts.{closing_files, closing_sink, closing_source, lasts_more}
 use Rattle.monitor_cli.proofs.Finishing.{closes}
 use Rattle.monitor_cli.proofs.replaying.replay.Goals as goal
 
+pub returns-in_default-clause-so_far : goal.returns-in_default-clause-so_far
+returns-in_default-clause-so_far g c = λ told. nothing_begun _ _ refl
+
 pub returns-in-Err-clause-so_far : goal.returns-in-Err-clause-so_far
 returns-in-Err-clause-so_far g c = λ told.
-    c.in-Err.ensures.ended told.source told.files told.sink _ _ (begun _ _ _ c.new-run.ensures.reader c.new-run.ensures.line (c.new-run.ensures.monitor _))
+    c.in-Err.ensures.ended told.source told.files told.sink _ _ (begun _ _ _ c.in-Ok.ensures.reader c.in-Ok.ensures.line (c.in-Ok.ensures.monitor _))
 
 pub returns-in-Err-clause-no_usage : goal.returns-in-Err-clause-no_usage
 returns-in-Err-clause-no_usage g c = not_usage c.in-Err.exit c.in-Err.ensures.some
 
 pub returns-clause-so_far : goal.returns-clause-so_far
 returns-clause-so_far g c = λ told.
-    let done = c.in_default.ensures.finished told.source told.files told.sink _ _ (begun _ _ _ c.new-run.ensures.reader c.new-run.ensures.line (c.new-run.ensures.monitor _)) in
+    let done = c.in_default-run_script.ensures.finished told.source told.files told.sink _ _ (begun _ _ _ c.in-Ok.ensures.reader c.in-Ok.ensures.line (c.in-Ok.ensures.monitor _)) in
     closes _ _ _ _ _ _ done c.write_closing.result _ (c.write_closing.ensures.closes (c.run_script.ensures.lasts.2.still told.sink) _ done.reached.last done.reached.is)
 
 pub returns-clause-caused : goal.returns-clause-caused
 returns-clause-caused g c =
     let end = c.write_closing.ensures.some in
     record {
-      source = closing_source c.write_closing.result _ _ end c.in_default.ensures.source;
-      sink = closing_sink c.write_closing.result _ _ _ end c.in_default.ensures.sink c.write_closing.ensures.cause;
+      source = closing_source c.write_closing.result _ _ end c.in_default-run_script.ensures.source;
+      sink = closing_sink c.write_closing.result _ _ _ end c.in_default-run_script.ensures.sink c.write_closing.ensures.cause;
       files = closing_files c.write_closing.result _ _ end;
     }
 

@@ -1,8 +1,8 @@
-use Rattle.std.proofs.Common.{arith, refl, ap, sym, ◌+◌, subst, ◌∙◌, ◌≡◌, ◌++◌, ◌≤◌, [], inl, inr, length, take, length-append, List, ℕ}
+use Rattle.std.proofs.Common.{arith, refl, ap, sym, ◌+◌, subst, ◌∙◌, ◌≡◌, ◌++◌, ◌≤◌, [], inl, inr, length, take, length-append, append_assoc, List, ℕ}
 use Rattle.std.proofs.lemmas.List.{length-take, take-append-le}
 use Rattle.vm_types.specs.declared.exit.Exit.{Exit}
 use Rattle.vm_types.specs.declared.exit.Object.TheVariants as object
-use Rattle.script_lines.specs.Lines.{judged}
+use Rattle.script_text.specs.Lines.{judged}
 use Rattle.flat_machine.specs.Replay.{longest_script}
 use Rattle.monitor_cli.specs.Lines.{BeforeLast, Reached}
 use Rattle.monitor_cli.proofs.Arriving.{fed}
@@ -85,10 +85,13 @@ pieces-preserved g c =
     let was = c.pieces.invariant in
     let ran = c.in-Ok-Empty.ensures in
     let held = take-append-le c.in-Ok.count c.read.new.buf _ c.in-Ok.ensures.bound in
-    let gave = λ (more : List ℕ). c.in-Ok-feed.ensures.ok more ∙ ap (λ (l : List ℕ). judged ((c.run_lines.new.self.reader ++ l) ++ more)) held in
     let piece = take c.in-Ok.count c.read.new.buf in
+    let old = c.run_lines.new.self.reader in
+    let takes = c.in-Ok-feed.ensures.ok in
+    let gave = λ (more : List ℕ). takes.same more ∙ (ap (λ (l : List ℕ). judged (old ++ (l ++ more))) held
+    ∙ ap judged (sym (append_assoc old piece more))) in
     record {
-      count = omega (arith, ran.count, was.count, c.in-Ok-feed.ensures.few, ap length held, length-take {A = ℕ}, c.in-Ok.ensures.bound);
+      count = omega (arith, ran.count, was.count, takes.grows, ap length held, length-take {A = ℕ}, c.in-Ok.ensures.bound);
       small = omega (arith, length-take {A = ℕ}, c.in-Ok.ensures.bound, c.read.auto.buf, c.min-room.ensures, was.small);
       lasts_source = lasts_more _ _ _ was.lasts_source c.in-Ok.ensures.called.lasts;
       lasts_files = lasts_more _ _ _ was.lasts_files ran.lasts.0;

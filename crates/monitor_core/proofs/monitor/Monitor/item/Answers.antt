@@ -1,8 +1,11 @@
-use Rattle.std.proofs.Common.{refl, subst, List, ℕ}
-use Rattle.std.proofs.Math.Nat.{le_refl}
+use Rattle.std.proofs.Common.{◌≡◌, refl, sym, ap, subst, ◌∙◌, List, ℕ}
+use Rattle.http_stream.specs.Sent.{sent}
+use Rattle.script_text.specs.declared.item.Item.{Item}
+use Rattle.flat_machine.specs.Machine.{drained}
 use Rattle.monitor_core.specs.declared.item_error.ItemError.{ItemError}
 use Rattle.monitor_core.specs.Filing.{SavesFile, SavesPart}
-use Rattle.monitor_core.proofs.Items.{api_goes, file_goes, file_stops, nothing_goes, other_stops, step_goes}
+use Rattle.monitor_core.specs.Talking.{HasHalted, HasTalked}
+use Rattle.monitor_core.proofs.Items.{api_goes, api_stops, bytes_goes, bytes_stops, connect_goes, file_goes, file_stops, lineage_goes, nothing_goes, on, on_memory, quiet_goes, quiet_stops}
 use Rattle.monitor_core.proofs.monitor.Monitor.item.Goals as goal
 
 pub returns-in-Nothing-clause-goes : goal.returns-in-Nothing-clause-goes
@@ -14,25 +17,100 @@ returns-in-Ok-clause-goes g c =
     (λ told. subst (λ (name : List ℕ). SavesFile (g.F.Files.known c.args.files.now) name c.in-File.content (g.F.Files.known c.save.new.files)) c.as_str.ensures
     (subst (λ (content : List ℕ). SavesFile (g.F.Files.known c.args.files.now) c.as_str.result.now content (g.F.Files.known c.save.new.files)) c.as_slice.ensures (c.in-Ok.ensures.saved told)))
 
-pub returns-in-Ok-request-clause-goes : goal.returns-in-Ok-request-clause-goes
-returns-in-Ok-request-clause-goes g c =
-    let replied = c.in-Ok-request.ensures in
-    api_goes _ _ _ _ _ c.in-Api.call _ _ c.in-Api.is replied.cause replied.went c.request.ensures.same c.request.ensures.uncalled
-
-pub returns-in-Ok-step-clause-goes : goal.returns-in-Ok-step-clause-goes
-returns-in-Ok-step-clause-goes g c = step_goes _ _ _ _ c.in-Step.actor c.in-Step.count _ c.in-Step.is c.in-Ok-step.ensures.ok
-
 pub returns-in-File-clause-stops : goal.returns-in-File-clause-stops
 returns-in-File-clause-stops g c =
     file_stops _ _ _ _ c.in-File.name c.in-File.content c.in-File.is c.in-Err.ensures.called.failed
     (λ told. subst (λ (name : List ℕ). SavesPart (g.F.Files.known c.args.files.now) name c.in-File.content (g.F.Files.known c.save.new.files)) c.as_str.ensures
     (subst (λ (content : List ℕ). SavesPart (g.F.Files.known c.args.files.now) c.as_str.result.now content (g.F.Files.known c.save.new.files)) c.as_slice.ensures (c.in-Err.ensures.begun told)))
 
-pub returns-in-Api-clause-stops : goal.returns-in-Api-clause-stops
-returns-in-Api-clause-stops g c =
-    other_stops ItemError.OutOfMemory _ _ _ _ _ _ c.in-Api.is refl (λ file. file) c.request.ensures.lasts.later c.in-Err-request.ensures.err c.request.ensures.uncalled
-    (λ told. (c.request.ensures.same told).saved) (λ told. (c.request.ensures.same told).calls)
+pub returns-in-Lineage-clause-goes : goal.returns-in-Lineage-clause-goes
+returns-in-Lineage-clause-goes g c = lineage_goes _ _ _ c.in-Lineage.lineage _ c.in-Lineage.is c.new-in-Lineage.ensures
 
-pub returns-clause-stops : goal.returns-clause-stops
-returns-clause-stops g c =
-    other_stops ItemError.OutOfMemory _ _ _ _ _ _ c.in-Step.is refl (λ file. file) (le_refl _) c.in-Err-step.ensures.err (λ never. refl) (λ told. refl) (λ told. refl)
+pub returns-in-Connect-clause-goes : goal.returns-in-Connect-clause-goes
+returns-in-Connect-clause-goes g c = connect_goes _ _ _ c.restart.new.self _ c.in-Connect.is c.new-in-Connect.ensures c.restart.ensures
+
+pub returns-in-Bytes-clause-goes : goal.returns-in-Bytes-clause-goes
+returns-in-Bytes-clause-goes g c =
+    let known = g.F.Files.known in
+    bytes_goes c.args.item c.args.self.now c.take_bytes.new.self (known c.args.files.now) (known c.take_bytes.new.files) c.in-Bytes.bytes c.in_ok-take_bytes-in-Bytes.field-0 c.in-Bytes.is
+    (subst (λ (b : List ℕ). HasTalked (on c.args.self.now b) c.take_bytes.new.self c.in_ok-take_bytes-in-Bytes.field-0 (known c.args.files.now) (known c.take_bytes.new.files)) c.as_slice-in-Bytes.ensures c.in_ok-take_bytes-in-Bytes.ensures.ok)
+
+pub returns-in_err-take_bytes-in-Bytes-clause-stops : goal.returns-in_err-take_bytes-in-Bytes-clause-stops
+returns-in_err-take_bytes-in-Bytes-clause-stops g c =
+    let known = g.F.Files.known in
+    on_memory _ _ c.from_residual.ensures.1
+    (bytes_stops ItemError.OutOfMemory c.args.item c.args.self.now c.take_bytes.new.self (known c.args.files.now) (known c.take_bytes.new.files) c.in-Bytes.bytes c.in-Bytes.is refl
+    (subst (λ (b : List ℕ). HasHalted b c.args.self.now c.take_bytes.new.self (known c.args.files.now) (known c.take_bytes.new.files)) c.as_slice-in-Bytes.ensures c.in_err-take_bytes-in-Bytes.ensures.err))
+
+pub returns-in-Step-clause-goes : goal.returns-in-Step-clause-goes
+returns-in-Step-clause-goes g c =
+    let e = c.in_ok-step-in-Step.ensures in
+    quiet_goes c.args.item (Item.Step c.in-Step.actor c.in-Step.count) c.args.self.now c.step.new.self (g.F.Files.known c.args.files.now) _ c.in-Step.is (refl, e.connection) refl
+    (λ saved m here. let p = e.ok saved m here in (p.0, (refl, p.1), p.2))
+
+pub returns-in_err-step-in-Step-clause-stops : goal.returns-in_err-step-in-Step-clause-stops
+returns-in_err-step-in-Step-clause-stops g c =
+    on_memory _ _ c.from_residual-in_err-step-in-Step.ensures.1
+    (quiet_stops ItemError.OutOfMemory c.args.item (Item.Step c.in-Step.actor c.in-Step.count) c.args.self.now c.step.new.self (g.F.Files.known c.args.files.now) c.in-Step.is refl (λ file. file) c.in_err-step-in-Step.ensures.err refl refl)
+
+pub returns-in-Api-clause-goes : goal.returns-in-Api-clause-goes
+returns-in-Api-clause-goes g c =
+    let known = g.F.Files.known in
+    let same : sent c.as_slice-in-Api.result.now c.as_slice-in-Api-2.result.now c.as_slice-in-Api-3.result.now ≡ sent c.in-Api.method c.in-Api.path c.in-Api.body
+    = ap (λ (b : List ℕ). sent b c.as_slice-in-Api-2.result.now c.as_slice-in-Api-3.result.now) c.as_slice-in-Api.ensures
+    ∙ (ap (λ (b : List ℕ). sent c.in-Api.method b c.as_slice-in-Api-3.result.now) c.as_slice-in-Api-2.ensures
+    ∙ ap (λ (b : List ℕ). sent c.in-Api.method c.in-Api.path b) c.as_slice-in-Api-3.ensures) in
+    api_goes c.args.item c.args.self.now c.take_request.new.self (known c.args.files.now) (known c.take_request.new.files) c.in-Api.method c.in-Api.path c.in-Api.body c.in_ok-take_request-in-Api.field-0 c.in-Api.is
+    (subst (λ (b : List ℕ). HasTalked (on c.args.self.now b) c.take_request.new.self c.in_ok-take_request-in-Api.field-0 (known c.args.files.now) (known c.take_request.new.files)) same c.in_ok-take_request-in-Api.ensures.ok)
+
+pub returns-in_err-take_request-in-Api-clause-stops : goal.returns-in_err-take_request-in-Api-clause-stops
+returns-in_err-take_request-in-Api-clause-stops g c =
+    let known = g.F.Files.known in
+    let same : sent c.as_slice-in-Api.result.now c.as_slice-in-Api-2.result.now c.as_slice-in-Api-3.result.now ≡ sent c.in-Api.method c.in-Api.path c.in-Api.body
+    = ap (λ (b : List ℕ). sent b c.as_slice-in-Api-2.result.now c.as_slice-in-Api-3.result.now) c.as_slice-in-Api.ensures
+    ∙ (ap (λ (b : List ℕ). sent c.in-Api.method b c.as_slice-in-Api-3.result.now) c.as_slice-in-Api-2.ensures
+    ∙ ap (λ (b : List ℕ). sent c.in-Api.method c.in-Api.path b) c.as_slice-in-Api-3.ensures) in
+    on_memory _ _ c.from_residual-in_err-take_request-in-Api.ensures.1
+    (api_stops ItemError.OutOfMemory c.args.item c.args.self.now c.take_request.new.self (known c.args.files.now) (known c.take_request.new.files) c.in-Api.method c.in-Api.path c.in-Api.body c.in-Api.is refl
+    (subst (λ (b : List ℕ). HasHalted b c.args.self.now c.take_request.new.self (known c.args.files.now) (known c.take_request.new.files)) same c.in_err-take_request-in-Api.ensures.err))
+
+pub returns-in-Reply-clause-goes : goal.returns-in-Reply-clause-goes
+returns-in-Reply-clause-goes g c =
+    quiet_goes c.args.item _ c.args.self.now c.args.self.now (g.F.Files.known c.args.files.now) _ c.in-Reply.is (refl, refl) refl
+    (λ saved m here. (m, (refl, c.in_ok-reply-in-Reply.ensures saved m here), here))
+
+pub returns-in_err-reply-in-Reply-clause-stops : goal.returns-in_err-reply-in-Reply-clause-stops
+returns-in_err-reply-in-Reply-clause-stops g c =
+    on_memory _ _ c.from_residual-in_err-reply-in-Reply.ensures.1
+    (quiet_stops ItemError.OutOfMemory c.args.item _ c.args.self.now c.args.self.now (g.F.Files.known c.args.files.now) c.in-Reply.is refl (λ file. file) refl refl refl)
+
+pub returns-in-Console-clause-goes : goal.returns-in-Console-clause-goes
+returns-in-Console-clause-goes g c =
+    let e = c.in_ok-take_console-in-Console.ensures in
+    quiet_goes c.args.item Item.Console c.args.self.now c.take_console.new.self (g.F.Files.known c.args.files.now) _ c.in-Console.is (refl, e.connection) refl
+    (λ saved m here. let p = e.ok saved m here in (drained m, (refl, (p.0, refl)), p.1))
+
+pub returns-in_err-take_console-in-Console-clause-stops : goal.returns-in_err-take_console-in-Console-clause-stops
+returns-in_err-take_console-in-Console-clause-stops g c =
+    on_memory _ _ c.from_residual-in_err-take_console-in-Console.ensures.1
+    (quiet_stops ItemError.OutOfMemory c.args.item Item.Console c.args.self.now c.take_console.new.self (g.F.Files.known c.args.files.now) c.in-Console.is refl (λ file. file) c.in_err-take_console-in-Console.ensures.err refl refl)
+
+pub returns-in-Register-clause-goes : goal.returns-in-Register-clause-goes
+returns-in-Register-clause-goes g c =
+    quiet_goes c.args.item _ c.args.self.now c.args.self.now (g.F.Files.known c.args.files.now) _ c.in-Register.is (refl, refl) refl
+    (λ saved m here. (m, (refl, c.in_ok-register-in-Register.ensures saved m here), here))
+
+pub returns-in_err-register-in-Register-clause-stops : goal.returns-in_err-register-in-Register-clause-stops
+returns-in_err-register-in-Register-clause-stops g c =
+    on_memory _ _ c.from_residual-in_err-register-in-Register.ensures.1
+    (quiet_stops ItemError.OutOfMemory c.args.item _ c.args.self.now c.args.self.now (g.F.Files.known c.args.files.now) c.in-Register.is refl (λ file. file) refl refl refl)
+
+pub returns-clause-goes : goal.returns-clause-goes
+returns-clause-goes g c =
+    quiet_goes c.args.item _ c.args.self.now c.args.self.now (g.F.Files.known c.args.files.now) _ c.in-Memory.is (refl, refl) refl
+    (λ saved m here. (m, (refl, c.in_ok-memory-in-Memory.ensures saved m here), here))
+
+pub returns-in_err-memory-in-Memory-clause-stops : goal.returns-in_err-memory-in-Memory-clause-stops
+returns-in_err-memory-in-Memory-clause-stops g c =
+    on_memory _ _ c.from_residual-in_err-memory-in-Memory.ensures.1
+    (quiet_stops ItemError.OutOfMemory c.args.item _ c.args.self.now c.args.self.now (g.F.Files.known c.args.files.now) c.in-Memory.is refl (λ file. file) refl refl refl)
