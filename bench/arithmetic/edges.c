@@ -1,5 +1,6 @@
-// What the operations of RV64IMA compute at the edges of their operands, by the integers of the host: the tables of the
-// tests of crates/rv_alu. Usage: edges FAMILY, where FAMILY is pairs, alu, muldiv, amo_word, amo_double or branches.
+// What the operations of RV64IMA compute at the edges of their operands, by the integers of the host: tables of
+// crates/rv_cases/data, values and branches, and those of the tests of crates/amo_table, pairs, amo_word and amo_double.
+// Usage: edges FAMILY, where FAMILY is one of these.
 #include <inttypes.h>
 #include <stdbool.h>
 #include <stdint.h>
@@ -129,16 +130,41 @@ typedef struct {
     uint64_t (*of)(uint64_t a, uint64_t b);
 } Op;
 
-static const Op ALU[] = {
-    {"Add", add},   {"Sub", sub},   {"Sll", sll},   {"Slt", slt},   {"Sltu", sltu},
-    {"Xor", xor_},  {"Srl", srl},   {"Sra", sra},   {"Or", or_},    {"And", and_},
-    {"Addw", addw}, {"Subw", subw}, {"Sllw", sllw}, {"Srlw", srlw}, {"Sraw", sraw},
+// An instruction with a result in x1 and operands in x2 and x3.
+typedef struct {
+    Op op;
+    uint32_t word;
+} Instruction;
+
+#define OP 0x33
+#define OP_32 0x3b
+#define R(FUNCT7, FUNCT3, OPCODE) ((uint32_t)(FUNCT7) << 25 | 3 << 20 | 2 << 15 | (FUNCT3) << 12 | 1 << 7 | (OPCODE))
+
+static const Instruction INSTRUCTIONS[] = {
+    {{"add", add}, R(0, 0, OP)},          {{"sub", sub}, R(0x20, 0, OP)},       {{"sll", sll}, R(0, 1, OP)},
+    {{"slt", slt}, R(0, 2, OP)},          {{"sltu", sltu}, R(0, 3, OP)},        {{"xor", xor_}, R(0, 4, OP)},
+    {{"srl", srl}, R(0, 5, OP)},          {{"sra", sra}, R(0x20, 5, OP)},       {{"or", or_}, R(0, 6, OP)},
+    {{"and", and_}, R(0, 7, OP)},         {{"addw", addw}, R(0, 0, OP_32)},     {{"subw", subw}, R(0x20, 0, OP_32)},
+    {{"sllw", sllw}, R(0, 1, OP_32)},     {{"srlw", srlw}, R(0, 5, OP_32)},     {{"sraw", sraw}, R(0x20, 5, OP_32)},
+    {{"mul", mul}, R(1, 0, OP)},          {{"mulh", mulh}, R(1, 1, OP)},        {{"mulhsu", mulhsu}, R(1, 2, OP)},
+    {{"mulhu", mulhu}, R(1, 3, OP)},      {{"div", div_}, R(1, 4, OP)},         {{"divu", divu}, R(1, 5, OP)},
+    {{"rem", rem}, R(1, 6, OP)},          {{"remu", remu}, R(1, 7, OP)},        {{"mulw", mulw}, R(1, 0, OP_32)},
+    {{"divw", divw}, R(1, 4, OP_32)},     {{"divuw", divuw}, R(1, 5, OP_32)},   {{"remw", remw}, R(1, 6, OP_32)},
+    {{"remuw", remuw}, R(1, 7, OP_32)},
 };
 
-static const Op MULDIV[] = {
-    {"Mul", mul},   {"Mulh", mulh}, {"Mulhsu", mulhsu}, {"Mulhu", mulhu}, {"Div", div_},
-    {"Divu", divu}, {"Rem", rem},   {"Remu", remu},     {"Mulw", mulw},   {"Divw", divw},
-    {"Divuw", divuw}, {"Remw", remw}, {"Remuw", remuw},
+// Whether a branch is taken.
+static uint64_t eq(uint64_t a, uint64_t b) { return a == b; }
+static uint64_t ne(uint64_t a, uint64_t b) { return a != b; }
+static uint64_t ge(uint64_t a, uint64_t b) { return s(a) >= s(b); }
+static uint64_t geu(uint64_t a, uint64_t b) { return a >= b; }
+
+// Branches by 8 on x2 and x3.
+#define B(FUNCT3) (3 << 20 | 2 << 15 | (FUNCT3) << 12 | 4 << 8 | 0x63)
+
+static const Instruction BRANCHES[] = {
+    {{"beq", eq}, B(0)}, {{"bne", ne}, B(1)},    {{"blt", slt}, B(4)},
+    {{"bge", ge}, B(5)}, {{"bltu", sltu}, B(6)}, {{"bgeu", geu}, B(7)},
 };
 
 static const Op AMO_WORD[] = {
@@ -176,34 +202,38 @@ static void print_values(const char *table, const char *type, const Op *ops, siz
     printf("];\n");
 }
 
-static const char *shown(bool b) { return b ? "true" : "false"; }
-
-static void print_branches(void) {
-    printf("const TAKEN: [[bool; 6]; %zu] = [\n", COUNT(PAIRS));
-    for (size_t i = 0; i < COUNT(PAIRS); i++) {
-        uint64_t a = PAIRS[i].a, b = PAIRS[i].b;
-        printf("    [%s, %s, %s, %s, %s, %s],\n", shown(a == b), shown(a != b), shown(s(a) < s(b)),
-               shown(s(a) >= s(b)), shown(a < b), shown(a >= b));
+static void print_cases(const Instruction *all, size_t count, bool are_branches) {
+    for (size_t k = 0; k < count; k++) {
+        printf("# %s\n", all[k].op.name);
+        for (size_t i = 0; i < COUNT(PAIRS); i++) {
+            uint64_t a = PAIRS[i].a, b = PAIRS[i].b, value = all[k].op.of(a, b);
+            printf("%08" PRIx32 " %" PRIx64 " %" PRIx64 " = ", all[k].word, a, b);
+            if (are_branches)
+                printf("%s\n", value ? "Branch { target: 8 }" : "Nothing");
+            else
+                printf("%" PRIx64 "\n", value);
+        }
     }
-    printf("];\n");
 }
 
 int main(int argc, char **argv) {
     const char *family = argc == 2 ? argv[1] : "";
     if (strcmp(family, "pairs") == 0)
         print_pairs();
-    else if (strcmp(family, "alu") == 0)
-        print_values("VALUES", "AluOp", ALU, COUNT(ALU));
-    else if (strcmp(family, "muldiv") == 0)
-        print_values("VALUES", "MulDivOp", MULDIV, COUNT(MULDIV));
-    else if (strcmp(family, "amo_word") == 0)
+    else if (strcmp(family, "values") == 0) {
+        printf("# What operations compute at the edges of their operands, by the integers of the host: "
+               "`bench/arithmetic/run`.\n");
+        print_cases(INSTRUCTIONS, COUNT(INSTRUCTIONS), false);
+    } else if (strcmp(family, "branches") == 0) {
+        printf("# Branches by 8 from 0 at the edges of their operands, by the integers of the host: "
+               "`bench/arithmetic/run`.\n");
+        print_cases(BRANCHES, COUNT(BRANCHES), true);
+    } else if (strcmp(family, "amo_word") == 0)
         print_values("WORDS", "AmoKind", AMO_WORD, COUNT(AMO_WORD));
     else if (strcmp(family, "amo_double") == 0)
         print_values("DOUBLES", "AmoKind", AMO_DOUBLE, COUNT(AMO_DOUBLE));
-    else if (strcmp(family, "branches") == 0)
-        print_branches();
     else {
-        fprintf(stderr, "usage: edges pairs|alu|muldiv|amo_word|amo_double|branches\n");
+        fprintf(stderr, "usage: edges values|branches|pairs|amo_word|amo_double\n");
         return 2;
     }
     return 0;
