@@ -44,7 +44,7 @@ fn scripts_in_pieces_of_each_size(rt: HostRuntime) -> Result<(), Fail> {
 #[test]
 fn lines_pause_where_none_is_whole(rt: HostRuntime) -> Result<(), Fail> {
     let alloc = rt.alloc();
-    let mut run = ScriptRun::new(alloc, TextList::copy_of(alloc, "anonymous-instance")?);
+    let mut run = ScriptRun::new(alloc, TextList::copy_of(alloc, "anonymous-instance")?)?;
     let mut sink = MemorySink::new(alloc, 5000, never(alloc));
     let mut files = MemoryFiles::new(alloc, never(alloc));
     run.reader.feed(b"step h0 1\nstep h")?;
