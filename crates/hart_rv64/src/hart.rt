@@ -108,7 +108,8 @@ impl Hart {
     fn execute(&mut self, word: u32)
         requires between { self.old.begun ≡ None }
         requires ram { ram_start ≤ self.old.regs.pc }
-        ensures { (reply : Reply) → self.new ≡ begins_by (asked (executes word self.old.regs)) word self.old.regs reply }
+        ensures { (reply : Reply) →
+            self.new ≡ begins_by (asked (executes word self.old.regs)) word self.old.regs reply }
     {
         let effect = effect_of_word(word, &self.regs);
         match wanted(effect, word, &self.regs) {

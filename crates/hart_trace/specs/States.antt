@@ -38,7 +38,8 @@ begins_by (Some op) word r reply = record { regs = r; begun = Some word }
 begins_by None word r reply = fresh (ended (executes word r) reply)
 
 abbrev pub hart_fetched : Regs → Reply → Hart
-hart_fetched r (Reply.Bytes piece) = begins_by (asked (executes (little_endian piece) r)) (little_endian piece) r (Reply.Bytes piece)
+hart_fetched r (Reply.Bytes piece) =
+    begins_by (asked (executes (little_endian piece) r)) (little_endian piece) r (Reply.Bytes piece)
 hart_fetched r reply = fresh (fetch_fault r)
 
 abbrev pub turned_by : Turn → Regs → Reply → Hart
