@@ -1,11 +1,6 @@
-// The identities of snapshots.
+// What a process knows of its snapshots.
 
-/// What names a snapshot: the lineage of the process that wrote it, and its number there, from 1.
-#[derive(Clone, Copy, Debug, PartialEq, Eq, Drop)]
-pub struct Identity {
-    pub lineage: u64,
-    pub number: u64,
-}
+use vm_types::Identity;
 
 /// What a process knows of its snapshots.
 #[derive(Clone, Copy, Debug, PartialEq, Eq, Drop)]

@@ -26,5 +26,5 @@ mod tests;
 pub use actions::image_refusal;
 pub use answer::{Answer, accepted_answer, fault_answer};
 pub use deciding::{When, decide};
-pub use ids::{Identity, Ids};
+pub use ids::Ids;
 pub use vm_config::{Change, Config, Phase};
