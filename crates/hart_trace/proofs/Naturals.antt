@@ -1,5 +1,5 @@
 -- A hart's accesses are aligned, and so is where it is.
-use Rattle.std.proofs.Common.{◌≡◌, ℕ, ◌+◌, ◌*◌, ◌/◌, ◌%◌, ◌^◌, ◌≤◌, ◌==◌, ◌&&◌, refl, sym, subst, Bool, true, false, if◌then◌else◌}
+use Rattle.std.proofs.Common.{◌≡◌, ℕ, ◌+◌, ◌*◌, ◌/◌, ◌%◌, ◌^◌, ◌≤◌, ◌==◌, refl, sym, subst, Bool, true, false, if◌then◌else◌}
 use Rattle.std.proofs.Common.{nat_le, nat_lt, Option, Some, None, length, arith, ◌-◌, slice_set, bit_and, bit_or}
 use Rattle.std.specs.Int.{bit_not, w64}
 use Rattle.std.proofs.lemmas.Bool.{eqb-true}

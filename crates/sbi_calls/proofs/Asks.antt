@@ -1,5 +1,5 @@
 -- What calls ask of the board.
-use Rattle.std.proofs.Common.{◌≡◌, ℕ, refl, true, Bool, Option, Some, None, subst}
+use Rattle.std.proofs.Common.{◌≡◌, refl, true, Option, Some, None, subst}
 use Rattle.vm_types.specs.declared.op.BoardOp.{BoardOp}
 use Rattle.rv_supervisor.specs.declared.regs.Regs.{Regs}
 use Rattle.rv_supervisor.specs.Registers.{reg}

@@ -1,5 +1,5 @@
 -- What a call leaves: its error in a0 and its value in a1, and the hart goes on behind it (SBI, "Binary Encoding").
-use Rattle.std.specs.Prelude.{ℕ, Option, Some, None}
+use Rattle.std.specs.Prelude.{Option, Some, None}
 use Rattle.vm_types.specs.declared.op.BoardOp.{BoardOp}
 use Rattle.vm_types.specs.declared.op.BoardOp.TheVariants.{Putchar, SetTimer, StopHart}
 use Rattle.vm_types.specs.declared.reply.Reply.{Reply}

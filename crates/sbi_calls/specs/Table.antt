@@ -1,6 +1,6 @@
 -- The calls of the supervisor binary interface, one row each: extension, function and call (SBI, "Base Extension" to
 -- "System Reset Extension"). An extension says its name in ASCII; the legacy ones are numbered, and have no function.
-use Rattle.std.specs.Prelude.{ℕ, ◌==◌, ◌&&◌, Bool, true, false, if◌then◌else◌, List, [], ◌∷◌, Option, Some, None}
+use Rattle.std.specs.Prelude.{ℕ, ◌==◌, ◌&&◌, Bool, true, if◌then◌else◌, List, [], ◌∷◌, Option, Some, None}
 use Rattle.std.specs.List.{list_any}
 use Rattle.sbi_calls.specs.declared.table.SbiCall.{SbiCall}
 use Rattle.sbi_calls.specs.declared.table.SbiCall.TheVariants.{ConsolePutchar, GetSpecVersion, GetImplementationId, GetImplementationVersion, ProbeExtension, GetVendorId, GetArchitectureId, GetMachineId, SetTimer, SendIpi, RemoteFenceI, RemoteSfenceVma, RemoteSfenceVmaAsid, HartStart, HartStop, HartGetStatus, SystemReset}

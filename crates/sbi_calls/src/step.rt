@@ -69,9 +69,7 @@ fn step_of(call: SbiCall, regs: &Regs) -> SbiStep
             word: regs.get(A2),
         },
         SbiCall::HartStop => BoardOp::StopHart,
-        SbiCall::HartGetStatus => BoardOp::HartStatus {
-            hart: regs.get(A0),
-        },
+        SbiCall::HartGetStatus => BoardOp::HartStatus { hart: regs.get(A0) },
         SbiCall::SystemReset => BoardOp::Reset {
             kind: regs.get(A0),
             reason: regs.get(A1),
