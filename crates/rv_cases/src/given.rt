@@ -41,7 +41,7 @@ pub struct Called {
     pub returned: Option<SbiReturn>,
 }
 
-/// `A7 A6 A0 A1 A2 ERROR VALUE`, in hexadecimal digits. What is left out is 0, and nothing is returned without an error.
+/// `A7 A6 A0 A1 A2 ERROR VALUE`, in hexadecimal digits. What is left out is 0; without an error nothing is returned.
 pub fn called_from(text: &str) -> Result<Called> {
     let mut parts = text.split(' ');
     let a7 = number(parts.next())?;

@@ -10,7 +10,11 @@ use Rattle.sbi_calls.specs.declared.step.SbiReturn.{SbiReturn}
 use Rattle.sbi_calls.specs.declared.step.SbiStep.{SbiStep}
 use Rattle.sbi_calls.specs.declared.step.SbiStep.TheVariants.{Now, Act}
 use Rattle.sbi_calls.specs.declared.table.SbiCall.{SbiCall}
-use Rattle.sbi_calls.specs.declared.table.SbiCall.TheVariants.{ConsolePutchar, GetSpecVersion, GetImplementationId, GetImplementationVersion, ProbeExtension, GetVendorId, GetArchitectureId, GetMachineId, SetTimer, SendIpi, RemoteFenceI, RemoteSfenceVma, RemoteSfenceVmaAsid, HartStart, HartStop, HartGetStatus, SystemReset}
+use Rattle.sbi_calls.specs.declared.table.SbiCall.TheVariants.{ConsolePutchar, GetSpecVersion, GetImplementationId}
+use Rattle.sbi_calls.specs.declared.table.SbiCall.TheVariants.{GetImplementationVersion, ProbeExtension, GetVendorId}
+use Rattle.sbi_calls.specs.declared.table.SbiCall.TheVariants.{GetArchitectureId, GetMachineId, SetTimer, SendIpi}
+use Rattle.sbi_calls.specs.declared.table.SbiCall.TheVariants.{RemoteFenceI, RemoteSfenceVma, RemoteSfenceVmaAsid}
+use Rattle.sbi_calls.specs.declared.table.SbiCall.TheVariants.{HartStart, HartStop, HartGetStatus, SystemReset}
 use Rattle.sbi_calls.specs.Table.{call_of, is_extension}
 
 -- the register of the third argument, and those that say which call it is: a6 the function, a7 the extension (SBI,

@@ -3,7 +3,11 @@
 use Rattle.std.specs.Prelude.{ℕ, ◌==◌, ◌&&◌, Bool, true, if◌then◌else◌, List, [], ◌∷◌, Option, Some, None}
 use Rattle.std.specs.List.{list_any}
 use Rattle.sbi_calls.specs.declared.table.SbiCall.{SbiCall}
-use Rattle.sbi_calls.specs.declared.table.SbiCall.TheVariants.{ConsolePutchar, GetSpecVersion, GetImplementationId, GetImplementationVersion, ProbeExtension, GetVendorId, GetArchitectureId, GetMachineId, SetTimer, SendIpi, RemoteFenceI, RemoteSfenceVma, RemoteSfenceVmaAsid, HartStart, HartStop, HartGetStatus, SystemReset}
+use Rattle.sbi_calls.specs.declared.table.SbiCall.TheVariants.{ConsolePutchar, GetSpecVersion, GetImplementationId}
+use Rattle.sbi_calls.specs.declared.table.SbiCall.TheVariants.{GetImplementationVersion, ProbeExtension, GetVendorId}
+use Rattle.sbi_calls.specs.declared.table.SbiCall.TheVariants.{GetArchitectureId, GetMachineId, SetTimer, SendIpi}
+use Rattle.sbi_calls.specs.declared.table.SbiCall.TheVariants.{RemoteFenceI, RemoteSfenceVma, RemoteSfenceVmaAsid}
+use Rattle.sbi_calls.specs.declared.table.SbiCall.TheVariants.{HartStart, HartStop, HartGetStatus, SystemReset}
 
 pub record Row : Type 0 where
   pub extension : ℕ
