@@ -1,6 +1,8 @@
 -- What a hart asks for is an access, an act on the board or a wait.
-use Rattle.std.proofs.Common.{◌≡◌, ℕ, nat_lt, refl, Bool, true, false, if◌then◌else◌, Option, Some, None, ◌==◌, ◌&&◌}
+use Rattle.std.proofs.Common.{◌≡◌, ℕ, nat_lt, refl, Bool, true, false, if◌then◌else◌, Option, Some, None}
 use Rattle.vm_types.specs.declared.op.Op.{Op}
+use Rattle.vm_types.specs.declared.op.BoardOp.{BoardOp}
+use Rattle.vm_types.specs.declared.op.BoardOp.TheVariants.{Look, Time, SoftwarePending}
 use Rattle.rv_rows.specs.declared.register.Register.{Register}
 use Rattle.rv_rows.specs.declared.csr.CsrAccess.{CsrAccess}
 use Rattle.rv_rows.specs.declared.effect.Effect.{Effect}
@@ -11,14 +13,18 @@ use Rattle.rv_supervisor.specs.declared.regs.Regs.{Regs}
 use Rattle.rv_supervisor.specs.declared.regs.Turn.{Turn}
 use Rattle.rv_supervisor.specs.declared.csr.Csr.TheVariants as csr
 use Rattle.rv_supervisor.specs.declared.csr.Csr as csr_type
-use Rattle.rv_supervisor.specs.Registers.{reg, holds}
+use Rattle.rv_supervisor.specs.Registers.{holds}
 use Rattle.rv_supervisor.specs.Csrs.{csr_of, is_read}
 use Rattle.rv_doing.specs.Doing.{Doing, Ends, asked}
 use Rattle.rv_doing.specs.Does.{does, does_by, performed, csr_access, effect_at}
-use Rattle.rv_doing.specs.Sbi.{a6, a7, legacy_putchar, system_reset}
+use Rattle.rv_doing.specs.Sbi.{call_by}
+use Rattle.sbi_calls.specs.declared.step.SbiStep.{SbiStep}
+use Rattle.sbi_calls.specs.declared.step.SbiStep.TheVariants.{Now, Act}
+use Rattle.sbi_calls.specs.Calls.{sbi, is_call_act}
+use Rattle.sbi_calls.proofs.Asks.{IsCallStep, sbi_step}
 use Rattle.guest_memory.specs.Ram.{ram_start}
 use Rattle.hart_trace.specs.Traces.{opening, fetch_fault}
-use Rattle.hart_trace.specs.Asks.{is_host_op, is_port_op, is_hart_op}
+use Rattle.hart_trace.specs.Asks.{is_host_op, is_port_op, is_hart_op, is_hart_board_op}
 use Rattle.hart_trace.specs.States.{Hart, op_or_idle, wants_by, hart_wants}
 
 abbrev IsHartDoing : Doing → Type 0
@@ -42,6 +48,16 @@ accesses (Some (csr.Hart it)) rd access word r = refl
 accesses (Some csr.Sip) rd access word r = refl
 accesses (Some csr.Time) rd access word r = either (is_read access) _ _ refl refl
 
+call_acts : (act : BoardOp) → is_call_act act ≡ true → is_hart_board_op act ≡ true
+call_acts Look is = refl
+call_acts Time is = refl
+call_acts (SoftwarePending clear set) is = refl
+call_acts act is = is
+
+calls : (step : SbiStep) (r : Regs) → IsCallStep step → IsHartDoing (call_by step r)
+calls (Now given) r is = refl
+calls (Act act) r is = call_acts act is
+
 performs : (effect : Effect) (word : ℕ) (r : Regs) → IsHartDoing (performed effect word r)
 performs (Put rd value) word r = refl
 performs (Jump rd link target) word r = refl
@@ -54,9 +70,7 @@ performs (StoreConditional wide rd address value) word r = either (holds r addre
 performs (Amo kind wide rd address value) word r = refl
 performs (Csr rd number access) word r = accesses (csr_of number) rd access word r
 performs (Trap exception value) word r = refl
-performs Ecall word r =
-    either (reg r a7 == legacy_putchar) _ _ refl
-    (either ((reg r a7 == system_reset) && (reg r a6 == 0)) _ _ refl refl)
+performs Ecall word r = calls (sbi r) r (sbi_step r)
 performs Sret word r = refl
 performs Wfi word r = refl
 

@@ -1,10 +1,11 @@
 -- A hart's accesses are aligned, and so is where it is.
-use Rattle.std.proofs.Common.{◌≡◌, ℕ, ◌+◌, ◌*◌, ◌/◌, ◌%◌, ◌^◌, ◌≤◌, ◌==◌, ◌&&◌, refl, sym, subst, Bool, true, false, if◌then◌else◌}
+use Rattle.std.proofs.Common.{◌≡◌, ℕ, ◌+◌, ◌*◌, ◌/◌, ◌%◌, ◌^◌, ◌≤◌, ◌==◌, refl, sym, subst, Bool, true, false, if◌then◌else◌}
 use Rattle.std.proofs.Common.{nat_le, nat_lt, Option, Some, None, length, arith, ◌-◌, slice_set, bit_and, bit_or}
 use Rattle.std.specs.Int.{bit_not, w64}
 use Rattle.std.proofs.lemmas.Bool.{eqb-true}
 use Rattle.vm_types.specs.declared.op.Op.{Op}
 use Rattle.vm_types.specs.declared.op.Op.TheVariants as op
+use Rattle.vm_types.specs.declared.op.BoardOp.{BoardOp}
 use Rattle.vm_types.specs.declared.op.BoardOp.TheVariants as board
 use Rattle.vm_types.specs.declared.reply.Reply.{Reply}
 use Rattle.vm_types.specs.declared.reply.Shown.{Shown}
@@ -41,7 +42,12 @@ use Rattle.rv_supervisor.specs.Csrs.{csr_of, csr_value, after_access, after_writ
 use Rattle.rv_doing.specs.Doing.{Doing, Ends, Asks, asked, ended}
 use Rattle.rv_doing.specs.Does.{does, does_by, performed, csr_access, effect_at, illegal}
 use Rattle.rv_doing.specs.Replies.{with_result, after_load, after_store, after_reserve, after_conditional, after_amo, after_time, after_sip}
-use Rattle.rv_doing.specs.Sbi.{a6, a7, legacy_putchar, system_reset, after_call, after_board_call, putchar, reset, not_supported}
+use Rattle.rv_doing.specs.Sbi.{call_by}
+use Rattle.sbi_calls.specs.declared.step.SbiReturn.{SbiReturn}
+use Rattle.sbi_calls.specs.declared.step.SbiStep.{SbiStep}
+use Rattle.sbi_calls.specs.declared.step.SbiStep.TheVariants.{Now, Act}
+use Rattle.sbi_calls.specs.Calls.{sbi, success, returns}
+use Rattle.sbi_calls.specs.Ends.{after_call, after_answer, after_act, returned}
 use Rattle.hart_trace.specs.declared.looks.Interrupt.{Interrupt}
 use Rattle.hart_trace.specs.Looks.{looked_at, after_pending, after_interrupt, first_interrupt}
 use Rattle.guest_memory.specs.Ram.{ram_start}
@@ -127,6 +133,10 @@ accesses (Some (csr.Hart it)) rd access word r = tt
 accesses (Some csr.Sip) rd access word r = tt
 accesses (Some csr.Time) rd access word r = either (is_read access) _ _ tt tt
 
+calls : (step : SbiStep) (r : Regs) → IsNaturalDoing (call_by step r)
+calls (Now given) r = tt
+calls (Act act) r = tt
+
 performs : (effect : Effect) (word : ℕ) (r : Regs) → IsAlignedEffect effect → IsNaturalDoing (performed effect word r)
 performs (Put rd value) word r is = tt
 performs (Jump rd link target) word r is = tt
@@ -142,8 +152,7 @@ performs (Amo kind wide rd address value) word r is =
     natural_at (atomic_width wide) address (atomic_bytes wide) refl is
 performs (Csr rd number access) word r is = accesses (csr_of number) rd access word r
 performs (Trap exception value) word r is = tt
-performs Ecall word r is =
-    either (reg r a7 == legacy_putchar) _ _ tt (either ((reg r a7 == system_reset) && (reg r a6 == 0)) _ _ tt tt)
+performs Ecall word r is = calls (sbi r) r
 performs Sret word r is = tt
 performs Wfi word r is = tt
 
@@ -250,14 +259,24 @@ pends : (rd : Register) (reply : Reply) (r : Regs) → IsAligned r → IsAligned
 pends rd (Reply.Word value) r is = results rd (bit_and value interrupts) r is
 pends rd reply r is = finishes r is
 
-calls : (error value : ℕ) (r : Regs) → IsAligned r → IsAligned (after_call error value r)
-calls error value r is =
-    finishes (with_reg (with_reg r a0 error) a1 value)
-    (puts (with_reg r a0 error) a1 value (puts r a0 error is))
+returns_to : (given : SbiReturn) (r : Regs) → IsAligned r → IsAligned (after_call given r)
+returns_to given r is =
+    finishes (with_reg (with_reg r a0 given.error) a1 given.value)
+    (puts (with_reg r a0 given.error) a1 given.value (puts r a0 given.error is))
 
-returns : (reply : Reply) (r : Regs) → IsAligned r → IsAligned (after_board_call reply r)
-returns (Reply.Returned error value) r is = calls error value r is
-returns reply r is = finishes r is
+answers : (given : Option SbiReturn) (r : Regs) → IsAligned r → IsAligned (after_answer given r)
+answers (Some given) r is = returns_to given r is
+answers None r is = finishes r is
+
+acts : (act : BoardOp) (given : Option SbiReturn) (r : Regs) → IsAligned r → IsAligned (after_act act given r)
+acts (board.Putchar byte) given r is = finishes (with_reg r a0 0) (puts r a0 0 is)
+acts (board.SetTimer deadline) given r is = returns_to (returns success 0) r is
+acts board.StopHart given r is = finishes r is
+acts act given r is = answers given r is
+
+call_ends : (step : SbiStep) (r : Regs) (reply : Reply) → IsAligned r → IsAligned (ended (call_by step r) reply)
+call_ends (Now given) r reply is = returns_to given r is
+call_ends (Act act) r reply is = acts act (returned reply) r is
 
 ends_by : (b : Bool) (x y : Doing) (reply : Reply) → IsAligned (ended x reply) → IsAligned (ended y reply)
     → IsAligned (ended (if b then x else y) reply)
@@ -289,12 +308,7 @@ ends (StoreConditional wide rd address value) word r reply by is =
 ends (Amo kind wide rd address value) word r reply by is = amos wide rd address reply r is
 ends (Csr rd number access) word r reply by is = csr_ends (csr_of number) rd access word r reply is
 ends (Trap exception value) word r reply by is = traps exception value r is
-ends Ecall word r reply by is =
-    let none : Doing = Ends (after_call not_supported 0 r) in
-    let other : Doing = if (reg r a7 == system_reset) && (reg r a6 == 0) then reset r else none in
-    ends_by (reg r a7 == legacy_putchar) (putchar r) other reply (finishes (with_reg r a0 0) (puts r a0 0 is))
-    (ends_by ((reg r a7 == system_reset) && (reg r a6 == 0)) (reset r) none reply (returns reply r is)
-    (calls not_supported 0 r is))
+ends Ecall word r reply by is = call_ends (sbi r) r reply is
 ends Sret word r reply by is =
     counts (record r { pc = r.sepc; status_sie = r.status_spie; status_spie = true }) (is.2, is.1, is.2)
 ends Wfi word r reply by is = finishes r is

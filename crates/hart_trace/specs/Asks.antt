@@ -2,10 +2,11 @@
 use Rattle.std.specs.Prelude.{ℕ, ◌≡◌, ◌≤◌, ◌+◌, ◌%◌, Bool, true, false, length}
 use Rattle.vm_types.specs.declared.op.Op.{Op}
 use Rattle.vm_types.specs.declared.op.BoardOp.{BoardOp}
-use Rattle.vm_types.specs.declared.op.BoardOp.TheVariants.{Look, Putchar, Reset, Time, SoftwarePending}
+use Rattle.vm_types.specs.declared.op.BoardOp.TheVariants.{Look, Time, SoftwarePending}
 use Rattle.rv_rows.specs.declared.memory.Width.{Width}
 use Rattle.rv_rows.specs.Loads.{width_bytes, atomic_bytes}
 use Rattle.rv_supervisor.specs.declared.regs.Regs.{Regs}
+use Rattle.sbi_calls.specs.Calls.{is_call_act}
 
 -- an act on a host object
 abbrev pub is_host_op : Op → Bool
@@ -17,14 +18,12 @@ abbrev pub is_port_op : Op → Bool
 is_port_op (Op.Port port act) = true
 is_port_op op = false
 
--- the acts on the board that harts make
+-- the acts on the board that harts make: looks, accesses of time and sip, and calls of the supervisor binary interface
 abbrev pub is_hart_board_op : BoardOp → Bool
 is_hart_board_op Look = true
-is_hart_board_op (Putchar byte) = true
-is_hart_board_op (Reset kind reason) = true
 is_hart_board_op Time = true
 is_hart_board_op (SoftwarePending clear set) = true
-is_hart_board_op act = false
+is_hart_board_op act = is_call_act act
 
 -- what a hart may ask for: an access, one of those acts, or to wait
 abbrev pub is_hart_op : Op → Bool

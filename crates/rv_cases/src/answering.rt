@@ -5,14 +5,16 @@ ghost use Rattle.rv_rows.specs.Names.{name_of};
 ghost use Rattle.rv_rows.specs.Table.{instr_of};
 ghost use Rattle.rv_rows.specs.Effects.{effect_of};
 
-use crate::given::Given;
+use crate::calling::{left_by, step_text};
+use crate::given::{Given, called_from, given_from};
+use anyhow::Result;
 use rv_alu::{atomic_load_value, load_value};
 use rv_decode::decode;
 use rv_effect::effect;
 use rv_rows::{Effect, Instr, instr_of};
 use std::alloc::{AllocError, Global};
 
-/// What a table asks of its words. A word that is no instruction is answered `-`.
+/// What a table asks of its words, or of its calls. A word that is no instruction is answered `-`.
 #[derive(Clone, Copy, Drop)]
 pub enum Asked {
     /// The name of what the table of instructions finds.
@@ -25,10 +27,23 @@ pub enum Asked {
     Effect,
     /// The number that it puts into its register: what it computes, or what it makes of `a` in memory.
     Value,
+    /// What a call gives at once, or asks of the board.
+    Call,
+    /// What a call leaves of the registers.
+    CallLeft,
 }
 
-/// The answer.
-pub fn answer(alloc: Global, asked: Asked, given: Given) -> Result<String, AllocError> {
+/// The answer to a case.
+pub fn answer(alloc: Global, asked: Asked, given: &str) -> Result<String> {
+    let text = match asked {
+        Asked::Call => step_text(alloc, called_from(given)?)?,
+        Asked::CallLeft => left_by(alloc, called_from(given)?)?,
+        _ => answer_of_word(alloc, asked, given_from(given)?)?,
+    };
+    Ok(text)
+}
+
+fn answer_of_word(alloc: Global, asked: Asked, given: Given) -> Result<String, AllocError> {
     match asked {
         Asked::Name => name(instr_of(given.word)).to_string(alloc),
         Asked::DecodedName => name(decode(given.word)).to_string(alloc),
@@ -44,6 +59,7 @@ pub fn answer(alloc: Global, asked: Asked, given: Given) -> Result<String, Alloc
             Some(value) => format!(in alloc; "{value:x}"),
             None => "-".to_string(alloc),
         },
+        Asked::Call | Asked::CallLeft => "-".to_string(alloc),
     }
 }
 

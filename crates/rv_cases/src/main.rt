@@ -1,21 +1,22 @@
-//! Compares what words are and do with tables of values that come from outside: from other assemblers and
-//! disassemblers, from the integers of the host, and from the manuals by hand.
+//! Compares what words are and do, and what calls of the supervisor binary interface ask for and leave, with tables of
+//! values that come from outside: from other assemblers and disassemblers, from the integers of the host, and from the
+//! manuals by hand.
 //!
 //! Each file of `data/` has one line a case, as its README says. The program goes through them, prints each case that
 //! differs, and then how many there were. Its status is 1 where a case differs, and 2 where one can't be read.
 #![tactic(auto)]
 
 mod answering;
+mod calling;
 mod given;
 
 use crate::answering::{Asked, answer};
-use crate::given::given_from;
 use anyhow::{Context, Result};
 use std::fs;
 use std::process::ExitCode;
 use std::rt::Files;
 
-const TABLES: [(&str, Asked); 8] = [
+const TABLES: [(&str, Asked); 10] = [
     ("names", Asked::Name),
     ("corners", Asked::Name),
     ("opcodes", Asked::DecodedName),
@@ -24,6 +25,8 @@ const TABLES: [(&str, Asked); 8] = [
     ("branches", Asked::Effect),
     ("values", Asked::Value),
     ("loads", Asked::Value),
+    ("calls", Asked::Call),
+    ("calls_left", Asked::CallLeft),
 ];
 
 fn main(rt: HostRuntime) -> ExitCode {
@@ -55,7 +58,7 @@ fn compare<R: Print + AllocGlobal>(rt: &R, asked: Asked, text: &str) -> Result<(
     let mut differ = 0u64;
     for line in text.lines() {
         if let Some((given, wanted)) = line.split_once(" = ") {
-            let answer = answer(rt.alloc(), asked, given_from(given)?)?;
+            let answer = answer(rt.alloc(), asked, given)?;
             count = count.saturating_add(1);
             if answer.as_str() != wanted {
                 differ = differ.saturating_add(1);
