@@ -3,12 +3,9 @@ use crate::Folder;
 use crate::named_file::folder_of;
 use crate::tests::{folder_for, path_in};
 use std::alloc::AllocError;
-use std::os::fd::AsRawFd;
-use std::os::unix;
 use std::path::AsPath;
-use std::str::FromStr;
 use std::test::Fail;
-use std::{fs, io, rt};
+use std::{fs, rt};
 use vm_outside::{Failed, Files};
 
 enum Call<'a> {
@@ -178,31 +175,6 @@ fn what_is_no_regular_file_is_a_failure(rt: HostRuntime) -> Result<(), Fail> {
     for name in ["/", "/dev/null", "/dev/null/below", "a\0b"] {
         assert!(rt; answers_to_each(&rt, name)?.as_slice() == b"|x|x|x|x|x".as_slice());
     }
-    Ok(())
-}
-
-#[test]
-fn a_pipe_is_a_failure(rt: HostRuntime) -> Result<(), Fail> {
-    let (reader, _writer) = io::pipe(&rt)?;
-    let number = reader.as_raw_fd().unsigned_abs();
-    let mut name = String::from_str(rt.alloc(), "/proc/self/fd/")?;
-    if number > 9 {
-        name.push(char::from(b'0' + (number / 10 % 10) as u8))?;
-    }
-    name.push(char::from(b'0' + (number % 10) as u8))?;
-    assert!(rt; answers_to_each(&rt, name.as_str())?.as_slice() == b"|x|x|x|x|x".as_slice());
-    Ok(())
-}
-
-#[test]
-fn a_link_is_followed(rt: HostRuntime) -> Result<(), Fail> {
-    let folder = folder_for(&rt, "link")?;
-    let link = path_in(rt.alloc(), folder.as_str(), "b")?;
-    unix::fs::symlink(&rt, "a", link.as_str())?;
-    assert!(rt; answers_to_each(&rt, link.as_str())?.as_slice() == b"|-|x|x|x|.".as_slice());
-    let file = path_in(rt.alloc(), folder.as_str(), "a")?;
-    assert!(rt; fs::read(&rt, file.as_str())?.is_empty());
-    fs::remove_dir_all(&rt, folder.as_str())?;
     Ok(())
 }
 

@@ -22,13 +22,6 @@ fn a_file_comes_to_its_end(rt: HostRuntime) -> Result<(), Fail> {
 }
 
 #[test]
-fn a_folder_can_not_be_read(rt: HostRuntime) -> Result<(), Fail> {
-    let mut source = Reading::new(File::open(&rt, "/")?);
-    assert!(rt; source.read(&mut [0; 3]) == Err(Failed) && source.faults() == 1);
-    Ok(())
-}
-
-#[test]
 fn a_failure_is_counted_and_a_signal_is_not(rt: HostRuntime) {
     let steps = [
         Step::Cut,
@@ -45,16 +38,4 @@ fn a_failure_is_counted_and_a_signal_is_not(rt: HostRuntime) {
         assert!(rt; source.read(&mut buf) == count);
     }
     assert!(rt; buf == *b"cde" && source.faults() == 1);
-}
-
-#[test]
-fn a_read_that_signals_cut_off_is_made_100_times(rt: HostRuntime) {
-    let mut late = [Step::Cut; 100];
-    late[99] = Step::Pass(1);
-    let mut reader = FakeReader::new(&late, b"a");
-    assert!(rt; Reading::new(&mut reader).read(&mut [0; 2]) == Ok(1));
-    assert!(rt; reader.calls == 100);
-    let mut reader = FakeReader::new(&[], b"a");
-    assert!(rt; Reading::new(&mut reader).read(&mut [0; 2]) == Err(Failed));
-    assert!(rt; reader.calls == 100);
 }

@@ -60,13 +60,3 @@ fn a_failure_is_counted_and_a_signal_is_not(rt: HostRuntime) {
     assert!(rt; sink.faults() == 3);
     assert!(rt; writer.taken.as_slice() == b"abcdef".as_slice());
 }
-
-#[test]
-fn a_write_that_signals_cut_off_is_made_100_times(rt: HostRuntime) {
-    let mut writer = FakeWriter::new(&[], &[], Vec::new(rt.alloc()));
-    assert!(rt; Writing::new(&mut writer).write(b"a") == Err(Failed));
-    assert!(rt; writer.calls == 100 && writer.flushed == 0);
-    let mut writer = FakeWriter::new(&[Step::Pass(1)], &[], Vec::new(rt.alloc()));
-    assert!(rt; Writing::new(&mut writer).write(b"a") == Err(Failed));
-    assert!(rt; writer.calls == 1 && writer.flushed == 100);
-}
