@@ -5,6 +5,8 @@
 #![tactic(auto)]
 
 mod gate;
+#[cfg(test)]
+mod tests;
 
 pub use gate::{Pass, RateGate};
 pub use token_bucket::Bucket;

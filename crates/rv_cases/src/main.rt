@@ -15,7 +15,7 @@ use std::fs;
 use std::process::ExitCode;
 use std::rt::Files;
 
-const TABLES: [(&str, Asked); 8] = [
+const TABLES: [(&str, Asked); 10] = [
     ("names", Asked::Name),
     ("corners", Asked::Name),
     ("opcodes", Asked::DecodedName),
@@ -24,6 +24,8 @@ const TABLES: [(&str, Asked); 8] = [
     ("branches", Asked::Effect),
     ("values", Asked::Value),
     ("loads", Asked::Value),
+    ("stored", Asked::Stored),
+    ("csrs", Asked::Kept),
 ];
 
 fn main(rt: HostRuntime) -> ExitCode {
