@@ -142,9 +142,10 @@ fn pass_of(gate: &FlagGate, passes: &mut Vec<Pass>) -> Option<Pass>
 #[test]
 fn an_open_gate_is_closed_and_opened(rt: HostRuntime) -> Result<(), Fail> {
     let (gate, mut passes) = FlagGate::new(rt.alloc(), 2)?;
-    let (Some(mut worker), Some(mut other)) =
-        (pass_of(&gate, &mut passes), pass_of(&gate, &mut passes))
-    else {
+    let (Some(mut worker), Some(mut other)) = (
+        pass_of(&gate, &mut passes),
+        pass_of(&gate, &mut passes),
+    ) else {
         panic!(rt; "no two passes")
     };
     assert!(rt; passes.is_empty() && gate.ask(&mut worker));
