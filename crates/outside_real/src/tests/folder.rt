@@ -1,11 +1,11 @@
 // Files in a folder of the test's own, and what stands under a name but is no regular file.
 use crate::Folder;
 use crate::named_file::folder_of;
-use crate::tests::{folder_for, path_in};
+use crate::tests::file_for;
 use std::alloc::AllocError;
 use std::path::AsPath;
 use std::test::Fail;
-use std::{fs, rt};
+use std::{fs, io, rt};
 use vm_outside::{Failed, Files};
 
 enum Call<'a> {
@@ -145,23 +145,29 @@ const CASES: [Case<'_>; 4] = [
     },
 ];
 
+// Whether the file answers as the case says.
+fn is_met<R: rt::Files + AllocGlobal>(rt: &R, name: &str, case: &Case<'_>) -> io::Result<bool> {
+    if let Some(before) = case.before {
+        fs::write(rt, name, before)?;
+    }
+    let mut files = Folder::new(rt);
+    let seen = answers(Vec::new(rt.alloc()), &mut files, name, case.calls)?;
+    let is_met = seen.as_slice() == case.answers && files.faults() == case.faults;
+    Ok(is_met && holds(rt, name, case.after)?)
+}
+
+fn holds<R: rt::Files + AllocGlobal>(rt: &R, name: &str, bytes: &[u8]) -> io::Result<bool> {
+    Ok(fs::read(rt, name)?.as_slice() == bytes)
+}
+
 #[test]
 fn a_real_file_answers_as_files_do(rt: HostRuntime) -> Result<(), Fail> {
-    let alloc = rt.alloc();
-    let folder = folder_for(&rt, "files")?;
-    let name = path_in(alloc, folder.as_str(), "a")?;
+    let name = file_for(&rt, "files")?;
     for case in &CASES {
-        if let Some(before) = case.before {
-            fs::write(&rt, name.as_str(), before)?;
-        }
-        let mut files = Folder::new(&rt);
-        let seen = answers(Vec::new(alloc), &mut files, name.as_str(), case.calls)?;
-        assert!(rt; seen.as_slice() == case.answers);
-        assert!(rt; files.faults() == case.faults);
-        assert!(rt; fs::read(&rt, name.as_str())?.as_slice() == case.after);
         fs::remove_file(&rt, name.as_str())?;
+        assert!(rt; is_met(&rt, name.as_str(), case)?);
     }
-    fs::remove_dir(&rt, folder.as_str())?;
+    fs::remove_file(&rt, name.as_str())?;
     Ok(())
 }
 

@@ -1,23 +1,30 @@
 // Reading from a file, and from a reader that fails.
 use crate::Reading;
 use crate::tests::fakes::{FakeReader, Step};
-use crate::tests::{folder_for, path_in};
+use crate::tests::file_for;
 use std::fs;
 use std::fs::File;
+use std::io::Read;
 use std::test::Fail;
 use vm_outside::{Failed, Source};
 
+// Whether a source over these five bytes gives them and then its end.
+fn gives_all<T: Read + Drop>(file: T) -> bool {
+    let mut buf = [0; 3];
+    let mut source = Reading::new(file);
+    source.read(&mut buf) == Ok(3)
+        && buf == *b"abc"
+        && source.read(&mut buf) == Ok(2)
+        && buf == *b"dec"
+        && source.read(&mut buf) == Ok(0)
+}
+
 #[test]
 fn a_file_comes_to_its_end(rt: HostRuntime) -> Result<(), Fail> {
-    let folder = folder_for(&rt, "reading")?;
-    let name = path_in(rt.alloc(), folder.as_str(), "a")?;
+    let name = file_for(&rt, "reading")?;
     fs::write(&rt, name.as_str(), "abcde")?;
-    let mut buf = [0; 3];
-    let mut source = Reading::new(File::open(&rt, name.as_str())?);
-    assert!(rt; source.read(&mut buf) == Ok(3) && buf == *b"abc");
-    assert!(rt; source.read(&mut buf) == Ok(2) && buf == *b"dec");
-    assert!(rt; source.read(&mut buf) == Ok(0));
-    fs::remove_dir_all(&rt, folder.as_str())?;
+    assert!(rt; gives_all(File::open(&rt, name.as_str())?));
+    fs::remove_file(&rt, name.as_str())?;
     Ok(())
 }
 
