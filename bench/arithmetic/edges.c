@@ -1,5 +1,5 @@
 // What the operations of RV64IMA compute at the edges of their operands, by the integers of the host: tables of
-// crates/rv_cases/data, values and branches, and those of the tests of crates/amo_table, pairs, amo_word and amo_double.
+// crates/rv_cases/data, values, branches and stored.
 // Usage: edges FAMILY, where FAMILY is one of these.
 #include <inttypes.h>
 #include <stdbool.h>
@@ -167,40 +167,14 @@ static const Instruction BRANCHES[] = {
     {{"bge", ge}, B(5)}, {{"bltu", sltu}, B(6)}, {{"bgeu", geu}, B(7)},
 };
 
-static const Op AMO_WORD[] = {
-    {"Swap", amoswap_word}, {"Add", amoadd_word},   {"Xor", amoxor_word},
-    {"And", amoand_word},   {"Or", amoor_word},     {"Min", amomin_word},
-    {"Max", amomax_word},   {"MinUnsigned", amominu_word}, {"MaxUnsigned", amomaxu_word},
+// Atomic operations, whose address is in x2 and operand in x3: a is what memory holds, b the operand.
+#define A(FUNCT5, FUNCT3) ((uint32_t)(FUNCT5) << 27 | 3 << 20 | 2 << 15 | (FUNCT3) << 12 | 1 << 7 | 0x2f)
+#define BOTH(NAME, FUNCT5) {{#NAME ".w", NAME##_word}, A(FUNCT5, 2)}, {{#NAME ".d", NAME##_double}, A(FUNCT5, 3)}
+
+static const Instruction ATOMICS[] = {
+    BOTH(amoswap, 0x01), BOTH(amoadd, 0x00), BOTH(amoxor, 0x04),  BOTH(amoand, 0x0c),  BOTH(amoor, 0x08),
+    BOTH(amomin, 0x10),  BOTH(amomax, 0x14), BOTH(amominu, 0x18), BOTH(amomaxu, 0x1c),
 };
-
-static const Op AMO_DOUBLE[] = {
-    {"Swap", amoswap_double}, {"Add", amoadd_double},   {"Xor", amoxor_double},
-    {"And", amoand_double},   {"Or", amoor_double},     {"Min", amomin_double},
-    {"Max", amomax_double},   {"MinUnsigned", amominu_double}, {"MaxUnsigned", amomaxu_double},
-};
-
-static void print_pairs(void) {
-    printf("pub const PAIRS: [(u64, u64); %zu] = [\n", COUNT(PAIRS));
-    for (size_t i = 0; i < COUNT(PAIRS); i++)
-        printf("    (0x%" PRIx64 ", 0x%" PRIx64 "),\n", PAIRS[i].a, PAIRS[i].b);
-    printf("];\n");
-}
-
-// Three values a line.
-static void print_values(const char *table, const char *type, const Op *ops, size_t count) {
-    printf("const %s: [(%s, [[u64; 3]; %zu]); %zu] = [\n", table, type, COUNT(PAIRS) / 3, count);
-    for (size_t k = 0; k < count; k++) {
-        printf("    (\n        %s::%s,\n        [\n", type, ops[k].name);
-        for (size_t i = 0; i < COUNT(PAIRS); i += 3) {
-            printf("            [");
-            for (size_t j = i; j < i + 3; j++)
-                printf("%s0x%" PRIx64, j == i ? "" : ", ", ops[k].of(PAIRS[j].a, PAIRS[j].b));
-            printf("],\n");
-        }
-        printf("        ],\n    ),\n");
-    }
-    printf("];\n");
-}
 
 static void print_cases(const Instruction *all, size_t count, bool are_branches) {
     for (size_t k = 0; k < count; k++) {
@@ -218,9 +192,7 @@ static void print_cases(const Instruction *all, size_t count, bool are_branches)
 
 int main(int argc, char **argv) {
     const char *family = argc == 2 ? argv[1] : "";
-    if (strcmp(family, "pairs") == 0)
-        print_pairs();
-    else if (strcmp(family, "values") == 0) {
+    if (strcmp(family, "values") == 0) {
         printf("# What operations compute at the edges of their operands, by the integers of the host: "
                "`bench/arithmetic/run`.\n");
         print_cases(INSTRUCTIONS, COUNT(INSTRUCTIONS), false);
@@ -228,12 +200,12 @@ int main(int argc, char **argv) {
         printf("# Branches by 8 from 0 at the edges of their operands, by the integers of the host: "
                "`bench/arithmetic/run`.\n");
         print_cases(BRANCHES, COUNT(BRANCHES), true);
-    } else if (strcmp(family, "amo_word") == 0)
-        print_values("WORDS", "AmoKind", AMO_WORD, COUNT(AMO_WORD));
-    else if (strcmp(family, "amo_double") == 0)
-        print_values("DOUBLES", "AmoKind", AMO_DOUBLE, COUNT(AMO_DOUBLE));
-    else {
-        fprintf(stderr, "usage: edges values|branches|pairs|amo_word|amo_double\n");
+    } else if (strcmp(family, "stored") == 0) {
+        printf("# What atomic operations store where A is in memory, by the integers of the host: "
+               "`bench/arithmetic/run`.\n");
+        print_cases(ATOMICS, COUNT(ATOMICS), false);
+    } else {
+        fprintf(stderr, "usage: edges values|branches|stored\n");
         return 2;
     }
     return 0;

@@ -4,7 +4,5 @@
 #![tactic(auto)]
 
 mod amo;
-#[cfg(test)]
-mod tests;
 
 pub use amo::amo_value;

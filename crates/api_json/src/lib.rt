@@ -32,8 +32,6 @@ mod snapshot;
 
 // A request as a call.
 mod reading;
-#[cfg(test)]
-mod tests;
 
 pub use error::ReadError;
 pub use reading::read;

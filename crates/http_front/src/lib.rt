@@ -14,8 +14,6 @@ mod pieces;
 mod reply;
 mod rules;
 mod sending;
-#[cfg(test)]
-mod tests;
 
 pub use front::Front;
 pub use pieces::requests;

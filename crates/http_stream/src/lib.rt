@@ -10,8 +10,6 @@ mod answers;
 mod cuts;
 mod headers;
 mod request;
-#[cfg(test)]
-mod tests;
 
 pub use answers::one_answer;
 pub use cuts::any_cutting;

@@ -5,31 +5,27 @@ mod reading;
 mod steps;
 mod writing;
 
-use std::alloc::{AllocError, Global};
 use std::env::Env;
+use std::fs::File;
 use std::io::ErrorKind;
 use std::path::AsPath;
-use std::str::FromStr;
-use std::{env, fs, io, rt};
+use std::{env, io, rt};
 
-/// An empty folder of this test's own.
-fn folder_for<R: rt::Files + Env + AllocGlobal>(rt: &R, test: &str) -> io::Result<String> {
-    let mut folder = path_in(rt.alloc(), env::temp_dir(rt)?.path_text(), "outside_real_")?;
-    folder.push_str(test)?;
+/// The name of a file of this test's own, in which nothing is.
+fn file_for<R: rt::Files + Env + AllocGlobal>(rt: &R, test: &str) -> io::Result<String> {
+    let mut name = named(rt, test)?;
     for _ in 0..100 {
-        match fs::create_dir(rt, folder.as_str()) {
-            Ok(()) => return Ok(folder),
-            Err(e) if e.kind() == ErrorKind::AlreadyExists => folder.push('_')?,
+        match File::create_new(rt, name.as_str()) {
+            Ok(_) => return Ok(name),
+            Err(e) if e.kind() == ErrorKind::AlreadyExists => name.push('_')?,
             Err(e) => return Err(e),
         }
     }
     Err(io::Error::from(ErrorKind::AlreadyExists))
 }
 
-/// The path of a name in a folder.
-fn path_in(alloc: Global, folder: &str, name: &str) -> Result<String, AllocError> {
-    let mut path = String::from_str(alloc, folder)?;
-    path.push('/')?;
-    path.push_str(name)?;
-    Ok(path)
+fn named<R: Env + AllocGlobal>(rt: &R, test: &str) -> io::Result<String> {
+    let folder = env::temp_dir(rt)?;
+    let name = format!(in rt.alloc(); "{}/outside_real_{test}", folder.path_text())?;
+    Ok(name)
 }

@@ -9,8 +9,6 @@ mod flag_gate;
 mod gate;
 mod hold_gate;
 mod steps;
-#[cfg(test)]
-mod tests;
 
 pub use flag_gate::{FlagGate, Pass};
 pub use gate::Gate;

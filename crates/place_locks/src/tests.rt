@@ -1,8 +1,9 @@
 // Locks in several threads. What each act does is proved; that the threads run and the acts are made is shown here.
-ghost use Rattle.std.specs.Prelude.{◌≡◌};
+// The gates that the locks ask are shown here too.
+ghost use Rattle.std.specs.Prelude.{◌≡◌, All, IfSome};
 
 use crate::Locked;
-use pause_gate::{FlagGate, Gate, HoldGate, Meeting, Party};
+use pause_gate::{FlagGate, Gate, HoldGate, Meeting, Party, Pass};
 use std::alloc::{AllocError, Global};
 use std::marker::Brand;
 use std::sync::Wait;
@@ -129,29 +130,60 @@ fn two_thousand_acts_are_in_one_history(rt: HostRuntime) -> Result<(), Fail> {
     Ok(())
 }
 
-fn hold_gate(alloc: Global, pages: (u32, u32), looks: u64) -> Result<HoldGate, AllocError> {
-    let (flag, _passes) = FlagGate::new(alloc, 1)?;
-    let one = Party::of(ActorId::Hart(0), PlaceId::Page(pages.0));
-    let other = Party::of(ActorId::Hart(1), PlaceId::Page(pages.1));
-    Ok(HoldGate::new(flag, one, other, looks))
+// One of the passes.
+fn pass_of(gate: &FlagGate, passes: &mut Vec<Pass>) -> Option<Pass>
+    requires { All (λ pass. pass.0 ≡ gate.now) passes.old.items }
+    ensures pass { IfSome result (λ pass. pass.0 ≡ gate.now) }
+    ensures rest { All (λ pass. pass.0 ≡ gate.now) passes.new.items }
+{
+    passes.pop()
 }
 
 #[test]
+fn an_open_gate_is_closed_and_opened(rt: HostRuntime) -> Result<(), Fail> {
+    let (gate, mut passes) = FlagGate::new(rt.alloc(), 2)?;
+    let (Some(mut worker), Some(mut other)) = (
+        pass_of(&gate, &mut passes),
+        pass_of(&gate, &mut passes),
+    ) else {
+        panic!(rt; "no two passes")
+    };
+    assert!(rt; passes.is_empty() && gate.ask(&mut worker));
+    gate.close(&mut other);
+    assert!(rt; !gate.ask(&mut worker) && !gate.ask(&mut other));
+    gate.open(&mut other);
+    assert!(rt; gate.ask(&mut worker) && gate.ask(&mut other));
+    Ok(())
+}
+
+// Whoever asks after a meeting closes the gate.
+#[test]
 fn two_meet_under_locks_of_their_own(rt: HostRuntime) -> Result<(), Fail> {
     let alloc = rt.alloc();
-    let gate = hold_gate(alloc, (7, 512), 1_000_000_000)?;
+    let (flag, mut passes) = FlagGate::new(alloc, 1)?;
+    let Some(mut pass) = pass_of(&flag, &mut passes) else {
+        panic!(rt; "no pass")
+    };
+    let gate = HoldGate::new(flag, party(0, 7), party(1, 512), 1_000_000_000);
+    assert!(rt; gate.meeting().is_none() && gate.ask(&mut pass));
     let locks = (lock_of(alloc, 7), lock_of(alloc, 512));
     count_in_two(&rt, alloc, &gate, (&locks.0, &locks.1), 10)?;
     assert_eq!(rt; gate.meeting(), Some(Meeting::Met));
+    assert!(rt; !gate.ask(&mut pass));
     Ok(())
 }
 
 #[test]
 fn two_miss_each_other_under_one_lock(rt: HostRuntime) -> Result<(), Fail> {
     let alloc = rt.alloc();
-    let gate = hold_gate(alloc, (7, 7), 1000)?;
+    let (flag, _passes) = FlagGate::new(alloc, 1)?;
+    let gate = HoldGate::new(flag, party(0, 7), party(1, 7), 1000);
     let lock = lock_of(alloc, 7);
     count_in_two(&rt, alloc, &gate, (&lock, &lock), 10)?;
     assert_eq!(rt; gate.meeting(), Some(Meeting::Missed));
     Ok(())
+}
+
+fn party(hart: u8, page: u32) -> Party {
+    Party::of(ActorId::Hart(hart), PlaceId::Page(page))
 }

@@ -5,7 +5,5 @@
 #![tactic(auto)]
 
 mod refusal;
-#[cfg(test)]
-mod tests;
 
 pub use refusal::{Refusal, fault_text};

@@ -7,11 +7,16 @@ ghost use Rattle.rv_rows.specs.Effects.{effect_of};
 
 use crate::calling::{left_by, step_text};
 use crate::given::{Given, called_from, given_from};
+use amo_table::amo_value;
 use anyhow::Result;
 use rv_alu::{atomic_load_value, load_value};
 use rv_decode::decode;
 use rv_effect::effect;
-use rv_rows::{Effect, Instr, instr_of};
+use rv_rows::{CsrAccess, Effect, Instr, instr_of};
+use rv_supervisor::{
+    Csr, HartCsr, Turn, access_csr, csr_of, csr_value, software_cleared, software_set, start_regs,
+    write_csr,
+};
 use std::alloc::{AllocError, Global};
 
 /// What a table asks of its words, or of its calls. A word that is no instruction is answered `-`.
@@ -31,6 +36,11 @@ pub enum Asked {
     Call,
     /// What a call leaves of the registers.
     CallLeft,
+    /// The number that it stores where `a` is in memory.
+    Stored,
+    /// What the CSR holds after it, where `b` was written to it before, and `look` if a look is due; of sip, which bits
+    /// are cleared and which are set.
+    Kept,
 }
 
 /// The answer to a case.
@@ -55,10 +65,9 @@ fn answer_of_word(alloc: Global, asked: Asked, given: Given) -> Result<String, A
             Some(effect) => format!(in alloc; "{effect:?}"),
             None => "-".to_string(alloc),
         },
-        Asked::Value => match value_of(given) {
-            Some(value) => format!(in alloc; "{value:x}"),
-            None => "-".to_string(alloc),
-        },
+        Asked::Value => number(alloc, value_of(given)),
+        Asked::Stored => number(alloc, stored(given)),
+        Asked::Kept => kept(alloc, given),
         Asked::Call | Asked::CallLeft => "-".to_string(alloc),
     }
 }
@@ -89,4 +98,53 @@ fn value_of(given: Given) -> Option<u64> {
             _ => None,
         },
     }
+}
+
+fn stored(given: Given) -> Option<u64> {
+    match decode(given.word)? {
+        Instr::Amo { kind, wide, .. } => Some(amo_value(kind, wide, given.a, given.b)),
+        _ => None,
+    }
+}
+
+fn number(alloc: Global, found: Option<u64>) -> Result<String, AllocError> {
+    match found {
+        Some(number) => format!(in alloc; "{number:x}"),
+        None => "-".to_string(alloc),
+    }
+}
+
+fn kept(alloc: Global, given: Given) -> Result<String, AllocError> {
+    match csr_and_access(given) {
+        Some((Csr::Hart(csr), access)) => kept_of_hart(alloc, csr, access, given.b),
+        Some((Csr::Sip, access)) => {
+            let cleared = software_cleared(access);
+            let set = software_set(access);
+            format!(in alloc; "{cleared:x} {set:x}")
+        }
+        Some((Csr::Time, _)) => "time".to_string(alloc),
+        None => "-".to_string(alloc),
+    }
+}
+
+fn csr_and_access(given: Given) -> Option<(Csr, CsrAccess)> {
+    match effect_on(given)? {
+        Effect::Csr { csr, access, .. } => Some((csr_of(csr)?, access)),
+        _ => None,
+    }
+}
+
+fn kept_of_hart(
+    alloc: Global,
+    csr: HartCsr,
+    access: CsrAccess,
+    before: u64,
+) -> Result<String, AllocError> {
+    let mut regs = start_regs(0, 0, 0);
+    write_csr(csr, before, &mut regs);
+    regs.turn = Turn::Fetch;
+    access_csr(csr, access, &mut regs);
+    let value = csr_value(csr, &regs);
+    let look = if regs.turn == Turn::Look { " look" } else { "" };
+    format!(in alloc; "{value:x}{look}")
 }

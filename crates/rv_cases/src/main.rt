@@ -16,7 +16,7 @@ use std::fs;
 use std::process::ExitCode;
 use std::rt::Files;
 
-const TABLES: [(&str, Asked); 10] = [
+const TABLES: [(&str, Asked); 12] = [
     ("names", Asked::Name),
     ("corners", Asked::Name),
     ("opcodes", Asked::DecodedName),
@@ -27,6 +27,8 @@ const TABLES: [(&str, Asked); 10] = [
     ("loads", Asked::Value),
     ("calls", Asked::Call),
     ("calls_left", Asked::CallLeft),
+    ("stored", Asked::Stored),
+    ("csrs", Asked::Kept),
 ];
 
 fn main(rt: HostRuntime) -> ExitCode {

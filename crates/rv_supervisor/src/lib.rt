@@ -8,8 +8,6 @@
 mod csr;
 mod ends;
 mod regs;
-#[cfg(test)]
-mod tests;
 
 pub use csr::{
     Csr, HartCsr, INTERRUPTS, access_csr, csr_of, csr_value, is_read, software_cleared,

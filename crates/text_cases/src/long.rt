@@ -1,11 +1,13 @@
 // What is longer than a line of a file, and bytes that are no text.
-use crate::{lines, scripts, streams};
+use crate::{calls, lines, scripts, streams};
 use http_front::Front;
 use script_text::LineReader;
 use std::alloc::{AllocError, Global};
 
 /// Puts what each of them gives at the end.
 pub fn add(alloc: Global, text: &mut String) -> Result<(), AllocError> {
+    add_body(alloc, 127, text)?;
+    add_body(alloc, 128, text)?;
     add_bytes(alloc, b"file \xff 00", text)?;
     add_bytes(alloc, b"# \xff\xfe\x00", text)?;
     add_long_line(&mut LineReader::new(alloc), text)?;
@@ -15,6 +17,12 @@ pub fn add(alloc: Global, text: &mut String) -> Result<(), AllocError> {
     add_headers(alloc, 32, text)?;
     add_headers(alloc, 33, text)?;
     add_empty_lines(alloc, text)
+}
+
+fn add_body(alloc: Global, depth: usize, text: &mut String) -> Result<(), AllocError> {
+    text.push_str("deep body => ")?;
+    text.push_str(calls::deep(alloc, depth)?.as_str())?;
+    text.push('\n')
 }
 
 fn add_bytes(alloc: Global, line: &[u8], text: &mut String) -> Result<(), AllocError> {

@@ -1,50 +1,69 @@
 //! Prints stored cases with what they are read as or written as, for the gate to compare with `stdout`.
 //!
 //! A case is a line of a file of `data/`, with `\r`, `\n` and `\0` for those bytes and `|` where a text is cut in
-//! pieces. `data/lines` has lines of a script (`lines`), `data/scripts` whole ones (`scripts`), and `data/streams` what
-//! comes on a connection (`streams`). What is longer than a line of a file, and what is only written, is in `long` and
-//! `written`. A new case is one more line there and one in `stdout`: it costs no proof.
+//! pieces. Each of `TABLES` is such a file. What is longer than a line of a file, and what is only written, is in `long`,
+//! `written` and `refused`. A new case is one more line there and one in `stdout`: it costs no proof.
 #![tactic(auto)]
 
+mod calls;
 mod escapes;
 mod lines;
 mod long;
+mod refused;
 mod scripts;
 mod streams;
 mod written;
 
+use std::alloc::{AllocError, Global};
 use std::{fs, io};
 use vm_types::ByteList;
 
+/// What a case is.
+#[derive(Clone, Copy, Drop)]
+enum Kind {
+    /// A line of a script.
+    Line,
+    /// A script that comes in pieces.
+    Script,
+    /// What comes on a connection.
+    Stream,
+    /// The same, looked at before it is taken.
+    Peek,
+    /// A method, a path and a body.
+    Call,
+}
+
+const TABLES: [(&str, Kind); 5] = [
+    ("lines", Kind::Line),
+    ("scripts", Kind::Script),
+    ("streams", Kind::Stream),
+    ("peeks", Kind::Peek),
+    ("calls", Kind::Call),
+];
+
 fn main(rt: HostRuntime) -> io::Result<()> {
-    print_lines(&rt)?;
-    print_scripts(&rt)?;
-    print_streams(&rt)?;
+    for (table, kind) in TABLES {
+        print_table(&rt, table, kind)?;
+    }
     print_others(&rt)
 }
 
-fn print_lines(rt: &HostRuntime) -> io::Result<()> {
-    for case in fs::read_to_string(rt, "lines")?.lines() {
-        let told = lines::told(rt.alloc(), case)?;
+fn print_table(rt: &HostRuntime, table: &str, kind: Kind) -> io::Result<()> {
+    for case in fs::read_to_string(rt, table)?.lines() {
+        let told = told(rt.alloc(), kind, case)?;
         println!(rt; "{case} => {told}")?;
     }
     Ok(())
 }
 
-fn print_scripts(rt: &HostRuntime) -> io::Result<()> {
-    for case in fs::read_to_string(rt, "scripts")?.lines() {
-        let told = scripts::told(rt.alloc(), case)?;
-        println!(rt; "{case} => {told}")?;
+fn told(alloc: Global, kind: Kind, case: &str) -> Result<String, AllocError> {
+    match kind {
+        Kind::Line => lines::told(alloc, case),
+        Kind::Script => scripts::told(alloc, case),
+        Kind::Stream => streams::told(alloc, case),
+        Kind::Peek => streams::peeked(alloc, case),
+        Kind::Call => calls::told(alloc, case),
     }
-    Ok(())
-}
-
-fn print_streams(rt: &HostRuntime) -> io::Result<()> {
-    for case in fs::read_to_string(rt, "streams")?.lines() {
-        let told = streams::told(rt.alloc(), case)?;
-        println!(rt; "{case} => {told}")?;
-    }
-    Ok(())
 }
 
 fn print_others(rt: &HostRuntime) -> io::Result<()> {
@@ -52,6 +71,7 @@ fn print_others(rt: &HostRuntime) -> io::Result<()> {
     long::add(rt.alloc(), &mut text)?;
     written::add_stream(rt.alloc(), &mut text)?;
     let mut bytes = ByteList::new(rt.alloc());
+    refused::add(rt.alloc(), &mut bytes)?;
     written::add(rt.alloc(), &mut bytes)?;
     let written = str::from_utf8(bytes.as_slice()).unwrap_or("no text");
     println!(rt; "{text}{written}")

@@ -15,6 +15,27 @@ pub fn told(alloc: Global, case: &str) -> Result<String, AllocError> {
     Ok(text)
 }
 
+/// The same where what is next is looked at twice after each piece, and then passed over.
+pub fn peeked(alloc: Global, case: &str) -> Result<String, AllocError> {
+    let mut front = Front::new(alloc)?;
+    let mut text = String::new(alloc);
+    for piece in case.split('|') {
+        front.feed(unescaped(alloc, piece)?.as_bytes())?;
+        peek(alloc, &front.peek()?, &mut text)?;
+        peek(alloc, &front.peek()?, &mut text)?;
+        front.skip();
+    }
+    Ok(text)
+}
+
+fn peek(alloc: Global, next: &Next, text: &mut String) -> Result<(), AllocError> {
+    match next {
+        Next::Request(request) => text.push_str(request_told(alloc, request)?.as_str()),
+        Next::None => text.push('-'),
+        Next::Bad(_) => text.push('!'),
+    }
+}
+
 /// Puts what up to four calls give at the end, up to the first that gives no request yet.
 pub fn take(alloc: Global, front: &mut Front, text: &mut String) -> Result<(), AllocError> {
     for _ in 0..4 {

@@ -1,12 +1,9 @@
 // Files in a folder of the test's own, and what stands under a name but is no regular file.
 use crate::Folder;
 use crate::named_file::folder_of;
-use crate::tests::{folder_for, path_in};
+use crate::tests::file_for;
 use std::alloc::AllocError;
-use std::os::fd::AsRawFd;
-use std::os::unix;
 use std::path::AsPath;
-use std::str::FromStr;
 use std::test::Fail;
 use std::{fs, io, rt};
 use vm_outside::{Failed, Files};
@@ -148,23 +145,29 @@ const CASES: [Case<'_>; 4] = [
     },
 ];
 
+// Whether the file answers as the case says.
+fn is_met<R: rt::Files + AllocGlobal>(rt: &R, name: &str, case: &Case<'_>) -> io::Result<bool> {
+    if let Some(before) = case.before {
+        fs::write(rt, name, before)?;
+    }
+    let mut files = Folder::new(rt);
+    let seen = answers(Vec::new(rt.alloc()), &mut files, name, case.calls)?;
+    let is_met = seen.as_slice() == case.answers && files.faults() == case.faults;
+    Ok(is_met && holds(rt, name, case.after)?)
+}
+
+fn holds<R: rt::Files + AllocGlobal>(rt: &R, name: &str, bytes: &[u8]) -> io::Result<bool> {
+    Ok(fs::read(rt, name)?.as_slice() == bytes)
+}
+
 #[test]
 fn a_real_file_answers_as_files_do(rt: HostRuntime) -> Result<(), Fail> {
-    let alloc = rt.alloc();
-    let folder = folder_for(&rt, "files")?;
-    let name = path_in(alloc, folder.as_str(), "a")?;
+    let name = file_for(&rt, "files")?;
     for case in &CASES {
-        if let Some(before) = case.before {
-            fs::write(&rt, name.as_str(), before)?;
-        }
-        let mut files = Folder::new(&rt);
-        let seen = answers(Vec::new(alloc), &mut files, name.as_str(), case.calls)?;
-        assert!(rt; seen.as_slice() == case.answers);
-        assert!(rt; files.faults() == case.faults);
-        assert!(rt; fs::read(&rt, name.as_str())?.as_slice() == case.after);
         fs::remove_file(&rt, name.as_str())?;
+        assert!(rt; is_met(&rt, name.as_str(), case)?);
     }
-    fs::remove_dir(&rt, folder.as_str())?;
+    fs::remove_file(&rt, name.as_str())?;
     Ok(())
 }
 
@@ -178,31 +181,6 @@ fn what_is_no_regular_file_is_a_failure(rt: HostRuntime) -> Result<(), Fail> {
     for name in ["/", "/dev/null", "/dev/null/below", "a\0b"] {
         assert!(rt; answers_to_each(&rt, name)?.as_slice() == b"|x|x|x|x|x".as_slice());
     }
-    Ok(())
-}
-
-#[test]
-fn a_pipe_is_a_failure(rt: HostRuntime) -> Result<(), Fail> {
-    let (reader, _writer) = io::pipe(&rt)?;
-    let number = reader.as_raw_fd().unsigned_abs();
-    let mut name = String::from_str(rt.alloc(), "/proc/self/fd/")?;
-    if number > 9 {
-        name.push(char::from(b'0' + (number / 10 % 10) as u8))?;
-    }
-    name.push(char::from(b'0' + (number % 10) as u8))?;
-    assert!(rt; answers_to_each(&rt, name.as_str())?.as_slice() == b"|x|x|x|x|x".as_slice());
-    Ok(())
-}
-
-#[test]
-fn a_link_is_followed(rt: HostRuntime) -> Result<(), Fail> {
-    let folder = folder_for(&rt, "link")?;
-    let link = path_in(rt.alloc(), folder.as_str(), "b")?;
-    unix::fs::symlink(&rt, "a", link.as_str())?;
-    assert!(rt; answers_to_each(&rt, link.as_str())?.as_slice() == b"|-|x|x|x|.".as_slice());
-    let file = path_in(rt.alloc(), folder.as_str(), "a")?;
-    assert!(rt; fs::read(&rt, file.as_str())?.is_empty());
-    fs::remove_dir_all(&rt, folder.as_str())?;
     Ok(())
 }
 

@@ -1,30 +1,30 @@
 // Reading from a file, and from a reader that fails.
 use crate::Reading;
 use crate::tests::fakes::{FakeReader, Step};
-use crate::tests::{folder_for, path_in};
+use crate::tests::file_for;
 use std::fs;
 use std::fs::File;
+use std::io::Read;
 use std::test::Fail;
 use vm_outside::{Failed, Source};
 
-#[test]
-fn a_file_comes_to_its_end(rt: HostRuntime) -> Result<(), Fail> {
-    let folder = folder_for(&rt, "reading")?;
-    let name = path_in(rt.alloc(), folder.as_str(), "a")?;
-    fs::write(&rt, name.as_str(), "abcde")?;
+// Whether a source over these five bytes gives them and then its end.
+fn gives_all<T: Read + Drop>(file: T) -> bool {
     let mut buf = [0; 3];
-    let mut source = Reading::new(File::open(&rt, name.as_str())?);
-    assert!(rt; source.read(&mut buf) == Ok(3) && buf == *b"abc");
-    assert!(rt; source.read(&mut buf) == Ok(2) && buf == *b"dec");
-    assert!(rt; source.read(&mut buf) == Ok(0));
-    fs::remove_dir_all(&rt, folder.as_str())?;
-    Ok(())
+    let mut source = Reading::new(file);
+    source.read(&mut buf) == Ok(3)
+        && buf == *b"abc"
+        && source.read(&mut buf) == Ok(2)
+        && buf == *b"dec"
+        && source.read(&mut buf) == Ok(0)
 }
 
 #[test]
-fn a_folder_can_not_be_read(rt: HostRuntime) -> Result<(), Fail> {
-    let mut source = Reading::new(File::open(&rt, "/")?);
-    assert!(rt; source.read(&mut [0; 3]) == Err(Failed) && source.faults() == 1);
+fn a_file_comes_to_its_end(rt: HostRuntime) -> Result<(), Fail> {
+    let name = file_for(&rt, "reading")?;
+    fs::write(&rt, name.as_str(), "abcde")?;
+    assert!(rt; gives_all(File::open(&rt, name.as_str())?));
+    fs::remove_file(&rt, name.as_str())?;
     Ok(())
 }
 
@@ -45,16 +45,4 @@ fn a_failure_is_counted_and_a_signal_is_not(rt: HostRuntime) {
         assert!(rt; source.read(&mut buf) == count);
     }
     assert!(rt; buf == *b"cde" && source.faults() == 1);
-}
-
-#[test]
-fn a_read_that_signals_cut_off_is_made_100_times(rt: HostRuntime) {
-    let mut late = [Step::Cut; 100];
-    late[99] = Step::Pass(1);
-    let mut reader = FakeReader::new(&late, b"a");
-    assert!(rt; Reading::new(&mut reader).read(&mut [0; 2]) == Ok(1));
-    assert!(rt; reader.calls == 100);
-    let mut reader = FakeReader::new(&[], b"a");
-    assert!(rt; Reading::new(&mut reader).read(&mut [0; 2]) == Err(Failed));
-    assert!(rt; reader.calls == 100);
 }

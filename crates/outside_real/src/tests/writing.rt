@@ -1,26 +1,33 @@
 // Writing to a file, to a full disk, and to a writer that takes nothing or fails.
 use crate::Writing;
 use crate::tests::fakes::{FakeWriter, Step};
-use crate::tests::{folder_for, path_in};
-use std::fs;
+use crate::tests::file_for;
+use std::alloc::Global;
 use std::fs::{File, OpenOptions};
-use std::io::BufWriter;
+use std::io::{BufWriter, Write};
 use std::test::Fail;
+use std::{fs, io};
 use vm_outside::{Failed, Sink};
+
+// What a writer over a buffer of the file answers.
+fn written<W: Write + Drop>(alloc: Global, file: W) -> io::Result<Result<usize, Failed>> {
+    let mut sink = Writing::new(BufWriter::new(alloc, file)?);
+    Ok(sink.write(b"abc"))
+}
 
 #[test]
 fn what_was_taken_is_out_of_the_buffer(rt: HostRuntime) -> Result<(), Fail> {
-    let alloc = rt.alloc();
-    let folder = folder_for(&rt, "writing")?;
-    let name = path_in(alloc, folder.as_str(), "a")?;
-    let mut sink = Writing::new(BufWriter::new(alloc, File::create(&rt, name.as_str())?)?);
-    assert!(rt; sink.write(b"abc") == Ok(3));
+    let name = file_for(&rt, "writing")?;
+    assert!(rt; written(rt.alloc(), File::create(&rt, name.as_str())?)? == Ok(3));
     assert!(rt; fs::read(&rt, name.as_str())?.as_slice() == b"abc".as_slice());
-    // The device is a disk that is always full.
+    fs::remove_file(&rt, name.as_str())?;
+    Ok(())
+}
+
+#[test]
+fn a_full_disk_takes_nothing(rt: HostRuntime) -> Result<(), Fail> {
     let full = OpenOptions::new().write(true).open(&rt, "/dev/full")?;
-    let mut full = Writing::new(BufWriter::new(alloc, full)?);
-    assert!(rt; full.write(b"abc") == Err(Failed));
-    fs::remove_dir_all(&rt, folder.as_str())?;
+    assert!(rt; written(rt.alloc(), full)? == Err(Failed));
     Ok(())
 }
 
@@ -59,14 +66,4 @@ fn a_failure_is_counted_and_a_signal_is_not(rt: HostRuntime) {
     }
     assert!(rt; sink.faults() == 3);
     assert!(rt; writer.taken.as_slice() == b"abcdef".as_slice());
-}
-
-#[test]
-fn a_write_that_signals_cut_off_is_made_100_times(rt: HostRuntime) {
-    let mut writer = FakeWriter::new(&[], &[], Vec::new(rt.alloc()));
-    assert!(rt; Writing::new(&mut writer).write(b"a") == Err(Failed));
-    assert!(rt; writer.calls == 100 && writer.flushed == 0);
-    let mut writer = FakeWriter::new(&[Step::Pass(1)], &[], Vec::new(rt.alloc()));
-    assert!(rt; Writing::new(&mut writer).write(b"a") == Err(Failed));
-    assert!(rt; writer.calls == 1 && writer.flushed == 100);
 }
