@@ -15,6 +15,7 @@ ghost use Rattle.flat_guest.specs.Steps.{board_after, memory_after};
 ghost use Rattle.vm_world.specs.Refusing.{IsRefused, refusal_of};
 ghost use Rattle.vm_world.specs.Worlds.{IsWorld, MakesEvent, Runs, place_in};
 
+use crate::hart_run::run_hart;
 use crate::memory::{boot_pages, read_pages};
 use crate::step_error::{NoActor, NotRam, StepError, refusal_of};
 use flat_guest::{Layout, place, tree_address};
@@ -126,16 +127,6 @@ impl World {
         }
     }
 
-    // The hart's next event, of which nothing is told.
-    fn advance(&mut self)
-        ensures { (e : Entry) × MakesEvent self.old (record { actor = ActorId.Hart 0; reply = None }) e self.new }
-    {
-        let op = self.hart.want();
-        let place = self.route(&op);
-        let reply = self.answer(HART, place, &op);
-        self.hart.give(reply);
-    }
-
     /// The next event of an actor. `reply` is what a host object answers: it is to be there, and to fit, exactly
     /// where the actor wants an act on one. An error leaves everything as it was.
     ///
@@ -163,12 +154,7 @@ impl World {
     fn run_hart(&mut self, count: u64) -> u64
         ensures { Runs self.old (ActorId.Hart 0) count result self.new }
     {
-        let mut made = 0;
-        while made < count && !self.is_off() {
-            self.advance();
-            made += 1;
-        }
-        made
+        run_hart(&mut self.pages, &mut self.board, &mut self.hart, count)
     }
 
     /// So many events of an actor, or as many as there are before the guest is off. The answer is how many.
