@@ -27,9 +27,9 @@ fn read(pages: &PageSet, at: u64, width: Width) -> HartReply
     }
 }
 
-fn act(pages: &mut PageSet, board: &mut Board, actor: ActorId, op: &Op) -> Reply
-    requires small { length pages.old ≤ 2 ^ 28 }
-    requires own { is_hart_op op.now ≡ true }
+/// What an act is answered by its place, or where it has none.
+pub fn act(pages: &mut PageSet, board: &mut Board, actor: ActorId, op: &Op) -> Reply
+    requires { length pages.old ≤ 2 ^ 28 }
     ensures { IsAnswered pages.old board.old actor op.now result pages.new board.new }
 {
     let there = Layout {
