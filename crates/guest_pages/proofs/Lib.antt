@@ -7,3 +7,4 @@ pub mod Sets
 pub mod Slotted
 pub mod Staying
 pub mod Touching
+pub mod Serving

@@ -2,3 +2,4 @@ pub mod Fitting
 pub mod Flat
 pub mod Marks
 pub mod Pages
+pub mod Words

@@ -10,6 +10,7 @@ mod page;
 mod page_set;
 #[cfg(test)]
 mod tests;
+mod word_bytes;
 
 pub use law::marks_follow_acts;
 pub use page::Page;

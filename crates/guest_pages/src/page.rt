@@ -4,13 +4,17 @@ ghost use Rattle.std.specs.List.{count_by};
 ghost use Rattle.vm_types.specs.declared.op.Op.{Op};
 ghost use Rattle.guest_memory.specs.Reserved.{slots_after};
 ghost use Rattle.guest_memory.specs.Words.{width_of};
+ghost use Rattle.le_fields.specs.Fields.{bytes_of};
+ghost use Rattle.rv_rows.specs.Loads.{width_bytes};
 ghost use Rattle.guest_pages.specs.Pages.{PageValue, filled, is_within, new_page, page_holding, page_read, page_reserving, page_start, page_touch, page_word, page_written, patched, unmarked};
 
+use crate::word_bytes::{put_word, word_in};
 use amo_table::amo_value;
 use guest_memory::{
     HART_LIMIT, PAGE_SIZE, RAM_START, end_written, granule_of, held_by, hold, is_granule, put,
     width_of, word_at,
 };
+use rv_rows::Width;
 use std::alloc::{AllocError, Global};
 use std::marker::Model;
 use vm_types::{ActorId, AmoKind, GuestAddr, Op, Piece, Place, Reply};
@@ -136,23 +140,19 @@ fn count_holders(reserved: &[Option<u16>]) -> usize
     reserved.iter().filter(|held| held.is_some()).count()
 }
 
-// Ends what the write of another reaches, and answers how many harts have something reserved then.
+// Ends what the write of another reaches, and answers how many harts have something reserved then. It is rare.
+#[inline(never)]
 fn end_reserved(
     reserved: &mut [Option<u16>],
-    holders: usize,
     number: u32,
     writer: ActorId,
     at: GuestAddr,
     len: usize,
 ) -> usize
     requires slots { length reserved.old ≡ 32 }
-    requires holders { holders ≡ count_by is_some reserved.old }
     ensures ended { reserved.new ≡ slots_after writer at len (32 * number) reserved.old }
     ensures count { result ≡ count_by is_some reserved.new }
 {
-    if holders == 0 {
-        return 0;
-    }
     end_written(reserved, HART_LIMIT * number as usize, writer, at, len);
     count_holders(reserved)
 }
@@ -192,23 +192,52 @@ impl Page {
         word_at(bytes, (at - page_start(self.number)) as usize, wide)
     }
 
+    // What a write of so many bytes does beside them: it ends what other harts have reserved there, and marks the page.
+    #[inline]
+    fn begin_write(&mut self, writer: ActorId, at: GuestAddr, len: usize)
+        ensures { self.new ≡ record self.old {
+          reserved = slots_after writer at len (32 * self.old.number) self.old.reserved;
+          marked = true;
+        } }
+    {
+        self.marked = true;
+        if self.holders == 0 {
+            return;
+        }
+        self.holders = end_reserved(&mut self.reserved, self.number, writer, at, len);
+    }
+
     // Writes these bytes, which are the page's, and marks it.
     fn write(&mut self, writer: ActorId, at: GuestAddr, piece: &[u8])
         requires { is_within self.old.number 4096 at (length piece.now) ≡ true }
         ensures { self.new ≡ page_written self.old writer at piece.now }
     {
+        self.begin_write(writer, at, piece.len());
         let offset = (at - page_start(self.number)) as usize;
-        self.holders = end_reserved(
-            &mut self.reserved,
-            self.holders,
-            self.number,
-            writer,
-            at,
-            piece.len(),
-        );
         let bytes: &mut [u8; 4096] = &mut self.bytes;
         put(bytes, offset, piece);
-        self.marked = true;
+    }
+
+    /// The word of this width at an address, the lowest byte first.
+    #[inline]
+    pub fn read_word(&self, at: GuestAddr, width: Width) -> u64
+        requires { is_within self.now.number 4096 at (width_bytes width) ≡ true }
+        ensures { bytes_of (width_bytes width) result ≡ page_read self.now at (width_bytes width) }
+    {
+        let bytes: &[u8; 4096] = &self.bytes;
+        word_in(bytes, (at - page_start(self.number)) as usize, width)
+    }
+
+    /// Writes the low bytes of a word, the lowest first, and marks the page.
+    #[inline]
+    pub fn write_word(&mut self, writer: ActorId, at: GuestAddr, word: u64, width: Width)
+        requires { is_within self.old.number 4096 at (width_bytes width) ≡ true }
+        ensures { self.new ≡ page_written self.old writer at (bytes_of (width_bytes width) word) }
+    {
+        self.begin_write(writer, at, width.bytes());
+        let offset = (at - page_start(self.number)) as usize;
+        let bytes: &mut [u8; 4096] = &mut self.bytes;
+        put_word(bytes, offset, word, width);
     }
 
     fn reserve(&mut self, actor: ActorId, held: Option<u16>)

@@ -1,15 +1,17 @@
 // All pages of guest memory.
-ghost use Rattle.std.specs.Prelude.{◌≡◌, ◌≤◌, ◌<◌, ◌+◌, ◌*◌, ◌%◌, ◌^◌, ℕ, length, take, drop, slice_set, slice_index_or, IfOk};
+ghost use Rattle.std.specs.Prelude.{◌≡◌, ◌≤◌, ◌<◌, ◌+◌, ◌*◌, ◌%◌, ◌^◌, ℕ, length, take, drop, slice_set, slice_index_or, IfOk, MatchOption};
 ghost use Rattle.vm_types.specs.declared.ids.PlaceId.{PlaceId};
 ghost use Rattle.guest_memory.specs.Memory.{touch};
-ghost use Rattle.guest_memory.specs.Route.{access_place};
+ghost use Rattle.guest_memory.specs.Route.{access_place, page_of};
 ghost use Rattle.guest_pages.specs.Pages.{PageValue, cleared, empty_memory, filled, flat_of, loaded, marks_of, new_pages, page_holding, page_touch, unmarked};
+ghost use Rattle.guest_pages.specs.Words.{pages_at, place_among, read_of, read_reply, served, write_of, write_reply};
 
 use crate::page::Page;
-use guest_memory::PAGE_SIZE;
+use guest_memory::{PAGE_SIZE, RAM_START};
+use rv_rows::Width;
 use std::alloc::{AllocError, Global};
 use std::marker::Model;
-use vm_types::{ActorId, Op, Place, Reply};
+use vm_types::{ActorId, GuestAddr, Op, Place, Reply};
 
 /// The pages in order, which contracts see as the list of their values, and by `flat_of` as the one memory.
 #[derive(Drop)]
@@ -71,6 +73,54 @@ impl PageSet {
         ensures len { length self.new ≡ length self.old }
     {
         self.pages[number].act(actor, op)
+    }
+
+    // The number of the page that has these bytes, or `None` where none has all of them.
+    #[inline]
+    fn find(&self, at: GuestAddr, len: usize) -> Option<usize>
+        requires some { 1 ≤ len }
+        requires few { len ≤ 4096 }
+        ensures { MatchOption result
+            (page_of (length (flat_of self.now).bytes) at len ≡ PlaceId.Out)
+            (λ number. page_of (length (flat_of self.now).bytes) at len ≡ PlaceId.Page number) }
+    {
+        if at < RAM_START {
+            return None;
+        }
+        let offset = at - RAM_START;
+        let number = offset / 4096;
+        if number < self.len() as u64 && offset % 4096 + len as u64 <= 4096 {
+            Some(number as usize)
+        } else {
+            None
+        }
+    }
+
+    /// The word of this width at an address, the lowest byte first, or `None` where no page has all of its bytes.
+    #[inline]
+    pub fn read_word(&self, at: GuestAddr, width: Width) -> Option<u64>
+        ensures { (actor : ActorId) → read_reply width result ≡ (served self.now actor (read_of width at)).0 }
+    {
+        let Some(number) = self.find(at, width.bytes()) else {
+            return None;
+        };
+        Some(self.pages[number].read_word(at, width))
+    }
+
+    /// Writes the low bytes of a word, the lowest first, where a page has all of them, and answers whether one has.
+    #[inline]
+    pub fn write_word(&mut self, writer: ActorId, at: GuestAddr, word: u64, width: Width) -> bool
+        ensures reply { write_reply result ≡ (served self.old writer (write_of width at word)).0 }
+        ensures memory { flat_of self.new ≡ (served self.old writer (write_of width at word)).1 }
+        ensures pages { (d : PageValue) → self.new ≡
+            pages_at (place_among self.old (write_of width at word)) d self.old writer (write_of width at word) }
+        ensures count { length self.new ≡ length self.old }
+    {
+        let Some(number) = self.find(at, width.bytes()) else {
+            return false;
+        };
+        self.pages[number].write_word(writer, at, word, width);
+        true
     }
 
     /// Takes every mark away.

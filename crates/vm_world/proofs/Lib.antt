@@ -1,3 +1,4 @@
 mod Booting
 mod Copying
 mod Events
+pub mod Running

@@ -5,6 +5,7 @@
 //! or as many as there are before the guest is off. The one actor so far is hart 0.
 #![tactic(auto)]
 
+mod hart_run;
 mod memory;
 mod step_error;
 #[cfg(test)]

@@ -15,6 +15,7 @@ ghost use Rattle.flat_guest.specs.Steps.{board_after, memory_after};
 ghost use Rattle.vm_world.specs.Refusing.{IsRefused, refusal_of};
 ghost use Rattle.vm_world.specs.Worlds.{IsWorld, MakesEvent, Runs, place_in};
 
+use crate::hart_run::{act, run_hart};
 use crate::memory::{boot_pages, read_pages};
 use crate::step_error::{NoActor, NotRam, StepError, refusal_of};
 use flat_guest::{Layout, place, tree_address};
@@ -90,31 +91,13 @@ impl World {
         }
     }
 
-    // What an act is answered by its place, or where it has none.
-    fn answer(&mut self, actor: ActorId, place: PlaceId, op: &Op) -> Reply
-        requires { place ≡ place_in self.old op.now }
-        ensures reply { result ≡ reply_at place (flat_of self.old.pages) self.old.board actor op.now }
-        ensures memory { flat_of self.new.pages ≡ memory_after place (flat_of self.old.pages) actor op.now }
-        ensures board { self.new.board ≡ board_after place self.old.board actor op.now }
-        ensures hart { self.new.hart ≡ self.old.hart }
-    {
-        match place {
-            PlaceId::Page(number) => self.pages.act(number as usize, actor, op),
-            PlaceId::Board => self.board.act(actor, op),
-            PlaceId::Port(_) | PlaceId::Out => match op {
-                Op::Idle => Reply::Done,
-                _ => Reply::AccessFault,
-            },
-        }
-    }
-
     // The hart's next event, which wants this.
     fn event(&mut self, op: Op) -> Entry
         requires { op ≡ hart_wants self.old.hart }
         ensures { MakesEvent self.old (record { actor = ActorId.Hart 0; reply = None }) result self.new }
     {
         let place = self.route(&op);
-        let reply = self.answer(HART, place, &op);
+        let reply = act(&mut self.pages, &mut self.board, HART, &op);
         self.hart.give(reply.again());
         Entry {
             stamp: 0,
@@ -124,16 +107,6 @@ impl World {
             op,
             reply,
         }
-    }
-
-    // The hart's next event, of which nothing is told.
-    fn advance(&mut self)
-        ensures { (e : Entry) × MakesEvent self.old (record { actor = ActorId.Hart 0; reply = None }) e self.new }
-    {
-        let op = self.hart.want();
-        let place = self.route(&op);
-        let reply = self.answer(HART, place, &op);
-        self.hart.give(reply);
     }
 
     /// The next event of an actor. `reply` is what a host object answers: it is to be there, and to fit, exactly
@@ -163,12 +136,7 @@ impl World {
     fn run_hart(&mut self, count: u64) -> u64
         ensures { Runs self.old (ActorId.Hart 0) count result self.new }
     {
-        let mut made = 0;
-        while made < count && !self.is_off() {
-            self.advance();
-            made += 1;
-        }
-        made
+        run_hart(&mut self.pages, &mut self.board, &mut self.hart, count)
     }
 
     /// So many events of an actor, or as many as there are before the guest is off. The answer is how many.

@@ -1,0 +1,109 @@
+// Events of one hart, one after another. What is frequent goes by the hart's small ops and a word of a page; a whole
+// `Op` and `Reply` are made for the rest alone.
+ghost use Rattle.std.specs.Prelude.{◌≡◌, ◌≤◌, ◌^◌, true, length};
+ghost use Rattle.vm_types.specs.declared.ids.ActorId.{ActorId};
+ghost use Rattle.guest_pages.specs.Words.{read_of, served, write_of};
+ghost use Rattle.hart_trace.specs.Asks.{is_hart_op};
+ghost use Rattle.rv_doing.specs.HartOps.{op_of, reply_of};
+ghost use Rattle.vm_world.specs.Answering.{Advances, IsAnswered};
+ghost use Rattle.vm_world.specs.Worlds.{Runs};
+
+use flat_guest::{Layout, place};
+use guest_memory::PAGE_SIZE;
+use guest_pages::PageSet;
+use hart_rv64::Hart;
+use line_board::Board;
+use rv_doing::{HartOp, HartReply};
+use rv_rows::Width;
+use vm_types::{ActorId, Op, Place, PlaceId, Reply};
+
+#[inline]
+fn read(pages: &PageSet, at: u64, width: Width) -> HartReply
+    ensures { (actor : ActorId) → reply_of result ≡ (served pages.now actor (read_of width at)).0 }
+{
+    match pages.read_word(at, width) {
+        Some(word) => HartReply::Bytes { word, width },
+        None => HartReply::Fault,
+    }
+}
+
+/// What an act is answered by its place, or where it has none.
+pub fn act(pages: &mut PageSet, board: &mut Board, actor: ActorId, op: &Op) -> Reply
+    requires { length pages.old ≤ 2 ^ 28 }
+    ensures { IsAnswered pages.old board.old actor op.now result pages.new board.new }
+{
+    let there = Layout {
+        memory_size: PAGE_SIZE * pages.len(),
+        ports: 0,
+    };
+    match place(there, op) {
+        PlaceId::Page(number) => pages.act(number as usize, actor, op),
+        PlaceId::Board => board.act(actor, op),
+        PlaceId::Port(_) | PlaceId::Out => match op {
+            Op::Idle => Reply::Done,
+            _ => Reply::AccessFault,
+        },
+    }
+}
+
+// An act that is rare, by its whole op and reply.
+#[inline(never)]
+fn answer_rare(pages: &mut PageSet, board: &mut Board, actor: ActorId, op: HartOp) -> HartReply
+    requires small { length pages.old ≤ 2 ^ 28 }
+    requires own { is_hart_op (op_of op) ≡ true }
+    ensures { IsAnswered pages.old board.old actor (op_of op) (reply_of result) pages.new board.new }
+{
+    let reply = act(pages, board, actor, &op.op());
+    match HartReply::of(&reply) {
+        Some(small) => small,
+        None => HartReply::Fault,
+    }
+}
+
+#[inline]
+fn answer(pages: &mut PageSet, board: &mut Board, actor: ActorId, op: HartOp) -> HartReply
+    requires small { length pages.old ≤ 2 ^ 28 }
+    requires own { is_hart_op (op_of op) ≡ true }
+    ensures { IsAnswered pages.old board.old actor (op_of op) (reply_of result) pages.new board.new }
+{
+    match op {
+        HartOp::Fetch { pc } => read(pages, pc, Width::Word),
+        HartOp::Read { at, width } => read(pages, at, width),
+        HartOp::Write { at, word, width } => {
+            if pages.write_word(actor, at, word, width) {
+                HartReply::Done
+            } else {
+                HartReply::Fault
+            }
+        }
+        HartOp::Idle => HartReply::Done,
+        _ => answer_rare(pages, board, actor, op),
+    }
+}
+
+/// The next event of the hart of this number.
+#[inline]
+pub fn advance(pages: &mut PageSet, board: &mut Board, hart: &mut Hart, number: u8)
+    requires small { length pages.old ≤ 2 ^ 28 }
+    ensures event { Advances pages.old board.old hart.old (ActorId.Hart number) pages.new board.new hart.new }
+    ensures count { length pages.new ≡ length pages.old }
+{
+    let reply = answer(pages, board, ActorId::Hart(number), hart.asks());
+    hart.takes(reply);
+}
+
+/// Events of the one hart, and how many there were.
+#[inline(never)]
+pub fn run_hart(pages: &mut PageSet, board: &mut Board, hart: &mut Hart, count: u64) -> u64
+    requires small { length pages.old ≤ 2 ^ 28 }
+    ensures runs { Runs (record { pages = pages.old; board = board.old; hart = hart.old }) (ActorId.Hart 0) count result
+        (record { pages = pages.new; board = board.new; hart = hart.new }) }
+    ensures count { length pages.new ≡ length pages.old }
+{
+    let mut made = 0;
+    while made < count && !board.is_off() {
+        advance(pages, board, hart, 0);
+        made += 1;
+    }
+    made
+}
