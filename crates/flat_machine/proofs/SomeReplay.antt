@@ -33,10 +33,11 @@ use Rattle.flat_guest.specs.Guest.{Guest, is_actor}
 use Rattle.flat_guest.specs.Sound.{IsSound}
 use Rattle.flat_guest.specs.Steps.{Makes}
 use Rattle.flat_guest.proofs.Soundness.{actor_steps, missing, sound_next, sound_start}
+use Rattle.gate_file.specs.Runs.{save_calls}
 use Rattle.flat_machine.specs.Outcome.{AreAnswered, Outcome}
 use Rattle.flat_machine.specs.Outcome.Outcome.{Answered}
 use Rattle.flat_machine.specs.Machine.{Machine, console_of, drained, drained_guest, is_off, new_machine, running, running_by}
-use Rattle.flat_machine.specs.Items.{file_calls, ItemStep, MemoryLine, Misfits, Moves, RegisterLine, RepliesLine, Shows, ShowsFrom, StepsLine, Talks}
+use Rattle.flat_machine.specs.Items.{ItemStep, MemoryLine, Misfits, Moves, RegisterLine, RepliesLine, Shows, ShowsFrom, StepsLine, Talks}
 use Rattle.flat_machine.specs.Replay.{IsEnd, IsReplay, closed, closing, judged_script}
 use Rattle.flat_machine.specs.Requests.{Leaves, LeavesBy, RequestStep, allowed, answer_by, configured, image_of, started_from}
 use Rattle.flat_machine.specs.Run.{Act, AllAnswered, OnBefore, Run, lines_done}
@@ -198,7 +199,7 @@ some_item (item.Api method path body) m sound =
     record { outcomes = said.outcomes; text = said.text; next = said.next; step = said.talk; good = said.good; sound = said.sound }
 some_item item.Nothing m sound = quietly item.Nothing m [] m (refl, (refl, refl)) sound
 some_item (item.File name content) m sound =
-    quietly (item.File name content) m [] (record m { saved = insert m.saved name content; calls = m.calls ++ file_calls name content }) (refl, (refl, refl)) sound
+    quietly (item.File name content) m [] (record m { saved = insert m.saved name content; calls = m.calls ++ save_calls name content }) (refl, (refl, refl)) sound
 some_item (item.Lineage lineage) m sound =
     quietly (item.Lineage lineage) m [] (record m { ids = record m.ids { lineage = lineage } }) (refl, (refl, refl)) sound
 some_item item.Connect m sound =

@@ -21,8 +21,7 @@ use Rattle.hart_trace.specs.States.{Hart, LeadsTo}
 use Rattle.hart_trace.specs.Shown.{register_of}
 use Rattle.flat_guest.specs.Guest.{Guest, is_actor}
 use Rattle.flat_guest.specs.Steps.{StepsBy}
-use Rattle.vm_outside.specs.Calls.{FileCall}
-use Rattle.vm_outside.specs.Calls.FileCall.{Making, Made, Writing, Synced}
+use Rattle.gate_file.specs.Runs.{save_calls}
 use Rattle.flat_machine.specs.Outcome.{Outcome}
 use Rattle.flat_machine.specs.Machine.{Machine, console_of, drained, running}
 use Rattle.flat_machine.specs.Requests.{RequestStep}
@@ -98,17 +97,12 @@ MemoryLine (Some g) at len m text n =
 
 -- ---- an item
 
--- the calls of a file line: the file is made, written whole and synced
-abbrev pub file_calls : List ℕ → List ℕ → List FileCall
-file_calls name content =
-    Making name ∷ Made name ∷ Writing name 0 content ∷ Synced name (Some content) ∷ []
-
--- an item that brings no request
+-- an item that brings no request; a file line's file is made, written whole and synced
 abbrev pub QuietStep : Item → Machine → List ℕ → Machine → Type 0
 QuietStep item.Nothing m text n = (text ≡ []) × (n ≡ m)
 QuietStep (item.File name content) m text n =
     (text ≡ [])
-    × (n ≡ record m { saved = insert m.saved name content; calls = m.calls ++ file_calls name content })
+    × (n ≡ record m { saved = insert m.saved name content; calls = m.calls ++ save_calls name content })
 QuietStep (item.Lineage lineage) m text n =
     (text ≡ []) × (n ≡ record m { ids = record m.ids { lineage = lineage } })
 QuietStep item.Connect m text n = (text ≡ []) × (n ≡ record m { connection = new_connection })
