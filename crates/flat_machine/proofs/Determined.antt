@@ -1,5 +1,5 @@
 -- Requests, items and runs are determined.
-use Rattle.std.proofs.Common.{◌≡◌, Bool, true, false, MatchBool, refl, sym, ap, subst, ◌∙◌, List, [], ◌∷◌, ◌++◌, length, Option, Some, None, ℕ, slice_get, arith}
+use Rattle.std.proofs.Common.{◌≡◌, Bool, true, false, MatchBool, refl, sym, ap, subst, ◌∙◌, List, [], ◌∷◌, ◌++◌, length, Option, Some, None, Result, Ok, Err, ℕ, slice_get, arith}
 use Rattle.vm_types.specs.declared.ids.ActorId.{ActorId}
 use Rattle.vm_types.specs.declared.ids.ActorId.TheVariants.{Hart as HartId}
 use Rattle.vm_types.specs.declared.entry.Step.{Step}
@@ -16,11 +16,15 @@ use Rattle.script_text.specs.declared.item.Item.TheVariants as item
 use Rattle.script_text.specs.Output.{register_line}
 use Rattle.flat_guest.specs.Guest.{Guest, is_actor}
 use Rattle.flat_guest.proofs.Determined.{several_one}
-use Rattle.flat_machine.specs.Outcome.{AreAnswered, Outcome}
+use Rattle.flat_machine.specs.Outcome.{AreAnswered, Left, Outcome}
 use Rattle.flat_machine.specs.Outcome.Outcome.{Answered, Failed, NoMemory}
-use Rattle.flat_machine.specs.Machine.{Machine}
+use Rattle.flat_machine.specs.Machine.{Machine, running}
 use Rattle.flat_machine.specs.Items.{ItemStep, MemoryLine, Moves, RegisterLine, RepliesLine, ShowsFrom, StepsLine, Talks}
-use Rattle.flat_machine.specs.Requests.{RequestStep}
+use Rattle.flat_machine.specs.Requests.{Fails, Leaves, LeavesBy, RequestStep, allowed}
+use Rattle.vm_config.specs.declared.change.Change.{Change}
+use Rattle.vm_config.specs.declared.change.Change.TheVariants as change
+use Rattle.api_calls.specs.declared.call.VmState.TheVariants.{Paused, Resumed}
+use Rattle.refusals.specs.declared.refusal.Refusal.{Refusal}
 use Rattle.flat_machine.specs.Run.{Act, Run}
 
 -- one text and one machine
@@ -33,9 +37,37 @@ both x y = (x.0 ∙ sym y.0, x.1 ∙ sym y.1)
 
 -- ---- requests
 
+leaves_one : (it : Change) (m n k : Machine) → Leaves m it n → Leaves m it k → n ≡ k
+leaves_one (change.BootSource source) m n k x y = x ∙ sym y
+leaves_one (change.MachineConfig machine) m n k x y = x ∙ sym y
+leaves_one change.Start m n k x y = x ∙ sym y
+leaves_one (change.State Paused) m n k x y = x ∙ sym y
+leaves_one (change.State Resumed) m n k x y = x ∙ sym y
+leaves_one (change.CreateSnapshot files) m n k x y = x ∙ sym y
+leaves_one (change.LoadSnapshot load) m n k x y = x ∙ sym y
+leaves_one (change.Tell part) m n k x y = x ∙ sym y
+
+result_one : (r : Result Change Refusal) (m n k : Machine) → LeavesBy m r n → LeavesBy m r k → n ≡ k
+result_one (Ok it) m n k x y = leaves_one it m n k x y
+result_one (Err why) m n k x y = x ∙ sym y
+
+same_change : (a b : Change) → ◌≡◌ {A = Result Change Refusal} (Ok a) (Ok b) → a ≡ b
+same_change a b is = cc
+
+fails_one : (it : Change) (m : Machine) (left : Left) (n k : Machine) → Fails m it left n → Fails m it left k → n ≡ k
+fails_one (change.BootSource source) m left n k x y = absurd x
+fails_one (change.MachineConfig machine) m left n k x y = absurd x
+fails_one change.Start m left n k x y = x.1 ∙ sym y.1
+fails_one (change.State state) m left n k x y = absurd x
+fails_one (change.CreateSnapshot files) m left n k x y = absurd x
+fails_one (change.LoadSnapshot load) m left n k x y = absurd x
+fails_one (change.Tell part) m left n k x y = absurd x
+
 request_one : IsDetermined RequestStep
-request_one Answered given m t u n k x y = both x y
-request_one (Failed left) given m t u n k x y = (x.2 ∙ sym y.2, x.3 ∙ sym y.3)
+request_one Answered given m t u n k x y = (x.0 ∙ sym y.0, result_one (allowed m given) m n k x.1 y.1)
+request_one (Failed left) given m t u n k (it, asks, fails, is) (other, asked, failed, be) =
+    let same = same_change other it (sym asked ∙ asks) in
+    (is ∙ sym be, fails_one it m left n k fails (subst (λ (c : Change). Fails m c left k) same failed))
 request_one NoMemory given m t u n k x y = both x y
 
 talks_one : (bytes : List ℕ) (outcomes : List Outcome) (m n k : Machine) (t u : List ℕ) → Talks bytes outcomes m t n
@@ -117,8 +149,8 @@ item_one item.Nothing outcomes m n k t u x y = both x.1 y.1
 item_one (item.File name content) outcomes m n k t u x y = both x.1 y.1
 item_one (item.Lineage lineage) outcomes m n k t u x y = both x.1 y.1
 item_one item.Connect outcomes m n k t u x y = both x.1 y.1
-item_one (item.Step actor count) outcomes m n k t u x y = steps_one m.guest actor count m n k t u x.1 y.1
-item_one (item.Reply actor reply) outcomes m n k t u x y = replies_one m.guest actor m n k t u x.1 y.1
+item_one (item.Step actor count) outcomes m n k t u x y = steps_one (running m) actor count m n k t u x.1 y.1
+item_one (item.Reply actor reply) outcomes m n k t u x y = replies_one (running m) actor m n k t u x.1 y.1
 item_one item.Console outcomes m n k t u x y = both x.1 y.1
 item_one (item.Register hart number) outcomes m n k t u x y = register_one m.guest hart number m n k t u x.1 y.1
 item_one (item.Memory at len) outcomes m n k t u x y = memory_one m.guest at len m n k t u x.1 y.1

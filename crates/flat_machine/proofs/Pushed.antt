@@ -2,11 +2,10 @@
 use Rattle.std.proofs.Common.{◌≡◌, ℕ, ◌+◌, false, refl, sym, ap, subst, ◌∙◌, List, [], ◌∷◌, ◌++◌, length, Option, Some, arith, append_assoc}
 use Rattle.std.proofs.lemmas.List.{append-nil}
 use Rattle.script_text.specs.declared.item.Item.{Item}
-use Rattle.vm_outside.specs.Calls.{FileCall}
 use Rattle.flat_machine.specs.Outcome.{AreAnswered, failed_in}
 use Rattle.flat_machine.specs.Machine.{Machine, is_off}
-use Rattle.flat_machine.specs.Items.{ItemStep, calls_of}
-use Rattle.flat_machine.specs.Run.{Act, AllAnswered, OnBefore, Run, calls_in, failures, lines_done}
+use Rattle.flat_machine.specs.Items.{ItemStep}
+use Rattle.flat_machine.specs.Run.{Act, AllAnswered, OnBefore, Run, failures, lines_done}
 use Rattle.flat_machine.proofs.Determined.{item_one}
 
 pub run_push : (acts : List Act) (act : Act) (m n k : Machine) (text out : List ℕ) → Run acts m text n → ItemStep act.item act.outcomes n out k → Run (acts ++ act ∷ []) m (text ++ out) k
@@ -50,7 +49,3 @@ failures_push (a ∷ acts) act = omega (arith, failures_push acts act)
 pub answered_push : (acts : List Act) (act : Act) → AllAnswered (acts ++ act ∷ []) → AllAnswered acts × AreAnswered act.outcomes
 answered_push [] act good = (tt, good.0)
 answered_push (a ∷ acts) act good = let rest = answered_push acts act good.1 in ((good.0, rest.0), rest.1)
-
-pub calls_push : (acts : List Act) (act : Act) → calls_in (acts ++ act ∷ []) ≡ calls_in acts ++ calls_of act.item
-calls_push [] act = append-nil (calls_of act.item)
-calls_push (a ∷ acts) act = ap (λ (l : List FileCall). calls_of a.item ++ l) (calls_push acts act) ∙ sym (append_assoc (calls_of a.item) (calls_in acts) (calls_of act.item))

@@ -21,6 +21,8 @@ use Rattle.http_stream.proofs.ConversationLemmas.{each, some_conversation}
 use Rattle.refusals.specs.declared.refusal.Refusal.{Refusal}
 use Rattle.vm_config.specs.declared.change.Change.{Change}
 use Rattle.vm_config.specs.declared.change.Change.TheVariants as change
+use Rattle.api_calls.specs.declared.call.VmState.TheVariants.{Paused, Resumed}
+use Rattle.vm_outside.specs.Calls.{FileCall}
 use Rattle.script_text.specs.declared.item.Item.{Item}
 use Rattle.script_text.specs.declared.item.Item.TheVariants as item
 use Rattle.script_text.specs.declared.output.Misfit.{Misfit}
@@ -31,12 +33,13 @@ use Rattle.flat_guest.specs.Guest.{Guest, is_actor}
 use Rattle.flat_guest.specs.Sound.{IsSound}
 use Rattle.flat_guest.specs.Steps.{Makes}
 use Rattle.flat_guest.proofs.Soundness.{actor_steps, missing, sound_next, sound_start}
+use Rattle.gate_file.specs.Runs.{save_calls}
 use Rattle.flat_machine.specs.Outcome.{AreAnswered, Outcome}
 use Rattle.flat_machine.specs.Outcome.Outcome.{Answered}
-use Rattle.flat_machine.specs.Machine.{Machine, console_of, drained, drained_guest, is_off, new_machine}
+use Rattle.flat_machine.specs.Machine.{Machine, console_of, drained, drained_guest, is_off, new_machine, running, running_by}
 use Rattle.flat_machine.specs.Items.{ItemStep, MemoryLine, Misfits, Moves, RegisterLine, RepliesLine, Shows, ShowsFrom, StepsLine, Talks}
 use Rattle.flat_machine.specs.Replay.{IsEnd, IsReplay, closed, closing, judged_script}
-use Rattle.flat_machine.specs.Requests.{RequestStep, after_by, allowed, answer_by, guest_by, guest_from, image_of}
+use Rattle.flat_machine.specs.Requests.{Leaves, LeavesBy, RequestStep, allowed, answer_by, configured, image_of, started_from}
 use Rattle.flat_machine.specs.Run.{Act, AllAnswered, OnBefore, Run, lines_done}
 use Rattle.flat_machine.proofs.Determined.{item_one}
 
@@ -55,22 +58,29 @@ made_sound (e ∷ es) g h actor made sound =
     let event : Event = record { actor = actor; reply = None } in
     made_sound es made.1 h actor made.3 (sound_next g event e made.1 sound made.2)
 
-from_sound : (mib : ℕ) (image : Option (List ℕ)) (guest : Option Guest) → SoundBy guest → SoundBy (guest_from mib image guest)
-from_sound mib (Some image) guest sound = sound_start mib image
-from_sound mib None guest sound = sound
+from_sound : (image : Option (List ℕ)) (m : Machine) → Sound m → Sound (started_from image m)
+from_sound (Some image) m sound = sound_start m.config.machine.mem_size_mib image
+from_sound None m sound = sound
 
-change_sound : (it : Change) (m : Machine) → Sound m → SoundBy (guest_by m it)
-change_sound change.Start m sound = from_sound m.config.machine.mem_size_mib (image_of m) m.guest sound
-change_sound (change.BootSource source) m sound = sound
-change_sound (change.MachineConfig machine) m sound = sound
-change_sound (change.State state) m sound = sound
-change_sound (change.CreateSnapshot files) m sound = sound
-change_sound (change.LoadSnapshot load) m sound = sound
-change_sound (change.Tell part) m sound = sound
+-- what an allowed change leaves
+some_change : (it : Change) (m : Machine) → Sound m → (n : Machine) × Leaves m it n × Sound n
+some_change (change.BootSource source) m sound = (configured m (change.BootSource source), refl, sound)
+some_change (change.MachineConfig machine) m sound = (configured m (change.MachineConfig machine), refl, sound)
+some_change change.Start m sound =
+    (configured (started_from (image_of m) m) change.Start, refl, from_sound (image_of m) m sound)
+some_change (change.State Paused) m sound = (record m { paused = true }, refl, sound)
+some_change (change.State Resumed) m sound = (record m { paused = false }, refl, sound)
+some_change (change.CreateSnapshot files) m sound = (m, refl, sound)
+some_change (change.LoadSnapshot load) m sound = (configured m (change.LoadSnapshot load), refl, sound)
+some_change (change.Tell part) m sound = (m, refl, sound)
 
-result_sound : (made : Result Change Refusal) (m : Machine) → Sound m → Sound (after_by m made)
-result_sound (Ok it) m sound = change_sound it m sound
-result_sound (Err why) m sound = sound
+some_result : (made : Result Change Refusal) (m : Machine) → Sound m → (n : Machine) × LeavesBy m made n × Sound n
+some_result (Ok it) m sound = some_change it m sound
+some_result (Err why) m sound = (m, refl, sound)
+
+running_sound : (guest : Option Guest) (paused : Bool) → SoundBy guest → SoundBy (running_by guest paused)
+running_sound guest true sound = tt
+running_sound guest false sound = sound
 
 drained_sound : (guest : Option Guest) → SoundBy guest → SoundBy (drained_guest guest)
 drained_sound None sound = sound
@@ -80,12 +90,9 @@ drained_sound (Some g) sound = sound
 
 some_request : (given : Next) (m : Machine) → Sound m
     → (text : List ℕ) × (n : Machine) × RequestStep Answered given m text n × Sound n
-some_request given m sound = (
-  reply_line (answer_by m (allowed m given)),
-  after_by m (allowed m given),
-  (refl, refl),
-  result_sound (allowed m given) m sound,
-)
+some_request given m sound =
+    let left = some_result (allowed m given) m sound in
+    (reply_line (answer_by m (allowed m given)), left.0, (refl, left.1), left.2)
 
 each_answered : (count : ℕ) → AreAnswered (each count Answered)
 each_answered zero = tt
@@ -192,16 +199,16 @@ some_item (item.Api method path body) m sound =
     record { outcomes = said.outcomes; text = said.text; next = said.next; step = said.talk; good = said.good; sound = said.sound }
 some_item item.Nothing m sound = quietly item.Nothing m [] m (refl, (refl, refl)) sound
 some_item (item.File name content) m sound =
-    quietly (item.File name content) m [] (record m { saved = insert m.saved name content }) (refl, (refl, refl)) sound
+    quietly (item.File name content) m [] (record m { saved = insert m.saved name content; calls = m.calls ++ save_calls name content }) (refl, (refl, refl)) sound
 some_item (item.Lineage lineage) m sound =
     quietly (item.Lineage lineage) m [] (record m { ids = record m.ids { lineage = lineage } }) (refl, (refl, refl)) sound
 some_item item.Connect m sound =
     quietly item.Connect m [] (record m { connection = new_connection }) (refl, (refl, refl)) sound
 some_item (item.Step actor count) m sound =
-    let line = some_steps m.guest actor count m sound sound in
+    let line = some_steps (running m) actor count m sound (running_sound m.guest m.paused sound) in
     quietly (item.Step actor count) m line.0 line.1 (refl, line.2) line.3
 some_item (item.Reply actor reply) m sound =
-    let line = some_reply m.guest actor m sound in
+    let line = some_reply (running m) actor m sound in
     quietly (item.Reply actor reply) m line.0 line.1 (refl, line.2) line.3
 some_item item.Console m sound =
     quietly item.Console m (console_line (console_of m)) (drained m) (refl, (refl, refl)) (drained_sound m.guest sound)
@@ -264,9 +271,11 @@ some_ends (Some item ∷ more) m number false on sound =
       ends = subst (λ (n : ℕ). IsEnd rest.exit rest.left n rest.last) count rest.ends;
     }
 
-pub replay_of : (script id : List ℕ) (saved : Saved) → (acts : List Act) × (exit : Exit) × (text : List ℕ) × (end : Machine) × AllAnswered acts × IsReplay script (new_machine id saved) acts exit text end
-replay_of script id saved =
-    let ran = some_ends (judged_script script) (new_machine id saved) 1 false refl tt in (
+pub replay_of : (script id : List ℕ) (saved : Saved) (calls : List FileCall)
+    → (acts : List Act) × (exit : Exit) × (text : List ℕ) × (end : Machine) × AllAnswered acts
+    × IsReplay script (new_machine id saved calls) acts exit text end
+replay_of script id saved calls =
+    let ran = some_ends (judged_script script) (new_machine id saved calls) 1 false refl tt in (
       ran.acts,
       ran.exit,
       ran.answers ++ closing ran.exit ran.last,

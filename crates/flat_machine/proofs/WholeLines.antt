@@ -1,6 +1,7 @@
 -- Between two lines nothing is due, so that where a host object failed no request of the next line was answered.
 use Rattle.std.proofs.Common.{◌≡◌, Bool, true, false, MatchBool, sym, subst, List, [], ◌∷◌, Option, Some, None, ℕ, inl, inr, refl, length}
 use Rattle.vm_types.specs.Saved.{Saved}
+use Rattle.vm_outside.specs.Calls.{FileCall}
 use Rattle.vm_types.specs.declared.ids.ActorId.{ActorId}
 use Rattle.vm_types.specs.declared.exit.Exit.{Exit}
 use Rattle.vm_types.specs.declared.exit.Object.{Object}
@@ -13,7 +14,7 @@ use Rattle.script_text.specs.declared.item.Item.{Item}
 use Rattle.script_text.specs.declared.item.Item.TheVariants as item
 use Rattle.flat_guest.specs.Guest.{Guest, is_actor}
 use Rattle.flat_machine.specs.Outcome.{Outcome}
-use Rattle.flat_machine.specs.Machine.{Machine, new_machine}
+use Rattle.flat_machine.specs.Machine.{Machine, new_machine, running}
 use Rattle.flat_machine.specs.Items.{ItemStep, MemoryLine, PartStep, RegisterLine, RepliesLine, StepsLine, Talks, bytes_of}
 use Rattle.flat_machine.specs.Requests.{RequestStep}
 use Rattle.flat_machine.specs.Run.{Act, Run}
@@ -65,8 +66,8 @@ item_quiet item.Nothing outcomes m n t x quiet = keeps x.1.1 quiet
 item_quiet (item.File name content) outcomes m n t x quiet = keeps x.1.1 quiet
 item_quiet (item.Lineage lineage) outcomes m n t x quiet = keeps x.1.1 quiet
 item_quiet item.Connect outcomes m n t x quiet = keeps x.1.1 new_quiet
-item_quiet (item.Step actor count) outcomes m n t x quiet = steps_quiet m.guest actor count m n t x.1 quiet
-item_quiet (item.Reply actor reply) outcomes m n t x quiet = replies_quiet m.guest actor m n t x.1 quiet
+item_quiet (item.Step actor count) outcomes m n t x quiet = steps_quiet (running m) actor count m n t x.1 quiet
+item_quiet (item.Reply actor reply) outcomes m n t x quiet = replies_quiet (running m) actor m n t x.1 quiet
 item_quiet item.Console outcomes m n t x quiet = keeps x.1.1 quiet
 item_quiet (item.Register hart number) outcomes m n t x quiet = register_quiet m.guest hart number m n t x.1 quiet
 item_quiet (item.Memory at len) outcomes m n t x quiet = memory_quiet m.guest at len m n t x.1 quiet
@@ -91,12 +92,12 @@ fault_at object.Files left part m n t quiet (on, (file, content, more, is)) insi
     part_none (item.File file content) part m n t quiet refl
     (subst (λ (l : List (Option Item)). StopsInside l part m t n) is inside)
 
-pub run_leaves_quiet : (acts : List Act) (id : List ℕ) (saved : Saved) (text : List ℕ) (n : Machine)
-    → Run acts (new_machine id saved) text n → IsQuiet n.connection
-run_leaves_quiet acts id saved text n ran = run_quiet acts (new_machine id saved) n text new_quiet ran
+pub run_leaves_quiet : (acts : List Act) (id : List ℕ) (saved : Saved) (calls : List FileCall) (text : List ℕ) (n : Machine)
+    → Run acts (new_machine id saved calls) text n → IsQuiet n.connection
+run_leaves_quiet acts id saved calls text n ran = run_quiet acts (new_machine id saved calls) n text new_quiet ran
 
-pub fault_between : (script id : List ℕ) (saved : Saved) (acts : List Act) (part : List Outcome) (name : Object)
-    (text : List ℕ) (end : Machine) → IsStopped script (new_machine id saved) acts part (Exit.Fault name) text end → part ≡ []
-fault_between script id saved acts part name text end stop =
+pub fault_between : (script id : List ℕ) (saved : Saved) (calls : List FileCall) (acts : List Act) (part : List Outcome) (name : Object)
+    (text : List ℕ) (end : Machine) → IsStopped script (new_machine id saved calls) acts part (Exit.Fault name) text end → part ≡ []
+fault_between script id saved calls acts part name text end stop =
     fault_at name stop.left part stop.last end stop.unwritten
-    (run_leaves_quiet acts id saved stop.answers stop.last stop.plays.ran) stop.stops stop.inside
+    (run_leaves_quiet acts id saved calls stop.answers stop.last stop.plays.ran) stop.stops stop.inside

@@ -1,5 +1,5 @@
 -- What an item of a script does to the flat machine.
-use Rattle.std.specs.Prelude.{ℕ, ◌≡◌, ◌⊎◌, List, [], ◌∷◌, Option, Some, None, MatchBool, slice_get, length}
+use Rattle.std.specs.Prelude.{ℕ, ◌≡◌, ◌⊎◌, List, [], ◌∷◌, ◌++◌, Option, Some, None, MatchBool, slice_get, length}
 use Rattle.std.specs.FinMap.{insert}
 use Rattle.vm_types.specs.declared.ids.ActorId.{ActorId}
 use Rattle.vm_types.specs.declared.ids.ActorId.TheVariants.{Hart as HartId}
@@ -21,10 +21,9 @@ use Rattle.hart_trace.specs.States.{Hart, LeadsTo}
 use Rattle.hart_trace.specs.Shown.{register_of}
 use Rattle.flat_guest.specs.Guest.{Guest, is_actor}
 use Rattle.flat_guest.specs.Steps.{StepsBy}
-use Rattle.vm_outside.specs.Calls.{FileCall}
-use Rattle.vm_outside.specs.Calls.FileCall.{Making, Made, Writing, Synced}
+use Rattle.gate_file.specs.Runs.{save_calls}
 use Rattle.flat_machine.specs.Outcome.{Outcome}
-use Rattle.flat_machine.specs.Machine.{Machine, console_of, drained}
+use Rattle.flat_machine.specs.Machine.{Machine, console_of, drained, running}
 use Rattle.flat_machine.specs.Requests.{RequestStep}
 
 -- ---- bytes on the connection
@@ -63,6 +62,7 @@ pub record Moves (g : Guest) (actor : ActorId) (count : ℕ) (m : Machine) (text
   pub quiet : text ≡ []
   pub leaves : n ≡ record m { guest = Some end }
 
+-- of the guest that runs
 abbrev pub StepsLine : Option Guest → ActorId → ℕ → Machine → List ℕ → Machine → Type 0
 StepsLine None actor count m text n = Misfits misfit.NotRunning m text n
 StepsLine (Some g) actor count m text n =
@@ -97,16 +97,17 @@ MemoryLine (Some g) at len m text n =
 
 -- ---- an item
 
--- an item that brings no request
+-- an item that brings no request; a file line's file is made, written whole and synced
 abbrev pub QuietStep : Item → Machine → List ℕ → Machine → Type 0
 QuietStep item.Nothing m text n = (text ≡ []) × (n ≡ m)
 QuietStep (item.File name content) m text n =
-    (text ≡ []) × (n ≡ record m { saved = insert m.saved name content })
+    (text ≡ [])
+    × (n ≡ record m { saved = insert m.saved name content; calls = m.calls ++ save_calls name content })
 QuietStep (item.Lineage lineage) m text n =
     (text ≡ []) × (n ≡ record m { ids = record m.ids { lineage = lineage } })
 QuietStep item.Connect m text n = (text ≡ []) × (n ≡ record m { connection = new_connection })
-QuietStep (item.Step actor count) m text n = StepsLine m.guest actor count m text n
-QuietStep (item.Reply actor reply) m text n = RepliesLine m.guest actor m text n
+QuietStep (item.Step actor count) m text n = StepsLine (running m) actor count m text n
+QuietStep (item.Reply actor reply) m text n = RepliesLine (running m) actor m text n
 QuietStep item.Console m text n = (text ≡ console_line (console_of m)) × (n ≡ drained m)
 QuietStep (item.Register hart number) m text n = RegisterLine m.guest hart number m text n
 QuietStep (item.Memory address len) m text n = MemoryLine m.guest address len m text n
@@ -122,9 +123,3 @@ ItemStep it outcomes m text n = (outcomes ≡ []) × QuietStep it m text n
 abbrev pub PartStep : Item → List Outcome → Machine → List ℕ → Machine → Type 0
 PartStep it outcomes m text n =
     ((outcomes ≡ []) × (text ≡ []) × (n ≡ m)) ⊎ TalksFront (bytes_of it) outcomes m text n
-
--- the calls on the files that an item makes which is done: a file line's file is made, written whole and synced
-abbrev pub calls_of : Item → List FileCall
-calls_of (item.File name content) =
-    Making name ∷ Made name ∷ Writing name 0 content ∷ Synced name (Some content) ∷ []
-calls_of it = []

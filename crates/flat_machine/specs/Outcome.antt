@@ -1,12 +1,19 @@
 -- How a request went.
 use Rattle.std.specs.Prelude.{ℕ, ◌+◌, List, [], ◌∷◌}
 use Rattle.vm_types.specs.Saved.{Saved}
+use Rattle.vm_outside.specs.Calls.{FileCall}
 
--- Answered by the machine; 500 because a call on the files failed, with what the files held then; or 503 for want of
+-- what a call of the API left where one of its calls on the files failed: what each name holds, and the calls that were
+-- made, the oldest first
+pub record Left : Type 0 where
+  pub saved : Saved
+  pub calls : List FileCall
+
+-- Answered by the machine; 500 because a call on the files failed, with what it left of them; or 503 for want of
 -- memory. The run goes on after each.
 pub data Outcome : Type 0 where
   Answered : Outcome
-  Failed : Saved → Outcome
+  Failed : Left → Outcome
   NoMemory : Outcome
 
 -- answered by the machine, each of them

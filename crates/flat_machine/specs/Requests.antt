@@ -1,5 +1,5 @@
 -- What the flat machine makes of a request.
-use Rattle.std.specs.Prelude.{ℕ, ◌≡◌, List, length, Option, Some, None, option_map, Result, Ok, Err}
+use Rattle.std.specs.Prelude.{ℕ, ◌≡◌, true, false, List, length, Option, Some, None, option_map, Result, Ok, Err}
 use Rattle.std.specs.FinMap.{get}
 use Rattle.vm_types.specs.Saved.{Saved}
 use Rattle.refusals.specs.declared.refusal.Refusal.{Refusal}
@@ -9,6 +9,7 @@ use Rattle.http_stream.specs.declared.request.Next.TheVariants as next
 use Rattle.api_calls.specs.declared.call.ApiCall.{ApiCall}
 use Rattle.api_calls.specs.declared.call.ApiCall.TheVariants as call
 use Rattle.api_calls.specs.declared.call.BootSource.{BootSource}
+use Rattle.api_calls.specs.declared.call.VmState.TheVariants.{Paused, Resumed}
 use Rattle.api_calls.specs.Call.{call_of, ◌>>=◌}
 use Rattle.vm_config.specs.declared.change.Change.{Change}
 use Rattle.vm_config.specs.declared.change.Change.TheVariants as change
@@ -17,25 +18,25 @@ use Rattle.api_rules.specs.declared.answer.Answer.{Answer}
 use Rattle.api_rules.specs.Answers.{accepted, refused}
 use Rattle.api_rules.specs.Table.{decision, image_refusal, unless}
 use Rattle.script_output.specs.Output.{reply_line}
-use Rattle.flat_guest.specs.Guest.{Guest}
 use Rattle.flat_guest.specs.Start.{started}
-use Rattle.flat_machine.specs.Outcome.{Outcome}
+use Rattle.flat_machine.specs.Outcome.{Left, Outcome}
 use Rattle.flat_machine.specs.Outcome.Outcome.{Answered, Failed, NoMemory}
-use Rattle.flat_machine.specs.Machine.{Machine, phase_by}
+use Rattle.flat_machine.specs.Machine.{Machine, phase_of}
 
 -- a call that is read and that the machine doesn't make yet is refused as a path that isn't there
 abbrev pub built : ApiCall → Result ApiCall Refusal
-built (call.PatchVm state) = Err refusal.NoSuchPath
 built (call.CreateSnapshot files) = Err refusal.NoSuchPath
 built (call.LoadSnapshot load) = Err refusal.NoSuchPath
 built it = Ok it
+
+-- ---- which change is allowed
 
 -- what is due asks for this change, or is refused: by its bytes, as a call, and by the machine
 abbrev pub decided : Machine → Next → Result Change Refusal
 decided m (next.Request request) = do
   it ← call_of request
   it ← built it
-  decision (phase_by m.guest) m.config m.ids it
+  decision (phase_of m) m.config m.ids it
 decided m (next.Bad why) = Err why
 decided m next.None = Err refusal.BadHead
 
@@ -59,30 +60,49 @@ allowed m given = do
 
 -- what is answered
 abbrev pub answer_by : Machine → Result Change Refusal → Answer
-answer_by m (Ok it) = accepted it m.id (phase_by m.guest) m.config
+answer_by m (Ok it) = accepted it m.id (phase_of m) m.config
 answer_by m (Err why) = refused why
 
--- a start makes the guest; any other change leaves it
-abbrev pub guest_from : ℕ → Option (List ℕ) → Option Guest → Option Guest
-guest_from mib (Some image) guest = Some (started mib image)
-guest_from mib None guest = guest
+-- ---- what a change leaves
 
-abbrev pub guest_by : Machine → Change → Option Guest
-guest_by m change.Start = guest_from m.config.machine.mem_size_mib (image_of m) m.guest
-guest_by m it = m.guest
+-- what was configured after it
+abbrev pub configured : Machine → Change → Machine
+configured m it = record m { config = changed m.config it }
+
+-- a start makes the guest of the image, which runs
+abbrev pub started_from : Option (List ℕ) → Machine → Machine
+started_from (Some image) m = record m { guest = Some (started m.config.machine.mem_size_mib image); paused = false }
+started_from None m = m
+
+-- An allowed change leaves n of m. The guest stands still, or goes on; where it does so already nothing changes.
+abbrev pub Leaves : Machine → Change → Machine → Type 0
+Leaves m (change.BootSource source) n = n ≡ configured m (change.BootSource source)
+Leaves m (change.MachineConfig machine) n = n ≡ configured m (change.MachineConfig machine)
+Leaves m change.Start n = n ≡ configured (started_from (image_of m) m) change.Start
+Leaves m (change.State Paused) n = n ≡ record m { paused = true }
+Leaves m (change.State Resumed) n = n ≡ record m { paused = false }
+Leaves m (change.CreateSnapshot files) n = n ≡ m
+Leaves m (change.LoadSnapshot load) n = n ≡ configured m (change.LoadSnapshot load)
+Leaves m (change.Tell part) n = n ≡ m
 
 -- a refused call changes nothing
-abbrev pub after_by : Machine → Result Change Refusal → Machine
-after_by m (Ok it) = record m { config = changed m.config it; guest = guest_by m it }
-after_by m (Err why) = m
+abbrev pub LeavesBy : Machine → Result Change Refusal → Machine → Type 0
+LeavesBy m (Ok it) n = Leaves m it n
+LeavesBy m (Err why) n = n ≡ m
+
+-- what a change leaves of the files and the machine where a call on the files failed, which a start alone makes: it
+-- changes nothing
+abbrev pub Fails : Machine → Change → Left → Machine → Type 0
+Fails m change.Start left n = (left ≡ record { saved = m.saved; calls = m.calls }) × (n ≡ m)
+Fails m it left n = ⊥
+
+-- ---- what is due
 
 -- What is written and left where something is due, by how it went: answered by the machine; 500 where a call on the
--- files failed, which a start alone makes; 503 where there was no memory. The last two change nothing but what the
--- failed call left of the files, and a start changes none.
+-- files failed; 503 where there was no memory, which changes nothing.
 abbrev pub RequestStep : Outcome → Next → Machine → List ℕ → Machine → Type 0
 RequestStep Answered given m text n =
-    (text ≡ reply_line (answer_by m (allowed m given))) × (n ≡ after_by m (allowed m given))
+    (text ≡ reply_line (answer_by m (allowed m given))) × LeavesBy m (allowed m given) n
 RequestStep (Failed left) given m text n =
-    (decided m given ≡ Ok change.Start) × (left ≡ m.saved)
-    × (text ≡ reply_line (refused refusal.OutsideFailed)) × (n ≡ record m { saved = left })
+    (it : Change) × (decided m given ≡ Ok it) × Fails m it left n × (text ≡ reply_line (refused refusal.OutsideFailed))
 RequestStep NoMemory given m text n = (text ≡ reply_line (refused refusal.OutOfMemory)) × (n ≡ m)

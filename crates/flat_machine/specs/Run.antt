@@ -1,10 +1,9 @@
 -- The run of the flat machine over acts.
 use Rattle.std.specs.Prelude.{ℕ, ◌≡◌, ◌+◌, false, List, [], ◌∷◌, ◌++◌, map, Option, Some}
 use Rattle.script_text.specs.declared.item.Item.{Item}
-use Rattle.vm_outside.specs.Calls.{FileCall}
 use Rattle.flat_machine.specs.Outcome.{AreAnswered, Outcome, failed_in, short_in}
 use Rattle.flat_machine.specs.Machine.{Machine, is_off}
-use Rattle.flat_machine.specs.Items.{ItemStep, calls_of}
+use Rattle.flat_machine.specs.Items.{ItemStep}
 
 -- an item, and how each of its requests went
 pub record Act : Type 0 where
@@ -42,8 +41,3 @@ shortages (act ∷ acts) = short_in act.outcomes + shortages acts
 abbrev pub AllAnswered : List Act → Type 0
 AllAnswered [] = Unit {0}
 AllAnswered (act ∷ acts) = AreAnswered act.outcomes × AllAnswered acts
-
--- the calls on the files that the acts made
-abbrev pub calls_in : List Act → List FileCall
-calls_in [] = []
-calls_in (act ∷ acts) = calls_of act.item ++ calls_in acts

@@ -3,6 +3,7 @@ ghost use Rattle.std.specs.Prelude.{[], ◌≡◌, ℕ, List};
 ghost use Rattle.vm_types.specs.declared.exit.Exit.{Exit};
 ghost use Rattle.vm_types.specs.declared.exit.Object.{Object};
 ghost use Rattle.vm_types.specs.Saved.{Saved};
+ghost use Rattle.vm_outside.specs.Calls.{FileCall};
 ghost use Rattle.http_stream.specs.Conversation.{IsQuiet};
 ghost use Rattle.flat_machine.specs.Machine.{Machine, new_machine};
 ghost use Rattle.flat_machine.specs.Outcome.{Outcome};
@@ -32,20 +33,21 @@ pub fn one_replay()
         IsReplay script m acts exit t n → IsReplay script m others stop u k → n ≡ k }
 {}
 
-/// Every script has a replay from a machine that has not started, whatever the files hold: the flat machine
-/// is never stuck.
+/// Every script has a replay from a machine that has not started, whatever the files hold and whatever calls were made
+/// on them: the flat machine is never stuck.
 pub fn some_replay()
-    ensures { (script id : List ℕ) (saved : Saved) →
+    ensures { (script id : List ℕ) (saved : Saved) (calls : List FileCall) →
         (acts : List Act) × (exit : Exit) × (text : List ℕ) × (end : Machine) × AllAnswered acts
-        × IsReplay script (new_machine id saved) acts exit text end }
+        × IsReplay script (new_machine id saved calls) acts exit text end }
 {}
 
 /// Between two lines nothing is due on the connection; so where a host object failed, whole lines were answered, and
 /// no request of the line that was next.
 pub fn whole_lines()
-    ensures quiet { (acts : List Act) (id : List ℕ) (saved : Saved) (text : List ℕ) (n : Machine) →
-        Run acts (new_machine id saved) text n → IsQuiet n.connection }
-    ensures fault { (script id : List ℕ) (saved : Saved) (acts : List Act) (part : List Outcome) (name : Object)
-        (text : List ℕ) (end : Machine) →
-        IsStopped script (new_machine id saved) acts part (Exit.Fault name) text end → part ≡ [] }
+    ensures quiet { (acts : List Act) (id : List ℕ) (saved : Saved) (calls : List FileCall)
+        (text : List ℕ) (n : Machine) →
+        Run acts (new_machine id saved calls) text n → IsQuiet n.connection }
+    ensures fault { (script id : List ℕ) (saved : Saved) (calls : List FileCall) (acts : List Act) (part : List Outcome)
+        (name : Object) (text : List ℕ) (end : Machine) →
+        IsStopped script (new_machine id saved calls) acts part (Exit.Fault name) text end → part ≡ [] }
 {}

@@ -6,12 +6,11 @@ use Rattle.script_text.specs.declared.item.Item.{Item}
 use Rattle.vm_outside.specs.Calls.{FileCall}
 use Rattle.vm_outside.specs.Known.{FilesKnown, SinkKnown, Tells}
 use Rattle.script_text.specs.Lines.{judged}
-use Rattle.flat_machine.specs.Items.{calls_of}
 use Rattle.flat_machine.specs.Machine.{Machine, is_off}
 use Rattle.flat_machine.specs.Outcome.{failed_in}
 use Rattle.flat_machine.specs.Replay.{Plays, judged_script, longest_script}
-use Rattle.flat_machine.specs.Run.{Act, OnBefore, Run, calls_in, failures, lines_done}
-use Rattle.flat_machine.proofs.Pushed.{answered_push, calls_push, failures_push, length_push, lines_push, on_push, run_push}
+use Rattle.flat_machine.specs.Run.{Act, OnBefore, Run, failures, lines_done}
+use Rattle.flat_machine.proofs.Pushed.{answered_push, failures_push, length_push, lines_push, on_push, run_push}
 use Rattle.monitor_core.specs.declared.monitor.Monitor.{Monitor}
 use Rattle.monitor_core.specs.State.{IsMonitor}
 use Rattle.vm_types.specs.Causes.{RoseBy}
@@ -22,7 +21,7 @@ use Rattle.monitor_cli.specs.Reading.{HasRead}
 use Rattle.monitor_cli.specs.declared.lines.ScriptRun.{ScriptRun}
 use Rattle.monitor_cli.proofs.Counts.{rose_more}
 
-pub begun : (start : Machine) (before : Known) (run : ScriptRun) → run.reader ≡ [] → run.line ≡ 1 → IsMonitor run.monitor before.files.saved start → Reached start before [] before.source.left run before.sink before.files
+pub begun : (start : Machine) (before : Known) (run : ScriptRun) → run.reader ≡ [] → run.line ≡ 1 → IsMonitor run.monitor before.files start → Reached start before [] before.source.left run before.sink before.files
 begun start before run empty first is = record {
   parts = refl;
   short = omega arith;
@@ -37,7 +36,6 @@ begun start before run empty first is = record {
   takes = sym (append-nil before.sink.taken);
   rose = omega arith;
   kept = λ good. refl;
-  calls = sym (append-nil before.files.calls);
 }
 
 pub fed : (start : Machine) (before : Known) (came piece rest now : List ℕ) (run : ScriptRun) (sink : SinkKnown) (files : FilesKnown) → ((more : List ℕ) → judged (now ++ more) ≡ judged ((run.reader ++ piece) ++ more)) → length (came ++ piece) ≤ longest_script
@@ -57,7 +55,6 @@ fed start before came piece rest now run sink files is small r = record {
   takes = r.takes;
   rose = r.rose;
   kept = r.kept;
-  calls = r.calls;
 }
 
 module _ (start : Machine) (before : Known) (came rest : List ℕ) (run : ScriptRun) (sink : SinkKnown) (files : FilesKnown) (r : Reached start before came rest run sink files) where
@@ -85,8 +82,6 @@ module _ (start : Machine) (before : Known) (came rest : List ℕ) (run : Script
             rose = subst (λ (n : ℕ). RoseBy n before.files.health.faults left.health.faults) (sym (failures_push r.acts act))
                 (rose_more (failures r.acts) (failed_in act.outcomes) before.files.health.faults files.health.faults left.health.faults r.rose done.goes.counted.rose);
             kept = λ good. let both = answered_push r.acts act good in done.goes.counted.kept both.1 ∙ r.kept both.0;
-            calls = done.goes.calls files_told ∙ ap (λ (l : List FileCall). l ++ calls_of item) r.calls
-                ∙ append_assoc before.files.calls (calls_in r.acts) (calls_of item) ∙ ap (λ (l : List FileCall). before.files.calls ++ l) (sym (calls_push r.acts act));
           }
 
 -- the lines of a script begin with those of the bytes that came

@@ -9,7 +9,7 @@ use Rattle.script_text.specs.declared.item.Item.{Item}
 use Rattle.vm_outside.specs.Known.{Called, FilesKnown, SinkKnown, Tells}
 use Rattle.vm_outside.specs.Passing.{TakesAll}
 use Rattle.script_output.specs.Output.{last_line}
-use Rattle.flat_machine.specs.Machine.{Machine, new_machine}
+use Rattle.flat_machine.specs.Machine.{AreFilesOf, Machine, new_machine}
 use Rattle.flat_machine.specs.Outcome.{AreAnswered, Outcome, failed_in, short_in}
 use Rattle.flat_machine.specs.Outcome.Outcome.{Answered, Failed, NoMemory}
 use Rattle.flat_machine.specs.Replay.{default_id, judged_script}
@@ -27,7 +27,7 @@ use Rattle.monitor_cli.proofs.Halting.{not_inside}
 use Rattle.monitor_cli.proofs.Parts.{told_text}
 
 -- there was no memory for anything
-pub nothing_begun : (start : Machine) (before : Known) → start.saved ≡ before.files.saved → BeforeLast Exit.OutOfMemory start before before.source.left before.sink before.files
+pub nothing_begun : (start : Machine) (before : Known) → AreFilesOf before.files start → BeforeLast Exit.OutOfMemory start before before.source.left before.sink before.files
 nothing_begun start before files = record {
   acts = [];
   part = [];
@@ -45,13 +45,12 @@ nothing_begun start before files = record {
       on = inl refl;
       writes = refl;
     };
-    files = sym files;
+    files = files;
     read = record { came = []; parts = refl; undone = []; lines = refl };
     reads = tt;
   };
   took = sym (append-nil before.sink.taken);
   counted = record { rose = omega arith; kept = tt };
-  calls = sym (append-nil before.files.calls);
 }
 
 -- requests that were neither answered 500 nor 503 were answered by the machine
@@ -134,7 +133,7 @@ if_err {T} words why P is holds = subst (λ (w : Result T NoWords). IfErr w P) (
 -- the last line is written behind the answers, or a front of it
 module _ (words : List (List ℕ)) (exit : Exit) (before mid : Known) (sink : SinkKnown) {E : Type 0} (result : Result (Unit {0}) E)
     (usage : (exit ≡ Exit.Usage) ↔ (is_command words ≡ false)) (unread : exit ≡ Exit.Usage → mid ≡ before)
-    (so_far : AllTell before → is_command words ≡ true → BeforeLast exit (new_machine default_id before.files.saved) before mid.source.left mid.sink mid.files)
+    (so_far : AllTell before → is_command words ≡ true → BeforeLast exit (new_machine default_id before.files.saved before.files.calls) before mid.source.left mid.sink mid.files)
     (caused : CausedSoFar exit before mid) (lasts : AllLast before mid) (takes : Tells mid.sink.health → TakesAll mid.sink.taken sink.taken result (last_line exit))
     (quiet : IsQuiet exit → sink ≡ mid.sink) (called : Called mid.sink.health sink.health result) where
   abbrev now : Known
@@ -148,7 +147,7 @@ module _ (words : List (List ℕ)) (exit : Exit) (before mid : Known) (sink : Si
     files = caused.files;
   }
 
-  replayed : AllTell before → is_command words ≡ true → Replayed exit (new_machine default_id before.files.saved) before now
+  replayed : AllTell before → is_command words ≡ true → Replayed exit (new_machine default_id before.files.saved before.files.calls) before now
   replayed tells command =
       let ran = so_far tells command in
       record {
@@ -158,7 +157,6 @@ module _ (words : List (List ℕ)) (exit : Exit) (before mid : Known) (sink : Si
         went = ran.went;
         took = told_text before.sink mid.sink sink ran.written result ran.took exit caused.sink quiet (takes (lasts.sink.still tells.sink)) called;
         counted = ran.counted;
-        calls = ran.calls;
         plain = λ none enough. all_answered ran.acts
             (none_failed (failures ran.acts) (failed_in ran.part) (stop_failures exit) before.files.health.faults mid.files.health.faults ran.counted.rose none) enough;
       }
@@ -180,7 +178,7 @@ module _ (words : List (List ℕ)) (exit : Exit) (before mid : Known) (sink : Si
     replayed = replayed;
     told = told;
     complete = λ tells command good none.
-        complete exit (new_machine default_id before.files.saved) before now mid.source.left mid.sink mid.files (λ is. not_both (is_command words) command (usage.0 is)) (so_far tells command) told good none;
+        complete exit (new_machine default_id before.files.saved before.files.calls) before now mid.source.left mid.sink mid.files (λ is. not_both (is_command words) command (usage.0 is)) (so_far tells command) told good none;
     lasts = record {
       source = lasts.source;
       sink = lasts_more before.sink.health mid.sink.health sink.health lasts.sink called.lasts;

@@ -92,13 +92,12 @@ module _ (start : Machine) (before : Known) (rest : List ℕ) (run : ScriptRun) 
         leaves = refl;
       };
       unbegun = refl;
-      files = r.is.files_is;
+      files = record { saved_is = r.is.files.saved_is; calls_is = r.is.files.calls_is };
       read = all.read;
       reads = reads_by all.reads;
     };
     took = wrote ∙ ap (λ (l : List ℕ). l ++ closing Exit.Done r.last) r.takes ∙ append_assoc before.sink.taken r.answers (closing Exit.Done r.last);
     counted = record { rose = none_more _ _ _ r.rose; kept = r.kept };
-    calls = r.calls;
   }
   closes (Exit.Fault object.Sink) now wrote = record {
     acts = r.acts;
@@ -120,12 +119,11 @@ module _ (start : Machine) (before : Known) (rest : List ℕ) (run : ScriptRun) 
         lacks = wrote.lacks;
       };
       unbegun = refl;
-      files = r.is.files_is;
+      files = r.is.files;
       read = all.read;
     };
     took = wrote.took ∙ ap (λ (l : List ℕ). l ++ wrote.front) r.takes ∙ append_assoc before.sink.taken r.answers wrote.front;
     counted = record { rose = none_more _ _ _ r.rose; kept = r.kept };
-    calls = r.calls;
   }
   closes Exit.OutOfMemory now wrote = record {
     acts = r.acts;
@@ -144,13 +142,12 @@ module _ (start : Machine) (before : Known) (rest : List ℕ) (run : ScriptRun) 
         on = inl refl;
         writes = refl;
       };
-      files = r.is.files_is;
+      files = r.is.files;
       read = all.read;
       reads = tt;
     };
     took = wrote ∙ r.takes;
     counted = record { rose = none_more _ _ _ r.rose; kept = tt };
-    calls = r.calls;
   }
   closes (Exit.Fault object.Source) now wrote = absurd wrote
   closes (Exit.Fault object.Files) now wrote = absurd wrote

@@ -4,26 +4,22 @@ use Rattle.std.proofs.Math.Seq.{take-append_seam}
 use Rattle.std.proofs.lemmas.Bool.Decides.{nat_tests}
 use Rattle.std.proofs.lemmas.List.{append-nil}
 use Rattle.vm_types.specs.Causes.{RoseBy}
-use Rattle.vm_types.specs.Saved.{Saved}
 use Rattle.vm_types.specs.declared.exit.Exit.{Exit}
 use Rattle.vm_types.specs.declared.exit.Object.TheVariants as object
 use Rattle.script_text.specs.declared.item.Item.{Item}
-use Rattle.vm_outside.specs.Calls.{FileCall, MakesFront}
 use Rattle.vm_outside.specs.Known.{FilesKnown, SinkKnown, SourceKnown, Tells}
 use Rattle.script_text.specs.Lines.{judged}
 use Rattle.script_output.specs.Output.{last_line}
-use Rattle.flat_machine.specs.Items.{calls_of}
-use Rattle.flat_machine.specs.Machine.{Machine, is_off}
+use Rattle.flat_machine.specs.Machine.{AreFilesOf, Machine, is_off}
 use Rattle.flat_machine.specs.Outcome.{failed_in}
 use Rattle.flat_machine.specs.Replay.{judged_script, longest_script}
-use Rattle.flat_machine.specs.Run.{Act, calls_in, failures, lines_done}
+use Rattle.flat_machine.specs.Run.{Act, failures, lines_done}
 use Rattle.flat_machine.specs.Stops.{IsAtFile, StopsInside}
-use Rattle.flat_machine.proofs.Pushed.{answered_push, calls_push, failures_push, lines_push, on_push, run_push}
+use Rattle.flat_machine.proofs.Pushed.{answered_push, failures_push, lines_push, on_push, run_push}
 use Rattle.monitor_core.specs.declared.item_error.ItemError.{ItemError}
 use Rattle.monitor_core.specs.declared.monitor.Monitor.{Monitor}
-use Rattle.monitor_core.specs.Going.{IsFile, ItemStops, LeavesCalls, LeavesFiles}
+use Rattle.monitor_core.specs.Going.{IsFile, ItemStops, LeavesFiles}
 use Rattle.monitor_cli.specs.Answering.{ItemCut, ItemEnds}
-use Rattle.monitor_cli.specs.Counting.{CallsBy}
 use Rattle.monitor_cli.specs.Known.{Known}
 use Rattle.monitor_cli.specs.Lines.{BeforeLast, PastBy, Reached}
 use Rattle.monitor_cli.specs.Reading.{HasRead}
@@ -51,22 +47,13 @@ at_file : (item : Item) (lines : List (Option Item)) → IsFile item → IsAtFil
 at_file (Item.File name content) lines is = (name, content, lines, refl)
 at_file item lines is = absurd is
 
-file_left : (item : Item) (lines : List (Option Item)) (m : Machine) (left : Saved) → IsFile item → LeavesFiles item m.saved left → FilesBy (Exit.Fault object.Files) (Some item ∷ lines) m left
+file_left : (item : Item) (lines : List (Option Item)) (m : Machine) (left : FilesKnown) → IsFile item → LeavesFiles item m left → FilesBy (Exit.Fault object.Files) (Some item ∷ lines) m left
 file_left (Item.File name content) lines m left is leaves = leaves
 file_left item lines m left is leaves = absurd is
 
-other_left : (item : Item) (saved left : Saved) → (IsFile item → ⊥) → LeavesFiles item saved left → left ≡ saved
-other_left (Item.File name content) saved left never leaves = absurd (never tt)
-other_left item saved left never leaves = leaves
-
-file_calls : (item : Item) (more : List (Option Item)) (script : List ℕ) (acts : List Act) (before calls left : List FileCall) → IsFile item → judged_script script ≡ lines_done acts ++ Some item ∷ more → calls ≡ before ++ calls_in acts → LeavesCalls item calls left → CallsBy (Exit.Fault object.Files) script acts before left
-file_calls (Item.File name content) more script acts before calls left is lines same leaves =
-    (name, content, more, lines, subst (λ (c : List FileCall). MakesFront (calls_of (Item.File name content)) c left) same leaves)
-file_calls item more script acts before calls left is lines same leaves = absurd is
-
-other_calls : (item : Item) (calls left : List FileCall) → (IsFile item → ⊥) → LeavesCalls item calls left → left ≡ calls
-other_calls (Item.File name content) calls left never leaves = absurd (never tt)
-other_calls item calls left never leaves = leaves
+other_left : (item : Item) (m : Machine) (left : FilesKnown) → (IsFile item → ⊥) → LeavesFiles item m left → AreFilesOf left m
+other_left (Item.File name content) m left never leaves = absurd (never tt)
+other_left item m left never leaves = leaves
 
 module _ (start : Machine) (before : Known) (came rest : List ℕ) (run : ScriptRun) (sink : SinkKnown) (files : FilesKnown) (r : Reached start before came rest run sink files) where
   abbrev script : List ℕ
@@ -114,13 +101,12 @@ module _ (start : Machine) (before : Known) (came rest : List ℕ) (run : Script
         on = inl refl;
         writes = refl;
       };
-      files = r.is.files_is;
+      files = r.is.files;
       read = record { came = came; parts = r.parts; undone = []; lines = all_done empty ∙ sym (append-nil (lines_done r.acts)) };
       reads = refl;
     };
     took = r.takes;
     counted = record { rose = none_more (failures r.acts) faults files.health.faults r.rose; kept = r.kept };
-    calls = r.calls;
   }
 
   -- there is no memory for the next line, or for a piece that was read
@@ -142,13 +128,12 @@ module _ (start : Machine) (before : Known) (came rest : List ℕ) (run : Script
         on = inl refl;
         writes = refl;
       };
-      files = r.is.files_is;
+      files = r.is.files;
       read = read_more piece left is;
       reads = tt;
     };
     took = r.takes;
     counted = record { rose = none_more (failures r.acts) faults files.health.faults r.rose; kept = tt };
-    calls = r.calls;
   }
 
   -- the next line is none
@@ -169,13 +154,12 @@ module _ (start : Machine) (before : Known) (came rest : List ℕ) (run : Script
         leaves = refl;
       };
       unbegun = refl;
-      files = r.is.files_is;
+      files = r.is.files;
       read = read;
       reads = tt;
     };
     took = r.takes;
     counted = record { rose = none_more (failures r.acts) faults files.health.faults r.rose; kept = r.kept };
-    calls = r.calls;
   }
 
   pub bad_line : (behind : List ℕ) → ((more : List ℕ) → held more ≡ None ∷ judged (behind ++ more)) → is_off r.last ≡ false → BeforeLast (Exit.Script run.line) start before rest sink files
@@ -231,7 +215,7 @@ module _ (start : Machine) (before : Known) (came rest : List ℕ) (run : Script
               on = inr on;
               writes = refl;
             };
-            files = file_left item (judged (behind ++ at_it.more) ++ at_it.behind) went.0 left.saved stops.cause went.3;
+            files = file_left item (judged (behind ++ at_it.more) ++ at_it.behind) went.0 left stops.cause went.3;
             read = at_it.read;
             reads = tt;
           };
@@ -241,7 +225,6 @@ module _ (start : Machine) (before : Known) (came rest : List ℕ) (run : Script
                 (rose_more (failures r.acts) (failed_in stops.part + 1) faults files.health.faults left.health.faults r.rose stops.rose);
             kept = tt;
           };
-          calls = file_calls item (judged (behind ++ at_it.more) ++ at_it.behind) script r.acts before.files.calls files.calls left.calls stops.cause at_it.plays.lines r.calls (stops.calls files_told);
         }
       where
         sums : (a b c : ℕ) → a + (b + c) ≡ a + b + c
@@ -267,7 +250,7 @@ module _ (start : Machine) (before : Known) (came rest : List ℕ) (run : Script
               on = inr on;
               writes = refl;
             };
-            files = other_left item went.0.saved left.saved stops.cause went.3;
+            files = other_left item went.0 left stops.cause went.3;
             read = at_it.read;
             reads = tt;
           };
@@ -277,7 +260,6 @@ module _ (start : Machine) (before : Known) (came rest : List ℕ) (run : Script
                 (rose_more (failures r.acts) (failed_in stops.part + 0) faults files.health.faults left.health.faults r.rose stops.rose);
             kept = tt;
           };
-          calls = other_calls item files.calls left.calls stops.cause (stops.calls files_told) ∙ r.calls;
         }
       where
         sums : (a b c : ℕ) → a + (b + c) ≡ a + b + c
@@ -312,7 +294,7 @@ module _ (start : Machine) (before : Known) (came rest : List ℕ) (run : Script
               lacks = took.lacks;
             };
             unbegun = refl;
-            files = went.2.files_is;
+            files = went.2.files;
             read = spreads.read;
           };
           took = took.took ∙ ap (λ (l : List ℕ). l ++ took.front) r.takes ∙ append_assoc before.sink.taken r.answers took.front;
@@ -322,8 +304,6 @@ module _ (start : Machine) (before : Known) (came rest : List ℕ) (run : Script
                 (rose_more (failures r.acts) (failed_in act.outcomes) faults files.health.faults left.health.faults r.rose cut.goes.counted.rose));
             kept = λ good. let both = answered_push r.acts act good in cut.goes.counted.kept both.1 ∙ r.kept both.0;
           };
-          calls = cut.goes.calls files_told ∙ ap (λ (l : List FileCall). l ++ calls_of item) r.calls
-              ∙ append_assoc before.files.calls (calls_in r.acts) (calls_of item) ∙ ap (λ (l : List FileCall). before.files.calls ++ l) (sym (calls_push r.acts act));
         }
 
     pub item_ends : (exit : Exit) → ItemEnds exit item run.monitor after files left sink now → BeforeLast exit start before rest now left

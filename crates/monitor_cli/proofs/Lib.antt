@@ -1,6 +1,7 @@
 mod Arriving
 mod Commanding
 mod Counts
+mod EndTexts
 mod Finishing
 mod Halting
 mod Parts

@@ -38,7 +38,7 @@ pub record Commanded (words : List (List ℕ)) (exit : Exit) (before now : Known
   pub usage : (exit ≡ Exit.Usage) ↔ (is_command words ≡ false)
   pub unbegun : exit ≡ Exit.Usage → Unbegun Exit.Usage before now
   pub replayed : AllTell before → is_command words ≡ true
-      → Replayed exit (new_machine default_id before.files.saved) before now
+      → Replayed exit (new_machine default_id before.files.saved before.files.calls) before now
   pub told : Caused exit before now
   pub complete : AllTell before → is_command words ≡ true → IsWellFormed before.source.left → NoneRose before now
       → (exit ≡ Exit.Done) ⊎ (exit ≡ Exit.OutOfMemory)

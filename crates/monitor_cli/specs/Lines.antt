@@ -1,7 +1,6 @@
 -- A replay on its way, and before its last line.
 use Rattle.std.specs.Prelude.{◌≡◌, ◌≤◌, ◌+◌, ◌⊎◌, ℕ, true, false, List, [], ◌∷◌, ◌++◌, length}
 use Rattle.vm_types.specs.Causes.{RoseBy}
-use Rattle.vm_types.specs.Saved.{Saved}
 use Rattle.vm_types.specs.declared.exit.Exit.{Exit}
 use Rattle.vm_types.specs.declared.exit.Object.TheVariants as object
 use Rattle.vm_outside.specs.Known.{FilesKnown, SinkKnown, SourceKnown, Tells}
@@ -10,10 +9,10 @@ use Rattle.script_output.specs.Output.{last_line}
 use Rattle.flat_machine.specs.Machine.{Machine, is_off}
 use Rattle.flat_machine.specs.Outcome.{Outcome}
 use Rattle.flat_machine.specs.Replay.{longest_script}
-use Rattle.flat_machine.specs.Run.{Act, AllAnswered, OnBefore, Run, calls_in, failures, lines_done}
+use Rattle.flat_machine.specs.Run.{Act, AllAnswered, OnBefore, Run, failures, lines_done}
 use Rattle.monitor_core.specs.declared.monitor.Monitor.{Monitor}
 use Rattle.monitor_core.specs.State.{IsMonitor}
-use Rattle.monitor_cli.specs.Counting.{CallsBy, Counted}
+use Rattle.monitor_cli.specs.Counting.{Counted}
 use Rattle.monitor_cli.specs.Known.{Known}
 use Rattle.monitor_cli.specs.Replay.{Went}
 use Rattle.monitor_cli.specs.declared.lines.Paused.{Paused}
@@ -34,11 +33,10 @@ pub record Reached (start : Machine) (before : Known) (came rest : List ℕ) (ru
   pub on : OnBefore acts start
   pub ran : Run acts start answers last
   pub number : run.line ≡ length acts + 1
-  pub is : IsMonitor run.monitor files.saved last
+  pub is : IsMonitor run.monitor files last
   pub takes : sink.taken ≡ before.sink.taken ++ answers
   pub rose : RoseBy (failures acts) before.files.health.faults files.health.faults
   pub kept : AllAnswered acts → files.health.faults ≡ before.files.health.faults
-  pub calls : files.calls ≡ before.files.calls ++ calls_in acts
 
 -- A replay that ended so, all but its last line, which is not yet written; the source has the rest.
 pub record BeforeLast (exit : Exit) (start : Machine) (before : Known) (rest : List ℕ) (sink : SinkKnown)
@@ -46,10 +44,9 @@ pub record BeforeLast (exit : Exit) (start : Machine) (before : Known) (rest : L
   pub acts : List Act
   pub part : List Outcome
   pub written : List ℕ
-  pub went : Went exit before.source.left rest start acts part (written ++ last_line exit) files.saved
+  pub went : Went exit before.source.left rest start acts part (written ++ last_line exit) files
   pub took : sink.taken ≡ before.sink.taken ++ written
   pub counted : Counted exit acts part before.files.health.faults files.health.faults
-  pub calls : CallsBy exit before.source.left acts before.files.calls files.calls
 
 -- No line is left, or the guest is off: the answers are written, and nothing behind them.
 pub record Finished (start : Machine) (before : Known) (rest : List ℕ) (run : ScriptRun) (sink : SinkKnown)
@@ -60,9 +57,9 @@ pub record Finished (start : Machine) (before : Known) (rest : List ℕ) (run : 
 
 -- no line is done any more: the guest is off, or no line is whole
 abbrev pub PausedBy : Paused → List ℕ → Monitor → Type 0
-PausedBy Off held monitor = (saved : Saved) (m : Machine) → IsMonitor monitor saved m → is_off m ≡ true
+PausedBy Off held monitor = (known : FilesKnown) (m : Machine) → IsMonitor monitor known m → is_off m ≡ true
 PausedBy Empty held monitor =
-    (judged held ≡ []) × ((saved : Saved) (m : Machine) → IsMonitor monitor saved m → is_off m ≡ false)
+    (judged held ≡ []) × ((known : FilesKnown) (m : Machine) → IsMonitor monitor known m → is_off m ≡ false)
 
 -- how a script's run ends before its closing text; the run of the lines that are held never by the source
 abbrev pub IsRunsEnd : Exit → Type 0

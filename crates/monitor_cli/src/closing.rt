@@ -1,7 +1,6 @@
 // What is written when a script is done.
 ghost use Rattle.std.specs.Prelude.{◌≡◌, IfOk};
-ghost use Rattle.vm_types.specs.Saved.{Saved};
-ghost use Rattle.vm_outside.specs.Known.{Lasts, Tells};
+ghost use Rattle.vm_outside.specs.Known.{FilesKnown, Lasts, Tells};
 ghost use Rattle.flat_machine.specs.Machine.{Machine};
 ghost use Rattle.flat_machine.specs.Replay.{closing};
 ghost use Rattle.monitor_core.specs.State.{IsMonitor};
@@ -17,7 +16,7 @@ use vm_types::{ByteList, Exit, Object};
 /// Writes what the console holds, and that the guest is off where it is. The answer is how the replay ends: `Done`,
 /// `Fault` of a sink that failed, or `OutOfMemory`.
 pub fn write_closing<K: Sink>(alloc: Global, monitor: &Monitor, sink: &mut K) -> Exit
-    ensures closes { Tells (K.known sink.old).health → (saved : Saved) (m : Machine) → IsMonitor monitor.now saved m →
+    ensures closes { Tells (K.known sink.old).health → (known : FilesKnown) (m : Machine) → IsMonitor monitor.now known m →
         ClosesBy result (closing Exit.Done m) (K.known sink.old).taken (K.known sink.new).taken }
     ensures some { IsClosing result }
     ensures cause { SinkCause result (K.known sink.old).health.faults (K.known sink.new).health.faults }
@@ -33,7 +32,7 @@ pub fn write_closing<K: Sink>(alloc: Global, monitor: &Monitor, sink: &mut K) ->
 }
 
 fn closing_text(alloc: Global, monitor: &Monitor) -> Result<ByteList, AllocError>
-    ensures { IfOk result (λ text. (saved : Saved) (m : Machine) → IsMonitor monitor.now saved m →
+    ensures { IfOk result (λ text. (known : FilesKnown) (m : Machine) → IsMonitor monitor.now known m →
         text ≡ closing Exit.Done m) }
 {
     let mut text = console_line(alloc, monitor.console())?;

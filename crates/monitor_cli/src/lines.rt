@@ -30,7 +30,7 @@ pub struct ScriptRun {
 
 impl ScriptRun {
     ghost use Rattle.std.specs.Prelude.{◌≡◌, []};
-    ghost use Rattle.vm_types.specs.Saved.{Saved};
+    ghost use Rattle.vm_outside.specs.Known.{FilesKnown};
     ghost use Rattle.flat_machine.specs.Machine.{new_machine};
     ghost use Rattle.monitor_core.specs.State.{IsMonitor};
     ghost use Rattle.monitor_cli.specs.Known.{Known};
@@ -40,7 +40,8 @@ impl ScriptRun {
     pub fn new(alloc: Global, id: TextList) -> Result<ScriptRun, AllocError>
         ensures reader { IfOk result (λ run. run.reader ≡ []) }
         ensures line { IfOk result (λ run. run.line ≡ 1) }
-        ensures monitor { IfOk result (λ run. (saved : Saved) → IsMonitor run.monitor saved (new_machine id saved)) }
+        ensures monitor { IfOk result (λ run. (known : FilesKnown) →
+            IsMonitor run.monitor known (new_machine id known.saved known.calls)) }
     {
         Ok(ScriptRun {
             reader: LineReader::new(alloc),

@@ -19,7 +19,7 @@ pub fn replay<I: Source, O: Sink, F: Files>(
     out: &mut Outside<I, O, F>,
 ) -> Exit
     ensures so_far { AllTell (all_known (I.known out.old.source) (O.known out.old.sink) (F.known out.old.files)) →
-        BeforeLast result (new_machine id (F.known out.old.files).saved)
+        BeforeLast result (new_machine id (F.known out.old.files).saved (F.known out.old.files).calls)
         (all_known (I.known out.old.source) (O.known out.old.sink) (F.known out.old.files))
         (I.known out.new.source).left (O.known out.new.sink) (F.known out.new.files) }
     ensures caused { CausedSoFar result

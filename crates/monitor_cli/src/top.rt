@@ -81,7 +81,7 @@ fn run_command<I: Source, O: Sink, F: Files>(
     ensures unread { result ≡ Exit.Usage → out.new ≡ out.old }
     ensures so_far { AllTell (all_known (I.known out.old.source) (O.known out.old.sink) (F.known out.old.files)) →
         is_command (map string_bytes words.now) ≡ true →
-        BeforeLast result (new_machine default_id (F.known out.old.files).saved)
+        BeforeLast result (new_machine default_id (F.known out.old.files).saved (F.known out.old.files).calls)
         (all_known (I.known out.old.source) (O.known out.old.sink) (F.known out.old.files))
         (I.known out.new.source).left (O.known out.new.sink) (F.known out.new.files) }
     ensures caused { CausedSoFar result
@@ -100,7 +100,7 @@ fn run_command<I: Source, O: Sink, F: Files>(
 // The replay on a machine that is given no id.
 fn replay_default<I: Source, O: Sink, F: Files>(alloc: Global, out: &mut Outside<I, O, F>) -> Exit
     ensures so_far { AllTell (all_known (I.known out.old.source) (O.known out.old.sink) (F.known out.old.files)) →
-        BeforeLast result (new_machine default_id (F.known out.old.files).saved)
+        BeforeLast result (new_machine default_id (F.known out.old.files).saved (F.known out.old.files).calls)
         (all_known (I.known out.old.source) (O.known out.old.sink) (F.known out.old.files))
         (I.known out.new.source).left (O.known out.new.sink) (F.known out.new.files) }
     ensures caused { CausedSoFar result

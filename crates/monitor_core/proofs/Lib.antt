@@ -1,5 +1,3 @@
-pub mod Saved
-pub mod Talks
-pub mod Plans
 pub mod Items
-pub mod Lines
+pub mod Replies
+pub mod Talks

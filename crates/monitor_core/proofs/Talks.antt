@@ -2,7 +2,6 @@
 use Rattle.std.proofs.Common.{◌≡◌, ◌≢◌, ℕ, suc, ◌+◌, ◌<◌, ◌≤◌, ◌⊎◌, inl, inr, Bool, true, false, if◌then◌else◌, List, [], ◌∷◌, ◌++◌, length, refl, sym, ap, subst, ◌∙◌, append_assoc, arith, Ok}
 use Rattle.std.proofs.lemmas.List.{append-nil}
 use Rattle.vm_types.specs.Causes.{Rose, RoseBy}
-use Rattle.vm_types.specs.Saved.{Saved}
 use Rattle.vm_outside.specs.Filing.{SameFiles}
 use Rattle.vm_outside.specs.Known.{FilesKnown, Health, Lasts, Tells}
 use Rattle.http_stream.specs.declared.request.Request.{Request}
@@ -12,16 +11,15 @@ use Rattle.http_stream.specs.Stream.{Connection, Judged}
 use Rattle.http_stream.specs.Conversation.{IsQuiet, Takes, Conversation, ConversationFront}
 use Rattle.http_stream.proofs.CutLemmas.{made, bad_failed, request_falls, request_lives}
 use Rattle.http_stream.proofs.AnswerLemmas.{some_reading}
-use Rattle.api_calls.specs.declared.call.ApiCall.TheVariants.{InstanceStart}
-use Rattle.api_calls.specs.Call.{call_of}
 use Rattle.flat_machine.specs.Outcome as flat
 use Rattle.flat_machine.specs.Machine.{Machine}
 use Rattle.flat_machine.specs.Requests.{RequestStep}
 use Rattle.monitor_core.specs.declared.monitor.Monitor.{Monitor}
-use Rattle.monitor_core.specs.declared.outcome.Outcome.{Outcome}
-use Rattle.monitor_core.specs.declared.outcome.Outcome.TheVariants.{Answered, Failed, NoMemory}
-use Rattle.monitor_core.specs.Going.{CountsFaults, GivesStart}
-use Rattle.monitor_core.specs.Replying.{OutcomeCause, Replies, Rests, outcome_by}
+use Rattle.monitor_machine.specs.declared.outcome.Outcome.{Outcome}
+use Rattle.monitor_machine.specs.declared.outcome.Outcome.TheVariants.{Answered, Failed, NoMemory}
+use Rattle.monitor_machine.specs.Replying.{AsksFiles, OutcomeCause, Replies, outcome_by}
+use Rattle.monitor_core.specs.Going.{CountsFaults, GivesFiling}
+use Rattle.monitor_core.specs.Replying.{Replied, Rests}
 use Rattle.monitor_core.specs.State.{IsBeside}
 use Rattle.monitor_core.specs.Talking.{Begins, BeginsAny, HasAnswered, HasStopped, HasTalked, IsStillDue}
 
@@ -90,28 +88,28 @@ takes_falls_by c next.None d takes false false is ends = absurd takes.due
 pub takes_falls : (c : Connection) (given : Next) (d : Connection) → Takes c given d → weight d < weight c
 takes_falls c given d takes = takes_falls_by c given d takes c.failed d.failed refl refl
 
--- ---- starts among the requests
+-- ---- requests that call the files
 
-start_behind : (c : Connection) (given : Next) (d : Connection) → Takes c given d → GivesStart d → GivesStart c
-start_behind c (next.Request r) d takes (live, rs, e, reads, start) =
+filing_behind : (c : Connection) (given : Next) (d : Connection) → Takes c given d → GivesFiling d → GivesFiling c
+filing_behind c (next.Request r) d takes (live, rs, e, reads, start) =
     let P : Bool → Type 0 = λ b. Judged c.pending (made (next.Request r) (record { pending = d.pending; failed = b })) in
     (takes.live, r ∷ rs, e, (d.pending, subst P live takes.judged, reads), inr start)
-start_behind c (next.Bad why) d takes (live, rs, e, reads, start) =
+filing_behind c (next.Bad why) d takes (live, rs, e, reads, start) =
     absurd (let k : true ≡ false = sym (bad_failed c.pending why d takes.judged) ∙ live in cc)
-start_behind c next.None d takes starts = absurd takes.due
+filing_behind c next.None d takes starts = absurd takes.due
 
-pub start_first : (c : Connection) (r : Request) (d : Connection) → Takes c (next.Request r) d → call_of r ≡ Ok InstanceStart
-    → GivesStart c
-start_first c r d takes start =
+pub filing_first : (c : Connection) (r : Request) (d : Connection) → Takes c (next.Request r) d → AsksFiles r
+    → GivesFiling c
+filing_first c r d takes start =
     let P : Bool → Type 0 = λ b. Judged c.pending (made (next.Request r) (record { pending = d.pending; failed = b })) in
     let rest = some_reading d.pending in
     (takes.live, r ∷ rest.0, rest.1, (d.pending, subst P (request_lives c.pending r d takes.judged) takes.judged, rest.2), inl start)
 
-start_later : (hows : List flat.Outcome) (c d : Connection) (s : List ℕ)
-    → Begins {W = flat.Outcome} {M = Unit {0}} (λ how given m text n. Unit {0}) hows c tt s d tt → GivesStart d → GivesStart c
-start_later [] c d s (dc, se, nm) start = subst GivesStart dc start
-start_later (how ∷ hows) c d s (g, a, f, mid, r, takes, went, on, is) start =
-    start_behind c g a takes (start_later hows a d r on start)
+filing_later : (hows : List flat.Outcome) (c d : Connection) (s : List ℕ)
+    → Begins {W = flat.Outcome} {M = Unit {0}} (λ how given m text n. Unit {0}) hows c tt s d tt → GivesFiling d → GivesFiling c
+filing_later [] c d s (dc, se, nm) start = subst GivesFiling dc start
+filing_later (how ∷ hows) c d s (g, a, f, mid, r, takes, went, on, is) start =
+    filing_behind c g a takes (filing_later hows a d r on start)
 
 -- ---- faults
 
@@ -129,19 +127,19 @@ answered_front (flat.Outcome.Answered ∷ hows) how good = answered_front hows h
 answered_front (flat.Outcome.Failed left ∷ hows) how good = absurd good
 answered_front (flat.Outcome.NoMemory ∷ hows) how good = absurd good
 
-one_rose : (how : Outcome) (left : Saved) (before now : ℕ) → OutcomeCause how before now
+one_rose : (how : Outcome) (left : FilesKnown) (before now : ℕ) → OutcomeCause how before now
     → RoseBy (flat.failed_in (outcome_by how left ∷ [])) before now
 one_rose Answered left before now cause = omega (arith, cause)
 one_rose Failed left before now cause = cause
 one_rose NoMemory left before now cause = omega (arith, cause)
 
-one_kept : (how : Outcome) (left : Saved) (before now : ℕ) → OutcomeCause how before now
+one_kept : (how : Outcome) (left : FilesKnown) (before now : ℕ) → OutcomeCause how before now
     → flat.AreAnswered (outcome_by how left ∷ []) → now ≡ before
 one_kept Answered left before now cause good = cause
 one_kept Failed left before now cause good = absurd good
 one_kept NoMemory left before now cause good = absurd good
 
-counts_more : (hows : List flat.Outcome) (how : Outcome) (left : Saved) (before mid now : ℕ) → CountsFaults hows before mid
+counts_more : (hows : List flat.Outcome) (how : Outcome) (left : FilesKnown) (before mid now : ℕ) → CountsFaults hows before mid
     → OutcomeCause how mid now → CountsFaults (hows ++ outcome_by how left ∷ []) before now
 counts_more hows how left before mid now counted cause = record {
   rose = let one = one_rose how left mid now cause in let many = counted.rose in
@@ -157,27 +155,23 @@ not_empty (first ∷ hows) how is = cc
 -- ---- one more answer
 
 pub answers_more : (monitor now after : Monitor) (text written : List ℕ) (known mid left : FilesKnown)
-    → HasAnswered monitor now text known mid → Replies now after text written mid left
-    → (Tells mid.health → SameFiles mid left) → Lasts mid.health left.health → HasAnswered monitor after written known left
-answers_more monitor now after text written known mid left a r same lasts = record {
-  outcomes = a.outcomes ++ outcome_by r.how left.saved ∷ [];
-  given = begins_more {W = flat.Outcome} {M = Unit {0}} (λ how given m text n. Unit {0}) a.outcomes (outcome_by r.how left.saved)
+    → HasAnswered monitor now text known mid → Replied now after text written mid left
+    → Lasts mid.health left.health → HasAnswered monitor after written known left
+answers_more monitor now after text written known mid left a r lasts = record {
+  outcomes = a.outcomes ++ outcome_by r.how left ∷ [];
+  given = begins_more {W = flat.Outcome} {M = Unit {0}} (λ how given m text n. Unit {0}) a.outcomes (outcome_by r.how left)
       monitor.front now.front after.front tt tt tt [] [] r.given a.given r.takes tt;
-  counted = counts_more a.outcomes r.how left.saved known.health.faults mid.health.faults left.health.faults a.counted r.cause;
-  uncalled = λ never. r.uncalled (λ start. never (start_later a.outcomes monitor.front now.front [] a.given start)) ∙ a.uncalled never;
-  same = λ none. absurd (not_empty a.outcomes (outcome_by r.how left.saved) none);
+  counted = counts_more a.outcomes r.how left known.health.faults mid.health.faults left.health.faults a.counted r.replies.cause;
+  uncalled = λ never. r.uncalled (λ start. never (filing_later a.outcomes monitor.front now.front [] a.given start)) ∙ a.uncalled never;
+  same = λ none. absurd (not_empty a.outcomes (outcome_by r.how left) none);
   went = λ told m is.
       let p = a.went told m is in
-      let q = r.went (a.lasts.still told) p.0 p.2 in (
+      let q = r.replies.went (a.lasts.still told) p.0 p.2 in (
         q.0,
-        subst (λ (t : List ℕ). Begins RequestStep (a.outcomes ++ outcome_by r.how left.saved ∷ []) monitor.front m t after.front q.0) (sym r.writes)
-            (begins_more RequestStep a.outcomes (outcome_by r.how left.saved) monitor.front now.front after.front m p.0 q.0 text r.reply r.given p.1 r.takes q.1),
+        subst (λ (t : List ℕ). Begins RequestStep (a.outcomes ++ outcome_by r.how left ∷ []) monitor.front m t after.front q.0) (sym r.replies.writes)
+            (begins_more RequestStep a.outcomes (outcome_by r.how left) monitor.front now.front after.front m p.0 q.0 text r.replies.reply r.given p.1 r.takes q.1),
         q.2,
       );
-  files = λ told. record {
-    saved = (same (a.lasts.still told)).saved ∙ (a.files told).saved;
-    calls = (same (a.lasts.still told)).calls ∙ (a.files told).calls;
-  };
   lasts = record {
     still = λ told. lasts.still (a.lasts.still told);
     later = let x = a.lasts.later in let y = lasts.later in omega (arith, x, y);
@@ -192,55 +186,30 @@ nothing_yet monitor text known quiet = record {
   uncalled = λ never. refl;
   same = λ none. refl;
   went = λ told m is. (m, (refl, quiet, refl), is);
-  files = λ told. record { saved = refl; calls = refl };
   lasts = record { still = λ told. told; later = omega arith };
 }
 
 -- something is still due, and there was no memory to answer it
 pub answers_stop : (monitor now after : Monitor) (text : List ℕ) (known mid left : FilesKnown)
     → HasAnswered monitor now text known mid → after ≡ now → IsStillDue now.front
-    → ((GivesStart now.front → ⊥) → left.health.faults ≡ mid.health.faults)
+    → ((GivesFiling now.front → ⊥) → left.health.faults ≡ mid.health.faults)
     → (Tells mid.health → SameFiles mid left) → Lasts mid.health left.health → HasStopped monitor after known left
 answers_stop monitor now after text known mid left a same due uncalled files lasts = record {
   text = text;
   before = mid;
   answered = subst (λ (q : Monitor). HasAnswered monitor q text known mid) (sym same) a;
   due = subst (λ (q : Monitor). IsStillDue q.front) (sym same) due;
-  uncalled = λ never. uncalled (λ start. never (start_later a.outcomes monitor.front now.front [] a.given start)) ∙ a.uncalled never;
+  uncalled = λ never. uncalled (λ start. never (filing_later a.outcomes monitor.front now.front [] a.given start)) ∙ a.uncalled never;
   files = files;
   later = lasts.later;
 }
 
 -- nothing is due any more
-answers_still : (monitor now : Monitor) (text : List ℕ) (known mid left : FilesKnown)
-    → HasAnswered monitor now text known mid → left.health.faults ≡ mid.health.faults
-    → (Tells mid.health → SameFiles mid left) → Lasts mid.health left.health → HasAnswered monitor now text known left
-answers_still monitor now text known mid left a kept same lasts = record {
-  outcomes = a.outcomes;
-  given = a.given;
-  counted = record {
-    rose = subst (λ (n : ℕ). RoseBy (flat.failed_in a.outcomes) known.health.faults n) (sym kept) a.counted.rose;
-    kept = λ good. kept ∙ a.counted.kept good;
-  };
-  uncalled = λ never. kept ∙ a.uncalled never;
-  same = a.same;
-  went = λ told m is. let p = a.went told m is in
-      (p.0, p.1, subst (λ (s : Saved). IsBeside now s p.0) (sym (same (a.lasts.still told)).saved) p.2);
-  files = λ told. record {
-    saved = (same (a.lasts.still told)).saved ∙ (a.files told).saved;
-    calls = (same (a.lasts.still told)).calls ∙ (a.files told).calls;
-  };
-  lasts = record {
-    still = λ told. lasts.still (a.lasts.still told);
-    later = let x = a.lasts.later in let y = lasts.later in omega (arith, x, y);
-  };
-}
-
 pub answers_rest : (monitor now after : Monitor) (text written : List ℕ) (known mid left : FilesKnown)
-    → HasAnswered monitor now text known mid → Rests now after text written mid left
-    → (Tells mid.health → SameFiles mid left) → Lasts mid.health left.health → HasTalked monitor after written known left
-answers_rest monitor now after text written known mid left a r same lasts = record {
+    → HasAnswered monitor now text known mid → Rests now after text written mid left → HasTalked monitor after written known left
+answers_rest monitor now after text written known mid left a r = record {
   answered = subst (λ (t : List ℕ). HasAnswered monitor after t known left) (sym r.writes)
-      (subst (λ (q : Monitor). HasAnswered monitor q text known left) (sym r.same) (answers_still monitor now text known mid left a r.kept same lasts));
+      (subst (λ (q : Monitor). HasAnswered monitor q text known left) (sym r.same)
+      (subst (λ (k : FilesKnown). HasAnswered monitor now text known k) (sym r.kept) a));
   quiet = subst (λ (q : Monitor). IsQuiet q.front) (sym r.same) r.quiet;
 }

@@ -1,24 +1,24 @@
 -- How an item goes, and why one is not done to its end.
-use Rattle.std.specs.Prelude.{◌≡◌, ◌⊎◌, ℕ, ◌+◌, false, List, [], ◌∷◌, ◌++◌, Ok}
+use Rattle.std.specs.Prelude.{◌≡◌, ◌⊎◌, ℕ, ◌+◌, false, List, [], ◌∷◌}
 use Rattle.vm_types.specs.Causes.{RoseBy}
-use Rattle.vm_types.specs.Saved.{Saved, SameOthers}
-use Rattle.vm_outside.specs.Calls.{FileCall, MakesFront}
+use Rattle.vm_types.specs.Saved.{SameOthers}
+use Rattle.vm_outside.specs.Calls.{MakesFront}
 use Rattle.vm_outside.specs.Known.{FilesKnown, Tells}
 use Rattle.http_stream.specs.declared.request.Request.{Request}
 use Rattle.http_stream.specs.Stream.{Connection}
 use Rattle.http_stream.specs.Cuts.{Reads}
 use Rattle.http_stream.specs.Sent.{sent}
 use Rattle.http_stream.specs.Conversation.{arrived, new_connection, Conversation, ConversationFront}
-use Rattle.api_calls.specs.declared.call.ApiCall.TheVariants.{InstanceStart}
-use Rattle.api_calls.specs.Call.{call_of}
+use Rattle.gate_file.specs.Runs.{save_calls}
 use Rattle.script_text.specs.declared.item.Item.{Item}
 use Rattle.flat_machine.specs.Outcome.{Outcome, AreAnswered, failed_in}
-use Rattle.flat_machine.specs.Items.{ItemStep, PartStep, bytes_of, calls_of}
-use Rattle.flat_machine.specs.Machine.{Machine}
+use Rattle.flat_machine.specs.Items.{ItemStep, PartStep, bytes_of}
+use Rattle.flat_machine.specs.Machine.{AreFilesOf, Machine}
+use Rattle.monitor_machine.specs.Replying.{AsksFiles}
 use Rattle.monitor_core.specs.declared.item_error.ItemError.{ItemError}
 use Rattle.monitor_core.specs.declared.item_error.ItemError.TheVariants.{FilesFailed, OutOfMemory}
 use Rattle.monitor_core.specs.declared.monitor.Monitor.{Monitor}
-use Rattle.monitor_core.specs.State.{IsMonitor}
+use Rattle.monitor_core.specs.State.{IsMonitor, IsOwn}
 
 -- ---- the connection
 
@@ -47,20 +47,20 @@ pub record CountsFaults (outcomes : List Outcome) (before now : ℕ) : Type 0 wh
   pub rose : RoseBy (failed_in outcomes) before now
   pub kept : AreAnswered outcomes → now ≡ before
 
--- one of the requests is a start
-abbrev pub HasStart : List Request → Type 0
-HasStart [] = ⊥
-HasStart (r ∷ rs) = (call_of r ≡ Ok InstanceStart) ⊎ HasStart rs
+-- one of the requests calls the files
+abbrev pub HasFiling : List Request → Type 0
+HasFiling [] = ⊥
+HasFiling (r ∷ rs) = AsksFiles r ⊎ HasFiling rs
 
--- one of the requests that the connection gives is a start
-abbrev pub GivesStart : Connection → Type 0
-GivesStart c = (c.failed ≡ false) × (rs : List Request) × (d : Connection) × Reads c.pending rs d × HasStart rs
+-- one of the requests that the connection gives calls the files
+abbrev pub GivesFiling : Connection → Type 0
+GivesFiling c = (c.failed ≡ false) × (rs : List Request) × (d : Connection) × Reads c.pending rs d × HasFiling rs
 
--- the files are called for a file line and for a start alone
+-- the files are called for a file line and for such a request alone
 abbrev pub CallsFiles : Monitor → Item → Type 0
 CallsFiles monitor (Item.File name content) = Unit {0}
-CallsFiles monitor (Item.Bytes bytes) = GivesStart (arrived monitor.front bytes)
-CallsFiles monitor (Item.Api method path body) = GivesStart (arrived monitor.front (sent method path body))
+CallsFiles monitor (Item.Bytes bytes) = GivesFiling (arrived monitor.front bytes)
+CallsFiles monitor (Item.Api method path body) = GivesFiling (arrived monitor.front (sent method path body))
 CallsFiles monitor item = ⊥
 
 -- ---- an item
@@ -71,9 +71,8 @@ pub record ItemGoes (item : Item) (text : List ℕ) (monitor after : Monitor) (k
   pub given : Leads item outcomes monitor.front after.front
   pub counted : CountsFaults outcomes known.health.faults left.health.faults
   pub uncalled : (CallsFiles monitor item → ⊥) → left.health.faults ≡ known.health.faults
-  pub went : Tells known.health → (m : Machine) → IsMonitor monitor known.saved m
-      → (n : Machine) × ItemStep item outcomes m text n × IsMonitor after left.saved n
-  pub calls : Tells known.health → left.calls ≡ known.calls ++ calls_of item
+  pub went : Tells known.health → (m : Machine) → IsMonitor monitor known m
+      → (n : Machine) × ItemStep item outcomes m text n × IsMonitor after left n
 
 abbrev pub IsFile : Item → Type 0
 IsFile (Item.File name content) = Unit {0}
@@ -89,15 +88,12 @@ abbrev pub error_failures : ItemError → ℕ
 error_failures FilesFailed = 1
 error_failures OutOfMemory = 0
 
--- the files hold what the machine's do, but for a file line's own name
-abbrev pub LeavesFiles : Item → Saved → Saved → Type 0
-LeavesFiles (Item.File name content) saved left = SameOthers saved name left
-LeavesFiles item saved left = left ≡ saved
-
--- and no call was done, but for the first of a file line's
-abbrev pub LeavesCalls : Item → List FileCall → List FileCall → Type 0
-LeavesCalls (Item.File name content) calls left = MakesFront (calls_of (Item.File name content)) calls left
-LeavesCalls item calls left = left ≡ calls
+-- The files are the machine's. But at a file line its own name may hold anything, and the first of its calls were made
+-- behind the machine's.
+abbrev pub LeavesFiles : Item → Machine → FilesKnown → Type 0
+LeavesFiles (Item.File name content) m left =
+    SameOthers m.saved name left.saved × MakesFront (save_calls name content) m.calls left.calls
+LeavesFiles item m left = AreFilesOf left m
 
 -- as far as the connection came: as it was, or with the item's bytes the first of what is due was answered
 abbrev pub LeadsFront : Item → List Outcome → Connection → Connection → Type 0
@@ -112,7 +108,5 @@ pub record ItemStops (why : ItemError) (item : Item) (monitor after : Monitor) (
   pub rose : RoseBy (failed_in part + error_failures why) known.health.faults left.health.faults
   pub uncalled : (CallsFiles monitor item → ⊥) → left.health.faults ≡ known.health.faults
   pub same : part ≡ [] → after ≡ record monitor { front = after.front }
-  pub went : Tells known.health → (m : Machine) → IsMonitor monitor known.saved m
-      → (n : Machine) × PartStep item part m unwritten n × IsMonitor after n.saved n
-      × LeavesFiles item n.saved left.saved
-  pub calls : Tells known.health → LeavesCalls item known.calls left.calls
+  pub went : Tells known.health → (m : Machine) → IsMonitor monitor known m
+      → (n : Machine) × PartStep item part m unwritten n × IsOwn after n × LeavesFiles item n left

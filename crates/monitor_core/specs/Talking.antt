@@ -9,7 +9,7 @@ use Rattle.flat_machine.specs.Outcome.{Outcome}
 use Rattle.flat_machine.specs.Machine.{Machine}
 use Rattle.flat_machine.specs.Requests.{RequestStep}
 use Rattle.monitor_core.specs.declared.monitor.Monitor.{Monitor}
-use Rattle.monitor_core.specs.Going.{CountsFaults, GivesStart}
+use Rattle.monitor_core.specs.Going.{CountsFaults, GivesFiling}
 use Rattle.monitor_core.specs.State.{IsBeside}
 
 -- a conversation of which nothing is said of what is still due
@@ -31,11 +31,10 @@ pub record HasAnswered (monitor now : Monitor) (text : List ℕ) (known left : F
   pub outcomes : List Outcome
   pub given : BeginsAny outcomes monitor.front now.front
   pub counted : CountsFaults outcomes known.health.faults left.health.faults
-  pub uncalled : (GivesStart monitor.front → ⊥) → left.health.faults ≡ known.health.faults
+  pub uncalled : (GivesFiling monitor.front → ⊥) → left.health.faults ≡ known.health.faults
   pub same : outcomes ≡ [] → now ≡ record monitor { front = now.front }
-  pub went : Tells known.health → (m : Machine) → IsBeside monitor known.saved m
-      → (n : Machine) × Begins RequestStep outcomes monitor.front m text now.front n × IsBeside now left.saved n
-  pub files : Tells known.health → SameFiles known left
+  pub went : Tells known.health → (m : Machine) → IsBeside monitor known m
+      → (n : Machine) × Begins RequestStep outcomes monitor.front m text now.front n × IsBeside now left n
   pub lasts : Lasts known.health left.health
 
 -- and nothing is due any more
@@ -47,14 +46,14 @@ pub record HasTalked (monitor now : Monitor) (text : List ℕ) (known left : Fil
 abbrev pub IsStillDue : Connection → Type 0
 IsStillDue c = (given : Next) × (d : Connection) × Takes c given d
 
--- The first was answered, before which the files were so; then there was no memory for what is due, and a call on the
+-- The first was answered, after which the files were so; then there was no memory for what is due, and a call on the
 -- files may have failed for it.
 pub record HasStopped (monitor now : Monitor) (known left : FilesKnown) : Type 0 where
   pub text : List ℕ
   pub before : FilesKnown
   pub answered : HasAnswered monitor now text known before
   pub due : IsStillDue now.front
-  pub uncalled : (GivesStart monitor.front → ⊥) → left.health.faults ≡ known.health.faults
+  pub uncalled : (GivesFiling monitor.front → ⊥) → left.health.faults ≡ known.health.faults
   pub files : Tells before.health → SameFiles before left
   pub later : before.health.faults ≤ left.health.faults
 

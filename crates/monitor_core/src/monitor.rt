@@ -1,32 +1,25 @@
 // The monitor.
 ghost use Rattle.std.specs.Prelude.{◌≡◌, IfOk, IfErr, List, ℕ};
-ghost use Rattle.vm_outside.specs.Known.{Lasts};
-ghost use Rattle.vm_types.specs.Saved.{Saved};
+ghost use Rattle.vm_outside.specs.Known.{FilesKnown, Lasts};
 ghost use Rattle.flat_machine.specs.Machine.{Machine, is_off, console_of, new_machine};
 
 use crate::item_error::ItemError;
-use crate::saving::save;
-use api_rules::{Config, Ids};
+use gate_file::save_file;
 use http_front::Front;
+use monitor_machine::LiveMachine;
 use script_text::Item;
 use std::alloc::{AllocError, Global};
 use vm_outside::{Failed, Files};
 use vm_types::{ByteList, TextList};
-use vm_world::World;
 
-mod lines;
 mod replying;
 
-/// A machine: its id, its lineage with the snapshots that it knows, what was configured, its connection, and the guest
-/// once it has started.
+/// A machine, and the connection on which requests come to it.
 #[derive(Drop)]
 pub struct Monitor {
     alloc: Global,
-    id: TextList,
-    ids: Ids,
-    config: Config,
     front: Front,
-    guest: Option<World>,
+    machine: LiveMachine,
 }
 
 impl Monitor {
@@ -35,19 +28,14 @@ impl Monitor {
 
     /// A machine that has not started, with a new connection.
     pub fn new(alloc: Global, id: TextList) -> Result<Monitor, AllocError>
-        ensures { IfOk result (λ monitor. (saved : Saved) → IsMonitor monitor saved (new_machine id saved)) }
+        ensures { IfOk result (λ monitor. (known : FilesKnown) →
+            IsMonitor monitor known (new_machine id known.saved known.calls)) }
     {
+        let front = Front::new(alloc)?;
         Ok(Monitor {
             alloc,
-            id,
-            ids: Ids {
-                lineage: 0,
-                base: None,
-                next: 1,
-            },
-            config: Config::new(),
-            front: Front::new(alloc)?,
-            guest: None,
+            front,
+            machine: LiveMachine::new(alloc, id),
         })
     }
 
@@ -67,12 +55,14 @@ impl Monitor {
     {
         match item {
             Item::Nothing => Ok(ByteList::new(self.alloc)),
-            Item::File { name, content } => match save(files, name.as_str(), content.as_slice()) {
-                Ok(()) => Ok(ByteList::new(self.alloc)),
-                Err(Failed) => Err(ItemError::FilesFailed),
-            },
+            Item::File { name, content } => {
+                match save_file(files, name.as_str(), content.as_slice()) {
+                    Ok(()) => Ok(ByteList::new(self.alloc)),
+                    Err(Failed) => Err(ItemError::FilesFailed),
+                }
+            }
             Item::Lineage { lineage } => {
-                self.ids.lineage = lineage;
+                self.machine.set_lineage(lineage);
                 Ok(ByteList::new(self.alloc))
             }
             Item::Connect => {
@@ -86,31 +76,25 @@ impl Monitor {
                 body.as_slice(),
                 files,
             )?),
-            Item::Step { actor, count } => Ok(self.step(actor, count)?),
-            Item::Reply { actor, .. } => Ok(self.reply(actor)?),
-            Item::Console => Ok(self.take_console()?),
-            Item::Register { hart, number } => Ok(self.register(hart, number)?),
-            Item::Memory { address, length } => Ok(self.memory(address, length)?),
+            Item::Step { actor, count } => Ok(self.machine.step(actor, count)?),
+            Item::Reply { actor, .. } => Ok(self.machine.reply(actor)?),
+            Item::Console => Ok(self.machine.take_console()?),
+            Item::Register { hart, number } => Ok(self.machine.register(hart, number)?),
+            Item::Memory { address, length } => Ok(self.machine.memory(address, length)?),
         }
     }
 
     /// Whether the guest is off.
     pub fn is_off(&self) -> bool
-        ensures { (saved : Saved) (m : Machine) → IsMonitor self.now saved m → result ≡ is_off m }
+        ensures { (known : FilesKnown) (m : Machine) → IsMonitor self.now known m → result ≡ is_off m }
     {
-        match &self.guest {
-            None => false,
-            Some(guest) => guest.is_off(),
-        }
+        self.machine.is_off()
     }
 
     /// The console's bytes that were not drained.
     pub fn console(&self) -> &[u8]
-        ensures { (saved : Saved) (m : Machine) → IsMonitor self.now saved m → result.now ≡ console_of m }
+        ensures { (known : FilesKnown) (m : Machine) → IsMonitor self.now known m → result.now ≡ console_of m }
     {
-        match &self.guest {
-            None => &[],
-            Some(guest) => guest.console(),
-        }
+        self.machine.console()
     }
 }

@@ -6,7 +6,7 @@ use Rattle.monitor_cli.proofs.Finishing.{closes}
 use Rattle.monitor_cli.proofs.replaying.replay.Goals as goal
 
 pub returns-in_default-clause-so_far : goal.returns-in_default-clause-so_far
-returns-in_default-clause-so_far g c = λ told. nothing_begun _ _ refl
+returns-in_default-clause-so_far g c = λ told. nothing_begun _ _ (record { saved_is = refl; calls_is = refl })
 
 pub returns-in-Err-clause-so_far : goal.returns-in-Err-clause-so_far
 returns-in-Err-clause-so_far g c = λ told.

@@ -1,4 +1,5 @@
-use Rattle.std.proofs.Common.{[], arith, refl, sym, ◌∙◌}
+use Rattle.std.proofs.Common.{◌≡◌, [], List, ℕ, arith, refl, sym, subst, ◌∙◌}
+use Rattle.script_text.specs.Lines.{judged}
 use Rattle.monitor_cli.proofs.Arriving.{goes_on}
 use Rattle.monitor_cli.proofs.Counts.{lasts_more}
 use Rattle.monitor_cli.proofs.Halting.{bad_line, item_ends, no_memory}
@@ -37,3 +38,11 @@ lines-preserved g c =
           goes_on start before came rest _ _ _ so_far c.next.new.self c.in-Line.item gave.1 (sym (c.is_off.ensures _ _ so_far.is) ∙ c.if-is_off.false)
           (was.lasts_files.still tf) (was.lasts_sink.still tk) _ _ _ ran.done;
     }
+
+pub returns-then-is_off-clause-paused : goal.returns-then-is_off-clause-paused
+returns-then-is_off-clause-paused g c = λ known m is. sym (c.is_off.ensures known m is) ∙ c.if-is_off.true
+
+pub returns-in-Nothing-clause-paused : goal.returns-in-Nothing-clause-paused
+returns-in-Nothing-clause-paused g c =
+    let gave = rw c.in-Nothing.is at c.in-Ok.ensures.ok in
+    (subst (λ (held : List ℕ). judged held ≡ []) (sym gave.1) gave.0, λ known m is. sym (c.is_off.ensures known m is) ∙ c.if-is_off.false)

@@ -1,0 +1,290 @@
+-- What a plan does is what the machine does.
+use Rattle.std.proofs.Common.{◌≡◌, ℕ, ◌≤◌, ◌⊎◌, inl, inr, Bool, true, false, refl, sym, ap, subst, ◌∙◌, List, length, Option, Some, None, Ok, Err, Result}
+use Rattle.std.proofs.Math.Nat.{le_refl}
+use Rattle.std.specs.Prelude.{option_map}
+use Rattle.vm_types.specs.Saved.{Saved}
+use Rattle.refusals.specs.declared.refusal.Refusal.{Refusal}
+use Rattle.http_stream.specs.declared.request.Request.{Request}
+use Rattle.http_stream.specs.declared.request.Next.{Next}
+use Rattle.http_stream.specs.declared.request.Next.TheVariants as next
+use Rattle.vm_outside.specs.Filing.{SameFiles}
+use Rattle.vm_outside.specs.Known.{FilesKnown, Lasts, Tells}
+use Rattle.api_calls.specs.declared.call.ApiCall.{ApiCall}
+use Rattle.api_calls.specs.declared.call.ApiCall.TheVariants as call
+use Rattle.api_calls.specs.declared.call.VmState.TheVariants.{Paused, Resumed}
+use Rattle.api_calls.specs.Call.{call_of, ◌>>=◌}
+use Rattle.vm_config.specs.declared.config.Config.{Config}
+use Rattle.vm_config.specs.declared.config.Phase.{Phase}
+use Rattle.vm_config.specs.declared.change.Change.{Change}
+use Rattle.vm_config.specs.declared.change.Change.TheVariants as change
+use Rattle.vm_config.specs.Changes.{changed}
+use Rattle.api_rules.specs.declared.ids.Ids.{Ids}
+use Rattle.api_rules.specs.Table.{change_of, decision, image_refusal, misplaced, own_refusal, patched, unless, when_allowed}
+use Rattle.script_output.specs.Output.{reply_line}
+use Rattle.flat_guest.specs.Guest.{Guest}
+use Rattle.flat_guest.specs.Start.{started}
+use Rattle.flat_machine.specs.Outcome as flat
+use Rattle.flat_machine.specs.Machine.{AreFilesOf, Machine}
+use Rattle.flat_machine.specs.Machine as machine
+use Rattle.flat_machine.specs.Requests.{Leaves, LeavesBy, RequestStep, allowed, answer_by, by_files, configured, decided, image_of, started_from}
+use Rattle.vm_world.specs.Worlds.{IsWorld, WorldValue}
+use Rattle.monitor_plans.specs.declared.plan.Plan.{Plan}
+use Rattle.monitor_plans.specs.declared.plan.Plan.TheVariants as plan
+use Rattle.monitor_plans.specs.Plans.{PlanCause, is_start, plan_answer}
+use Rattle.monitor_plans.specs.Starting.{StartGives, image_in, start_refusal}
+use Rattle.monitor_machine.specs.declared.machine.LiveMachine.{LiveMachine}
+use Rattle.monitor_machine.specs.declared.outcome.Outcome.{Outcome}
+use Rattle.monitor_machine.specs.Plans.{Answers, IsPlan, decided_call, paused_by, phase_by, phase_of, plan_after, plan_line, plan_outcome}
+use Rattle.monitor_machine.specs.Replying.{OutcomeCause, Replies, calls_files, outcome_by}
+use Rattle.monitor_machine.specs.State.{IsGuestBy, IsLive, IsMachine}
+
+phase_one : (w : Option WorldValue) (g : Option Guest) (paused : Bool) → IsGuestBy w g → phase_by w paused ≡ machine.phase_by g paused
+phase_one None None paused is = refl
+phase_one (Some w) (Some g) true is = refl
+phase_one (Some w) (Some g) false is = refl
+phase_one (Some w) None paused is = absurd is
+phase_one None (Some g) paused is = absurd is
+
+pub phase_is : (live : LiveMachine) (m : Machine) → IsLive live m → phase_of live ≡ machine.phase_of m
+phase_is live m own =
+    phase_one live.guest m.guest live.paused own.guest_is ∙ ap (λ (b : Bool). machine.phase_by m.guest b) own.paused_is
+
+-- what the monitor decides is what the machine decides
+pub decided_is : (live : LiveMachine) (m : Machine) (request : Request) (it : ApiCall) → IsLive live m
+    → call_of request ≡ Ok it → decided_call (phase_of live) live.config live.ids it ≡ decided m (next.Request request)
+decided_is live m request it own asks =
+    ap (λ (p : Phase). decided_call p live.config live.ids it) (phase_is live m own)
+    ∙ ap (λ (c : Config). decided_call (machine.phase_of m) c live.ids it) own.config_is
+    ∙ ap (λ (i : Ids). decided_call (machine.phase_of m) m.config i it) own.ids_is
+    ∙ sym (ap (λ (r : Result ApiCall Refusal). r >>= λ x. decided_call (machine.phase_of m) m.config m.ids x) asks)
+
+-- ---- plans of each kind
+
+pub refused_plan : (m : Machine) (given : Next) (why : Refusal) → decided m given ≡ Err why → IsPlan (plan.Refused why) m given
+refused_plan m given why is = ap (λ (r : Result Change Refusal). r >>= by_files m) is
+
+not_start : (m : Machine) (it : Change) → is_start it ≡ false → by_files m it ≡ Ok it
+not_start m (change.BootSource source) unlike = refl
+not_start m (change.MachineConfig machine) unlike = refl
+not_start m change.Start unlike = cc
+not_start m (change.State state) unlike = refl
+not_start m (change.CreateSnapshot files) unlike = refl
+not_start m (change.LoadSnapshot load) unlike = refl
+not_start m (change.Tell part) unlike = refl
+
+pub changes_plan : (m : Machine) (given : Next) (it : Change) → decided m given ≡ Ok it → is_start it ≡ false → IsPlan (plan.Changes it) m given
+changes_plan m given it is unlike =
+    (ap (λ (r : Result Change Refusal). r >>= by_files m) is ∙ not_start m it unlike, unlike)
+
+start_is : (it : Change) → is_start it ≡ true → it ≡ change.Start
+start_is (change.BootSource source) like = cc
+start_is (change.MachineConfig machine) like = cc
+start_is change.Start like = refl
+start_is (change.State state) like = cc
+start_is (change.CreateSnapshot files) like = cc
+start_is (change.LoadSnapshot load) like = cc
+start_is (change.Tell part) like = cc
+
+-- the machine that has what the monitor has
+image_is : (live : LiveMachine) (known : FilesKnown) (m : Machine) → IsMachine live known m
+    → image_in live.config known.saved ≡ image_of m
+image_is live known m is =
+    ap (λ (c : Config). image_in c known.saved) is.own.config_is ∙ ap (λ (s : Saved). image_in m.config s) is.files.saved_is
+
+refusal_is : (live : LiveMachine) (known : FilesKnown) (m : Machine) → IsMachine live known m
+    → start_refusal live.config known.saved ≡ image_refusal m.config (option_map length (image_of m))
+refusal_is live known m is =
+    ap (λ (c : Config). start_refusal c known.saved) is.own.config_is ∙ ap (λ (s : Saved). start_refusal m.config s) is.files.saved_is
+
+start_plan_by : (it : Plan) (live : LiveMachine) (known : FilesKnown) (m : Machine) (given : Next) → IsMachine live known m
+    → decided m given ≡ Ok change.Start → StartGives it live.config known.saved → IsPlan it m given
+start_plan_by (plan.Refused why) live known m given is asks gives =
+    ap (λ (r : Result Change Refusal). r >>= by_files m) asks
+    ∙ ap (λ (o : Option Refusal). unless o (Ok change.Start)) (sym (refusal_is live known m is) ∙ gives)
+start_plan_by (plan.Changes it) live known m given is asks gives = absurd gives
+start_plan_by (plan.Starts w) live known m given is asks (none, image, there, world) = (
+  ap (λ (r : Result Change Refusal). r >>= by_files m) asks
+      ∙ ap (λ (o : Option Refusal). unless o (Ok change.Start)) (sym (refusal_is live known m is) ∙ none),
+  image,
+  sym (image_is live known m is) ∙ there,
+  subst (λ (c : Config). IsWorld w (started c.machine.mem_size_mib image)) is.own.config_is world,
+)
+start_plan_by plan.FilesFailed live known m given is asks gives = asks
+start_plan_by plan.NoMemory live known m given is asks gives = tt
+
+pub start_plan : (it : Plan) (c : Change) (live : LiveMachine) (known : FilesKnown) (m : Machine) (given : Next) → IsMachine live known m
+    → decided m given ≡ Ok c → is_start c ≡ true → StartGives it live.config known.saved → IsPlan it m given
+start_plan it c live known m given is asks like gives =
+    start_plan_by it live known m given is (asks ∙ ap Ok (start_is c like)) gives
+
+-- ---- what a plan answers and leaves
+
+line_is : (it : Plan) (live : LiveMachine) (m : Machine) → IsLive live m
+    → plan_line it live ≡ reply_line (plan_answer it m.id (machine.phase_of m) m.config)
+line_is it live m own =
+    ap (λ (i : List ℕ). reply_line (plan_answer it i (phase_of live) live.config)) own.id_is
+    ∙ ap (λ (p : Phase). reply_line (plan_answer it m.id p live.config)) (phase_is live m own)
+    ∙ ap (λ (c : Config). reply_line (plan_answer it m.id (machine.phase_of m) c)) own.config_is
+
+abbrev pub Does : Plan → Machine → Next → List ℕ → LiveMachine → FilesKnown → Type 0
+Does it m given text after known =
+    (n : Machine) × RequestStep (outcome_by (plan_outcome it) known) given m text n × IsMachine after known n
+
+-- an answer of the machine, whose change leaves n
+answered : (live : LiveMachine) (known : FilesKnown) (m n : Machine) (given : Next) (made : Result Change Refusal) (text : List ℕ)
+    → allowed m given ≡ made → text ≡ reply_line (answer_by m made) → LeavesBy m made n → RequestStep flat.Outcome.Answered given m text n
+answered live known m n given made text asks writes leaves = (
+  writes ∙ ap (λ (r : Result Change Refusal). reply_line (answer_by m r)) (sym asks),
+  subst (λ (r : Result Change Refusal). LeavesBy m r n) (sym asks) leaves,
+)
+
+-- what a change other than a start leaves
+abbrev plainly : Machine → Change → Machine
+plainly m it = record m { config = changed m.config it; paused = paused_by it m.paused }
+
+plain_leaves : (m : Machine) (it : Change) → is_start it ≡ false → Leaves m it (plainly m it)
+plain_leaves m (change.BootSource source) unlike = refl
+plain_leaves m (change.MachineConfig machine) unlike = refl
+plain_leaves m change.Start unlike = cc
+plain_leaves m (change.State Paused) unlike = refl
+plain_leaves m (change.State Resumed) unlike = refl
+plain_leaves m (change.CreateSnapshot files) unlike = refl
+plain_leaves m (change.LoadSnapshot load) unlike = refl
+plain_leaves m (change.Tell part) unlike = refl
+
+pub plan_does : (it : Plan) (live : LiveMachine) (known : FilesKnown) (m : Machine) (given : Next) → IsMachine live known m
+    → IsPlan it m given → Does it m given (plan_line it live) (plan_after it live) known
+plan_does (plan.Refused why) live known m given is asks =
+    (m, answered live known m m given (Err why) _ asks (line_is (plan.Refused why) live m is.own) refl, is)
+plan_does (plan.Changes it) live known m given is (asks, unlike) = (
+  plainly m it,
+  answered live known m (plainly m it) given (Ok it) _ asks (line_is (plan.Changes it) live m is.own) (plain_leaves m it unlike),
+  record {
+    own = record {
+      id_is = is.own.id_is;
+      ids_is = is.own.ids_is;
+      config_is = ap (λ (k : Config). changed k it) is.own.config_is;
+      guest_is = is.own.guest_is;
+      paused_is = ap (λ (b : Bool). paused_by it b) is.own.paused_is;
+    };
+    files = record { saved_is = is.files.saved_is; calls_is = is.files.calls_is };
+  },
+)
+plan_does (plan.Starts w) live known m given is (asks, image, there, world) =
+    let n : Machine = configured (started_from (Some image) m) change.Start in (
+      n,
+      answered live known m n given (Ok change.Start) _ asks (line_is (plan.Starts w) live m is.own)
+          (ap (λ (o : Option (List ℕ)). configured (started_from o m) change.Start) (sym there)),
+      record {
+        own = record {
+          id_is = is.own.id_is;
+          ids_is = is.own.ids_is;
+          config_is = ap (λ (k : Config). changed k change.Start) is.own.config_is;
+          guest_is = world;
+          paused_is = refl;
+        };
+        files = record { saved_is = is.files.saved_is; calls_is = is.files.calls_is };
+      },
+    )
+plan_does plan.FilesFailed live known m given is asks = (
+  m,
+  (
+    change.Start,
+    asks,
+    (λ i. record { saved = is.files.saved_is i; calls = is.files.calls_is i }, refl),
+    line_is plan.FilesFailed live m is.own,
+  ),
+  is,
+)
+plan_does plan.NoMemory live known m given is asks = (m, (line_is plan.NoMemory live m is.own, refl), is)
+
+-- ---- only a start asks for a start
+
+unless_ok : (o : Option Refusal) (due : Result Change Refusal) (c : Change) → unless o due ≡ Ok c → due ≡ Ok c
+unless_ok None due c is = is
+unless_ok (Some why) due c is = cc
+
+same_change : (a b : Change) → ◌≡◌ {A = Result Change Refusal} (Ok a) (Ok b) → a ≡ b
+same_change a b is = cc
+
+change_is : (p : Phase) (config : Config) (ids : Ids) (it : ApiCall) (c : Change) → decision p config ids it ≡ Ok c → change_of config it ≡ c
+change_is p config ids it c is =
+    same_change (change_of config it) c
+    (unless_ok (own_refusal p config ids it) (Ok (change_of config it)) c
+    (unless_ok (misplaced (when_allowed it) p) (unless (own_refusal p config ids it) (Ok (change_of config it))) c is))
+
+unlike : (p : Phase) (config : Config) (ids : Ids) (it : ApiCall) (c d : Change) → decision p config ids it ≡ Ok c → is_start c ≡ true
+    → change_of config it ≡ d → is_start d ≡ false → ⊥
+unlike p config ids it c d is start asks other =
+    let same : true ≡ false = sym start ∙ ap is_start (sym (change_is p config ids it c is) ∙ asks) ∙ other in cc
+
+pub only_start : (p : Phase) (config : Config) (ids : Ids) (it : ApiCall) (c : Change) → decided_call p config ids it ≡ Ok c → is_start c ≡ true
+    → calls_files it ≡ true
+only_start p config ids (call.PutBootSource source) c is start = absurd (unlike p config ids (call.PutBootSource source) c (change.BootSource source) is start refl refl)
+only_start p config ids (call.PutMachineConfig machine) c is start = absurd (unlike p config ids (call.PutMachineConfig machine) c (change.MachineConfig machine) is start refl refl)
+only_start p config ids (call.PatchMachineConfig patch) c is start = absurd (unlike p config ids (call.PatchMachineConfig patch) c (change.MachineConfig (patched config.machine patch)) is start refl refl)
+only_start p config ids call.InstanceStart c is start = refl
+only_start p config ids (call.PatchVm state) c is start = absurd (unlike p config ids (call.PatchVm state) c (change.State state) is start refl refl)
+only_start p config ids (call.CreateSnapshot files) c is start = cc
+only_start p config ids (call.LoadSnapshot load) c is start = cc
+only_start p config ids (call.Get part) c is start = absurd (unlike p config ids (call.Get part) c (change.Tell part) is start refl refl)
+
+-- ---- one thing that is due
+
+cause_by : (it done : Plan) (how : Outcome) (before now : ℕ) → (done ≡ it) ⊎ (done ≡ plan.NoMemory) → how ≡ plan_outcome done → PlanCause it before now
+    → before ≤ now → OutcomeCause how before now
+cause_by it done how before now (inl same) is cause later =
+    subst (λ (h : Outcome). OutcomeCause h before now) (sym (is ∙ ap plan_outcome same)) (own it before now cause later)
+  where
+    own : (it : Plan) (before now : ℕ) → PlanCause it before now → before ≤ now → OutcomeCause (plan_outcome it) before now
+    own (plan.Refused why) before now cause later = cause
+    own (plan.Changes c) before now cause later = cause
+    own (plan.Starts w) before now cause later = cause
+    own plan.FilesFailed before now cause later = cause
+    own plan.NoMemory before now cause later = later
+cause_by it done how before now (inr same) is cause later =
+    subst (λ (h : Outcome). OutcomeCause h before now) (sym (is ∙ ap plan_outcome same)) later
+
+done_plan : (it done : Plan) (m : Machine) (given : Next) → (done ≡ it) ⊎ (done ≡ plan.NoMemory) → IsPlan it m given → IsPlan done m given
+done_plan it done m given (inl same) is = subst (λ (p : Plan). IsPlan p m given) (sym same) is
+done_plan it done m given (inr same) is = subst (λ (p : Plan). IsPlan p m given) (sym same) tt
+
+-- files that hold what they held, and on which no call was made, are as good
+same_left : (how : Outcome) (known left : FilesKnown) → SameFiles known left → outcome_by how known ≡ outcome_by how left
+same_left Outcome.Answered known left same = refl
+same_left Outcome.Failed known left same =
+    ap flat.Outcome.Failed (λ i. record { saved = sym same.saved i; calls = sym same.calls i })
+same_left Outcome.NoMemory known left same = refl
+
+pub on_same : (live : LiveMachine) (known left : FilesKnown) (m : Machine) → SameFiles known left → IsMachine live known m → IsMachine live left m
+on_same live known left m same is = record {
+  own = is.own;
+  files = record { saved_is = same.saved ∙ is.files.saved_is; calls_is = same.calls ∙ is.files.calls_is };
+}
+
+-- what is due is answered by its plan
+pub replies : (it : Plan) (how : Outcome) (live after : LiveMachine) (text written : List ℕ) (known left : FilesKnown) (given : Next)
+    → Answers it how live after text written → PlanCause it known.health.faults left.health.faults → Lasts known.health left.health
+    → (Tells known.health → SameFiles known left) → (Tells known.health → (m : Machine) → IsMachine live known m → IsPlan it m given)
+    → Replies given how live after text written known left
+replies it how live after text written known left given a cause lasts same is_plan = record {
+  cause = cause_by it a.done how known.health.faults left.health.faults a.which a.how_is cause lasts.later;
+  reply = plan_line a.done live;
+  writes = a.writes;
+  went = λ told m here.
+      let does = plan_does a.done live known m given here (done_plan it a.done m given a.which (is_plan told m here)) in (
+        does.0,
+        subst (λ (h : flat.Outcome). RequestStep h given m (plan_line a.done live) does.0)
+            (ap (λ (h : Outcome). outcome_by h known) (sym a.how_is) ∙ same_left how known left (same told)) does.1,
+        subst (λ (q : LiveMachine). IsMachine q left does.0) (sym a.leaves)
+            (on_same (plan_after a.done live) known left does.0 (same told) does.2),
+      );
+}
+
+-- where no file is asked
+pub replies_alone : (it : Plan) (how : Outcome) (live after : LiveMachine) (text written : List ℕ) (known : FilesKnown) (given : Next)
+    → Answers it how live after text written → PlanCause it known.health.faults known.health.faults
+    → ((m : Machine) → IsPlan it m given) → Replies given how live after text written known known
+replies_alone it how live after text written known given a cause is_plan =
+    replies it how live after text written known known given a cause (record { still = λ told. told; later = le_refl known.health.faults })
+    (λ told. record { saved = refl; calls = refl }) (λ told m here. is_plan m)

@@ -1,0 +1,50 @@
+-- What comes of something that is due.
+use Rattle.std.specs.Prelude.{◌≡◌, ◌≤◌, ℕ, List, ◌++◌, Bool, true, false, Ok}
+use Rattle.vm_types.specs.Causes.{Rose}
+use Rattle.vm_outside.specs.Known.{FilesKnown, Tells}
+use Rattle.http_stream.specs.declared.request.Request.{Request}
+use Rattle.http_stream.specs.declared.request.Next.{Next}
+use Rattle.api_calls.specs.declared.call.ApiCall.{ApiCall}
+use Rattle.api_calls.specs.declared.call.ApiCall.TheVariants as call
+use Rattle.api_calls.specs.Call.{call_of}
+use Rattle.flat_machine.specs.Outcome as flat
+use Rattle.flat_machine.specs.Machine.{Machine}
+use Rattle.flat_machine.specs.Requests.{RequestStep}
+use Rattle.monitor_machine.specs.declared.machine.LiveMachine.{LiveMachine}
+use Rattle.monitor_machine.specs.declared.outcome.Outcome.{Outcome}
+use Rattle.monitor_machine.specs.declared.outcome.Outcome.TheVariants.{Answered, Failed, NoMemory}
+use Rattle.monitor_machine.specs.State.{IsMachine}
+
+-- the calls of the API that call the files
+abbrev pub calls_files : ApiCall → Bool
+calls_files call.InstanceStart = true
+calls_files it = false
+
+-- the request is such a call
+abbrev pub AsksFiles : Request → Type 0
+AsksFiles request = (it : ApiCall) × (call_of request ≡ Ok it) × (calls_files it ≡ true)
+
+-- what is left of the files, as the flat machine has it
+abbrev pub left_by : FilesKnown → flat.Left
+left_by known = record { saved = known.saved; calls = known.calls }
+
+-- how a request went, as the flat machine has it
+abbrev pub outcome_by : Outcome → FilesKnown → flat.Outcome
+outcome_by Answered known = flat.Outcome.Answered
+outcome_by Failed known = flat.Outcome.Failed (left_by known)
+outcome_by NoMemory known = flat.Outcome.NoMemory
+
+-- each 500 has a fault of its own, and an answer has none
+abbrev pub OutcomeCause : Outcome → ℕ → ℕ → Type 0
+OutcomeCause Answered before now = now ≡ before
+OutcomeCause Failed before now = Rose before now
+OutcomeCause NoMemory before now = before ≤ now
+
+-- what was due was answered so, its text is behind what was written, and each machine that it was is the machine after it
+pub record Replies (given : Next) (how : Outcome) (live after : LiveMachine) (text written : List ℕ)
+    (known left : FilesKnown) : Type 0 where
+  pub cause : OutcomeCause how known.health.faults left.health.faults
+  pub reply : List ℕ
+  pub writes : written ≡ text ++ reply
+  pub went : Tells known.health → (m : Machine) → IsMachine live known m
+      → (n : Machine) × RequestStep (outcome_by how left) given m reply n × IsMachine after left n

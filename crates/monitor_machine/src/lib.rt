@@ -1,0 +1,12 @@
+//! The machine that a monitor holds, without its connection: the lines of a script that bring no request, and what
+//! comes of one.
+//!
+//! A `LiveMachine` beside its files is the flat machines of `IsMachine`. Each of its calls makes of it what the flat
+//! machine makes of each of those; `answer_request` answers one, by the machine, 500 or 503.
+#![tactic(auto)]
+
+mod machine;
+mod outcome;
+
+pub use machine::LiveMachine;
+pub use outcome::Outcome;

@@ -1,0 +1,130 @@
+// What is answered to something that is due.
+ghost use Rattle.std.specs.Prelude.{◌≡◌, ◌⊎◌, ◌++◌, IfOk, OnOk, OnErr};
+ghost use Rattle.vm_outside.specs.Filing.{SameFiles};
+ghost use Rattle.vm_outside.specs.Known.{FilesKnown, Lasts, Tells};
+ghost use Rattle.http_stream.specs.declared.request.Next.{Next};
+ghost use Rattle.monitor_machine.specs.Plans.{paused_by};
+
+use crate::machine::LiveMachine;
+use crate::outcome::Outcome;
+use api_calls::VmState;
+use api_rules::Change;
+use http_stream::Request;
+use monitor_plans::Plan;
+use refusals::Refusal;
+use std::alloc::AllocError;
+use vm_outside::Files;
+use vm_types::ByteList;
+
+impl LiveMachine {
+    ghost use Rattle.monitor_machine.specs.Plans.{Answers, plan_after, plan_line, plan_outcome};
+    ghost use Rattle.monitor_machine.specs.Replying.{AsksFiles, Replies};
+
+    fn write_line(&self, plan: &Plan, text: &mut ByteList) -> Result<(), AllocError>
+        ensures ok { OnOk result (text.new ≡ text.old ++ plan_line plan.now self.now) }
+        ensures err { OnErr result (text.new ≡ text.old) }
+    {
+        let line = plan.line(self.alloc, self.id.as_str(), self.phase(), &self.config)?;
+        text.append(line.as_slice())
+    }
+
+    // Puts the plan's line behind the text, or that there was no memory for it, and answers which.
+    fn written(&self, plan: Plan, text: &mut ByteList) -> Result<Plan, AllocError>
+        ensures which { IfOk result (λ done. (done ≡ plan) ⊎ (done ≡ Plan.NoMemory)) }
+        ensures line { IfOk result (λ done. text.new ≡ text.old ++ plan_line done self.now) }
+    {
+        match self.write_line(&plan, text) {
+            Ok(()) => Ok(plan),
+            Err(_) => {
+                self.write_line(&Plan::NoMemory, text)?;
+                Ok(Plan::NoMemory)
+            }
+        }
+    }
+
+    // Does what was answered, which takes no memory.
+    fn perform(&mut self, plan: Plan) -> Outcome
+        ensures how { result ≡ plan_outcome plan }
+        ensures leaves { self.new ≡ plan_after plan self.old }
+    {
+        match plan {
+            Plan::Refused(_) => Outcome::Answered,
+            Plan::Changes(change) => {
+                self.paused = paused_by(&change, self.paused);
+                let _applied = self.config.apply(change);
+                Outcome::Answered
+            }
+            Plan::Starts(guest) => {
+                let _applied = self.config.apply(Change::Start);
+                self.guest = Some(guest);
+                self.paused = false;
+                Outcome::Answered
+            }
+            Plan::FilesFailed => Outcome::Failed,
+            Plan::NoMemory => Outcome::NoMemory,
+        }
+    }
+
+    // Answers what is due by its plan. An `Err` changes nothing.
+    fn answer(&mut self, plan: Plan, text: &mut ByteList) -> Result<Outcome, AllocError>
+        ensures ok { IfOk result (λ how. Answers plan how self.old self.new text.old text.new) }
+        ensures err { OnErr result (self.new ≡ self.old) }
+    {
+        let plan = self.written(plan, text)?;
+        Ok(self.perform(plan))
+    }
+
+    /// Answers a request, with its line behind the text: by the machine, 500 where a call on the files failed, or 503
+    /// where there was no memory. An `Err` changes nothing: there was no memory, not even for a 503.
+    pub fn answer_request<F: Files>(
+        &mut self,
+        request: &Request,
+        files: &mut F,
+        text: &mut ByteList,
+    ) -> Result<Outcome, AllocError>
+        ensures ok { IfOk result (λ how. Replies (Next.Request request.now) how self.old self.new text.old text.new
+            (F.known files.old) (F.known files.new)) }
+        ensures err { OnErr result (self.new ≡ self.old) }
+        ensures uncalled { (AsksFiles request.now → ⊥) →
+            (F.known files.new).health.faults ≡ (F.known files.old).health.faults }
+        ensures same { OnErr result (Tells (F.known files.old).health →
+            SameFiles (F.known files.old) (F.known files.new)) }
+        ensures lasts { Lasts (F.known files.old).health (F.known files.new).health }
+    {
+        let plan = self.plan(request, files);
+        let how = self.answer(plan, text)?;
+        Ok(how)
+    }
+
+    /// Answers bytes that are no request, by why they are none, or 503 where there was no memory. An `Err` changes
+    /// nothing.
+    pub fn refuse(&mut self, why: Refusal, text: &mut ByteList) -> Result<Outcome, AllocError>
+        ensures ok { IfOk result (λ how. (known : FilesKnown) →
+            Replies (Next.Bad why) how self.old self.new text.old text.new known known) }
+        ensures err { OnErr result (self.new ≡ self.old) }
+    {
+        let how = self.answer(Plan::Refused(why), text)?;
+        Ok(how)
+    }
+
+    /// Answers 503 to what there is no memory to look at. An `Err` changes nothing.
+    pub fn fall_short(&mut self, text: &mut ByteList) -> Result<Outcome, AllocError>
+        ensures ok { IfOk result (λ how. (given : Next) (known : FilesKnown) →
+            Replies given how self.old self.new text.old text.new known known) }
+        ensures err { OnErr result (self.new ≡ self.old) }
+    {
+        let how = self.answer(Plan::NoMemory, text)?;
+        Ok(how)
+    }
+}
+
+// Whether the guest stands still after the change.
+fn paused_by(change: &Change, paused: bool) -> bool
+    ensures { result ≡ paused_by change.now paused }
+{
+    match change {
+        Change::State(VmState::Paused) => true,
+        Change::State(VmState::Resumed) => false,
+        _ => paused,
+    }
+}

@@ -1,0 +1,29 @@
+-- What a plan answers, and why it is one.
+use Rattle.std.specs.Prelude.{◌≡◌, ℕ, List, Bool, true, false}
+use Rattle.vm_types.specs.Causes.{Rose}
+use Rattle.refusals.specs.declared.refusal.Refusal.TheVariants as refusal
+use Rattle.vm_config.specs.declared.config.Config.{Config}
+use Rattle.vm_config.specs.declared.config.Phase.{Phase}
+use Rattle.vm_config.specs.declared.change.Change.{Change}
+use Rattle.vm_config.specs.declared.change.Change.TheVariants as change
+use Rattle.api_rules.specs.declared.answer.Answer.{Answer}
+use Rattle.api_rules.specs.Answers.{accepted, refused}
+use Rattle.monitor_plans.specs.declared.plan.Plan.{Plan}
+use Rattle.monitor_plans.specs.declared.plan.Plan.TheVariants as plan
+
+abbrev pub is_start : Change → Bool
+is_start change.Start = true
+is_start it = false
+
+-- what it answers
+abbrev pub plan_answer : Plan → List ℕ → Phase → Config → Answer
+plan_answer (plan.Refused why) id p config = refused why
+plan_answer (plan.Changes it) id p config = accepted it id p config
+plan_answer (plan.Starts w) id p config = accepted change.Start id p config
+plan_answer plan.FilesFailed id p config = refused refusal.OutsideFailed
+plan_answer plan.NoMemory id p config = refused refusal.OutOfMemory
+
+-- a failure has a fault, and what did not come to one has none
+abbrev pub PlanCause : Plan → ℕ → ℕ → Type 0
+PlanCause plan.FilesFailed before now = Rose before now
+PlanCause it before now = now ≡ before
