@@ -39,6 +39,7 @@ fn end_board_call(reply: HartReply, regs: &mut Regs)
 }
 
 /// The act on the board that the call wants, if any.
+#[inline(never)]
 pub fn call_wanted(regs: &Regs) -> Option<HartOp>
     ensures { op_in result ≡ asked (call regs.now) }
 {
@@ -57,6 +58,7 @@ pub fn call_wanted(regs: &Regs) -> Option<HartOp>
 }
 
 /// What the call makes of the registers, by the last reply.
+#[inline(never)]
 pub fn call_performed(regs: &mut Regs, reply: HartReply)
     ensures { regs.new ≡ ended (call regs.old) (reply_of reply) }
 {

@@ -76,7 +76,8 @@ pub fn start_regs(pc: u64, a0: u64, a1: u64) -> Regs
 
 impl Regs {
     /// The value of an integer register. x0 reads 0.
-    pub fn get(&self, register: Register) -> u64
+    #[inline]
+pub fn get(&self, register: Register) -> u64
         ensures { result ≡ reg self.now register }
     {
         let number = register.number();
@@ -84,7 +85,8 @@ impl Regs {
     }
 
     /// Puts a value into an integer register. What is written to x0 is dropped.
-    pub fn put(&mut self, register: Register, value: u64)
+    #[inline]
+pub fn put(&mut self, register: Register, value: u64)
         ensures { self.new ≡ with_reg self.old register value }
     {
         let number = register.number();
@@ -108,7 +110,8 @@ impl Regs {
     }
 
     /// Whether the granule of this address is held.
-    pub fn holds(&self, address: u64) -> bool
+    #[inline]
+pub fn holds(&self, address: u64) -> bool
         ensures { result ≡ holds self.now address }
     {
         match self.held {
