@@ -77,7 +77,7 @@ pub fn start_regs(pc: u64, a0: u64, a1: u64) -> Regs
 impl Regs {
     /// The value of an integer register. x0 reads 0.
     #[inline]
-pub fn get(&self, register: Register) -> u64
+    pub fn get(&self, register: Register) -> u64
         ensures { result ≡ reg self.now register }
     {
         let number = register.number();
@@ -86,7 +86,7 @@ pub fn get(&self, register: Register) -> u64
 
     /// Puts a value into an integer register. What is written to x0 is dropped.
     #[inline]
-pub fn put(&mut self, register: Register, value: u64)
+    pub fn put(&mut self, register: Register, value: u64)
         ensures { self.new ≡ with_reg self.old register value }
     {
         let number = register.number();
@@ -111,7 +111,7 @@ pub fn put(&mut self, register: Register, value: u64)
 
     /// Whether the granule of this address is held.
     #[inline]
-pub fn holds(&self, address: u64) -> bool
+    pub fn holds(&self, address: u64) -> bool
         ensures { result ≡ holds self.now address }
     {
         match self.held {
