@@ -119,6 +119,7 @@ impl Hart {
     }
 
     // Begins the next instruction by the reply to its fetch, which fits.
+    #[inline]
     #[tactic(auto, using(crate::proofs::Ends::fetched_word))]
     fn fetched(&mut self, reply: HartReply)
         requires between { self.old.begun ≡ None }
@@ -137,6 +138,7 @@ impl Hart {
     }
 
     // Goes on by a reply that fits.
+    #[inline]
     fn step(&mut self, reply: HartReply)
         requires { fits (hart_wants self.old) (reply_of reply) ≡ true }
         ensures { self.new ≡ hart_stepped self.old (reply_of reply) }
@@ -159,6 +161,15 @@ impl Hart {
                 }
             }
         }
+    }
+
+    /// The hart goes on by a reply in few bytes, which fits what it wants.
+    #[inline]
+    pub fn goes_on(&mut self, reply: HartReply)
+        requires { fits (hart_wants self.old) (reply_of reply) ≡ true }
+        ensures { self.new ≡ hart_next self.old (reply_of reply) }
+    {
+        self.step(reply);
     }
 
     /// The hart goes on by a reply in few bytes; one that doesn't fit what it wants leaves it.

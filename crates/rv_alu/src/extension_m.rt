@@ -123,6 +123,7 @@ fn remuw(a: u64, b: u64) -> u64
 }
 
 /// What an operation of the extension M computes of two values (unprivileged manual, 7.1 and 7.2).
+#[inline(never)]
 pub fn muldiv(op: MulDivOp, a: u64, b: u64) -> u64
     ensures { result ≡ muldiv op a b }
 {

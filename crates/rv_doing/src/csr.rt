@@ -15,6 +15,7 @@ use rv_supervisor::{
 use vm_types::BoardOp;
 
 /// The act on the board that a CSR instruction wants, if any.
+#[inline(never)]
 pub fn csr_wanted(
     number: u32,
     rd: Register,
@@ -41,6 +42,7 @@ pub fn csr_wanted(
 }
 
 /// What a CSR instruction makes of the registers, by the last reply.
+#[inline(never)]
 pub fn csr_performed(
     number: u32,
     rd: Register,

@@ -38,7 +38,7 @@ pub fn effect_of_word(word: u32, regs: &Regs) -> Effect
 
 /// The access that the effect of this word asks for behind the fetch, if any. An SC of a granule that the hart doesn't
 /// hold asks for none.
-#[inline]
+#[inline(always)]
 pub fn wanted(effect: Effect, word: u32, regs: &Regs) -> Option<HartOp>
     ensures { op_in result ≡ asked (performed effect word regs.now) }
 {
@@ -99,7 +99,7 @@ pub fn wanted(effect: Effect, word: u32, regs: &Regs) -> Option<HartOp>
 
 /// What the effect of this word makes of the registers, by the last reply to what it asks for. Where it asks for
 /// nothing, the reply is not looked at.
-#[inline]
+#[inline(always)]
 pub fn perform(effect: Effect, word: u32, regs: &mut Regs, reply: HartReply)
     ensures { regs.new ≡ ended (performed effect word regs.old) (reply_of reply) }
 {

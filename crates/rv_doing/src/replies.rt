@@ -11,6 +11,7 @@ use rv_rows::{Exception, LoadKind, Register};
 use rv_supervisor::{INTERRUPTS, Regs, finish, trap};
 
 /// The instruction ends with a value for rd.
+#[inline]
 pub fn end_with(rd: Register, value: u64, regs: &mut Regs)
     ensures { regs.new ≡ with_result rd value regs.old }
 {
@@ -18,6 +19,7 @@ pub fn end_with(rd: Register, value: u64, regs: &mut Regs)
     finish(regs);
 }
 
+#[inline]
 #[tactic(auto, using(crate::proofs::Widths::low_is))]
 pub fn end_load(kind: LoadKind, rd: Register, address: u64, reply: HartReply, regs: &mut Regs)
     ensures { regs.new ≡ after_load kind rd address (reply_of reply) regs.old }
@@ -31,6 +33,7 @@ pub fn end_load(kind: LoadKind, rd: Register, address: u64, reply: HartReply, re
     }
 }
 
+#[inline]
 pub fn end_store(address: u64, reply: HartReply, regs: &mut Regs)
     ensures { regs.new ≡ after_store address (reply_of reply) regs.old }
 {
@@ -40,6 +43,7 @@ pub fn end_store(address: u64, reply: HartReply, regs: &mut Regs)
     }
 }
 
+#[inline(never)]
 pub fn end_reserve(wide: bool, rd: Register, address: u64, reply: HartReply, regs: &mut Regs)
     ensures { regs.new ≡ after_reserve wide rd address (reply_of reply) regs.old }
 {
@@ -53,6 +57,7 @@ pub fn end_reserve(wide: bool, rd: Register, address: u64, reply: HartReply, reg
 }
 
 /// An SC of a granule that the hart doesn't hold fails, and the reply isn't looked at.
+#[inline(never)]
 pub fn end_conditional(rd: Register, address: u64, reply: HartReply, regs: &mut Regs)
     ensures { regs.new ≡ (if holds regs.old address then after_conditional rd address (reply_of reply) regs.old
         else with_result rd 1 (without_granule regs.old)) }
@@ -69,6 +74,7 @@ pub fn end_conditional(rd: Register, address: u64, reply: HartReply, regs: &mut 
     }
 }
 
+#[inline(never)]
 pub fn end_amo(wide: bool, rd: Register, address: u64, reply: HartReply, regs: &mut Regs)
     ensures { regs.new ≡ after_amo wide rd address (reply_of reply) regs.old }
 {

@@ -21,6 +21,7 @@ fn returned(reply: HartReply) -> Option<SbiReturn>
 }
 
 /// The act on the board that the call is, if any.
+#[inline(never)]
 pub fn call_wanted(regs: &Regs) -> Option<HartOp>
     ensures { op_in result ≡ asked (call regs.now) }
 {
@@ -31,6 +32,7 @@ pub fn call_wanted(regs: &Regs) -> Option<HartOp>
 }
 
 /// What the call makes of the registers, by the last reply.
+#[inline(never)]
 pub fn call_performed(regs: &mut Regs, reply: HartReply)
     ensures { regs.new ≡ ended (call regs.old) (reply_of reply) }
 {

@@ -18,6 +18,7 @@ fn count_down(regs: &mut Regs)
 }
 
 /// The instruction is finished, and the next one is at the target.
+#[inline]
 pub fn jump(regs: &mut Regs, target: u64)
     ensures { regs.new ≡ after_jump target regs.old }
 {
@@ -26,6 +27,7 @@ pub fn jump(regs: &mut Regs, target: u64)
 }
 
 /// The instruction is finished, and the next one is behind it.
+#[inline]
 pub fn finish(regs: &mut Regs)
     ensures { regs.new ≡ after_instruction regs.old }
 {
@@ -34,6 +36,7 @@ pub fn finish(regs: &mut Regs)
 }
 
 /// The instruction trapped: `value` goes into stval (privileged manual, supervisor part).
+#[inline(never)]
 pub fn trap(regs: &mut Regs, exception: Exception, value: u64)
     ensures { regs.new ≡ after_trap exception value regs.old }
 {
@@ -47,6 +50,7 @@ pub fn trap(regs: &mut Regs, exception: Exception, value: u64)
 }
 
 /// SRET: the hart goes on where it trapped, and a look is due.
+#[inline(never)]
 pub fn return_from_trap(regs: &mut Regs)
     ensures { regs.new ≡ after_sret regs.old }
 {
@@ -58,6 +62,7 @@ pub fn return_from_trap(regs: &mut Regs)
 }
 
 /// WFI: the look that is due shows whether the hart waits.
+#[inline(never)]
 pub fn wait(regs: &mut Regs)
     ensures { regs.new ≡ after_wfi regs.old }
 {

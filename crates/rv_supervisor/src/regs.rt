@@ -76,6 +76,7 @@ pub fn start_regs(pc: u64, a0: u64, a1: u64) -> Regs
 
 impl Regs {
     /// The value of an integer register. x0 reads 0.
+    #[inline]
     pub fn get(&self, register: Register) -> u64
         ensures { result ≡ reg self.now register }
     {
@@ -84,6 +85,7 @@ impl Regs {
     }
 
     /// Puts a value into an integer register. What is written to x0 is dropped.
+    #[inline]
     pub fn put(&mut self, register: Register, value: u64)
         ensures { self.new ≡ with_reg self.old register value }
     {
@@ -108,6 +110,7 @@ impl Regs {
     }
 
     /// Whether the granule of this address is held.
+    #[inline]
     pub fn holds(&self, address: u64) -> bool
         ensures { result ≡ holds self.now address }
     {

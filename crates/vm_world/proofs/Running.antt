@@ -17,7 +17,8 @@ use Rattle.rv_rows.specs.Loads.{width_bytes}
 use Rattle.rv_doing.specs.declared.hart_op.HartOp.{HartOp}
 use Rattle.rv_doing.specs.HartOps.{op_of}
 use Rattle.hart_trace.specs.Asks.{is_hart_op}
-use Rattle.hart_trace.specs.States.{hart_wants}
+use Rattle.hart_trace.proofs.Asks.{hart_asks}
+use Rattle.hart_trace.specs.States.{Hart, hart_wants}
 use Rattle.flat_guest.specs.Body.{reply_at}
 use Rattle.flat_guest.specs.Places.{without_devices}
 use Rattle.flat_guest.specs.Steps.{board_after, memory_after}
@@ -35,6 +36,13 @@ none_unfit pages board actor op whole reply same own is unfit =
     let fit : fits (op_of op) reply ≡ true = ap (fits (op_of op)) gives ∙ answer_fits (flat_of pages) board actor (without_devices (length (flat_of pages).bytes)) (op_of op) own in
     let both : true ≡ false = sym fit ∙ unfit in
     cc
+
+-- so does each reply to what the hart wants
+pub answer_fits_want : (pages : List PageValue) (board : Board) (actor : ActorId) (hart : Hart) (op : Op) (reply : Reply) → op ≡ hart_wants hart
+    → reply ≡ reply_at (place_with pages op) (flat_of pages) board actor op → fits (hart_wants hart) reply ≡ true
+answer_fits_want pages board actor hart op reply want is =
+    let gives : reply ≡ reply_at (place_with pages (hart_wants hart)) (flat_of pages) board actor (hart_wants hart) = is ∙ ap (λ (o : Op). reply_at (place_with pages o) (flat_of pages) board actor o) want in
+    ap (fits (hart_wants hart)) gives ∙ answer_fits (flat_of pages) board actor (without_devices (length (flat_of pages).bytes)) (hart_wants hart) (hart_asks hart)
 
 -- a read leaves everything
 read_leaves : (m : Memory) (at len : ℕ) (b : Bool) → m ≡ (let answer : Reply × Memory = cond b (Bytes (read_from m at len), m) (AccessFault, m) in answer.1)

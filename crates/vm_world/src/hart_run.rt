@@ -89,7 +89,7 @@ pub fn advance(pages: &mut PageSet, board: &mut Board, hart: &mut Hart, number: 
     ensures count { length pages.new ≡ length pages.old }
 {
     let reply = answer(pages, board, ActorId::Hart(number), hart.asks());
-    hart.takes(reply);
+    hart.goes_on(reply);
 }
 
 /// Events of the one hart, and how many there were.
