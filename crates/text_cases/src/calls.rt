@@ -1,44 +1,50 @@
 // A request as a call of the API.
+use crate::escapes::bytes_of;
 use api_calls::{ApiCall, Part, VmState};
 use api_json::{ReadError, read};
 use http_stream::{HeaderList, Request};
 use std::alloc::{AllocError, Global};
-use std::str::FromStr;
 use vm_types::{ByteList, TextList};
 
 /// The name of the call of a method, a path and a body, or the number of its refusal.
 pub fn told(alloc: Global, case: &str) -> Result<String, AllocError> {
     let (method, rest) = case.split_once(' ').unwrap_or((case, ""));
     let (path, body) = rest.split_once(' ').unwrap_or((rest, ""));
-    called(alloc, method, path, body.as_bytes())
-}
-
-/// The same of a body whose objects and lists are so many deep.
-pub fn deep(alloc: Global, depth: usize) -> Result<String, AllocError> {
-    let mut body = Vec::new(alloc);
-    body.extend_from_slice(b"{\"x\":")?;
-    for _ in 1..depth {
-        body.push(b'[')?;
-    }
-    for _ in 1..depth {
-        body.push(b']')?;
-    }
-    body.push(b'}')?;
-    called(alloc, "PUT", "/machine-config", body.as_slice())
-}
-
-fn called(alloc: Global, method: &str, path: &str, body: &[u8]) -> Result<String, AllocError> {
-    let request = Request {
-        method: TextList::copy_of(alloc, method)?,
-        path: TextList::copy_of(alloc, path)?,
-        headers: HeaderList::new(alloc),
-        body: ByteList::copy_of(alloc, body)?,
-    };
+    let request = request_of(
+        alloc,
+        method,
+        path,
+        ByteList::from_vec(joined(alloc, body)?),
+    )?;
     match read(alloc, &request) {
-        Ok(call) => String::from_str(alloc, name(&call)),
-        Err(ReadError::Refused(why)) => format!(in alloc; "{}", why.number()),
+        Ok(call) => name(&call).to_string(alloc),
+        Err(ReadError::Refused(why)) => why.number().to_string(alloc),
         Err(ReadError::OutOfMemory) => Err(AllocError),
     }
+}
+
+fn joined(alloc: Global, pieces: &str) -> Result<Vec<u8>, AllocError> {
+    let mut bytes = Vec::new(alloc);
+    for piece in pieces.split('|') {
+        bytes.extend_from_slice(&bytes_of(alloc, piece)?)?;
+    }
+    Ok(bytes)
+}
+
+fn request_of(
+    alloc: Global,
+    method: &str,
+    path: &str,
+    body: ByteList,
+) -> Result<Request, AllocError> {
+    let method = TextList::copy_of(alloc, method)?;
+    let path = TextList::copy_of(alloc, path)?;
+    Ok(Request {
+        method,
+        path,
+        headers: HeaderList::new(alloc),
+        body,
+    })
 }
 
 fn name(call: &ApiCall) -> &'static str {

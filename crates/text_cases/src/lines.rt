@@ -2,6 +2,7 @@
 use crate::escapes::unescaped;
 use script_text::{HostReply, Item, read_line, write_item};
 use std::alloc::{AllocError, Global};
+use vm_types::ByteList;
 
 /// The line that the item of a line is written as, and of some items what they hold; `none` for what is no line.
 pub fn told(alloc: Global, case: &str) -> Result<String, AllocError> {
@@ -9,8 +10,17 @@ pub fn told(alloc: Global, case: &str) -> Result<String, AllocError> {
     again(alloc, line.as_bytes())
 }
 
-/// The same of bytes that are any.
-pub fn again(alloc: Global, line: &[u8]) -> Result<String, AllocError> {
+/// Puts the lines of two that are no text at the end.
+pub fn add(alloc: Global, text: &mut ByteList) -> Result<(), AllocError> {
+    for line in [b"file \xff 00".as_slice(), b"# \xff\xfe\x00"] {
+        text.append(b"no text => ")?;
+        text.append(again(alloc, line)?.as_bytes())?;
+        text.append(b"\n")?;
+    }
+    Ok(())
+}
+
+fn again(alloc: Global, line: &[u8]) -> Result<String, AllocError> {
     let Some(item) = read_line(alloc, line)? else {
         return String::from_str(alloc, "none");
     };

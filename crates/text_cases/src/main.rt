@@ -1,14 +1,13 @@
 //! Prints stored cases with what they are read as or written as, for the gate to compare with `stdout`.
 //!
-//! A case is a line of a file of `data/`, with `\r`, `\n` and `\0` for those bytes and `|` where a text is cut in
-//! pieces. Each of `TABLES` is such a file. What is longer than a line of a file, and what is only written, is in `long`,
+//! A case is a line of a file of `data/`, with `\r`, `\n` and `\0` for those bytes, `|` where a text is cut in pieces, and
+//! `COUNT*TEXT` for a piece that is a text so many times. Each of `TABLES` is such a file. What is only written is in
 //! `written` and `refused`. A new case is one more line there and one in `stdout`: it costs no proof.
 #![tactic(auto)]
 
 mod calls;
 mod escapes;
 mod lines;
-mod long;
 mod refused;
 mod scripts;
 mod streams;
@@ -68,9 +67,9 @@ fn told(alloc: Global, kind: Kind, case: &str) -> Result<String, AllocError> {
 
 fn print_others(rt: &HostRuntime) -> io::Result<()> {
     let mut text = String::new(rt.alloc());
-    long::add(rt.alloc(), &mut text)?;
     written::add_stream(rt.alloc(), &mut text)?;
     let mut bytes = ByteList::new(rt.alloc());
+    lines::add(rt.alloc(), &mut bytes)?;
     refused::add(rt.alloc(), &mut bytes)?;
     written::add(rt.alloc(), &mut bytes)?;
     let written = str::from_utf8(bytes.as_slice()).unwrap_or("no text");

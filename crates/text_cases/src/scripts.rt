@@ -1,5 +1,5 @@
 // A script that comes in pieces.
-use crate::escapes::unescaped;
+use crate::escapes::bytes_of;
 use script_text::{Item, LineReader, Next};
 use std::alloc::{AllocError, Global};
 
@@ -8,14 +8,14 @@ pub fn told(alloc: Global, case: &str) -> Result<String, AllocError> {
     let mut reader = LineReader::new(alloc);
     let mut text = String::new(alloc);
     for piece in case.split('|') {
-        reader.feed(unescaped(alloc, piece)?.as_bytes())?;
+        reader.feed(&bytes_of(alloc, piece)?)?;
         take(&mut reader, &mut text)?;
     }
     Ok(text)
 }
 
 /// Puts the letters of up to nine lines at the end.
-pub fn take(reader: &mut LineReader, text: &mut String) -> Result<(), AllocError> {
+fn take(reader: &mut LineReader, text: &mut String) -> Result<(), AllocError> {
     for _ in 0..9 {
         match reader.next()? {
             Next::Line(Item::Nothing) => text.push('n')?,

@@ -1,5 +1,5 @@
 // The bytes that come on a connection, in pieces.
-use crate::escapes::unescaped;
+use crate::escapes::bytes_of;
 use http_front::Front;
 use http_stream::{Next, Request};
 use std::alloc::{AllocError, Global};
@@ -9,7 +9,7 @@ pub fn told(alloc: Global, case: &str) -> Result<String, AllocError> {
     let mut front = Front::new(alloc)?;
     let mut text = String::new(alloc);
     for piece in case.split('|') {
-        front.feed(unescaped(alloc, piece)?.as_bytes())?;
+        front.feed(&bytes_of(alloc, piece)?)?;
         take(alloc, &mut front, &mut text)?;
     }
     Ok(text)
@@ -20,7 +20,7 @@ pub fn peeked(alloc: Global, case: &str) -> Result<String, AllocError> {
     let mut front = Front::new(alloc)?;
     let mut text = String::new(alloc);
     for piece in case.split('|') {
-        front.feed(unescaped(alloc, piece)?.as_bytes())?;
+        front.feed(&bytes_of(alloc, piece)?)?;
         peek(alloc, &front.peek()?, &mut text)?;
         peek(alloc, &front.peek()?, &mut text)?;
         front.skip();
@@ -37,7 +37,7 @@ fn peek(alloc: Global, next: &Next, text: &mut String) -> Result<(), AllocError>
 }
 
 /// Puts what up to four calls give at the end, up to the first that gives no request yet.
-pub fn take(alloc: Global, front: &mut Front, text: &mut String) -> Result<(), AllocError> {
+fn take(alloc: Global, front: &mut Front, text: &mut String) -> Result<(), AllocError> {
     for _ in 0..4 {
         match front.next()? {
             Next::Request(request) => text.push_str(request_told(alloc, &request)?.as_str())?,
