@@ -1,0 +1,38 @@
+-- The calls of a create in their order, and what they leave.
+use Rattle.std.specs.Prelude.{◌≡◌, ◌≢◌, ℕ, ◌+◌, List, [], ◌∷◌, ◌++◌, length, Result, Ok, Err}
+use Rattle.std.specs.Int.{div_ceil}
+use Rattle.std.specs.FinMap.{get, insert}
+use Rattle.vm_types.specs.Causes.{Rose}
+use Rattle.vm_outside.specs.Calls.{FileCall, MakesFront}
+use Rattle.vm_outside.specs.Known.{FilesKnown}
+use Rattle.gate_file.specs.Gate.{fill_calls, open_calls}
+use Rattle.snap_writer.specs.Blocks.{block_size, block_writes}
+use Rattle.snap_writer.specs.declared.creating.CreateError.{CreateError}
+use Rattle.snap_writer.specs.declared.creating.CreateError.TheVariants.{Fault, OutOfMemory}
+
+-- a header behind the gate, and all of a memory's bytes behind the header
+abbrev pub memory_writes : List ℕ → List ℕ → List (ℕ × List ℕ)
+memory_writes head bytes = (1, head) ∷ block_writes (1 + length head) (div_ceil (length bytes) block_size) bytes
+
+-- The memory file and then the state file are closed, filled and synced; then the memory file is opened, and then the
+-- state file.
+unfoldable pub create_calls : List ℕ → List ℕ → List ℕ → List ℕ → List ℕ → List FileCall
+create_calls memory head bytes state body =
+    fill_calls memory (memory_writes head bytes) (head ++ bytes)
+    ++ (fill_calls state ((1, body) ∷ []) body ++ (open_calls memory (head ++ bytes) ++ open_calls state body))
+
+-- all of these calls were done: both files hold an open gate and what belongs behind it, and nothing else changed
+pub record Creates (memory head bytes state body : List ℕ) (old new : FilesKnown) : Type 0 where
+  pub saved : new.saved ≡ insert (insert old.saved memory (1 ∷ head ++ bytes)) state (1 ∷ body)
+  pub calls : new.calls ≡ old.calls ++ create_calls memory head bytes state body
+
+-- the first of them were done, and every name but these two holds what it held
+pub record CreatesPart (memory head bytes state body : List ℕ) (old new : FilesKnown) : Type 0 where
+  pub others : (name : List ℕ) → name ≢ memory → name ≢ state → get new.saved name ≡ get old.saved name
+  pub calls : MakesFront (create_calls memory head bytes state body) old.calls new.calls
+
+-- a fault was counted where there is one, and only there
+abbrev pub CreateCause : {T : Type 0} → Result T CreateError → ℕ → ℕ → Type 0
+CreateCause (Ok value) before now = now ≡ before
+CreateCause (Err Fault) before now = Rose before now
+CreateCause (Err OutOfMemory) before now = now ≡ before
