@@ -1,2 +1,3 @@
 pub mod Gate
+pub mod Reading
 pub mod Runs

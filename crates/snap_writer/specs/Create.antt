@@ -1,14 +1,11 @@
 -- The calls of a create in their order, and what they leave.
-use Rattle.std.specs.Prelude.{◌≡◌, ◌≢◌, ℕ, ◌+◌, List, [], ◌∷◌, ◌++◌, length, Result, Ok, Err}
+use Rattle.std.specs.Prelude.{◌≡◌, ◌≢◌, ℕ, ◌+◌, List, [], ◌∷◌, ◌++◌, length}
 use Rattle.std.specs.Int.{div_ceil}
 use Rattle.std.specs.FinMap.{get, insert}
-use Rattle.vm_types.specs.Causes.{Rose}
 use Rattle.vm_outside.specs.Calls.{FileCall, MakesFront}
 use Rattle.vm_outside.specs.Known.{FilesKnown}
 use Rattle.gate_file.specs.Gate.{fill_calls, open_calls}
 use Rattle.snap_writer.specs.Blocks.{block_size, block_writes}
-use Rattle.snap_writer.specs.declared.creating.CreateError.{CreateError}
-use Rattle.snap_writer.specs.declared.creating.CreateError.TheVariants.{Fault, OutOfMemory}
 
 -- a header behind the gate, and all of a memory's bytes behind the header
 abbrev pub memory_writes : List ℕ → List ℕ → List (ℕ × List ℕ)
@@ -30,9 +27,3 @@ pub record Creates (memory head bytes state body : List ℕ) (old new : FilesKno
 pub record CreatesPart (memory head bytes state body : List ℕ) (old new : FilesKnown) : Type 0 where
   pub others : (name : List ℕ) → name ≢ memory → name ≢ state → get new.saved name ≡ get old.saved name
   pub calls : MakesFront (create_calls memory head bytes state body) old.calls new.calls
-
--- a fault was counted where there is one, and only there
-abbrev pub CreateCause : {T : Type 0} → Result T CreateError → ℕ → ℕ → Type 0
-CreateCause (Ok value) before now = now ≡ before
-CreateCause (Err Fault) before now = Rose before now
-CreateCause (Err OutOfMemory) before now = now ≡ before

@@ -1,27 +1,19 @@
 // Both files of a snapshot.
-ghost use Rattle.std.specs.Prelude.{◌≡◌, ◌≢◌, ◌<◌, ◌^◌, length, IfOk, OnErr, OnOk};
+ghost use Rattle.std.specs.Prelude.{◌≡◌, ◌≢◌, ◌<◌, ◌^◌, length, OnErr, OnOk};
+ghost use Rattle.gate_file.specs.Reading.{FileCause};
 ghost use Rattle.vm_outside.specs.Known.{Called, Lasts, Tells};
 ghost use Rattle.guest_pages.specs.Pages.{flat_of};
-ghost use Rattle.snap_writer.specs.Create.{CreateCause, Creates, CreatesPart};
+ghost use Rattle.snap_writer.specs.Create.{Creates, CreatesPart};
 
 use crate::filling::{fill_memory, fill_state};
 use crate::pages::BLOCK;
-use gate_file::open_file;
+use gate_file::{FileError, open_file, zeros};
 use guest_pages::PageSet;
-use std::alloc::{AllocError, Global};
+use std::alloc::Global;
 use vm_outside::{Failed, Files};
 
-/// Why a snapshot was not made.
-#[derive(Clone, Copy, Debug, PartialEq, Eq, Drop)]
-pub enum CreateError {
-    /// A call on files failed. The two files hold whatever the calls so far leave.
-    Fault,
-    /// There was no memory, and no call on files was made.
-    OutOfMemory,
-}
-
 /// Writes a snapshot: to `memory` an open gate, `head` and all pages, to `state` an open gate and `body`. The two
-/// names differ. An `Err` leaves every other name as it was.
+/// names differ. An `Err` leaves every other name as it was; where there was no memory, no call on files was made.
 pub fn create<F: Files>(
     alloc: Global,
     files: &mut F,
@@ -30,30 +22,24 @@ pub fn create<F: Files>(
     body: &[u8],
     state: &str,
     memory: &str,
-) -> Result<(), CreateError>
+) -> Result<(), FileError>
     requires small { length pages.now < 2 ^ 32 }
     requires differ { memory.now ≢ state.now }
     ensures created { OnOk result (Tells (F.known files.old).health →
         Creates memory.now head.now (flat_of pages.now).bytes state.now body.now (F.known files.old) (F.known files.new)) }
     ensures begun { OnErr result (Tells (F.known files.old).health →
         CreatesPart memory.now head.now (flat_of pages.now).bytes state.now body.now (F.known files.old) (F.known files.new)) }
-    ensures unreached { result ≡ Err CreateError.OutOfMemory → files.new ≡ files.old }
-    ensures cause { CreateCause result (F.known files.old).health.faults (F.known files.new).health.faults }
+    ensures unreached { result ≡ Err FileError.OutOfMemory → files.new ≡ files.old }
+    ensures cause { FileCause result (F.known files.old).health.faults (F.known files.new).health.faults }
     ensures lasts { Lasts (F.known files.old).health (F.known files.new).health }
 {
-    let Ok(mut block) = empty_block(alloc) else {
-        return Err(CreateError::OutOfMemory);
+    let Ok(mut block) = zeros(alloc, BLOCK) else {
+        return Err(FileError::OutOfMemory);
     };
     let Ok(()) = write_files(files, pages, &mut block, head, body, state, memory) else {
-        return Err(CreateError::Fault);
+        return Err(FileError::Fault);
     };
     Ok(())
-}
-
-fn empty_block(alloc: Global) -> Result<Vec<u8>, AllocError>
-    ensures { IfOk result (λ block. length block.items ≡ 65536) }
-{
-    Ok(vec![in alloc; 0u8; BLOCK]?)
 }
 
 // The calls in their order.

@@ -12,4 +12,4 @@ mod pages;
 #[cfg(test)]
 mod tests;
 
-pub use creating::{CreateError, create};
+pub use creating::create;
