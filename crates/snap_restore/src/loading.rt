@@ -1,5 +1,6 @@
 // The pages of a memory file.
-ghost use Rattle.std.specs.Prelude.{◌≡◌, ◌≤◌, ◌<◌, ◌*◌, ◌^◌, List, ℕ, Some, false, length, take, drop, replicate, IfOk, OnOk};
+ghost use Rattle.std.specs.Prelude.{◌≡◌, ◌≤◌, ◌<◌, ◌*◌, ◌^◌, List, ℕ, Some, false, length};
+ghost use Rattle.std.specs.Prelude.{take, drop, replicate, IfOk, OnOk};
 ghost use Rattle.std.specs.FinMap.{get};
 ghost use Rattle.gate_file.specs.Reading.{FileCause};
 ghost use Rattle.guest_memory.specs.Reserved.{unreserved};
@@ -27,7 +28,8 @@ pub fn load_pages<F: Files>(
 ) -> Result<PageSet, FileError>
     requires early { at ≤ 2 ^ 63 }
     ensures bytes { IfOk result (λ pages. Tells (F.known files.old).health → (content : List ℕ) →
-        get (F.known files.old).saved name.now ≡ Some content → (flat_of pages).bytes ≡ take (4096 * count) (drop at content)) }
+        get (F.known files.old).saved name.now ≡ Some content →
+        (flat_of pages).bytes ≡ take (4096 * count) (drop at content)) }
     ensures count { IfOk result (λ pages. length pages ≡ count) }
     ensures reserved { IfOk result (λ pages. (flat_of pages).reserved ≡ unreserved count) }
     ensures marks { IfOk result (λ pages. marks_of pages ≡ replicate count false) }
@@ -59,7 +61,8 @@ fn read_pages<F: Files>(
     requires early { at ≤ 2 ^ 63 }
     requires room { length block.old ≡ 65536 }
     ensures bytes { OnOk result (Tells (F.known files.old).health → (content : List ℕ) →
-        get (F.known files.old).saved name.now ≡ Some content → (flat_of pages.new).bytes ≡ take (4096 * length pages.old) (drop at content)) }
+        get (F.known files.old).saved name.now ≡ Some content →
+        (flat_of pages.new).bytes ≡ take (4096 * length pages.old) (drop at content)) }
     ensures reserved { (flat_of pages.new).reserved ≡ (flat_of pages.old).reserved }
     ensures marks { marks_of pages.new ≡ marks_of pages.old }
     ensures count { length pages.new ≡ length pages.old }

@@ -28,7 +28,8 @@ pub fn read_start<F: Files>(
     most: u64,
 ) -> Result<Option<FileStart>, FileError>
     ensures found { IfOk result (λ found. Tells (F.known files.old).health →
-        option_map (λ start. (start.size, start.bytes.items)) found ≡ option_map (start_of most) (get (F.known files.old).saved name.now)) }
+        option_map (λ start. (start.size, start.bytes.items)) found
+        ≡ option_map (start_of most) (get (F.known files.old).saved name.now)) }
     ensures same { Tells (F.known files.old).health → SameFiles (F.known files.old) (F.known files.new) }
     ensures cause { FileCause result (F.known files.old).health.faults (F.known files.new).health.faults }
     ensures lasts { Lasts (F.known files.old).health (F.known files.new).health }

@@ -1,22 +1,28 @@
 -- The calls of a create in their order, and what they leave.
 use Rattle.std.specs.Prelude.{◌≡◌, ◌≢◌, ℕ, ◌+◌, List, [], ◌∷◌, ◌++◌, length}
-use Rattle.std.specs.Int.{div_ceil}
 use Rattle.std.specs.FinMap.{get, insert}
 use Rattle.vm_outside.specs.Calls.{FileCall, MakesFront}
 use Rattle.vm_outside.specs.Known.{FilesKnown}
 use Rattle.gate_file.specs.Gate.{fill_calls, open_calls}
-use Rattle.snap_writer.specs.Blocks.{block_size, block_writes}
+use Rattle.snap_writer.specs.Blocks.{writes_at}
 
 -- a header behind the gate, and all of a memory's bytes behind the header
 abbrev pub memory_writes : List ℕ → List ℕ → List (ℕ × List ℕ)
-memory_writes head bytes = (1, head) ∷ block_writes (1 + length head) (div_ceil (length bytes) block_size) bytes
+memory_writes head bytes = (1, head) ∷ writes_at (1 + length head) bytes
+
+-- each file closed, filled and synced
+abbrev pub memory_calls : List ℕ → List ℕ → List ℕ → List FileCall
+memory_calls name head bytes = fill_calls name (memory_writes head bytes) (head ++ bytes)
+
+abbrev pub state_calls : List ℕ → List ℕ → List FileCall
+state_calls name body = fill_calls name ((1, body) ∷ []) body
 
 -- The memory file and then the state file are closed, filled and synced; then the memory file is opened, and then the
 -- state file.
 unfoldable pub create_calls : List ℕ → List ℕ → List ℕ → List ℕ → List ℕ → List FileCall
 create_calls memory head bytes state body =
-    fill_calls memory (memory_writes head bytes) (head ++ bytes)
-    ++ (fill_calls state ((1, body) ∷ []) body ++ (open_calls memory (head ++ bytes) ++ open_calls state body))
+    memory_calls memory head bytes
+    ++ (state_calls state body ++ (open_calls memory (head ++ bytes) ++ open_calls state body))
 
 -- all of these calls were done: both files hold an open gate and what belongs behind it, and nothing else changed
 pub record Creates (memory head bytes state body : List ℕ) (old new : FilesKnown) : Type 0 where

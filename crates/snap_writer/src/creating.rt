@@ -26,9 +26,11 @@ pub fn create<F: Files>(
     requires small { length pages.now < 2 ^ 32 }
     requires differ { memory.now ≢ state.now }
     ensures created { OnOk result (Tells (F.known files.old).health →
-        Creates memory.now head.now (flat_of pages.now).bytes state.now body.now (F.known files.old) (F.known files.new)) }
+        Creates memory.now head.now (flat_of pages.now).bytes state.now body.now
+        (F.known files.old) (F.known files.new)) }
     ensures begun { OnErr result (Tells (F.known files.old).health →
-        CreatesPart memory.now head.now (flat_of pages.now).bytes state.now body.now (F.known files.old) (F.known files.new)) }
+        CreatesPart memory.now head.now (flat_of pages.now).bytes state.now body.now
+        (F.known files.old) (F.known files.new)) }
     ensures unreached { result ≡ Err FileError.OutOfMemory → files.new ≡ files.old }
     ensures cause { FileCause result (F.known files.old).health.faults (F.known files.new).health.faults }
     ensures lasts { Lasts (F.known files.old).health (F.known files.new).health }
@@ -56,9 +58,11 @@ fn write_files<F: Files>(
     requires room { length block.old ≡ 65536 }
     requires differ { memory.now ≢ state.now }
     ensures created { OnOk result (Tells (F.known files.old).health →
-        Creates memory.now head.now (flat_of pages.now).bytes state.now body.now (F.known files.old) (F.known files.new)) }
+        Creates memory.now head.now (flat_of pages.now).bytes state.now body.now
+        (F.known files.old) (F.known files.new)) }
     ensures begun { OnErr result (Tells (F.known files.old).health →
-        CreatesPart memory.now head.now (flat_of pages.now).bytes state.now body.now (F.known files.old) (F.known files.new)) }
+        CreatesPart memory.now head.now (flat_of pages.now).bytes state.now body.now
+        (F.known files.old) (F.known files.new)) }
     ensures called { Called (F.known files.old).health (F.known files.new).health result }
 {
     fill_memory(files, memory, head, pages, block)?;

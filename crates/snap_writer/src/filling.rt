@@ -1,9 +1,8 @@
 // One file, filled behind its closed gate.
-ghost use Rattle.std.specs.Prelude.{◌≡◌, ◌<◌, ◌^◌, [], ◌∷◌, ◌++◌, length, OnErr, OnOk};
-ghost use Rattle.gate_file.specs.Gate.{fill_calls};
+ghost use Rattle.std.specs.Prelude.{◌≡◌, ◌<◌, ◌^◌, ◌∷◌, ◌++◌, length, OnErr, OnOk};
 ghost use Rattle.gate_file.specs.Runs.{RunsAll, RunsPart};
 ghost use Rattle.guest_pages.specs.Pages.{flat_of};
-ghost use Rattle.snap_writer.specs.Create.{memory_writes};
+ghost use Rattle.snap_writer.specs.Create.{memory_calls, state_calls};
 ghost use Rattle.vm_outside.specs.Known.{Called, Tells};
 
 use crate::pages::write_pages;
@@ -22,10 +21,10 @@ pub(crate) fn fill_memory<F: Files>(
     requires small { length pages.now < 2 ^ 32 }
     requires room { length block.old ≡ 65536 }
     ensures filled { OnOk result (Tells (F.known files.old).health →
-        RunsAll name.now (fill_calls name.now (memory_writes head.now (flat_of pages.now).bytes) (head.now ++ (flat_of pages.now).bytes))
+        RunsAll name.now (memory_calls name.now head.now (flat_of pages.now).bytes)
         (0 ∷ head.now ++ (flat_of pages.now).bytes) (F.known files.old) (F.known files.new)) }
     ensures begun { OnErr result (Tells (F.known files.old).health →
-        RunsPart name.now (fill_calls name.now (memory_writes head.now (flat_of pages.now).bytes) (head.now ++ (flat_of pages.now).bytes))
+        RunsPart name.now (memory_calls name.now head.now (flat_of pages.now).bytes)
         (F.known files.old) (F.known files.new)) }
     ensures called { Called (F.known files.old).health (F.known files.new).health result }
 {
@@ -38,9 +37,9 @@ pub(crate) fn fill_memory<F: Files>(
 // The state file with this body, its gate closed, and synced.
 pub(crate) fn fill_state<F: Files>(files: &mut F, name: &str, body: &[u8]) -> Result<(), Failed>
     ensures filled { OnOk result (Tells (F.known files.old).health →
-        RunsAll name.now (fill_calls name.now ((1, body.now) ∷ []) body.now) (0 ∷ body.now) (F.known files.old) (F.known files.new)) }
+        RunsAll name.now (state_calls name.now body.now) (0 ∷ body.now) (F.known files.old) (F.known files.new)) }
     ensures begun { OnErr result (Tells (F.known files.old).health →
-        RunsPart name.now (fill_calls name.now ((1, body.now) ∷ []) body.now) (F.known files.old) (F.known files.new)) }
+        RunsPart name.now (state_calls name.now body.now) (F.known files.old) (F.known files.new)) }
     ensures called { Called (F.known files.old).health (F.known files.new).health result }
 {
     close_file(files, name)?;

@@ -9,7 +9,5 @@
 mod creating;
 mod filling;
 mod pages;
-#[cfg(test)]
-mod tests;
 
 pub use creating::create;

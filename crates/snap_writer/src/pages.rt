@@ -1,11 +1,10 @@
 // The pages of a memory file.
 ghost use Rattle.std.specs.Prelude.{◌≡◌, ◌<◌, ◌≤◌, ◌*◌, ◌^◌, ◌∷◌, ◌++◌, List, ℕ, Some, length, take, drop, OnErr, OnOk};
-ghost use Rattle.std.specs.Int.{div_ceil};
 ghost use Rattle.std.specs.FinMap.{get};
 ghost use Rattle.gate_file.specs.Gate.{behind_calls};
 ghost use Rattle.gate_file.specs.Runs.{RunsAll, RunsPart};
 ghost use Rattle.guest_pages.specs.Pages.{flat_of};
-ghost use Rattle.snap_writer.specs.Blocks.{block_size, block_writes};
+ghost use Rattle.snap_writer.specs.Blocks.{block_size, writes_at};
 ghost use Rattle.vm_outside.specs.Known.{Called, Tells};
 
 use guest_memory::PAGE_SIZE;
@@ -29,11 +28,13 @@ pub(crate) fn write_pages<F: Files>(
     requires room { length block.old ≡ 65536 }
     ensures filled { OnOk result (Tells (F.known files.old).health →
         (front : List ℕ) → get (F.known files.old).saved name.now ≡ Some (0 ∷ front) → at ≡ length (0 ∷ front) →
-        RunsAll name.now (behind_calls name.now (block_writes at (div_ceil (length (flat_of pages.now).bytes) block_size) (flat_of pages.now).bytes) (front ++ (flat_of pages.now).bytes))
+        RunsAll name.now
+        (behind_calls name.now (writes_at at (flat_of pages.now).bytes) (front ++ (flat_of pages.now).bytes))
         (0 ∷ front ++ (flat_of pages.now).bytes) (F.known files.old) (F.known files.new)) }
     ensures begun { OnErr result (Tells (F.known files.old).health →
         (front : List ℕ) → get (F.known files.old).saved name.now ≡ Some (0 ∷ front) → at ≡ length (0 ∷ front) →
-        RunsPart name.now (behind_calls name.now (block_writes at (div_ceil (length (flat_of pages.now).bytes) block_size) (flat_of pages.now).bytes) (front ++ (flat_of pages.now).bytes))
+        RunsPart name.now
+        (behind_calls name.now (writes_at at (flat_of pages.now).bytes) (front ++ (flat_of pages.now).bytes))
         (F.known files.old) (F.known files.new)) }
     ensures called { Called (F.known files.old).health (F.known files.new).health result }
 {
