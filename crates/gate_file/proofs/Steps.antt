@@ -1,8 +1,7 @@
 -- One call more in a run of calls on one file.
-use Rattle.std.proofs.Common.{◌≡◌, ◌≢◌, ℕ, ◌+◌, ◌==◌, Bool, false, cond, List, [], ◌∷◌, ◌++◌, length, Option, Some, Result, Ok, Err, inl, inr, refl, sym, ◌∙◌, ap, arith, append_assoc}
-use Rattle.std.proofs.lemmas.List.{append-nil}
-use Rattle.std.proofs.Math.Seq.{drop-nil}
-use Rattle.std.proofs.lemmas.Bool.Decides.{nat_tests}
+use Rattle.std.proofs.Common.{◌-◌, take, drop, replicate, subst, ◌≡◌, ◌≢◌, ℕ, ◌+◌, ◌==◌, Bool, false, cond, List, [], ◌∷◌, ◌++◌, length, Option, Some, Result, Ok, Err, inl, inr, refl, sym, ◌∙◌, ap, arith, append_assoc}
+use Rattle.std.proofs.lemmas.List.{append-nil, drop_all, take_at}
+use Rattle.std.proofs.lemmas.Bool.{ne_eqb}
 use Rattle.std.specs.Prelude.{OnErr}
 use Rattle.std.specs.FinMap.{get, insert}
 use Rattle.vm_types.specs.Saved.{Saved, SameOthers, overwritten, written}
@@ -23,8 +22,12 @@ on_err (Err why) P holds = holds
 
 -- ---- fronts of a script
 
-not_empty : (call : FileCall) (calls : List FileCall) → call ∷ calls ≢ []
+pub not_empty : (call : FileCall) (calls : List FileCall) → call ∷ calls ≢ []
 not_empty call calls is = cc
+
+pub some_end : (calls : List FileCall) (last : FileCall) → calls ++ last ∷ [] ≢ []
+some_end [] last is = cc
+some_end (call ∷ calls) last is = cc
 
 more_left : (rest after : List FileCall) → rest ≢ [] → rest ++ after ≢ []
 more_left [] after lacks is = lacks refl
@@ -57,24 +60,26 @@ front_none call calls c0 c1 is = record {
   calls = is ∙ sym (append-nil c0);
 }
 
-front_begun : (call next : FileCall) (calls c0 c1 : List FileCall) → MayBegin c0 call c1 → MakesFront (call ∷ next ∷ calls) c0 c1
-front_begun call next calls c0 c1 (inl none) = front_none call (next ∷ calls) c0 c1 none
-front_begun call next calls c0 c1 (inr one) = record {
-  done = call ∷ [];
-  rest = next ∷ calls;
-  parts = refl;
-  lacks = not_empty next calls;
-  calls = one;
-}
+front_begun : (call : FileCall) (rest c0 c1 : List FileCall) → rest ≢ [] → MayBegin c0 call c1 → MakesFront (call ∷ rest) c0 c1
+front_begun call rest c0 c1 more (inl none) = front_none call rest c0 c1 none
+front_begun call rest c0 c1 more (inr one) = record { done = call ∷ []; rest = rest; parts = refl; lacks = more; calls = one }
 
 -- ---- bytes that are written
 
-pub written_whole : (bytes : List ℕ) → written [] 0 bytes ≡ bytes
-written_whole [] = refl
-written_whole (b ∷ bytes) =
-    let some : (length (b ∷ bytes) == 0) ≡ false = grind (arith, nat_tests) in
-    ap (λ (t : Bool). cond t [] (overwritten [] 0 (b ∷ bytes))) some
-    ∙ ap (λ (l : List ℕ). (b ∷ bytes) ++ l) (drop-nil (0 + length (b ∷ bytes))) ∙ append-nil (b ∷ bytes)
+none_over : (t : List ℕ) → take (length t) (t ++ replicate (length t - length t) 0) ≡ t
+none_over t =
+    let none : length t - length t ≡ 0 = omega arith in
+    ap (λ (k : ℕ). take (length t) (t ++ replicate k 0)) none ∙ take_at t [] (length t) refl
+
+-- bytes that are written at the end
+pub written_end : (t bytes : List ℕ) → written t (length t) bytes ≡ t ++ bytes
+written_end t [] = sym (append-nil t)
+written_end t (b ∷ bs) =
+    let some : (length (b ∷ bs) == 0) ≡ false = ne_eqb (length (b ∷ bs)) 0 (λ none. omega arith) in
+    ap (λ (k : Bool). cond k t (overwritten t (length t) (b ∷ bs))) some
+    ∙ ap (λ (l : List ℕ). l ++ (b ∷ bs) ++ drop (length t + length (b ∷ bs)) t) (none_over t)
+    ∙ ap (λ (l : List ℕ). t ++ (b ∷ bs) ++ l) (drop_all (length t + length (b ∷ bs)) t (omega arith))
+    ∙ append-nil (t ++ (b ∷ bs))
 
 -- ---- runs
 
@@ -120,11 +125,11 @@ module _ (name : List ℕ) where
     calls = synced.calls ∙ ap (λ (o : Option (List ℕ)). old.calls ++ Synced name o ∷ []) there;
   }
 
-  -- a make or a write that failed, with a call after it in the script
-  pub call_part : (call next : FileCall) (rest : List FileCall) (old new : FilesKnown) → MayChange old name call new → RunsPart name (call ∷ next ∷ rest) old new
-  call_part call next rest old new change = record {
+  -- a make or a write that failed, with calls after it in the script
+  pub call_part : (call : FileCall) (rest : List FileCall) (old new : FilesKnown) → rest ≢ [] → MayChange old name call new → RunsPart name (call ∷ rest) old new
+  call_part call rest old new more change = record {
     others = change.others;
-    calls = front_begun call next rest old.calls new.calls change.calls;
+    calls = front_begun call rest old.calls new.calls more change.calls;
   }
 
   pub sync_part : (call : FileCall) (rest : List FileCall) (old new : FilesKnown) → SameFiles old new → RunsPart name (call ∷ rest) old new
@@ -132,3 +137,12 @@ module _ (name : List ℕ) where
     others = λ other differs. ap (λ (m : Saved). get m other) same.saved;
     calls = front_none call rest old.calls new.calls same.calls;
   }
+
+  pub same_runs : (a b : List FileCall) (t u : List ℕ) (old new : FilesKnown) → a ≡ b → t ≡ u → RunsAll name a t old new → RunsAll name b u old new
+  same_runs a b t u old new calls text runs = record {
+    saved = runs.saved ∙ ap (insert old.saved name) text;
+    calls = runs.calls ∙ ap (λ (l : List FileCall). old.calls ++ l) calls;
+  }
+
+  pub same_part : (a b : List FileCall) (old new : FilesKnown) → a ≡ b → RunsPart name a old new → RunsPart name b old new
+  same_part a b old new calls part = subst (λ (l : List FileCall). RunsPart name l old new) calls part

@@ -1,5 +1,5 @@
 -- A block goes into pages piece by piece.
-use Rattle.std.proofs.Common.{◌≡◌, ℕ, zero, suc, ◌+◌, ◌*◌, ◌<◌, ◌≤◌, List, [], ◌∷◌, ◌++◌, Option, None, length, take, drop, get_or, set, replicate, refl, sym, ap, ◌∙◌, subst, arith, length-append, append_assoc}
+use Rattle.std.proofs.Common.{◌≡◌, Bool, false, ℕ, zero, suc, ◌+◌, ◌*◌, ◌<◌, ◌≤◌, List, [], ◌∷◌, ◌++◌, Option, None, length, take, drop, get_or, set, replicate, refl, sym, ap, ◌∙◌, subst, arith, length-append, append_assoc}
 use Rattle.std.specs.List.{flat_map}
 use Rattle.std.proofs.Math.Seq.{take-add, map-set_same}
 use Rattle.std.proofs.lemmas.List.{drop-drop, length-take-le, take_all}
@@ -79,6 +79,20 @@ new_slots i (suc n) =
 
 pub new_memory : (pages : List PageValue) (n : ℕ) → pages ≡ new_pages 0 n → flat_of pages ≡ empty_memory n
 new_memory pages n is = ap flat_of is ∙ (λ k. record { bytes = new_bytes 0 n k; reserved = new_slots 0 n k })
+
+new_count : (i n : ℕ) → length (new_pages i n) ≡ n
+new_count i zero = refl
+new_count i (suc n) = ap suc (new_count (suc i) n)
+
+pub made_count : (pages : List PageValue) (n : ℕ) → pages ≡ new_pages 0 n → length pages ≡ n
+made_count pages n is = ap length is ∙ new_count 0 n
+
+new_marks : (i n : ℕ) → marks_of (new_pages i n) ≡ replicate n false
+new_marks i zero = refl
+new_marks i (suc n) = ap (λ (l : List Bool). false ∷ l) (new_marks (suc i) n)
+
+pub made_marks : (pages : List PageValue) (n : ℕ) → pages ≡ new_pages 0 n → marks_of pages ≡ replicate n false
+made_marks pages n is = ap marks_of is ∙ new_marks 0 n
 
 -- the bytes of a page are those of the memory, in their place
 pub bytes_there : (value pages : List PageValue) (i : ℕ) (d : PageValue) → value ≡ pages → ArePages 0 pages → i < length pages → (get_or pages i d).bytes ≡ take 4096 (drop (4096 * i) (flat_of value).bytes)

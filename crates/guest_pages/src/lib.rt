@@ -2,12 +2,13 @@
 //!
 //! A page is a place, and marked exactly where an act has written it since the mark was cleared. `PageSet` is all of
 //! them, and the one memory of the definition: an act on the page that has its bytes is the act on that memory, and
-//! a block that is loaded into pages is put there. `law` has what holds of marks.
+//! a block that is loaded into pages is put there, and what is copied out is read there. `law` has what holds of marks.
 #![tactic(auto)]
 
 mod law;
 mod page;
 mod page_set;
+mod reading;
 #[cfg(test)]
 mod tests;
 mod word_bytes;

@@ -1,5 +1,5 @@
 // All pages of guest memory.
-ghost use Rattle.std.specs.Prelude.{◌≡◌, ◌≤◌, ◌<◌, ◌+◌, ◌*◌, ◌%◌, ◌^◌, ℕ, length, take, drop, slice_set, slice_index_or, IfOk, MatchOption};
+ghost use Rattle.std.specs.Prelude.{◌≡◌, ◌≤◌, ◌<◌, ◌+◌, ◌*◌, ◌%◌, ◌^◌, ℕ, false, length, replicate, take, drop, slice_set, slice_index_or, IfOk, MatchOption};
 ghost use Rattle.vm_types.specs.declared.ids.PlaceId.{PlaceId};
 ghost use Rattle.guest_memory.specs.Memory.{touch};
 ghost use Rattle.guest_memory.specs.Route.{access_place, page_of};
@@ -36,6 +36,8 @@ impl PageSet {
     pub fn new(alloc: Global, count: u32) -> Result<PageSet, AllocError>
         ensures pages { IfOk result (λ pages. pages ≡ new_pages 0 count) }
         ensures memory { IfOk result (λ pages. flat_of pages ≡ empty_memory count) }
+        ensures count { IfOk result (λ pages. length pages ≡ count) }
+        ensures marks { IfOk result (λ pages. marks_of pages ≡ replicate count false) }
     {
         let mut pages = Vec::with_capacity(alloc, count as usize)?;
         for number in 0..count {

@@ -1,18 +1,11 @@
 -- Pages of zeros with an image in them are memory as a start makes it.
-use Rattle.std.proofs.Common.{◌≡◌, ℕ, zero, suc, ◌+◌, ◌*◌, ◌≤◌, List, length, refl, ap, ◌∙◌, arith, replicate, true}
+use Rattle.std.proofs.Common.{◌≡◌, ℕ, ◌+◌, ◌*◌, ◌≤◌, List, ap, ◌∙◌, arith, replicate, true}
 use Rattle.std.proofs.lemmas.Bool.{leb-true}
 use Rattle.guest_memory.specs.Boot.{boot_memory, bytes_of_mib, image_fits, image_offset, tree_size}
 use Rattle.guest_memory.specs.Memory.{Memory, put_at}
 use Rattle.guest_memory.specs.Ram.{page_count}
 use Rattle.guest_memory.specs.Reserved.{unreserved}
-use Rattle.guest_pages.specs.Pages.{PageValue, empty_memory, loaded, new_pages}
-
-new_pages-length : (i n : ℕ) → length (new_pages i n) ≡ n
-new_pages-length i zero = refl
-new_pages-length i (suc n) = ap suc (new_pages-length (suc i) n)
-
-pub made_length : (pages : List PageValue) (n : ℕ) → pages ≡ new_pages 0 n → length pages ≡ n
-made_length pages n is = ap length is ∙ new_pages-length 0 n
+use Rattle.guest_pages.specs.Pages.{empty_memory, loaded}
 
 pub image_room : (mib len : ℕ) → image_fits mib len ≡ true → 0x200000 + len ≤ 4096 * (256 * mib)
 image_room mib len fits =

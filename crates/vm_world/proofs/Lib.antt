@@ -1,4 +1,3 @@
 mod Booting
-mod Copying
 mod Events
 pub mod Running

@@ -1,5 +1,5 @@
 // Guest memory as a start makes it, and bytes read out of it.
-ghost use Rattle.std.specs.Prelude.{◌≡◌, ◌≤◌, ◌<◌, ◌+◌, ◌*◌, ◌/◌, ◌%◌, ◌^◌, true, length, take, drop};
+ghost use Rattle.std.specs.Prelude.{◌≡◌, ◌≤◌, ◌^◌, true, length};
 ghost use Rattle.std.specs.Prelude.{IfOk, OnErr, OnOk, is_ok};
 ghost use Rattle.guest_memory.specs.Boot.{boot_memory, image_fits};
 ghost use Rattle.guest_memory.specs.Memory.{read_from};
@@ -36,33 +36,6 @@ pub fn read_pages(pages: &PageSet, at: GuestAddr, out: &mut [u8]) -> Result<(), 
     if !is_ram(PAGE_SIZE * pages.len(), at, out.len()) {
         return Err(NotRam);
     }
-    copy_out(pages, (at - RAM_START) as usize, out);
+    pages.copy_out((at - RAM_START) as usize, out);
     Ok(())
-}
-
-// The bytes of memory from an offset on, page by page.
-fn copy_out(pages: &PageSet, offset: usize, out: &mut [u8])
-    requires few { length pages.now ≤ 2 ^ 28 }
-    requires whole { length (flat_of pages.now).bytes ≡ 4096 * length pages.now }
-    requires inside { offset + length out.old ≤ 4096 * length pages.now }
-    ensures { out.new ≡ take (length out.old) (drop offset (flat_of pages.now).bytes) }
-{
-    let mut done = 0;
-    while done < out.len() {
-        let from = offset + done;
-        let count = (PAGE_SIZE - from % PAGE_SIZE).min(out.len() - done);
-        out[done..done + count].copy_from_slice(piece(pages, from, count));
-        done += count;
-    }
-}
-
-// These bytes of memory, which are in one page.
-fn piece(pages: &PageSet, from: usize, count: usize) -> &[u8]
-    requires page { from / 4096 < length pages.now }
-    requires inside { from % 4096 + count ≤ 4096 }
-    ensures bytes { result.now ≡ take count (drop from (flat_of pages.now).bytes) }
-    ensures size { length result.now ≡ count }
-{
-    let inner = from % PAGE_SIZE;
-    &pages.page(from / PAGE_SIZE).bytes()[inner..inner + count]
 }

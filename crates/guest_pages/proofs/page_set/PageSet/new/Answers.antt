@@ -1,6 +1,6 @@
 use Rattle.std.proofs.Common.{◌∙◌, ap, arith}
 use Rattle.guest_pages.specs.Pages.{new_pages}
-use Rattle.guest_pages.proofs.Loading.{new_memory}
+use Rattle.guest_pages.proofs.Loading.{made_count, made_marks, new_memory}
 use Rattle.guest_pages.proofs.Sets.{made_are, one_page_more}
 use Rattle.guest_pages.proofs.page_set.PageSet.new.Goals as goal
 
@@ -12,3 +12,9 @@ invariant_of-result c = made_are c.loop-number.pages.items _ c.loop-number.invar
 
 pub returns-clause-memory : goal.returns-clause-memory
 returns-clause-memory c = new_memory c.loop-number.pages.items c.args.count (c.loop-number.invariant ∙ ap (new_pages 0) (omega arith))
+
+pub returns-clause-count : goal.returns-clause-count
+returns-clause-count c = made_count c.loop-number.pages.items c.args.count (c.loop-number.invariant ∙ ap (new_pages 0) (omega arith))
+
+pub returns-clause-marks : goal.returns-clause-marks
+returns-clause-marks c = made_marks c.loop-number.pages.items c.args.count (c.loop-number.invariant ∙ ap (new_pages 0) (omega arith))

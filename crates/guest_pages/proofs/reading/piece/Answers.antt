@@ -1,6 +1,6 @@
 use Rattle.std.proofs.Common.{◌∙◌}
-use Rattle.vm_world.proofs.Copying.{in_page}
-use Rattle.vm_world.proofs.memory.piece.Goals as goal
+use Rattle.guest_pages.proofs.Copying.{in_page}
+use Rattle.guest_pages.proofs.reading.piece.Goals as goal
 
 pub returns-clause-bytes : goal.returns-clause-bytes
 returns-clause-bytes c =

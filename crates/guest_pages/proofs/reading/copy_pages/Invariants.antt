@@ -1,6 +1,6 @@
 use Rattle.std.proofs.Common.{◌≡◌, ◌-◌, ◌≤◌, ◌++◌, length, take, drop}
 use Rattle.guest_pages.specs.Pages.{flat_of}
-use Rattle.vm_world.proofs.memory.copy_out.Given as goal
+use Rattle.guest_pages.proofs.reading.copy_pages.Given as goal
 
 abbrev pub invariant-loop-done : goal.invariant-loop-done
 invariant-loop-done l = record {

@@ -1,7 +1,7 @@
 use Rattle.std.proofs.Common.{ℕ, take, drop, ap, sym, ◌∙◌, arith, length-drop, drop-drop}
 use Rattle.guest_pages.specs.Pages.{flat_of}
-use Rattle.vm_world.proofs.Copying.{copied_more}
-use Rattle.vm_world.proofs.memory.copy_out.Goals as goal
+use Rattle.guest_pages.proofs.Copying.{copied_more}
+use Rattle.guest_pages.proofs.reading.copy_pages.Goals as goal
 
 pub loop-done-preserved : goal.loop-done-preserved
 loop-done-preserved c =

@@ -1,0 +1,81 @@
+// The pages of a memory file.
+ghost use Rattle.std.specs.Prelude.{◌≡◌, ◌≤◌, ◌<◌, ◌*◌, ◌^◌, List, ℕ, Some, false, length};
+ghost use Rattle.std.specs.Prelude.{take, drop, replicate, IfOk, OnOk};
+ghost use Rattle.std.specs.FinMap.{get};
+ghost use Rattle.gate_file.specs.Reading.{FileCause};
+ghost use Rattle.guest_memory.specs.Reserved.{unreserved};
+ghost use Rattle.guest_pages.specs.Pages.{flat_of, marks_of};
+ghost use Rattle.vm_outside.specs.Filing.{SameFiles};
+ghost use Rattle.vm_outside.specs.Known.{Called, Lasts, Tells};
+
+use gate_file::{FileError, zeros};
+use guest_memory::PAGE_SIZE;
+use guest_pages::PageSet;
+use std::alloc::Global;
+use vm_outside::{Failed, Files};
+
+// How many bytes one read takes at most: sixteen pages.
+const BLOCK: usize = 16 * PAGE_SIZE;
+
+/// So many new pages with the bytes that the file of this name has from an offset on. That there are too few, or no
+/// file, is a fault.
+pub fn load_pages<F: Files>(
+    alloc: Global,
+    files: &mut F,
+    name: &str,
+    at: u64,
+    count: u32,
+) -> Result<PageSet, FileError>
+    requires early { at ≤ 2 ^ 63 }
+    ensures bytes { IfOk result (λ pages. Tells (F.known files.old).health → (content : List ℕ) →
+        get (F.known files.old).saved name.now ≡ Some content →
+        (flat_of pages).bytes ≡ take (4096 * count) (drop at content)) }
+    ensures count { IfOk result (λ pages. length pages ≡ count) }
+    ensures reserved { IfOk result (λ pages. (flat_of pages).reserved ≡ unreserved count) }
+    ensures marks { IfOk result (λ pages. marks_of pages ≡ replicate count false) }
+    ensures same { Tells (F.known files.old).health → SameFiles (F.known files.old) (F.known files.new) }
+    ensures cause { FileCause result (F.known files.old).health.faults (F.known files.new).health.faults }
+    ensures lasts { Lasts (F.known files.old).health (F.known files.new).health }
+{
+    let Ok(mut block) = zeros(alloc, BLOCK) else {
+        return Err(FileError::OutOfMemory);
+    };
+    let Ok(mut pages) = PageSet::new(alloc, count) else {
+        return Err(FileError::OutOfMemory);
+    };
+    let Ok(()) = read_pages(files, name, at, &mut pages, &mut block) else {
+        return Err(FileError::Fault);
+    };
+    Ok(pages)
+}
+
+// Puts into all pages the bytes that the file has from an offset on, and marks nothing. `block` is where they are read.
+fn read_pages<F: Files>(
+    files: &mut F,
+    name: &str,
+    at: u64,
+    pages: &mut PageSet,
+    block: &mut [u8],
+) -> Result<(), Failed>
+    requires small { length pages.old < 2 ^ 32 }
+    requires early { at ≤ 2 ^ 63 }
+    requires room { length block.old ≡ 65536 }
+    ensures bytes { OnOk result (Tells (F.known files.old).health → (content : List ℕ) →
+        get (F.known files.old).saved name.now ≡ Some content →
+        (flat_of pages.new).bytes ≡ take (4096 * length pages.old) (drop at content)) }
+    ensures reserved { (flat_of pages.new).reserved ≡ (flat_of pages.old).reserved }
+    ensures marks { marks_of pages.new ≡ marks_of pages.old }
+    ensures count { length pages.new ≡ length pages.old }
+    ensures same { Tells (F.known files.old).health → SameFiles (F.known files.old) (F.known files.new) }
+    ensures called { Called (F.known files.old).health (F.known files.new).health result }
+{
+    let size = PAGE_SIZE * pages.len();
+    let mut done = 0;
+    while done < size {
+        let count = BLOCK.min(size - done);
+        files.read_at(name, at + done as u64, &mut block[..count])?;
+        pages.load(done, &block[..count]);
+        done += count;
+    }
+    Ok(())
+}

@@ -1,0 +1,13 @@
+//! A snapshot is written: a memory file and a state file, each behind a gate.
+//!
+//! `create` makes the calls of `specs/Create.antt` in that order: both files are closed, filled and synced, and then
+//! opened, the memory file first. Where a call failed it says how far it came. What stands in the files is handed in
+//! as bytes and pages. Memory is written in blocks of sixteen pages, and all that this needs is taken before the first
+//! call.
+#![tactic(auto)]
+
+mod creating;
+mod filling;
+mod pages;
+
+pub use creating::create;

@@ -1,0 +1,63 @@
+// The pages of a memory file.
+ghost use Rattle.std.specs.Prelude.{◌≡◌, ◌<◌, ◌≤◌, ◌*◌, ◌^◌, ◌∷◌, ◌++◌, List, ℕ, Some, length, take, drop, OnErr, OnOk};
+ghost use Rattle.std.specs.FinMap.{get};
+ghost use Rattle.gate_file.specs.Gate.{behind_calls};
+ghost use Rattle.gate_file.specs.Runs.{RunsAll, RunsPart};
+ghost use Rattle.guest_pages.specs.Pages.{flat_of};
+ghost use Rattle.snap_writer.specs.Blocks.{block_size, writes_at};
+ghost use Rattle.vm_outside.specs.Known.{Called, Tells};
+
+use guest_memory::PAGE_SIZE;
+use guest_pages::PageSet;
+use vm_outside::{Failed, Files};
+
+// How many bytes one write carries at most: sixteen pages.
+pub(crate) const BLOCK: usize = 16 * PAGE_SIZE;
+
+// All pages at the end of a file that holds so many bytes, the first of them a closed gate; and a sync. `block` is
+// where blocks are gathered.
+pub(crate) fn write_pages<F: Files>(
+    files: &mut F,
+    name: &str,
+    at: u64,
+    pages: &PageSet,
+    block: &mut [u8],
+) -> Result<(), Failed>
+    requires small { length pages.now < 2 ^ 32 }
+    requires early { at ≤ 2 ^ 63 }
+    requires room { length block.old ≡ 65536 }
+    ensures filled { OnOk result (Tells (F.known files.old).health →
+        (front : List ℕ) → get (F.known files.old).saved name.now ≡ Some (0 ∷ front) → at ≡ length (0 ∷ front) →
+        RunsAll name.now
+        (behind_calls name.now (writes_at at (flat_of pages.now).bytes) (front ++ (flat_of pages.now).bytes))
+        (0 ∷ front ++ (flat_of pages.now).bytes) (F.known files.old) (F.known files.new)) }
+    ensures begun { OnErr result (Tells (F.known files.old).health →
+        (front : List ℕ) → get (F.known files.old).saved name.now ≡ Some (0 ∷ front) → at ≡ length (0 ∷ front) →
+        RunsPart name.now
+        (behind_calls name.now (writes_at at (flat_of pages.now).bytes) (front ++ (flat_of pages.now).bytes))
+        (F.known files.old) (F.known files.new)) }
+    ensures called { Called (F.known files.old).health (F.known files.new).health result }
+{
+    let blocks = (PAGE_SIZE * pages.len()).div_ceil(BLOCK);
+    for number in 0..blocks {
+        let count = gather(pages, number, block);
+        files.write_at(name, at + (BLOCK * number) as u64, &block[..count])?;
+    }
+    files.sync(name)?;
+    Ok(())
+}
+
+// Puts the block of this number at the front of `block`, and answers how many bytes it has.
+fn gather(pages: &PageSet, number: usize, block: &mut [u8]) -> usize
+    requires small { length pages.now < 2 ^ 32 }
+    requires room { length block.old ≡ 65536 }
+    requires inside { 65536 * number ≤ 4096 * length pages.now }
+    ensures most { result ≤ length block.new }
+    ensures room { length block.new ≡ 65536 }
+    ensures bytes { take result block.new ≡ take block_size (drop (block_size * number) (flat_of pages.now).bytes) }
+{
+    let done = BLOCK * number;
+    let count = BLOCK.min(PAGE_SIZE * pages.len() - done);
+    pages.copy_out(done, &mut block[..count]);
+    count
+}
