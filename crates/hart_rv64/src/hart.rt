@@ -84,7 +84,7 @@ impl Hart {
     }
 
     /// What the hart wants, in few bytes.
-    #[inline]
+    #[inline(always)]
     pub fn asks(&self) -> HartOp
         ensures { op_of result ≡ hart_wants self.now }
     {
