@@ -1,5 +1,5 @@
 -- The calls of the supervisor binary interface that the board answers.
-use Rattle.std.specs.Prelude.{ℕ, suc, ◌-◌, ◌^◌, ◌==◌, nat_le, nat_lt, Bool, true, ◌&&◌, ◌||◌, if◌then◌else◌, List, [], ◌∷◌, ◌++◌, length, Option, Some, None, slice_set}
+use Rattle.std.specs.Prelude.{ℕ, suc, ◌-◌, ◌/◌, ◌^◌, ◌==◌, nat_le, nat_lt, Bool, true, ◌&&◌, ◌||◌, if◌then◌else◌, List, [], ◌∷◌, ◌++◌, length, Option, Some, None, slice_set}
 use Rattle.vm_types.specs.declared.reply.Reply.{Reply}
 use Rattle.board_table.specs.declared.hart_state.HartState.{HartState}
 use Rattle.board_table.specs.declared.hart_state.HartState.TheVariants.{Started, Stopped, StartPending}
@@ -52,10 +52,10 @@ is_named mask base k = (base == every_hart) || (nat_le base k && bit (k - base) 
 
 -- of the harts from base on each that is named is there, so the mask has no bit that is past their number
 abbrev pub names_harts_alone : ℕ → ℕ → ℕ → Bool
-names_harts_alone mask base harts = (base == every_hart) || nat_lt mask (2 ^ (harts - base))
+names_harts_alone mask base harts = (base == every_hart) || (mask / 2 ^ (harts - base) == 0)
 
 -- the software bits of the harts from number k on, with those of the named ones set
-pub sent_from : ℕ → ℕ → ℕ → List Bool → List Bool
+abbrev pub sent_from : ℕ → ℕ → ℕ → List Bool → List Bool
 sent_from mask base k [] = []
 sent_from mask base k (software ∷ rest) = (software || is_named mask base k) ∷ sent_from mask base (suc k) rest
 

@@ -5,5 +5,7 @@
 #![tactic(auto)]
 
 mod hart_state;
+mod window;
 
 pub use hart_state::HartState;
+pub use window::{WINDOW_SIZE, WINDOW_START, is_window};
