@@ -209,10 +209,12 @@ fn ring_of(alloc: Global, console: &[u8]) -> Result<Box<[u8; 4096]>, AllocError>
     ensures bytes { IfOk result (λ ring. take (length console.now) ring.value ≡ console.now) }
     ensures size { IfOk result (λ ring. length ring.value ≡ 4096) }
 {
-    let mut boxed = zeros(alloc)?;
-    let ring: &mut [u8; 4096] = &mut boxed;
-    ring[..console.len()].copy_from_slice(console);
-    Ok(boxed)
+    let mut bytes = [0; 4096];
+    bytes[..console.len()].copy_from_slice(console);
+    let Ok(ring) = Box::new(alloc, bytes) else {
+        return Err(AllocError);
+    };
+    Ok(ring)
 }
 
 // The states of so many harts, of which the first runs.
