@@ -34,8 +34,8 @@ pub fn some_step()
     ensures restart { (g : Guest) → IsSound g → IsSound (timer_restarted g) }
     ensures step { (g : Guest) (actor : ActorId) → IsSound g → is_actor g actor ≡ true →
         (op : Op) × Wants g actor op × ((given : Option Reply) → is_given op given ≡ true →
-            (e : Entry) × (h : Guest) × IsUnstamped e
-            × FlatStep g (record { actor = actor; reply = given }) e h) }
+        (e : Entry) × (h : Guest) × IsUnstamped e
+        × FlatStep g (record { actor = actor; reply = given }) e h) }
     ensures harts { (g : Guest) (k : ℕ) → IsSound g → is_actor g (Hart k) ≡ true →
         (e : Entry) × (h : Guest) × IsUnstamped e
         × FlatStep g (record { actor = Hart k; reply = None }) e h }
