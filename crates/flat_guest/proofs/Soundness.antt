@@ -90,7 +90,7 @@ replied PlaceId.Board g actor op given reply host port answer = answer.1
 replied (PlaceId.Port k) g actor op given reply host port answer = absurd answer
 replied PlaceId.Out g actor op given reply host port answer = out_replied op given reply host port answer
 
-none_given : (op : Op) → is_host_op op ≡ false → is_given op None ≡ true
+pub none_given : (op : Op) → is_host_op op ≡ false → is_given op None ≡ true
 none_given (Op.Out act) host = cc
 none_given (Op.Port device act) host = refl
 none_given (Op.Board act) host = refl

@@ -1,4 +1,5 @@
 mod Booting
 mod Copying
 mod Events
+mod Listed
 pub mod Running
