@@ -21,6 +21,9 @@ pub record WorldValue : Type 0 where
   pub timer : Timer
   pub harts : List Hart
 
+abbrev pub world_with : List PageValue → Board → Timer → List Hart → WorldValue
+world_with pages board timer harts = record { pages = pages; board = board; timer = timer; harts = harts }
+
 -- the guest's memory is the pages' one memory, its board is the board, and its steps lead to the timer and the harts
 abbrev pub IsWorld : WorldValue → Guest → Type 0
 IsWorld w g = IsGuest (flat_of w.pages) w.board w.timer w.harts g

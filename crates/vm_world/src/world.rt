@@ -19,6 +19,7 @@ ghost use Rattle.vm_world.specs.Refusing.{IsRefused, refusal_of};
 ghost use Rattle.vm_world.specs.Worlds.{IsWorld, MakesEvent, Runs, place_in, want_in};
 
 use crate::actors::{give_hart, start_harts, want_of_hart};
+use crate::hart_run::run_hart;
 use crate::memory::{boot_pages, read_pages};
 use crate::step_error::{NoActor, NotRam, StepError, refusal_of};
 use flat_guest::{Layout, place};
@@ -231,7 +232,28 @@ impl World {
         if self.want(actor).is_none() {
             return Err(NoActor);
         }
-        Ok(self.run_actor(actor, count))
+        match actor {
+            ActorId::Hart(number) => Ok(self.run_one(number, count)),
+            _ => Ok(self.run_actor(actor, count)),
+        }
+    }
+
+    // Events of the hart of this number, and how many there were.
+    fn run_one(&mut self, number: u8, count: u64) -> u64
+        requires { (op : Op) × (want_in self.old (ActorId.Hart number) ≡ Some op) }
+        ensures { Runs self.old (ActorId.Hart number) count result self.new }
+    {
+        let at = number as usize;
+        if at >= self.harts.len() {
+            return 0;
+        }
+        run_hart(
+            &mut self.pages,
+            &mut self.board,
+            &mut self.harts[at],
+            number,
+            count,
+        )
     }
 
     /// Puts the timer back to its start, an advance that isn't made yet included.
