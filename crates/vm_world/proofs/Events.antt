@@ -85,9 +85,11 @@ pub there_now : (w : WorldValue) (t : Timer) (harts : List Hart) (actor : ActorI
     → wants t harts actor ≡ Some op → w.timer ≡ timer_after actor t reply → w.harts ≡ harts_after actor harts reply
     → (next : Op) × (want_in w actor ≡ Some next)
 there_now w t harts actor op reply want timer_is harts_is =
-    let next = still_there t harts actor op reply want in
-    (next.0, ap (λ (x : Timer). wants x w.harts actor) timer_is
-    ∙ ap (λ (x : List Hart). wants (timer_after actor t reply) x actor) harts_is ∙ next.1)
+    let next = still_there t harts actor op reply want in (
+      next.0,
+      ap (λ (x : Timer). wants x w.harts actor) timer_is
+          ∙ ap (λ (x : List Hart). wants (timer_after actor t reply) x actor) harts_is ∙ next.1,
+    )
 
 -- who wants nothing isn't there
 none_there : (o : Option Hart) → want_of o ≡ None → o ≡ None

@@ -119,7 +119,7 @@ pub fn run_hart(
     requires small { length pages.old ≤ 2 ^ 28 }
     ensures runs { (timer : Timer) (harts : List HartValue) → slice_get harts number ≡ Some hart.old →
         Runs (world_with pages.old board.old timer harts) (ActorId.Hart number) count result
-            (world_with pages.new board.new timer (slice_set harts number hart.new)) }
+        (world_with pages.new board.new timer (slice_set harts number hart.new)) }
     ensures count { length pages.new ≡ length pages.old }
 {
     let mut made = 0;
