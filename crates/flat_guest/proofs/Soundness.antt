@@ -19,8 +19,7 @@ use Rattle.hart_trace.specs.Traces.{IsPrefix, Continues}
 use Rattle.hart_trace.specs.States.{fresh}
 use Rattle.hart_trace.proofs.Asks.{never_host, never_port}
 use Rattle.hart_trace.proofs.Traces.{leads_start, hart_prefix, some_hart, some_op, any_reply, wants_only}
-use Rattle.timer_trace.specs.declared.timer.Timer.{Timer}
-use Rattle.timer_trace.specs.States.{new_timer, timer_wants, wants_by}
+use Rattle.timer_trace.specs.States.{new_timer, wants_by}
 use Rattle.timer_trace.specs.Traces as timer
 use Rattle.timer_trace.proofs.Traces as timer_traces
 use Rattle.flat_guest.specs.Guest.{Guest, Wants, WantsFrom, is_actor, layout_of}

@@ -1,12 +1,11 @@
 -- A body's step is the flat step, and several are the flat machine's.
-use Rattle.std.proofs.Common.{◌≡◌, ℕ, ◌+◌, ◌<◌, ◌≤◌, true, false, refl, sym, ap, subst, ◌∙◌, List, [], ◌∷◌, ◌++◌}
+use Rattle.std.proofs.Common.{◌≡◌, ℕ, ◌+◌, ◌<◌, true, false, refl, sym, ap, subst, ◌∙◌, List, [], ◌∷◌, ◌++◌}
 use Rattle.std.proofs.Common.{length, Option, Some, None, ◌⊎◌, inl, inr, arith, length-append}
 use Rattle.vm_types.specs.declared.ids.ActorId.{ActorId}
 use Rattle.vm_types.specs.declared.ids.PlaceId.{PlaceId}
 use Rattle.vm_types.specs.declared.op.Op.{Op}
 use Rattle.vm_types.specs.declared.reply.Reply.{Reply}
 use Rattle.vm_types.specs.declared.entry.Entry.{Entry}
-use Rattle.vm_types.specs.declared.entry.Event.{Event}
 use Rattle.guest_memory.specs.Memory as memory
 use Rattle.board_table.specs.Board.{Board}
 use Rattle.hart_trace.specs.Asks.{is_host_op}
