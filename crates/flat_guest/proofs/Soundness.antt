@@ -1,5 +1,5 @@
 -- A guest that has started is never stuck.
-use Rattle.std.proofs.Common.{◌≡◌, ℕ, zero, suc, nat_lt, Bool, true, false, cond, refl, sym, ap, subst, List, [], ◌∷◌}
+use Rattle.std.proofs.Common.{◌≡◌, ℕ, zero, suc, nat_lt, Bool, true, false, cond, refl, sym, ap, subst, ◌∙◌, List, [], ◌∷◌}
 use Rattle.std.proofs.Common.{◌++◌, length, Option, Some, None, slice_get, get_or, ◌<◌, ◌≤◌, ◌⊎◌, inl, inr, arith}
 use Rattle.std.proofs.lemmas.Bool.{eqb-true}
 use borrow.Author.Tests.{ltb-true}
@@ -14,58 +14,39 @@ use Rattle.vm_types.specs.declared.entry.Event.{Event}
 use Rattle.vm_types.specs.Fits.{fits}
 use Rattle.vm_types.specs.Ids.{same_actor}
 use Rattle.rv_supervisor.specs.declared.regs.Regs.{Regs}
+use Rattle.hart_trace.specs.Asks.{is_host_op, is_port_op}
 use Rattle.hart_trace.specs.Traces.{IsPrefix, Continues}
 use Rattle.hart_trace.specs.States.{fresh}
+use Rattle.hart_trace.proofs.Asks.{never_host, never_port}
 use Rattle.hart_trace.proofs.Traces.{leads_start, hart_prefix, some_hart, some_op, any_reply, wants_only}
+use Rattle.timer_trace.specs.States.{new_timer, wants_by}
+use Rattle.timer_trace.specs.Traces as timer
+use Rattle.timer_trace.proofs.Traces as timer_traces
 use Rattle.flat_guest.specs.Guest.{Guest, Wants, WantsFrom, is_actor, layout_of}
 use Rattle.flat_guest.specs.Places.{place_of}
+use Rattle.flat_guest.specs.declared.places.Layout.{Layout}
 use Rattle.flat_guest.specs.Sound.{IsSound}
-use Rattle.flat_guest.specs.Start.{started}
-use Rattle.flat_guest.specs.Steps.{IsOnBefore, IsUnstamped, StepsBy, Answers, AnswersOut, FlatStep, guest_after}
+use Rattle.flat_guest.specs.Start.{started, timer_restarted}
+use Rattle.flat_guest.specs.Steps.{IsOnBefore, IsUnstamped, StepsBy, Stops, Answers, AnswersOut, FlatStep, guest_after, is_given}
 use Rattle.flat_guest.specs.Body.{reply_at, out_reply}
-use Rattle.hart_trace.specs.Asks.{is_hart_op}
-use Rattle.hart_trace.proofs.Asks.{hart_asks}
 use Rattle.flat_guest.proofs.Answering.{answers_at, answer_fits}
 
-pub sound_start : (mib : ℕ) (image : List ℕ) → IsSound (started mib image)
-sound_start mib image k start is = hart_prefix start [] (fresh start) (leads_start start)
+no_steps : timer.IsPrefix []
+no_steps = timer_traces.timer_prefix [] new_timer timer_traces.leads_start
 
--- what a hart wants is a hart's op
-want_op : (start : Regs) (steps : List Step) (op : Op) → IsPrefix start steps → Continues start steps op
-    → is_hart_op op ≡ true
-want_op start steps op prefix continues =
-    let hart = some_hart start steps prefix in
-    subst (λ (o : Op). is_hart_op o ≡ true) (sym (wants_only start steps hart.0 op hart.1 continues)) (hart_asks hart.0)
+pub sound_start : (harts mib : ℕ) (image : List ℕ) → IsSound (started harts mib image)
+sound_start harts mib image = record {
+  timer_on = no_steps;
+  harts_on = λ k start is. hart_prefix start [] (fresh start) (leads_start start);
+}
 
-out_replied : (op : Op) (given : Option Reply) (reply : Reply) → is_hart_op op ≡ true → AnswersOut op given reply
-    → reply ≡ out_reply op
-out_replied (Op.Out act) given reply is answer = cc
-out_replied (Op.Port port act) given reply is answer = cc
-out_replied (Op.Board act) given reply is answer = absurd answer.1
-out_replied Op.Idle given reply is answer = answer.1
-out_replied op given reply is answer = answer.1
+pub sound_restart : (g : Guest) → IsSound g → IsSound (timer_restarted g)
+sound_restart g sound = record { timer_on = no_steps; harts_on = λ k start is. sound.harts_on k start is }
 
-replied : (p : PlaceId) (g : Guest) (actor : ActorId) (op : Op) (given : Option Reply) (reply : Reply)
-    → is_hart_op op ≡ true → Answers p g actor op given reply → reply ≡ reply_at p g.memory g.board actor op
-replied (PlaceId.Page i) g actor op given reply is answer = answer.1
-replied PlaceId.Board g actor op given reply is answer = answer.1
-replied (PlaceId.Port k) g actor op given reply is answer = absurd answer
-replied PlaceId.Out g actor op given reply is answer = out_replied op given reply is answer
-
--- and its answer fits
-fits_of : (g : Guest) (actor : ActorId) (op : Op) (place : PlaceId) (given : Option Reply) (reply : Reply)
-    → is_hart_op op ≡ true → place ≡ place_of (layout_of g) op → Answers place g actor op given reply
-    → fits op reply ≡ true
-fits_of g actor op place given reply is at answer =
-    let here : reply ≡ reply_at (place_of (layout_of g) op) g.memory g.board actor op =
-    replied (place_of (layout_of g) op) g actor op given reply is
-    (subst (λ (p : PlaceId). Answers p g actor op given reply) at answer) in
-    subst (λ (r : Reply). fits op r ≡ true) (sym here) (answer_fits g.memory g.board actor (layout_of g) op is)
-
-same_hart : (k : ℕ) (actor : ActorId) → same_actor (ActorId.Hart k) actor ≡ true → actor ≡ ActorId.Hart k
-same_hart k (ActorId.Hart j) same = ap (λ (n : ℕ). ActorId.Hart n) (sym (eqb-true k j same))
-same_hart k ActorId.Timer same = cc
-same_hart k (ActorId.Device j) same = cc
+-- what an actor wants is no act on a port, and a hart wants none on a host object
+timer_port : (due : Option ℕ) → is_port_op (wants_by due) ≡ false
+timer_port None = refl
+timer_port (Some due) = refl
 
 wants_from : (start : Option Regs) (first : Regs) (steps : List Step) (op : Op) → start ≡ Some first
     → WantsFrom start steps op → Continues first steps op
@@ -74,26 +55,105 @@ wants_from (Some start) first steps op is wants =
     let same : start ≡ first = cc in
     subst (λ (r : Regs). Continues r steps op) same wants
 
+hart_port_by : (g : Guest) (k : ℕ) (op : Op) (o : Option Regs) → slice_get g.starts k ≡ o → IsSound g
+    → Wants g (ActorId.Hart k) op → (is_port_op op ≡ false) × (is_host_op op ≡ false)
+hart_port_by g k op None is sound wants =
+    absurd (subst (λ (s : Option Regs). WantsFrom s (g.steps (ActorId.Hart k)) op) is wants)
+hart_port_by g k op (Some start) is sound wants =
+    let steps : List Step = g.steps (ActorId.Hart k) in
+    let hart = some_hart start steps (sound.harts_on k start is) in
+    let same = wants_only start steps hart.0 op hart.1 (wants_from (slice_get g.starts k) start steps op is wants) in
+    (ap is_port_op same ∙ never_port hart.0, ap is_host_op same ∙ never_host hart.0)
+
+no_port : (g : Guest) (actor : ActorId) (op : Op) → IsSound g → Wants g actor op → is_port_op op ≡ false
+no_port g ActorId.Timer op sound wants =
+    let t = timer_traces.some_timer (g.steps ActorId.Timer) sound.timer_on in
+    ap is_port_op (timer_traces.wants_only (g.steps ActorId.Timer) t.0 op t.1 wants) ∙ timer_port t.0.due
+no_port g (ActorId.Hart k) op sound wants = (hart_port_by g k op (slice_get g.starts k) refl sound wants).0
+no_port g actor op sound wants = absurd wants
+
+-- and its answer fits
+out_replied : (op : Op) (given : Option Reply) (reply : Reply) → is_host_op op ≡ false → is_port_op op ≡ false
+    → AnswersOut op given reply → reply ≡ out_reply op None
+out_replied (Op.Out act) given reply host port answer = cc
+out_replied (Op.Port device act) given reply host port answer = cc
+out_replied (Op.Board act) given reply host port answer = absurd answer.1
+out_replied Op.Idle given reply host port answer = answer.1
+out_replied op given reply host port answer = answer.1
+
+replied : (p : PlaceId) (g : Guest) (actor : ActorId) (op : Op) (given : Option Reply) (reply : Reply)
+    → is_host_op op ≡ false → is_port_op op ≡ false → Answers p g actor op given reply
+    → reply ≡ reply_at p g.memory g.board actor op None
+replied (PlaceId.Page i) g actor op given reply host port answer = answer.1
+replied PlaceId.Board g actor op given reply host port answer = answer.1
+replied (PlaceId.Port k) g actor op given reply host port answer = absurd answer
+replied PlaceId.Out g actor op given reply host port answer = out_replied op given reply host port answer
+
+pub none_given : (op : Op) → is_host_op op ≡ false → is_given op None ≡ true
+none_given (Op.Out act) host = cc
+none_given (Op.Port device act) host = refl
+none_given (Op.Board act) host = refl
+none_given Op.Idle host = refl
+none_given op host = refl
+
+host_fits : (there : Layout) (g : Guest) (actor : ActorId) (op : Op) (given : Option Reply) (reply : Reply)
+    → is_host_op op ≡ true → Answers (place_of there op) g actor op given reply → fits op reply ≡ true
+host_fits there g actor (Op.Out act) given reply host answer = answer.1
+host_fits there g actor op given reply host answer = cc
+
+fits_by : (g : Guest) (actor : ActorId) (op : Op) (given : Option Reply) (reply : Reply) (host : Bool)
+    → is_host_op op ≡ host → is_port_op op ≡ false → Answers (place_of (layout_of g) op) g actor op given reply
+    → fits op reply ≡ true
+fits_by g actor op given reply true host port answer = host_fits (layout_of g) g actor op given reply host answer
+fits_by g actor op given reply false host port answer =
+    subst (λ (r : Reply). fits op r ≡ true)
+    (sym (replied (place_of (layout_of g) op) g actor op given reply host port answer))
+    (answer_fits g.memory g.board actor (layout_of g) op None port (none_given op host))
+
+same_hart : (k : ℕ) (actor : ActorId) → same_actor (ActorId.Hart k) actor ≡ true → actor ≡ ActorId.Hart k
+same_hart k (ActorId.Hart j) same = ap (λ (n : ℕ). ActorId.Hart n) (sym (eqb-true k j same))
+same_hart k ActorId.Timer same = cc
+same_hart k (ActorId.Device j) same = cc
+
+same_timer : (actor : ActorId) → same_actor ActorId.Timer actor ≡ true → actor ≡ ActorId.Timer
+same_timer ActorId.Timer same = refl
+same_timer (ActorId.Hart j) same = cc
+same_timer (ActorId.Device j) same = cc
+
 module _ (g : Guest) (event : Event) (e : Entry) (h : Guest) (sound : IsSound g) (step : FlatStep g event e h) where
+  fit : fits e.op e.reply ≡ true
+  fit =
+      fits_by g e.actor e.op event.reply e.reply (is_host_op e.op) refl (no_port g e.actor e.op sound step.want)
+      (subst (λ (p : PlaceId). Answers p g e.actor e.op event.reply e.reply) step.place step.answer)
+
   own : (k : ℕ) (start : Regs) → slice_get g.starts k ≡ Some start → e.actor ≡ ActorId.Hart k
       → IsPrefix start (g.steps (ActorId.Hart k) ++ record { op = e.op; reply = e.reply } ∷ [])
   own k start is mine =
       let steps : List Step = g.steps (ActorId.Hart k) in
       let wants : Wants g (ActorId.Hart k) e.op = subst (λ (a : ActorId). Wants g a e.op) mine step.want in
-      let continues : Continues start steps e.op = wants_from (slice_get g.starts k) start steps e.op is wants in
-      let mine_op : is_hart_op e.op ≡ true = want_op start steps e.op (sound k start is) continues in
-      any_reply start steps e.op e.reply continues
-      (fits_of g e.actor e.op e.place event.reply e.reply mine_op step.place step.answer)
+      any_reply start steps e.op e.reply (wants_from (slice_get g.starts k) start steps e.op is wants) fit
 
   by_actor : (k : ℕ) (start : Regs) → slice_get g.starts k ≡ Some start → (b : Bool)
       → same_actor (ActorId.Hart k) e.actor ≡ b
       → IsPrefix start (cond b (g.steps (ActorId.Hart k) ++ record { op = e.op; reply = e.reply } ∷ [])
       (g.steps (ActorId.Hart k)))
   by_actor k start is true same = own k start is (same_hart k e.actor same)
-  by_actor k start is false same = sound k start is
+  by_actor k start is false same = sound.harts_on k start is
+
+  by_timer : (b : Bool) → same_actor ActorId.Timer e.actor ≡ b
+      → timer.IsPrefix (cond b (g.steps ActorId.Timer ++ record { op = e.op; reply = e.reply } ∷ [])
+      (g.steps ActorId.Timer))
+  by_timer true same =
+      timer_traces.any_reply (g.steps ActorId.Timer) e.op e.reply
+      (subst (λ (a : ActorId). Wants g a e.op) (same_timer e.actor same) step.want) fit
+  by_timer false same = sound.timer_on
 
   sound_after : IsSound (guest_after g e)
-  sound_after k start is = by_actor k start is (same_actor (ActorId.Hart k) e.actor) refl
+  sound_after = record {
+    timer_on = by_timer (same_actor ActorId.Timer e.actor) refl;
+    harts_on =
+        λ k start is. by_actor k start is (same_actor (ActorId.Hart k) e.actor) refl;
+  }
 
   pub sound_next : IsSound h
   sound_next = subst (λ (q : Guest). IsSound q) (sym step.after) sound_after
@@ -108,41 +168,58 @@ pub missing : (starts : List Regs) (k : ℕ) → slice_get starts k ≡ None →
 missing starts k none there =
     found_or_past starts k none (slice_get_cases starts k).1 (ltb-true k (length starts) there)
 
-hart_step_by : (g : Guest) (k : ℕ) (o : Option Regs) → slice_get g.starts k ≡ o → IsSound g
-    → nat_lt k (length g.starts) ≡ true
-    → (e : Entry) × (h : Guest) × IsUnstamped e × FlatStep g (record { actor = ActorId.Hart k; reply = None }) e h
-hart_step_by g k None is sound there = absurd (missing g.starts k is there)
-hart_step_by g k (Some start) is sound there =
-    let actor : ActorId = ActorId.Hart k in
-    let some = some_op start (g.steps actor) (sound k start is) in
-    let op : Op = some.0 in
+hart_want_by : (g : Guest) (k : ℕ) (o : Option Regs) → slice_get g.starts k ≡ o → IsSound g
+    → nat_lt k (length g.starts) ≡ true → (op : Op) × Wants g (ActorId.Hart k) op
+hart_want_by g k None is sound there = absurd (missing g.starts k is there)
+hart_want_by g k (Some start) is sound there =
+    let some = some_op start (g.steps (ActorId.Hart k)) (sound.harts_on k start is) in
+    (some.0, subst (λ (s : Option Regs). WantsFrom s (g.steps (ActorId.Hart k)) some.0) (sym is) some.1)
+
+some_want : (g : Guest) (actor : ActorId) → IsSound g → is_actor g actor ≡ true → (op : Op) × Wants g actor op
+some_want g ActorId.Timer sound there = timer_traces.some_op (g.steps ActorId.Timer) sound.timer_on
+some_want g (ActorId.Hart k) sound there = hart_want_by g k (slice_get g.starts k) refl sound there
+some_want g actor sound there = cc
+
+done : (g : Guest) (actor : ActorId) (op : Op) (given : Option Reply) → IsSound g → Wants g actor op
+    → is_given op given ≡ true
+    → (e : Entry) × (h : Guest) × IsUnstamped e × FlatStep g (record { actor = actor; reply = given }) e h
+done g actor op given sound wants fit =
+    let place : PlaceId = place_of (layout_of g) op in
     let e : Entry = record {
       stamp = 0;
       before = 0;
       actor = actor;
-      place = place_of (layout_of g) op;
+      place = place;
       op = op;
       reply =
-          reply_at (place_of (layout_of g) op) g.memory g.board actor op;
-    } in
-    let from : Option Regs → Type 0 = λ start. WantsFrom start (g.steps actor) op in
-    let want : Wants g actor op = subst from (sym is) some.1 in (
+          reply_at place g.memory g.board actor op given;
+    } in (
       e,
       guest_after g e,
       (refl, refl),
       record {
         actor = refl;
-        want = want;
+        want = wants;
         place = refl;
-        answer = answers_at g actor (layout_of g) op (want_op start (g.steps actor) op (sound k start is) some.1);
+        answer = answers_at g actor (layout_of g) op given (no_port g actor op sound wants) fit;
         after = refl;
       },
     )
 
 pub actor_step : (g : Guest) (actor : ActorId) → IsSound g → is_actor g actor ≡ true
-    → (e : Entry) × (h : Guest) × IsUnstamped e × FlatStep g (record { actor = actor; reply = None }) e h
-actor_step g (ActorId.Hart k) sound there = hart_step_by g k (slice_get g.starts k) refl sound there
-actor_step g actor sound there = cc
+    → (op : Op) × Wants g actor op
+    × ((given : Option Reply) → is_given op given ≡ true
+    → (e : Entry) × (h : Guest) × IsUnstamped e × FlatStep g (record { actor = actor; reply = given }) e h)
+actor_step g actor sound there =
+    let want = some_want g actor sound there in
+    (want.0, want.1, λ given fit. done g actor want.0 given sound want.1 fit)
+
+pub hart_step : (g : Guest) (k : ℕ) → IsSound g → is_actor g (ActorId.Hart k) ≡ true
+    → (e : Entry) × (h : Guest) × IsUnstamped e × FlatStep g (record { actor = ActorId.Hart k; reply = None }) e h
+hart_step g k sound there =
+    let want = some_want g (ActorId.Hart k) sound there in
+    let own = (hart_port_by g k want.0 (slice_get g.starts k) refl sound want.1).1 in
+    done g (ActorId.Hart k) want.0 None sound want.1 (none_given want.0 own)
 
 kept : (g : Guest) (e : Entry) (actor : ActorId) → is_actor g actor ≡ true → is_actor (guest_after g e) actor ≡ true
 kept g e (ActorId.Hart k) there = there
@@ -154,17 +231,21 @@ actor_after : (g : Guest) (event : Event) (e : Entry) (h : Guest) (actor : Actor
 actor_after g event e h actor step there = subst (λ (q : Guest). is_actor q actor ≡ true) (sym step.after)
     (kept g e actor there)
 
-longer : (made n : ℕ) (h : Guest) → (made ≡ n) ⊎ ((made < n) × (h.board.off ≡ true))
-    → (suc made ≡ suc n) ⊎ ((suc made < suc n) × (h.board.off ≡ true))
-longer made n h (inl all) = inl (omega arith)
-longer made n h (inr less) = inr (omega arith, less.1)
+longer : (made n : ℕ) (actor : ActorId) (h : Guest) → (made ≡ n) ⊎ ((made < n) × Stops h actor)
+    → (suc made ≡ suc n) ⊎ ((suc made < suc n) × Stops h actor)
+longer made n actor h (inl all) = inl (omega arith)
+longer made n actor h (inr less) = inr (omega arith, less.1)
 
-by_off : (n : ℕ) (g : Guest) (actor : ActorId) (off : Bool) → g.board.off ≡ off → IsSound g → is_actor g actor ≡ true
-    → ((h : Guest) → IsSound h → is_actor h actor ≡ true → (es : List Entry) × (k : Guest) × StepsBy h actor n es k)
+abbrev Further : ℕ → ActorId → Type 0
+Further n actor = (h : Guest) → IsSound h → is_actor h actor ≡ true → (es : List Entry) × (k : Guest) × StepsBy h actor n es k
+
+by_host : (n : ℕ) (g : Guest) (actor : ActorId) (op : Op) (host : Bool) → is_host_op op ≡ host → g.board.off ≡ false
+    → IsSound g → is_actor g actor ≡ true → Wants g actor op → Further n actor
     → (es : List Entry) × (h : Guest) × StepsBy g actor (suc n) es h
-by_off n g actor true is sound there some = ([], g, record { made = refl; on = tt; all = inr (omega arith, is) })
-by_off n g actor false is sound there some =
-    let first = actor_step g actor sound there in
+by_host n g actor op true host on sound there wants some =
+    ([], g, record { made = refl; on = tt; all = inr (omega arith, inr (on, (op, wants, host))) })
+by_host n g actor op false host on sound there wants some =
+    let first = done g actor op None sound wants (none_given op host) in
     let event : Event = record { actor = actor; reply = None } in
     let rest = some first.1 (sound_next g event first.0 first.1 sound first.3)
     (actor_after g event first.0 first.1 actor first.3 there) in (
@@ -173,11 +254,18 @@ by_off n g actor false is sound there some =
       record {
         made = (first.2, first.1, first.3, rest.2.made);
         on =
-            (is, subst (λ (q : Guest). IsOnBefore q rest.0) first.3.after rest.2.on);
-        all = longer (length rest.0) n rest.1
+            (on, subst (λ (q : Guest). IsOnBefore q rest.0) first.3.after rest.2.on);
+        all = longer (length rest.0) n actor rest.1
             rest.2.all;
       },
     )
+
+by_off : (n : ℕ) (g : Guest) (actor : ActorId) (off : Bool) → g.board.off ≡ off → IsSound g → is_actor g actor ≡ true
+    → Further n actor → (es : List Entry) × (h : Guest) × StepsBy g actor (suc n) es h
+by_off n g actor true is sound there some = ([], g, record { made = refl; on = tt; all = inr (omega arith, inl is) })
+by_off n g actor false is sound there some =
+    let want = some_want g actor sound there in
+    by_host n g actor want.0 (is_host_op want.0) refl is sound there want.1 some
 
 pub actor_steps : (count : ℕ) (g : Guest) (actor : ActorId) → IsSound g → is_actor g actor ≡ true
     → (es : List Entry) × (h : Guest) × StepsBy g actor count es h

@@ -1,14 +1,14 @@
--- The flat machine's guest: memory as one list, the board, and for each hart the registers that it
--- started with and its steps since.
-use Rattle.std.specs.Prelude.{nat_lt, Bool, false, List, Option, Some, None, length, slice_get}
+-- A guest: memory, the board, for each hart its registers at the start, and for each actor its steps since.
+use Rattle.std.specs.Prelude.{nat_lt, Bool, true, false, List, Option, Some, None, length, slice_get}
 use Rattle.vm_types.specs.declared.ids.ActorId.{ActorId}
-use Rattle.vm_types.specs.declared.ids.ActorId.TheVariants.{Hart}
+use Rattle.vm_types.specs.declared.ids.ActorId.TheVariants.{Timer, Hart}
 use Rattle.vm_types.specs.declared.op.Op.{Op}
 use Rattle.vm_types.specs.declared.entry.Step.{Step}
 use Rattle.guest_memory.specs.Memory.{Memory}
 use Rattle.board_table.specs.Board.{Board}
 use Rattle.rv_supervisor.specs.declared.regs.Regs.{Regs}
 use Rattle.hart_trace.specs.Traces.{Continues}
+use Rattle.timer_trace.specs.Traces as timer
 use Rattle.flat_guest.specs.declared.places.Layout.{Layout}
 use Rattle.flat_guest.specs.Places.{without_devices}
 
@@ -18,8 +18,9 @@ pub record Guest : Type 0 where
   pub starts : List Regs
   pub steps : ActorId → List Step
 
--- the actors that there are: the harts, by their numbers
+-- the actors that there are: the timer, and the harts by their numbers
 abbrev pub is_actor : Guest → ActorId → Bool
+is_actor g Timer = true
 is_actor g (Hart k) = nat_lt k (length g.starts)
 is_actor g actor = false
 
@@ -29,6 +30,7 @@ WantsFrom None steps op = ⊥
 WantsFrom (Some start) steps op = Continues start steps op
 
 abbrev pub Wants : Guest → ActorId → Op → Type 0
+Wants g Timer op = timer.Continues (g.steps Timer) op
 Wants g (Hart k) op = WantsFrom (slice_get g.starts k) (g.steps (Hart k)) op
 Wants g actor op = ⊥
 

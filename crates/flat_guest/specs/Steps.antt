@@ -1,5 +1,5 @@
 -- The flat step: an actor's want is done where it belongs. And several of them.
-use Rattle.std.specs.Prelude.{ℕ, ◌≡◌, ◌<◌, ◌⊎◌, true, false, if◌then◌else◌, Option, Some, None}
+use Rattle.std.specs.Prelude.{ℕ, ◌≡◌, ◌<◌, ◌⊎◌, true, false, if◌then◌else◌, Bool, Option, Some, None}
 use Rattle.std.specs.Prelude.{List, [], ◌∷◌, ◌++◌, length}
 use Rattle.vm_types.specs.declared.ids.ActorId.{ActorId}
 use Rattle.vm_types.specs.declared.ids.PlaceId.{PlaceId}
@@ -8,10 +8,13 @@ use Rattle.vm_types.specs.declared.reply.Reply.{Reply}
 use Rattle.vm_types.specs.declared.entry.Step.{Step}
 use Rattle.vm_types.specs.declared.entry.Entry.{Entry}
 use Rattle.vm_types.specs.declared.entry.Event.{Event}
+use Rattle.vm_types.specs.Fits.{out_fits}
 use Rattle.vm_types.specs.Ids.{same_actor}
 use Rattle.vm_types.specs.Serial.{OutFits}
 use Rattle.guest_memory.specs.Memory as memory
-use Rattle.board_table.specs.Board as board
+use Rattle.board_table.specs.Board.{Board}
+use Rattle.board_table.specs.Acts as board
+use Rattle.hart_trace.specs.Asks.{is_host_op}
 use Rattle.flat_guest.specs.Guest.{Guest, Wants, layout_of}
 use Rattle.flat_guest.specs.Places.{place_of}
 
@@ -19,6 +22,13 @@ use Rattle.flat_guest.specs.Places.{place_of}
 abbrev pub IsGiven : Op → Option Reply → Reply → Type 0
 IsGiven (Op.Out act) given reply = given ≡ Some reply
 IsGiven op given reply = given ≡ None
+
+-- whether an act has what it is to be given: a reply that fits, if it is on a host object, and else nothing
+abbrev pub is_given : Op → Option Reply → Bool
+is_given (Op.Out act) None = false
+is_given (Op.Out act) (Some reply) = out_fits act reply
+is_given op None = true
+is_given op (Some reply) = false
 
 -- with no place, a host object's reply fits, a wait is done, an access is a fault, and nothing else has a reply
 abbrev pub AnswersOut : Op → Option Reply → Reply → Type 0
@@ -36,7 +46,7 @@ abbrev pub memory_after : PlaceId → memory.Memory → ActorId → Op → memor
 memory_after (PlaceId.Page i) m actor op = (memory.touch m actor op).1
 memory_after place m actor op = m
 
-abbrev pub board_after : PlaceId → board.Board → ActorId → Op → board.Board
+abbrev pub board_after : PlaceId → Board → ActorId → Op → Board
 board_after PlaceId.Board b actor op = (board.touch b actor op).1
 board_after place b actor op = b
 
@@ -74,8 +84,16 @@ abbrev pub IsOnBefore : Guest → List Entry → Type 0
 IsOnBefore g [] = Unit {0}
 IsOnBefore g (e ∷ es) = (g.board.off ≡ false) × IsOnBefore (guest_after g e) es
 
--- so many of them, or as many as there are until the guest is off
+-- the actor wants an act on a host object, whose reply isn't there
+abbrev pub Waits : Guest → ActorId → Type 0
+Waits g actor = (op : Op) × Wants g actor op × (is_host_op op ≡ true)
+
+-- after them no further one is made: the guest is off, or the actor waits for a host object's reply
+abbrev pub Stops : Guest → ActorId → Type 0
+Stops g actor = (g.board.off ≡ true) ⊎ ((g.board.off ≡ false) × Waits g actor)
+
+-- so many of them, or as many as there are until no further one is made
 pub record StepsBy (g : Guest) (actor : ActorId) (count : ℕ) (es : List Entry) (h : Guest) : Type 0 where
   pub made : Makes g actor es h
   pub on : IsOnBefore g es
-  pub all : (length es ≡ count) ⊎ ((length es < count) × (h.board.off ≡ true))
+  pub all : (length es ≡ count) ⊎ ((length es < count) × Stops h actor)

@@ -1,12 +1,15 @@
 // What holds of every guest.
-ghost use Rattle.std.specs.Prelude.{◌≡◌, ℕ, List, None, true};
+ghost use Rattle.std.specs.Prelude.{◌≡◌, ℕ, List, Option, None, length, true};
 ghost use Rattle.vm_types.specs.declared.entry.Entry.{Entry};
 ghost use Rattle.vm_types.specs.declared.entry.Event.{Event};
 ghost use Rattle.vm_types.specs.declared.ids.ActorId.{ActorId};
-ghost use Rattle.flat_guest.specs.Guest.{Guest, is_actor};
+ghost use Rattle.vm_types.specs.declared.ids.ActorId.TheVariants.{Hart};
+ghost use Rattle.vm_types.specs.declared.op.Op.{Op};
+ghost use Rattle.vm_types.specs.declared.reply.Reply.{Reply};
+ghost use Rattle.flat_guest.specs.Guest.{Guest, Wants, is_actor};
 ghost use Rattle.flat_guest.specs.Sound.{IsSound};
-ghost use Rattle.flat_guest.specs.Start.{started};
-ghost use Rattle.flat_guest.specs.Steps.{FlatStep, IsUnstamped, StepsBy};
+ghost use Rattle.flat_guest.specs.Start.{started, timer_restarted};
+ghost use Rattle.flat_guest.specs.Steps.{FlatStep, IsUnstamped, StepsBy, is_given};
 
 /// An event does one thing: its op, its place, its reply and the guest after it are determined.
 pub fn one_step()
@@ -20,13 +23,22 @@ pub fn one_step()
         FlatStep g event d h → FlatStep g event e k → h ≡ k }
     ensures several { (g h k : Guest) (actor : ActorId) (count : ℕ) (ds es : List Entry) →
         StepsBy g actor count ds h → StepsBy g actor count es k → h ≡ k }
+    ensures made { (g h k : Guest) (actor : ActorId) (count : ℕ) (ds es : List Entry) →
+        StepsBy g actor count ds h → StepsBy g actor count es k → length ds ≡ length es }
 {}
 
-/// A guest that has started is never stuck: each of its actors always has a next event, and so on.
+/// A guest that has started is never stuck: each of its actors always wants something, which is done with whatever reply
+/// is due to it, and so on. A hart never waits for a reply of a host object.
 pub fn some_step()
-    ensures start { (mib : ℕ) (image : List ℕ) → IsSound (started mib image) }
+    ensures start { (harts mib : ℕ) (image : List ℕ) → IsSound (started harts mib image) }
+    ensures restart { (g : Guest) → IsSound g → IsSound (timer_restarted g) }
     ensures step { (g : Guest) (actor : ActorId) → IsSound g → is_actor g actor ≡ true →
-        (e : Entry) × (h : Guest) × IsUnstamped e × FlatStep g (record { actor = actor; reply = None }) e h }
+        (op : Op) × Wants g actor op × ((given : Option Reply) → is_given op given ≡ true →
+        (e : Entry) × (h : Guest) × IsUnstamped e
+        × FlatStep g (record { actor = actor; reply = given }) e h) }
+    ensures harts { (g : Guest) (k : ℕ) → IsSound g → is_actor g (Hart k) ≡ true →
+        (e : Entry) × (h : Guest) × IsUnstamped e
+        × FlatStep g (record { actor = Hart k; reply = None }) e h }
     ensures stays { (g h : Guest) (event : Event) (e : Entry) → IsSound g → FlatStep g event e h → IsSound h }
     ensures several { (count : ℕ) (g : Guest) (actor : ActorId) → IsSound g → is_actor g actor ≡ true →
         (es : List Entry) × (h : Guest) × StepsBy g actor count es h }

@@ -1,4 +1,4 @@
-//! The flat machine's guest: memory as one list, the board, and harts by their traces.
+//! The flat machine's guest: memory as one list, the board, and the timer and harts by their traces.
 //!
 //! `specs/` says what a guest is, what an event does to it, how it starts, and which guests a body's data are; `law`
 //! has what holds of every guest. `place` says where an op acts, and `tree_address` where a start puts the device tree.

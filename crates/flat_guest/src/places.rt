@@ -1,9 +1,10 @@
 // Where an op acts.
 ghost use Rattle.std.specs.Prelude.{◌≡◌, ◌≤◌, ◌^◌};
-ghost use Rattle.flat_guest.specs.Places.{place_of};
+ghost use Rattle.flat_guest.specs.Places as places;
 
-use guest_memory::access_place;
-use vm_types::{Op, PlaceId};
+use board_table::is_window;
+use guest_memory::{access_place, width_of};
+use vm_types::{GuestAddr, Op, PlaceId};
 
 /// What there is to act on, beside the board: so many bytes of RAM, and the ports of so many devices, by their
 /// numbers from 0.
@@ -13,11 +14,30 @@ pub struct Layout {
     pub ports: u8,
 }
 
+fn are_registers(at: GuestAddr, len: usize) -> bool
+    ensures { result ≡ places.are_registers at len }
+{
+    1 <= len && is_window(at, len)
+}
+
+fn is_register_access(op: &Op) -> bool
+    ensures { result ≡ places.is_register_access op.now }
+{
+    match op {
+        Op::Read { at, len } => are_registers(*at, *len),
+        Op::Write { at, piece } => are_registers(*at, piece.len()),
+        Op::Amo { at, wide, .. } | Op::Lr { at, wide } | Op::Sc { at, wide, .. } => {
+            are_registers(*at, width_of(*wide))
+        }
+        _ => false,
+    }
+}
+
 /// The place of an op, where there is so much; the memory has at most 2^40 bytes. An access that isn't inside one page
-/// of RAM, an act on a port that isn't there, an act on a host object and a wait have none: they are at `Out`.
+/// of RAM or the board's registers, an act on a port that isn't there, an act on a host object and a wait have none: they are at `Out`.
 pub fn place(layout: Layout, op: &Op) -> PlaceId
     requires { layout.memory_size ≤ 2 ^ 40 }
-    ensures { result ≡ place_of layout op.now }
+    ensures { result ≡ places.place_of layout op.now }
 {
     match op {
         Op::Port { port, act: _ } => if *port < layout.ports {
@@ -26,6 +46,10 @@ pub fn place(layout: Layout, op: &Op) -> PlaceId
             PlaceId::Out
         },
         Op::Board(_) => PlaceId::Board,
-        _ => access_place(layout.memory_size, op),
+        _ => if is_register_access(op) {
+            PlaceId::Board
+        } else {
+            access_place(layout.memory_size, op)
+        },
     }
 }

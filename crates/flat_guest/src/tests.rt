@@ -111,6 +111,43 @@ fn an_op_acts_on_one_page_a_port_or_the_board(rt: HostRuntime) {
             PlaceId::Out,
         ),
         (Op::Board(BoardOp::Look), PlaceId::Board),
+        // the board's registers, all of the bytes or none
+        (
+            Op::Read {
+                at: 0x200_0000,
+                len: 1,
+            },
+            PlaceId::Board,
+        ),
+        (
+            Op::Write {
+                at: 0x200_0ffe,
+                piece: two,
+            },
+            PlaceId::Board,
+        ),
+        (
+            Op::Write {
+                at: 0x200_0fff,
+                piece: two,
+            },
+            PlaceId::Out,
+        ),
+        (
+            Op::Lr {
+                at: 0x200_0ff8,
+                wide: true,
+            },
+            PlaceId::Board,
+        ),
+        (
+            Op::Sc {
+                at: 0x1ff_fffc,
+                value: 1,
+                wide: true,
+            },
+            PlaceId::Out,
+        ),
         (Op::Out(OutOp::Clock), PlaceId::Out),
         (Op::Idle, PlaceId::Out),
     ] {

@@ -53,6 +53,7 @@ fn fitting(op: HartOp, reply: &Reply) -> Option<HartReply>
 impl Hart {
     ghost use Rattle.hart_trace.specs.States.{fresh, hart_wants, hart_next, hart_stepped, hart_fetched, begins_by};
     ghost use Rattle.hart_trace.specs.Shown.{register_of};
+    ghost use Rattle.hart_trace.specs.Stopped.{stopped_regs};
     ghost use Rattle.hart_rv64.specs.Start.{start_of};
 
     /// A hart that begins at `pc`, a multiple of 4, with these arguments in a0 and a1 and 0 in every other
@@ -69,6 +70,15 @@ impl Hart {
         ensures { result ≡ fresh regs }
     {
         Hart { regs, begun: None }
+    }
+
+    /// A hart that is stopped as the machine starts: every register and the pc are 0, and it looks at the board first.
+    pub fn stopped() -> Hart
+        ensures { result ≡ fresh stopped_regs }
+    {
+        let mut regs = start_regs(0, 0, 0);
+        regs.turn = Turn::Look;
+        Hart::with_regs(regs)
     }
 
     /// Register x0 to x31 by its number, or pc by the number 32.

@@ -90,11 +90,11 @@ by_begun (Some word) r =
 pub hart_asks : (h : Hart) → is_hart_op (hart_wants h) ≡ true
 hart_asks h = by_begun h.begun h.regs
 
-no_host : (op : Op) → is_hart_op op ≡ true → is_host_op op ≡ false
+pub no_host : (op : Op) → is_hart_op op ≡ true → is_host_op op ≡ false
 no_host (Op.Out act) is = cc
 no_host op is = refl
 
-no_port : (op : Op) → is_hart_op op ≡ true → is_port_op op ≡ false
+pub no_port : (op : Op) → is_hart_op op ≡ true → is_port_op op ≡ false
 no_port (Op.Port port act) is = cc
 no_port op is = refl
 

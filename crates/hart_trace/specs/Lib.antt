@@ -2,4 +2,5 @@ pub mod Asks
 pub mod Looks
 pub mod Shown
 pub mod States
+pub mod Stopped
 pub mod Traces

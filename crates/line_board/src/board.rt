@@ -1,17 +1,22 @@
-// The board as a place.
-ghost use Rattle.std.specs.Prelude.{◌≡◌, ◌≤◌, ◌-◌, ◌++◌, IfOk, length, min, take, drop, replicate};
-ghost use Rattle.board_table.specs.Board.{board_act, new_board, put_byte, reset_by};
+// The board: its parts, how it is made, and what is told of it.
+ghost use Rattle.std.specs.Prelude.{◌≡◌, ◌≤◌, ◌-◌, ◌++◌, IfOk, false, length, min, take, drop, replicate};
+ghost use Rattle.board_table.specs.Board.{new_board};
 
+mod acts;
+mod console;
+mod harts;
+mod registers;
+
+use crate::board::console::move_out;
+use board_table::HartState;
 use std::alloc::{AllocError, Global};
 use std::marker::Model;
-use vm_types::{ActorId, BoardOp, Op, Place, Reply, Shown};
 
-const RING_SIZE: usize = 4096;
+/// Guest time that no deadline is behind at the start.
+const LAST_MOMENT: u64 = 0xffff_ffff_ffff_ffff;
 
-/// SBI_ERR_INVALID_PARAM, -3 (SBI, "Binary Encoding").
-const INVALID_PARAMETER: u64 = 0xffff_ffff_ffff_fffd;
-
-/// The console's bytes that were not drained, oldest first, and whether the guest is off.
+/// The console's bytes that were not drained, whether the guest is off, guest time, interrupt lines, and for each hart
+/// the lines that it takes, its software interrupt, its deadline and its state. There are at most 32 harts.
 ///
 /// The bytes are the first `held` of the array, so that they can be lent in one piece.
 #[derive(Drop)]
@@ -19,6 +24,12 @@ pub struct Board {
     ring: Box<[u8; 4096]>,
     held: usize,
     off: bool,
+    moment: u64,
+    pending: u16,
+    enables: Vec<u16>,
+    software: Vec<bool>,
+    deadlines: Vec<u64>,
+    states: Vec<HartState>,
 }
 
 impl Model for Board {
@@ -27,20 +38,89 @@ impl Model for Board {
 
     ghost Value = { BoardValue };
 
-    ghost view = { λ b. record { console = take b.held b.ring.value; off = b.off } };
+    ghost view = { λ b. record {
+      console = take b.held b.ring.value;
+      off = b.off;
+      now = b.moment;
+      pending = b.pending;
+      enables = b.enables.items;
+      software = b.software.items;
+      deadlines = b.deadlines.items;
+      states = b.states.items;
+    } };
 
-    ghost invariant = { λ b. (b.held ≤ 4096) × (length b.ring.value ≡ 4096) };
+    ghost invariant = { λ b.
+        (b.held ≤ 4096) × (length b.ring.value ≡ 4096)
+        × (length b.enables.items ≡ length b.states.items)
+        × (length b.software.items ≡ length b.states.items)
+        × (length b.deadlines.items ≡ length b.states.items)
+        × (length b.states.items ≤ 32) };
+}
+
+/// What a board keeps of each hart, in lists of one length.
+#[derive(Drop)]
+pub struct HartParts {
+    pub enables: Vec<u16>,
+    pub software: Vec<bool>,
+    pub deadlines: Vec<u64>,
+    pub states: Vec<HartState>,
 }
 
 impl Board {
-    /// A board as the machine starts with it.
-    pub fn new(alloc: Global) -> Result<Board, AllocError>
-        ensures { IfOk result (λ board. board ≡ new_board) }
+    /// A board as a machine of so many harts starts with it.
+    pub fn new(alloc: Global, harts: usize) -> Result<Board, AllocError>
+        requires { harts ≤ 32 }
+        ensures { IfOk result (λ board. board ≡ new_board harts) }
     {
         Ok(Board {
             ring: zeros(alloc)?,
             held: 0,
             off: false,
+            moment: 0,
+            pending: 0,
+            enables: vec![in alloc; 0; harts]?,
+            software: vec![in alloc; false; harts]?,
+            deadlines: vec![in alloc; LAST_MOMENT; harts]?,
+            states: first_started(alloc, harts)?,
+        })
+    }
+
+    /// The board that has these parts, with the guest on: the console's bytes that were not drained, guest time in
+    /// nanoseconds, the lines that are pending, and the parts of at most 32 harts.
+    pub fn from_parts(
+        alloc: Global,
+        console: &[u8],
+        now: u64,
+        pending: u16,
+        harts: HartParts,
+    ) -> Result<Board, AllocError>
+        requires console { length console.now ≤ 4096 }
+        requires harts { length harts.states.items ≤ 32 }
+        requires enables { length harts.enables.items ≡ length harts.states.items }
+        requires software { length harts.software.items ≡ length harts.states.items }
+        requires deadlines { length harts.deadlines.items ≡ length harts.states.items }
+        ensures { IfOk result (λ board. board ≡ record {
+          console = console.now;
+          off = false;
+          now = now;
+          pending = pending;
+          enables = harts.enables.items;
+          software = harts.software.items;
+          deadlines = harts.deadlines.items;
+          states = harts.states.items;
+        }) }
+    {
+        let ring = ring_of(alloc, console)?;
+        Ok(Board {
+            ring,
+            held: console.len(),
+            off: false,
+            moment: now,
+            pending,
+            enables: harts.enables,
+            software: harts.software,
+            deadlines: harts.deadlines,
+            states: harts.states,
         })
     }
 
@@ -51,7 +131,49 @@ impl Board {
         self.off
     }
 
-    /// What was not drained.
+    /// Guest time, in nanoseconds.
+    pub fn now(&self) -> u64
+        ensures { result ≡ self.now.now }
+    {
+        self.moment
+    }
+
+    /// The interrupt lines that are pending, line k by bit k.
+    pub fn pending(&self) -> u16
+        ensures { result ≡ self.now.pending }
+    {
+        self.pending
+    }
+
+    /// For each hart the lines that it takes, by the same bits.
+    pub fn enables(&self) -> &[u16]
+        ensures { result.now ≡ self.now.enables }
+    {
+        &self.enables
+    }
+
+    /// For each hart whether its software interrupt is pending.
+    pub fn software(&self) -> &[bool]
+        ensures { result.now ≡ self.now.software }
+    {
+        &self.software
+    }
+
+    /// For each hart the moment from which on its timer interrupt is pending, in nanoseconds of guest time.
+    pub fn deadlines(&self) -> &[u64]
+        ensures { result.now ≡ self.now.deadlines }
+    {
+        &self.deadlines
+    }
+
+    /// For each hart whether it runs.
+    pub fn states(&self) -> &[HartState]
+        ensures { result.now ≡ self.now.states }
+    {
+        &self.states
+    }
+
+    /// What was not drained of the console.
     pub fn console(&self) -> &[u8]
         ensures { result.now ≡ self.now.console }
     {
@@ -70,50 +192,6 @@ impl Board {
         self.held -= count;
         count
     }
-
-    fn put_byte(&mut self, byte: u8) -> Reply
-        ensures reply { result ≡ (put_byte self.old byte).0 }
-        ensures value { self.new ≡ (put_byte self.old byte).1 }
-    {
-        if self.off {
-            return Reply::Done;
-        }
-        if self.held < RING_SIZE {
-            self.ring[self.held] = byte;
-            self.held += 1;
-            Reply::Done
-        } else {
-            Reply::Full
-        }
-    }
-
-    fn reset_by(&mut self, kind: u64, reason: u64) -> Reply
-        ensures reply { result ≡ (reset_by self.old kind reason).0 }
-        ensures value { self.new ≡ (reset_by self.old kind reason).1 }
-    {
-        if kind < 3 && reason < 2 {
-            self.off = true;
-            Reply::Returned { error: 0, value: 0 }
-        } else {
-            Reply::Returned {
-                error: INVALID_PARAMETER,
-                value: 0,
-            }
-        }
-    }
-
-    fn board_act(&mut self, act: &BoardOp) -> Reply
-        ensures reply { result ≡ (board_act self.old act.now).0 }
-        ensures value { self.new ≡ (board_act self.old act.now).1 }
-    {
-        match act {
-            BoardOp::Look => Reply::Shown(Shown::Pending(0)),
-            BoardOp::Putchar { byte } => self.put_byte(*byte),
-            BoardOp::Reset { kind, reason } => self.reset_by(*kind, *reason),
-            BoardOp::Time | BoardOp::SoftwarePending { .. } => Reply::Word(0),
-            _ => Reply::AccessFault,
-        }
-    }
 }
 
 fn zeros(alloc: Global) -> Result<Box<[u8; 4096]>, AllocError>
@@ -125,37 +203,27 @@ fn zeros(alloc: Global) -> Result<Box<[u8; 4096]>, AllocError>
     Ok(bytes)
 }
 
-// Moves the oldest of the held bytes to the front of `out`, and those that are left to the front of the ring.
-fn move_out(ring: &mut [u8], held: usize, out: &mut [u8]) -> usize
-    requires { held ≤ length ring.old }
-    ensures count { result ≡ min (length out.old) held }
-    ensures bytes { out.new ≡ take result (take held ring.old) ++ drop result out.old }
-    ensures left { take (held - result) ring.new ≡ drop result (take held ring.old) }
+// A ring that begins with these bytes.
+fn ring_of(alloc: Global, console: &[u8]) -> Result<Box<[u8; 4096]>, AllocError>
+    requires { length console.now ≤ 4096 }
+    ensures bytes { IfOk result (λ ring. take (length console.now) ring.value ≡ console.now) }
+    ensures size { IfOk result (λ ring. length ring.value ≡ 4096) }
 {
-    let count = out.len().min(held);
-    out[..count].copy_from_slice(&ring[..count]);
-    ring.copy_within(count..held, 0);
-    count
+    let mut bytes = [0; 4096];
+    bytes[..console.len()].copy_from_slice(console);
+    let Ok(ring) = Box::new(alloc, bytes) else {
+        return Err(AllocError);
+    };
+    Ok(ring)
 }
 
-impl Place for Board {
-    ghost use Rattle.board_table.specs.Board.{Board as BoardValue, is_board_act, touch};
-    ghost use Rattle.board_table.specs.Fitting.{board_reply_fits};
-
-    ghost Value = { BoardValue };
-
-    ghost value = { λ b. b };
-
-    ghost touch = { touch };
-
-    ghost serves = { is_board_act };
-
-    ghost replies_fit = { board_reply_fits };
-
-    fn act(&mut self, actor: ActorId, op: &Op) -> Reply {
-        match op {
-            Op::Board(act) => self.board_act(act),
-            _ => Reply::AccessFault,
-        }
+// The states of so many harts, of which the first runs.
+fn first_started(alloc: Global, harts: usize) -> Result<Vec<HartState>, AllocError>
+    ensures { IfOk result (λ states. states.items ≡ (new_board harts).states) }
+{
+    let mut states = vec![in alloc; HartState::Stopped; harts]?;
+    if harts > 0 {
+        states[0] = HartState::Started;
     }
+    Ok(states)
 }

@@ -1,6 +1,7 @@
-//! The board of the machine: the console as a ring of 4,096 bytes, and whether the guest is off.
+//! The board of the machine: the console as a ring of 4,096 bytes, whether the guest is off, guest time, interrupt
+//! lines and the registers that show them, and the state of each hart.
 //!
-//! An act on it is what `board_table` says. The ring is made once; a byte that the guest puts costs one store,
+//! An act on it is what `board_table` says. All its memory is taken once; a byte that the guest puts costs one store,
 //! `console` lends what is held, and `drain` moves the oldest bytes out.
 #![tactic(auto)]
 
@@ -8,4 +9,4 @@ mod board;
 #[cfg(test)]
 mod tests;
 
-pub use board::Board;
+pub use board::{Board, HartParts};

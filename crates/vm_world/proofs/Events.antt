@@ -1,121 +1,218 @@
 -- A world's events are the flat machine's.
-use Rattle.std.proofs.Common.{◌≡◌, ℕ, zero, suc, ◌+◌, ◌<◌, true, false, Bool, nat_lt, refl, sym, ap, subst, ◌∙◌, length, slice_get, if◌then◌else◌, Option, Some, None, ◌⊎◌, inl, inr, arith}
+use Rattle.std.proofs.Common.{◌≡◌, ℕ, zero, suc, ◌+◌, ◌<◌, ◌≤◌, true, false, Bool, nat_lt, refl, sym, ap, subst, ◌∙◌, List, [], ◌∷◌, length, slice_get, if◌then◌else◌, MatchOption, Option, Some, None, ◌⊎◌, inl, inr, arith}
+use Rattle.std.proofs.lemmas.Bool.{lt-ltb, ltb-false, ltb-true}
 use Rattle.vm_types.specs.declared.ids.ActorId.{ActorId}
+use Rattle.vm_types.specs.Fits.{out_fits}
 use Rattle.vm_types.specs.declared.ids.PlaceId.{PlaceId}
 use Rattle.vm_types.specs.declared.op.Op.{Op}
 use Rattle.vm_types.specs.declared.reply.Reply.{Reply}
 use Rattle.vm_types.specs.declared.entry.Entry.{Entry}
+use Rattle.vm_types.specs.Ids.{same_actor}
 use Rattle.guest_memory.specs.Route.{access_place}
 use Rattle.board_table.specs.Board.{Board}
 use Rattle.guest_pages.specs.Pages.{flat_of}
+use Rattle.rv_supervisor.specs.declared.regs.Regs.{Regs}
 use Rattle.hart_trace.specs.Asks.{is_host_op}
-use Rattle.hart_trace.specs.States.{hart_wants, hart_next}
-use Rattle.hart_trace.proofs.Asks.{never_host}
-use Rattle.hart_trace.proofs.Traces.{wants_only}
+use Rattle.hart_trace.specs.States.{Hart, hart_wants, hart_next}
+use Rattle.timer_trace.specs.declared.timer.Timer.{Timer}
+use Rattle.timer_trace.specs.States.{new_timer}
+use Rattle.timer_trace.proofs.Traces as timer_traces
 use Rattle.flat_guest.specs.Guest.{Guest, Wants, WantsFrom, is_actor}
-use Rattle.flat_guest.specs.Places.{place_of, without_devices}
-use Rattle.flat_guest.specs.Body.{reply_at}
-use Rattle.flat_guest.specs.Steps.{board_after, memory_after}
-use Rattle.flat_guest.proofs.Stepping.{HasMade, entry_of, has_made_more, hart_event, step_is, stays}
+use Rattle.flat_guest.specs.Places.{is_register_access, place_of, without_devices}
+use Rattle.flat_guest.specs.Body.{AreHarts, harts_after, reply_at, timer_after, want_of, wants, with_reply}
+use Rattle.flat_guest.specs.Start.{timer_restarted}
+use Rattle.flat_guest.specs.Steps.{board_after, is_given, memory_after}
+use Rattle.flat_guest.proofs.Acting as acting
+use Rattle.flat_guest.proofs.Determined.{wants_one}
+use Rattle.flat_guest.proofs.Stepping.{HasMade, HasStopped, entry_of, has_made_more, ran, step_is, stays}
 use Rattle.vm_world.specs.declared.step_error.StepError.{StepError}
 use Rattle.vm_world.specs.Refusing.{refusal_of}
-use Rattle.vm_world.specs.Worlds.{IsWorld, MakesEvent, Runs, WorldValue, place_in}
+use Rattle.vm_world.specs.Worlds.{IsWorld, MakesEvent, Runs, WorldValue, place_in, want_in}
 
 -- an op that acts on a page is an access
 port_page : (b : Bool) (port i : ℕ) → (let place : PlaceId = if b then PlaceId.Port port else PlaceId.Out in place) ≡ PlaceId.Page i → ⊥
 port_page true port i is = cc
 port_page false port i is = cc
 
+on_page : (b : Bool) (i : ℕ) (place : PlaceId) → (let here : PlaceId = if b then PlaceId.Board else place in here) ≡ PlaceId.Page i → place ≡ PlaceId.Page i
+on_page true i place is = cc
+on_page false i place is = is
+
 pub place_access : (size i : ℕ) (op : Op) → place_of (without_devices size) op ≡ PlaceId.Page i → access_place size op ≡ PlaceId.Page i
 place_access size i (Op.Port port act) is = absurd (port_page (nat_lt port 0) port i is)
 place_access size i (Op.Board act) is = cc
-place_access size i (Op.Read at len) is = is
-place_access size i (Op.Write at piece) is = is
-place_access size i (Op.Amo at value kind wide) is = is
-place_access size i (Op.Lr at wide) is = is
-place_access size i (Op.Sc at value wide) is = is
+place_access size i (Op.Read at len) is = on_page (is_register_access (Op.Read at len)) i (access_place size (Op.Read at len)) is
+place_access size i (Op.Write at piece) is = on_page (is_register_access (Op.Write at piece)) i (access_place size (Op.Write at piece)) is
+place_access size i (Op.Amo at value kind wide) is =
+    on_page (is_register_access (Op.Amo at value kind wide)) i (access_place size (Op.Amo at value kind wide)) is
+place_access size i (Op.Lr at wide) is = on_page (is_register_access (Op.Lr at wide)) i (access_place size (Op.Lr at wide)) is
+place_access size i (Op.Sc at value wide) is =
+    on_page (is_register_access (Op.Sc at value wide)) i (access_place size (Op.Sc at value wide)) is
 place_access size i (Op.Out act) is = is
 place_access size i Op.Idle is = is
 
--- the hart's event
-pub event_made : (old new : WorldValue) (op : Op) (place : PlaceId) (reply : Reply) → op ≡ hart_wants old.hart → place ≡ place_in old op → reply ≡ reply_at place (flat_of old.pages) old.board (ActorId.Hart 0) op
-    → flat_of new.pages ≡ memory_after place (flat_of old.pages) (ActorId.Hart 0) op → new.board ≡ board_after place old.board (ActorId.Hart 0) op → new.hart ≡ hart_next old.hart reply
-    → MakesEvent old hart_event (entry_of place op reply) new
-event_made old new op place reply want at answer memory board hart = record {
+-- an actor's event
+pub event_made : (old new : WorldValue) (actor : ActorId) (op : Op) (given : Option Reply) (place : PlaceId) (reply : Reply)
+    → want_in old actor ≡ Some op → is_given op given ≡ true → place ≡ place_in old op
+    → reply ≡ reply_at place (flat_of old.pages) old.board actor op given
+    → flat_of new.pages ≡ memory_after place (flat_of old.pages) actor op → new.board ≡ board_after place old.board actor op
+    → new.timer ≡ timer_after actor old.timer reply → new.harts ≡ harts_after actor old.harts reply
+    → MakesEvent old (record { actor = actor; reply = given }) (entry_of place actor op reply) new
+event_made old new actor op given place reply want fit at answer memory board timer harts = record {
   unstamped = (refl, refl);
-  step = λ g is. step_is (flat_of old.pages) old.board old.hart g op place reply is want at answer;
-  stays = λ g is. stays (flat_of old.pages) (flat_of new.pages) old.board new.board old.hart new.hart g op place reply is want at answer memory board hart;
+  step =
+      λ g is. step_is (flat_of old.pages) old.board old.timer old.harts g actor op given place reply is want fit at answer;
+  stays =
+      λ g is. stays (flat_of old.pages) (flat_of new.pages) old.board new.board old.timer new.timer old.harts new.harts g
+      actor op given place reply is want fit at answer memory board timer harts;
 }
 
--- what the hart wants is what every guest's hart wants
-pub hart_wanted : (w : WorldValue) (g : Guest) → IsWorld w g → Wants g (ActorId.Hart 0) (hart_wants w.hart)
-hart_wanted w g is =
-    (step_is (flat_of w.pages) w.board w.hart g (hart_wants w.hart) (place_in w (hart_wants w.hart)) (reply_at (place_in w (hart_wants w.hart)) (flat_of w.pages) w.board (ActorId.Hart 0) (hart_wants w.hart)) is refl refl refl).want
+-- an actor that wanted something still wants something
+next_by : (o : Option Hart) (harts : List Hart) (k : ℕ) (op : Op) (reply : Reply) → slice_get harts k ≡ o
+    → want_of o ≡ Some op → (next : Op) × (want_of (slice_get (with_reply o harts k reply) k) ≡ Some next)
+next_by None harts k op reply is want = cc
+next_by (Some hart) harts k op reply is want =
+    (hart_wants (hart_next hart reply), ap want_of (acting.get_set_same harts k hart (hart_next hart reply) is))
 
--- the hart is the one actor
-pub hart_there : (w : WorldValue) (g : Guest) → IsWorld w g → is_actor g (ActorId.Hart 0) ≡ true
-hart_there w g is = ap (λ starts. nat_lt 0 (length starts)) is.hart_is.1
+pub still_there : (t : Timer) (harts : List Hart) (actor : ActorId) (op : Op) (reply : Reply)
+    → wants t harts actor ≡ Some op
+    → (next : Op) × (wants (timer_after actor t reply) (harts_after actor harts reply) actor ≡ Some next)
+still_there t harts ActorId.Timer op reply want = (_, refl)
+still_there t harts (ActorId.Hart k) op reply want = next_by (slice_get harts k) harts k op reply refl want
+still_there t harts (ActorId.Device k) op reply want = cc
 
-pub no_want : (w : WorldValue) (g : Guest) (actor : ActorId) (op : Op) → IsWorld w g → is_actor g actor ≡ false → Wants g actor op → ⊥
-no_want w g (ActorId.Hart zero) op is none wants =
-    let both : true ≡ false = sym (hart_there w g is) ∙ none in
+pub there_now : (w : WorldValue) (t : Timer) (harts : List Hart) (actor : ActorId) (op : Op) (reply : Reply)
+    → wants t harts actor ≡ Some op → w.timer ≡ timer_after actor t reply → w.harts ≡ harts_after actor harts reply
+    → (next : Op) × (want_in w actor ≡ Some next)
+there_now w t harts actor op reply want timer_is harts_is =
+    let next = still_there t harts actor op reply want in (
+      next.0,
+      ap (λ (x : Timer). wants x w.harts actor) timer_is
+          ∙ ap (λ (x : List Hart). wants (timer_after actor t reply) x actor) harts_is ∙ next.1,
+    )
+
+-- who wants nothing isn't there
+none_there : (o : Option Hart) → want_of o ≡ None → o ≡ None
+none_there None is = refl
+none_there (Some hart) is = cc
+
+by_lt : (k n : ℕ) (b : Bool) → nat_lt k n ≡ b → (k < n → ⊥) → nat_lt k n ≡ false
+by_lt k n true is not = absurd (not (ltb-true k n is))
+by_lt k n false is not = is
+
+never : (k n : ℕ) → (k < n → ⊥) → nat_lt k n ≡ false
+never k n not = by_lt k n (nat_lt k n) refl not
+
+later : (k n : ℕ) → nat_lt k n ≡ false → nat_lt (suc k) (suc n) ≡ false
+later k n is = never (suc k) (suc n) (λ lt. omega (arith, lt, ltb-false k n is))
+
+next_lt : (k n : ℕ) → k < n → suc k < suc n
+next_lt k n lt = omega (arith, lt)
+
+past : (harts : List Hart) (starts : List Regs) (k : ℕ) → length harts ≡ length starts → slice_get harts k ≡ None
+    → (nat_lt k (length starts) ≡ false) × (slice_get starts k ≡ None)
+past [] [] k same is = (never k 0 (λ lt. omega (arith, lt)), refl)
+past [] (s ∷ starts) k same is = absurd (omega (arith, same))
+past (h ∷ harts) [] k same is = absurd (omega (arith, same))
+past (h ∷ harts) (s ∷ starts) zero same is = cc
+past (h ∷ harts) (s ∷ starts) (suc k) same is =
+    let rest = past harts starts k (omega (arith, same)) is in
+    (later k (length starts) rest.0, rest.1)
+
+pub not_there : (w : WorldValue) (g : Guest) (actor : ActorId) → IsWorld w g → want_in w actor ≡ None
+    → is_actor g actor ≡ false
+not_there w g ActorId.Timer is none = cc
+not_there w g (ActorId.Hart k) is none =
+    (past w.harts g.starts k is.harts_are.count (none_there (slice_get w.harts k) none)).0
+not_there w g (ActorId.Device k) is none = refl
+
+pub no_want : (w : WorldValue) (g : Guest) (actor : ActorId) (op : Op) → IsWorld w g → want_in w actor ≡ None
+    → Wants g actor op → ⊥
+no_want w g ActorId.Timer op is none want = cc
+no_want w g (ActorId.Hart k) op is none want =
+    let missing = (past w.harts g.starts k is.harts_are.count (none_there (slice_get w.harts k) none)).1 in
+    subst (λ (s : Option Regs). WantsFrom s (g.steps (ActorId.Hart k)) op) missing want
+no_want w g (ActorId.Device k) op is none want = want
+
+pub wanted : (w : WorldValue) (g : Guest) (actor : ActorId) (op : Op) → IsWorld w g → want_in w actor ≡ Some op
+    → Wants g actor op
+wanted w g actor op is want = acting.want_in g w.timer w.harts is.timer_is is.harts_are actor op want
+
+pub wants_by : (w : WorldValue) (actor : ActorId) (o : Option Op) → o ≡ want_in w actor → (g : Guest) → IsWorld w g
+    → MatchOption o (is_actor g actor ≡ false) (λ op. Wants g actor op)
+wants_by w actor None is g world = not_there w g actor world (sym is)
+wants_by w actor (Some op) is g world = wanted w g actor op world (sym is)
+
+here_by : (o : Option Hart) (op : Op) → want_of o ≡ Some op → (hart : Hart) × (o ≡ Some hart)
+here_by None op is = cc
+here_by (Some hart) op is = (hart, refl)
+
+sooner : (k n : ℕ) → nat_lt k n ≡ true → nat_lt (suc k) (suc n) ≡ true
+sooner k n is = lt-ltb (suc k) (suc n) (next_lt k n (ltb-true k n is))
+
+within : (harts : List Hart) (starts : List Regs) (k : ℕ) (hart : Hart) → length harts ≡ length starts
+    → slice_get harts k ≡ Some hart → nat_lt k (length starts) ≡ true
+within [] starts k hart same is = cc
+within (h ∷ harts) [] k hart same is = absurd (omega (arith, same))
+within (h ∷ harts) (s ∷ starts) zero hart same is = lt-ltb 0 (length (s ∷ starts)) (omega arith)
+within (h ∷ harts) (s ∷ starts) (suc k) hart same is =
+    sooner k (length starts) (within harts starts k hart (omega (arith, same)) is)
+
+pub is_there : (w : WorldValue) (g : Guest) (actor : ActorId) (op : Op) → IsWorld w g → want_in w actor ≡ Some op
+    → is_actor g actor ≡ true
+is_there w g ActorId.Timer op is want = refl
+is_there w g (ActorId.Hart k) op is want =
+    let hart = here_by (slice_get w.harts k) op want in
+    within w.harts g.starts k hart.0 is.harts_are.count hart.1
+is_there w g (ActorId.Device k) op is want = cc
+
+-- an act that isn't refused has what it is to be given
+by_fit : (fit : Bool) → (if fit then None else Some StepError.Unfit) ≡ None → fit ≡ true
+by_fit true none = refl
+by_fit false none = cc
+
+pub not_refused_given : (op : Op) (given : Option Reply) → refusal_of op given ≡ None → is_given op given ≡ true
+not_refused_given (Op.Out act) None none = cc
+not_refused_given (Op.Out act) (Some reply) none = by_fit (out_fits act reply) none
+not_refused_given op None none = refl
+not_refused_given op (Some reply) none = cc
+
+pub not_refused : (w : WorldValue) (g : Guest) (actor : ActorId) (op mine : Op) (given : Option Reply) (why : StepError)
+    → IsWorld w g → want_in w actor ≡ Some mine → Wants g actor op → refusal_of op given ≡ None
+    → refusal_of mine given ≡ Some why → ⊥
+not_refused w g actor op mine given why is want wants none some =
+    let same : op ≡ mine = wants_one g actor op mine wants (wanted w g actor mine is want) in
+    let both : Some why ≡ None = sym some ∙ ap (λ (o : Op). refusal_of o given) (sym same) ∙ none in
     cc
-no_want w g (ActorId.Hart (suc k)) op is none wants =
-    subst (λ starts. WantsFrom (slice_get starts (suc k)) (g.steps (ActorId.Hart (suc k))) op) is.hart_is.1 wants
-no_want w g ActorId.Timer op is none wants = wants
-no_want w g (ActorId.Device k) op is none wants = wants
 
--- so an event has no reply of a host object
-none_given : (op : Op) (given : Option Reply) → is_host_op op ≡ false → refusal_of op given ≡ None → given ≡ None
-none_given op None own none = refl
-none_given (Op.Out act) (Some reply) own none = cc
-none_given (Op.Port port act) (Some reply) own none = cc
-none_given (Op.Board act) (Some reply) own none = cc
-none_given (Op.Read at len) (Some reply) own none = cc
-none_given (Op.Write at piece) (Some reply) own none = cc
-none_given (Op.Amo at value kind wide) (Some reply) own none = cc
-none_given (Op.Lr at wide) (Some reply) own none = cc
-none_given (Op.Sc at value wide) (Some reply) own none = cc
-none_given Op.Idle (Some reply) own none = cc
+-- the timer at its start
+pub restarted : (w : WorldValue) (g : Guest) → IsWorld w g → IsWorld (record w { timer = new_timer }) (timer_restarted g)
+restarted w g is = record {
+  memory_is = is.memory_is;
+  board_is = is.board_is;
+  timer_is = timer_traces.leads_start;
+  harts_are = record { count = is.harts_are.count; each = is.harts_are.each };
+}
 
-pub step_made : (old new : WorldValue) (actor : ActorId) (op : Op) (given : Option Reply) (e : Entry) → actor ≡ ActorId.Hart 0 → op ≡ hart_wants old.hart → refusal_of op given ≡ None → MakesEvent old hart_event e new
-    → MakesEvent old (record { actor = actor; reply = given }) e new
-step_made old new actor op given e hart want none made =
-    let own : is_host_op op ≡ false = ap is_host_op want ∙ never_host old.hart in
-    let no_reply : given ≡ None = none_given op given own none in
-    subst (λ (a : ActorId). MakesEvent old (record { actor = a; reply = given }) e new) (sym hart)
-    (subst (λ (r : Option Reply). MakesEvent old (record { actor = ActorId.Hart 0; reply = r }) e new) (sym no_reply) made)
+-- events of an actor, one after another
+abbrev pub HasRun : ActorId → WorldValue → ℕ → WorldValue → Type 0
+HasRun actor old made new =
+    HasMade actor (flat_of old.pages) old.board old.timer old.harts made (flat_of new.pages) new.board new.timer new.harts
 
--- a guest's hart wants one op
-pub one_want : (w : WorldValue) (g : Guest) (op : Op) → IsWorld w g → Wants g (ActorId.Hart 0) op → op ≡ hart_wants w.hart
-one_want w g op is wants =
-    let h = is.hart_is in
-    wants_only h.0 (g.steps (ActorId.Hart 0)) w.hart op h.2 (subst (λ starts. WantsFrom (slice_get starts 0) (g.steps (ActorId.Hart 0)) op) h.1 wants)
+pub run_more : (actor : ActorId) (old mid new : WorldValue) (made : ℕ) → HasRun actor old made mid
+    → mid.board.off ≡ false → ((e : Entry) × MakesEvent mid (record { actor = actor; reply = None }) e new)
+    → HasRun actor old (made + 1) new
+run_more actor old mid new made has on event =
+    has_made_more actor (flat_of old.pages) (flat_of mid.pages) (flat_of new.pages) old.board mid.board new.board
+    old.timer mid.timer new.timer old.harts mid.harts new.harts made event.0 has on event.1.unstamped event.1.step
+    event.1.stays
 
-pub not_refused : (w : WorldValue) (g : Guest) (actor : ActorId) (op mine : Op) (given : Option Reply) (why : StepError) → IsWorld w g → actor ≡ ActorId.Hart 0 → mine ≡ hart_wants w.hart → Wants g actor op → refusal_of op given ≡ None → refusal_of mine given ≡ Some why → ⊥
-not_refused w g actor op mine given why is hart want wants none some =
-    let here : op ≡ hart_wants w.hart = one_want w g op is (subst (λ (a : ActorId). Wants g a op) hart wants) in
-    let both : Some why ≡ None = sym some ∙ ap (λ (o : Op). refusal_of o given) (want ∙ sym here) ∙ none in
-    cc
+-- all were made, or no further one is
+abbrev pub HasEnded : ActorId → WorldValue → Type 0
+HasEnded actor w = HasStopped actor w.board w.timer w.harts
 
--- events of the hart, one after another
-abbrev pub HasRun : WorldValue → ℕ → WorldValue → Type 0
-HasRun old made new = HasMade (flat_of old.pages) old.board old.hart made (flat_of new.pages) new.board new.hart
-
-pub run_more : (old mid new : WorldValue) (made : ℕ) → HasRun old made mid → mid.board.off ≡ false → ((e : Entry) × MakesEvent mid hart_event e new) → HasRun old (made + 1) new
-run_more old mid new made has on event =
-    has_made_more (flat_of old.pages) (flat_of mid.pages) (flat_of new.pages) old.board mid.board new.board old.hart mid.hart new.hart made event.0 has on event.1.unstamped event.1.step event.1.stays
-
--- all were made, or the guest is off
-pub runs : (old new : WorldValue) (count made : ℕ) → HasRun old made new → (made ≡ count) ⊎ ((made < count) × (new.board.off ≡ true)) → Runs old (ActorId.Hart 0) count made new
-runs old new count made has (inl all) g is =
-    let t = has g is in
-    (t.0, t.1, record { made = t.2; on = t.3; all = inl (t.4 ∙ all) }, t.4, t.5)
-runs old new count made has (inr less) g is =
-    let t = has g is in
-    let off : t.1.board.off ≡ true = ap (λ (b : Board). b.off) (sym t.5.board_is) ∙ less.1 in
-    let few : length t.0 < count = omega (arith, t.4, less.0) in
-    (t.0, t.1, record { made = t.2; on = t.3; all = inr (few, off) }, t.4, t.5)
-
-pub runs_by : (old new : WorldValue) (actor : ActorId) (count made : ℕ) → actor ≡ ActorId.Hart 0 → Runs old (ActorId.Hart 0) count made new → Runs old actor count made new
-runs_by old new actor count made hart has = subst (λ (a : ActorId). Runs old a count made new) (sym hart) has
+pub runs : (actor : ActorId) (old new : WorldValue) (count made : ℕ) → HasRun actor old made new
+    → (made ≡ count) ⊎ ((made < count) × HasEnded actor new) → Runs old actor count made new
+runs actor old new count made has all g is =
+    ran actor (flat_of old.pages) (flat_of new.pages) old.board new.board old.timer new.timer old.harts new.harts made
+    count has all g is

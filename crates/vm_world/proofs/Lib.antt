@@ -1,3 +1,4 @@
 mod Booting
 mod Events
+mod Listed
 pub mod Running

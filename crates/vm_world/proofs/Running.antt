@@ -1,5 +1,6 @@
 -- What the hart's small ops are answered is what its ops are answered.
-use Rattle.std.proofs.Common.{◌≡◌, ℕ, ◌+◌, nat_le, Bool, true, false, cond, ◌&&◌, List, length, refl, sym, ap, ◌∙◌}
+use Rattle.std.proofs.Common.{◌≡◌, ℕ, zero, suc, ◌+◌, ◌-◌, ◌≤◌, nat_le, nat_lt, Bool, true, false, cond, ◌&&◌, List, [], ◌∷◌, Option, Some, None, length, slice_get, slice_set, refl, sym, ap, subst, ◌∙◌, arith}
+use Rattle.std.proofs.lemmas.Bool.{leb-true, ltb-false}
 use Rattle.vm_types.specs.declared.ids.ActorId.{ActorId}
 use Rattle.vm_types.specs.declared.ids.PlaceId.{PlaceId}
 use Rattle.vm_types.specs.declared.op.Op.{Op}
@@ -8,32 +9,37 @@ use Rattle.vm_types.specs.declared.reply.Reply.TheVariants.{AccessFault, Bytes}
 use Rattle.vm_types.specs.declared.entry.Entry.{Entry}
 use Rattle.vm_types.specs.Fits.{fits}
 use Rattle.guest_memory.specs.Memory.{Memory, read_from}
-use Rattle.guest_memory.specs.Ram.{is_ram, page_number, page_offset, page_size}
+use Rattle.guest_memory.specs.Ram.{ram_start, is_ram, page_number, page_offset, page_size}
 use Rattle.board_table.specs.Board.{Board}
 use Rattle.guest_pages.specs.Pages.{PageValue, flat_of}
-use Rattle.guest_pages.specs.Words.{at_place, read_of, served}
+use Rattle.guest_pages.specs.Words.{at_place, read_of, served, write_of}
 use Rattle.rv_rows.specs.declared.memory.Width.{Width}
 use Rattle.rv_rows.specs.Loads.{width_bytes}
 use Rattle.rv_doing.specs.declared.hart_op.HartOp.{HartOp}
 use Rattle.rv_doing.specs.HartOps.{op_of}
 use Rattle.hart_trace.specs.Asks.{is_hart_op}
-use Rattle.hart_trace.proofs.Asks.{hart_asks}
 use Rattle.hart_trace.specs.States.{Hart, hart_wants}
-use Rattle.flat_guest.specs.Body.{reply_at}
-use Rattle.flat_guest.specs.Places.{without_devices}
+use Rattle.hart_trace.proofs.Asks.{hart_asks, never_host, no_host, no_port}
+use Rattle.flat_guest.specs.Body.{out_reply, reply_at, want_of, with_reply}
+use Rattle.flat_guest.specs.Places.{are_registers, without_devices}
+use Rattle.board_table.specs.Window.{is_window}
+use Rattle.le_fields.specs.Fields.{bytes_of}
+use Rattle.timer_trace.specs.declared.timer.Timer.{Timer}
 use Rattle.flat_guest.specs.Steps.{board_after, memory_after}
 use Rattle.flat_guest.proofs.Answering.{answer_fits}
-use Rattle.flat_guest.proofs.Stepping.{entry_of, hart_event}
+use Rattle.flat_guest.proofs.Acting.{get_set_same}
+use Rattle.flat_guest.proofs.Soundness.{none_given}
+use Rattle.flat_guest.proofs.Stepping.{entry_of, has_made_none}
 use Rattle.vm_world.specs.Answering.{Advances, IsAnswered, place_with}
-use Rattle.vm_world.specs.Worlds.{MakesEvent, WorldValue, place_in}
-use Rattle.vm_world.proofs.Events.{event_made}
+use Rattle.vm_world.specs.Worlds.{MakesEvent, WorldValue, place_in, world_with}
+use Rattle.vm_world.proofs.Events.{HasRun, event_made, run_more}
 
 -- each reply that a place gives fits the op, so it has few bytes
 pub none_unfit : (pages : List PageValue) (board : Board) (actor : ActorId) (op : HartOp) (whole : Op) (reply : Reply) → whole ≡ op_of op → is_hart_op (op_of op) ≡ true
-    → reply ≡ reply_at (place_with pages whole) (flat_of pages) board actor whole → fits (op_of op) reply ≡ false → ⊥
+    → reply ≡ reply_at (place_with pages whole) (flat_of pages) board actor whole None → fits (op_of op) reply ≡ false → ⊥
 none_unfit pages board actor op whole reply same own is unfit =
-    let gives : reply ≡ reply_at (place_with pages (op_of op)) (flat_of pages) board actor (op_of op) = is ∙ ap (λ (o : Op). reply_at (place_with pages o) (flat_of pages) board actor o) same in
-    let fit : fits (op_of op) reply ≡ true = ap (fits (op_of op)) gives ∙ answer_fits (flat_of pages) board actor (without_devices (length (flat_of pages).bytes)) (op_of op) own in
+    let gives : reply ≡ reply_at (place_with pages (op_of op)) (flat_of pages) board actor (op_of op) None = is ∙ ap (λ (o : Op). reply_at (place_with pages o) (flat_of pages) board actor o None) same in
+    let fit : fits (op_of op) reply ≡ true = ap (fits (op_of op)) gives ∙ answer_fits (flat_of pages) board actor (without_devices (length (flat_of pages).bytes)) (op_of op) None (no_port (op_of op) own) (none_given (op_of op) (no_host (op_of op) own)) in
     let both : true ≡ false = sym fit ∙ unfit in
     cc
 
@@ -49,35 +55,135 @@ read_leaves : (m : Memory) (at len : ℕ) (b : Bool) → m ≡ (let answer : Rep
 read_leaves m at len true = refl
 read_leaves m at len false = refl
 
-module _ (pages : List PageValue) (board : Board) (actor : ActorId) (at : ℕ) (width : Width) where
-  abbrev op : Op
-  op = read_of width at
+-- an access at RAM's start or above is none to the board's registers
+right_holds : (a b : Bool) → (a && b) ≡ true → b ≡ true
+right_holds true b both = both
+right_holds false b both = cc
 
-  abbrev place : Bool → PlaceId
-  place b = cond b (PlaceId.Page (page_number at)) PlaceId.Out
+is_false : (b : Bool) → (b ≡ true → ⊥) → b ≡ false
+is_false true never = absurd (never refl)
+is_false false never = refl
 
-  abbrev in_page : Bool
-  in_page = nat_le 1 (width_bytes width) && is_ram (length (flat_of pages).bytes) at (width_bytes width) && nat_le (page_offset at + width_bytes width) page_size
+too_high : (at len : ℕ) → ram_start ≤ at → at - 0x2000000 + len ≤ 4096 → ⊥
+too_high at len high inside = omega (arith, high, inside)
 
-  replied : (b : Bool) → (at_place (place b) (flat_of pages) actor op).0 ≡ reply_at (place b) (flat_of pages) board actor op
-  replied true = refl
-  replied false = refl
+pub not_registers : (at len : ℕ) → ram_start ≤ at → are_registers at len ≡ false
+not_registers at len high =
+    is_false (are_registers at len) (λ all. too_high at len high (leb-true (at - 0x2000000 + len) 4096
+    (right_holds (nat_le 0x2000000 at) (nat_le (at - 0x2000000 + len) 4096)
+    (right_holds (nat_le 1 len) (is_window at len) all))))
 
-  left : (b : Bool) → flat_of pages ≡ memory_after (place b) (flat_of pages) actor op
-  left true = read_leaves (flat_of pages) at (width_bytes width) (nat_le (width_bytes width) 64 && is_ram (length (flat_of pages).bytes) at (width_bytes width))
-  left false = refl
+pub not_low : (at : ℕ) → nat_lt at ram_start ≡ false → ram_start ≤ at
+not_low at is = ltb-false at ram_start is
 
-  same : (b : Bool) → board ≡ board_after (place b) board actor op
-  same true = refl
-  same false = refl
+module _ (pages : List PageValue) (board : Board) (actor : ActorId) where
+  abbrev place : ℕ → Bool → Bool → PlaceId
+  place at registers b = cond registers PlaceId.Board (cond b (PlaceId.Page (page_number at)) PlaceId.Out)
 
-  pub read_answered : (reply : Reply) → reply ≡ (served pages actor op).0 → IsAnswered pages board actor op reply pages board
-  read_answered reply is = record { reply_is = is ∙ replied in_page; memory_is = left in_page; board_is = same in_page; count_is = refl }
+  abbrev in_page : ℕ → ℕ → Bool
+  in_page at len =
+      nat_le 1 len && is_ram (length (flat_of pages).bytes) at len && nat_le (page_offset at + len) page_size
+
+  abbrev paged : ℕ → Bool → PlaceId
+  paged at b = cond b (PlaceId.Page (page_number at)) PlaceId.Out
+
+  replied : (op : Op) (at : ℕ) (r b : Bool) → r ≡ false → out_reply op None ≡ AccessFault
+      → (at_place (paged at b) (flat_of pages) actor op).0 ≡ reply_at (place at r b) (flat_of pages) board actor op None
+  replied op at true b none out = cc
+  replied op at false true none out = refl
+  replied op at false false none out = sym out
+
+  left : (op : Op) (at : ℕ) (r b : Bool) → r ≡ false
+      → (at_place (paged at b) (flat_of pages) actor op).1 ≡ memory_after (place at r b) (flat_of pages) actor op
+  left op at true b none = cc
+  left op at false true none = refl
+  left op at false false none = refl
+
+  kept : (op : Op) (at : ℕ) (r b : Bool) → r ≡ false → board ≡ board_after (place at r b) board actor op
+  kept op at true b none = cc
+  kept op at false true none = refl
+  kept op at false false none = refl
+
+  read_kept : (at : ℕ) (width : Width) (b : Bool)
+      → flat_of pages ≡ (at_place (paged at b) (flat_of pages) actor (read_of width at)).1
+  read_kept at width true =
+      read_leaves (flat_of pages) at (width_bytes width)
+      (nat_le (width_bytes width) 64 && is_ram (length (flat_of pages).bytes) at (width_bytes width))
+  read_kept at width false = refl
+
+  pub read_answered : (at : ℕ) (width : Width) (reply : Reply) → ram_start ≤ at
+      → reply ≡ (served pages actor (read_of width at)).0
+      → IsAnswered pages board actor (read_of width at) reply pages board
+  read_answered at width reply high is =
+      let op : Op = read_of width at in
+      let len : ℕ = width_bytes width in
+      let none = not_registers at len high in
+      let b : Bool = in_page at len in
+      let r : Bool = are_registers at len in record {
+        reply_is = is ∙ replied op at r b none refl;
+        memory_is = read_kept at width b ∙ left op at r b none;
+        board_is = kept op at r b none;
+        count_is = refl;
+      }
+
+  pub write_answered : (at word : ℕ) (width : Width) (reply : Reply) (later : List PageValue) → ram_start ≤ at
+      → reply ≡ (served pages actor (write_of width at word)).0 → flat_of later ≡ (served pages actor (write_of width at word)).1
+      → length later ≡ length pages → IsAnswered pages board actor (write_of width at word) reply later board
+  write_answered at word width reply later high is memory count =
+      let op : Op = write_of width at word in
+      let len : ℕ = length (bytes_of (width_bytes width) word) in
+      let none = not_registers at len high in
+      let b : Bool = in_page at len in
+      let r : Bool = are_registers at len in record {
+        reply_is = is ∙ replied op at r b none refl;
+        memory_is = memory ∙ left op at r b none;
+        board_is = kept op at r b none;
+        count_is = count;
+      }
+
+-- lists
+pub set_own : {A : Type 0} (xs : List A) (k : ℕ) (x : A) → slice_get xs k ≡ Some x → slice_set xs k x ≡ xs
+set_own [] k x is = refl
+set_own (y ∷ xs) zero x is = let same : y ≡ x = cc in ap (λ z. z ∷ xs) (sym same)
+set_own (y ∷ xs) (suc k) x is = ap (λ l. y ∷ l) (set_own xs k x is)
+
+pub set_twice : {A : Type 0} (xs : List A) (k : ℕ) (x y : A) → slice_set (slice_set xs k x) k y ≡ slice_set xs k y
+set_twice [] k x y = refl
+set_twice (z ∷ xs) zero x y = refl
+set_twice (z ∷ xs) (suc k) x y = ap (λ l. z ∷ l) (set_twice xs k x y)
 
 -- so the hart's event is the world's
-pub advanced : (old new : WorldValue) → Advances old.pages old.board old.hart (ActorId.Hart 0) new.pages new.board new.hart → (e : Entry) × MakesEvent old hart_event e new
-advanced old new by =
-    let op = hart_wants old.hart in (
-      entry_of (place_in old op) op by.0,
-      event_made old new op (place_in old op) by.0 refl refl by.1.reply_is by.1.memory_is by.1.board_is by.2,
+pub advanced : (old new : WorldValue) (k : ℕ) (hart next : Hart) → slice_get old.harts k ≡ Some hart
+    → Advances old.pages old.board hart (ActorId.Hart k) new.pages new.board next → new.timer ≡ old.timer
+    → new.harts ≡ slice_set old.harts k next
+    → (e : Entry) × MakesEvent old (record { actor = ActorId.Hart k; reply = None }) e new
+advanced old new k hart next there by timer harts =
+    let op : Op = hart_wants hart in
+    let given = ap (λ (o : Option Hart). with_reply o old.harts k by.0) (sym there) in (
+      entry_of (place_in old op) (ActorId.Hart k) op by.0,
+      event_made old new (ActorId.Hart k) op None (place_in old op) by.0 (ap want_of there)
+          (none_given op (never_host hart)) refl by.1.reply_is by.1.memory_is by.1.board_is timer
+          (harts ∙ ap (λ (h : Hart). slice_set old.harts k h) by.2 ∙ given),
     )
+
+-- several
+module _ (k : ℕ) (pages mid later : List PageValue) (board between after : Board) (first hart next : Hart) (made : ℕ)
+    (timer : Timer) (harts : List Hart) (there : slice_get harts k ≡ Some first) where
+  abbrev start : WorldValue
+  start = world_with pages board timer harts
+
+  abbrev here : WorldValue
+  here = world_with mid between timer (slice_set harts k hart)
+
+  pub none_run : HasRun (ActorId.Hart k) start 0 (world_with pages board timer (slice_set harts k first))
+  none_run =
+      subst (λ (hs : List Hart). HasRun (ActorId.Hart k) start 0 (world_with pages board timer hs))
+      (sym (set_own harts k first there)) (has_made_none (ActorId.Hart k) (flat_of pages) board timer harts)
+
+  pub one_more : HasRun (ActorId.Hart k) start made here → between.off ≡ false
+      → Advances mid between hart (ActorId.Hart k) later after next
+      → HasRun (ActorId.Hart k) start (made + 1) (world_with later after timer (slice_set harts k next))
+  one_more has on by =
+      run_more (ActorId.Hart k) start here (world_with later after timer (slice_set harts k next)) made has on
+      (advanced here (world_with later after timer (slice_set harts k next)) k hart next (get_set_same harts k first hart there)
+      by refl (sym (set_twice harts k hart next)))

@@ -1,11 +1,14 @@
 -- What an act is answered where it acts, and what it leaves there.
-use Rattle.std.specs.Prelude.{◌≡◌, List, length}
+use Rattle.std.specs.Prelude.{◌≡◌, nat_lt, Bool, false, None, List, length}
 use Rattle.vm_types.specs.declared.ids.ActorId.{ActorId}
 use Rattle.vm_types.specs.declared.ids.PlaceId.{PlaceId}
 use Rattle.vm_types.specs.declared.op.Op.{Op}
 use Rattle.vm_types.specs.declared.reply.Reply.{Reply}
 use Rattle.board_table.specs.Board.{Board}
+use Rattle.guest_memory.specs.Ram.{ram_start}
 use Rattle.guest_pages.specs.Pages.{PageValue, flat_of}
+use Rattle.rv_doing.specs.declared.hart_op.HartOp.{HartOp}
+use Rattle.rv_doing.specs.declared.hart_op.HartOp.TheVariants.{Fetch, Read, Write}
 use Rattle.hart_trace.specs.States.{Hart, hart_next, hart_wants}
 use Rattle.flat_guest.specs.Body.{reply_at}
 use Rattle.flat_guest.specs.Places.{place_of, without_devices}
@@ -18,7 +21,7 @@ place_with pages op = place_of (without_devices (length (flat_of pages).bytes)) 
 -- the reply is the place's, and so is what becomes of the pages, which are as many, and of the board
 pub record IsAnswered (pages : List PageValue) (board : Board) (actor : ActorId) (op : Op) (reply : Reply)
     (later : List PageValue) (after : Board) : Type 0 where
-  pub reply_is : reply ≡ reply_at (place_with pages op) (flat_of pages) board actor op
+  pub reply_is : reply ≡ reply_at (place_with pages op) (flat_of pages) board actor op None
   pub memory_is : flat_of later ≡ memory_after (place_with pages op) (flat_of pages) actor op
   pub board_is : after ≡ board_after (place_with pages op) board actor op
   pub count_is : length later ≡ length pages
@@ -27,3 +30,10 @@ pub record IsAnswered (pages : List PageValue) (board : Board) (actor : ActorId)
 abbrev pub Advances : List PageValue → Board → Hart → ActorId → List PageValue → Board → Hart → Type 0
 Advances pages board hart actor later after next =
     (reply : Reply) × IsAnswered pages board actor (hart_wants hart) reply later after × (next ≡ hart_next hart reply)
+
+-- an access below RAM, where the board's registers are
+abbrev pub is_low : HartOp → Bool
+is_low (Fetch pc) = nat_lt pc ram_start
+is_low (Read at width) = nat_lt at ram_start
+is_low (Write at word width) = nat_lt at ram_start
+is_low op = false

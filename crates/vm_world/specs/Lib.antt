@@ -1,3 +1,4 @@
 pub mod Answering
 pub mod Refusing
+pub mod Starting
 pub mod Worlds

@@ -1,15 +1,17 @@
 // Events of one hart, one after another. What is frequent goes by the hart's small ops and a word of a page; a whole
 // `Op` and `Reply` are made for the rest alone.
-ghost use Rattle.std.specs.Prelude.{◌≡◌, ◌≤◌, ◌^◌, true, length};
+ghost use Rattle.std.specs.Prelude.{◌≡◌, ◌≤◌, ◌^◌, true, List, Some, length, slice_get, slice_set};
 ghost use Rattle.vm_types.specs.declared.ids.ActorId.{ActorId};
 ghost use Rattle.guest_pages.specs.Words.{read_of, served, write_of};
 ghost use Rattle.hart_trace.specs.Asks.{is_hart_op};
 ghost use Rattle.rv_doing.specs.HartOps.{op_of, reply_of};
-ghost use Rattle.vm_world.specs.Answering.{Advances, IsAnswered};
-ghost use Rattle.vm_world.specs.Worlds.{Runs};
+ghost use Rattle.hart_trace.specs.States.{Hart as HartValue};
+ghost use Rattle.timer_trace.specs.declared.timer.Timer.{Timer};
+ghost use Rattle.vm_world.specs.Answering.{Advances, IsAnswered, is_low};
+ghost use Rattle.vm_world.specs.Worlds.{Runs, world_with};
 
 use flat_guest::{Layout, place};
-use guest_memory::PAGE_SIZE;
+use guest_memory::{PAGE_SIZE, RAM_START};
 use guest_pages::PageSet;
 use hart_rv64::Hart;
 use line_board::Board;
@@ -27,8 +29,18 @@ fn read(pages: &PageSet, at: u64, width: Width) -> HartReply
     }
 }
 
-/// What an act is answered by its place, or where it has none.
-pub fn act(pages: &mut PageSet, board: &mut Board, actor: ActorId, op: &Op) -> Reply
+fn is_low(op: HartOp) -> bool
+    ensures { result ≡ is_low op }
+{
+    match op {
+        HartOp::Fetch { pc } => pc < RAM_START,
+        HartOp::Read { at, .. } | HartOp::Write { at, .. } => at < RAM_START,
+        _ => false,
+    }
+}
+
+// What an act is answered by its place, or where it has none.
+fn act(pages: &mut PageSet, board: &mut Board, actor: ActorId, op: &Op) -> Reply
     requires { length pages.old ≤ 2 ^ 28 }
     ensures { IsAnswered pages.old board.old actor op.now result pages.new board.new }
 {
@@ -66,6 +78,9 @@ fn answer(pages: &mut PageSet, board: &mut Board, actor: ActorId, op: HartOp) ->
     requires own { is_hart_op (op_of op) ≡ true }
     ensures { IsAnswered pages.old board.old actor (op_of op) (reply_of result) pages.new board.new }
 {
+    if is_low(op) {
+        return answer_rare(pages, board, actor, op);
+    }
     match op {
         HartOp::Fetch { pc } => read(pages, pc, Width::Word),
         HartOp::Read { at, width } => read(pages, at, width),
@@ -92,17 +107,27 @@ pub fn advance(pages: &mut PageSet, board: &mut Board, hart: &mut Hart, number: 
     hart.goes_on(reply);
 }
 
-/// Events of the one hart, and how many there were.
+/// Events of the hart of this number, and how many there were. Whatever the timer and the other harts are, they stay.
 #[inline(never)]
-pub fn run_hart(pages: &mut PageSet, board: &mut Board, hart: &mut Hart, count: u64) -> u64
+pub fn run_hart(
+    pages: &mut PageSet,
+    board: &mut Board,
+    hart: &mut Hart,
+    number: u8,
+    count: u64,
+) -> u64
     requires small { length pages.old ≤ 2 ^ 28 }
-    ensures runs { Runs (record { pages = pages.old; board = board.old; hart = hart.old }) (ActorId.Hart 0) count result
-        (record { pages = pages.new; board = board.new; hart = hart.new }) }
+    ensures runs { (timer : Timer) (harts : List HartValue) → slice_get harts number ≡ Some hart.old →
+        Runs (world_with pages.old board.old timer harts) (ActorId.Hart number) count result
+        (world_with pages.new board.new timer (slice_set harts number hart.new)) }
     ensures count { length pages.new ≡ length pages.old }
 {
     let mut made = 0;
-    while made < count && !board.is_off() {
-        advance(pages, board, hart, 0);
+    while made < count {
+        if board.is_off() {
+            return made;
+        }
+        advance(pages, board, hart, number);
         made += 1;
     }
     made

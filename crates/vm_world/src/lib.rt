@@ -2,9 +2,10 @@
 //!
 //! `World::step` makes the flat machine's event (`FlatStep` of `flat_guest/specs/Steps.antt`) of each guest that the
 //! world is, and refuses exactly what isn't one, with nothing changed. `World::run` makes so many events of one actor,
-//! or as many as there are before the guest is off. The one actor so far is hart 0.
+//! or as many as there are before the guest is off or the actor waits for a host object's reply.
 #![tactic(auto)]
 
+mod actors;
 mod hart_run;
 mod memory;
 mod step_error;

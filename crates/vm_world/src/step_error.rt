@@ -27,13 +27,13 @@ pub struct NotRam;
 
 /// Why an op isn't done with what is given, if it isn't: a host object's reply is to be there, and to fit, exactly
 /// where the op is an act on one.
-pub fn refusal_of(op: &Op, given: Option<Reply>) -> Option<StepError>
-    ensures { result ≡ refusal_of op.now given }
+pub fn refusal_of(op: &Op, given: &Option<Reply>) -> Option<StepError>
+    ensures { result ≡ refusal_of op.now given.now }
 {
     match op {
         Op::Out(_) => match given {
             None => Some(StepError::Waits),
-            Some(reply) => if is_fit(op, &reply) {
+            Some(reply) => if is_fit(op, reply) {
                 None
             } else {
                 Some(StepError::Unfit)

@@ -39,10 +39,10 @@ fn look_or_fault(world: &mut World) -> (bool, bool) {
 
 #[test]
 fn each_event_is_one_act_at_its_place(rt: HostRuntime) -> Result<(), Fail> {
-    let mut world = World::start(rt.alloc(), 4, &PUTS_A_AND_ENDS)?;
+    let mut world = World::start(rt.alloc(), 2, 4, &PUTS_A_AND_ENDS)?;
     assert_eq!(rt;
-        (world.reg(32), world.reg(10), world.reg(11)),
-        (0x8020_0000, 0, 0x803f_0000)
+        (world.reg(0, 32), world.reg(0, 10), world.reg(0, 11)),
+        (Some(0x8020_0000), Some(0), Some(0x803f_0000))
     );
     let put = Op::Board(BoardOp::Putchar { byte: 65 });
     let reset = Op::Board(BoardOp::Reset { kind: 0, reason: 0 });
@@ -65,7 +65,7 @@ fn each_event_is_one_act_at_its_place(rt: HostRuntime) -> Result<(), Fail> {
         assert_eq!(rt; (entry.actor, entry.place), (H0, place));
         assert_eq!(rt; entry.op, op);
         assert_eq!(rt; entry.reply, reply);
-        assert_eq!(rt; world.reg(32), pc);
+        assert_eq!(rt; world.reg(0, 32), Some(pc));
     }
     assert!(rt; world.is_off());
     let mut out = [0; 2];
@@ -84,7 +84,7 @@ fn a_run_makes_its_events_or_ends_where_the_guest_is_off(rt: HostRuntime) -> Res
         (9, 9, &b"A"[..], true),
         (1000, 9, &b"A"[..], true),
     ] {
-        let mut world = World::start(rt.alloc(), 4, &PUTS_A_AND_ENDS)?;
+        let mut world = World::start(rt.alloc(), 2, 4, &PUTS_A_AND_ENDS)?;
         assert_eq!(rt; world.run(H0, count), Ok(made), "{count}");
         assert_eq!(rt; world.console(), console, "{count}");
         assert_eq!(rt; world.is_off(), is_off, "{count}");
@@ -101,7 +101,7 @@ fn looks_and_faults_come_where_they_do(rt: HostRuntime) -> Result<(), Fail> {
     for k in 1..31 {
         image[4 * k] = 0x73;
     }
-    let mut world = World::start(rt.alloc(), 4, &image)?;
+    let mut world = World::start(rt.alloc(), 2, 4, &image)?;
     let mut looks = 0_u32;
     let mut faults = 0_u32;
     for _ in 0..100 {
@@ -115,17 +115,18 @@ fn looks_and_faults_come_where_they_do(rt: HostRuntime) -> Result<(), Fail> {
 
 #[test]
 fn what_is_no_event_is_refused(rt: HostRuntime) -> Result<(), Fail> {
-    let mut world = World::start(rt.alloc(), 4, &PUTS_A_AND_ENDS)?;
+    let mut world = World::start(rt.alloc(), 2, 4, &PUTS_A_AND_ENDS)?;
     for (actor, reply, why) in [
-        (ActorId::Hart(1), None, StepError::NoActor),
+        (ActorId::Hart(2), None, StepError::NoActor),
         (ActorId::Device(0), None, StepError::NoActor),
-        (ActorId::Timer, Some(Reply::Done), StepError::NoActor),
+        (ActorId::Timer, Some(Reply::Done), StepError::Unfit),
+        (ActorId::Timer, None, StepError::Waits),
         (H0, Some(Reply::Done), StepError::NotWaiting),
     ] {
         assert_eq!(rt; world.step(actor, reply), Err(why), "{actor:?}");
-        assert_eq!(rt; world.reg(32), 0x8020_0000);
+        assert_eq!(rt; world.reg(0, 32), Some(0x8020_0000));
     }
-    assert_eq!(rt; world.run(ActorId::Hart(1), 1), Err(NoActor));
+    assert_eq!(rt; world.run(ActorId::Hart(2), 1), Err(NoActor));
     for (op, given, why) in [
         (clock(), None, Some(StepError::Waits)),
         (clock(), Some(Reply::Done), Some(StepError::Unfit)),
@@ -133,14 +134,14 @@ fn what_is_no_event_is_refused(rt: HostRuntime) -> Result<(), Fail> {
         (Op::Idle, Some(Reply::Done), Some(StepError::NotWaiting)),
         (Op::Idle, None, None),
     ] {
-        assert_eq!(rt; refusal_of(&op, given), why, "{op:?}");
+        assert_eq!(rt; refusal_of(&op, &given), why, "{op:?}");
     }
     Ok(())
 }
 
 #[test]
 fn bytes_are_in_one_page_or_nowhere(rt: HostRuntime) -> Result<(), Fail> {
-    let world = World::start(rt.alloc(), 4, &PUTS_A_AND_ENDS)?;
+    let world = World::start(rt.alloc(), 2, 4, &PUTS_A_AND_ENDS)?;
     let amo = Op::Amo {
         at: 0x8000_0ffc,
         value: 1,
@@ -210,7 +211,7 @@ fn bytes_are_in_one_page_or_nowhere(rt: HostRuntime) -> Result<(), Fail> {
 fn memory_is_read_over_the_ends_of_pages_and_not_past_its_own(rt: HostRuntime) -> Result<(), Fail> {
     let mut image = [0; 4100];
     image[4094..].copy_from_slice(&[1, 2, 3, 4, 5, 6]);
-    let world = World::start(rt.alloc(), 4, &image)?;
+    let world = World::start(rt.alloc(), 2, 4, &image)?;
     for (at, read, bytes) in [
         (0x8020_0ffd, Ok(()), [0, 1, 2, 3]),
         (0x8020_0fff, Ok(()), [2, 3, 4, 5]),
@@ -228,5 +229,34 @@ fn memory_is_read_over_the_ends_of_pages_and_not_past_its_own(rt: HostRuntime) -
     let mut whole = [9; 4100];
     assert_eq!(rt; world.read_memory(0x8020_0000, &mut whole), Ok(()));
     assert!(rt; whole == image);
+    Ok(())
+}
+
+// csrr x5, time; csrr x6, time
+#[test]
+fn the_timer_waits_for_the_clock_and_a_stopped_hart_looks(rt: HostRuntime) -> Result<(), Fail> {
+    let image = [0xf3, 0x22, 0x10, 0xc0, 0x73, 0x23, 0x10, 0xc0];
+    let mut world = World::start(rt.alloc(), 2, 4, &image)?;
+    let timer = ActorId::Timer;
+    assert_eq!(rt; world.run(timer, 1), Ok(0));
+    for (answer, made) in [(5, 1), (25, 1), (20, 1)] {
+        world.step(timer, Some(Reply::Word(answer)))?;
+        assert_eq!(rt; world.run(timer, 3), Ok(made));
+    }
+    assert_eq!(rt; world.run(H0, 2), Ok(2));
+    assert_eq!(rt; world.reg(0, 5), Some(20));
+    // an advance that isn't made yet is gone with a restart, and so is the last answer
+    world.step(timer, Some(Reply::Word(90)))?;
+    world.restart_timer();
+    world.step(timer, Some(Reply::Word(100)))?;
+    assert_eq!(rt; world.run(timer, 2), Ok(1));
+    assert_eq!(rt; world.run(H0, 2), Ok(2));
+    assert_eq!(rt; world.reg(0, 6), Some(20));
+    // look, wait, look
+    let look = Op::Board(BoardOp::Look);
+    for op in [look, Op::Idle, Op::Board(BoardOp::Look)] {
+        assert_eq!(rt; world.step(ActorId::Hart(1), None)?.op, op);
+    }
+    assert_eq!(rt; (world.reg(1, 32), world.reg(2, 32)), (Some(0), None));
     Ok(())
 }

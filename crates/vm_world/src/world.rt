@@ -1,43 +1,47 @@
-// The world: pages, the board and a hart.
-ghost use Rattle.std.specs.Prelude.{◌≡◌, ◌≤◌, ◌++◌, ◌^◌, true, false, length, min, take, drop};
-ghost use Rattle.std.specs.Prelude.{IfErr, IfOk, IfSome, MatchOption, None, OnErr, OnOk, is_ok};
+// The world: pages, the board, the timer and the harts.
+ghost use Rattle.std.specs.Prelude.{◌≡◌, ◌≤◌, ◌<◌, ◌++◌, ◌^◌, true, false, length, min, take, drop, slice_get};
+ghost use Rattle.std.specs.Prelude.{IfErr, IfOk, MatchOption, None, Some, OnErr, OnOk, is_ok, Option};
+ghost use Rattle.std.specs.Option.{option_map};
 ghost use Rattle.vm_types.specs.declared.entry.Entry.{Entry};
+ghost use Rattle.vm_types.specs.declared.op.Op.{Op};
 ghost use Rattle.guest_memory.specs.Boot.{image_fits};
 ghost use Rattle.guest_memory.specs.Memory.{read_from};
 ghost use Rattle.guest_memory.specs.Ram.{is_ram};
 ghost use Rattle.guest_pages.specs.Pages.{flat_of};
-ghost use Rattle.hart_trace.specs.States.{hart_wants};
+ghost use Rattle.hart_trace.specs.Asks.{is_host_op};
 ghost use Rattle.hart_trace.specs.Shown.{register_of};
+ghost use Rattle.timer_trace.specs.States.{new_timer};
 ghost use Rattle.flat_guest.specs.Guest.{Guest, Wants, is_actor};
-ghost use Rattle.flat_guest.specs.Body.{reply_at};
-ghost use Rattle.flat_guest.specs.Start.{started};
-ghost use Rattle.flat_guest.specs.Steps.{board_after, memory_after};
+ghost use Rattle.flat_guest.specs.Body.{harts_after, out_reply, reply_at, timer_after, want_of, with_reply};
+ghost use Rattle.flat_guest.specs.Start.{started, timer_restarted};
+ghost use Rattle.flat_guest.specs.Steps.{board_after, is_given, memory_after};
 ghost use Rattle.vm_world.specs.Refusing.{IsRefused, refusal_of};
-ghost use Rattle.vm_world.specs.Worlds.{IsWorld, MakesEvent, Runs, place_in};
+ghost use Rattle.vm_world.specs.Worlds.{IsWorld, MakesEvent, Runs, place_in, want_in};
 
-use crate::hart_run::{act, run_hart};
+use crate::actors::{give_hart, start_harts, want_of_hart};
+use crate::hart_run::run_hart;
 use crate::memory::{boot_pages, read_pages};
 use crate::step_error::{NoActor, NotRam, StepError, refusal_of};
-use flat_guest::{Layout, place, tree_address};
-use guest_memory::{IMAGE_START, PAGE_SIZE};
+use flat_guest::{Layout, place};
+use guest_memory::PAGE_SIZE;
 use guest_pages::PageSet;
 use hart_rv64::Hart;
 use line_board::Board;
 use std::alloc::{AllocError, Global};
 use std::marker::Model;
+use timer_trace::Timer;
 use vm_types::{Actor, ActorId, Entry, GuestAddr, Op, Place, PlaceId, Reply};
 
-const HART: ActorId = ActorId::Hart(0);
-
-/// Guest memory, the board, and the actors: hart 0 so far.
+/// Guest memory, the board, and the actors: the timer and at most 32 harts.
 ///
 /// Contracts see its parts, the pages as the list of their values. The guests of the flat machine that it is are those
-/// of `IsWorld`: one memory, which the pages are together, the board, and for the hart the steps that lead to it.
+/// of `IsWorld`: one memory, which the pages are together, the board, and for each actor the steps that lead to it.
 #[derive(Drop)]
 pub struct World {
     pages: PageSet,
     board: Board,
-    hart: Hart,
+    timer: Timer,
+    harts: Vec<Hart>,
 }
 
 impl Model for World {
@@ -46,25 +50,33 @@ impl Model for World {
 
     ghost Value = { WorldValue };
 
-    ghost view = { λ w. record { pages = w.pages; board = w.board; hart = w.hart } };
+    ghost view = { λ w. record { pages = w.pages; board = w.board; timer = w.timer; harts = w.harts.items } };
 
     ghost invariant = { λ w. length w.pages ≤ 2 ^ 28 };
 }
 
 impl World {
-    /// The world as a start makes it, with so many MiB of memory, at most `flat_guest::MOST_MIB`, and this image in it.
-    pub fn start(alloc: Global, mem_size_mib: u64, image: &[u8]) -> Result<World, AllocError>
+    /// The world as a start makes it, with so many harts, so many MiB of memory, at most `flat_guest::MOST_MIB`, and
+    /// this image in it.
+    pub fn start(
+        alloc: Global,
+        harts: usize,
+        mem_size_mib: u64,
+        image: &[u8],
+    ) -> Result<World, AllocError>
+        requires few { harts ≤ 32 }
         requires small { mem_size_mib ≤ 2 ^ 20 }
         requires fits { image_fits mem_size_mib (length image.now) ≡ true }
-        ensures { IfOk result (λ world. IsWorld world (started mem_size_mib image.now)) }
+        ensures { IfOk result (λ world. IsWorld world (started harts mem_size_mib image.now)) }
     {
         let pages = boot_pages(alloc, mem_size_mib, image)?;
-        let board = Board::new(alloc)?;
-        let tree = tree_address(mem_size_mib);
+        let board = Board::new(alloc, harts)?;
+        let harts = start_harts(alloc, harts, mem_size_mib)?;
         Ok(World {
             pages,
             board,
-            hart: Hart::new(IMAGE_START, 0, tree),
+            timer: Timer::new(),
+            harts,
         })
     }
 
@@ -83,26 +95,65 @@ impl World {
     pub fn want(&self, actor: ActorId) -> Option<Op>
         ensures wants { (g : Guest) → IsWorld self.now g →
             MatchOption result (is_actor g actor ≡ false) (λ op. Wants g actor op) }
-        ensures hart { IfSome result (λ op. (actor ≡ ActorId.Hart 0) × (op ≡ hart_wants self.now.hart)) }
+        ensures state { result ≡ want_in self.now actor }
+    {
+        self.want_by(actor)
+    }
+
+    fn want_by(&self, actor: ActorId) -> Option<Op>
+        ensures { result ≡ want_in self.now actor }
     {
         match actor {
-            ActorId::Hart(0) => Some(self.hart.want()),
-            _ => None,
+            ActorId::Timer => Some(self.timer.want()),
+            ActorId::Hart(number) => want_of_hart(&self.harts, number),
+            ActorId::Device(_) => None,
         }
     }
 
-    // The hart's next event, which wants this.
-    fn event(&mut self, op: Op) -> Entry
-        requires { op ≡ hart_wants self.old.hart }
-        ensures { MakesEvent self.old (record { actor = ActorId.Hart 0; reply = None }) result self.new }
+    // What an act is answered by its place, or where it has none.
+    fn answer(&mut self, actor: ActorId, place: PlaceId, op: &Op, given: Option<Reply>) -> Reply
+        requires { place ≡ place_in self.old op.now }
+        ensures reply { result ≡ reply_at place (flat_of self.old.pages) self.old.board actor op.now given }
+        ensures memory { flat_of self.new.pages ≡ memory_after place (flat_of self.old.pages) actor op.now }
+        ensures board { self.new.board ≡ board_after place self.old.board actor op.now }
+        ensures timer { self.new.timer ≡ self.old.timer }
+        ensures harts { self.new.harts ≡ self.old.harts }
+    {
+        match place {
+            PlaceId::Page(number) => self.pages.act(number as usize, actor, op),
+            PlaceId::Board => self.board.act(actor, op),
+            PlaceId::Port(_) | PlaceId::Out => answer_out(op, given),
+        }
+    }
+
+    // The reply is given to its actor.
+    fn give(&mut self, actor: ActorId, reply: Reply)
+        ensures timer { self.new.timer ≡ timer_after actor self.old.timer reply }
+        ensures harts { self.new.harts ≡ harts_after actor self.old.harts reply }
+        ensures pages { self.new.pages ≡ self.old.pages }
+        ensures board { self.new.board ≡ self.old.board }
+    {
+        match actor {
+            ActorId::Timer => self.timer.give(reply),
+            ActorId::Hart(number) => give_hart(&mut self.harts, number, reply),
+            ActorId::Device(_) => {}
+        }
+    }
+
+    // The next event of an actor, which wants this and is given what is due to it.
+    fn event(&mut self, actor: ActorId, op: Op, given: Option<Reply>) -> Entry
+        requires want { want_in self.old actor ≡ Some op }
+        requires given { is_given op given ≡ true }
+        ensures made { MakesEvent self.old (record { actor = actor; reply = given }) result self.new }
+        ensures there { (next : Op) × (want_in self.new actor ≡ Some next) }
     {
         let place = self.route(&op);
-        let reply = act(&mut self.pages, &mut self.board, HART, &op);
-        self.hart.give(reply.again());
+        let reply = self.answer(actor, place, &op, given);
+        self.give(actor, reply.again());
         Entry {
             stamp: 0,
             before: 0,
-            actor: HART,
+            actor,
             place,
             op,
             reply,
@@ -126,20 +177,51 @@ impl World {
         let Some(op) = self.want(actor) else {
             return Err(StepError::NoActor);
         };
-        if let Some(why) = refusal_of(&op, reply) {
+        if let Some(why) = refusal_of(&op, &reply) {
             return Err(why);
         }
-        Ok(self.event(op))
+        Ok(self.event(actor, op, reply))
     }
 
-    // Events of the hart, and how many there were.
-    fn run_hart(&mut self, count: u64) -> u64
-        ensures { Runs self.old (ActorId.Hart 0) count result self.new }
+    // The actor's next event, of which nothing is told. False where it waits for a host object's reply.
+    fn advance(&mut self, actor: ActorId) -> bool
+        requires { (op : Op) × (want_in self.old actor ≡ Some op) }
+        ensures made { result ≡ true → (e : Entry)
+            × MakesEvent self.old (record { actor = actor; reply = None }) e self.new }
+        ensures waits { result ≡ false → (op : Op) × (want_in self.old actor ≡ Some op) × (is_host_op op ≡ true) }
+        ensures stays { result ≡ false → self.new ≡ self.old }
+        ensures there { (op : Op) × (want_in self.new actor ≡ Some op) }
     {
-        run_hart(&mut self.pages, &mut self.board, &mut self.hart, count)
+        let Some(op) = self.want(actor) else {
+            return false;
+        };
+        if is_host_op(&op) {
+            return false;
+        }
+        self.event(actor, op, None);
+        true
     }
 
-    /// So many events of an actor, or as many as there are before the guest is off. The answer is how many.
+    // Events of an actor that is there, and how many there were.
+    fn run_actor(&mut self, actor: ActorId, count: u64) -> u64
+        requires { (op : Op) × (want_in self.old actor ≡ Some op) }
+        ensures { Runs self.old actor count result self.new }
+    {
+        let mut made = 0;
+        while made < count {
+            if self.is_off() {
+                return made;
+            }
+            if !self.advance(actor) {
+                return made;
+            }
+            made += 1;
+        }
+        made
+    }
+
+    /// So many events of an actor, or as many as there are before the guest is off or the actor waits for a host
+    /// object's reply. The answer is how many.
     ///
     /// Errors: `NoActor` where there is no such actor, and then everything is as it was.
     pub fn run(&mut self, actor: ActorId, count: u64) -> Result<u64, NoActor>
@@ -147,10 +229,46 @@ impl World {
         ensures there { (g : Guest) → IsWorld self.old g → is_ok result ≡ is_actor g actor }
         ensures err { OnErr result (self.new ≡ self.old) }
     {
-        match actor {
-            ActorId::Hart(0) => Ok(self.run_hart(count)),
-            _ => Err(NoActor),
+        if self.want(actor).is_none() {
+            return Err(NoActor);
         }
+        match actor {
+            ActorId::Hart(number) => Ok(self.run_one(number, count)),
+            _ => Ok(self.run_actor(actor, count)),
+        }
+    }
+
+    // Events of the hart of this number, and how many there were.
+    fn run_one(&mut self, number: u8, count: u64) -> u64
+        requires { (op : Op) × (want_in self.old (ActorId.Hart number) ≡ Some op) }
+        ensures { Runs self.old (ActorId.Hart number) count result self.new }
+    {
+        let at = number as usize;
+        if at >= self.harts.len() {
+            return 0;
+        }
+        run_hart(
+            &mut self.pages,
+            &mut self.board,
+            &mut self.harts[at],
+            number,
+            count,
+        )
+    }
+
+    /// Puts the timer back to its start, an advance that isn't made yet included.
+    pub fn restart_timer(&mut self)
+        ensures timer { self.new ≡ record self.old { timer = new_timer } }
+        ensures guest { (g : Guest) → IsWorld self.old g → IsWorld self.new (timer_restarted g) }
+    {
+        self.timer = Timer::new();
+    }
+
+    /// How many harts there are.
+    pub fn hart_count(&self) -> usize
+        ensures { result ≡ length self.now.harts }
+    {
+        self.harts.len()
     }
 
     /// Whether the guest is off.
@@ -177,12 +295,15 @@ impl World {
         self.board.drain(out)
     }
 
-    /// Register x0 to x31 of the hart by its number, or its pc by the number 32.
-    pub fn reg(&self, n: usize) -> u64
+    /// Register x0 to x31 of a hart by its number, or its pc by the number 32. `None` where there is no such hart.
+    pub fn reg(&self, hart: u8, n: usize) -> Option<u64>
         requires { n ≤ 32 }
-        ensures { result ≡ register_of self.now.hart n }
+        ensures { result ≡ option_map (λ h. register_of h n) (slice_get self.now.harts hart) }
     {
-        self.hart.reg(n)
+        match self.harts.get(hart as usize) {
+            Some(hart) => Some(hart.reg(n)),
+            None => None,
+        }
     }
 
     /// Reads as many bytes of memory as `out` has, from this address on. It is no act of the guest's.
@@ -194,5 +315,24 @@ impl World {
         ensures err { OnErr result (out.new ≡ out.old) }
     {
         read_pages(&self.pages, at, out)
+    }
+}
+
+fn is_host_op(op: &Op) -> bool
+    ensures { result ≡ is_host_op op.now }
+{
+    matches!(op, Op::Out(_))
+}
+
+// With no place: the reply that is given, a wait that is done, or an access that is a fault.
+fn answer_out(op: &Op, given: Option<Reply>) -> Reply
+    ensures { result ≡ out_reply op.now given }
+{
+    match given {
+        Some(reply) => reply,
+        None => match op {
+            Op::Idle => Reply::Done,
+            _ => Reply::AccessFault,
+        },
     }
 }

@@ -1,4 +1,4 @@
-use Rattle.flat_guest.proofs.Determined.{same_op, same_place, same_reply, same_after, several_one}
+use Rattle.flat_guest.proofs.Determined.{same_op, same_place, same_reply, same_after, several_made, several_one}
 use Rattle.flat_guest.proofs.law.one_step.Goals as goal
 
 pub returns-clause-op : goal.returns-clause-op
@@ -15,3 +15,6 @@ returns-clause-after c = same_after
 
 pub returns-clause-several : goal.returns-clause-several
 returns-clause-several c = several_one
+
+pub returns-clause-made : goal.returns-clause-made
+returns-clause-made c = several_made

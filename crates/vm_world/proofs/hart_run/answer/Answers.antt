@@ -1,17 +1,19 @@
-use Rattle.std.proofs.Common.{sym, subst}
+use Rattle.std.proofs.Common.{sym, subst, ap, ◌∙◌}
 use Rattle.rv_doing.specs.declared.hart_op.HartOp.{HartOp}
 use Rattle.rv_doing.specs.HartOps.{op_of, reply_of}
 use Rattle.rv_rows.specs.declared.memory.Width.{Width}
-use Rattle.vm_world.specs.Answering.{IsAnswered}
-use Rattle.vm_world.proofs.Running.{read_answered}
+use Rattle.vm_world.specs.Answering.{IsAnswered, is_low}
+use Rattle.vm_world.proofs.Running.{not_low, read_answered, write_answered}
 use Rattle.vm_world.proofs.hart_run.answer.Goals as goal
 
 pub returns-in-Fetch : goal.returns-in-Fetch
 returns-in-Fetch c =
+    let high = not_low c.in-Fetch.pc (sym (ap is_low c.in-Fetch.is) ∙ sym c.is_low.ensures ∙ c.if-is_low.false) in
     subst (λ (op : HartOp). IsAnswered c.args.pages.now c.args.board.now c.args.actor (op_of op) (reply_of c.read.result) c.args.pages.now c.args.board.now) (sym c.in-Fetch.is)
-    (read_answered c.args.pages.now c.args.board.now c.args.actor c.in-Fetch.pc Width.Word (reply_of c.read.result) (c.read.ensures c.args.actor))
+    (read_answered c.args.pages.now c.args.board.now c.args.actor c.in-Fetch.pc Width.Word (reply_of c.read.result) high (c.read.ensures c.args.actor))
 
 pub returns-in-Read : goal.returns-in-Read
 returns-in-Read c =
+    let high = not_low c.in-Read.at (sym (ap is_low c.in-Read.is) ∙ sym c.is_low.ensures ∙ c.if-is_low.false) in
     subst (λ (op : HartOp). IsAnswered c.args.pages.now c.args.board.now c.args.actor (op_of op) (reply_of c.read-in-Read.result) c.args.pages.now c.args.board.now) (sym c.in-Read.is)
-    (read_answered c.args.pages.now c.args.board.now c.args.actor c.in-Read.at c.in-Read.width (reply_of c.read-in-Read.result) (c.read-in-Read.ensures c.args.actor))
+    (read_answered c.args.pages.now c.args.board.now c.args.actor c.in-Read.at c.in-Read.width (reply_of c.read-in-Read.result) high (c.read-in-Read.ensures c.args.actor))

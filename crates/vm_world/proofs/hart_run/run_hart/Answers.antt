@@ -1,28 +1,37 @@
-use Rattle.std.proofs.Common.{sym, ◌∙◌, inl, inr, arith}
-use Rattle.vm_world.specs.Worlds.{WorldValue}
-use Rattle.vm_world.proofs.Events.{run_more, runs}
-use Rattle.vm_world.proofs.Running.{advanced}
+use Rattle.std.proofs.Common.{refl, sym, ◌∙◌, inl, inr, arith, slice_set}
+use Rattle.vm_types.specs.declared.ids.ActorId.{ActorId}
+use Rattle.vm_world.specs.Worlds.{world_with}
+use Rattle.vm_world.proofs.Events.{runs}
+use Rattle.vm_world.proofs.Running.{none_run, one_more}
 use Rattle.vm_world.proofs.hart_run.run_hart.Goals as goal
 
+pub loop-made-init : goal.loop-made-init
+loop-made-init c = record {
+  within = omega arith;
+  has = λ timer harts there. none_run c.args.number c.args.pages.now c.args.pages.now c.args.pages.now c.args.board.now
+      c.args.board.now c.args.board.now c.args.hart.now c.args.hart.now c.args.hart.now 0 timer harts there;
+  many = refl;
+}
+
 pub loop-made-preserved : goal.loop-made-preserved
-loop-made-preserved c =
-    let start : WorldValue = record { pages = c.args.pages.now; board = c.args.board.now; hart = c.args.hart.now } in
-    let mid : WorldValue = record { pages = c.loop-made.pages; board = c.loop-made.board; hart = c.loop-made.hart } in
-    let next : WorldValue = record { pages = c.advance.new.pages; board = c.advance.new.board; hart = c.advance.new.hart } in
-    record {
-      within = omega arith;
-      has = run_more start mid next c.loop-made.made c.loop-made.invariant.has (sym c.is_off.ensures ∙ c.if-not-is_off.true) (advanced mid next c.advance.ensures.event);
-      many = c.advance.ensures.count ∙ c.loop-made.invariant.many;
-    }
+loop-made-preserved c = record {
+  within = omega arith;
+  has = λ timer harts there. one_more c.args.number c.args.pages.now c.loop-made.pages c.advance.new.pages
+      c.args.board.now c.loop-made.board c.advance.new.board c.args.hart.now c.loop-made.hart c.advance.new.hart
+      c.loop-made.made timer harts there (c.loop-made.invariant.has timer harts there)
+      (sym c.is_off.ensures ∙ c.if-is_off.false) c.advance.ensures.event;
+  many = c.advance.ensures.count ∙ c.loop-made.invariant.many;
+}
 
-pub returns-else-not-is_off-clause-runs : goal.returns-else-not-is_off-clause-runs
-returns-else-not-is_off-clause-runs c =
-    let start : WorldValue = record { pages = c.args.pages.now; board = c.args.board.now; hart = c.args.hart.now } in
-    let mid : WorldValue = record { pages = c.loop-made.pages; board = c.loop-made.board; hart = c.loop-made.hart } in
-    runs start mid c.args.count c.loop-made.made c.loop-made.invariant.has (inr (omega arith, sym c.is_off.ensures ∙ c.if-not-is_off.false))
+pub returns-then-is_off-clause-runs : goal.returns-then-is_off-clause-runs
+returns-then-is_off-clause-runs c = λ timer harts there.
+    runs (ActorId.Hart c.args.number) (world_with c.args.pages.now c.args.board.now timer harts)
+    (world_with c.loop-made.pages c.loop-made.board timer (slice_set harts c.args.number c.loop-made.hart)) c.args.count
+    c.loop-made.made (c.loop-made.invariant.has timer harts there)
+    (inr (omega arith, inl (sym c.is_off.ensures ∙ c.if-is_off.true)))
 
-pub returns-after-loop-made-clause-runs : goal.returns-after-loop-made-clause-runs
-returns-after-loop-made-clause-runs c =
-    let start : WorldValue = record { pages = c.args.pages.now; board = c.args.board.now; hart = c.args.hart.now } in
-    let mid : WorldValue = record { pages = c.loop-made.pages; board = c.loop-made.board; hart = c.loop-made.hart } in
-    runs start mid c.args.count c.loop-made.made c.loop-made.invariant.has (inl (omega arith))
+pub returns-clause-runs : goal.returns-clause-runs
+returns-clause-runs c = λ timer harts there.
+    runs (ActorId.Hart c.args.number) (world_with c.args.pages.now c.args.board.now timer harts)
+    (world_with c.loop-made.pages c.loop-made.board timer (slice_set harts c.args.number c.loop-made.hart)) c.args.count
+    c.loop-made.made (c.loop-made.invariant.has timer harts there) (inl (omega arith))

@@ -1,11 +1,17 @@
-use Rattle.std.proofs.Common.{◌-◌, ◌≤◌, ◌≡◌, length}
+use Rattle.std.proofs.Common.{◌-◌, ◌≤◌, ◌≡◌, List, Some, length, slice_get, slice_set}
+use Rattle.vm_types.specs.declared.ids.ActorId.{ActorId}
+use Rattle.hart_trace.specs.States.{Hart}
+use Rattle.timer_trace.specs.declared.timer.Timer.{Timer}
+use Rattle.vm_world.specs.Worlds.{world_with}
 use Rattle.vm_world.proofs.Events.{HasRun}
 use Rattle.vm_world.proofs.hart_run.run_hart.Given as goal
 
 abbrev pub invariant-loop-made : goal.invariant-loop-made
 invariant-loop-made l = record {
   within : l.made ≤ l.count;
-  has : HasRun (record { pages = l.fn.pages; board = l.fn.board; hart = l.fn.hart }) l.made (record { pages = l.pages; board = l.board; hart = l.hart });
+  has : (timer : Timer) (harts : List Hart) → slice_get harts l.number ≡ Some l.fn.hart
+      → HasRun (ActorId.Hart l.number) (world_with l.fn.pages l.fn.board timer harts) l.made
+      (world_with l.pages l.board timer (slice_set harts l.number l.hart));
   many : length l.pages ≡ length l.fn.pages;
 }
 

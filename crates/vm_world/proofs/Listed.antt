@@ -1,0 +1,90 @@
+-- Harts in a list: how they start, and one that is given its reply.
+use Rattle.std.proofs.Common.{◌≡◌, ℕ, zero, suc, ◌+◌, ◌<◌, ◌≤◌, refl, sym, ap, subst, ◌∙◌, List, [], ◌∷◌, ◌++◌, Option, Some, None, length, replicate, slice_get, slice_set, slice_index_or, arith}
+use Rattle.std.proofs.lemmas.List.{length-set, length-replicate}
+use Rattle.vm_types.specs.declared.reply.Reply.{Reply}
+use Rattle.rv_supervisor.specs.declared.regs.Regs.{Regs}
+use Rattle.hart_trace.specs.States.{Hart, LeadsTo, fresh, hart_next}
+use Rattle.hart_trace.specs.Stopped.{stopped_regs}
+use Rattle.hart_trace.proofs.Traces.{leads_start}
+use Rattle.timer_trace.proofs.Traces as timer_traces
+use Rattle.guest_memory.specs.Memory.{Memory}
+use Rattle.guest_memory.specs.Boot.{boot_memory, image_start, tree_start}
+use Rattle.board_table.specs.Board.{Board, new_board}
+use Rattle.rv_supervisor.specs.Start.{start_regs}
+use Rattle.timer_trace.specs.declared.timer.Timer.{Timer}
+use Rattle.timer_trace.specs.States.{new_timer}
+use Rattle.flat_guest.specs.Body.{AreHarts, IsGuest, with_reply}
+use Rattle.flat_guest.specs.Start.{started, start_of_harts}
+use Rattle.vm_world.specs.Starting.{harts_at_start}
+
+pub replicate_more : {A : Type 0} (n : ℕ) (x : A) → replicate n x ++ x ∷ [] ≡ replicate (n + 1) x
+replicate_more zero x = refl
+replicate_more (suc n) x =
+    let next : suc (n + 1) ≡ suc n + 1 = omega arith in
+    ap (λ l. x ∷ l) (replicate_more n x) ∙ ap (λ (k : ℕ). replicate k x) next
+
+pub got : {A : Type 0} (xs : List A) (k : ℕ) (d : A) → k < length xs → slice_get xs k ≡ Some (slice_index_or xs k d)
+got [] k d lt = absurd (omega arith)
+got (x ∷ xs) zero d lt = refl
+got (x ∷ xs) (suc k) d lt = got xs k d (omega arith)
+
+pub got_none : {A : Type 0} (xs : List A) (k : ℕ) → length xs ≤ k → slice_get xs k ≡ None
+got_none [] k past = refl
+got_none (x ∷ xs) zero past = absurd (omega arith)
+got_none (x ∷ xs) (suc k) past = got_none xs k (omega arith)
+
+pub given_one : (harts : List Hart) (k : ℕ) (d : Hart) (reply : Reply) → k < length harts
+    → slice_set harts k (hart_next (slice_index_or harts k d) reply) ≡ with_reply (slice_get harts k) harts k reply
+given_one harts k d reply lt = ap (λ (o : Option Hart). with_reply o harts k reply) (sym (got harts k d lt))
+
+pub given_none : (harts : List Hart) (k : ℕ) (reply : Reply) → length harts ≤ k
+    → harts ≡ with_reply (slice_get harts k) harts k reply
+given_none harts k reply past = ap (λ (o : Option Hart). with_reply o harts k reply) (sym (got_none harts k past))
+
+-- each hart is where no steps lead
+stopped_each : (n k : ℕ) (start : Regs) (hart : Hart) → slice_get (replicate n stopped_regs) k ≡ Some start
+    → slice_get (replicate n (fresh stopped_regs)) k ≡ Some hart → LeadsTo start [] hart
+stopped_each zero k start hart start_is hart_is = cc
+stopped_each (suc n) zero start hart start_is hart_is =
+    let one : stopped_regs ≡ start = cc in
+    let same : fresh stopped_regs ≡ hart = cc in
+    subst (λ (h : Hart). LeadsTo start [] h) same
+    (subst (λ (r : Regs). LeadsTo r [] (fresh stopped_regs)) one (leads_start stopped_regs))
+stopped_each (suc n) (suc k) start hart start_is hart_is = stopped_each n k start hart start_is hart_is
+
+module _ (mib : ℕ) where
+  abbrev first : Regs
+  first = start_regs image_start 0 (tree_start mib)
+
+  each_from : (n k : ℕ) (start : Regs) (hart : Hart)
+      → slice_get (slice_set (replicate n stopped_regs) 0 first) k ≡ Some start
+      → slice_get (slice_set (replicate n (fresh stopped_regs)) 0 (fresh first)) k ≡ Some hart → LeadsTo start [] hart
+  each_from zero k start hart start_is hart_is = cc
+  each_from (suc n) zero start hart start_is hart_is =
+      let one : first ≡ start = cc in
+      let same : fresh first ≡ hart = cc in
+      subst (λ (h : Hart). LeadsTo start [] h) same
+      (subst (λ (r : Regs). LeadsTo r [] (fresh first)) one (leads_start first))
+  each_from (suc n) (suc k) start hart start_is hart_is = stopped_each n k start hart start_is hart_is
+
+  as_many : (n : ℕ) → length (harts_at_start n mib) ≡ length (start_of_harts n mib)
+  as_many n =
+      length-set (replicate n (fresh stopped_regs)) 0 (fresh first) ∙ length-replicate n (fresh stopped_regs)
+      ∙ sym (length-set (replicate n stopped_regs) 0 first ∙ length-replicate n stopped_regs)
+
+  at_start : (n : ℕ) (image : List ℕ) (m : Memory) (b : Board) (harts : List Hart) → m ≡ boot_memory mib image
+      → b ≡ new_board n → harts ≡ harts_at_start n mib → IsGuest m b new_timer harts (started n mib image)
+  at_start n image m b harts memory board is = record {
+    memory_is = memory;
+    board_is = board;
+    timer_is = timer_traces.leads_start;
+    harts_are = subst (λ (hs : List Hart). AreHarts hs (started n mib image)) (sym is)
+        (record { count = as_many n; each = λ k start hart start_is hart_is. each_from n k start hart start_is hart_is });
+  }
+
+  pub started_is : (n : ℕ) (image : List ℕ) (m : Memory) (b : Board) (t : Timer) (harts : List Hart)
+      → m ≡ boot_memory mib image → b ≡ new_board n → t ≡ new_timer → harts ≡ harts_at_start n mib
+      → IsGuest m b t harts (started n mib image)
+  started_is n image m b t harts memory board timer is =
+      subst (λ (u : Timer). IsGuest m b u harts (started n mib image)) (sym timer)
+      (at_start n image m b harts memory board is)

@@ -1,0 +1,7 @@
+use Rattle.vm_world.proofs.Listed.{started_is}
+use Rattle.vm_world.proofs.world.World.start.Goals as goal
+
+pub returns : goal.returns
+returns c =
+    started_is c.args.mem_size_mib c.args.harts c.args.image.now _ _ _ _ c.in_ok-pages.ensures.memory
+    c.in_ok-board.ensures c.new-2.ensures c.in_ok-harts.ensures
