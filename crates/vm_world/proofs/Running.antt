@@ -45,10 +45,11 @@ none_unfit pages board actor op whole reply same own is unfit =
 
 -- so does each reply to what the hart wants
 pub answer_fits_want : (pages : List PageValue) (board : Board) (actor : ActorId) (hart : Hart) (op : Op) (reply : Reply) → op ≡ hart_wants hart
-    → reply ≡ reply_at (place_with pages op) (flat_of pages) board actor op → fits (hart_wants hart) reply ≡ true
+    → reply ≡ reply_at (place_with pages op) (flat_of pages) board actor op None → fits (hart_wants hart) reply ≡ true
 answer_fits_want pages board actor hart op reply want is =
-    let gives : reply ≡ reply_at (place_with pages (hart_wants hart)) (flat_of pages) board actor (hart_wants hart) = is ∙ ap (λ (o : Op). reply_at (place_with pages o) (flat_of pages) board actor o) want in
-    ap (fits (hart_wants hart)) gives ∙ answer_fits (flat_of pages) board actor (without_devices (length (flat_of pages).bytes)) (hart_wants hart) (hart_asks hart)
+    let own : is_hart_op (hart_wants hart) ≡ true = hart_asks hart in
+    let gives : reply ≡ reply_at (place_with pages (hart_wants hart)) (flat_of pages) board actor (hart_wants hart) None = is ∙ ap (λ (o : Op). reply_at (place_with pages o) (flat_of pages) board actor o None) want in
+    ap (fits (hart_wants hart)) gives ∙ answer_fits (flat_of pages) board actor (without_devices (length (flat_of pages).bytes)) (hart_wants hart) None (no_port (hart_wants hart) own) (none_given (hart_wants hart) (no_host (hart_wants hart) own))
 
 -- a read leaves everything
 read_leaves : (m : Memory) (at len : ℕ) (b : Bool) → m ≡ (let answer : Reply × Memory = cond b (Bytes (read_from m at len), m) (AccessFault, m) in answer.1)
