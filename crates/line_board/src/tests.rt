@@ -203,6 +203,17 @@ fn harts_are_started_stopped_and_interrupted(rt: HostRuntime) -> Result<(), Fail
     Ok(())
 }
 
+fn four(bytes: [u8; 4]) -> Reply {
+    Reply::Bytes(Piece::from_slice(&bytes))
+}
+
+fn write(at: u64, bytes: [u8; 4]) -> Op {
+    Op::Write {
+        at,
+        piece: Piece::from_slice(&bytes),
+    }
+}
+
 #[test]
 fn lines_and_enables_are_registers(rt: HostRuntime) -> Result<(), Fail> {
     let mut board = Board::new(rt.alloc(), 2)?;
@@ -211,19 +222,19 @@ fn lines_and_enables_are_registers(rt: HostRuntime) -> Result<(), Fail> {
         assert_eq!(rt; board.act(ActorId::Device(device), &raise), Reply::Done);
         assert_eq!(rt; board.pending(), wanted);
     }
-    let write = |at, bytes: &[u8]| Op::Write {
-        at,
-        piece: Piece::from_slice(bytes),
-    };
     for (at, bytes) in [
         (0x200_0104u64, [0x18, 0, 0xff, 0xff]),
         (0x200_0102, [1, 1, 1, 1]),
         (0x200_0108, [1, 1, 1, 1]),
         (0x200_0ffc, [1, 1, 1, 1]),
     ] {
-        assert_eq!(rt; board.act(H0, &write(at, &bytes)), Reply::Done);
+        assert_eq!(rt; board.act(H0, &write(at, bytes)), Reply::Done);
     }
-    assert_eq!(rt; board.act(H0, &write(0x200_0100, &[9, 0])), Reply::Done);
+    let short = Op::Write {
+        at: 0x200_0100,
+        piece: Piece::from_slice(&[9, 0]),
+    };
+    assert_eq!(rt; board.act(H0, &short), Reply::Done);
     assert_eq!(rt; board.enables(), [0, 0x18].as_slice());
     assert_eq!(rt;
         board.act(H1, &Op::Board(BoardOp::Look)),
@@ -231,7 +242,7 @@ fn lines_and_enables_are_registers(rt: HostRuntime) -> Result<(), Fail> {
     );
     // a 1 that is written clears its line
     assert_eq!(rt;
-        board.act(H0, &write(0x200_0000, &[0xf0, 0xff, 1, 0])),
+        board.act(H0, &write(0x200_0000, [0xf0, 0xff, 1, 0])),
         Reply::Done
     );
     for (at, len, bytes) in [
@@ -241,10 +252,7 @@ fn lines_and_enables_are_registers(rt: HostRuntime) -> Result<(), Fail> {
         (0x200_0106, 4, [0, 0, 0, 0]),
     ] {
         let read = Op::Read { at, len };
-        assert_eq!(rt;
-            board.act(H0, &read),
-            Reply::Bytes(Piece::from_slice(&bytes))
-        );
+        assert_eq!(rt; board.act(H0, &read), four(bytes));
     }
     for (at, len) in [(0x1ff_ffffu64, 4), (0x200_0ffd, 4), (0x200_1000, 1)] {
         assert_eq!(rt; board.act(H0, &Op::Read { at, len }), Reply::AccessFault);

@@ -1,5 +1,5 @@
 -- A world's events are the flat machine's.
-use Rattle.std.proofs.Common.{◌≡◌, ℕ, zero, suc, ◌+◌, ◌<◌, ◌≤◌, true, false, Bool, nat_lt, refl, sym, ap, subst, ◌∙◌, List, [], ◌∷◌, length, slice_get, if◌then◌else◌, MatchOption, Option, Some, None, ◌⊎◌, inl, inr, arith}
+use Rattle.std.proofs.Common.{◌≡◌, ℕ, zero, suc, ◌+◌, ◌<◌, true, false, Bool, nat_lt, refl, sym, ap, subst, ◌∙◌, List, [], ◌∷◌, length, slice_get, if◌then◌else◌, MatchOption, Option, Some, None, ◌⊎◌, arith}
 use Rattle.std.proofs.lemmas.Bool.{lt-ltb, ltb-false, ltb-true}
 use Rattle.vm_types.specs.declared.ids.ActorId.{ActorId}
 use Rattle.vm_types.specs.Fits.{out_fits}
@@ -7,19 +7,16 @@ use Rattle.vm_types.specs.declared.ids.PlaceId.{PlaceId}
 use Rattle.vm_types.specs.declared.op.Op.{Op}
 use Rattle.vm_types.specs.declared.reply.Reply.{Reply}
 use Rattle.vm_types.specs.declared.entry.Entry.{Entry}
-use Rattle.vm_types.specs.Ids.{same_actor}
 use Rattle.guest_memory.specs.Route.{access_place}
-use Rattle.board_table.specs.Board.{Board}
 use Rattle.guest_pages.specs.Pages.{flat_of}
 use Rattle.rv_supervisor.specs.declared.regs.Regs.{Regs}
-use Rattle.hart_trace.specs.Asks.{is_host_op}
 use Rattle.hart_trace.specs.States.{Hart, hart_wants, hart_next}
 use Rattle.timer_trace.specs.declared.timer.Timer.{Timer}
 use Rattle.timer_trace.specs.States.{new_timer}
 use Rattle.timer_trace.proofs.Traces as timer_traces
 use Rattle.flat_guest.specs.Guest.{Guest, Wants, WantsFrom, is_actor}
 use Rattle.flat_guest.specs.Places.{is_register_access, place_of, without_devices}
-use Rattle.flat_guest.specs.Body.{AreHarts, harts_after, reply_at, timer_after, want_of, wants, with_reply}
+use Rattle.flat_guest.specs.Body.{harts_after, reply_at, timer_after, want_of, wants, with_reply}
 use Rattle.flat_guest.specs.Start.{timer_restarted}
 use Rattle.flat_guest.specs.Steps.{board_after, is_given, memory_after}
 use Rattle.flat_guest.proofs.Acting as acting

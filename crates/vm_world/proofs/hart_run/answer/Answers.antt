@@ -3,7 +3,7 @@ use Rattle.rv_doing.specs.declared.hart_op.HartOp.{HartOp}
 use Rattle.rv_doing.specs.HartOps.{op_of, reply_of}
 use Rattle.rv_rows.specs.declared.memory.Width.{Width}
 use Rattle.vm_world.specs.Answering.{IsAnswered, is_low}
-use Rattle.vm_world.proofs.Running.{not_low, read_answered, write_answered}
+use Rattle.vm_world.proofs.Running.{not_low, read_answered}
 use Rattle.vm_world.proofs.hart_run.answer.Goals as goal
 
 pub returns-in-Fetch : goal.returns-in-Fetch
