@@ -1,10 +1,13 @@
 -- What an item of a script does to the flat machine.
-use Rattle.std.specs.Prelude.{ℕ, ◌≡◌, ◌⊎◌, List, [], ◌∷◌, ◌++◌, Option, Some, None, MatchBool, slice_get, length}
+use Rattle.std.specs.Prelude.{ℕ, ◌≡◌, ◌⊎◌, nat_lt, Bool, ◌&&◌, not, if◌then◌else◌, List, [], ◌++◌, Option, Some, None, MatchBool, slice_get, length}
 use Rattle.std.specs.FinMap.{insert}
 use Rattle.vm_types.specs.declared.ids.ActorId.{ActorId}
 use Rattle.vm_types.specs.declared.ids.ActorId.TheVariants.{Hart as HartId}
 use Rattle.vm_types.specs.declared.entry.Entry.{Entry}
 use Rattle.vm_types.specs.declared.entry.Step.{Step}
+use Rattle.vm_types.specs.declared.op.Op.{Op}
+use Rattle.vm_types.specs.declared.reply.Reply.{Reply}
+use Rattle.vm_types.specs.Fits.{out_fits}
 use Rattle.http_stream.specs.Stream.{Connection}
 use Rattle.http_stream.specs.Sent.{sent}
 use Rattle.http_stream.specs.Conversation.{arrived, new_connection, Conversation, ConversationFront}
@@ -12,16 +15,17 @@ use Rattle.script_text.specs.declared.item.Item.{Item}
 use Rattle.script_text.specs.declared.item.Item.TheVariants as item
 use Rattle.script_text.specs.declared.output.Misfit.{Misfit}
 use Rattle.script_text.specs.declared.output.Misfit.TheVariants as misfit
-use Rattle.script_text.specs.Output.{misfit_line, register_line, memory_line}
+use Rattle.script_text.specs.Output.{misfit_line, register_line, memory_line, waits_line}
 use Rattle.script_output.specs.Output.{console_line}
 use Rattle.guest_memory.specs.Memory.{read_from}
 use Rattle.guest_memory.specs.Ram.{is_ram}
 use Rattle.rv_supervisor.specs.declared.regs.Regs.{Regs}
 use Rattle.hart_trace.specs.States.{Hart, LeadsTo}
 use Rattle.hart_trace.specs.Shown.{register_of}
-use Rattle.flat_guest.specs.Guest.{Guest, is_actor}
-use Rattle.flat_guest.specs.Steps.{StepsBy}
+use Rattle.flat_guest.specs.Guest.{Guest, Wants, is_actor}
+use Rattle.flat_guest.specs.Steps.{FlatStep, IsUnstamped, StepsBy}
 use Rattle.gate_file.specs.Runs.{save_calls}
+use Rattle.flat_machine.specs.Given.{reply_given}
 use Rattle.flat_machine.specs.Outcome.{Outcome}
 use Rattle.flat_machine.specs.Machine.{Machine, console_of, drained, running}
 use Rattle.flat_machine.specs.Requests.{RequestStep}
@@ -54,12 +58,16 @@ TalksFront bytes outcomes m text n =
 abbrev pub Misfits : Misfit → Machine → List ℕ → Machine → Type 0
 Misfits why m text n = (text ≡ misfit_line why) × (n ≡ m)
 
--- the events of an actor write nothing
+-- where fewer events were made than were asked for and the guest is on, the actor waits for a host object's reply
+abbrev pub steps_text : ℕ → ℕ → Bool → List ℕ
+steps_text count made off = if nat_lt made count && not off then waits_line made else []
+
+-- the events of an actor
 pub record Moves (g : Guest) (actor : ActorId) (count : ℕ) (m : Machine) (text : List ℕ) (n : Machine) : Type 0 where
   pub entries : List Entry
   pub end : Guest
   pub made : StepsBy g actor count entries end
-  pub quiet : text ≡ []
+  pub writes : text ≡ steps_text count (length entries) end.board.off
   pub leaves : n ≡ record m { guest = Some end }
 
 -- of the guest that runs
@@ -68,11 +76,29 @@ StepsLine None actor count m text n = Misfits misfit.NotRunning m text n
 StepsLine (Some g) actor count m text n =
     MatchBool (is_actor g actor) (Moves g actor count m text n) (Misfits misfit.NoActor m text n)
 
--- no actor that there is wants an act on a host object
-abbrev pub RepliesLine : Option Guest → ActorId → Machine → List ℕ → Machine → Type 0
-RepliesLine None actor m text n = Misfits misfit.NotRunning m text n
-RepliesLine (Some g) actor m text n =
-    MatchBool (is_actor g actor) (Misfits misfit.NotWaiting m text n) (Misfits misfit.NoActor m text n)
+-- the event in which the actor's act on a host object is answered so
+pub record Answers (g : Guest) (actor : ActorId) (reply : Reply) (m : Machine) (text : List ℕ) (n : Machine) : Type 0 where
+  pub entry : Entry
+  pub end : Guest
+  pub unstamped : IsUnstamped entry
+  pub step : FlatStep g (record { actor = actor; reply = Some reply }) entry end
+  pub quiet : text ≡ []
+  pub leaves : n ≡ record m { guest = Some end }
+
+-- a reply is to an act on a host object, and fits it
+abbrev pub AnswersWant : Op → Option Reply → Guest → ActorId → Machine → List ℕ → Machine → Type 0
+AnswersWant (Op.Out act) (Some reply) g actor m text n =
+    MatchBool (out_fits act reply) (Answers g actor reply m text n) (Misfits misfit.Unfit m text n)
+AnswersWant (Op.Out act) None g actor m text n = Misfits misfit.Unfit m text n
+AnswersWant op given g actor m text n = Misfits misfit.NotWaiting m text n
+
+abbrev pub Replies : Guest → ActorId → Option Reply → Machine → List ℕ → Machine → Type 0
+Replies g actor given m text n = (op : Op) × Wants g actor op × AnswersWant op given g actor m text n
+
+abbrev pub RepliesLine : Option Guest → ActorId → Option Reply → Machine → List ℕ → Machine → Type 0
+RepliesLine None actor given m text n = Misfits misfit.NotRunning m text n
+RepliesLine (Some g) actor given m text n =
+    MatchBool (is_actor g actor) (Replies g actor given m text n) (Misfits misfit.NoActor m text n)
 
 -- a register of the hart that these steps lead to
 abbrev pub ShowsFrom : Option Regs → List Step → ℕ → List ℕ → Type 0
@@ -107,7 +133,7 @@ QuietStep (item.Lineage lineage) m text n =
     (text ≡ []) × (n ≡ record m { ids = record m.ids { lineage = lineage } })
 QuietStep item.Connect m text n = (text ≡ []) × (n ≡ record m { connection = new_connection })
 QuietStep (item.Step actor count) m text n = StepsLine (running m) actor count m text n
-QuietStep (item.Reply actor reply) m text n = RepliesLine (running m) actor m text n
+QuietStep (item.Reply actor reply) m text n = RepliesLine (running m) actor (reply_given reply) m text n
 QuietStep item.Console m text n = (text ≡ console_line (console_of m)) × (n ≡ drained m)
 QuietStep (item.Register hart number) m text n = RegisterLine m.guest hart number m text n
 QuietStep (item.Memory address len) m text n = MemoryLine m.guest address len m text n

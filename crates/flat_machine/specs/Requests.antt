@@ -18,7 +18,7 @@ use Rattle.api_rules.specs.declared.answer.Answer.{Answer}
 use Rattle.api_rules.specs.Answers.{accepted, refused}
 use Rattle.api_rules.specs.Table.{decision, image_refusal, unless}
 use Rattle.script_output.specs.Output.{reply_line}
-use Rattle.flat_guest.specs.Start.{started}
+use Rattle.flat_guest.specs.Start.{started, timer_restarted}
 use Rattle.flat_machine.specs.Outcome.{Left, Outcome}
 use Rattle.flat_machine.specs.Outcome.Outcome.{Answered, Failed, NoMemory}
 use Rattle.flat_machine.specs.Machine.{Machine, phase_of}
@@ -71,15 +71,28 @@ configured m it = record m { config = changed m.config it }
 
 -- a start makes the guest of the image, which runs
 abbrev pub started_from : Option (List ℕ) → Machine → Machine
-started_from (Some image) m = record m { guest = Some (started m.config.machine.mem_size_mib image); paused = false }
+started_from (Some image) m =
+    record m {
+      guest = Some (started m.config.machine.vcpu_count m.config.machine.mem_size_mib image);
+      paused = false;
+    }
 started_from None m = m
 
--- An allowed change leaves n of m. The guest stands still, or goes on; where it does so already nothing changes.
+-- a guest that runs stands still from now on, and its timer begins anew; where it does so already nothing changes
+abbrev pub stopped_by : Option Guest → Option Guest
+stopped_by None = None
+stopped_by (Some g) = Some (timer_restarted g)
+
+abbrev pub stood : Bool → Machine → Machine
+stood true m = m
+stood false m = record m { guest = stopped_by m.guest; paused = true }
+
+-- An allowed change leaves n of m.
 abbrev pub Leaves : Machine → Change → Machine → Type 0
 Leaves m (change.BootSource source) n = n ≡ configured m (change.BootSource source)
 Leaves m (change.MachineConfig machine) n = n ≡ configured m (change.MachineConfig machine)
 Leaves m change.Start n = n ≡ configured (started_from (image_of m) m) change.Start
-Leaves m (change.State Paused) n = n ≡ record m { paused = true }
+Leaves m (change.State Paused) n = n ≡ stood m.paused m
 Leaves m (change.State Resumed) n = n ≡ record m { paused = false }
 Leaves m (change.CreateSnapshot files) n = n ≡ m
 Leaves m (change.LoadSnapshot load) n = n ≡ configured m (change.LoadSnapshot load)
