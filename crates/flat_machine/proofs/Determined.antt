@@ -3,8 +3,11 @@ use Rattle.std.proofs.Common.{◌≡◌, Bool, true, false, MatchBool, refl, sym
 use Rattle.vm_types.specs.declared.ids.ActorId.{ActorId}
 use Rattle.vm_types.specs.declared.ids.ActorId.TheVariants.{Hart as HartId}
 use Rattle.vm_types.specs.declared.entry.Step.{Step}
+use Rattle.vm_types.specs.declared.op.Op.{Op}
+use Rattle.vm_types.specs.declared.reply.Reply.{Reply}
 use Rattle.guest_memory.specs.Ram.{is_ram}
 use Rattle.rv_supervisor.specs.declared.regs.Regs.{Regs}
+use Rattle.hart_trace.specs.Asks.{is_host_op}
 use Rattle.hart_trace.specs.States.{Hart}
 use Rattle.hart_trace.specs.Shown.{register_of}
 use Rattle.hart_trace.proofs.OneHart.{one_hart}
@@ -13,13 +16,16 @@ use Rattle.http_stream.specs.Sent.{sent}
 use Rattle.http_stream.proofs.ConversationLemmas.{as_many_due, one_conversation}
 use Rattle.script_text.specs.declared.item.Item.{Item}
 use Rattle.script_text.specs.declared.item.Item.TheVariants as item
+use Rattle.script_text.specs.declared.output.Misfit.TheVariants as misfit
 use Rattle.script_text.specs.Output.{register_line}
 use Rattle.flat_guest.specs.Guest.{Guest, is_actor}
-use Rattle.flat_guest.proofs.Determined.{several_one}
+use Rattle.flat_guest.specs.Steps.{is_given}
+use Rattle.flat_guest.proofs.Determined.{same_after, several_made, several_one, wants_one}
+use Rattle.flat_machine.specs.Given.{reply_given}
 use Rattle.flat_machine.specs.Outcome.{AreAnswered, Left, Outcome}
 use Rattle.flat_machine.specs.Outcome.Outcome.{Answered, Failed, NoMemory}
 use Rattle.flat_machine.specs.Machine.{Machine, running}
-use Rattle.flat_machine.specs.Items.{ItemStep, MemoryLine, Moves, RegisterLine, RepliesLine, ShowsFrom, StepsLine, Talks}
+use Rattle.flat_machine.specs.Items.{Answers, ItemStep, MemoryLine, Misfits, Moves, RegisterLine, Replies, RepliesLine, ShowsFrom, StepsLine, Talks, steps_text}
 use Rattle.flat_machine.specs.Requests.{Fails, Leaves, LeavesBy, RequestStep, allowed}
 use Rattle.vm_config.specs.declared.change.Change.{Change}
 use Rattle.vm_config.specs.declared.change.Change.TheVariants as change
@@ -99,10 +105,12 @@ talks_answered bytes outcomes others m n k t u good fine (d, mid, talk, leaves) 
 
 moves_one : (g : Guest) (actor : ActorId) (count : ℕ) (m n k : Machine) (t u : List ℕ) → Moves g actor count m t n
     → Moves g actor count m u k → Same t u n k
-moves_one g actor count m n k t u x y = (
-  x.quiet ∙ sym y.quiet,
-  x.leaves ∙ ap (λ (h : Guest). record m { guest = Some h }) (several_one g x.end y.end actor count x.entries y.entries x.made y.made) ∙ sym y.leaves,
-)
+moves_one g actor count m n k t u x y =
+    let ends : x.end ≡ y.end = several_one g x.end y.end actor count x.entries y.entries x.made y.made in
+    let made : length x.entries ≡ length y.entries = several_made g x.end y.end actor count x.entries y.entries x.made y.made in (
+      x.writes ∙ (λ i. steps_text count (made i) (ends i).board.off) ∙ sym y.writes,
+      x.leaves ∙ ap (λ (h : Guest). record m { guest = Some h }) ends ∙ sym y.leaves,
+    )
 
 -- either way there is one
 one_by : {A B C D : Type 0} {t u : List ℕ} {n k : Machine} (there : Bool) → (A → C → Same t u n k)
@@ -116,10 +124,28 @@ steps_one None actor count m n k t u x y = both x y
 steps_one (Some g) actor count m n k t u x y =
     one_by (is_actor g actor) (moves_one g actor count m n k t u) both x y
 
-replies_one : (guest : Option Guest) (actor : ActorId) (m n k : Machine) (t u : List ℕ) → RepliesLine guest actor m t n
-    → RepliesLine guest actor m u k → Same t u n k
-replies_one None actor m n k t u x y = both x y
-replies_one (Some g) actor m n k t u x y = one_by (is_actor g actor) both both x y
+answers_one : (g : Guest) (actor : ActorId) (given : Option Reply) (m n k : Machine) (t u : List ℕ)
+    → Answers g actor given m t n → Answers g actor given m u k → Same t u n k
+answers_one g actor given m n k t u x y =
+    let ends : x.end ≡ y.end = same_after g x.end y.end (record { actor = actor; reply = given }) x.entry y.entry x.step y.step in (
+      x.quiet ∙ sym y.quiet,
+      x.leaves ∙ ap (λ (h : Guest). record m { guest = Some h }) ends ∙ sym y.leaves,
+    )
+
+reply_one : (g : Guest) (actor : ActorId) (given : Option Reply) (m n k : Machine) (t u : List ℕ)
+    → Replies g actor given m t n → Replies g actor given m u k → Same t u n k
+reply_one g actor given m n k t u (op, wants, x) (other, want, y) =
+    let same : other ≡ op = wants_one g actor other op want wants in
+    one_by (is_host_op op) (one_by (is_given op given) (answers_one g actor given m n k t u) both) both x
+    (subst (λ (o : Op). MatchBool (is_host_op o)
+    (MatchBool (is_given o given) (Answers g actor given m u k) (Misfits misfit.Unfit m u k))
+    (Misfits misfit.NotWaiting m u k)) same y)
+
+replies_one : (guest : Option Guest) (actor : ActorId) (given : Option Reply) (m n k : Machine) (t u : List ℕ)
+    → RepliesLine guest actor given m t n → RepliesLine guest actor given m u k → Same t u n k
+replies_one None actor given m n k t u x y = both x y
+replies_one (Some g) actor given m n k t u x y =
+    one_by (is_actor g actor) (reply_one g actor given m n k t u) both x y
 
 shows_one : (start : Option Regs) (steps : List Step) (number : ℕ) (t u : List ℕ) → ShowsFrom start steps number t
     → ShowsFrom start steps number u → t ≡ u
@@ -150,7 +176,7 @@ item_one (item.File name content) outcomes m n k t u x y = both x.1 y.1
 item_one (item.Lineage lineage) outcomes m n k t u x y = both x.1 y.1
 item_one item.Connect outcomes m n k t u x y = both x.1 y.1
 item_one (item.Step actor count) outcomes m n k t u x y = steps_one (running m) actor count m n k t u x.1 y.1
-item_one (item.Reply actor reply) outcomes m n k t u x y = replies_one (running m) actor m n k t u x.1 y.1
+item_one (item.Reply actor reply) outcomes m n k t u x y = replies_one (running m) actor (reply_given reply) m n k t u x.1 y.1
 item_one item.Console outcomes m n k t u x y = both x.1 y.1
 item_one (item.Register hart number) outcomes m n k t u x y = register_one m.guest hart number m n k t u x.1 y.1
 item_one (item.Memory at len) outcomes m n k t u x y = memory_one m.guest at len m n k t u x.1 y.1

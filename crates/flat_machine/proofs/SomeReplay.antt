@@ -7,10 +7,12 @@ use Rattle.vm_types.specs.declared.ids.ActorId.TheVariants.{Hart as HartId}
 use Rattle.vm_types.specs.declared.entry.Entry.{Entry}
 use Rattle.vm_types.specs.declared.entry.Event.{Event}
 use Rattle.vm_types.specs.declared.entry.Step.{Step}
+use Rattle.vm_types.specs.declared.reply.Reply.{Reply}
 use Rattle.vm_types.specs.declared.exit.Exit.{Exit}
 use Rattle.guest_memory.specs.Memory.{read_from}
 use Rattle.guest_memory.specs.Ram.{is_ram}
 use Rattle.rv_supervisor.specs.declared.regs.Regs.{Regs}
+use Rattle.hart_trace.specs.Asks.{is_host_op}
 use Rattle.hart_trace.specs.Traces.{IsPrefix}
 use Rattle.hart_trace.specs.Shown.{register_of}
 use Rattle.hart_trace.proofs.Traces.{some_hart}
@@ -31,15 +33,16 @@ use Rattle.script_text.specs.Output.{memory_line, misfit_line, register_line}
 use Rattle.script_output.specs.Output.{console_line, reply_line}
 use Rattle.flat_guest.specs.Guest.{Guest, is_actor}
 use Rattle.flat_guest.specs.Sound.{IsSound}
-use Rattle.flat_guest.specs.Steps.{Makes}
-use Rattle.flat_guest.proofs.Soundness.{actor_steps, missing, sound_next, sound_start}
+use Rattle.flat_guest.specs.Steps.{Makes, is_given}
+use Rattle.flat_guest.proofs.Soundness.{actor_step, actor_steps, missing, sound_next, sound_restart, sound_start}
 use Rattle.gate_file.specs.Runs.{save_calls}
+use Rattle.flat_machine.specs.Given.{reply_given}
 use Rattle.flat_machine.specs.Outcome.{AreAnswered, Outcome}
 use Rattle.flat_machine.specs.Outcome.Outcome.{Answered}
 use Rattle.flat_machine.specs.Machine.{Machine, console_of, drained, drained_guest, is_off, new_machine, running, running_by}
-use Rattle.flat_machine.specs.Items.{ItemStep, MemoryLine, Misfits, Moves, RegisterLine, RepliesLine, Shows, ShowsFrom, StepsLine, Talks}
+use Rattle.flat_machine.specs.Items.{Answers, ItemStep, MemoryLine, Misfits, Moves, RegisterLine, Replies, RepliesLine, Shows, ShowsFrom, StepsLine, Talks, steps_text}
 use Rattle.flat_machine.specs.Replay.{IsEnd, IsReplay, closed, closing, judged_script}
-use Rattle.flat_machine.specs.Requests.{Leaves, LeavesBy, RequestStep, allowed, answer_by, configured, image_of, started_from}
+use Rattle.flat_machine.specs.Requests.{Leaves, LeavesBy, RequestStep, allowed, answer_by, configured, image_of, started_from, stood, stopped_by}
 use Rattle.flat_machine.specs.Run.{Act, AllAnswered, OnBefore, Run, lines_done}
 use Rattle.flat_machine.proofs.Determined.{item_one}
 
@@ -59,8 +62,16 @@ made_sound (e ∷ es) g h actor made sound =
     made_sound es made.1 h actor made.3 (sound_next g event e made.1 sound made.2)
 
 from_sound : (image : Option (List ℕ)) (m : Machine) → Sound m → Sound (started_from image m)
-from_sound (Some image) m sound = sound_start m.config.machine.mem_size_mib image
+from_sound (Some image) m sound = sound_start m.config.machine.vcpu_count m.config.machine.mem_size_mib image
 from_sound None m sound = sound
+
+stopped_sound : (guest : Option Guest) → SoundBy guest → SoundBy (stopped_by guest)
+stopped_sound None sound = sound
+stopped_sound (Some g) sound = sound_restart g sound
+
+stood_sound : (paused : Bool) (m : Machine) → Sound m → Sound (stood paused m)
+stood_sound true m sound = sound
+stood_sound false m sound = stopped_sound m.guest sound
 
 -- what an allowed change leaves
 some_change : (it : Change) (m : Machine) → Sound m → (n : Machine) × Leaves m it n × Sound n
@@ -68,7 +79,7 @@ some_change (change.BootSource source) m sound = (configured m (change.BootSourc
 some_change (change.MachineConfig machine) m sound = (configured m (change.MachineConfig machine), refl, sound)
 some_change change.Start m sound =
     (configured (started_from (image_of m) m) change.Start, refl, from_sound (image_of m) m sound)
-some_change (change.State Paused) m sound = (record m { paused = true }, refl, sound)
+some_change (change.State Paused) m sound = (stood m.paused m, refl, stood_sound m.paused m sound)
 some_change (change.State Resumed) m sound = (record m { paused = false }, refl, sound)
 some_change (change.CreateSnapshot files) m sound = (m, refl, sound)
 some_change (change.LoadSnapshot load) m sound = (configured m (change.LoadSnapshot load), refl, sound)
@@ -84,7 +95,7 @@ running_sound guest false sound = sound
 
 drained_sound : (guest : Option Guest) → SoundBy guest → SoundBy (drained_guest guest)
 drained_sound None sound = sound
-drained_sound (Some g) sound = sound
+drained_sound (Some g) sound = record { timer_on = sound.timer_on; harts_on = sound.harts_on }
 
 -- ---- what is due is answered
 
@@ -144,9 +155,9 @@ some_moves : (g : Guest) (actor : ActorId) (count : ℕ) (m : Machine) → IsSou
     → Does (Moves g actor count m)
 some_moves g actor count m sound there =
     let made = actor_steps count g actor sound there in (
-      [],
+      steps_text count (length made.0) made.1.board.off,
       record m { guest = Some made.1 },
-      record { entries = made.0; end = made.1; made = made.2; quiet = refl; leaves = refl },
+      record { entries = made.0; end = made.1; made = made.2; writes = refl; leaves = refl },
       made_sound made.0 g made.1 actor made.2.made sound,
     )
 
@@ -157,11 +168,28 @@ some_steps (Some g) actor count m sound own =
     does_by (is_actor g actor) (Moves g actor count m) (Misfits misfit.NoActor m) (some_moves g actor count m own)
     (misfit_does misfit.NoActor m sound)
 
-some_reply : (guest : Option Guest) (actor : ActorId) (m : Machine) → Sound m → Does (RepliesLine guest actor m)
-some_reply None actor m sound = misfit_does misfit.NotRunning m sound
-some_reply (Some g) actor m sound =
-    does_by (is_actor g actor) (Misfits misfit.NotWaiting m) (Misfits misfit.NoActor m)
-    (λ there. misfit_does misfit.NotWaiting m sound) (misfit_does misfit.NoActor m sound)
+some_answer : (g : Guest) (actor : ActorId) (given : Option Reply) (m : Machine) → IsSound g → Sound m
+    → is_actor g actor ≡ true → Does (Replies g actor given m)
+some_answer g actor given m own sound there =
+    let want = actor_step g actor own there in
+    let answered : is_given want.0 given ≡ true → Does (Answers g actor given m) = λ fit. let made = want.2 given fit in (
+      [],
+      record m { guest = Some made.1 },
+      record { entry = made.0; end = made.1; unstamped = made.2; step = made.3; quiet = refl; leaves = refl },
+      sound_next g (record { actor = actor; reply = given }) made.0 made.1 own made.3,
+    ) in
+    let fits : Does (λ text n. MatchBool (is_given want.0 given) (Answers g actor given m text n) (Misfits misfit.Unfit m text n)) =
+        does_by (is_given want.0 given) (Answers g actor given m) (Misfits misfit.Unfit m) answered (misfit_does misfit.Unfit m sound) in
+    let line = does_by (is_host_op want.0) (λ text n. MatchBool (is_given want.0 given) (Answers g actor given m text n) (Misfits misfit.Unfit m text n)) (Misfits misfit.NotWaiting m)
+        (λ host. fits) (misfit_does misfit.NotWaiting m sound) in
+    (line.0, line.1, (want.0, want.1, line.2), line.3)
+
+some_reply : (guest : Option Guest) (actor : ActorId) (given : Option Reply) (m : Machine) → Sound m → SoundBy guest
+    → Does (RepliesLine guest actor given m)
+some_reply None actor given m sound own = misfit_does misfit.NotRunning m sound
+some_reply (Some g) actor given m sound own =
+    does_by (is_actor g actor) (Replies g actor given m) (Misfits misfit.NoActor m)
+    (some_answer g actor given m own sound) (misfit_does misfit.NoActor m sound)
 
 some_shown : (start : Option Regs) (steps : List Step) (number : ℕ) → (start ≡ None → ⊥)
     → ((first : Regs) → start ≡ Some first → IsPrefix first steps) → (text : List ℕ) × ShowsFrom start steps number text
@@ -176,7 +204,7 @@ some_register None hart number m sound own = misfit_does misfit.NoMachine m soun
 some_register (Some g) hart number m sound own =
     does_by (is_actor g (HartId hart)) (λ text n. Shows g hart number text × (n ≡ m)) (Misfits misfit.NoActor m)
     (λ there. let shown = some_shown (slice_get g.starts hart) (g.steps (HartId hart)) number
-    (λ none. missing g.starts hart none there) (own hart) in (shown.0, m, (shown.1, refl), sound))
+    (λ none. missing g.starts hart none there) (λ first is. own.harts_on hart first is) in (shown.0, m, (shown.1, refl), sound))
     (misfit_does misfit.NoActor m sound)
 
 some_memory : (guest : Option Guest) (at len : ℕ) (m : Machine) → Sound m → Does (MemoryLine guest at len m)
@@ -208,7 +236,7 @@ some_item (item.Step actor count) m sound =
     let line = some_steps (running m) actor count m sound (running_sound m.guest m.paused sound) in
     quietly (item.Step actor count) m line.0 line.1 (refl, line.2) line.3
 some_item (item.Reply actor reply) m sound =
-    let line = some_reply (running m) actor m sound in
+    let line = some_reply (running m) actor (reply_given reply) m sound (running_sound m.guest m.paused sound) in
     quietly (item.Reply actor reply) m line.0 line.1 (refl, line.2) line.3
 some_item item.Console m sound =
     quietly item.Console m (console_line (console_of m)) (drained m) (refl, (refl, refl)) (drained_sound m.guest sound)

@@ -3,6 +3,7 @@ use Rattle.std.proofs.Common.{◌≡◌, Bool, true, false, MatchBool, sym, subs
 use Rattle.vm_types.specs.Saved.{Saved}
 use Rattle.vm_outside.specs.Calls.{FileCall}
 use Rattle.vm_types.specs.declared.ids.ActorId.{ActorId}
+use Rattle.vm_types.specs.declared.reply.Reply.{Reply}
 use Rattle.vm_types.specs.declared.exit.Exit.{Exit}
 use Rattle.vm_types.specs.declared.exit.Object.{Object}
 use Rattle.vm_types.specs.declared.exit.Object.TheVariants as object
@@ -12,7 +13,10 @@ use Rattle.http_stream.specs.Sent.{sent}
 use Rattle.http_stream.proofs.ConversationLemmas.{new_quiet, no_front, quiet_after}
 use Rattle.script_text.specs.declared.item.Item.{Item}
 use Rattle.script_text.specs.declared.item.Item.TheVariants as item
+use Rattle.hart_trace.specs.Asks.{is_host_op}
 use Rattle.flat_guest.specs.Guest.{Guest, is_actor}
+use Rattle.flat_guest.specs.Steps.{is_given}
+use Rattle.flat_machine.specs.Given.{reply_given}
 use Rattle.flat_machine.specs.Outcome.{Outcome}
 use Rattle.flat_machine.specs.Machine.{Machine, new_machine, running}
 use Rattle.flat_machine.specs.Items.{ItemStep, MemoryLine, PartStep, RegisterLine, RepliesLine, StepsLine, Talks, bytes_of}
@@ -36,11 +40,15 @@ steps_quiet None actor count m n t x quiet = keeps x.1 quiet
 steps_quiet (Some g) actor count m n t x quiet =
     by_either (is_actor g actor) (λ moves. keeps moves.leaves quiet) (λ none. keeps none.1 quiet) x
 
-replies_quiet : (guest : Option Guest) (actor : ActorId) (m n : Machine) (t : List ℕ) → RepliesLine guest actor m t n
-    → Quiet m → Quiet n
-replies_quiet None actor m n t x quiet = keeps x.1 quiet
-replies_quiet (Some g) actor m n t x quiet =
-    by_either (is_actor g actor) (λ there. keeps there.1 quiet) (λ none. keeps none.1 quiet) x
+replies_quiet : (guest : Option Guest) (actor : ActorId) (given : Option Reply) (m n : Machine) (t : List ℕ)
+    → RepliesLine guest actor given m t n → Quiet m → Quiet n
+replies_quiet None actor given m n t x quiet = keeps x.1 quiet
+replies_quiet (Some g) actor given m n t x quiet =
+    by_either (is_actor g actor)
+    (λ there. by_either (is_host_op there.0)
+    (λ host. by_either (is_given there.0 given) (λ fit. keeps fit.leaves quiet) (λ unfit. keeps unfit.1 quiet) host)
+    (λ none. keeps none.1 quiet) there.2)
+    (λ none. keeps none.1 quiet) x
 
 register_quiet : (guest : Option Guest) (hart number : ℕ) (m n : Machine) (t : List ℕ) → RegisterLine guest hart number m t n
     → Quiet m → Quiet n
@@ -67,7 +75,7 @@ item_quiet (item.File name content) outcomes m n t x quiet = keeps x.1.1 quiet
 item_quiet (item.Lineage lineage) outcomes m n t x quiet = keeps x.1.1 quiet
 item_quiet item.Connect outcomes m n t x quiet = keeps x.1.1 new_quiet
 item_quiet (item.Step actor count) outcomes m n t x quiet = steps_quiet (running m) actor count m n t x.1 quiet
-item_quiet (item.Reply actor reply) outcomes m n t x quiet = replies_quiet (running m) actor m n t x.1 quiet
+item_quiet (item.Reply actor reply) outcomes m n t x quiet = replies_quiet (running m) actor (reply_given reply) m n t x.1 quiet
 item_quiet item.Console outcomes m n t x quiet = keeps x.1.1 quiet
 item_quiet (item.Register hart number) outcomes m n t x quiet = register_quiet m.guest hart number m n t x.1 quiet
 item_quiet (item.Memory at len) outcomes m n t x quiet = memory_quiet m.guest at len m n t x.1 quiet

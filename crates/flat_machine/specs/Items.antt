@@ -7,7 +7,7 @@ use Rattle.vm_types.specs.declared.entry.Entry.{Entry}
 use Rattle.vm_types.specs.declared.entry.Step.{Step}
 use Rattle.vm_types.specs.declared.op.Op.{Op}
 use Rattle.vm_types.specs.declared.reply.Reply.{Reply}
-use Rattle.vm_types.specs.Fits.{out_fits}
+use Rattle.hart_trace.specs.Asks.{is_host_op}
 use Rattle.http_stream.specs.Stream.{Connection}
 use Rattle.http_stream.specs.Sent.{sent}
 use Rattle.http_stream.specs.Conversation.{arrived, new_connection, Conversation, ConversationFront}
@@ -23,7 +23,7 @@ use Rattle.rv_supervisor.specs.declared.regs.Regs.{Regs}
 use Rattle.hart_trace.specs.States.{Hart, LeadsTo}
 use Rattle.hart_trace.specs.Shown.{register_of}
 use Rattle.flat_guest.specs.Guest.{Guest, Wants, is_actor}
-use Rattle.flat_guest.specs.Steps.{FlatStep, IsUnstamped, StepsBy}
+use Rattle.flat_guest.specs.Steps.{FlatStep, IsUnstamped, StepsBy, is_given}
 use Rattle.gate_file.specs.Runs.{save_calls}
 use Rattle.flat_machine.specs.Given.{reply_given}
 use Rattle.flat_machine.specs.Outcome.{Outcome}
@@ -77,23 +77,21 @@ StepsLine (Some g) actor count m text n =
     MatchBool (is_actor g actor) (Moves g actor count m text n) (Misfits misfit.NoActor m text n)
 
 -- the event in which the actor's act on a host object is answered so
-pub record Answers (g : Guest) (actor : ActorId) (reply : Reply) (m : Machine) (text : List ℕ) (n : Machine) : Type 0 where
+pub record Answers (g : Guest) (actor : ActorId) (given : Option Reply) (m : Machine) (text : List ℕ) (n : Machine) : Type 0 where
   pub entry : Entry
   pub end : Guest
   pub unstamped : IsUnstamped entry
-  pub step : FlatStep g (record { actor = actor; reply = Some reply }) entry end
+  pub step : FlatStep g (record { actor = actor; reply = given }) entry end
   pub quiet : text ≡ []
   pub leaves : n ≡ record m { guest = Some end }
 
--- a reply is to an act on a host object, and fits it
-abbrev pub AnswersWant : Op → Option Reply → Guest → ActorId → Machine → List ℕ → Machine → Type 0
-AnswersWant (Op.Out act) (Some reply) g actor m text n =
-    MatchBool (out_fits act reply) (Answers g actor reply m text n) (Misfits misfit.Unfit m text n)
-AnswersWant (Op.Out act) None g actor m text n = Misfits misfit.Unfit m text n
-AnswersWant op given g actor m text n = Misfits misfit.NotWaiting m text n
-
+-- what is given is to be a reply to an act on a host object, and to fit it
 abbrev pub Replies : Guest → ActorId → Option Reply → Machine → List ℕ → Machine → Type 0
-Replies g actor given m text n = (op : Op) × Wants g actor op × AnswersWant op given g actor m text n
+Replies g actor given m text n =
+    (op : Op) × Wants g actor op
+    × MatchBool (is_host_op op)
+    (MatchBool (is_given op given) (Answers g actor given m text n) (Misfits misfit.Unfit m text n))
+    (Misfits misfit.NotWaiting m text n)
 
 abbrev pub RepliesLine : Option Guest → ActorId → Option Reply → Machine → List ℕ → Machine → Type 0
 RepliesLine None actor given m text n = Misfits misfit.NotRunning m text n

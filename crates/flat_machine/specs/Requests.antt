@@ -1,5 +1,5 @@
 -- What the flat machine makes of a request.
-use Rattle.std.specs.Prelude.{ℕ, ◌≡◌, true, false, List, length, Option, Some, None, option_map, Result, Ok, Err}
+use Rattle.std.specs.Prelude.{ℕ, ◌≡◌, true, false, List, length, Option, Some, None, option_map, Result, Ok, Err, Bool}
 use Rattle.std.specs.FinMap.{get}
 use Rattle.vm_types.specs.Saved.{Saved}
 use Rattle.refusals.specs.declared.refusal.Refusal.{Refusal}
@@ -18,6 +18,7 @@ use Rattle.api_rules.specs.declared.answer.Answer.{Answer}
 use Rattle.api_rules.specs.Answers.{accepted, refused}
 use Rattle.api_rules.specs.Table.{decision, image_refusal, unless}
 use Rattle.script_output.specs.Output.{reply_line}
+use Rattle.flat_guest.specs.Guest.{Guest}
 use Rattle.flat_guest.specs.Start.{started, timer_restarted}
 use Rattle.flat_machine.specs.Outcome.{Left, Outcome}
 use Rattle.flat_machine.specs.Outcome.Outcome.{Answered, Failed, NoMemory}
