@@ -42,7 +42,7 @@ use Rattle.flat_machine.specs.Outcome.Outcome.{Answered}
 use Rattle.flat_machine.specs.Machine.{Machine, console_of, drained, drained_guest, is_off, new_machine, running, running_by}
 use Rattle.flat_machine.specs.Items.{Answers, ItemStep, MemoryLine, Misfits, Moves, RegisterLine, Replies, RepliesLine, Shows, ShowsFrom, StepsLine, Talks, steps_text}
 use Rattle.flat_machine.specs.Replay.{IsEnd, IsReplay, closed, closing, judged_script}
-use Rattle.flat_machine.specs.Requests.{Leaves, LeavesBy, RequestStep, allowed, answer_by, configured, image_of, started_from, stood, stopped_by}
+use Rattle.flat_machine.specs.Requests.{Leaves, LeavesBy, RequestStep, allowed, answer_by, configured, halted, image_of, started_from}
 use Rattle.flat_machine.specs.Run.{Act, AllAnswered, OnBefore, Run, lines_done}
 use Rattle.flat_machine.proofs.Determined.{item_one}
 
@@ -65,13 +65,10 @@ from_sound : (image : Option (List ℕ)) (m : Machine) → Sound m → Sound (st
 from_sound (Some image) m sound = sound_start m.config.machine.vcpu_count m.config.machine.mem_size_mib image
 from_sound None m sound = sound
 
-stopped_sound : (guest : Option Guest) → SoundBy guest → SoundBy (stopped_by guest)
-stopped_sound None sound = sound
-stopped_sound (Some g) sound = sound_restart g sound
-
-stood_sound : (paused : Bool) (m : Machine) → Sound m → Sound (stood paused m)
-stood_sound true m sound = sound
-stood_sound false m sound = stopped_sound m.guest sound
+halted_sound : (paused : Bool) (guest : Option Guest) → SoundBy guest → SoundBy (halted paused guest)
+halted_sound true guest sound = sound
+halted_sound false None sound = sound
+halted_sound false (Some g) sound = sound_restart g sound
 
 -- what an allowed change leaves
 some_change : (it : Change) (m : Machine) → Sound m → (n : Machine) × Leaves m it n × Sound n
@@ -79,7 +76,8 @@ some_change (change.BootSource source) m sound = (configured m (change.BootSourc
 some_change (change.MachineConfig machine) m sound = (configured m (change.MachineConfig machine), refl, sound)
 some_change change.Start m sound =
     (configured (started_from (image_of m) m) change.Start, refl, from_sound (image_of m) m sound)
-some_change (change.State Paused) m sound = (stood m.paused m, refl, stood_sound m.paused m sound)
+some_change (change.State Paused) m sound =
+    (record m { guest = halted m.paused m.guest; paused = true }, refl, halted_sound m.paused m.guest sound)
 some_change (change.State Resumed) m sound = (record m { paused = false }, refl, sound)
 some_change (change.CreateSnapshot files) m sound = (m, refl, sound)
 some_change (change.LoadSnapshot load) m sound = (configured m (change.LoadSnapshot load), refl, sound)

@@ -79,21 +79,18 @@ started_from (Some image) m =
     }
 started_from None m = m
 
--- a guest that runs stands still from now on, and its timer begins anew; where it does so already nothing changes
-abbrev pub stopped_by : Option Guest → Option Guest
-stopped_by None = None
-stopped_by (Some g) = Some (timer_restarted g)
-
-abbrev pub stood : Bool → Machine → Machine
-stood true m = m
-stood false m = record m { guest = stopped_by m.guest; paused = true }
+-- a guest that is to stand still: one that ran begins its timer anew
+abbrev pub halted : Bool → Option Guest → Option Guest
+halted true guest = guest
+halted false None = None
+halted false (Some g) = Some (timer_restarted g)
 
 -- An allowed change leaves n of m.
 abbrev pub Leaves : Machine → Change → Machine → Type 0
 Leaves m (change.BootSource source) n = n ≡ configured m (change.BootSource source)
 Leaves m (change.MachineConfig machine) n = n ≡ configured m (change.MachineConfig machine)
 Leaves m change.Start n = n ≡ configured (started_from (image_of m) m) change.Start
-Leaves m (change.State Paused) n = n ≡ stood m.paused m
+Leaves m (change.State Paused) n = n ≡ record m { guest = halted m.paused m.guest; paused = true }
 Leaves m (change.State Resumed) n = n ≡ record m { paused = false }
 Leaves m (change.CreateSnapshot files) n = n ≡ m
 Leaves m (change.LoadSnapshot load) n = n ≡ configured m (change.LoadSnapshot load)

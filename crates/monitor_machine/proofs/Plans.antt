@@ -26,15 +26,16 @@ use Rattle.flat_guest.specs.Start.{started}
 use Rattle.flat_machine.specs.Outcome as flat
 use Rattle.flat_machine.specs.Machine.{AreFilesOf, Machine}
 use Rattle.flat_machine.specs.Machine as machine
-use Rattle.flat_machine.specs.Requests.{Leaves, LeavesBy, RequestStep, allowed, answer_by, by_files, configured, decided, image_of, started_from}
+use Rattle.flat_machine.specs.Requests.{Leaves, LeavesBy, RequestStep, allowed, answer_by, by_files, configured, decided, halted, image_of, started_from}
 use Rattle.vm_world.specs.Worlds.{IsWorld, WorldValue}
+use Rattle.vm_world.proofs.Events.{restarted}
 use Rattle.monitor_plans.specs.declared.plan.Plan.{Plan}
 use Rattle.monitor_plans.specs.declared.plan.Plan.TheVariants as plan
 use Rattle.monitor_plans.specs.Plans.{PlanCause, is_start, plan_answer}
 use Rattle.monitor_plans.specs.Starting.{StartGives, image_in, start_refusal}
 use Rattle.monitor_machine.specs.declared.machine.LiveMachine.{LiveMachine}
 use Rattle.monitor_machine.specs.declared.outcome.Outcome.{Outcome}
-use Rattle.monitor_machine.specs.Plans.{Answers, IsPlan, decided_call, paused_by, phase_by, phase_of, plan_after, plan_line, plan_outcome}
+use Rattle.monitor_machine.specs.Plans.{Answers, IsPlan, decided_call, halted_world, paused_by, phase_by, phase_of, plan_after, plan_line, plan_outcome, world_by}
 use Rattle.monitor_machine.specs.Replying.{OutcomeCause, Replies, calls_files, outcome_by}
 use Rattle.monitor_machine.specs.State.{IsGuestBy, IsLive, IsMachine}
 
@@ -107,7 +108,7 @@ start_plan_by (plan.Starts w) live known m given is asks (none, image, there, wo
       ∙ ap (λ (o : Option Refusal). unless o (Ok change.Start)) (sym (refusal_is live known m is) ∙ none),
   image,
   sym (image_is live known m is) ∙ there,
-  subst (λ (c : Config). IsWorld w (started c.machine.mem_size_mib image)) is.own.config_is world,
+  subst (λ (c : Config). IsWorld w (started c.machine.vcpu_count c.machine.mem_size_mib image)) is.own.config_is world,
 )
 start_plan_by plan.FilesFailed live known m given is asks gives = asks
 start_plan_by plan.NoMemory live known m given is asks gives = tt
@@ -139,8 +140,35 @@ answered live known m n given made text asks writes leaves = (
 )
 
 -- what a change other than a start leaves
+abbrev guest_by : Change → Bool → Option Guest → Option Guest
+guest_by (change.State Paused) paused guest = halted paused guest
+guest_by it paused guest = guest
+
 abbrev plainly : Machine → Change → Machine
-plainly m it = record m { config = changed m.config it; paused = paused_by it m.paused }
+plainly m it = record m {
+  config = changed m.config it;
+  guest = guest_by it m.paused m.guest;
+  paused = paused_by it m.paused;
+}
+
+halted_is : (paused : Bool) (w : Option WorldValue) (g : Option Guest) → IsGuestBy w g
+    → IsGuestBy (halted_world paused w) (halted paused g)
+halted_is true w g is = is
+halted_is false None None is = is
+halted_is false (Some w) (Some g) is = restarted w g is
+halted_is false (Some w) None is = absurd is
+halted_is false None (Some g) is = absurd is
+
+left_is : (it : Change) (paused : Bool) (w : Option WorldValue) (g : Option Guest) → IsGuestBy w g
+    → IsGuestBy (world_by it paused w) (guest_by it paused g)
+left_is (change.State Paused) paused w g is = halted_is paused w g is
+left_is (change.State Resumed) paused w g is = is
+left_is (change.BootSource source) paused w g is = is
+left_is (change.MachineConfig machine) paused w g is = is
+left_is change.Start paused w g is = is
+left_is (change.CreateSnapshot files) paused w g is = is
+left_is (change.LoadSnapshot load) paused w g is = is
+left_is (change.Tell part) paused w g is = is
 
 plain_leaves : (m : Machine) (it : Change) → is_start it ≡ false → Leaves m it (plainly m it)
 plain_leaves m (change.BootSource source) unlike = refl
@@ -164,7 +192,9 @@ plan_does (plan.Changes it) live known m given is (asks, unlike) = (
       id_is = is.own.id_is;
       ids_is = is.own.ids_is;
       config_is = ap (λ (k : Config). changed k it) is.own.config_is;
-      guest_is = is.own.guest_is;
+      guest_is =
+          subst (λ (b : Bool). IsGuestBy (world_by it live.paused live.guest) (guest_by it b m.guest)) is.own.paused_is
+          (left_is it live.paused live.guest m.guest is.own.guest_is);
       paused_is = ap (λ (b : Bool). paused_by it b) is.own.paused_is;
     };
     files = record { saved_is = is.files.saved_is; calls_is = is.files.calls_is };

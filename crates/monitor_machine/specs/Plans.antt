@@ -14,6 +14,7 @@ use Rattle.vm_config.specs.Changes.{changed}
 use Rattle.api_rules.specs.declared.ids.Ids.{Ids}
 use Rattle.api_rules.specs.Table.{decision}
 use Rattle.script_output.specs.Output.{reply_line}
+use Rattle.timer_trace.specs.States.{new_timer}
 use Rattle.flat_guest.specs.Start.{started}
 use Rattle.flat_machine.specs.Machine.{Machine}
 use Rattle.flat_machine.specs.Requests.{allowed, built, decided, image_of}
@@ -45,7 +46,7 @@ IsPlan (plan.Refused why) m given = allowed m given ≡ Err why
 IsPlan (plan.Changes it) m given = (allowed m given ≡ Ok it) × (is_start it ≡ false)
 IsPlan (plan.Starts w) m given =
     (allowed m given ≡ Ok change.Start) × (image : List ℕ) × (image_of m ≡ Some image)
-    × IsWorld w (started m.config.machine.mem_size_mib image)
+    × IsWorld w (started m.config.machine.vcpu_count m.config.machine.mem_size_mib image)
 IsPlan plan.FilesFailed m given = decided m given ≡ Ok change.Start
 IsPlan plan.NoMemory m given = Unit {0}
 
@@ -66,10 +67,24 @@ paused_by (change.State Paused) paused = true
 paused_by (change.State Resumed) paused = false
 paused_by it paused = paused
 
+-- a world that is to stand still: one that ran begins its timer anew
+abbrev pub halted_world : Bool → Option WorldValue → Option WorldValue
+halted_world true world = world
+halted_world false None = None
+halted_world false (Some w) = Some (record w { timer = new_timer })
+
+abbrev pub world_by : Change → Bool → Option WorldValue → Option WorldValue
+world_by (change.State Paused) paused world = halted_world paused world
+world_by it paused world = world
+
 -- and what it leaves
 abbrev pub plan_after : Plan → LiveMachine → LiveMachine
 plan_after (plan.Changes it) live =
-    record live { config = changed live.config it; paused = paused_by it live.paused }
+    record live {
+      config = changed live.config it;
+      guest = world_by it live.paused live.guest;
+      paused = paused_by it live.paused;
+    }
 plan_after (plan.Starts w) live =
     record live { config = changed live.config change.Start; guest = Some w; paused = false }
 plan_after it live = live

@@ -5,8 +5,10 @@
 //! machine makes of each of those; `answer_request` answers one, by the machine, 500 or 503.
 #![tactic(auto)]
 
+mod answering;
 mod machine;
 mod outcome;
+mod waiting;
 
 pub use machine::LiveMachine;
 pub use outcome::Outcome;

@@ -21,7 +21,7 @@ start_refusal config saved = image_refusal config (option_map length (image_in c
 abbrev pub StartGives : Plan → Config → Saved → Type 0
 StartGives (plan.Starts w) config saved =
     (start_refusal config saved ≡ None) × (image : List ℕ) × (image_in config saved ≡ Some image)
-    × IsWorld w (started config.machine.mem_size_mib image)
+    × IsWorld w (started config.machine.vcpu_count config.machine.mem_size_mib image)
 StartGives (plan.Refused why) config saved = start_refusal config saved ≡ Some why
 StartGives (plan.Changes it) config saved = ⊥
 StartGives plan.FilesFailed config saved = Unit {0}

@@ -9,6 +9,7 @@ ghost use Rattle.monitor_plans.specs.Starting.{StartGives};
 
 use crate::loading::{LoadError, load};
 use crate::plan::Plan;
+use api_calls::MachineConfig;
 use api_rules::{Config, image_refusal};
 use flat_guest::MOST_MIB;
 use guest_memory::is_image_fit;
@@ -16,6 +17,9 @@ use refusals::Refusal;
 use std::alloc::Global;
 use vm_outside::{Failed, Files};
 use vm_world::World;
+
+/// The most harts that a machine has.
+const MOST_HARTS: u64 = 32;
 
 /// What comes of a start that the configuration allows, by the file of its kernel image.
 pub fn start<F: Files>(alloc: Global, config: &Config, files: &mut F) -> Plan
@@ -38,7 +42,7 @@ pub fn start<F: Files>(alloc: Global, config: &Config, files: &mut F) -> Plan
         return Plan::NoMemory;
     };
     match load(alloc, files, path, len) {
-        Ok(image) => match guest_of(alloc, config.machine.mem_size_mib, &image) {
+        Ok(image) => match guest_of(alloc, config.machine, &image) {
             Some(guest) => Plan::Starts(guest),
             None => Plan::NoMemory,
         },
@@ -47,12 +51,15 @@ pub fn start<F: Files>(alloc: Global, config: &Config, files: &mut F) -> Plan
     }
 }
 
-// The guest of this memory and image, if there is memory for it and the image fits.
-fn guest_of(alloc: Global, mem_size_mib: u64, image: &[u8]) -> Option<World>
-    ensures { IfSome result (λ guest. IsWorld guest (started mem_size_mib image.now)) }
+// The guest of this machine and image, if there is memory for it and the image fits.
+fn guest_of(alloc: Global, machine: MachineConfig, image: &[u8]) -> Option<World>
+    ensures { IfSome result (λ guest. IsWorld guest (started machine.vcpu_count machine.mem_size_mib image.now)) }
 {
-    if mem_size_mib > MOST_MIB || !is_image_fit(mem_size_mib, image.len() as u64) {
+    if machine.vcpu_count > MOST_HARTS || machine.mem_size_mib > MOST_MIB {
         return None;
     }
-    World::start(alloc, mem_size_mib, image).ok()
+    if !is_image_fit(machine.mem_size_mib, image.len() as u64) {
+        return None;
+    }
+    World::start(alloc, machine.vcpu_count as usize, machine.mem_size_mib, image).ok()
 }

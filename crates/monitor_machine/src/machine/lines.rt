@@ -1,15 +1,19 @@
 // Lines that bring no request.
-ghost use Rattle.std.specs.Prelude.{◌≡◌, [], IfOk, OnErr};
+ghost use Rattle.std.specs.Prelude.{◌≡◌, [], IfOk, OnErr, slice_get};
+ghost use Rattle.std.specs.Option.{option_map};
 ghost use Rattle.vm_outside.specs.Known.{FilesKnown};
+ghost use Rattle.flat_machine.specs.Given.{reply_given};
 ghost use Rattle.flat_machine.specs.Machine.{Machine, console_of, drained, running};
 ghost use Rattle.flat_machine.specs.Items.{StepsLine, RepliesLine, RegisterLine, MemoryLine};
 ghost use Rattle.hart_trace.specs.Shown.{register_of};
 ghost use Rattle.script_output.specs.Output.{console_line};
 
+use crate::answering::{reply_given, take_reply};
 use crate::machine::LiveMachine;
+use crate::waiting::{steps_line, waits_room};
 use monitor_plans::zeros;
 use script_output::console_line;
-use script_text::{Misfit, memory_line, misfit_line, register_line};
+use script_text::{HostReply, Misfit, memory_line, misfit_line, register_line};
 use std::alloc::{AllocError, Global};
 use vm_types::{ActorId, ByteList, GuestAddr};
 use vm_world::{NoActor, NotRam, World};
@@ -30,28 +34,31 @@ impl LiveMachine {
         if self.paused {
             return Ok(misfit_line(self.alloc, Misfit::NotRunning)?);
         }
+        let room = waits_room(self.alloc)?;
         match &mut self.guest {
             None => Ok(misfit_line(self.alloc, Misfit::NotRunning)?),
             Some(guest) => match guest.run(actor, count) {
-                Ok(_) => Ok(ByteList::new(self.alloc)),
+                Ok(made) => Ok(steps_line(self.alloc, room, count, made, guest.is_off())),
                 Err(NoActor) => Ok(misfit_line(self.alloc, Misfit::NoActor)?),
             },
         }
     }
 
-    /// A reply line: no actor that there is wants an act on a host object.
-    pub fn reply(&self, actor: ActorId) -> Result<ByteList, AllocError>
-        ensures { IfOk result (λ text. (known : FilesKnown) (m : Machine) → IsMachine self.now known m →
-            RepliesLine (running m) actor m text m) }
+    /// A reply line: one event of an actor that wants an act on a host object. An `Err` changes nothing.
+    pub fn reply(&mut self, actor: ActorId, given: &HostReply) -> Result<ByteList, AllocError>
+        ensures ok { IfOk result (λ text. (known : FilesKnown) (m : Machine) → IsMachine self.old known m →
+            (n : Machine) × RepliesLine (running m) actor (reply_given given.now) m text n × IsMachine self.new known n
+            × (n.connection ≡ m.connection)) }
+        ensures err { OnErr result (self.new ≡ self.old) }
     {
         if self.paused {
             return Ok(misfit_line(self.alloc, Misfit::NotRunning)?);
         }
-        match &self.guest {
+        match &mut self.guest {
             None => Ok(misfit_line(self.alloc, Misfit::NotRunning)?),
-            Some(guest) => match guest.want(actor) {
-                Some(_) => Ok(misfit_line(self.alloc, Misfit::NotWaiting)?),
-                None => Ok(misfit_line(self.alloc, Misfit::NoActor)?),
+            Some(guest) => match take_reply(guest, actor, reply_given(given)) {
+                None => Ok(ByteList::new(self.alloc)),
+                Some(why) => Ok(misfit_line(self.alloc, why)?),
             },
         }
     }
@@ -79,8 +86,8 @@ impl LiveMachine {
     {
         match &self.guest {
             None => Ok(misfit_line(self.alloc, Misfit::NoMachine)?),
-            Some(guest) => match guest.want(ActorId::Hart(hart)) {
-                Some(_) => Ok(register_line(self.alloc, register_in(guest, number))?),
+            Some(guest) => match register_in(guest, hart, number) {
+                Some(value) => Ok(register_line(self.alloc, value)?),
                 None => Ok(misfit_line(self.alloc, Misfit::NoActor)?),
             },
         }
@@ -104,14 +111,14 @@ impl LiveMachine {
     }
 }
 
-// A register of the hart: pc by the number 32, and another by its number modulo 32.
-fn register_in(guest: &World, number: u8) -> u64
-    ensures { result ≡ register_of guest.now.hart number }
+// A register of a hart: pc by the number 32, and another by its number modulo 32. `None` where there is no such hart.
+fn register_in(guest: &World, hart: u8, number: u8) -> Option<u64>
+    ensures { result ≡ option_map (λ h. register_of h number) (slice_get guest.now.harts hart) }
 {
     if number <= 32 {
-        guest.reg(number as usize)
+        guest.reg(hart, number as usize)
     } else {
-        guest.reg((number % 32) as usize)
+        guest.reg(hart, (number % 32) as usize)
     }
 }
 

@@ -1,9 +1,9 @@
 // What is answered to something that is due.
-ghost use Rattle.std.specs.Prelude.{◌≡◌, ◌⊎◌, ◌++◌, IfOk, OnOk, OnErr};
+ghost use Rattle.std.specs.Prelude.{◌≡◌, ◌⊎◌, ◌++◌, false, IfOk, OnOk, OnErr};
 ghost use Rattle.vm_outside.specs.Filing.{SameFiles};
 ghost use Rattle.vm_outside.specs.Known.{FilesKnown, Lasts, Tells};
 ghost use Rattle.http_stream.specs.declared.request.Next.{Next};
-ghost use Rattle.monitor_machine.specs.Plans.{paused_by};
+ghost use Rattle.monitor_machine.specs.Plans.{halted_world, paused_by, world_by};
 
 use crate::machine::LiveMachine;
 use crate::outcome::Outcome;
@@ -42,6 +42,34 @@ impl LiveMachine {
         }
     }
 
+    // The guest stands still from now on, or goes on, where the change says so. One that ran begins its timer anew.
+    fn stand(&mut self, change: &Change)
+        ensures { self.new ≡ record self.old {
+            guest = world_by change.now self.old.paused self.old.guest;
+            paused = paused_by change.now self.old.paused;
+        } }
+    {
+        match change {
+            Change::State(VmState::Paused) => {
+                if !self.paused {
+                    self.restart_timer();
+                }
+                self.paused = true;
+            }
+            Change::State(VmState::Resumed) => self.paused = false,
+            _ => {}
+        }
+    }
+
+    fn restart_timer(&mut self)
+        ensures { self.new ≡ record self.old { guest = halted_world false self.old.guest } }
+    {
+        match &mut self.guest {
+            None => {}
+            Some(guest) => guest.restart_timer(),
+        }
+    }
+
     // Does what was answered, which takes no memory.
     fn perform(&mut self, plan: Plan) -> Outcome
         ensures how { result ≡ plan_outcome plan }
@@ -50,7 +78,7 @@ impl LiveMachine {
         match plan {
             Plan::Refused(_) => Outcome::Answered,
             Plan::Changes(change) => {
-                self.paused = paused_by(&change, self.paused);
+                self.stand(&change);
                 let _applied = self.config.apply(change);
                 Outcome::Answered
             }
@@ -115,16 +143,5 @@ impl LiveMachine {
     {
         let how = self.answer(Plan::NoMemory, text)?;
         Ok(how)
-    }
-}
-
-// Whether the guest stands still after the change.
-fn paused_by(change: &Change, paused: bool) -> bool
-    ensures { result ≡ paused_by change.now paused }
-{
-    match change {
-        Change::State(VmState::Paused) => true,
-        Change::State(VmState::Resumed) => false,
-        _ => paused,
     }
 }
