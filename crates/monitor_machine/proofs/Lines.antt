@@ -1,13 +1,24 @@
 -- What a line that brings moving request makes of the machine is what it makes of each flat machine that it is.
-use Rattle.std.proofs.Common.{◌≡◌, ℕ, Bool, true, false, MatchBool, refl, sym, subst, ◌∙◌, List, [], Option, Some, None}
+use Rattle.std.proofs.Common.{◌≡◌, ℕ, Bool, true, false, cond, if◌then◌else◌, MatchBool, refl, sym, subst, ◌∙◌, List, [], length, Option, Some, None}
 use Rattle.vm_outside.specs.Known.{FilesKnown}
 use Rattle.vm_types.specs.declared.ids.ActorId.{ActorId}
+use Rattle.vm_types.specs.declared.entry.Entry.{Entry}
+use Rattle.vm_types.specs.declared.op.Op.{Op}
+use Rattle.vm_types.specs.declared.reply.Reply.{Reply}
+use Rattle.vm_types.specs.Fits.{out_fits}
+use Rattle.script_text.specs.declared.output.Misfit.{Misfit}
 use Rattle.script_text.specs.declared.output.Misfit.TheVariants as misfit
 use Rattle.script_text.specs.Output.{misfit_line}
-use Rattle.flat_guest.specs.Guest.{Guest, is_actor}
+use Rattle.hart_trace.specs.Asks.{is_host_op}
+use Rattle.flat_guest.specs.Guest.{Guest, Wants, is_actor}
+use Rattle.flat_guest.specs.Steps.{guest_after, is_given}
 use Rattle.flat_machine.specs.Machine.{Machine, running, running_by}
-use Rattle.flat_machine.specs.Items.{Moves, StepsLine}
-use Rattle.vm_world.specs.Worlds.{IsWorld, Runs, WorldValue}
+use Rattle.flat_machine.specs.Items.{Answers, Misfits, Moves, Replies, RepliesLine, StepsLine, steps_text}
+use Rattle.vm_world.specs.declared.step_error.StepError.{StepError}
+use Rattle.vm_world.specs.Refusing.{refusal_of}
+use Rattle.vm_world.specs.Worlds.{IsWorld, MakesEvent, Runs, WorldValue, want_in}
+use Rattle.vm_world.proofs.Events.{is_there, not_there, wanted}
+use Rattle.monitor_machine.specs.Answering.{TakesReply}
 use Rattle.monitor_machine.specs.declared.machine.LiveMachine.{LiveMachine}
 use Rattle.monitor_machine.specs.State.{IsGuestBy, IsLive, IsMachine}
 
@@ -84,18 +95,165 @@ step_no_actor live known m world left actor count text is moving some same other
       refl,
     )
 
-pub step_moves : (live : LiveMachine) (known : FilesKnown) (m : Machine) (world left : WorldValue) (actor : ActorId) (count made : ℕ) (text : List ℕ)
+pub step_moves : (live : LiveMachine) (known : FilesKnown) (m : Machine) (world left : WorldValue) (actor : ActorId) (count made : ℕ) (off : Bool) (text : List ℕ)
     → IsMachine live known m → live.paused ≡ false → live.guest ≡ Some world
-    → ((g : Guest) → IsWorld world g → is_actor g actor ≡ true) → text ≡ [] → Runs world actor count made left
-    → Moved actor count m text (record live { guest = Some left }) known
-step_moves live known m world left actor count made text is moving some here quiet runs =
+    → ((g : Guest) → IsWorld world g → is_actor g actor ≡ true) → off ≡ left.board.off → text ≡ steps_text count made off
+    → Runs world actor count made left → Moved actor count m text (record live { guest = Some left }) known
+step_moves live known m world left actor count made off text is moving some here is_off writes runs =
     let g = some_guest live.guest world m.guest is.own.guest_is some in
     let run = runs g.0 g.2 in
     let n : Machine = record m { guest = Some run.1 } in
-    let moved : Moves g.0 actor count m text n = record { entries = run.0; end = run.1; made = run.2; quiet = quiet; leaves = refl } in (
+    let says : text ≡ steps_text count (length run.0) run.1.board.off =
+        writes ∙ (λ i. steps_text count (sym run.3 i) (is_off i)) ∙ (λ i. steps_text count (length run.0) (run.4.board_is i).off) in
+    let moved : Moves g.0 actor count m text n = record { entries = run.0; end = run.1; made = run.2; writes = says; leaves = refl } in (
       n,
       subst (λ (o : Option Guest). StepsLine o actor count m text n) (sym (goes live m is.own moving ∙ g.1))
           (subst (λ (b : Bool). MatchBool b (Moves g.0 actor count m text n) ((text ≡ misfit_line misfit.NoActor) × (n ≡ m))) (sym (here g.0 g.2)) moved),
       with_guest live known m left (Some run.1) is run.4,
       refl,
     )
+
+-- ---- replies
+
+-- some flat machine that the machine is after the reply line
+abbrev pub Replied : ActorId → Option Reply → Machine → List ℕ → LiveMachine → FilesKnown → Type 0
+Replied actor given m text after known =
+    (n : Machine) × RepliesLine (running m) actor given m text n × IsMachine after known n × (n.connection ≡ m.connection)
+
+reply_none : (m : Machine) (actor : ActorId) (given : Option Reply) (text : List ℕ) → running m ≡ None
+    → text ≡ misfit_line misfit.NotRunning → RepliesLine (running m) actor given m text m
+reply_none m actor given text none writes =
+    subst (λ (g : Option Guest). RepliesLine g actor given m text m) (sym none) (writes, refl)
+
+pub reply_still : (live : LiveMachine) (known : FilesKnown) (m : Machine) (actor : ActorId) (given : Option Reply) (text : List ℕ)
+    → IsMachine live known m → live.paused ≡ true → text ≡ misfit_line misfit.NotRunning
+    → Replied actor given m text live known
+reply_still live known m actor given text is halted writes =
+    (m, reply_none m actor given text (still live m is.own halted) writes, is, refl)
+
+pub reply_refused : (live : LiveMachine) (known : FilesKnown) (m : Machine) (actor : ActorId) (given : Option Reply) (text : List ℕ)
+    → IsMachine live known m → live.paused ≡ false → live.guest ≡ None → text ≡ misfit_line misfit.NotRunning
+    → Replied actor given m text live known
+reply_refused live known m actor given text is moving none writes =
+    (m, reply_none m actor given text (goes live m is.own moving ∙ no_guest live.guest m.guest is.own.guest_is none) writes, is, refl)
+
+-- what a running guest makes of the reply, which its actor is there for or not
+module _ (live : LiveMachine) (known : FilesKnown) (m : Machine) (world left : WorldValue) (actor : ActorId) (given : Option Reply)
+    (text : List ℕ) (is : IsMachine live known m) (moving : live.paused ≡ false) (some : live.guest ≡ Some world) where
+  own_guest : (h : Guest) × (m.guest ≡ Some h) × IsWorld world h
+  own_guest = some_guest live.guest world m.guest is.own.guest_is some
+
+  line : (n : Machine) → MatchBool (is_actor own_guest.0 actor) (Replies own_guest.0 actor given m text n) (Misfits misfit.NoActor m text n)
+      → RepliesLine (running m) actor given m text n
+  line n goes_so = subst (λ (o : Option Guest). RepliesLine o actor given m text n) (sym (goes live m is.own moving ∙ own_guest.1)) goes_so
+
+  there : (n : Machine) → is_actor own_guest.0 actor ≡ true → Replies own_guest.0 actor given m text n
+      → RepliesLine (running m) actor given m text n
+  there n here replies =
+      line n (subst (λ (b : Bool). MatchBool b (Replies own_guest.0 actor given m text n) (Misfits misfit.NoActor m text n)) (sym here) replies)
+
+  same_guest : left ≡ world → IsMachine (record live { guest = Some left }) known m
+  same_guest same =
+      with_guest live known m left m.guest is
+      (subst (λ (w : WorldValue). IsGuestBy (Some w) m.guest) (sym same)
+      (subst (λ (w : Option WorldValue). IsGuestBy w m.guest) some is.own.guest_is))
+
+  pub reply_taken : text ≡ [] → TakesReply None world actor given left
+      → Replied actor given m text (record live { guest = Some left }) known
+  reply_taken quiet takes =
+      let done = takes own_guest.0 own_guest.2 in
+      let n : Machine = record m { guest = Some done.end } in
+      let answers : Answers own_guest.0 actor given m text n =
+          record { entry = done.entry; end = done.end; unstamped = done.unstamped; step = done.step; quiet = quiet; leaves = refl } in
+      let fit : MatchBool (is_given done.op given) (Answers own_guest.0 actor given m text n) (Misfits misfit.Unfit m text n) =
+          subst (λ (b : Bool). MatchBool b (Answers own_guest.0 actor given m text n) (Misfits misfit.Unfit m text n)) (sym done.fit) answers in
+      let host : MatchBool (is_host_op done.op) (MatchBool (is_given done.op given) (Answers own_guest.0 actor given m text n) (Misfits misfit.Unfit m text n)) (Misfits misfit.NotWaiting m text n) =
+          subst (λ (b : Bool). MatchBool b (MatchBool (is_given done.op given) (Answers own_guest.0 actor given m text n) (Misfits misfit.Unfit m text n)) (Misfits misfit.NotWaiting m text n)) (sym done.host) fit in
+      (n, there n done.there (done.op, done.wants, host), with_guest live known m left (Some done.end) is done.world, refl)
+
+  taken_by : (why : Misfit) → text ≡ misfit_line why → TakesReply (Some why) world actor given left
+      → Replied actor given m text (record live { guest = Some left }) known
+  taken_by misfit.NotRunning writes takes = absurd takes
+  taken_by misfit.NoMachine writes takes = absurd takes
+  taken_by misfit.OutsideMemory writes takes = absurd takes
+  taken_by misfit.NoActor writes takes =
+      let none : is_actor own_guest.0 actor ≡ false = takes.1 own_guest.0 own_guest.2 in (
+        m,
+        line m (subst (λ (b : Bool). MatchBool b (Replies own_guest.0 actor given m text m) (Misfits misfit.NoActor m text m)) (sym none) (writes, refl)),
+        same_guest takes.0,
+        refl,
+      )
+  taken_by misfit.NotWaiting writes takes =
+      let busy = takes.1 own_guest.0 own_guest.2 in
+      let own : MatchBool (is_host_op busy.op) (MatchBool (is_given busy.op given) (Answers own_guest.0 actor given m text m) (Misfits misfit.Unfit m text m)) (Misfits misfit.NotWaiting m text m) =
+          subst (λ (b : Bool). MatchBool b (MatchBool (is_given busy.op given) (Answers own_guest.0 actor given m text m) (Misfits misfit.Unfit m text m)) (Misfits misfit.NotWaiting m text m)) (sym busy.own) (writes, refl) in
+      (m, there m busy.there (busy.op, busy.wants, own), same_guest takes.0, refl)
+  taken_by misfit.Unfit writes takes =
+      let bad = takes.1 own_guest.0 own_guest.2 in
+      let unfit : MatchBool (is_given bad.op given) (Answers own_guest.0 actor given m text m) (Misfits misfit.Unfit m text m) =
+          subst (λ (b : Bool). MatchBool b (Answers own_guest.0 actor given m text m) (Misfits misfit.Unfit m text m)) (sym bad.unfit) (writes, refl) in
+      let host : MatchBool (is_host_op bad.op) (MatchBool (is_given bad.op given) (Answers own_guest.0 actor given m text m) (Misfits misfit.Unfit m text m)) (Misfits misfit.NotWaiting m text m) =
+          subst (λ (b : Bool). MatchBool b (MatchBool (is_given bad.op given) (Answers own_guest.0 actor given m text m) (Misfits misfit.Unfit m text m)) (Misfits misfit.NotWaiting m text m)) (sym bad.host) unfit in
+      (m, there m bad.there (bad.op, bad.wants, host), same_guest takes.0, refl)
+
+  pub reply_misfits : (why : Misfit) → text ≡ misfit_line why → TakesReply (Some why) world actor given left
+      → Replied actor given m text (record live { guest = Some left }) known
+  reply_misfits why writes takes = taken_by why writes takes
+
+-- ---- what is given to a world
+
+fits_or : (fit : Bool) → fit ≡ true → (if fit then None else Some StepError.Unfit) ≡ None
+fits_or true is = refl
+fits_or false is = cc
+
+given_not_refused : (op : Op) (given : Option Reply) → is_given op given ≡ true → refusal_of op given ≡ None
+given_not_refused (Op.Out act) None is = cc
+given_not_refused (Op.Out act) (Some reply) is = fits_or (out_fits act reply) is
+given_not_refused op None is = refl
+given_not_refused op (Some reply) is = cc
+
+pub world_lacks : (w after : WorldValue) (actor : ActorId) (given : Option Reply) → after ≡ w → want_in w actor ≡ None
+    → TakesReply (Some misfit.NoActor) w actor given after
+world_lacks w after actor given same none = (same, λ g world. not_there w g actor world none)
+
+pub world_busy : (w after : WorldValue) (actor : ActorId) (op : Op) (given : Option Reply) → after ≡ w → want_in w actor ≡ Some op
+    → is_host_op op ≡ false → TakesReply (Some misfit.NotWaiting) w actor given after
+world_busy w after actor op given same want own =
+    (same, λ g world. record { there = is_there w g actor op world want; op = op; wants = wanted w g actor op world want; own = own })
+
+pub world_unfit : (w after : WorldValue) (actor : ActorId) (op : Op) (given : Option Reply) → after ≡ w → want_in w actor ≡ Some op
+    → is_host_op op ≡ true → is_given op given ≡ false → TakesReply (Some misfit.Unfit) w actor given after
+world_unfit w after actor op given same want host unfit = (same, λ g world. record {
+  there = is_there w g actor op world want;
+  op = op;
+  wants = wanted w g actor op world want;
+  host = host;
+  unfit = unfit;
+})
+
+pub world_takes : (w after : WorldValue) (actor : ActorId) (op : Op) (given : Option Reply) (e : Entry) → want_in w actor ≡ Some op
+    → is_host_op op ≡ true → is_given op given ≡ true → MakesEvent w (record { actor = actor; reply = given }) e after
+    → TakesReply None w actor given after
+world_takes w after actor op given e want host fit made = λ g world. record {
+  there = is_there w g actor op world want;
+  op = op;
+  wants = wanted w g actor op world want;
+  host = host;
+  fit = fit;
+  entry = e;
+  end = guest_after g e;
+  unstamped = made.unstamped;
+  step = made.step g world;
+  world = made.stays g world;
+}
+
+-- where it fits the event is made
+pub world_never : (w after : WorldValue) (actor : ActorId) (op : Op) (given : Option Reply) (made : Bool) → after ≡ w → want_in w actor ≡ Some op
+    → is_given op given ≡ true → made ≡ false
+    → ((g : Guest) (o : Op) → IsWorld w g → Wants g actor o → refusal_of o given ≡ None → made ≡ true)
+    → TakesReply (Some misfit.Unfit) w actor given after
+world_never w after actor op given made same want fit failed promised = (same, λ g world.
+    let both : true ≡ false = sym (promised g op world (wanted w g actor op world want) (given_not_refused op given fit)) ∙ failed in absurd_bool both)
+  where
+    absurd_bool : {A : Type 0} → true ≡ false → A
+    absurd_bool is = absurd (Prim.cc is)
