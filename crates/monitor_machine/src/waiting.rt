@@ -1,5 +1,5 @@
 // The line of a step that comes to an act on a host object.
-ghost use Rattle.std.specs.Prelude.{◌≡◌, ◌++◌, codes, decimal, length, IfOk};
+ghost use Rattle.std.specs.Prelude.{◌≡◌, ◌≤◌, ◌+◌, ◌++◌, length, take, IfOk};
 ghost use Rattle.flat_machine.specs.Items.{steps_text};
 ghost use Rattle.script_text.specs.Output.{waits_line};
 
@@ -17,6 +17,15 @@ pub fn waits_room(alloc: Global) -> Result<Vec<u8>, AllocError>
     Ok(vec![in alloc; 0u8; MOST]?)
 }
 
+// Puts bytes at this place, over what is there. The front up to their end is the front before them, and they.
+fn put(room: &mut Vec<u8>, at: usize, bytes: &[u8])
+    requires { at + length bytes.now ≤ length room.old.items }
+    ensures front { take (at + length bytes.now) room.new.items ≡ take at room.old.items ++ bytes.now }
+    ensures size { length room.new.items ≡ length room.old.items }
+{
+    room[at..at + bytes.len()].copy_from_slice(bytes);
+}
+
 // The line in this room.
 fn waits_in(mut room: Vec<u8>, count: u64) -> ByteList
     requires { length room.items ≡ 49 }
@@ -25,9 +34,9 @@ fn waits_in(mut room: Vec<u8>, count: u64) -> ByteList
     let mut buffer = Buffer::new();
     let digits = buffer.format(count).as_bytes();
     let end = 8 + digits.len();
-    room[..8].copy_from_slice(b"? waits ");
-    room[8..end].copy_from_slice(digits);
-    room[end] = b'\n';
+    put(&mut room, 0, b"? waits ");
+    put(&mut room, 8, digits);
+    put(&mut room, end, b"\n");
     room.truncate(end + 1);
     ByteList::from_vec(room)
 }

@@ -1,4 +1,4 @@
 mod Booting
-mod Events
+pub mod Events
 mod Listed
 pub mod Running

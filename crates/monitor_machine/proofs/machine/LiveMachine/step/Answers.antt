@@ -12,7 +12,7 @@ returns-in_ok-misfit_line-in-None-clause-ok c = λ known m is.
 
 pub returns-in-Ok-clause-ok : goal.returns-in-Ok-clause-ok
 returns-in-Ok-clause-ok c = λ known m is.
-    step_moves c.args.self.now known m c.in-Some.guest c.run.new.self c.args.actor c.args.count _ _ is c.if-self.false c.in-Some.is (λ g here. sym (c.in-Ok.ensures.there g here)) c.new.ensures c.in-Ok.ensures.made
+    step_moves c.args.self.now known m c.in-Some.guest c.run.new.self c.args.actor c.args.count c.in-Ok.made c.is_off.result _ is c.if-self.false c.in-Some.is (λ g here. sym (c.in-Ok.ensures.there g here)) c.is_off.ensures c.steps_line.ensures c.in-Ok.ensures.made
 
 pub returns-in_ok-misfit_line-in-Err-clause-ok : goal.returns-in_ok-misfit_line-in-Err-clause-ok
 returns-in_ok-misfit_line-in-Err-clause-ok c = λ known m is.
