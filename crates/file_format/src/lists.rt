@@ -1,11 +1,11 @@
 // Lists of values, bytes and texts.
-ghost use Rattle.std.specs.Prelude.{◌≡◌, ◌<◌, ◌++◌, OnOk, IfOk, Some, None, Err};
+ghost use Rattle.std.specs.Prelude.{◌≡◌, ◌<◌, ◌++◌, OnOk, IfOk, length, Some, None, Err};
 ghost use Rattle.std.specs.Int.{w32, to_le_bytes};
 ghost use Rattle.std.specs.List.{AllByRecursion};
 ghost use Rattle.file_format.specs.Format.{Format};
 ghost use Rattle.file_format.specs.Kinds.{list_of, byte_list, text, times, raw};
 ghost use Rattle.file_format.specs.Readers.{put_all};
-ghost use Rattle.file_format.specs.Reading.{Takes};
+ghost use Rattle.file_format.specs.Reading.{Takes, Fills};
 
 use crate::error::ReadError;
 use crate::input::Input;
@@ -53,6 +53,21 @@ pub fn read_items<T: Stored>(
         items.push(item)?;
     }
     Ok(items)
+}
+
+/// Takes as many values from the front as there are places, and puts them there.
+#[tactic(auto, using(crate::proofs::Loops::fillings), unfolding(crate::specs::Kinds::times))]
+pub fn read_into<T: Stored>(
+    alloc: Global,
+    places: &mut [T],
+    input: &mut Input,
+) -> Result<(), ReadError>
+    ensures { Fills (times (length places.old) T.format) input.old input.new places.new result }
+{
+    for i in 0..places.len() {
+        places[i] = T::read(alloc, input)?;
+    }
+    Ok(())
 }
 
 #[tactic(auto, unfolding(crate::specs::Kinds::list_of, crate::specs::Kinds::number32, crate::specs::Kinds::times))]

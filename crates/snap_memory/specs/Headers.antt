@@ -1,82 +1,71 @@
--- The header of a memory file, 4,096 bytes. Numbers are little-endian.
-use Rattle.std.specs.Prelude.{◌≡◌, ℕ, suc, ◌==◌, nat_lt, Bool, true, false, not, ◌&&◌, ◌||◌, IsTrue, if◌then◌else◌, List, [], ◌∷◌, ◌++◌, length, take, drop, slice_index, replicate, Result, Ok, Err, refl}
+-- The header of a memory file: 4,096 bytes, and then the pages. Numbers are little-endian.
+use Rattle.std.specs.Prelude.{◌≡◌, ℕ, ◌&&◌, Bool, true, IsTrue, if◌then◌else◌, List, [], ◌∷◌, ◌++◌, replicate, refl}
+use Rattle.std.specs.Prelude.{Result, Ok, Err}
 use Rattle.std.specs.List.{list_all}
-use Rattle.std.specs.Str.{bytes_eq}
+use Rattle.vm_types.specs.declared.identity.Identity.{Identity}
 use Rattle.file_format.specs.Format.{Format}
-use Rattle.file_format.specs.Kinds.{byte, number32, number64, fixed, zeros, times, ◌&◌, made_of}
+use Rattle.file_format.specs.Kinds.{byte, number32, fixed, zeros, times, ◌&◌, made_of}
+use Rattle.file_format.specs.Identities.{identity, is_numbered}
 use Rattle.file_format.specs.declared.error.ReadError.{ReadError}
-use Rattle.file_format.specs.declared.error.ReadError.TheVariants as reads
+use Rattle.file_format.specs.declared.error.ReadError.TheVariants.{Bad, Memory}
 use Rattle.snap_memory.specs.declared.slot.Slot.{Slot}
-use Rattle.snap_memory.specs.declared.header.Header.{Header}
-use Rattle.snap_memory.specs.declared.header.HeaderError.{HeaderError}
-use Rattle.snap_memory.specs.declared.header.HeaderError.TheVariants as errors
-use Rattle.snap_memory.specs.Slots.{slot}
+use Rattle.snap_memory.specs.declared.header.MemHeader.{MemHeader}
+use Rattle.snap_memory.specs.Slots.{slot, is_open, is_zero}
 
 -- ---- the encoding
 
--- the gate, open; the magic "RVFCMEM"; version 1
-abbrev pub start : List ℕ
-start = 1 ∷ 82 ∷ 86 ∷ 70 ∷ 67 ∷ 77 ∷ 69 ∷ 77 ∷ 1 ∷ 0 ∷ 0 ∷ 0 ∷ []
+-- "RVFCMEM", and version 1
+abbrev pub magic : List ℕ
+magic = 82 ∷ 86 ∷ 70 ∷ 67 ∷ 77 ∷ 69 ∷ 77 ∷ 1 ∷ 0 ∷ 0 ∷ 0 ∷ []
 
--- pages, the identity, the merging byte and zeros to 64; 100 slots, and zeros to 4,096
-unfoldable pub header : Format Header
+-- the open gate, magic and version, the number of pages, the identity that the file was made with, the merging byte and
+-- zeros to 64; 100 slots, and zeros to 4,096
+unfoldable pub header : Format MemHeader
 header =
-    made_of (λ h. (tt, (h.pages, (h.lineage, (h.number, (h.merging, (tt, (h.slots, tt))))))))
-    (λ (_, (pages, (lineage, (number, (merging, (_, (slots, _))))))). record { pages = pages; lineage = lineage; number = number; merging = merging; slots = slots })
+    made_of (λ h. (tt, (tt, (h.pages, (h.made_as, (h.merging, (tt, (h.slots, tt))))))))
+    (λ (_, (_, (pages, (made_as, (merging, (_, (slots, _))))))).
+    record { pages = pages; made_as = made_as; merging = merging; slots = slots })
     (λ _. refl) (λ _. refl)
-    (fixed start & number32 & number64 & number64 & byte & zeros 31 & times 100 slot & zeros 832)
+    (fixed (1 ∷ []) & fixed magic & number32 & identity & byte & zeros 31 & times 100 slot & zeros 832)
 
--- ---- which headers a file can have
+-- ---- which headers there are
 
-abbrev pub is_number : ℕ → Bool
-is_number n = nat_lt 0 n && nat_lt n 0x8000_0000_0000_0000
-
-abbrev pub is_zero : Slot → Bool
-is_zero s = (s.lineage == 0) && (s.number == 0) && (s.gate == 0)
-
--- the leading open slots have numbers; the first that isn't open is free; those behind it are zeros
+-- Leading open slots have numbers. The first that isn't open is free, but for its 15 zeros; all behind it are zeros.
 abbrev pub are_slots : List Slot → Bool
 are_slots [] = true
-are_slots (s ∷ others) = if s.gate == 1 then is_number s.number && are_slots others else list_all is_zero others
+are_slots (s ∷ others) = if is_open s then is_numbered s.identity && are_slots others else list_all is_zero others
 
--- how many leading slots are open
-abbrev pub open_count : List Slot → ℕ
-open_count [] = 0
-open_count (s ∷ others) = if s.gate == 1 then suc (open_count others) else 0
+abbrev pub is_valid : MemHeader → Bool
+is_valid h = is_numbered h.made_as && are_slots h.slots
 
--- the identity: that of the last leading open slot, or the header's
-abbrev pub last_identity : ℕ × ℕ → List Slot → ℕ × ℕ
-last_identity own [] = own
-last_identity own (s ∷ others) = if s.gate == 1 then last_identity (s.lineage, s.number) others else own
+-- the identity of what the file holds: that of the last of the leading open slots, or the one that it was made with
+abbrev pub last_identity : Identity → List Slot → Identity
+last_identity made_as [] = made_as
+last_identity made_as (s ∷ others) = if is_open s then last_identity s.identity others else made_as
 
-abbrev pub is_valid : Header → Bool
-is_valid h = is_number h.number && are_slots h.slots
+abbrev pub identity_of : MemHeader → Identity
+identity_of h = last_identity h.made_as h.slots
 
--- the file begins with this header; pages follow it
-pub record Begins (given : List ℕ) (h : Header) : Type 0 where
+-- as a create makes it: no merge has begun
+abbrev pub new_header : ℕ → Identity → MemHeader
+new_header pages made_as = record {
+  pages = pages;
+  made_as = made_as;
+  merging = 0;
+  slots = replicate 100 (record { identity = record { lineage = 0; number = 0 }; gate = 0 });
+}
+
+-- these bytes begin with this header, and the pages follow it
+pub record Begins (given : List ℕ) (h : MemHeader) : Type 0 where
   pub fits : header.Fits h
   pub valid : IsTrue (is_valid h)
   pub pages : List ℕ
   pub bytes : given ≡ header.bytes h ++ pages
 
--- ---- the refusals, in their order
-
-abbrev pub is_closed : List ℕ → Bool
-is_closed given = nat_lt (length given) 4096 || not (slice_index given 0 == 1)
-
-abbrev pub is_other : List ℕ → Bool
-is_other given = not (bytes_eq (take 11 (drop 1 given)) (drop 1 start))
-
-abbrev pub Answers : List ℕ → Result Header HeaderError → Type 0
-Answers given (Ok h) = Begins given h
-Answers given (Err errors.Closed) = is_closed given ≡ true
-Answers given (Err errors.Version) = (is_closed given ≡ false) × (is_other given ≡ true)
-Answers given (Err errors.Bad) = (is_closed given ≡ false) × (is_other given ≡ false) × ((h : Header) → ¬ (Begins given h))
-Answers given (Err errors.Memory) = Unit {0}
-
 -- ---- for the parts of the code
 
-abbrev pub Found : List ℕ → Result Header ReadError → Type 0
+-- the header at a front whose gate, magic and version were tested
+abbrev pub Found : List ℕ → Result MemHeader ReadError → Type 0
 Found given (Ok h) = Begins given h
-Found given (Err reads.Bad) = (h : Header) → ¬ (Begins given h)
-Found given (Err reads.Memory) = Unit {0}
+Found given (Err Bad) = (h : MemHeader) → ¬ (Begins given h)
+Found given (Err Memory) = Unit {0}

@@ -1,105 +1,75 @@
 // A header.
-ghost use Rattle.std.specs.Prelude.{◌≡◌, OnOk};
+ghost use Rattle.std.specs.Prelude.{◌≡◌, ◌++◌, List, ℕ, IsTrue, IfOk, OnOk, length};
 ghost use Rattle.file_format.specs.Kinds.{times};
+ghost use Rattle.file_format.specs.Starts.{Decodes};
 ghost use Rattle.snap_memory.specs.Slots.{slot};
-ghost use Rattle.std.specs.List.{list_all};
-ghost use Rattle.snap_memory.specs.Headers.{header, is_number, is_zero, are_slots, last_identity, is_valid, Found, Answers};
+ghost use Rattle.snap_memory.specs.Headers.{magic, header, are_slots, identity_of, is_valid, new_header, Begins, Found};
 
-use crate::slot::Slot;
+use crate::slot::{Slot, are_zero, free_slots, read_slots};
 use file_format::{
-    Input, ReadError, Stored, read_fixed, read_items, read_zeros, write_fixed, write_items,
-    write_zeros,
+    DecodeError, Input, ReadError, Stored, is_closed, is_numbered, is_other, read_fixed, read_zeros, write_fixed,
+    write_items, write_zeros,
 };
-use file_format::Items;
 use std::alloc::{AllocError, Global};
+use vm_types::Identity;
+
+const HEADER_SIZE: usize = 4096;
+
+/// "RVFCMEM", and version 1.
+const MAGIC: [u8; 11] = [82, 86, 70, 67, 77, 69, 77, 1, 0, 0, 0];
 
 /// The header of a memory file.
 #[derive(Drop)]
-pub struct Header {
+pub struct MemHeader {
+    /// How many pages of 4,096 bytes follow it.
     pub pages: u32,
-    pub lineage: u64,
-    pub number: u64,
+    /// The identity that the file was made with.
+    pub made_as: Identity,
+    /// Not 0 while a merge is unfinished.
     pub merging: u8,
-    /// All 100 slots, as they stand in the file.
-    pub slots: Items<Slot>,
+    /// As they stand in the file. The leading open ones are merged; the first that isn't open may hold anything.
+    pub slots: [Slot; 100],
 }
-
-/// Why a header was not read: the first that fits.
-#[derive(Clone, Copy, Debug, PartialEq, Eq, Drop)]
-pub enum HeaderError {
-    /// The file is shorter than a header, or its gate is closed.
-    Closed,
-    /// Another magic or version.
-    Version,
-    /// No header begins so.
-    Bad,
-    /// There was no memory.
-    Memory,
-}
-
-const START: [u8; 12] = [1, 82, 86, 70, 67, 77, 69, 77, 1, 0, 0, 0];
 
 #[tactic(auto, unfolding(crate::specs::Headers::header))]
-impl Stored for Header {
+impl Stored for MemHeader {
     ghost format = { header };
 
     fn write(&self, out: &mut Vec<u8>) -> Result<(), AllocError> {
-        write_fixed(&START, out)?;
+        write_fixed(&[1], out)?;
+        write_fixed(&MAGIC, out)?;
         self.pages.write(out)?;
-        self.lineage.write(out)?;
-        self.number.write(out)?;
+        self.made_as.write(out)?;
         self.merging.write(out)?;
         write_zeros(31, out)?;
-        write_slots(self.slots.as_slice(), out)?;
+        write_slots(&self.slots, out)?;
         write_zeros(832, out)?;
         Ok(())
     }
 
-    fn read(alloc: Global, input: &mut Input) -> Result<Header, ReadError> {
-        read_fixed(&START, input)?;
-        let (pages, (lineage, (number, merging))) = Stored::read(alloc, input)?;
+    fn read(alloc: Global, input: &mut Input) -> Result<MemHeader, ReadError> {
+        read_fixed(&[1], input)?;
+        read_fixed(&MAGIC, input)?;
+        let (pages, (made_as, merging)) = Stored::read(alloc, input)?;
         read_zeros(31, input)?;
-        let slots = read_items(alloc, 100, input)?;
+        let slots = read_slots(alloc, input)?;
         read_zeros(832, input)?;
-        Ok(Header {
+        Ok(MemHeader {
             pages,
-            lineage,
-            number,
+            made_as,
             merging,
             slots,
         })
     }
 }
 
-// Exactly 100 slots.
 #[tactic(auto, unfolding(file_format::specs::Kinds::times))]
-fn write_slots(slots: &[Slot], out: &mut Vec<u8>) -> Result<(), AllocError>
+fn write_slots(slots: &[Slot; 100], out: &mut Vec<u8>) -> Result<(), AllocError>
     ensures fits { OnOk result ((times 100 slot).Fits slots.now) }
     ensures bytes { OnOk result (out.new.items ≡ (times 100 slot).puts slots.now out.old.items) }
 {
-    if slots.len() != 100 {
-        return Err(AllocError);
-    }
     write_items(slots, out)?;
     Ok(())
-}
-
-fn is_number(n: u64) -> bool
-    ensures { result ≡ is_number n }
-{
-    0 < n && n < 0x8000_0000_0000_0000
-}
-
-fn is_zero(slot: &Slot) -> bool
-    ensures { result ≡ is_zero slot.now }
-{
-    slot.lineage == 0 && slot.number == 0 && slot.gate == 0
-}
-
-fn are_zero(slots: &[Slot]) -> bool
-    ensures { result ≡ list_all is_zero slots.now }
-{
-    slots.iter().all(is_zero)
 }
 
 fn are_slots(slots: &[Slot]) -> bool
@@ -110,7 +80,7 @@ fn are_slots(slots: &[Slot]) -> bool
         if slot.gate != 1 {
             return are_zero(others);
         }
-        if !is_number(slot.number) {
+        if !is_numbered(slot.identity) {
             return false;
         }
         left = others;
@@ -118,54 +88,80 @@ fn are_slots(slots: &[Slot]) -> bool
     true
 }
 
-fn is_valid(header: &Header) -> bool
-    ensures { result ≡ is_valid header.now }
-{
-    is_number(header.number) && are_slots(header.slots.as_slice())
-}
-
-impl Header {
-    /// The identity of the copy: that of the last leading open slot, or the header's own.
-    pub fn identity(&self) -> (u64, u64)
-        ensures { result ≡ last_identity (self.now.lineage, self.now.number) self.now.slots }
-    {
-        let mut identity = (self.lineage, self.number);
-        for slot in self.slots.as_slice() {
-            if slot.gate != 1 {
-                return identity;
-            }
-            identity = (slot.lineage, slot.number);
-        }
-        identity
-    }
-}
-
-// The header at a front that is open, of this magic and version.
-fn header_of(alloc: Global, bytes: &[u8]) -> Result<Header, ReadError>
+// The header at a front whose gate, magic and version were tested.
+fn header_at(alloc: Global, bytes: &[u8]) -> Result<MemHeader, ReadError>
     ensures { Found bytes.now result }
 {
     let mut input = Input::new(bytes);
-    let header = Header::read(alloc, &mut input)?;
-    if is_valid(&header) {
+    let header: MemHeader = Stored::read(alloc, &mut input)?;
+    if header.is_valid() {
         Ok(header)
     } else {
         Err(ReadError::Bad)
     }
 }
 
-/// The header that a file begins with, or the first refusal that fits.
-pub fn read(alloc: Global, bytes: &[u8]) -> Result<Header, HeaderError>
-    ensures { Answers bytes.now result }
-{
-    if bytes.len() < 4096 || bytes[0] != 1 {
-        return Err(HeaderError::Closed);
+impl MemHeader {
+    /// The header of a new file of so many pages, into which nothing is merged.
+    pub fn new(pages: u32, made_as: Identity) -> MemHeader
+        ensures { result ≡ new_header pages made_as }
+    {
+        MemHeader {
+            pages,
+            made_as,
+            merging: 0,
+            slots: free_slots(),
+        }
     }
-    if bytes[1..12] != START[1..] {
-        return Err(HeaderError::Version);
+
+    /// The header that a file's bytes begin with, or the first refusal that fits. What follows the header isn't looked
+    /// at, and an unfinished merge is no refusal here: `merging` tells it.
+    pub fn read(alloc: Global, bytes: &[u8]) -> Result<MemHeader, DecodeError>
+        ensures { Decodes 4096 magic Begins bytes.now result }
+    {
+        if is_closed(bytes, HEADER_SIZE) {
+            return Err(DecodeError::GateClosed);
+        }
+        if is_other(bytes, &MAGIC) {
+            return Err(DecodeError::WrongMagic);
+        }
+        match header_at(alloc, bytes) {
+            Ok(header) => Ok(header),
+            Err(ReadError::Bad) => Err(DecodeError::BadField),
+            Err(ReadError::Memory) => Err(DecodeError::OutOfMemory),
+        }
     }
-    match header_of(alloc, bytes) {
-        Ok(header) => Ok(header),
-        Err(ReadError::Bad) => Err(HeaderError::Bad),
-        Err(ReadError::Memory) => Err(HeaderError::Memory),
+
+    /// The header's bytes, with its gate open. Whatever follows them, `read` answers this header.
+    pub fn encode(&self, alloc: Global) -> Result<Vec<u8>, AllocError>
+        requires { IsTrue (is_valid self.now) }
+        ensures begins { IfOk result (λ file. (pages : List ℕ) → Begins (file.items ++ pages) self.now) }
+        ensures size { IfOk result (λ file. length file.items ≡ 4096) }
+    {
+        let mut file = Vec::new(alloc);
+        self.write(&mut file)?;
+        Ok(file)
+    }
+
+    /// Whether a file can have it: the numbers are from 1 to below 2^63, and the slots behind the first that isn't open
+    /// are zeros.
+    pub fn is_valid(&self) -> bool
+        ensures { result ≡ is_valid self.now }
+    {
+        is_numbered(self.made_as) && are_slots(&self.slots)
+    }
+
+    /// The identity of what the file holds: that of the last of the leading open slots, or the one it was made with.
+    pub fn identity(&self) -> Identity
+        ensures { result ≡ identity_of self.now }
+    {
+        let mut identity = self.made_as;
+        for slot in &self.slots {
+            if slot.gate != 1 {
+                return identity;
+            }
+            identity = slot.identity;
+        }
+        identity
     }
 }

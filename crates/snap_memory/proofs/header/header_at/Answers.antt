@@ -3,7 +3,7 @@ use Rattle.std.proofs.lemmas.Result.{err_from_is_err_and}
 use Rattle.file_format.specs.Reading.{Takes}
 use Rattle.snap_memory.specs.Headers.{header}
 use Rattle.snap_memory.proofs.Fronts.{stuck, not_valid, begun}
-use Rattle.snap_memory.proofs.header.header_of.Goals as goal
+use Rattle.snap_memory.proofs.header.header_at.Goals as goal
 
 pub returns-in_err-header : goal.returns-in_err-header
 returns-in_err-header c =

@@ -1,6 +1,0 @@
-use Rattle.std.proofs.Common.{◌≡◌, drop}
-use Rattle.snap_memory.specs.Headers.{last_identity}
-use Rattle.snap_memory.proofs.header.Header.identity.Given as goal
-
-abbrev pub invariant-loop-slot : goal.invariant-loop-slot
-invariant-loop-slot l = last_identity l.identity (drop l.slot-index l.slot-items) ≡ last_identity (l.fn.self.lineage, l.fn.self.number) l.fn.self.slots
