@@ -1,70 +1,56 @@
--- The board: the console ring, and whether the guest is off.
-use Rattle.std.specs.Prelude.{ℕ, ◌-◌, ◌^◌, nat_lt, Bool, true, false, ◌&&◌, if◌then◌else◌, List, [], ◌∷◌, ◌++◌, length}
+-- The board: the console ring, whether the guest is off, guest time, interrupt lines, and the state of each hart.
+use Rattle.std.specs.Prelude.{ℕ, ◌-◌, ◌^◌, nat_lt, Bool, false, if◌then◌else◌, List, [], length, Option, Some, None, replicate, slice_index_or, slice_set}
 use Rattle.vm_types.specs.declared.ids.ActorId.{ActorId}
-use Rattle.vm_types.specs.declared.op.Op.{Op}
-use Rattle.vm_types.specs.declared.op.BoardOp.{BoardOp}
-use Rattle.vm_types.specs.declared.op.BoardOp.TheVariants.{Look, Putchar, Reset, Time, SoftwarePending}
-use Rattle.vm_types.specs.declared.reply.Reply.{Reply}
-use Rattle.vm_types.specs.declared.reply.Shown.TheVariants.{Pending}
+use Rattle.vm_types.specs.declared.ids.ActorId.TheVariants.{Hart}
+use Rattle.board_table.specs.declared.hart_state.HartState.{HartState}
+use Rattle.board_table.specs.declared.hart_state.HartState.TheVariants.{Started, Stopped}
 
--- the console's bytes that were not drained, oldest first
+-- The console's bytes that were not drained, oldest first. Guest time, in nanoseconds. The interrupt lines that are
+-- pending, line k by bit k. And for each hart by its number: the lines that it takes, by the same bits; whether its
+-- software interrupt is pending; the moment from which on its timer interrupt is; and whether it runs.
 pub record Board : Type 0 where
   pub console : List ℕ
   pub off : Bool
-
-abbrev pub new_board : Board
-new_board = record { console = []; off = false }
+  pub now : ℕ
+  pub pending : ℕ
+  pub enables : List ℕ
+  pub software : List Bool
+  pub deadlines : List ℕ
+  pub states : List HartState
 
 -- how many bytes the console ring holds
 abbrev pub ring_size : ℕ
 ring_size = 4096
 
--- A byte goes to the end of the ring, or finds it full. Once the guest is off nothing is stored, and the
--- reply is as if it had been.
-abbrev pub put_byte : Board → ℕ → Reply × Board
-put_byte b byte =
-    if b.off then (Reply.Done, b)
-    else if nat_lt (length b.console) ring_size then (Reply.Done, record b { console = b.console ++ byte ∷ [] })
-    else (Reply.Full, b)
+-- guest time stays at the last moment that there is
+abbrev pub last_moment : ℕ
+last_moment = 2 ^ 64 - 1
 
--- SBI, "System Reset Extension": shutdown, cold reboot and warm reboot, for no reason or a system
--- failure, each turn the guest off; else the error is SBI_ERR_INVALID_PARAM, which is -3
-abbrev pub invalid_parameter : ℕ
-invalid_parameter = 2 ^ 64 - 3
+-- the board of a machine that starts with so many harts: hart 0 runs, and all others are stopped
+abbrev pub new_board : ℕ → Board
+new_board harts = record {
+  console = [];
+  off = false;
+  now = 0;
+  pending = 0;
+  enables = replicate harts 0;
+  software = replicate harts false;
+  deadlines = replicate harts last_moment;
+  states = slice_set (replicate harts Stopped) 0 Started;
+}
 
-abbrev pub is_reset_allowed : ℕ → ℕ → Bool
-is_reset_allowed kind reason = nat_lt kind 3 && nat_lt reason 2
+-- how many harts there are
+abbrev pub hart_count : Board → ℕ
+hart_count b = length b.states
 
-abbrev pub reset_by : Board → ℕ → ℕ → Reply × Board
-reset_by b kind reason =
-    if is_reset_allowed kind reason then (Reply.Returned 0 0, record b { off = true })
-    else (Reply.Returned invalid_parameter 0, b)
+-- the number of an actor that is one of them
+abbrev pub hart_of : Board → ActorId → Option ℕ
+hart_of b (Hart k) = if nat_lt k (hart_count b) then Some k else None
+hart_of b actor = None
 
--- What each act on the board does. There is no timer and no interrupt yet: a look shows that nothing is pending, guest
--- time is 0, and the software-pending bit reads 0 and keeps nothing.
-abbrev pub board_act : Board → BoardOp → Reply × Board
-board_act b Look = (Reply.Shown (Pending 0), b)
-board_act b (Putchar byte) = put_byte b byte
-board_act b (Reset kind reason) = reset_by b kind reason
-board_act b Time = (Reply.Word 0, b)
-board_act b (SoftwarePending clear set) = (Reply.Word 0, b)
-board_act b act = (Reply.AccessFault, b)
+-- the state of a hart that is there
+abbrev pub state_of : Board → ℕ → HartState
+state_of b k = slice_index_or b.states k Stopped
 
--- What an act is answered by the board, and what it leaves. What isn't an act of the board's is an
--- access fault and changes nothing.
-abbrev pub touch : Board → ActorId → Op → Reply × Board
-touch b actor (Op.Board act) = board_act b act
-touch b actor op = (Reply.AccessFault, b)
-
--- the acts that there are so far
-abbrev pub is_known : BoardOp → Bool
-is_known Look = true
-is_known (Putchar byte) = true
-is_known (Reset kind reason) = true
-is_known Time = true
-is_known (SoftwarePending clear set) = true
-is_known act = false
-
-abbrev pub is_board_act : Op → Bool
-is_board_act (Op.Board act) = is_known act
-is_board_act op = false
+abbrev pub with_state : Board → ℕ → HartState → Board
+with_state b k state = record b { states = slice_set b.states k state }

@@ -1,5 +1,9 @@
-//! The board: the console ring, and whether the guest is off.
+//! The board: the console ring, whether the guest is off, guest time, interrupt lines, and the state of each hart.
 //!
 //! `specs/` says what an act on the board is answered and what it leaves, and that the answer fits the act.
 //! `line_board::Board` is the place that does it.
 #![tactic(auto)]
+
+mod hart_state;
+
+pub use hart_state::HartState;
