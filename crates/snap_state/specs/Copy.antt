@@ -1,0 +1,70 @@
+-- What a copy keeps of a machine that is on: how its board and its harts are those of the machine's definition.
+use Rattle.std.specs.Prelude.{ℕ, Bool, true, false, Option, Some, None, List}
+use Rattle.std.specs.List.{map}
+use Rattle.board_table.specs.Board.{Board}
+use Rattle.rv_supervisor.specs.declared.regs.Regs.{Regs}
+use Rattle.rv_supervisor.specs.declared.regs.Turn.{Turn}
+use Rattle.rv_supervisor.specs.declared.regs.Turn.TheVariants as turn
+use Rattle.rv_supervisor.specs.Csrs.{bit}
+use Rattle.hart_trace.specs.States.{Hart}
+use Rattle.snap_state.specs.declared.board.SavedBoard.{SavedBoard}
+use Rattle.snap_state.specs.declared.hart.SavedHart.{SavedHart}
+use Rattle.snap_state.specs.declared.hart.HartPlace.{HartPlace}
+use Rattle.snap_state.specs.declared.hart.HartPlace.TheVariants.{Begin, BeginWaiting, Idle, IdleWaiting, Access}
+use Rattle.snap_state.specs.declared.copy.StateCopy.{StateCopy}
+
+-- ---- harts
+
+-- What a hart begins next. A look is due at a begin alone.
+abbrev pub turn_of : Bool → HartPlace → Turn
+turn_of false Begin = turn.Fetch
+turn_of true Begin = turn.Look
+turn_of due BeginWaiting = turn.WakeLook
+turn_of due Idle = turn.Idle
+turn_of due IdleWaiting = turn.WakeIdle
+turn_of due (Access word) = turn.Fetch
+
+-- the instruction that it has begun
+abbrev pub begun_at : HartPlace → Option ℕ
+begun_at (Access word) = Some word
+begun_at _ = None
+
+abbrev pub regs_of : SavedHart → Regs
+regs_of h = record {
+  x = h.x;
+  pc = h.pc;
+  sie = h.sie;
+  stvec = h.stvec;
+  sscratch = h.sscratch;
+  sepc = h.sepc;
+  scause = h.scause;
+  stval = h.stval;
+  count = h.count;
+  held = h.held;
+  status_sie = bit 1 h.sstatus;
+  status_spie = bit 5 h.sstatus;
+  turn = turn_of h.is_look_due h.place;
+}
+
+abbrev pub hart_of : SavedHart → Hart
+hart_of h = record { regs = regs_of h; begun = begun_at h.place }
+
+abbrev pub harts_of : StateCopy → List Hart
+harts_of c = map hart_of c.harts
+
+-- ---- the board, which is on
+
+abbrev pub board_at : ℕ → SavedBoard → Board
+board_at now b = record {
+  console = b.console;
+  off = false;
+  now = now;
+  pending = b.pending;
+  enables = b.enables;
+  software = b.software;
+  deadlines = b.deadlines;
+  states = b.states;
+}
+
+abbrev pub board_of : StateCopy → Board
+board_of c = board_at c.now c.board
