@@ -21,13 +21,13 @@ reservation =
 unfoldable pub state_copy : Format StateCopy
 state_copy =
     made_of
-    (λ c. (c.configuration, (c.pages, (c.track_dirty_pages, (c.now, (c.board, (c.harts, (tt, c.reservations))))))))
-    (λ (configuration, (pages, (track_dirty_pages, (now, (board, (harts, (_, reservations))))))).
+    (λ c. (c.configuration, (c.pages, (c.track_dirty_pages, (c.guest_time, (c.board, (c.harts, (tt, c.reservations))))))))
+    (λ (configuration, (pages, (track_dirty_pages, (guest_time, (board, (harts, (_, reservations))))))).
     record {
       configuration = configuration;
       pages = pages;
       track_dirty_pages = track_dirty_pages;
-      now = now;
+      guest_time = guest_time;
       board = board;
       harts = harts;
       reservations = reservations;

@@ -1,6 +1,5 @@
 -- What a copy keeps of a machine that is on: how its board and its harts are those of the machine's definition.
-use Rattle.std.specs.Prelude.{ℕ, Bool, true, false, Option, Some, None, List}
-use Rattle.std.specs.List.{map}
+use Rattle.std.specs.Prelude.{ℕ, Bool, true, false, Option, Some, None, List, map}
 use Rattle.board_table.specs.Board.{Board}
 use Rattle.rv_supervisor.specs.declared.regs.Regs.{Regs}
 use Rattle.rv_supervisor.specs.declared.regs.Turn.{Turn}
@@ -67,4 +66,4 @@ board_at now b = record {
 }
 
 abbrev pub board_of : StateCopy → Board
-board_of c = board_at c.now c.board
+board_of c = board_at c.guest_time c.board

@@ -24,7 +24,7 @@ pub struct StateCopy {
     pub pages: u32,
     pub track_dirty_pages: bool,
     /// Guest time in nanoseconds.
-    pub now: u64,
+    pub guest_time: u64,
     pub board: SavedBoard,
     pub harts: Items<SavedHart>,
     /// By page and then by hart.
@@ -56,7 +56,7 @@ impl Stored for StateCopy {
         self.configuration.write(out)?;
         self.pages.write(out)?;
         self.track_dirty_pages.write(out)?;
-        self.now.write(out)?;
+        self.guest_time.write(out)?;
         self.board.write(out)?;
         self.harts.write(out)?;
         write_zeros(8, out)?;
@@ -65,7 +65,7 @@ impl Stored for StateCopy {
     }
 
     fn read(alloc: Global, input: &mut Input) -> Result<StateCopy, ReadError> {
-        let (configuration, (pages, (track_dirty_pages, (now, (board, harts))))) =
+        let (configuration, (pages, (track_dirty_pages, (guest_time, (board, harts))))) =
             Stored::read(alloc, input)?;
         read_zeros(8, input)?;
         let reservations = Stored::read(alloc, input)?;
@@ -73,7 +73,7 @@ impl Stored for StateCopy {
             configuration,
             pages,
             track_dirty_pages,
-            now,
+            guest_time,
             board,
             harts,
             reservations,
