@@ -1,10 +1,11 @@
 -- What a copy keeps of a machine that is on: how its board and its harts are those of the machine's definition.
-use Rattle.std.specs.Prelude.{ℕ, Bool, true, false, Option, Some, None, List, map}
+use Rattle.std.specs.Prelude.{◌≡◌, ℕ, Bool, true, false, Option, Some, None, List, map}
 use Rattle.board_table.specs.Board.{Board}
 use Rattle.rv_supervisor.specs.declared.regs.Regs.{Regs}
 use Rattle.rv_supervisor.specs.declared.regs.Turn.{Turn}
 use Rattle.rv_supervisor.specs.declared.regs.Turn.TheVariants as turn
-use Rattle.rv_supervisor.specs.Csrs.{bit}
+use Rattle.rv_supervisor.specs.declared.csr.HartCsr.TheVariants.{Sstatus}
+use Rattle.rv_supervisor.specs.Csrs.{bit, csr_value}
 use Rattle.hart_trace.specs.States.{Hart}
 use Rattle.snap_state.specs.declared.board.SavedBoard.{SavedBoard}
 use Rattle.snap_state.specs.declared.hart.SavedHart.{SavedHart}
@@ -67,3 +68,49 @@ board_at now b = record {
 
 abbrev pub board_of : StateCopy → Board
 board_of c = board_at c.guest_time c.board
+
+-- ---- and back: the copy of a hart, and of a board that is on
+
+abbrev pub is_due : Turn → Bool
+is_due turn.Look = true
+is_due turn.WakeLook = true
+is_due _ = false
+
+abbrev pub place_of : Option ℕ → Turn → HartPlace
+place_of (Some word) t = Access word
+place_of None turn.Fetch = Begin
+place_of None turn.Look = Begin
+place_of None turn.WakeLook = BeginWaiting
+place_of None turn.Idle = Idle
+place_of None turn.WakeIdle = IdleWaiting
+
+abbrev pub saved_hart : Hart → SavedHart
+saved_hart h = record {
+  x = h.regs.x;
+  pc = h.regs.pc;
+  sstatus = csr_value Sstatus h.regs;
+  sie = h.regs.sie;
+  stvec = h.regs.stvec;
+  sscratch = h.regs.sscratch;
+  sepc = h.regs.sepc;
+  scause = h.regs.scause;
+  stval = h.regs.stval;
+  count = h.regs.count;
+  is_look_due = is_due h.regs.turn;
+  held = h.regs.held;
+  place = place_of h.begun h.regs.turn;
+}
+
+abbrev pub saved_board : Board → SavedBoard
+saved_board b = record {
+  pending = b.pending;
+  enables = b.enables;
+  software = b.software;
+  deadlines = b.deadlines;
+  states = b.states;
+  console = b.console;
+}
+
+-- an instruction is begun by its fetch alone
+abbrev pub IsBegunByFetch : Hart → Type 0
+IsBegunByFetch h = (word : ℕ) → h.begun ≡ Some word → h.regs.turn ≡ turn.Fetch

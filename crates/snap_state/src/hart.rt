@@ -1,10 +1,10 @@
 // A hart.
-ghost use Rattle.std.specs.Prelude.{◌≡◌};
+ghost use Rattle.std.specs.Prelude.{◌≡◌, ◌≤◌};
 ghost use Rattle.snap_state.specs.Harts.{place, hart};
-ghost use Rattle.snap_state.specs.Copy.{turn_of, begun_at, regs_of};
+ghost use Rattle.snap_state.specs.Copy.{turn_of, begun_at, regs_of, place_of, saved_hart};
 
 use file_format::{Input, ReadError, Stored};
-use rv_supervisor::{Regs, Turn};
+use rv_supervisor::{HartCsr, Regs, Turn, csr_value};
 use std::alloc::{AllocError, Global};
 
 /// Where a hart is.
@@ -150,7 +150,41 @@ fn turn_of(is_look_due: bool, place: HartPlace) -> Turn
     }
 }
 
+fn place_of(begun: Option<u32>, turn: Turn) -> HartPlace
+    ensures { result ≡ place_of begun turn }
+{
+    match (begun, turn) {
+        (Some(word), _) => HartPlace::Access(word),
+        (None, Turn::Fetch | Turn::Look) => HartPlace::Begin,
+        (None, Turn::WakeLook) => HartPlace::BeginWaiting,
+        (None, Turn::Idle) => HartPlace::Idle,
+        (None, Turn::WakeIdle) => HartPlace::IdleWaiting,
+    }
+}
+
 impl SavedHart {
+    /// The copy of a hart with these registers and the word of the instruction that it has begun.
+    pub fn new(regs: &Regs, begun: Option<u32>) -> SavedHart
+        requires { regs.now.count ≤ 32 }
+        ensures { result ≡ saved_hart (record { regs = regs.now; begun = begun }) }
+    {
+        SavedHart {
+            x: regs.x,
+            pc: regs.pc,
+            sstatus: csr_value(HartCsr::Sstatus, regs),
+            sie: regs.sie,
+            stvec: regs.stvec,
+            sscratch: regs.sscratch,
+            sepc: regs.sepc,
+            scause: regs.scause,
+            stval: regs.stval,
+            count: regs.count as u8,
+            is_look_due: matches!(regs.turn, Turn::Look | Turn::WakeLook),
+            held: regs.held,
+            place: place_of(begun, regs.turn),
+        }
+    }
+
     /// The registers.
     pub fn regs(&self) -> Regs
         ensures { result ≡ regs_of self.now }

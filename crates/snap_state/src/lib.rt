@@ -22,5 +22,5 @@ pub use copy::{Reservation, StateCopy};
 pub use file::{Saved, decode, encode};
 pub use hart::{HartPlace, SavedHart};
 pub use hart_state::SavedHartState;
-pub use law::one_copy;
+pub use law::{one_copy, one_of_each};
 pub use valid::is_valid;
