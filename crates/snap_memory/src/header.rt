@@ -7,8 +7,8 @@ ghost use Rattle.snap_memory.specs.Headers.{magic, header, are_slots, identity_o
 
 use crate::slot::{Slot, are_zero, free_slots, read_slots};
 use file_format::{
-    DecodeError, Input, ReadError, Stored, is_closed, is_numbered, is_other, read_fixed, read_zeros, write_fixed,
-    write_items, write_zeros,
+    DecodeError, Input, ReadError, Stored, is_closed, is_numbered, is_other, read_fixed,
+    read_zeros, write_fixed, write_items, write_zeros,
 };
 use std::alloc::{AllocError, Global};
 use vm_types::Identity;

@@ -64,4 +64,4 @@ hart =
     })
     (λ _. refl) (λ _. refl)
     (times 31 number64 & number64 & number64 & number64 & number64 & number64 & number64 & number64 & number64 & byte
-        & flag & optional number64 & place)
+    & flag & optional number64 & place)

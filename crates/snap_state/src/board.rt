@@ -38,8 +38,9 @@ impl Stored for SavedBoard {
     }
 
     fn read(alloc: Global, input: &mut Input) -> Result<SavedBoard, ReadError> {
-        let (pending, (enables, (software, (deadlines, (states, console))))) =
-            Stored::read(alloc, input)?;
+        let (pending, (enables, (software, (deadlines, (states, console))))) = Stored::read(
+            alloc, input,
+        )?;
         Ok(SavedBoard {
             pending,
             enables,

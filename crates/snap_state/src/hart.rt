@@ -107,13 +107,7 @@ impl Stored for SavedHart {
                             stvec,
                             (
                                 sscratch,
-                                (
-                                    sepc,
-                                    (
-                                        scause,
-                                        (stval, (count, (is_look_due, (held, place)))),
-                                    ),
-                                ),
+                                (sepc, (scause, (stval, (count, (is_look_due, (held, place)))))),
                             ),
                         ),
                     ),

@@ -40,7 +40,9 @@ fn are_paths(path: &Option<TextList>) -> bool
 fn is_source(source: &BootSource) -> bool
     ensures { result ≡ is_source source.now }
 {
-    is_path(&source.kernel_image_path) && are_paths(&source.initrd_path) && source.boot_args.as_bytes().len() <= 2048
+    is_path(&source.kernel_image_path)
+        && are_paths(&source.initrd_path)
+        && source.boot_args.as_bytes().len() <= 2048
 }
 
 fn is_machine(machine: &MachineConfig) -> bool
