@@ -20,11 +20,14 @@ boot_source =
 unfoldable pub configuration : Format Configuration
 configuration =
     made_of
-    (λ c. (tt, (c.boot_source, (tt, (c.machine.vcpu_count, (c.machine.mem_size_mib, (tt, (c.machine.track_dirty_pages, tt))))))))
-    (λ (_, (boot_source, (_, (vcpu_count, (mem_size_mib, (_, (track_dirty_pages, _))))))).
+    (λ c. (
+      (tt, (c.boot_source, tt)),
+      (c.machine.vcpu_count, (c.machine.mem_size_mib, (tt, (c.machine.track_dirty_pages, tt)))),
+    ))
+    (λ ((_, (boot_source, _)), (vcpu_count, (mem_size_mib, (_, (track_dirty_pages, _))))).
     record {
       boot_source = boot_source;
       machine = record { vcpu_count = vcpu_count; mem_size_mib = mem_size_mib; track_dirty_pages = track_dirty_pages };
     })
     (λ _. refl) (λ _. refl)
-    (fixed (1 ∷ []) & boot_source & zeros 9 & number64 & number64 & zeros 1 & flag & zeros 2)
+    ((fixed (1 ∷ []) & boot_source & zeros 9) & (number64 & number64 & zeros 1 & flag & zeros 2))

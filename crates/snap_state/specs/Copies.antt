@@ -16,13 +16,16 @@ reservation =
     (λ _. refl) (λ _. refl)
     (number32 & number32 & number32)
 
--- The configuration, the number of pages, track_dirty_pages once more, guest time, the board and the harts; no ports
+-- The configuration, the number of pages, track_dirty_pages once more and guest time; the board and the harts; no ports
 -- and no devices, 4 zeros each; the reservations.
 unfoldable pub state_copy : Format StateCopy
 state_copy =
     made_of
-    (λ c. (c.configuration, (c.pages, (c.track_dirty_pages, (c.guest_time, (c.board, (c.harts, (tt, c.reservations))))))))
-    (λ (configuration, (pages, (track_dirty_pages, (guest_time, (board, (harts, (_, reservations))))))).
+    (λ c. (
+      (c.configuration, (c.pages, (c.track_dirty_pages, c.guest_time))),
+      (c.board, (c.harts, (tt, c.reservations))),
+    ))
+    (λ ((configuration, (pages, (track_dirty_pages, guest_time))), (board, (harts, (_, reservations)))).
     record {
       configuration = configuration;
       pages = pages;
@@ -33,4 +36,4 @@ state_copy =
       reservations = reservations;
     })
     (λ _. refl) (λ _. refl)
-    (configuration & number32 & flag & number64 & board & list_of hart & zeros 8 & list_of reservation)
+    ((configuration & number32 & flag & number64) & (board & list_of hart & zeros 8 & list_of reservation))

@@ -40,13 +40,25 @@ place_code-is (suc (suc (suc (suc (suc n))))) p fits = absurd fits
 unfoldable pub place : Format HartPlace
 place = chosen_by byte places place_code place_code-is
 
--- ---- the hart
+-- ---- the hart: x1 to x31 and pc; its CSRs; and where it is
 
 unfoldable pub hart : Format SavedHart
 hart =
     made_of
-    (λ h. (h.x, (h.pc, (h.sstatus, (h.sie, (h.stvec, (h.sscratch, (h.sepc, (h.scause, (h.stval, (h.count, (h.is_look_due, (h.held, h.place)))))))))))))
-    (λ (x, (pc, (sstatus, (sie, (stvec, (sscratch, (sepc, (scause, (stval, (count, (is_look_due, (held, place)))))))))))).
+    (λ h. (
+      (h.x, h.pc),
+      (
+        (h.sstatus, (h.sie, (h.stvec, (h.sscratch, (h.sepc, (h.scause, h.stval)))))),
+        (h.count, (h.is_look_due, (h.held, h.place))),
+      ),
+    ))
+    (λ (
+      (x, pc),
+      (
+        (sstatus, (sie, (stvec, (sscratch, (sepc, (scause, stval)))))),
+        (count, (is_look_due, (held, place))),
+      ),
+    ).
     record {
       x = x;
       pc = pc;
@@ -63,5 +75,6 @@ hart =
       place = place;
     })
     (λ _. refl) (λ _. refl)
-    (times 31 number64 & number64 & number64 & number64 & number64 & number64 & number64 & number64 & number64 & byte
-    & flag & optional number64 & place)
+    ((times 31 number64 & number64)
+    & (number64 & number64 & number64 & number64 & number64 & number64 & number64)
+    & (byte & flag & optional number64 & place))

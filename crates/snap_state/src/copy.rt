@@ -65,8 +65,8 @@ impl Stored for StateCopy {
     }
 
     fn read(alloc: Global, input: &mut Input) -> Result<StateCopy, ReadError> {
-        let (configuration, (pages, (track_dirty_pages, (guest_time, (board, harts))))) =
-            Stored::read(alloc, input)?;
+        let (configuration, (pages, (track_dirty_pages, guest_time))) = Stored::read(alloc, input)?;
+        let (board, harts) = Stored::read(alloc, input)?;
         read_zeros(8, input)?;
         let reservations = Stored::read(alloc, input)?;
         Ok(StateCopy {

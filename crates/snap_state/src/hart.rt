@@ -96,22 +96,10 @@ impl Stored for SavedHart {
 
     fn read(alloc: Global, input: &mut Input) -> Result<SavedHart, ReadError> {
         let (
-            x,
+            (x, pc),
             (
-                pc,
-                (
-                    sstatus,
-                    (
-                        sie,
-                        (
-                            stvec,
-                            (
-                                sscratch,
-                                (sepc, (scause, (stval, (count, (is_look_due, (held, place)))))),
-                            ),
-                        ),
-                    ),
-                ),
+                (sstatus, (sie, (stvec, (sscratch, (sepc, (scause, stval)))))),
+                (count, (is_look_due, (held, place))),
             ),
         ) = Stored::read(alloc, input)?;
         Ok(SavedHart {

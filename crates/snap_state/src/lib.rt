@@ -1,10 +1,10 @@
-//! The state file: what is kept of a machine that stands still, and how it is read back from bytes that anyone may have
-//! written.
+//! The state file: what is kept of a machine that stands still, and how it is read back from bytes that anyone may
+//! have written.
 //!
-//! `specs/Files.antt` says which bytes are a state file of which copy, and which refusal comes first, over the formats of
-//! the parts: `Configured`, `HartStates`, `Boards`, `Harts`, `Copies`. `Valid` says which copies there are, a line a
-//! rule. `encode` writes the file of a copy; `decode` answers the one copy that the bytes are a file of, or the first
-//! refusal that fits. `specs/Copy.antt` says of which board and of which harts a copy is.
+//! `specs/Files.antt` says which bytes are a state file of which copy, over the formats of the parts: `Configured`,
+//! `HartStates`, `Boards`, `Harts`, `Copies`. `Valid` says which copies there are, a line a rule. `encode` writes the
+//! file of a copy; `decode` answers the one copy that the bytes are a file of, or the first refusal that fits.
+//! `specs/Copy.antt` says of which board and of which harts a copy is.
 #![tactic(auto)]
 
 mod board;

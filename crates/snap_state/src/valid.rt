@@ -3,7 +3,9 @@ ghost use Rattle.std.specs.Prelude.{◌≡◌, ◌≤◌, Option, List, ℕ};
 ghost use Rattle.std.specs.List.{list_all};
 ghost use Rattle.std.specs.Option.{option_copied};
 ghost use Rattle.api_calls.specs.Form.{is_path};
-ghost use Rattle.snap_state.specs.Valid.{are_paths, is_source, is_machine, is_board, is_counted, is_aligned, has_bits, is_granule, asks, is_placed, is_hart, is_reserved, is_before, is_rising, has_machine, is_valid};
+ghost use Rattle.snap_state.specs.Valid.{are_paths, is_source, is_machine, is_board, is_counted, is_aligned};
+ghost use Rattle.snap_state.specs.Valid.{has_bits, is_granule, asks, is_placed, is_hart, is_reserved};
+ghost use Rattle.snap_state.specs.Valid.{is_before, is_rising, has_machine, is_valid};
 ghost use Rattle.snap_state.specs.Copy.{regs_of};
 
 use crate::board::SavedBoard;
