@@ -192,8 +192,8 @@ fn changed(
     out.extend_from_slice(inserted)?;
     out.extend_from_slice(behind)?;
     if out.len() >= 32 && at != 12 {
-        let len = (out.len() as u32).wrapping_sub(32);
-        out[12..16].copy_from_slice(&len.to_le_bytes());
+        let len = (out.len() as u64 - 32).to_le_bytes();
+        out[12..16].copy_from_slice(&len[..4]);
     }
     Ok(out)
 }
