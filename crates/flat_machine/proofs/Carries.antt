@@ -1,5 +1,5 @@
 -- The files of a create are loaded as the machine of its copy.
-use Rattle.std.proofs.Common.{◌≡◌, ◌≢◌, ℕ, ◌*◌, refl, sym, ap, subst, ◌∙◌, List, length, Option, Some, None, Result, Ok, Err}
+use Rattle.std.proofs.Common.{◌≡◌, ◌≢◌, ◌*◌, ap, subst, ◌∙◌, length, Option, Some, Result, Ok}
 use Rattle.vm_types.specs.Saved.{Saved}
 use Rattle.refusals.specs.declared.refusal.Refusal.{Refusal}
 use Rattle.api_calls.specs.declared.call.SnapshotFiles.{SnapshotFiles}
@@ -14,7 +14,7 @@ use Rattle.flat_snapshot.specs.Copies.{IsCopyOf}
 use Rattle.flat_snapshot.specs.Found.{Snapshot, found}
 use Rattle.flat_snapshot.proofs.Loaded.{found_again}
 use Rattle.flat_machine.specs.Machine.{Machine}
-use Rattle.flat_machine.specs.Requests.{Creates, Leaves, Loads, carried, created, next_identity}
+use Rattle.flat_machine.specs.Requests.{Creates, Leaves, Loads, carried, next_identity}
 
 -- what the files of a create can have
 abbrev pub CanSave : Machine → Guest → StateCopy → Type 0
