@@ -34,7 +34,7 @@ pub Writing-more : {A : Type 0} (item : Format A) (vs : List A) (i : ℕ) (v : A
     → Writing item vs (i + 1) old next
 Writing-more {A} item vs i v old now next so_far lt is fits put =
     let front : take (i + 1) vs ≡ take i vs ++ v ∷ [] = take_more vs i v lt
-        ∙ ap (λ (x : A). take i vs ++ x ∷ []) (sym is) in
+    ∙ ap (λ (x : A). take i vs ++ x ∷ []) (sym is) in
     let left : drop i vs ≡ v ∷ drop (i + 1) vs = drop_more vs i v lt ∙ ap (λ (x : A). x ∷ drop (i + 1) vs) (sym is) in
     record {
       fit = subst (AllByRecursion item.Fits) (sym front) (all_push item.Fits (take i vs) v so_far.fit fits);
@@ -44,9 +44,10 @@ Writing-more {A} item vs i v old now next so_far lt is fits put =
 
 pub Writing-all : {A : Type 0} (item : Format A) (vs : List A) (i : ℕ) (old now : List ℕ) → Writing item vs i old now
     → length vs ≤ i → AllByRecursion item.Fits vs × (now ≡ put_all item.puts vs old)
-Writing-all {A} item vs i old now so_far le =
-    (subst (AllByRecursion item.Fits) (all_taken vs i le) so_far.fit,
-        ap (λ (xs : List A). put_all item.puts xs now) (sym (none_left vs i le)) ∙ so_far.whole)
+Writing-all {A} item vs i old now so_far le = (
+  subst (AllByRecursion item.Fits) (all_taken vs i le) so_far.fit,
+  ap (λ (xs : List A). put_all item.puts xs now) (sym (none_left vs i le)) ∙ so_far.whole,
+)
 
 pub ruleset writings = (Writing-none, Writing-more, Writing-all)
 
@@ -70,8 +71,10 @@ front_none None = refl
 front_none (Some x) = refl
 
 pub Reading-none : {A : Type 0} (item : Format A) (count : ℕ) (old : List ℕ) → Reading item count 0 [] old old
-Reading-none item count old = record { whole = front_none (times_at item.reads (count - 0) old)
-    ∙ ap (λ n. times_at item.reads n old) (omega arith) }
+Reading-none item count old = record {
+  whole = front_none (times_at item.reads (count - 0) old)
+      ∙ ap (λ n. times_at item.reads n old) (omega arith);
+}
 
 pub Reading-more : {A : Type 0} (item : Format A) (count i : ℕ) (front : List A) (v : A) (old now next : List ℕ)
     → Reading item count i front old now → i < count → item.reads now ≡ Some (v, next)
@@ -79,8 +82,8 @@ pub Reading-more : {A : Type 0} (item : Format A) (count i : ℕ) (front : List 
 Reading-more {A} item count i front v old now next so_far lt read =
     let k : count - i ≡ suc (count - (i + 1)) = omega arith in
     let one : after front (times_at item.reads (count - i) now) ≡ after (front ++ v ∷ [])
-        (times_at item.reads (count - (i + 1)) next) =
-        rw (k, read) (regroup front v (times_at item.reads (count - (i + 1)) next)) in
+    (times_at item.reads (count - (i + 1)) next) =
+    rw (k, read) (regroup front v (times_at item.reads (count - (i + 1)) next)) in
     record { whole = sym one ∙ so_far.whole }
 
 pub Reading-stuck : {A : Type 0} (item : Format A) (count i : ℕ) (front : List A) (old now : List ℕ)
@@ -95,7 +98,7 @@ pub Reading-all : {A : Type 0} (item : Format A) (count i : ℕ) (front : List A
 Reading-all {A} item count i front old now so_far le =
     let k : count - i ≡ 0 = omega arith in
     let one : after front (times_at item.reads (count - i) now) ≡ Some (front, now) =
-        rw k (ap (λ (vs : List A). Some (vs, now)) (append-nil front)) in
+    rw k (ap (λ (vs : List A). Some (vs, now)) (append-nil front)) in
     sym so_far.whole ∙ one
 
 pub ruleset readings = (Reading-none, Reading-more, Reading-stuck, Reading-all)
@@ -130,6 +133,6 @@ pub Filling-all : {A : Type 0} (item : Format A) (count i : ℕ) (vs : List A) (
     → Filling item count i vs old now → count ≤ i → times_at item.reads count old ≡ Some (vs, now)
 Filling-all {A} item count i vs old now so_far le =
     Reading-all item count i (take i vs) old now so_far.reading le
-        ∙ ap (λ (x : List A). Some (x, now)) (all_taken vs i (omega (arith, so_far.len)))
+    ∙ ap (λ (x : List A). Some (x, now)) (all_taken vs i (omega (arith, so_far.len)))
 
 pub ruleset fillings = (Filling-none, Filling-more, Filling-stuck, Filling-all)

@@ -102,8 +102,8 @@ chosen_by first second key law = record {
   only = λ given v rest is e.
       let r = then_only first second given v rest is e in
       subst (λ k. (first.Fits k × (second k).Fits v)
-          × (given ≡ (first.bytes k ++ (second k).bytes v) ++ rest)) (law r.key v r.value_fits)
-          ((r.key_fits, r.value_fits), r.parts);
+      × (given ≡ (first.bytes k ++ (second k).bytes v) ++ rest)) (law r.key v r.value_fits)
+      ((r.key_fits, r.value_fits), r.parts);
 }
 
 -- a count of 32 bits, and so many values

@@ -31,7 +31,7 @@ get_or-behind (b ∷ front) rest i =
 IsBytes-rest : (given front rest : List ℕ) → given ≡ front ++ rest → IsBytes given → IsBytes rest
 IsBytes-rest given front rest e h i =
     subst (λ (n : ℕ). n < 256) (ap (λ (g : List ℕ). get_or g (length front + i) 0) e
-        ∙ get_or-behind front rest i) (h (length front + i))
+    ∙ get_or-behind front rest i) (h (length front + i))
 
 IsBytes-take : (n : ℕ) (given : List ℕ) → IsBytes given → IsBytes (take n given)
 IsBytes-take n given h i =
@@ -66,7 +66,7 @@ front_only n given v rest e =
     let h = front_of_some (ltb (length given) n) (take n given, drop n given) (v, rest) e in
     let long : n ≤ length given = ltb-false _ _ h.0 in
     subst (λ (p : List ℕ × List ℕ). (length p.0 ≡ n)
-        × (given ≡ p.0 ++ p.1)) h.1 (omega (arith, length-take n given), sym (take-append-drop n given))
+    × (given ≡ p.0 ++ p.1)) h.1 (omega (arith, length-take n given), sym (take-append-drop n given))
 
 -- ---- numbers
 
@@ -111,22 +111,28 @@ pub number_again : (w : Width) (limit : ℕ) (wide : IsWide w limit) (n : ℕ) (
 number_again w limit wide n rest lt =
     let len = wide.len n in
     let long : ltb (length (to_le_bytes w n ++ rest)) (byte_len w) ≡ false =
-        le-ltb _ _ (omega (arith, length-append (to_le_bytes w n) rest)) in
-    rw (long, take_at (to_le_bytes w n) rest (byte_len w) len, drop_at (to_le_bytes w n) rest (byte_len w) len,
-        wide.again n lt) refl
+    le-ltb _ _ (omega (arith, length-append (to_le_bytes w n) rest)) in
+    rw (
+      long,
+      take_at (to_le_bytes w n) rest (byte_len w) len,
+      drop_at (to_le_bytes w n) rest (byte_len w) len,
+      wide.again n lt,
+    ) refl
 
 pub number_only : (w : Width) (limit : ℕ) (wide : IsWide w limit) (given : List ℕ) (n : ℕ) (rest : List ℕ)
     → IsBytes given → number_at w given ≡ Some (n, rest) → (n < limit) × (given ≡ to_le_bytes w n ++ rest)
 number_only w limit wide given n rest is e =
     let h = number_of_some (ltb (length given) (byte_len w))
-        (from_le_bytes w (take (byte_len w) given), drop (byte_len w) given) (n, rest) e in
+    (from_le_bytes w (take (byte_len w) given), drop (byte_len w) given) (n, rest) e in
     let long : byte_len w ≤ length given = ltb-false _ _ h.0 in
     let front = take (byte_len w) given in
     let len : length front ≡ byte_len w = omega (arith, length-take (byte_len w) given) in
     let are = IsBytes-take (byte_len w) given is in
-    subst (λ (p : ℕ × List ℕ). (p.0 < limit) × (given ≡ to_le_bytes w p.0 ++ p.1)) h.1
-    (wide.below front are, sym (take-append-drop (byte_len w) given)
-        ∙ ap (λ (x : List ℕ). x ++ drop (byte_len w) given) (sym (wide.back front len are)))
+    subst (λ (p : ℕ × List ℕ). (p.0 < limit) × (given ≡ to_le_bytes w p.0 ++ p.1)) h.1 (
+      wide.below front are,
+      sym (take-append-drop (byte_len w) given)
+          ∙ ap (λ (x : List ℕ). x ++ drop (byte_len w) given) (sym (wide.back front len are)),
+    )
 
 -- ---- a value, and then one whose format the first one chooses
 
@@ -136,7 +142,7 @@ pub then_again : {A B : Type 0} (first : Format A) (second : A → Format B) (ke
 then_again {A} {B} first second key v rest f s =
     ap (then_at first.reads (λ a. (second a).reads)) (append_assoc (first.bytes key) ((second key).bytes v) rest)
     ∙ ap (option_and_then (λ (x : A × List ℕ). (second x.0).reads x.1))
-        (first.again key ((second key).bytes v ++ rest) f)
+    (first.again key ((second key).bytes v ++ rest) f)
     ∙ (second key).again v rest s
 
 -- what was read one after the other
@@ -169,7 +175,7 @@ pub both_same : {A B : Type 0} (first : Format A) (second : Format B) (a : A) (b
     → second.puts b (first.puts a out) ≡ out ++ (first.bytes a ++ second.bytes b)
 both_same first second a b out =
     second.same b (first.puts a out) ∙ ap (λ (x : List ℕ). x ++ second.bytes b) (first.same a out)
-        ∙ append_assoc out (first.bytes a) (second.bytes b)
+    ∙ append_assoc out (first.bytes a) (second.bytes b)
 
 pub pair_again : {A B : Type 0} (first : Format A) (second : Format B) (a : A) (b : B) (rest : List ℕ) → first.Fits a
     → second.Fits b
@@ -177,25 +183,27 @@ pub pair_again : {A B : Type 0} (first : Format A) (second : Format B) (a : A) (
 pair_again {A} {B} first second a b rest f s =
     ap (pair_at first.reads second.reads) (append_assoc (first.bytes a) (second.bytes b) rest)
     ∙ ap (option_and_then (λ (x : A × List ℕ). option_and_then (λ (y : B × List ℕ). Some ((x.0, y.0), y.1))
-        (second.reads x.1))) (first.again a (second.bytes b ++ rest) f)
+    (second.reads x.1))) (first.again a (second.bytes b ++ rest) f)
     ∙ ap (option_and_then (λ (y : B × List ℕ). Some ((a, y.0), y.1))) (second.again b rest s)
 
 pub pair_only : {A B : Type 0} (first : Format A) (second : Format B) (given : List ℕ) (v : A × B) (rest : List ℕ)
     → IsBytes given
     → pair_at first.reads second.reads given ≡ Some (v, rest) → (first.Fits v.0 × second.Fits v.1)
-        × (given ≡ (first.bytes v.0 ++ second.bytes v.1) ++ rest)
+    × (given ≡ (first.bytes v.0 ++ second.bytes v.1) ++ rest)
 pair_only {A} {B} first second given v rest is e =
     option_and_then_some (λ (x : A × List ℕ). option_and_then (λ (y : B × List ℕ). Some ((x.0, y.0), y.1))
-        (second.reads x.1)) (first.reads given) (v, rest) e
+    (second.reads x.1)) (first.reads given) (v, rest) e
     (λ x ex ey. option_and_then_some (λ (y : B × List ℕ). Some ((x.0, y.0), y.1)) (second.reads x.1) (v, rest) ey
     (λ y ez made.
     let a = first.only given x.0 x.1 is ex in
     let b = second.only x.1 y.0 y.1 (IsBytes-rest given (first.bytes x.0) x.1 a.1 is) ez in
     let same : ((x.0, y.0), y.1) ≡ (v, rest) = cc in
     subst (λ (p : (A × B) × List ℕ). (first.Fits p.0.0 × second.Fits p.0.1)
-        × (given ≡ (first.bytes p.0.0 ++ second.bytes p.0.1) ++ p.1)) same
-    ((a.0, b.0), a.1 ∙ ap (λ (r : List ℕ). first.bytes x.0 ++ r) b.1
-        ∙ sym (append_assoc (first.bytes x.0) (second.bytes y.0) y.1))))
+    × (given ≡ (first.bytes p.0.0 ++ second.bytes p.0.1) ++ p.1)) same (
+      (a.0, b.0),
+      a.1 ∙ ap (λ (r : List ℕ). first.bytes x.0 ++ r) b.1
+          ∙ sym (append_assoc (first.bytes x.0) (second.bytes y.0) y.1),
+    )))
 
 -- ---- so many values
 
@@ -204,7 +212,7 @@ pub all_same : {A : Type 0} (item : Format A) (vs : List A) (out : List ℕ)
 all_same item [] out = sym (append-nil out)
 all_same item (v ∷ vs) out =
     all_same item vs (item.puts v out) ∙ ap (λ (x : List ℕ). x ++ flat_map item.bytes vs) (item.same v out)
-        ∙ append_assoc out (item.bytes v) (flat_map item.bytes vs)
+    ∙ append_assoc out (item.bytes v) (flat_map item.bytes vs)
 
 pub list_same : {A : Type 0} (item : Format A) (count : List ℕ) (vs : List A) (out : List ℕ)
     → put_all item.puts vs (out ++ count) ≡ out ++ (count ++ flat_map item.bytes vs)
@@ -216,29 +224,31 @@ times_again {A} item [] rest fits = refl
 times_again {A} item (v ∷ vs) rest fits =
     ap (times_at item.reads (suc (length vs))) (append_assoc (item.bytes v) (flat_map item.bytes vs) rest)
     ∙ ap (option_and_then (λ (x : A × List ℕ). option_and_then (λ (y : List A × List ℕ). Some (x.0 ∷ y.0, y.1))
-        (times_at item.reads (length vs) x.1))) (item.again v (flat_map item.bytes vs ++ rest) fits.0)
+    (times_at item.reads (length vs) x.1))) (item.again v (flat_map item.bytes vs ++ rest) fits.0)
     ∙ ap (option_and_then (λ (y : List A × List ℕ). Some (v ∷ y.0, y.1))) (times_again item vs rest fits.1)
 
 pub times_only : {A : Type 0} (item : Format A) (n : ℕ) (given : List ℕ) (vs : List A) (rest : List ℕ) → IsBytes given
     → times_at item.reads n given ≡ Some (vs, rest) → ((length vs ≡ n) × AllByRecursion item.Fits vs)
-        × (given ≡ flat_map item.bytes vs ++ rest)
+    × (given ≡ flat_map item.bytes vs ++ rest)
 times_only {A} item zero given vs rest is e =
     let same : ([], given) ≡ (vs, rest) = cc in
     subst (λ (p : List A × List ℕ). ((length p.0 ≡ 0) × AllByRecursion item.Fits p.0)
-        × (given ≡ flat_map item.bytes p.0 ++ p.1)) same ((refl, tt), refl)
+    × (given ≡ flat_map item.bytes p.0 ++ p.1)) same ((refl, tt), refl)
 times_only {A} item (suc n) given vs rest is e =
     option_and_then_some (λ (x : A × List ℕ). option_and_then (λ (y : List A × List ℕ). Some (x.0 ∷ y.0, y.1))
-        (times_at item.reads n x.1)) (item.reads given) (vs, rest) e
+    (times_at item.reads n x.1)) (item.reads given) (vs, rest) e
     (λ x ex ey. option_and_then_some (λ (y : List A × List ℕ). Some (x.0 ∷ y.0, y.1)) (times_at item.reads n x.1)
-        (vs, rest) ey
+    (vs, rest) ey
     (λ y ez made.
     let a = item.only given x.0 x.1 is ex in
     let b = times_only item n x.1 y.0 y.1 (IsBytes-rest given (item.bytes x.0) x.1 a.1 is) ez in
     let same : (x.0 ∷ y.0, y.1) ≡ (vs, rest) = cc in
     subst (λ (p : List A × List ℕ). ((length p.0 ≡ suc n) × AllByRecursion item.Fits p.0)
-        × (given ≡ flat_map item.bytes p.0 ++ p.1)) same
-    ((ap suc b.0.0, (a.0, b.0.1)), a.1 ∙ ap (λ (r : List ℕ). item.bytes x.0 ++ r) b.1
-        ∙ sym (append_assoc (item.bytes x.0) (flat_map item.bytes y.0) y.1))))
+    × (given ≡ flat_map item.bytes p.0 ++ p.1)) same (
+      (ap suc b.0.0, (a.0, b.0.1)),
+      a.1 ∙ ap (λ (r : List ℕ). item.bytes x.0 ++ r) b.1
+          ∙ sym (append_assoc (item.bytes x.0) (flat_map item.bytes y.0) y.1),
+    )))
 
 -- ---- a value that passes a test
 
@@ -252,14 +262,14 @@ passing_again {A} test inner v rest fits passes =
 pub passing_only : {A : Type 0} (test : A → Bool) (inner : Format A) (given : List ℕ) (v : A) (rest : List ℕ)
     → IsBytes given
     → passing_at test inner.reads given ≡ Some (v, rest) → (inner.Fits v × IsTrue (test v))
-        × (given ≡ inner.bytes v ++ rest)
+    × (given ≡ inner.bytes v ++ rest)
 passing_only {A} test inner given v rest is e =
     option_and_then_some (λ (x : A × List ℕ). if test x.0 then Some x else None) (inner.reads given) (v, rest) e
     (λ x ex ey.
     let h = cond_some (test x.0) x (v, rest) ey in
     let a = inner.only given x.0 x.1 is ex in
     subst (λ (p : A × List ℕ). (inner.Fits p.0 × IsTrue (test p.0))
-        × (given ≡ inner.bytes p.0 ++ p.1)) h.1 ((a.0, h.0), a.1))
+    × (given ≡ inner.bytes p.0 ++ p.1)) h.1 ((a.0, h.0), a.1))
 
 -- ---- a record of values
 
@@ -292,10 +302,10 @@ pub flag_only : (given : List ℕ) (v : Bool) (rest : List ℕ) → flag_at give
 flag_only [] v rest e = absurd cc
 flag_only (zero ∷ given) v rest e =
     let same : (false, given) ≡ (v, rest) = cc in
-        subst (λ (p : Bool × List ℕ). 0 ∷ given ≡ flag_bytes p.0 ++ p.1) same refl
+    subst (λ (p : Bool × List ℕ). 0 ∷ given ≡ flag_bytes p.0 ++ p.1) same refl
 flag_only (suc zero ∷ given) v rest e =
     let same : (true, given) ≡ (v, rest) = cc in
-        subst (λ (p : Bool × List ℕ). 1 ∷ given ≡ flag_bytes p.0 ++ p.1) same refl
+    subst (λ (p : Bool × List ℕ). 1 ∷ given ≡ flag_bytes p.0 ++ p.1) same refl
 flag_only (suc (suc b) ∷ given) v rest e = absurd cc
 
 -- ---- a value that may be there
@@ -314,25 +324,25 @@ optional_again {A} item (Some v) rest fits = ap (option_and_then (λ (y : A × L
 optional_cases : {A : Type 0} (item : Format A) (given : List ℕ) (b : Bool) (after : List ℕ) (v : Option A)
     (rest : List ℕ) → IsBytes after → given ≡ flag_bytes b ++ after
     → cond b (option_and_then {U = Option A × List ℕ} (λ (y : A × List ℕ). Some (Some y.0, y.1)) (item.reads after))
-        (Some (None, after)) ≡ Some (v, rest) → IfSome v item.Fits × (given ≡ optional_bytes item.bytes v ++ rest)
+    (Some (None, after)) ≡ Some (v, rest) → IfSome v item.Fits × (given ≡ optional_bytes item.bytes v ++ rest)
 optional_cases {A} item given false after v rest is front e =
     let same : (None, after) ≡ (v, rest) = cc in
     subst (λ (p : Option A × List ℕ). IfSome p.0 item.Fits
-        × (given ≡ optional_bytes item.bytes p.0 ++ p.1)) same (tt, front)
+    × (given ≡ optional_bytes item.bytes p.0 ++ p.1)) same (tt, front)
 optional_cases {A} item given true after v rest is front e =
     option_and_then_some (λ (y : A × List ℕ). Some (Some y.0, y.1)) (item.reads after) (v, rest) e
     (λ y ey made.
     let a = item.only after y.0 y.1 is ey in
     let same : (Some y.0, y.1) ≡ (v, rest) = cc in
     subst (λ (p : Option A × List ℕ). IfSome p.0 item.Fits
-        × (given ≡ optional_bytes item.bytes p.0 ++ p.1)) same (a.0, front ∙ ap (λ (r : List ℕ). 1 ∷ r) a.1))
+    × (given ≡ optional_bytes item.bytes p.0 ++ p.1)) same (a.0, front ∙ ap (λ (r : List ℕ). 1 ∷ r) a.1))
 
 pub optional_only : {A : Type 0} (item : Format A) (given : List ℕ) (v : Option A) (rest : List ℕ) → IsBytes given
     → optional_at item.reads given ≡ Some (v, rest)
     → IfSome v item.Fits × (given ≡ optional_bytes item.bytes v ++ rest)
 optional_only {A} item given v rest is e =
     option_and_then_some (λ (x : Bool × List ℕ). if x.0 then option_and_then (λ (y : A × List ℕ). Some (Some y.0, y.1))
-        (item.reads x.1) else Some (None, x.1)) (flag_at given) (v, rest) e
+    (item.reads x.1) else Some (None, x.1)) (flag_at given) (v, rest) e
     (λ x ex ey.
     let front = flag_only given x.0 x.1 ex in
     optional_cases item given x.0 x.1 v rest (IsBytes-rest given (flag_bytes x.0) x.1 front is) front ey)
@@ -343,21 +353,21 @@ pub constant_again : {A : Type 0} (expected : List ℕ) (v u : A) (rest : List �
     → constant_at expected v (expected ++ rest) ≡ Some (u, rest)
 constant_again {A} expected v u rest e =
     let same : bytes_eq (take (length expected) (expected ++ rest)) expected ≡ true =
-        (bytes_eq-Decides (take (length expected) (expected ++ rest)) expected).1
-        (take_at expected rest (length expected) refl) in
+    (bytes_eq-Decides (take (length expected) (expected ++ rest)) expected).1
+    (take_at expected rest (length expected) refl) in
     ap (λ b. cond b (Some (v, drop (length expected) (expected ++ rest))) None) same
-        ∙ ap (λ (r : List ℕ). Some (v, r)) (drop_at expected rest (length expected) refl)
-        ∙ ap (λ (w : A). Some (w, rest)) (sym e)
+    ∙ ap (λ (r : List ℕ). Some (v, r)) (drop_at expected rest (length expected) refl)
+    ∙ ap (λ (w : A). Some (w, rest)) (sym e)
 
 pub constant_only : {A : Type 0} (expected : List ℕ) (v : A) (given : List ℕ) (u : A) (rest : List ℕ)
     → constant_at expected v given ≡ Some (u, rest) → (u ≡ v) × (given ≡ expected ++ rest)
 constant_only {A} expected v given u rest e =
     let h = cond_some (bytes_eq (take (length expected) given) expected) (v, drop (length expected) given)
-        (u, rest) e in
+    (u, rest) e in
     let front : take (length expected) given ≡ expected =
-        (bytes_eq-Decides (take (length expected) given) expected).0 h.0 in
+    (bytes_eq-Decides (take (length expected) given) expected).0 h.0 in
     let whole : given ≡ expected ++ drop (length expected) given = sym (take-append-drop (length expected) given)
-        ∙ ap (λ (x : List ℕ). x ++ drop (length expected) given) front in
+    ∙ ap (λ (x : List ℕ). x ++ drop (length expected) given) front in
     subst (λ (p : A × List ℕ). (p.0 ≡ v) × (given ≡ expected ++ p.1)) h.1 (refl, whole)
 
 -- ---- a value that is made of one part
@@ -372,16 +382,16 @@ variant_again {A} {B} make part inner v rest is fits =
 pub variant_only : {A B : Type 0} (make : A → B) (part : B → A) (inner : Format A) → ((a : A) → a ≡ part (make a))
     → (given : List ℕ) (v : B) (rest : List ℕ) → IsBytes given
     → made_at make inner.reads given ≡ Some (v, rest) → ((v ≡ make (part v)) × inner.Fits (part v))
-        × (given ≡ inner.bytes (part v) ++ rest)
+    × (given ≡ inner.bytes (part v) ++ rest)
 variant_only {A} {B} make part inner law given v rest is e =
     option_and_then_some (λ (x : A × List ℕ). Some (make x.0, x.1)) (inner.reads given) (v, rest) e
     (λ x ex made.
     let a = inner.only given x.0 x.1 is ex in
     let same : (make x.0, x.1) ≡ (v, rest) = cc in
     subst (λ (p : B × List ℕ). ((p.0 ≡ make (part p.0)) × inner.Fits (part p.0))
-        × (given ≡ inner.bytes (part p.0) ++ p.1)) same
+    × (given ≡ inner.bytes (part p.0) ++ p.1)) same
     (subst (λ (k : A). ((make x.0 ≡ make k) × inner.Fits k)
-        × (given ≡ inner.bytes k ++ x.1)) (law x.0) ((refl, a.0), a.1)))
+    × (given ≡ inner.bytes k ++ x.1)) (law x.0) ((refl, a.0), a.1)))
 
 -- ---- no value
 
@@ -409,17 +419,16 @@ zeros_are (b ∷ bs) e =
 pub zeros_again : (n : ℕ) (v : Unit {0}) (rest : List ℕ) → zeros_at n (replicate n 0 ++ rest) ≡ Some (v, rest)
 zeros_again n v rest =
     ap (option_and_then (λ (x : List ℕ × List ℕ). if are_zeros x.0 then Some (nothing_else, x.1) else None))
-        (front_again n (replicate n 0) rest (length-replicate n 0))
+    (front_again n (replicate n 0) rest (length-replicate n 0))
     ∙ ap (λ b. cond b (Some (nothing_else, rest)) None) (are_zeros-replicate n)
 
 pub zeros_only : (n : ℕ) (given : List ℕ) (v : Unit {0}) (rest : List ℕ) → zeros_at n given ≡ Some (v, rest)
     → given ≡ replicate n 0 ++ rest
 zeros_only n given v rest e =
     option_and_then_some (λ (x : List ℕ × List ℕ). if are_zeros x.0 then Some (nothing_else, x.1) else None)
-        (front_at n given) (v, rest) e
+    (front_at n given) (v, rest) e
     (λ x ex ey.
     let h = cond_some (are_zeros x.0) (nothing_else, x.1) (v, rest) ey in
     let f = front_only n given x.0 x.1 ex in
     let all : x.0 ≡ replicate n 0 = zeros_are x.0 h.0 ∙ ap (λ k. replicate k 0) f.0 in
     f.1 ∙ ap (λ (bs : List ℕ). bs ++ x.1) all ∙ ap (λ (p : Unit {0} × List ℕ). replicate n 0 ++ p.1) h.1)
-

@@ -1,6 +1,18 @@
 // What is left to read.
-ghost use Rattle.std.specs.Prelude.{◌≡◌, ◌↔◌, [], IfSome, IfNone, IsTrue, Some, None, length, take, drop,
-    if◌then◌else◌};
+ghost use Rattle.std.specs.Prelude.{
+  ◌≡◌,
+  ◌↔◌,
+  [],
+  IfSome,
+  IfNone,
+  IsTrue,
+  Some,
+  None,
+  length,
+  take,
+  drop,
+  if◌then◌else◌,
+};
 ghost use Rattle.std.specs.Str.{bytes_eq};
 ghost use Rattle.file_format.specs.Readers.{front_at};
 

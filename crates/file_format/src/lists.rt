@@ -11,8 +11,8 @@ use crate::error::ReadError;
 use crate::input::Input;
 use crate::items::Items;
 use crate::stored::Stored;
-use vm_types::{ByteList, TextList};
 use std::alloc::{AllocError, Global};
+use vm_types::{ByteList, TextList};
 
 // The count of a list. A longer one than a count can say is given up as if there were no memory.
 #[tactic(auto, unfolding(crate::specs::Kinds::number32))]
