@@ -1,3 +1,4 @@
+pub mod Carries
 pub mod Determined
 pub mod OneReplay
 pub mod Pushed

@@ -36,13 +36,17 @@ use Rattle.flat_guest.specs.Sound.{IsSound}
 use Rattle.flat_guest.specs.Steps.{Makes, is_given}
 use Rattle.flat_guest.proofs.Soundness.{actor_step, actor_steps, missing, sound_next, sound_restart, sound_start}
 use Rattle.gate_file.specs.Runs.{save_calls}
+use Rattle.api_calls.specs.declared.call.SnapshotFiles.{SnapshotFiles}
+use Rattle.flat_snapshot.specs.Found.{Snapshot, found}
+use Rattle.flat_snapshot.proofs.Copied.{some_copy}
+use Rattle.flat_snapshot.proofs.GoesOn.{carried_sound}
 use Rattle.flat_machine.specs.Given.{reply_given}
 use Rattle.flat_machine.specs.Outcome.{AreAnswered, Outcome}
 use Rattle.flat_machine.specs.Outcome.Outcome.{Answered}
 use Rattle.flat_machine.specs.Machine.{Machine, console_of, drained, drained_guest, is_off, new_machine, running, running_by}
 use Rattle.flat_machine.specs.Items.{Answers, ItemStep, MemoryLine, Misfits, Moves, RegisterLine, Replies, RepliesLine, Shows, ShowsFrom, StepsLine, Talks, steps_text}
 use Rattle.flat_machine.specs.Replay.{IsEnd, IsReplay, closed, closing, judged_script}
-use Rattle.flat_machine.specs.Requests.{Leaves, LeavesBy, RequestStep, allowed, answer_by, configured, halted, image_of, started_from}
+use Rattle.flat_machine.specs.Requests.{Creates, Leaves, LeavesBy, Loads, RequestStep, allowed, answer_by, carried, configured, created, halted, image_of, started_from}
 use Rattle.flat_machine.specs.Run.{Act, AllAnswered, OnBefore, Run, lines_done}
 use Rattle.flat_machine.proofs.Determined.{item_one}
 
@@ -70,6 +74,16 @@ halted_sound true guest sound = sound
 halted_sound false None sound = sound
 halted_sound false (Some g) sound = sound_restart g sound
 
+some_create : (guest : Option Guest) (m : Machine) (files : SnapshotFiles) → SoundBy guest → Sound m → (n : Machine) × Creates guest m files n × Sound n
+some_create None m files own sound = (m, refl, sound)
+some_create (Some g) m files own sound =
+    let copy = some_copy m.config g own in
+    (created m g.memory.bytes files copy.0, (copy.0, copy.1, refl), sound)
+
+some_load : (it : Result Snapshot Refusal) (m : Machine) (resumes : Bool) → Sound m → (n : Machine) × Loads it m resumes n × Sound n
+some_load (Ok it) m resumes sound = (carried m resumes it, refl, carried_sound it.copy it.bytes)
+some_load (Err why) m resumes sound = (m, refl, sound)
+
 -- what an allowed change leaves
 some_change : (it : Change) (m : Machine) → Sound m → (n : Machine) × Leaves m it n × Sound n
 some_change (change.BootSource source) m sound = (configured m (change.BootSource source), refl, sound)
@@ -79,8 +93,8 @@ some_change change.Start m sound =
 some_change (change.State Paused) m sound =
     (record m { guest = halted m.paused m.guest; paused = true }, refl, halted_sound m.paused m.guest sound)
 some_change (change.State Resumed) m sound = (record m { paused = false }, refl, sound)
-some_change (change.CreateSnapshot files) m sound = (m, refl, sound)
-some_change (change.LoadSnapshot load) m sound = (configured m (change.LoadSnapshot load), refl, sound)
+some_change (change.CreateSnapshot files) m sound = some_create m.guest m files sound sound
+some_change (change.LoadSnapshot load) m sound = some_load (found m.saved load.files) m load.resume_vm sound
 some_change (change.Tell part) m sound = (m, refl, sound)
 
 some_result : (made : Result Change Refusal) (m : Machine) → Sound m → (n : Machine) × LeavesBy m made n × Sound n
@@ -177,9 +191,9 @@ some_answer g actor given m own sound there =
       sound_next g (record { actor = actor; reply = given }) made.0 made.1 own made.3,
     ) in
     let fits : Does (λ text n. MatchBool (is_given want.0 given) (Answers g actor given m text n) (Misfits misfit.Unfit m text n)) =
-        does_by (is_given want.0 given) (Answers g actor given m) (Misfits misfit.Unfit m) answered (misfit_does misfit.Unfit m sound) in
+    does_by (is_given want.0 given) (Answers g actor given m) (Misfits misfit.Unfit m) answered (misfit_does misfit.Unfit m sound) in
     let line = does_by (is_host_op want.0) (λ text n. MatchBool (is_given want.0 given) (Answers g actor given m text n) (Misfits misfit.Unfit m text n)) (Misfits misfit.NotWaiting m)
-        (λ host. fits) (misfit_does misfit.NotWaiting m sound) in
+    (λ host. fits) (misfit_does misfit.NotWaiting m sound) in
     (line.0, line.1, (want.0, want.1, line.2), line.3)
 
 some_reply : (guest : Option Guest) (actor : ActorId) (given : Option Reply) (m : Machine) → Sound m → SoundBy guest

@@ -1,6 +1,8 @@
 -- What the flat machine makes of a request.
-use Rattle.std.specs.Prelude.{ℕ, ◌≡◌, true, false, List, length, Option, Some, None, option_map, Result, Ok, Err, Bool}
-use Rattle.std.specs.FinMap.{get}
+use Rattle.std.specs.Prelude.{ℕ, ◌≡◌, ◌≢◌, ◌+◌, Bool, true, false, not, List, ◌++◌, length, Option, Some, None, option_map, Result, Ok, Err}
+use Rattle.std.specs.FinMap.{get, insert}
+use Rattle.vm_types.specs.declared.identity.Identity.{Identity}
+use Rattle.vm_outside.specs.Calls.{MakesFront}
 use Rattle.vm_types.specs.Saved.{Saved}
 use Rattle.refusals.specs.declared.refusal.Refusal.{Refusal}
 use Rattle.refusals.specs.declared.refusal.Refusal.TheVariants as refusal
@@ -9,17 +11,24 @@ use Rattle.http_stream.specs.declared.request.Next.TheVariants as next
 use Rattle.api_calls.specs.declared.call.ApiCall.{ApiCall}
 use Rattle.api_calls.specs.declared.call.ApiCall.TheVariants as call
 use Rattle.api_calls.specs.declared.call.BootSource.{BootSource}
+use Rattle.api_calls.specs.declared.call.SnapshotFiles.{SnapshotFiles}
 use Rattle.api_calls.specs.declared.call.VmState.TheVariants.{Paused, Resumed}
 use Rattle.api_calls.specs.Call.{call_of, ◌>>=◌}
 use Rattle.vm_config.specs.declared.change.Change.{Change}
 use Rattle.vm_config.specs.declared.change.Change.TheVariants as change
 use Rattle.vm_config.specs.Changes.{changed}
 use Rattle.api_rules.specs.declared.answer.Answer.{Answer}
+use Rattle.api_rules.specs.declared.ids.Ids.{Ids}
 use Rattle.api_rules.specs.Answers.{accepted, refused}
 use Rattle.api_rules.specs.Table.{decision, image_refusal, unless}
 use Rattle.script_output.specs.Output.{reply_line}
 use Rattle.flat_guest.specs.Guest.{Guest}
 use Rattle.flat_guest.specs.Start.{started, timer_restarted}
+use Rattle.snap_state.specs.declared.copy.StateCopy.{StateCopy}
+use Rattle.flat_snapshot.specs.Carried.{carried_config, carried_guest}
+use Rattle.flat_snapshot.specs.Copies.{IsCopyOf}
+use Rattle.flat_snapshot.specs.Files.{calls_of, memory_file, state_file}
+use Rattle.flat_snapshot.specs.Found.{Snapshot, found}
 use Rattle.flat_machine.specs.Outcome.{Left, Outcome}
 use Rattle.flat_machine.specs.Outcome.Outcome.{Answered, Failed, NoMemory}
 use Rattle.flat_machine.specs.Machine.{Machine, phase_of}
@@ -49,9 +58,12 @@ image_by (Some source) saved = get saved source.kernel_image_path
 abbrev pub image_of : Machine → Option (List ℕ)
 image_of m = image_by m.config.boot_source m.saved
 
--- a start is also refused by the files, which it alone asks
+-- a start and a load are also refused by the files, which they alone ask
 abbrev pub by_files : Machine → Change → Result Change Refusal
 by_files m change.Start = unless (image_refusal m.config (option_map length (image_of m))) (Ok change.Start)
+by_files m (change.LoadSnapshot load) = do
+  _ ← found m.saved load.files
+  Ok (change.LoadSnapshot load)
 by_files m it = Ok it
 
 abbrev pub allowed : Machine → Next → Result Change Refusal
@@ -85,6 +97,43 @@ halted true guest = guest
 halted false None = None
 halted false (Some g) = Some (timer_restarted g)
 
+-- the identity of the next snapshot
+abbrev pub next_identity : Machine → Identity
+next_identity m = record { lineage = m.ids.lineage; number = m.ids.next }
+
+-- its number is spent
+abbrev pub spent : Machine → Ids
+spent m = record m.ids { next = m.ids.next + 1 }
+
+-- A create of this copy, of this memory: the files hold it, its calls were made, and it is the base from now on.
+abbrev pub created : Machine → List ℕ → SnapshotFiles → StateCopy → Machine
+created m bytes files copy = record m {
+  saved = insert (insert m.saved files.mem_file_path (memory_file (next_identity m) copy.pages bytes))
+      files.snapshot_path (state_file (next_identity m) copy);
+  calls = m.calls ++ calls_of files.mem_file_path files.snapshot_path (next_identity m) copy bytes;
+  ids = record (spent m) { base = Some (next_identity m) };
+}
+
+-- of the guest's own copy
+abbrev pub Creates : Option Guest → Machine → SnapshotFiles → Machine → Type 0
+Creates None m files n = n ≡ m
+Creates (Some g) m files n =
+    (copy : StateCopy) × IsCopyOf m.config g copy × (n ≡ created m g.memory.bytes files copy)
+
+-- A load of this snapshot: its guest goes on, or stands still; the machine keeps its id, its lineage, its connection and
+-- its files.
+abbrev pub carried : Machine → Bool → Snapshot → Machine
+carried m resumes it = record m {
+  ids = record { lineage = m.ids.lineage; base = Some it.identity; next = it.identity.number + 1 };
+  config = carried_config it.copy.configuration;
+  guest = Some (carried_guest it.copy it.bytes);
+  paused = not resumes;
+}
+
+abbrev pub Loads : Result Snapshot Refusal → Machine → Bool → Machine → Type 0
+Loads (Ok it) m resumes n = n ≡ carried m resumes it
+Loads (Err why) m resumes n = n ≡ m
+
 -- An allowed change leaves n of m.
 abbrev pub Leaves : Machine → Change → Machine → Type 0
 Leaves m (change.BootSource source) n = n ≡ configured m (change.BootSource source)
@@ -92,8 +141,8 @@ Leaves m (change.MachineConfig machine) n = n ≡ configured m (change.MachineCo
 Leaves m change.Start n = n ≡ configured (started_from (image_of m) m) change.Start
 Leaves m (change.State Paused) n = n ≡ record m { guest = halted m.paused m.guest; paused = true }
 Leaves m (change.State Resumed) n = n ≡ record m { paused = false }
-Leaves m (change.CreateSnapshot files) n = n ≡ m
-Leaves m (change.LoadSnapshot load) n = n ≡ configured m (change.LoadSnapshot load)
+Leaves m (change.CreateSnapshot files) n = Creates m.guest m files n
+Leaves m (change.LoadSnapshot load) n = Loads (found m.saved load.files) m load.resume_vm n
 Leaves m (change.Tell part) n = n ≡ m
 
 -- a refused call changes nothing
@@ -101,10 +150,27 @@ abbrev pub LeavesBy : Machine → Result Change Refusal → Machine → Type 0
 LeavesBy m (Ok it) n = Leaves m it n
 LeavesBy m (Err why) n = n ≡ m
 
--- what a change leaves of the files and the machine where a call on the files failed, which a start alone makes: it
--- changes nothing
+-- ---- what it leaves where a call on the files failed
+
+-- the files as before
+abbrev pub untouched : Machine → Left
+untouched m = record { saved = m.saved; calls = m.calls }
+
+-- A create: its two names hold anything, the first of its calls were made, and not all; its number is spent.
+abbrev pub CreateFails : Option Guest → Machine → SnapshotFiles → Left → Machine → Type 0
+CreateFails None m files left n = ⊥
+CreateFails (Some g) m files left n =
+    (copy : StateCopy) × IsCopyOf m.config g copy
+    × ((name : List ℕ) → name ≢ files.mem_file_path → name ≢ files.snapshot_path
+    → get left.saved name ≡ get m.saved name)
+    × MakesFront (calls_of files.mem_file_path files.snapshot_path (next_identity m) copy g.memory.bytes) m.calls left.calls
+    × (n ≡ record m { saved = left.saved; calls = left.calls; ids = spent m })
+
+-- a start or a load changes nothing; no other change calls the files
 abbrev pub Fails : Machine → Change → Left → Machine → Type 0
-Fails m change.Start left n = (left ≡ record { saved = m.saved; calls = m.calls }) × (n ≡ m)
+Fails m change.Start left n = (left ≡ untouched m) × (n ≡ m)
+Fails m (change.LoadSnapshot load) left n = (left ≡ untouched m) × (n ≡ m)
+Fails m (change.CreateSnapshot files) left n = CreateFails m.guest m files left n
 Fails m it left n = ⊥
 
 -- ---- what is due

@@ -1,5 +1,5 @@
 // What holds of every machine and script.
-ghost use Rattle.std.specs.Prelude.{[], ◌≡◌, ℕ, List};
+ghost use Rattle.std.specs.Prelude.{[], ◌≡◌, ◌≢◌, ◌*◌, ℕ, List, Some, length};
 ghost use Rattle.vm_types.specs.declared.exit.Exit.{Exit};
 ghost use Rattle.vm_types.specs.declared.exit.Object.{Object};
 ghost use Rattle.vm_types.specs.Saved.{Saved};
@@ -10,6 +10,16 @@ ghost use Rattle.flat_machine.specs.Outcome.{Outcome};
 ghost use Rattle.flat_machine.specs.Replay.{IsReplay};
 ghost use Rattle.flat_machine.specs.Run.{Act, AllAnswered, Run};
 ghost use Rattle.flat_machine.specs.Stops.{IsStopped};
+ghost use Rattle.api_calls.specs.declared.call.SnapshotFiles.{SnapshotFiles};
+ghost use Rattle.api_calls.specs.declared.call.SnapshotLoad.{SnapshotLoad};
+ghost use Rattle.vm_config.specs.declared.change.Change.TheVariants as change;
+ghost use Rattle.guest_memory.specs.Ram.{page_size};
+ghost use Rattle.flat_guest.specs.Guest.{Guest};
+ghost use Rattle.snap_memory.specs.Headers.{header, new_header};
+ghost use Rattle.snap_state.specs.declared.copy.StateCopy.{StateCopy};
+ghost use Rattle.snap_state.specs.Files.{IsSaved};
+ghost use Rattle.flat_snapshot.specs.Copies.{IsCopyOf};
+ghost use Rattle.flat_machine.specs.Requests.{Leaves, carried, next_identity};
 
 /// A run is determined: acts from one machine write one text and leave one machine.
 pub fn one_run()
@@ -50,4 +60,19 @@ pub fn whole_lines()
     ensures fault { (script id : List ℕ) (saved : Saved) (calls : List FileCall) (acts : List Act) (part : List Outcome)
         (name : Object) (text : List ℕ) (end : Machine) →
         IsStopped script (new_machine id saved calls) acts part (Exit.Fault name) text end → part ≡ [] }
+{}
+
+/// The two files of a create that was answered are loaded as the machine of that copy, by any machine whose files hold
+/// what they held then: its guest, its configuration and its identity are the copy's, and the rest is its own. The copy
+/// is one that the files can have, and its memory is all of its pages.
+pub fn create_then_load()
+    ensures { (m n k p : Machine) (g : Guest) (files : SnapshotFiles) (load : SnapshotLoad) →
+        m.guest ≡ Some g → files.mem_file_path ≢ files.snapshot_path →
+        ((copy : StateCopy) → IsCopyOf m.config g copy →
+        IsSaved (record { identity = next_identity m; copy = copy }) × header.Fits (new_header copy.pages (next_identity m))
+        × (length g.memory.bytes ≡ page_size * copy.pages)) →
+        Leaves m (change.CreateSnapshot files) n → load.files ≡ files → k.saved ≡ n.saved →
+        Leaves k (change.LoadSnapshot load) p →
+        (copy : StateCopy) × IsCopyOf m.config g copy
+        × (p ≡ carried k load.resume_vm (record { identity = next_identity m; copy = copy; bytes = g.memory.bytes })) }
 {}

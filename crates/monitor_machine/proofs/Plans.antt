@@ -35,7 +35,7 @@ use Rattle.monitor_plans.specs.Plans.{PlanCause, is_start, plan_answer}
 use Rattle.monitor_plans.specs.Starting.{StartGives, image_in, start_refusal}
 use Rattle.monitor_machine.specs.declared.machine.LiveMachine.{LiveMachine}
 use Rattle.monitor_machine.specs.declared.outcome.Outcome.{Outcome}
-use Rattle.monitor_machine.specs.Plans.{Answers, IsPlan, decided_call, halted_world, paused_by, phase_by, phase_of, plan_after, plan_line, plan_outcome, world_by}
+use Rattle.monitor_machine.specs.Plans.{Answers, IsPlan, decided_call, halted_world, is_snapshot, paused_by, phase_by, phase_of, plan_after, plan_line, plan_outcome, world_by}
 use Rattle.monitor_machine.specs.Replying.{OutcomeCause, Replies, calls_files, outcome_by}
 use Rattle.monitor_machine.specs.State.{IsGuestBy, IsLive, IsMachine}
 
@@ -59,23 +59,61 @@ decided_is live m request it own asks =
     ∙ ap (λ (i : Ids). decided_call (machine.phase_of m) m.config i it) own.ids_is
     ∙ sym (ap (λ (r : Result ApiCall Refusal). r >>= λ x. decided_call (machine.phase_of m) m.config m.ids x) asks)
 
+-- ---- what a call asks for
+
+unless_ok : (o : Option Refusal) (due : Result Change Refusal) (c : Change) → unless o due ≡ Ok c → due ≡ Ok c
+unless_ok None due c is = is
+unless_ok (Some why) due c is = cc
+
+same_change : (a b : Change) → ◌≡◌ {A = Result Change Refusal} (Ok a) (Ok b) → a ≡ b
+same_change a b is = cc
+
+change_is : (p : Phase) (config : Config) (ids : Ids) (it : ApiCall) (c : Change) → decision p config ids it ≡ Ok c → change_of config it ≡ c
+change_is p config ids it c is =
+    same_change (change_of config it) c
+    (unless_ok (own_refusal p config ids it) (Ok (change_of config it)) c
+    (unless_ok (misplaced (when_allowed it) p) (unless (own_refusal p config ids it) (Ok (change_of config it))) c is))
+
+-- no call that the monitor makes asks for a snapshot
+never_snapshot : (p : Phase) (config : Config) (ids : Ids) (it : ApiCall) (c : Change) → decided_call p config ids it ≡ Ok c
+    → is_snapshot c ≡ false
+never_snapshot p config ids (call.PutBootSource source) c is = ap is_snapshot (sym (change_is p config ids (call.PutBootSource source) c is))
+never_snapshot p config ids (call.PutMachineConfig machine) c is = ap is_snapshot (sym (change_is p config ids (call.PutMachineConfig machine) c is))
+never_snapshot p config ids (call.PatchMachineConfig patch) c is = ap is_snapshot (sym (change_is p config ids (call.PatchMachineConfig patch) c is))
+never_snapshot p config ids call.InstanceStart c is = ap is_snapshot (sym (change_is p config ids call.InstanceStart c is))
+never_snapshot p config ids (call.PatchVm state) c is = ap is_snapshot (sym (change_is p config ids (call.PatchVm state) c is))
+never_snapshot p config ids (call.CreateSnapshot files) c is = cc
+never_snapshot p config ids (call.LoadSnapshot load) c is = cc
+never_snapshot p config ids (call.Get part) c is = ap is_snapshot (sym (change_is p config ids (call.Get part) c is))
+
+never_by : (m : Machine) (asked : Result ApiCall Refusal) (c : Change)
+    → (asked >>= λ x. decided_call (machine.phase_of m) m.config m.ids x) ≡ Ok c → is_snapshot c ≡ false
+never_by m (Ok it) c is = never_snapshot (machine.phase_of m) m.config m.ids it c is
+never_by m (Err why) c is = cc
+
+never_due : (m : Machine) (given : Next) (c : Change) → decided m given ≡ Ok c → is_snapshot c ≡ false
+never_due m (next.Request request) c is = never_by m (call_of request) c is
+never_due m (next.Bad why) c is = cc
+never_due m next.None c is = cc
+
 -- ---- plans of each kind
 
 pub refused_plan : (m : Machine) (given : Next) (why : Refusal) → decided m given ≡ Err why → IsPlan (plan.Refused why) m given
 refused_plan m given why is = ap (λ (r : Result Change Refusal). r >>= by_files m) is
 
-not_start : (m : Machine) (it : Change) → is_start it ≡ false → by_files m it ≡ Ok it
-not_start m (change.BootSource source) unlike = refl
-not_start m (change.MachineConfig machine) unlike = refl
-not_start m change.Start unlike = cc
-not_start m (change.State state) unlike = refl
-not_start m (change.CreateSnapshot files) unlike = refl
-not_start m (change.LoadSnapshot load) unlike = refl
-not_start m (change.Tell part) unlike = refl
+not_start : (m : Machine) (it : Change) → is_start it ≡ false → is_snapshot it ≡ false → by_files m it ≡ Ok it
+not_start m (change.BootSource source) unlike plain = refl
+not_start m (change.MachineConfig machine) unlike plain = refl
+not_start m change.Start unlike plain = cc
+not_start m (change.State state) unlike plain = refl
+not_start m (change.CreateSnapshot files) unlike plain = cc
+not_start m (change.LoadSnapshot load) unlike plain = cc
+not_start m (change.Tell part) unlike plain = refl
 
 pub changes_plan : (m : Machine) (given : Next) (it : Change) → decided m given ≡ Ok it → is_start it ≡ false → IsPlan (plan.Changes it) m given
 changes_plan m given it is unlike =
-    (ap (λ (r : Result Change Refusal). r >>= by_files m) is ∙ not_start m it unlike, unlike)
+    let plain = never_due m given it is in
+    (ap (λ (r : Result Change Refusal). r >>= by_files m) is ∙ not_start m it unlike plain, unlike, plain)
 
 start_is : (it : Change) → is_start it ≡ true → it ≡ change.Start
 start_is (change.BootSource source) like = cc
@@ -170,23 +208,23 @@ left_is (change.CreateSnapshot files) paused w g is = is
 left_is (change.LoadSnapshot load) paused w g is = is
 left_is (change.Tell part) paused w g is = is
 
-plain_leaves : (m : Machine) (it : Change) → is_start it ≡ false → Leaves m it (plainly m it)
-plain_leaves m (change.BootSource source) unlike = refl
-plain_leaves m (change.MachineConfig machine) unlike = refl
-plain_leaves m change.Start unlike = cc
-plain_leaves m (change.State Paused) unlike = refl
-plain_leaves m (change.State Resumed) unlike = refl
-plain_leaves m (change.CreateSnapshot files) unlike = refl
-plain_leaves m (change.LoadSnapshot load) unlike = refl
-plain_leaves m (change.Tell part) unlike = refl
+plain_leaves : (m : Machine) (it : Change) → is_start it ≡ false → is_snapshot it ≡ false → Leaves m it (plainly m it)
+plain_leaves m (change.BootSource source) unlike plain = refl
+plain_leaves m (change.MachineConfig machine) unlike plain = refl
+plain_leaves m change.Start unlike plain = cc
+plain_leaves m (change.State Paused) unlike plain = refl
+plain_leaves m (change.State Resumed) unlike plain = refl
+plain_leaves m (change.CreateSnapshot files) unlike plain = cc
+plain_leaves m (change.LoadSnapshot load) unlike plain = cc
+plain_leaves m (change.Tell part) unlike plain = refl
 
 pub plan_does : (it : Plan) (live : LiveMachine) (known : FilesKnown) (m : Machine) (given : Next) → IsMachine live known m
     → IsPlan it m given → Does it m given (plan_line it live) (plan_after it live) known
 plan_does (plan.Refused why) live known m given is asks =
     (m, answered live known m m given (Err why) _ asks (line_is (plan.Refused why) live m is.own) refl, is)
-plan_does (plan.Changes it) live known m given is (asks, unlike) = (
+plan_does (plan.Changes it) live known m given is (asks, unlike, plain) = (
   plainly m it,
-  answered live known m (plainly m it) given (Ok it) _ asks (line_is (plan.Changes it) live m is.own) (plain_leaves m it unlike),
+  answered live known m (plainly m it) given (Ok it) _ asks (line_is (plan.Changes it) live m is.own) (plain_leaves m it unlike plain),
   record {
     own = record {
       id_is = is.own.id_is;
@@ -229,19 +267,6 @@ plan_does plan.FilesFailed live known m given is asks = (
 plan_does plan.NoMemory live known m given is asks = (m, (line_is plan.NoMemory live m is.own, refl), is)
 
 -- ---- only a start asks for a start
-
-unless_ok : (o : Option Refusal) (due : Result Change Refusal) (c : Change) → unless o due ≡ Ok c → due ≡ Ok c
-unless_ok None due c is = is
-unless_ok (Some why) due c is = cc
-
-same_change : (a b : Change) → ◌≡◌ {A = Result Change Refusal} (Ok a) (Ok b) → a ≡ b
-same_change a b is = cc
-
-change_is : (p : Phase) (config : Config) (ids : Ids) (it : ApiCall) (c : Change) → decision p config ids it ≡ Ok c → change_of config it ≡ c
-change_is p config ids it c is =
-    same_change (change_of config it) c
-    (unless_ok (own_refusal p config ids it) (Ok (change_of config it)) c
-    (unless_ok (misplaced (when_allowed it) p) (unless (own_refusal p config ids it) (Ok (change_of config it))) c is))
 
 unlike : (p : Phase) (config : Config) (ids : Ids) (it : ApiCall) (c d : Change) → decision p config ids it ≡ Ok c → is_start c ≡ true
     → change_of config it ≡ d → is_start d ≡ false → ⊥

@@ -40,10 +40,16 @@ decided_call p config ids it = do
   it ← built it
   decision p config ids it
 
+-- a create or a load, which the monitor doesn't make yet
+abbrev pub is_snapshot : Change → Bool
+is_snapshot (change.CreateSnapshot files) = true
+is_snapshot (change.LoadSnapshot load) = true
+is_snapshot it = false
+
 -- the plan is what the machine does where that is due; where a call on the files failed, it asked for a start
 abbrev pub IsPlan : Plan → Machine → Next → Type 0
 IsPlan (plan.Refused why) m given = allowed m given ≡ Err why
-IsPlan (plan.Changes it) m given = (allowed m given ≡ Ok it) × (is_start it ≡ false)
+IsPlan (plan.Changes it) m given = (allowed m given ≡ Ok it) × (is_start it ≡ false) × (is_snapshot it ≡ false)
 IsPlan (plan.Starts w) m given =
     (allowed m given ≡ Ok change.Start) × (image : List ℕ) × (image_of m ≡ Some image)
     × IsWorld w (started m.config.machine.vcpu_count m.config.machine.mem_size_mib image)

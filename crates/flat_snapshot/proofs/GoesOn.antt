@@ -1,0 +1,58 @@
+-- The guest that goes on from a snapshot is never stuck.
+use Rattle.std.proofs.Common.{◌≡◌, ℕ, zero, suc, Bool, true, false, refl, sym, subst, List, [], ◌∷◌, Option, Some, slice_get, map}
+use Rattle.vm_types.specs.declared.op.Op.{Op}
+use Rattle.vm_types.specs.declared.reply.Reply.{Reply}
+use Rattle.le_fields.specs.Fields.{bytes_of}
+use Rattle.rv_supervisor.specs.declared.regs.Regs.{Regs}
+use Rattle.rv_supervisor.specs.declared.regs.Turn.TheVariants as turn
+use Rattle.hart_trace.specs.Traces.{Continues, IsPrefix, opening}
+use Rattle.hart_trace.specs.States.{fresh}
+use Rattle.hart_trace.proofs.Traces.{any_reply, hart_continues, hart_prefix, leads_start}
+use Rattle.flat_guest.specs.Sound.{IsSound}
+use Rattle.flat_guest.proofs.Soundness.{sound_start}
+use Rattle.snap_state.specs.declared.hart.SavedHart.{SavedHart}
+use Rattle.snap_state.specs.declared.hart.HartPlace.{HartPlace}
+use Rattle.snap_state.specs.declared.hart.HartPlace.TheVariants.{Begin, BeginWaiting, Idle, IdleWaiting, Access}
+use Rattle.snap_state.specs.declared.copy.StateCopy.{StateCopy}
+use Rattle.snap_state.specs.Copy.{regs_of, turn_of}
+use Rattle.flat_snapshot.specs.Carried.{carried_guest, hart_steps, steps_at}
+
+none_yet : (start : Regs) → IsPrefix start []
+none_yet start = hart_prefix start [] (fresh start) (leads_start start)
+
+fetched : (start : Regs) (word : ℕ) → start.turn ≡ turn.Fetch
+    → IsPrefix start (record { op = Op.Read start.pc 4; reply = Reply.Bytes (bytes_of 4 word) } ∷ [])
+fetched start word fetches =
+    let wants : Continues start [] (Op.Read start.pc 4) =
+    subst (λ t. Continues start [] (opening t start)) fetches (hart_continues start [] (fresh start) (leads_start start)) in
+    any_reply start [] (Op.Read start.pc 4) (Reply.Bytes (bytes_of 4 word)) wants refl
+
+access_fetches : (due : Bool) (word : ℕ) → turn_of due (Access word) ≡ turn.Fetch
+access_fetches true word = refl
+access_fetches false word = refl
+
+at_place : (h : SavedHart) (place : HartPlace) → h.place ≡ place → IsPrefix (regs_of h) (steps_at place h.pc)
+at_place h Begin is = none_yet (regs_of h)
+at_place h BeginWaiting is = none_yet (regs_of h)
+at_place h Idle is = none_yet (regs_of h)
+at_place h IdleWaiting is = none_yet (regs_of h)
+at_place h (Access word) is =
+    fetched (regs_of h) word
+    (subst (λ (p : HartPlace). turn_of h.is_look_due p ≡ turn.Fetch) (sym is) (access_fetches h.is_look_due word))
+
+own : (h : SavedHart) (start : Regs) → ◌≡◌ {A = Option Regs} (Some (regs_of h)) (Some start) → IsPrefix start (steps_at h.place h.pc)
+own h start is =
+    let same : regs_of h ≡ start = cc in
+    subst (λ (r : Regs). IsPrefix r (steps_at h.place h.pc)) same (at_place h h.place refl)
+
+harts_on : (harts : List SavedHart) (k : ℕ) (start : Regs) → slice_get (map regs_of harts) k ≡ Some start
+    → IsPrefix start (hart_steps (slice_get harts k))
+harts_on [] k start is = cc
+harts_on (h ∷ harts) zero start is = own h start is
+harts_on (h ∷ harts) (suc k) start is = harts_on harts k start is
+
+pub carried_sound : (copy : StateCopy) (bytes : List ℕ) → IsSound (carried_guest copy bytes)
+carried_sound copy bytes = record {
+  timer_on = (sound_start 1 0 []).timer_on;
+  harts_on = λ k start is. harts_on copy.harts k start is;
+}

@@ -1,0 +1,166 @@
+-- The files of a create are found as its snapshot.
+use Rattle.std.proofs.Common.{◌≡◌, ◌≢◌, ℕ, ◌+◌, ◌*◌, Bool, true, not, ◌&&◌, eqb, if◌then◌else◌, List, [], ◌∷◌, ◌++◌, length, take, drop, Option, Some, Result, Ok, Err, refl, sym, ap, ◌∙◌, arith, length-append}
+use Rattle.std.proofs.lemmas.Bool.{eq-eqb}
+use Rattle.std.proofs.lemmas.List.{append-nil}
+use Rattle.std.proofs.Math.Seq.{drop-append_seam, take-append_seam}
+use Rattle.std.specs.Prelude.{IsTrue}
+use Rattle.std.specs.FinMap.{get, insert}
+use Rattle.vm_types.specs.Saved.{Saved}
+use Rattle.vm_types.specs.declared.identity.Identity.{Identity}
+use Rattle.refusals.specs.declared.refusal.Refusal.{Refusal}
+use Rattle.refusals.specs.declared.refusal.Refusal.TheVariants as refusal
+use Rattle.api_calls.specs.declared.call.SnapshotFiles.{SnapshotFiles}
+use Rattle.api_calls.specs.Call.{◌>>=◌}
+use Rattle.guest_memory.specs.Ram.{page_size}
+use Rattle.gate_file.proofs.Inserts.{got_other, got_there}
+use Rattle.file_format.specs.Kinds.{fixed, number32, number64}
+use Rattle.file_format.specs.Identities.{identity, is_numbered}
+use Rattle.file_format.specs.Starts.{is_other}
+use Rattle.snap_memory.specs.declared.header.MemHeader.{MemHeader}
+use Rattle.snap_memory.specs.Headers as memory
+use Rattle.snap_memory.proofs.Fronts as fronts
+use Rattle.snap_state.specs.declared.copy.StateCopy.{StateCopy}
+use Rattle.snap_state.specs.declared.file.Saved as file
+use Rattle.snap_state.specs.Copies.{state_copy}
+use Rattle.snap_state.specs.Files as state
+use Rattle.snap_state.proofs.Copies as copies
+use Rattle.flat_snapshot.specs.Files.{memory_file, memory_head, state_body, state_file}
+use Rattle.flat_snapshot.specs.Found.{found, is_same, memory_found, memory_front, memory_in, memory_judged, memory_read, state_found, state_in, state_read}
+
+all_true : (a b c : Bool) → a ≡ true → b ≡ true → c ≡ true → (a && b && c) ≡ true
+all_true a b c p q r = rw (p, q, r) refl
+
+-- ---- the state file
+
+-- what a file of a copy is found as
+module _ (given : List ℕ) (s : file.Saved) (e : state.Encodes given s) where
+  rest_is : drop 12 given ≡ state.contents.bytes (state.contents_of s)
+  rest_is = ap (drop 12) e.bytes
+
+  reads : state.contents.reads (drop 12 given) ≡ Some (state.contents_of s, [])
+  reads =
+      ap state.contents.reads (rest_is ∙ sym (append-nil (state.contents.bytes (state.contents_of s))))
+      ∙ state.contents.again (state.contents_of s) [] e.saved.fits
+
+  length-contents : (len : ℕ) → length (state.contents.bytes (len, (s.identity, s.copy))) ≡ 20 + length (state_copy.bytes s.copy)
+  unfolding number32 number64 identity
+  length-contents len = omega arith
+
+  accepted : state.is_accepted (length (drop 12 given)) 0 (length (state_copy.bytes s.copy)) s.identity s.copy ≡ true
+  accepted =
+      let size : length (drop 12 given) ≡ 20 + length (state_copy.bytes s.copy)
+      = ap length rest_is ∙ length-contents (length (state_copy.bytes s.copy)) in
+      all_true (eqb (length (state_copy.bytes s.copy) + 20) (length (drop 12 given))) _ _
+      (eq-eqb _ _ (omega (arith, size))) e.saved.numbered e.saved.valid
+
+  pub state_of_file : state_in given ≡ Ok (s.identity, s.copy)
+  state_of_file =
+      ap (λ (b : Bool). if b then Err refusal.GateClosed
+      else (if is_other state.magic given then Err refusal.WrongMagic
+      else state_read (length (drop 12 given)) (state.contents.reads (drop 12 given)))) (copies.opened given s e)
+      ∙ ap (λ (b : Bool). if b then Err refusal.WrongMagic
+      else state_read (length (drop 12 given)) (state.contents.reads (drop 12 given))) (copies.known given s e)
+      ∙ ap (λ r. state_read (length (drop 12 given)) r) reads
+      ∙ ap (λ (b : Bool). if b then Ok (s.identity, s.copy) else Err refusal.BadField) accepted
+
+-- the file of a create is one
+created : (i : Identity) (c : StateCopy) → state.IsSaved (record { identity = i; copy = c })
+    → state.Encodes (state_file i c) (record { identity = i; copy = c })
+unfolding state_body
+created i c saved = record { saved = saved; bytes = refl }
+
+state_again : (i : Identity) (c : StateCopy) → state.IsSaved (record { identity = i; copy = c }) → state_in (state_file i c) ≡ Ok (i, c)
+state_again i c saved = state_of_file (state_file i c) (record { identity = i; copy = c }) (created i c saved)
+
+-- ---- the memory file
+
+-- what a front that begins with a header is found as
+module _ (i : Identity) (pages size : ℕ) (front : List ℕ) (h : MemHeader) (b : memory.Begins front h) where
+  reads_header : memory.header.reads front ≡ Some (h, b.pages)
+  reads_header = ap memory.header.reads b.bytes ∙ memory.header.again h b.pages b.fits
+
+  pub front_of_header : memory_front i pages size front ≡ memory_judged i pages size h
+  front_of_header =
+      ap (λ (t : Bool). if t then Err refusal.GateClosed
+      else (if is_other memory.magic front then Err refusal.WrongMagic
+      else memory_read i pages size (memory.header.reads front))) (fronts.opened front h b)
+      ∙ ap (λ (t : Bool). if t then Err refusal.WrongMagic else memory_read i pages size (memory.header.reads front))
+      (fronts.known front h b)
+      ∙ ap (λ r. memory_read i pages size r) reads_header
+      ∙ ap (λ (t : Bool). if t then memory_judged i pages size h else Err refusal.BadField) b.valid
+
+module _ (i : Identity) (pages : ℕ) (bytes : List ℕ) (fits : memory.header.Fits (memory.new_header pages i))
+    (numbered : IsTrue (is_numbered i)) (whole : length bytes ≡ page_size * pages) where
+  abbrev h : MemHeader
+  h = memory.new_header pages i
+
+  abbrev given : List ℕ
+  given = memory_file i pages bytes
+
+  opens : (g : MemHeader) → 1 ∷ drop 1 (memory.header.bytes g) ≡ memory.header.bytes g
+  unfolding memory.header fixed
+  opens g = refl
+
+  memory_is : given ≡ memory.header.bytes h ++ bytes
+  unfolding memory_head
+  memory_is = ap (λ (l : List ℕ). l ++ bytes) (opens h)
+
+  front_is : take 4096 given ≡ memory.header.bytes h
+  front_is =
+      ap (take 4096) memory_is ∙ ap (λ (n : ℕ). take n (memory.header.bytes h ++ bytes)) (sym (fronts.length-header h fits))
+      ∙ take-append_seam (memory.header.bytes h) bytes
+
+  valid : memory.is_valid h ≡ true
+  valid = ap (λ (t : Bool). t && true) numbered
+
+  begins : memory.Begins (take 4096 given) h
+  begins = record { fits = fits; valid = valid; pages = []; bytes = front_is ∙ sym (append-nil (memory.header.bytes h)) }
+
+  size_is : length given ≡ 4096 + page_size * pages
+  size_is =
+      ap length memory_is ∙ length-append (memory.header.bytes h) bytes
+      ∙ ap (λ (n : ℕ). n + length bytes) (fronts.length-header h fits) ∙ ap (λ (n : ℕ). 4096 + n) whole
+
+  behind : drop 4096 given ≡ bytes
+  behind =
+      ap (drop 4096) memory_is ∙ ap (λ (n : ℕ). drop n (memory.header.bytes h ++ bytes)) (sym (fronts.length-header h fits))
+      ∙ drop-append_seam (memory.header.bytes h) bytes
+
+  same_identity : is_same i i ≡ true
+  same_identity =
+      ap (λ (t : Bool). t && eqb i.number i.number) (eq-eqb i.lineage i.lineage refl) ∙ eq-eqb i.number i.number refl
+
+  judged : memory_judged i pages (length given) h ≡ Ok tt
+  judged =
+      ap (λ (t : Bool). if not (t && eqb (length given) (4096 + page_size * pages)) then Err refusal.SizesDiffer
+      else (if not (is_same i i) then Err refusal.ParentDiffers else Ok tt)) (eq-eqb pages pages refl)
+      ∙ ap (λ (t : Bool). if not t then Err refusal.SizesDiffer
+      else (if not (is_same i i) then Err refusal.ParentDiffers else Ok tt)) (eq-eqb _ _ size_is)
+      ∙ ap (λ (t : Bool). if not t then Err refusal.ParentDiffers else Ok tt) same_identity
+
+  memory_again : memory_in i pages given ≡ Ok bytes
+  memory_again =
+      ap (λ (r : Result (Unit {0}) Refusal). r >>= λ _. Ok (drop 4096 given))
+      (front_of_header i pages (length given) (take 4096 given) h begins ∙ judged)
+      ∙ ap Ok behind
+
+-- ---- both
+
+pub found_again : (before : Saved) (files : SnapshotFiles) (i : Identity) (c : StateCopy) (bytes : List ℕ)
+    → files.mem_file_path ≢ files.snapshot_path → state.IsSaved (record { identity = i; copy = c })
+    → memory.header.Fits (memory.new_header c.pages i) → length bytes ≡ page_size * c.pages
+    → found (insert (insert before files.mem_file_path (memory_file i c.pages bytes)) files.snapshot_path (state_file i c)) files
+    ≡ Ok (record { identity = i; copy = c; bytes = bytes })
+unfolding found
+found_again before files i c bytes differ saved fits whole =
+    let with_memory = insert before files.mem_file_path (memory_file i c.pages bytes) in
+    let after = insert with_memory files.snapshot_path (state_file i c) in
+    let memory_there : get after files.mem_file_path ≡ Some (memory_file i c.pages bytes)
+    = got_other with_memory files.snapshot_path (state_file i c) files.mem_file_path differ
+    ∙ got_there before files.mem_file_path (memory_file i c.pages bytes) in
+    let state_there : get after files.snapshot_path ≡ Some (state_file i c)
+    = got_there with_memory files.snapshot_path (state_file i c) in
+    ap (λ (o : Option (List ℕ)). state_found o >>= λ s. memory_found s.0 s.1.pages (get after files.mem_file_path) >>= λ b. Ok (record { identity = s.0; copy = s.1; bytes = b })) state_there
+    ∙ ap (λ (r : Result (Identity × StateCopy) Refusal). r >>= λ s. memory_found s.0 s.1.pages (get after files.mem_file_path) >>= λ b. Ok (record { identity = s.0; copy = s.1; bytes = b })) (state_again i c saved)
+    ∙ ap (λ (o : Option (List ℕ)). memory_found i c.pages o >>= λ b. Ok (record { identity = i; copy = c; bytes = b })) memory_there
+    ∙ ap (λ (r : Result (List ℕ) Refusal). r >>= λ b. Ok (record { identity = i; copy = c; bytes = b })) (memory_again i c.pages bytes fits saved.numbered whole)

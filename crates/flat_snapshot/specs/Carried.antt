@@ -1,0 +1,53 @@
+-- The guest and the configuration that go on from a snapshot.
+use Rattle.std.specs.Prelude.{ℕ, ◌+◌, ◌*◌, true, false, List, [], ◌∷◌, Option, Some, None, map, slice_get, slice_set}
+use Rattle.vm_types.specs.declared.ids.ActorId.{ActorId}
+use Rattle.vm_types.specs.declared.ids.ActorId.TheVariants.{Hart as HartId}
+use Rattle.vm_types.specs.declared.op.Op.{Op}
+use Rattle.vm_types.specs.declared.reply.Reply.{Reply}
+use Rattle.vm_types.specs.declared.entry.Step.{Step}
+use Rattle.vm_config.specs.declared.config.Config.{Config}
+use Rattle.le_fields.specs.Fields.{bytes_of}
+use Rattle.guest_memory.specs.Reserved.{hart_limit, unreserved}
+use Rattle.flat_guest.specs.Guest.{Guest}
+use Rattle.snap_state.specs.declared.configuration.Configuration.{Configuration}
+use Rattle.snap_state.specs.declared.hart.SavedHart.{SavedHart}
+use Rattle.snap_state.specs.declared.hart.HartPlace.{HartPlace}
+use Rattle.snap_state.specs.declared.hart.HartPlace.TheVariants.{Access}
+use Rattle.snap_state.specs.declared.copy.Reservation.{Reservation}
+use Rattle.snap_state.specs.declared.copy.StateCopy.{StateCopy}
+use Rattle.snap_state.specs.Copy.{board_of, regs_of}
+
+-- the steps of a hart that goes on: none; or the fetch of the word whose access it wants
+abbrev pub steps_at : HartPlace → ℕ → List Step
+steps_at (Access word) pc = record { op = Op.Read pc 4; reply = Reply.Bytes (bytes_of 4 word) } ∷ []
+steps_at place pc = []
+
+abbrev pub hart_steps : Option SavedHart → List Step
+hart_steps None = []
+hart_steps (Some h) = steps_at h.place h.pc
+
+-- the timer goes on from its start
+abbrev pub steps_from : List SavedHart → ActorId → List Step
+steps_from harts (HartId k) = hart_steps (slice_get harts k)
+steps_from harts actor = []
+
+-- the slots in which just this is reserved
+abbrev pub slots_with : List Reservation → List (Option ℕ) → List (Option ℕ)
+slots_with [] slots = slots
+slots_with (r ∷ others) slots = slots_with others (slice_set slots (hart_limit * r.page + r.hart) (Some r.offset))
+
+abbrev pub carried_guest : StateCopy → List ℕ → Guest
+carried_guest copy bytes = record {
+  memory = record { bytes = bytes; reserved = slots_with copy.reservations (unreserved copy.pages) };
+  board = board_of copy;
+  starts = map regs_of copy.harts;
+  steps = steps_from copy.harts;
+}
+
+-- the configuration of the copy, in which no dirty page is tracked
+abbrev pub carried_config : Configuration → Config
+carried_config c = record {
+  boot_source = Some (record { kernel_image_path = c.boot_source.kernel_image_path });
+  machine = record c.machine { track_dirty_pages = false };
+  configured = true;
+}

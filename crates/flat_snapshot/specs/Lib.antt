@@ -1,0 +1,4 @@
+pub mod Carried
+pub mod Copies
+pub mod Files
+pub mod Found

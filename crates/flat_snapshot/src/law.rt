@@ -1,0 +1,39 @@
+// What holds of every guest, and of every snapshot.
+ghost use Rattle.std.specs.Prelude.{◌≡◌, ◌≢◌, ◌*◌, ℕ, List, Ok, length};
+ghost use Rattle.std.specs.FinMap.{insert};
+ghost use Rattle.vm_types.specs.Saved.{Saved};
+ghost use Rattle.vm_types.specs.declared.identity.Identity.{Identity};
+ghost use Rattle.api_calls.specs.declared.call.SnapshotFiles.{SnapshotFiles};
+ghost use Rattle.guest_memory.specs.Ram.{page_size};
+ghost use Rattle.snap_memory.specs.Headers.{header, new_header};
+ghost use Rattle.snap_state.specs.Files.{IsSaved};
+ghost use Rattle.flat_snapshot.specs.Files.{memory_file, state_file};
+ghost use Rattle.flat_snapshot.specs.Found.{found};
+ghost use Rattle.vm_config.specs.declared.config.Config.{Config};
+ghost use Rattle.flat_guest.specs.Guest.{Guest};
+ghost use Rattle.flat_guest.specs.Sound.{IsSound};
+ghost use Rattle.snap_state.specs.declared.copy.StateCopy.{StateCopy};
+ghost use Rattle.flat_snapshot.specs.Carried.{carried_guest};
+ghost use Rattle.flat_snapshot.specs.Copies.{IsCopyOf};
+
+/// A guest has one copy at most, and one that is never stuck has one.
+pub fn one_copy_of()
+    ensures one { (config : Config) (g : Guest) (first second : StateCopy) →
+        IsCopyOf config g first → IsCopyOf config g second → first ≡ second }
+    ensures some { (config : Config) (g : Guest) → IsSound g → (copy : StateCopy) × IsCopyOf config g copy }
+{}
+
+/// The guest that goes on from a snapshot is never stuck.
+pub fn goes_on()
+    ensures { (copy : StateCopy) (bytes : List ℕ) → IsSound (carried_guest copy bytes) }
+{}
+
+/// Where a create put the two files of a copy that a state file can have, of a memory of its pages, a load finds just
+/// this snapshot.
+pub fn create_then_load()
+    ensures { (before : Saved) (files : SnapshotFiles) (identity : Identity) (copy : StateCopy) (bytes : List ℕ) →
+        files.mem_file_path ≢ files.snapshot_path → IsSaved (record { identity = identity; copy = copy }) →
+        header.Fits (new_header copy.pages identity) → length bytes ≡ page_size * copy.pages →
+        found (insert (insert before files.mem_file_path (memory_file identity copy.pages bytes)) files.snapshot_path
+        (state_file identity copy)) files ≡ Ok (record { identity = identity; copy = copy; bytes = bytes }) }
+{}

@@ -1,0 +1,48 @@
+-- What an answer is of what the flat machine finds.
+use Rattle.std.specs.Prelude.{◌≡◌, ℕ, List, length, take, Option, Some, None, Result, Ok, Err}
+use Rattle.vm_types.specs.Causes.{Rose}
+use Rattle.vm_types.specs.declared.identity.Identity.{Identity}
+use Rattle.refusals.specs.declared.refusal.Refusal.{Refusal}
+use Rattle.refusals.specs.declared.refusal.Refusal.TheVariants as refusal
+use Rattle.guest_pages.specs.Pages.{flat_of}
+use Rattle.file_format.specs.declared.error.DecodeError.{DecodeError}
+use Rattle.snap_state.specs.declared.copy.StateCopy.{StateCopy}
+use Rattle.snap_state.specs.declared.file.Saved.{Saved}
+use Rattle.flat_snapshot.specs.Found.{Snapshot, memory_front}
+use Rattle.snap_finding.specs.declared.finding.FindError.{FindError}
+use Rattle.snap_finding.specs.declared.finding.FindError.TheVariants.{Refused, Fault, OutOfMemory}
+use Rattle.snap_finding.specs.declared.finding.FoundSnapshot.{FoundSnapshot}
+
+-- it is found, or refused so; a fault and want of memory say nothing
+abbrev pub Answers : {A B : Type 0} → (A → B) → Result A FindError → Result B Refusal → Type 0
+Answers of (Ok it) found = found ≡ Ok (of it)
+Answers of (Err (Refused why)) found = found ≡ Err why
+Answers of (Err Fault) found = Unit {0}
+Answers of (Err OutOfMemory) found = Unit {0}
+
+abbrev pub state_of : Saved → Identity × StateCopy
+state_of s = (s.identity, s.copy)
+
+abbrev pub nothing_of : Unit {0} → Unit {0}
+nothing_of u = tt
+
+-- what the front of a memory file is found as, or that there is none
+abbrev pub front_found : Identity → ℕ → Option (List ℕ) → Result (Unit {0}) Refusal
+front_found identity pages None = Err refusal.NoSuchFile
+front_found identity pages (Some given) = memory_front identity pages (length given) (take 4096 given)
+
+abbrev pub snapshot_of : FoundSnapshot → Snapshot
+snapshot_of f = record { identity = f.identity; copy = f.copy; bytes = (flat_of f.pages).bytes }
+
+-- the refusal of bytes that are no file of theirs
+abbrev pub refused_by : DecodeError → FindError
+refused_by DecodeError.GateClosed = Refused refusal.GateClosed
+refused_by DecodeError.WrongMagic = Refused refusal.WrongMagic
+refused_by DecodeError.BadField = Refused refusal.BadField
+refused_by DecodeError.OutOfMemory = OutOfMemory
+
+-- a failure has a fault, and what did not come to one has none
+abbrev pub FindCause : {T : Type 0} → Result T FindError → ℕ → ℕ → Type 0
+FindCause (Ok it) before now = now ≡ before
+FindCause (Err Fault) before now = Rose before now
+FindCause (Err why) before now = now ≡ before

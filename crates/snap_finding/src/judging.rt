@@ -1,0 +1,77 @@
+// What the bytes of a file are found as.
+ghost use Rattle.std.specs.Prelude.{◌≡◌, ℕ};
+ghost use Rattle.flat_snapshot.specs.Found.{memory_front, memory_judged, state_in};
+ghost use Rattle.snap_finding.specs.Finding.{Answers, FindCause, nothing_of, refused_by, state_of};
+
+use crate::finding::FindError;
+use file_format::DecodeError;
+use refusals::Refusal;
+use snap_memory::MemHeader;
+use snap_state::{Saved, decode};
+use std::alloc::Global;
+use vm_types::Identity;
+
+const HEADER_SIZE: u64 = 4096;
+
+const PAGE: u64 = 4096;
+
+fn refused_by(why: DecodeError) -> FindError
+    ensures { result ≡ refused_by why }
+{
+    match why {
+        DecodeError::GateClosed => FindError::Refused(Refusal::GateClosed),
+        DecodeError::WrongMagic => FindError::Refused(Refusal::WrongMagic),
+        DecodeError::BadField => FindError::Refused(Refusal::BadField),
+        DecodeError::OutOfMemory => FindError::OutOfMemory,
+    }
+}
+
+/// The bytes of a state file.
+pub fn judge_state(alloc: Global, bytes: &[u8]) -> Result<Saved, FindError>
+    ensures judged { Answers state_of result (state_in bytes.now) }
+    ensures cause { (n : ℕ) → FindCause result n n }
+{
+    match decode(alloc, bytes) {
+        Ok(saved) => Ok(saved),
+        Err(why) => Err(refused_by(why)),
+    }
+}
+
+/// The first bytes of a memory file of this size, beside a state of this identity and so many pages.
+pub fn judge_memory(
+    alloc: Global,
+    identity: Identity,
+    pages: u32,
+    size: u64,
+    front: &[u8],
+) -> Result<(), FindError>
+    ensures judged { Answers nothing_of result (memory_front identity pages size front.now) }
+    ensures cause { (n : ℕ) → FindCause result n n }
+{
+    match MemHeader::read(alloc, front) {
+        Ok(header) => judge_header(identity, pages, size, &header),
+        Err(why) => Err(refused_by(why)),
+    }
+}
+
+fn judge_header(
+    identity: Identity,
+    pages: u32,
+    size: u64,
+    header: &MemHeader,
+) -> Result<(), FindError>
+    ensures judged { Answers nothing_of result (memory_judged identity pages size header.now) }
+    ensures cause { (n : ℕ) → FindCause result n n }
+{
+    if header.merging != 0 {
+        return Err(FindError::Refused(Refusal::MergeUnfinished));
+    }
+    if header.pages != pages || size != HEADER_SIZE + PAGE * pages as u64 {
+        return Err(FindError::Refused(Refusal::SizesDiffer));
+    }
+    let own = header.identity();
+    if own.lineage != identity.lineage || own.number != identity.number {
+        return Err(FindError::Refused(Refusal::ParentDiffers));
+    }
+    Ok(())
+}

@@ -1,0 +1,119 @@
+-- Which copies there are: what the fields must be besides fitting their places.
+use Rattle.std.specs.Prelude.{ℕ, ◌*◌, ◌%◌, ◌==◌, nat_le, nat_lt, Bool, true, false, not, ◌&&◌, ◌||◌, if◌then◌else◌}
+use Rattle.std.specs.Prelude.{List, [], ◌∷◌, length, Option, None, Some, is_some, bit_and}
+use Rattle.std.specs.List.{list_all}
+use Rattle.api_calls.specs.declared.call.MachineConfig.{MachineConfig}
+use Rattle.api_calls.specs.Form.{is_path}
+use Rattle.board_table.specs.Board.{ring_size}
+use Rattle.guest_memory.specs.Ram.{page_size, is_ram}
+use Rattle.guest_memory.specs.Reserved.{hart_limit}
+use Rattle.rv_supervisor.specs.declared.regs.Regs.{Regs}
+use Rattle.rv_supervisor.specs.declared.csr.HartCsr.TheVariants.{Sstatus}
+use Rattle.rv_supervisor.specs.Csrs.{interrupts, csr_value}
+use Rattle.rv_doing.specs.Doing.{asked}
+use Rattle.hart_trace.specs.Traces.{executes}
+use Rattle.snap_state.specs.declared.configuration.BootSource.{BootSource}
+use Rattle.snap_state.specs.declared.board.SavedBoard.{SavedBoard}
+use Rattle.snap_state.specs.declared.hart.SavedHart.{SavedHart}
+use Rattle.snap_state.specs.declared.hart.HartPlace.{HartPlace}
+use Rattle.snap_state.specs.declared.hart.HartPlace.TheVariants.{Begin, BeginWaiting, Idle, IdleWaiting, Access}
+use Rattle.snap_state.specs.declared.copy.Reservation.{Reservation}
+use Rattle.snap_state.specs.declared.copy.StateCopy.{StateCopy}
+use Rattle.snap_state.specs.Copy.{regs_of}
+
+-- ---- the configuration, as the API takes it
+
+abbrev pub are_paths : Option (List ℕ) → Bool
+are_paths None = true
+are_paths (Some path) = is_path path
+
+-- paths of 1 to 4,095 bytes without a NUL, and at most 2,048 bytes of arguments
+abbrev pub is_source : BootSource → Bool
+is_source b = is_path b.kernel_image_path && are_paths b.initrd_path && nat_le (length b.boot_args) 2048
+
+-- 1 to 32 harts, and 4 to 1,024 MiB
+abbrev pub is_machine : MachineConfig → Bool
+is_machine m =
+    nat_le 1 m.vcpu_count && nat_le m.vcpu_count hart_limit && nat_le 4 m.mem_size_mib && nat_le m.mem_size_mib 1024
+
+-- ---- the board
+
+-- one item for each hart, and no more bytes of the console than its ring holds
+abbrev pub is_board : ℕ → SavedBoard → Bool
+is_board harts b =
+    (length b.enables == harts) && (length b.software == harts) && (length b.deadlines == harts)
+    && (length b.states == harts) && nat_le (length b.console) ring_size
+
+-- ---- harts
+
+-- the next look is within 32 instructions
+abbrev pub is_counted : SavedHart → Bool
+is_counted h = nat_le 1 h.count && nat_le h.count 32
+
+-- 4 divides the addresses of instructions
+abbrev pub is_aligned : SavedHart → Bool
+is_aligned h = (h.pc % 4 == 0) && (h.sepc % 4 == 0) && (h.stvec % 4 == 0)
+
+-- sie has the bits of interrupts alone, and sstatus is what it reads with its SIE and SPIE
+abbrev pub has_bits : SavedHart → Bool
+has_bits h = (bit_and h.sie interrupts == h.sie) && (csr_value Sstatus (regs_of h) == h.sstatus)
+
+-- what is held is a granule in RAM
+abbrev pub is_granule : ℕ → Option ℕ → Bool
+is_granule pages None = true
+is_granule pages (Some held) = (held % 8 == 0) && is_ram (page_size * pages) held 8
+
+-- the instruction asks for an access, with these registers
+abbrev pub asks : HartPlace → Regs → Bool
+asks (Access word) r = is_some (asked (executes word r))
+asks _ r = true
+
+-- a look is due before the one of a WFI, and in the middle of nothing
+abbrev pub is_placed : Bool → HartPlace → Bool
+is_placed due Begin = true
+is_placed due BeginWaiting = due
+is_placed due Idle = not due
+is_placed due IdleWaiting = not due
+is_placed due (Access word) = not due
+
+abbrev pub is_hart : ℕ → SavedHart → Bool
+is_hart pages h =
+    is_counted h && is_aligned h && has_bits h && is_granule pages h.held && is_placed h.is_look_due h.place
+    && asks h.place (regs_of h)
+
+-- ---- reservations
+
+-- of a page and a hart that are there, at a granule
+abbrev pub is_reserved : ℕ → ℕ → Reservation → Bool
+is_reserved pages harts r =
+    nat_lt r.page pages && nat_lt r.hart harts && nat_lt r.offset page_size && (r.offset % 8 == 0)
+
+abbrev pub is_before : Reservation → Reservation → Bool
+is_before a b = nat_lt a.page b.page || ((a.page == b.page) && nat_lt a.hart b.hart)
+
+abbrev pub rises_from : Reservation → List Reservation → Bool
+rises_from a [] = true
+rises_from a (b ∷ others) = is_before a b && rises_from b others
+
+-- at most one for a page and a hart, by these in strict order
+abbrev pub is_rising : List Reservation → Bool
+is_rising [] = true
+is_rising (a ∷ others) = rises_from a others
+
+-- ---- the copy
+
+-- there are 256 pages for each MiB, and dirty pages are tracked where the configuration says so
+abbrev pub has_machine : StateCopy → MachineConfig → Bool
+has_machine c m =
+    is_machine m && (c.pages == 256 * m.mem_size_mib)
+    && (if c.track_dirty_pages then m.track_dirty_pages else not m.track_dirty_pages)
+
+unfoldable pub is_valid : StateCopy → Bool
+is_valid c =
+    is_source c.configuration.boot_source
+    && has_machine c c.configuration.machine
+    && is_board c.configuration.machine.vcpu_count c.board
+    && (length c.harts == c.configuration.machine.vcpu_count)
+    && list_all (is_hart c.pages) c.harts
+    && list_all (is_reserved c.pages c.configuration.machine.vcpu_count) c.reservations
+    && is_rising c.reservations

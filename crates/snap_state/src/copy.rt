@@ -1,0 +1,82 @@
+// What a state file holds.
+ghost use Rattle.snap_state.specs.Copies.{reservation, state_copy};
+
+use crate::board::SavedBoard;
+use crate::configuration::Configuration;
+use crate::hart::SavedHart;
+use file_format::{Input, Items, ReadError, Stored, read_zeros, write_zeros};
+use std::alloc::{AllocError, Global};
+
+/// What one hart has reserved in one page: a granule of 8 bytes.
+#[derive(Clone, Copy, Debug, PartialEq, Eq, Drop)]
+pub struct Reservation {
+    pub page: u32,
+    pub hart: u32,
+    /// The granule's offset in the page, in bytes.
+    pub offset: u32,
+}
+
+/// What is kept of a machine that is on, besides the bytes of its memory.
+#[derive(Drop)]
+pub struct StateCopy {
+    pub configuration: Configuration,
+    /// How many pages of 4,096 bytes its memory has.
+    pub pages: u32,
+    pub track_dirty_pages: bool,
+    /// Guest time in nanoseconds.
+    pub guest_time: u64,
+    pub board: SavedBoard,
+    pub harts: Items<SavedHart>,
+    /// By page and then by hart.
+    pub reservations: Items<Reservation>,
+}
+
+#[tactic(auto, unfolding(crate::specs::Copies::reservation))]
+impl Stored for Reservation {
+    ghost format = { reservation };
+
+    fn write(&self, out: &mut Vec<u8>) -> Result<(), AllocError> {
+        self.page.write(out)?;
+        self.hart.write(out)?;
+        self.offset.write(out)?;
+        Ok(())
+    }
+
+    fn read(alloc: Global, input: &mut Input) -> Result<Reservation, ReadError> {
+        let (page, (hart, offset)) = Stored::read(alloc, input)?;
+        Ok(Reservation { page, hart, offset })
+    }
+}
+
+#[tactic(auto, unfolding(crate::specs::Copies::state_copy))]
+impl Stored for StateCopy {
+    ghost format = { state_copy };
+
+    fn write(&self, out: &mut Vec<u8>) -> Result<(), AllocError> {
+        self.configuration.write(out)?;
+        self.pages.write(out)?;
+        self.track_dirty_pages.write(out)?;
+        self.guest_time.write(out)?;
+        self.board.write(out)?;
+        self.harts.write(out)?;
+        write_zeros(8, out)?;
+        self.reservations.write(out)?;
+        Ok(())
+    }
+
+    fn read(alloc: Global, input: &mut Input) -> Result<StateCopy, ReadError> {
+        let (configuration, (pages, (track_dirty_pages, guest_time))) = Stored::read(alloc, input)?;
+        let (board, harts) = Stored::read(alloc, input)?;
+        read_zeros(8, input)?;
+        let reservations = Stored::read(alloc, input)?;
+        Ok(StateCopy {
+            configuration,
+            pages,
+            track_dirty_pages,
+            guest_time,
+            board,
+            harts,
+            reservations,
+        })
+    }
+}

@@ -1,0 +1,96 @@
+// The file: a header and the body.
+ghost use Rattle.std.specs.Prelude.{◌≡◌, ◌++◌, ◌∷◌, IsTrue, IfOk, length};
+ghost use Rattle.file_format.specs.Kinds.{number32};
+ghost use Rattle.file_format.specs.Identities.{identity as named, is_numbered};
+ghost use Rattle.file_format.specs.Starts.{Decodes};
+ghost use Rattle.snap_state.specs.Files.{magic, Encodes, Found, is_accepted};
+ghost use Rattle.snap_state.specs.Valid.{is_valid};
+
+use crate::copy::StateCopy;
+use crate::valid::is_valid;
+use file_format::{DecodeError, Input, ReadError, Stored, is_closed, is_numbered, is_other};
+use std::alloc::{AllocError, Global};
+use vm_types::Identity;
+
+const HEADER_SIZE: usize = 32;
+
+/// The gate, open; "RVFCSTA", and version 1.
+const START: [u8; 12] = [1, 82, 86, 70, 67, 83, 84, 65, 1, 0, 0, 0];
+
+/// "RVFCSTA", and version 1.
+const MAGIC: [u8; 11] = [82, 86, 70, 67, 83, 84, 65, 1, 0, 0, 0];
+
+/// A copy, under the identity of its snapshot.
+#[derive(Drop)]
+pub struct Saved {
+    pub identity: Identity,
+    pub copy: StateCopy,
+}
+
+fn is_accepted(size: usize, left: usize, len: u32, identity: Identity, copy: &StateCopy) -> bool
+    ensures { result ≡ is_accepted size left len identity copy.now }
+{
+    left == 0 && len as u64 + 20 == size as u64 && is_numbered(identity) && is_valid(copy)
+}
+
+// What stands behind gate and magic.
+fn contents_at(alloc: Global, rest: &[u8]) -> Result<Saved, ReadError>
+    ensures { Found rest.now result }
+{
+    let mut input = Input::new(rest);
+    let (len, (identity, copy)): (u32, (Identity, StateCopy)) = Stored::read(alloc, &mut input)?;
+    if is_accepted(rest.len(), input.len(), len, identity, &copy) {
+        Ok(Saved { identity, copy })
+    } else {
+        Err(ReadError::Bad)
+    }
+}
+
+/// The copy that a file's bytes are the file of, or the first refusal that fits. It takes no more memory than the bytes
+/// say that there is to keep.
+pub fn decode(alloc: Global, bytes: &[u8]) -> Result<Saved, DecodeError>
+    ensures { Decodes 32 magic Encodes bytes.now result }
+{
+    if is_closed(bytes, HEADER_SIZE) {
+        return Err(DecodeError::GateClosed);
+    }
+    if is_other(bytes, &MAGIC) {
+        return Err(DecodeError::WrongMagic);
+    }
+    let (_, rest) = bytes.split_at(12);
+    match contents_at(alloc, rest) {
+        Ok(saved) => Ok(saved),
+        Err(ReadError::Bad) => Err(DecodeError::BadField),
+        Err(ReadError::Memory) => Err(DecodeError::OutOfMemory),
+    }
+}
+
+// A header, and this body behind it.
+fn file_of(alloc: Global, identity: Identity, body: &[u8]) -> Result<Vec<u8>, AllocError>
+    ensures len { IfOk result (λ _. number32.Fits (length body.now)) }
+    ensures identity { IfOk result (λ _. named.Fits identity) }
+    ensures bytes { IfOk result (λ file. file.items ≡
+        named.puts identity (number32.puts (length body.now) (1 ∷ magic)) ++ body.now) }
+{
+    let Ok(len) = u32::try_from(body.len()) else {
+        return Err(AllocError);
+    };
+    let mut file = Vec::new(alloc);
+    file.extend_from_slice(&START)?;
+    len.write(&mut file)?;
+    identity.write(&mut file)?;
+    file.extend_from_slice(body)?;
+    Ok(file)
+}
+
+/// The bytes of the file of this copy under this identity, whose number is from 1 to below 2^63.
+pub fn encode(alloc: Global, identity: Identity, copy: &StateCopy) -> Result<Vec<u8>, AllocError>
+    requires valid { IsTrue (is_valid copy.now) }
+    requires numbered { IsTrue (is_numbered identity) }
+    ensures { IfOk result (λ file. Encodes file.items (record { identity = identity; copy = copy.now })) }
+{
+    let mut body = Vec::new(alloc);
+    copy.write(&mut body)?;
+    let file = file_of(alloc, identity, &body)?;
+    Ok(file)
+}

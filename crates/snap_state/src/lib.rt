@@ -1,0 +1,28 @@
+//! The state file: what is kept of a machine that stands still, and how it is read back from bytes that anyone may
+//! have written.
+//!
+//! `specs/Files.antt` says which bytes are a state file of which copy, over the formats of the parts: `Configured`,
+//! `HartStates`, `Boards`, `Harts`, `Copies`. `Valid` says which copies there are, a line a rule. `encode` writes the
+//! file of a copy; `decode` answers the one copy that the bytes are a file of, or the first refusal that fits.
+//! `specs/Copy.antt` says of which board and of which harts a copy is.
+#![tactic(auto)]
+
+mod board;
+mod configuration;
+mod copy;
+mod file;
+mod hart;
+mod hart_state;
+mod law;
+#[cfg(test)]
+mod tests;
+mod valid;
+
+pub use board::SavedBoard;
+pub use configuration::{BootSource, Configuration};
+pub use copy::{Reservation, StateCopy};
+pub use file::{Saved, decode, encode};
+pub use hart::{HartPlace, SavedHart};
+pub use hart_state::SavedHartState;
+pub use law::{one_copy, one_of_each};
+pub use valid::is_valid;
