@@ -14,11 +14,13 @@ use Rattle.gate_file.specs.Runs.{RunsAll, RunsPart, save_calls}
 use Rattle.http_stream.specs.Stream.{Connection}
 use Rattle.http_stream.specs.Sent.{sent}
 use Rattle.http_stream.specs.Conversation.{arrived, new_connection, Conversation, ConversationFront}
+use Rattle.script_text.specs.declared.item.HostReply.{HostReply}
 use Rattle.script_text.specs.declared.item.Item.{Item}
 use Rattle.script_output.specs.Output.{console_line}
 use Rattle.flat_machine.specs.Outcome as flat
 use Rattle.flat_machine.specs.Machine.{AreFilesOf, Machine, console_of, drained, running}
-use Rattle.flat_machine.specs.Items.{ItemStep, StepsLine, Talks, TalksFront, bytes_of}
+use Rattle.flat_machine.specs.Given.{reply_given}
+use Rattle.flat_machine.specs.Items.{ItemStep, RepliesLine, StepsLine, Talks, TalksFront, bytes_of}
 use Rattle.flat_machine.specs.Requests.{RequestStep}
 use Rattle.monitor_machine.specs.declared.machine.LiveMachine.{LiveMachine}
 use Rattle.monitor_machine.specs.State.{IsLive, IsMachine}
@@ -139,6 +141,16 @@ pub step_goes : (item : Item) (monitor : Monitor) (machine : LiveMachine) (known
     → ItemGoes item text monitor (record monitor { machine = machine }) known known
 step_goes item monitor machine known actor count text is went =
     quiet_goes item (Item.Step actor count) monitor (record monitor { machine = machine }) known text is (refl, refl) (λ m here.
+    let p = went m (beside here) in
+    (p.0, (refl, p.1), with_front machine monitor known p.0 p.2 (here.own.connection_is ∙ sym p.3)))
+
+pub reply_goes : (item : Item) (monitor : Monitor) (machine : LiveMachine) (known : FilesKnown) (actor : ActorId) (given : HostReply) (text : List ℕ)
+    → item ≡ Item.Reply actor given
+    → ((m : Machine) → IsMachine monitor.machine known m
+    → (n : Machine) × RepliesLine (running m) actor (reply_given given) m text n × IsMachine machine known n × (n.connection ≡ m.connection))
+    → ItemGoes item text monitor (record monitor { machine = machine }) known known
+reply_goes item monitor machine known actor given text is went =
+    quiet_goes item (Item.Reply actor given) monitor (record monitor { machine = machine }) known text is (refl, refl) (λ m here.
     let p = went m (beside here) in
     (p.0, (refl, p.1), with_front machine monitor known p.0 p.2 (here.own.connection_is ∙ sym p.3)))
 

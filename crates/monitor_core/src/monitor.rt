@@ -77,7 +77,7 @@ impl Monitor {
                 files,
             )?),
             Item::Step { actor, count } => Ok(self.machine.step(actor, count)?),
-            Item::Reply { actor, .. } => Ok(self.machine.reply(actor)?),
+            Item::Reply { actor, reply } => Ok(self.machine.reply(actor, &reply)?),
             Item::Console => Ok(self.machine.take_console()?),
             Item::Register { hart, number } => Ok(self.machine.register(hart, number)?),
             Item::Memory { address, length } => Ok(self.machine.memory(address, length)?),

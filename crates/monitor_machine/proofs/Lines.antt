@@ -104,7 +104,7 @@ step_moves live known m world left actor count made off text is moving some here
     let run = runs g.0 g.2 in
     let n : Machine = record m { guest = Some run.1 } in
     let says : text ≡ steps_text count (length run.0) run.1.board.off =
-        writes ∙ (λ i. steps_text count (sym run.3 i) (is_off i)) ∙ (λ i. steps_text count (length run.0) (run.4.board_is i).off) in
+    writes ∙ (λ i. steps_text count (sym run.3 i) (is_off i)) ∙ (λ i. steps_text count (length run.0) (run.4.board_is i).off) in
     let moved : Moves g.0 actor count m text n = record { entries = run.0; end = run.1; made = run.2; writes = says; leaves = refl } in (
       n,
       subst (λ (o : Option Guest). StepsLine o actor count m text n) (sym (goes live m is.own moving ∙ g.1))
@@ -164,11 +164,11 @@ module _ (live : LiveMachine) (known : FilesKnown) (m : Machine) (world left : W
       let done = takes own_guest.0 own_guest.2 in
       let n : Machine = record m { guest = Some done.end } in
       let answers : Answers own_guest.0 actor given m text n =
-          record { entry = done.entry; end = done.end; unstamped = done.unstamped; step = done.step; quiet = quiet; leaves = refl } in
+      record { entry = done.entry; end = done.end; unstamped = done.unstamped; step = done.step; quiet = quiet; leaves = refl } in
       let fit : MatchBool (is_given done.op given) (Answers own_guest.0 actor given m text n) (Misfits misfit.Unfit m text n) =
-          subst (λ (b : Bool). MatchBool b (Answers own_guest.0 actor given m text n) (Misfits misfit.Unfit m text n)) (sym done.fit) answers in
+      subst (λ (b : Bool). MatchBool b (Answers own_guest.0 actor given m text n) (Misfits misfit.Unfit m text n)) (sym done.fit) answers in
       let host : MatchBool (is_host_op done.op) (MatchBool (is_given done.op given) (Answers own_guest.0 actor given m text n) (Misfits misfit.Unfit m text n)) (Misfits misfit.NotWaiting m text n) =
-          subst (λ (b : Bool). MatchBool b (MatchBool (is_given done.op given) (Answers own_guest.0 actor given m text n) (Misfits misfit.Unfit m text n)) (Misfits misfit.NotWaiting m text n)) (sym done.host) fit in
+      subst (λ (b : Bool). MatchBool b (MatchBool (is_given done.op given) (Answers own_guest.0 actor given m text n) (Misfits misfit.Unfit m text n)) (Misfits misfit.NotWaiting m text n)) (sym done.host) fit in
       (n, there n done.there (done.op, done.wants, host), with_guest live known m left (Some done.end) is done.world, refl)
 
   taken_by : (why : Misfit) → text ≡ misfit_line why → TakesReply (Some why) world actor given left
@@ -186,14 +186,14 @@ module _ (live : LiveMachine) (known : FilesKnown) (m : Machine) (world left : W
   taken_by misfit.NotWaiting writes takes =
       let busy = takes.1 own_guest.0 own_guest.2 in
       let own : MatchBool (is_host_op busy.op) (MatchBool (is_given busy.op given) (Answers own_guest.0 actor given m text m) (Misfits misfit.Unfit m text m)) (Misfits misfit.NotWaiting m text m) =
-          subst (λ (b : Bool). MatchBool b (MatchBool (is_given busy.op given) (Answers own_guest.0 actor given m text m) (Misfits misfit.Unfit m text m)) (Misfits misfit.NotWaiting m text m)) (sym busy.own) (writes, refl) in
+      subst (λ (b : Bool). MatchBool b (MatchBool (is_given busy.op given) (Answers own_guest.0 actor given m text m) (Misfits misfit.Unfit m text m)) (Misfits misfit.NotWaiting m text m)) (sym busy.own) (writes, refl) in
       (m, there m busy.there (busy.op, busy.wants, own), same_guest takes.0, refl)
   taken_by misfit.Unfit writes takes =
       let bad = takes.1 own_guest.0 own_guest.2 in
       let unfit : MatchBool (is_given bad.op given) (Answers own_guest.0 actor given m text m) (Misfits misfit.Unfit m text m) =
-          subst (λ (b : Bool). MatchBool b (Answers own_guest.0 actor given m text m) (Misfits misfit.Unfit m text m)) (sym bad.unfit) (writes, refl) in
+      subst (λ (b : Bool). MatchBool b (Answers own_guest.0 actor given m text m) (Misfits misfit.Unfit m text m)) (sym bad.unfit) (writes, refl) in
       let host : MatchBool (is_host_op bad.op) (MatchBool (is_given bad.op given) (Answers own_guest.0 actor given m text m) (Misfits misfit.Unfit m text m)) (Misfits misfit.NotWaiting m text m) =
-          subst (λ (b : Bool). MatchBool b (MatchBool (is_given bad.op given) (Answers own_guest.0 actor given m text m) (Misfits misfit.Unfit m text m)) (Misfits misfit.NotWaiting m text m)) (sym bad.host) unfit in
+      subst (λ (b : Bool). MatchBool b (MatchBool (is_given bad.op given) (Answers own_guest.0 actor given m text m) (Misfits misfit.Unfit m text m)) (Misfits misfit.NotWaiting m text m)) (sym bad.host) unfit in
       (m, there m bad.there (bad.op, bad.wants, host), same_guest takes.0, refl)
 
   pub reply_misfits : (why : Misfit) → text ≡ misfit_line why → TakesReply (Some why) world actor given left
@@ -223,13 +223,16 @@ world_busy w after actor op given same want own =
 
 pub world_unfit : (w after : WorldValue) (actor : ActorId) (op : Op) (given : Option Reply) → after ≡ w → want_in w actor ≡ Some op
     → is_host_op op ≡ true → is_given op given ≡ false → TakesReply (Some misfit.Unfit) w actor given after
-world_unfit w after actor op given same want host unfit = (same, λ g world. record {
-  there = is_there w g actor op world want;
-  op = op;
-  wants = wanted w g actor op world want;
-  host = host;
-  unfit = unfit;
-})
+world_unfit w after actor op given same want host unfit = (
+  same,
+  λ g world. record {
+    there = is_there w g actor op world want;
+    op = op;
+    wants = wanted w g actor op world want;
+    host = host;
+    unfit = unfit;
+  },
+)
 
 pub world_takes : (w after : WorldValue) (actor : ActorId) (op : Op) (given : Option Reply) (e : Entry) → want_in w actor ≡ Some op
     → is_host_op op ≡ true → is_given op given ≡ true → MakesEvent w (record { actor = actor; reply = given }) e after
@@ -252,8 +255,11 @@ pub world_never : (w after : WorldValue) (actor : ActorId) (op : Op) (given : Op
     → is_given op given ≡ true → made ≡ false
     → ((g : Guest) (o : Op) → IsWorld w g → Wants g actor o → refusal_of o given ≡ None → made ≡ true)
     → TakesReply (Some misfit.Unfit) w actor given after
-world_never w after actor op given made same want fit failed promised = (same, λ g world.
-    let both : true ≡ false = sym (promised g op world (wanted w g actor op world want) (given_not_refused op given fit)) ∙ failed in absurd_bool both)
+world_never w after actor op given made same want fit failed promised = (
+  same,
+  λ g world.
+      let both : true ≡ false = sym (promised g op world (wanted w g actor op world want) (given_not_refused op given fit)) ∙ failed in absurd_bool both,
+)
   where
     absurd_bool : {A : Type 0} → true ≡ false → A
     absurd_bool is = absurd (Prim.cc is)

@@ -45,8 +45,8 @@ impl LiveMachine {
     // The guest stands still from now on, or goes on, where the change says so. One that ran begins its timer anew.
     fn stand(&mut self, change: &Change)
         ensures { self.new ≡ record self.old {
-            guest = world_by change.now self.old.paused self.old.guest;
-            paused = paused_by change.now self.old.paused;
+          guest = world_by change.now self.old.paused self.old.guest;
+          paused = paused_by change.now self.old.paused;
         } }
     {
         match change {

@@ -6,7 +6,7 @@ use Rattle.gate_file.specs.Runs.{RunsAll, RunsPart, save_calls}
 use Rattle.monitor_machine.specs.declared.machine.LiveMachine.{LiveMachine}
 use Rattle.monitor_core.specs.declared.monitor.Monitor.{Monitor}
 use Rattle.monitor_core.specs.Talking.{HasHalted, HasTalked}
-use Rattle.monitor_core.proofs.Items.{api_goes, api_stops, bytes_goes, bytes_stops, connect_goes, console_goes, file_goes, file_stops, lineage_goes, nothing_goes, on, on_memory, quiet_stops, shown_goes, step_goes}
+use Rattle.monitor_core.proofs.Items.{api_goes, api_stops, bytes_goes, bytes_stops, connect_goes, console_goes, file_goes, file_stops, lineage_goes, nothing_goes, on, on_memory, quiet_stops, reply_goes, shown_goes, step_goes}
 use Rattle.monitor_core.proofs.monitor.Monitor.item.Goals as goal
 
 pub returns-in-Nothing-clause-goes : goal.returns-in-Nothing-clause-goes
@@ -79,13 +79,13 @@ returns-in_err-take_request-in-Api-clause-stops g c =
 pub returns-in-Reply-clause-goes : goal.returns-in-Reply-clause-goes
 returns-in-Reply-clause-goes g c =
     let known = g.F.Files.known c.args.files.now in
-    shown_goes c.args.item _ c.args.self.now known _ c.in-Reply.is (refl, refl)
-    (λ m here. (refl, c.in_ok-reply-in-Reply.ensures known m here))
+    reply_goes c.args.item c.args.self.now c.reply.new.self known c.in-Reply.actor c.in-Reply.reply _ c.in-Reply.is (c.in_ok-reply-in-Reply.ensures.ok known)
 
 pub returns-in_err-reply-in-Reply-clause-stops : goal.returns-in_err-reply-in-Reply-clause-stops
 returns-in_err-reply-in-Reply-clause-stops g c =
     on_memory _ _ c.from_residual-in_err-reply-in-Reply.ensures.1
-    (quiet_stops ItemError.OutOfMemory c.args.item _ c.args.self.now c.args.self.now (g.F.Files.known c.args.files.now) c.in-Reply.is refl (λ file. file) refl (λ m files. files))
+    (quiet_stops ItemError.OutOfMemory c.args.item (Item.Reply c.in-Reply.actor c.in-Reply.reply) c.args.self.now (record c.args.self.now { machine = c.reply.new.self }) (g.F.Files.known c.args.files.now) c.in-Reply.is refl (λ file. file)
+    (ap (λ (l : LiveMachine). record c.args.self.now { machine = l }) c.in_err-reply-in-Reply.ensures.err) (λ m files. files))
 
 pub returns-in-Console-clause-goes : goal.returns-in-Console-clause-goes
 returns-in-Console-clause-goes g c =
