@@ -1,18 +1,11 @@
 -- Pages of zeros with loads in them are memory as a start makes it.
-use Rattle.std.proofs.Common.{◌≡◌, ℕ, zero, suc, ◌+◌, ◌*◌, ◌≤◌, List, length, refl, ap, ◌∙◌, arith, replicate}
+use Rattle.std.proofs.Common.{◌≡◌, ℕ, ◌*◌, ap, ◌∙◌, arith, replicate}
 use Rattle.guest_memory.specs.Boot.{Loads, boot_memory, bytes_of_mib, laid}
 use Rattle.guest_memory.specs.Memory.{Memory}
 use Rattle.guest_memory.specs.Ram.{page_count}
 use Rattle.guest_memory.specs.Reserved.{unreserved}
-use Rattle.guest_pages.specs.Pages.{PageValue, empty_memory, new_pages}
+use Rattle.guest_pages.specs.Pages.{empty_memory}
 use Rattle.boot_loader.specs.Loading.{memory_with}
-
-new_pages-length : (i n : ℕ) → length (new_pages i n) ≡ n
-new_pages-length i zero = refl
-new_pages-length i (suc n) = ap suc (new_pages-length (suc i) n)
-
-pub made_length : (pages : List PageValue) (n : ℕ) → pages ≡ new_pages 0 n → length pages ≡ n
-made_length pages n is = ap length is ∙ new_pages-length 0 n
 
 bytes_are : (mib : ℕ) → 4096 * (256 * mib) ≡ bytes_of_mib mib
 bytes_are mib = omega arith

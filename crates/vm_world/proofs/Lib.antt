@@ -1,4 +1,3 @@
-mod Booting
 mod Events
 mod Listed
 pub mod Running

@@ -1,16 +1,16 @@
 use Rattle.std.proofs.Common.{arith}
 use Rattle.boot_loader.specs.Loading.{loads_of}
-use Rattle.boot_loader.proofs.Filled.{booted, made_length}
+use Rattle.boot_loader.proofs.Filled.{booted}
 use Rattle.boot_loader.proofs.booting.boot.Goals as goal
 
 pub load-requires-clause-pages : goal.load-requires-clause-pages
 load-requires-clause-pages c =
-    let size = made_length _ _ c.in-Ok.ensures.pages in
+    let size = c.in-Ok.ensures.count in
     omega (arith, size, c.requires)
 
 pub returns-clause-few : goal.returns-clause-few
 returns-clause-few c =
-    let size = made_length _ _ c.in-Ok.ensures.pages in
+    let size = c.in-Ok.ensures.count in
     omega (arith, size, c.requires, c.in-Ok-load.ensures.pages)
 
 pub returns-clause-memory : goal.returns-clause-memory
