@@ -42,11 +42,7 @@ pub fn initrd_len(initrd: InitrdFile) -> Option<u64>
 /// What a start that `decide` allows is refused by the files.
 ///
 /// `image` is how many bytes the file of the kernel image has, if there is one.
-pub fn boot_refusal(
-    config: &Config,
-    image: Option<u64>,
-    initrd: InitrdFile,
-) -> Option<Refusal>
+pub fn boot_refusal(config: &Config, image: Option<u64>, initrd: InitrdFile) -> Option<Refusal>
     ensures { result ≡ table.boot_refusal config.now image initrd }
 {
     let Some(image) = image else {

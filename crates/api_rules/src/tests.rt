@@ -1,6 +1,7 @@
 // What calls are answered: values from outside, by configuration, phase and call.
 use crate::{
-    Answer, Change, Config, Ids, InitrdFile, Phase, accepted_answer, boot_refusal, decide, fault_answer,
+    Answer, Change, Config, Ids, InitrdFile, Phase, accepted_answer, boot_refusal, decide,
+    fault_answer,
 };
 use api_calls::{
     ApiCall, BootSource, MachineConfig, MachinePatch, Part, SnapshotFiles, SnapshotLoad, VmState,
@@ -161,12 +162,28 @@ fn a_start_needs_files_that_fit(rt: HostRuntime) -> Result<(), Fail> {
     let config = config(rt.alloc(), false)?;
     for (image, initrd, wanted) in [
         (None, InitrdFile::Unnamed, Some(Refusal::NoSuchFile)),
-        (Some(2_031_617), InitrdFile::Missing, Some(Refusal::NoSuchFile)),
-        (Some(2_031_617), InitrdFile::Unnamed, Some(Refusal::DoesNotFit)),
+        (
+            Some(2_031_617),
+            InitrdFile::Missing,
+            Some(Refusal::NoSuchFile),
+        ),
+        (
+            Some(2_031_617),
+            InitrdFile::Unnamed,
+            Some(Refusal::DoesNotFit),
+        ),
         (Some(2_031_616), InitrdFile::Unnamed, None),
         (Some(2_031_616), InitrdFile::There(0), None),
-        (Some(2_031_616), InitrdFile::There(1), Some(Refusal::DoesNotFit)),
-        (Some(u64::MAX), InitrdFile::There(1), Some(Refusal::DoesNotFit)),
+        (
+            Some(2_031_616),
+            InitrdFile::There(1),
+            Some(Refusal::DoesNotFit),
+        ),
+        (
+            Some(u64::MAX),
+            InitrdFile::There(1),
+            Some(Refusal::DoesNotFit),
+        ),
     ] {
         assert_eq!(rt; boot_refusal(&config, image, initrd), wanted);
     }

@@ -47,7 +47,8 @@ fn load_initrd(pages: &mut PageSet, mem_size_mib: u64, initrd: &[u8])
     requires small { mem_size_mib ≤ 2 ^ 20 }
     requires low { boot.image_start ≤ boot.initrd_start mem_size_mib (length initrd.now) }
     ensures memory { flat_of pages.new ≡ record (flat_of pages.old) {
-        bytes = boot.with_initrd mem_size_mib (Some initrd.now) (flat_of pages.old).bytes } }
+      bytes = boot.with_initrd mem_size_mib (Some initrd.now) (flat_of pages.old).bytes;
+    } }
     ensures marks { marks_of pages.new ≡ marks_of pages.old }
     ensures pages { length pages.new ≡ length pages.old }
 {
@@ -75,11 +76,7 @@ fn load_tree(pages: &mut PageSet, mem_size_mib: u64, tree: &[u8])
 ///
 /// Errors: `NoRoom` where the image would reach the tree, the disk would start before the image ends, or the tree is
 /// longer than its room of 65,536 bytes; then nothing changes.
-pub fn load(
-    pages: &mut PageSet,
-    mem_size_mib: u64,
-    loads: &Loads<'_>,
-) -> Result<Start, NoRoom>
+pub fn load(pages: &mut PageSet, mem_size_mib: u64, loads: &Loads<'_>) -> Result<Start, NoRoom>
     requires pages { length pages.old ≡ 256 * mem_size_mib }
     requires small { mem_size_mib ≤ 2 ^ 20 }
     ensures room { is_ok result ≡ have_room mem_size_mib (loads_of loads.now) }

@@ -36,20 +36,20 @@ chosen boot_args initrd =
 abbrev pub memory : ℕ → Node
 memory mib =
     node (at_unit (codes "memory") ram_start) (
-        property (codes "device_type") (text (codes "memory"))
-        ∷ property (codes "reg") (region ram_start (bytes_of_mib mib))
-        ∷ []) no_nodes
+    property (codes "device_type") (text (codes "memory"))
+    ∷ property (codes "reg") (region ram_start (bytes_of_mib mib))
+    ∷ []) no_nodes
 
 -- 3.8, and the RISC-V bindings
 abbrev pub cpu : ℕ → Node
 cpu k =
     node (at_unit (codes "cpu") k) (
-        property (codes "device_type") (text (codes "cpu"))
-        ∷ property (codes "reg") (cell k)
-        ∷ property (codes "status") (text (codes "okay"))
-        ∷ property (codes "compatible") (text (codes "riscv"))
-        ∷ property (codes "riscv,isa") (text (codes "rv64ima"))
-        ∷ []) no_nodes
+    property (codes "device_type") (text (codes "cpu"))
+    ∷ property (codes "reg") (cell k)
+    ∷ property (codes "status") (text (codes "okay"))
+    ∷ property (codes "compatible") (text (codes "riscv"))
+    ∷ property (codes "riscv,isa") (text (codes "rv64ima"))
+    ∷ []) no_nodes
 
 -- 3.7: guest time counts nanoseconds
 abbrev pub cpus_properties : List Property
@@ -66,21 +66,21 @@ cpus harts = node (codes "cpus") cpus_properties (nodes_from cpu 0 harts)
 abbrev pub board : Node
 board =
     node (at_unit (codes "board") 0x2000000) (
-        property (codes "compatible") (text (codes "firecracker,rv64-board"))
-        ∷ property (codes "reg") (region 0x2000000 0x1000)
-        ∷ property (codes "#interrupt-cells") (cell 1)
-        ∷ property (codes "interrupt-controller") []
-        ∷ property (codes "phandle") (cell 1)
-        ∷ []) no_nodes
+    property (codes "compatible") (text (codes "firecracker,rv64-board"))
+    ∷ property (codes "reg") (region 0x2000000 0x1000)
+    ∷ property (codes "#interrupt-cells") (cell 1)
+    ∷ property (codes "interrupt-controller") []
+    ∷ property (codes "phandle") (cell 1)
+    ∷ []) no_nodes
 
 -- a port of a device: one page for each, and the line of its number (VIRTIO 1.2, 4.2.1)
 abbrev pub device : ℕ → Node
 device k =
     node (at_unit (codes "virtio_mmio") (0x10000000 + 0x1000 * k)) (
-        property (codes "compatible") (text (codes "virtio,mmio"))
-        ∷ property (codes "reg") (region (0x10000000 + 0x1000 * k) 0x1000)
-        ∷ property (codes "interrupts") (cell k)
-        ∷ []) no_nodes
+    property (codes "compatible") (text (codes "virtio,mmio"))
+    ∷ property (codes "reg") (region (0x10000000 + 0x1000 * k) 0x1000)
+    ∷ property (codes "interrupts") (cell k)
+    ∷ []) no_nodes
 
 -- what stands in the memory map (4.5)
 abbrev pub soc_properties : List Property
@@ -115,10 +115,10 @@ device_count = 0
 abbrev pub tree_of : Config → Option InitrdPlace → Node
 tree_of config initrd =
     node [] root_properties (
-        and_node (chosen (args_by config.boot_source) initrd)
-        (and_node (memory config.machine.mem_size_mib)
-        (and_node (cpus config.machine.vcpu_count)
-        (and_node (soc device_count) no_nodes))))
+    and_node (chosen (args_by config.boot_source) initrd)
+    (and_node (memory config.machine.mem_size_mib)
+    (and_node (cpus config.machine.vcpu_count)
+    (and_node (soc device_count) no_nodes))))
 
 -- its file
 abbrev pub tree_bytes : Config → Option InitrdPlace → List ℕ

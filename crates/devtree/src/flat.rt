@@ -145,7 +145,7 @@ fn push_property(
 ) -> Result<(), AllocError>
     ensures { OnOk result (
         out.new.items ≡ out.old.items ++ cell 3 ++ cell (length (value_of value.now)) ++ cell offset
-            ++ flat.padded (value_of value.now)) }
+        ++ flat.padded (value_of value.now)) }
 {
     let bytes = value_bytes(alloc, value)?;
     push_cell(out, 3)?;
@@ -171,11 +171,7 @@ fn push_token(
     }
 }
 
-fn structure_of(
-    alloc: Global,
-    names: &[&str],
-    tokens: &[Token<'_>],
-) -> Result<Vec<u8>, AllocError>
+fn structure_of(alloc: Global, names: &[&str], tokens: &[Token<'_>]) -> Result<Vec<u8>, AllocError>
     requires { length (flat.strings_of (now_of names.now)) < 2 ^ 64 }
     ensures { IfOk result (λ out. out.items ≡ flat.structure_of (now_of names.now) (all_of tokens.now)) }
 {

@@ -45,10 +45,7 @@ fn open_root(tokens: &mut Vec<Token<'_>>) -> Result<(), AllocError>
 }
 
 #[tactic(auto, using(crate::proofs::Passes::map_append))]
-fn push_initrd(
-    tokens: &mut Vec<Token<'_>>,
-    initrd: Option<InitrdPlace>,
-) -> Result<(), AllocError>
+fn push_initrd(tokens: &mut Vec<Token<'_>>, initrd: Option<InitrdPlace>) -> Result<(), AllocError>
     ensures { OnOk result (all_of tokens.new.items
         ≡ all_of tokens.old.items ++ map property_token (machine.initrd_properties initrd)) }
 {

@@ -13,9 +13,9 @@ const MACHINE: MachineConfig = MachineConfig {
 
 // The header, the end of the reservations, and the first two tokens.
 const FIRST: [u8; 64] = [
-    0xd0, 0x0d, 0xfe, 0xed, 0, 0, 3, 0x29, 0, 0, 0, 0x38, 0, 0, 2, 0x80, 0, 0, 0, 0x28, 0, 0, 0, 0x11,
-    0, 0, 0, 0x10, 0, 0, 0, 0, 0, 0, 0, 0xa9, 0, 0, 2, 0x48, 0, 0, 0, 0, 0, 0, 0, 0, 0, 0, 0, 0, 0, 0,
-    0, 0, 0, 0, 0, 1, 0, 0, 0, 0,
+    0xd0, 0x0d, 0xfe, 0xed, 0, 0, 3, 0x29, 0, 0, 0, 0x38, 0, 0, 2, 0x80, 0, 0, 0, 0x28, 0, 0, 0,
+    0x11, 0, 0, 0, 0x10, 0, 0, 0, 0, 0, 0, 0, 0xa9, 0, 0, 2, 0x48, 0, 0, 0, 0, 0, 0, 0, 0, 0, 0, 0,
+    0, 0, 0, 0, 0, 0, 0, 0, 1, 0, 0, 0, 0,
 ];
 
 #[test]
@@ -26,7 +26,10 @@ fn a_machine_of_one_hart_has_a_tree_of_809_bytes(rt: HostRuntime) -> Result<(), 
     let tree = write_tree(alloc, &config, None)?;
     assert_eq!(rt; tree.len(), 809);
     assert!(rt; tree.as_slice().starts_with(&FIRST));
-    assert!(rt; tree.as_slice().ends_with(b"interrupt-controller\0phandle\0"));
+    assert!(rt;
+        tree.as_slice()
+            .ends_with(b"interrupt-controller\0phandle\0")
+    );
     config.boot_source = Some(BootSource {
         kernel_image_path: TextList::copy_of(alloc, "k")?,
         initrd_path: None,

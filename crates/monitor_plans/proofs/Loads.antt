@@ -57,9 +57,9 @@ start_gives config source s0 s1 s2 s3 path size len file image lent disk w eq pe
     fe ∙ ap (file_by source.initrd_path) e1 ∙ ap (λ (b : Option BootSource). file_by (initrd_name b) s0) (sym eq) in
     let none : start_refusal config s0 ≡ None =
     sym (
-        clear
-        ∙ ap (λ (o : Option ℕ). boot_refusal config o file) (sym sl ∙ size_is)
-        ∙ ap (λ (f : InitrdFile). boot_refusal config (option_map length (image_in config s0)) f) file_is) in
+    clear
+    ∙ ap (λ (o : Option ℕ). boot_refusal config o file) (sym sl ∙ size_is)
+    ∙ ap (λ (f : InitrdFile). boot_refusal config (option_map length (image_in config s0)) f) file_is) in
     let missing : is_missing file ≡ false = there config len file clear in
     let sized : Some len ≡ option_map length (get s2 path) =
     sym sl ∙ sz ∙ ap (λ (s : Saved). option_map length (get s path)) (sym (e2 ∙ e1)) in

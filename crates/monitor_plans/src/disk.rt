@@ -22,10 +22,7 @@ fn file_with(size: Option<u64>) -> InitrdFile
 }
 
 /// What the files have under the name of the disk, if one is configured.
-pub fn disk_file<F: Files>(
-    files: &mut F,
-    path: &Option<TextList>,
-) -> Result<InitrdFile, Failed>
+pub fn disk_file<F: Files>(files: &mut F, path: &Option<TextList>) -> Result<InitrdFile, Failed>
     ensures file { IfOk result (λ file. Tells (F.known files.old).health →
         file ≡ file_by path.now (F.known files.old).saved) }
     ensures same { Tells (F.known files.old).health → SameFiles (F.known files.old) (F.known files.new) }

@@ -80,8 +80,8 @@ fn place_of(mem_size_mib: u64, disk: &Option<ByteList>) -> Option<InitrdPlace>
 fn place_by(mem_size_mib: u64, len: usize) -> InitrdPlace
     requires { mem_size_mib ≤ 2 ^ 20 }
     ensures { result ≡ record {
-        start = boot.initrd_start mem_size_mib len;
-        end = boot.initrd_start mem_size_mib len + len;
+      start = boot.initrd_start mem_size_mib len;
+      end = boot.initrd_start mem_size_mib len + len;
     } }
 {
     let start = initrd_start(mem_size_mib, len as u64) as u64;
@@ -115,15 +115,15 @@ fn world_of(alloc: Global, machine: MachineConfig, loads: &Loads<'_>) -> Option<
 }
 
 // The guest of this configuration, image and disk, if there is memory for it and they fit.
-fn guest_of(
-    alloc: Global,
-    config: &Config,
-    image: &[u8],
-    disk: &Option<ByteList>,
-) -> Option<World>
+fn guest_of(alloc: Global, config: &Config, image: &[u8], disk: &Option<ByteList>) -> Option<World>
     ensures { IfSome result (λ guest.
+<<<<<<< HEAD:crates/monitor_plans/src/starting.rt
         IsWorld guest (started config.now.machine.vcpu_count config.now.machine.mem_size_mib
             (loads_from config.now image.now disk.now))) }
+=======
+        IsWorld guest (started config.now.machine.mem_size_mib
+        (loads_from config.now image.now disk.now))) }
+>>>>>>> 1aace63 (Layout, and edits of the loader):crates/monitor_core/src/starting.rt
 {
     let machine = config.machine;
     if machine.vcpu_count > MOST_HARTS || machine.mem_size_mib > MOST_MIB {

@@ -9,6 +9,6 @@ pub returns : goal.returns
 returns c =
     c.in_ok-tree.ensures
     ∙ ap file_by (
-        ap all_of c.as_slice.ensures.value
-        ∙ c.in_ok-push_all.ensures
-        ∙ ap (λ (l : List Token). all_of l ++ tokens_of (machine.tree_of c.args.config.now c.args.initrd)) c.new-tokens.ensures.items)
+    ap all_of c.as_slice.ensures.value
+    ∙ c.in_ok-push_all.ensures
+    ∙ ap (λ (l : List Token). all_of l ++ tokens_of (machine.tree_of c.args.config.now c.args.initrd)) c.new-tokens.ensures.items)
