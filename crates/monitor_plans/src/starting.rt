@@ -111,19 +111,15 @@ fn world_of(alloc: Global, machine: MachineConfig, loads: &Loads<'_>) -> Option<
         machine.vcpu_count as usize,
         machine.mem_size_mib,
         loads,
-    ).ok()
+    )
+    .ok()
 }
 
 // The guest of this configuration, image and disk, if there is memory for it and they fit.
 fn guest_of(alloc: Global, config: &Config, image: &[u8], disk: &Option<ByteList>) -> Option<World>
     ensures { IfSome result (λ guest.
-<<<<<<< HEAD:crates/monitor_plans/src/starting.rt
         IsWorld guest (started config.now.machine.vcpu_count config.now.machine.mem_size_mib
-            (loads_from config.now image.now disk.now))) }
-=======
-        IsWorld guest (started config.now.machine.mem_size_mib
         (loads_from config.now image.now disk.now))) }
->>>>>>> 1aace63 (Layout, and edits of the loader):crates/monitor_core/src/starting.rt
 {
     let machine = config.machine;
     if machine.vcpu_count > MOST_HARTS || machine.mem_size_mib > MOST_MIB {
