@@ -1,3 +1,3 @@
-mod Events
+pub mod Events
 mod Listed
 pub mod Running
