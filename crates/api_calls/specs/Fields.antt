@@ -26,10 +26,10 @@ boot_source = flat (
     ∷ optional (codes "boot_args") (text 2048)
     ∷ []) free
 
--- PUT /machine-config: one hart, 4 to 1,024 MiB
+-- PUT /machine-config: 1 to 32 harts, 4 to 1,024 MiB
 abbrev pub machine_config : Form
 machine_config = flat (
-    needed (codes "vcpu_count") (whole 1 1)
+    needed (codes "vcpu_count") (whole 1 32)
     ∷ needed (codes "mem_size_mib") (whole 4 1024)
     ∷ optional (codes "smt") unset
     ∷ optional (codes "track_dirty_pages") unset
@@ -40,7 +40,7 @@ machine_config = flat (
 -- PATCH /machine-config: the same fields, at least one of them
 abbrev pub machine_patch : Form
 machine_patch = flat (
-    optional (codes "vcpu_count") (whole 1 1)
+    optional (codes "vcpu_count") (whole 1 32)
     ∷ optional (codes "mem_size_mib") (whole 4 1024)
     ∷ optional (codes "smt") unset
     ∷ optional (codes "track_dirty_pages") unset
