@@ -178,9 +178,9 @@ some_answer g actor given m own sound there =
       sound_next g (record { actor = actor; reply = given }) made.0 made.1 own made.3,
     ) in
     let fits : Does (λ text n. MatchBool (is_given want.0 given) (Answers g actor given m text n) (Misfits misfit.Unfit m text n)) =
-        does_by (is_given want.0 given) (Answers g actor given m) (Misfits misfit.Unfit m) answered (misfit_does misfit.Unfit m sound) in
+    does_by (is_given want.0 given) (Answers g actor given m) (Misfits misfit.Unfit m) answered (misfit_does misfit.Unfit m sound) in
     let line = does_by (is_host_op want.0) (λ text n. MatchBool (is_given want.0 given) (Answers g actor given m text n) (Misfits misfit.Unfit m text n)) (Misfits misfit.NotWaiting m)
-        (λ host. fits) (misfit_does misfit.NotWaiting m sound) in
+    (λ host. fits) (misfit_does misfit.NotWaiting m sound) in
     (line.0, line.1, (want.0, want.1, line.2), line.3)
 
 some_reply : (guest : Option Guest) (actor : ActorId) (given : Option Reply) (m : Machine) → Sound m → SoundBy guest

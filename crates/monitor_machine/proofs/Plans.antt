@@ -98,13 +98,13 @@ refusal_is live known m is =
 
 loads_same : (live : LiveMachine) (known : FilesKnown) (m : Machine) (w : WorldValue) (image : List ℕ) → IsMachine live known m
     → IsWorld w (started live.config.machine.vcpu_count live.config.machine.mem_size_mib
-        (loads_from live.config image (disk_in live.config known.saved)))
+    (loads_from live.config image (disk_in live.config known.saved)))
     → IsWorld w (started m.config.machine.vcpu_count m.config.machine.mem_size_mib (loads_from m.config image (disk_of m)))
 loads_same live known m w image is world =
     subst (λ (s : Saved). IsWorld w (started m.config.machine.vcpu_count m.config.machine.mem_size_mib
-        (loads_from m.config image (disk_in m.config s)))) is.files.saved_is
+    (loads_from m.config image (disk_in m.config s)))) is.files.saved_is
     (subst (λ (c : Config). IsWorld w (started c.machine.vcpu_count c.machine.mem_size_mib
-        (loads_from c image (disk_in c known.saved)))) is.own.config_is world)
+    (loads_from c image (disk_in c known.saved)))) is.own.config_is world)
 
 start_plan_by : (it : Plan) (live : LiveMachine) (known : FilesKnown) (m : Machine) (given : Next) → IsMachine live known m
     → decided m given ≡ Ok change.Start → StartGives it live.config known.saved → IsPlan it m given
