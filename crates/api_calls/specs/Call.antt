@@ -69,6 +69,8 @@ memory_path d = this_or (text_at (codes "mem_file_path") d) (text_in (codes "mem
 abbrev pub made : Body → Data → ApiCall
 made body.BootSource d = call.PutBootSource (record {
   kernel_image_path = text_or_none (text_at (codes "kernel_image_path") d);
+  initrd_path = text_at (codes "initrd_path") d;
+  boot_args = text_or_none (text_at (codes "boot_args") d);
 })
 made body.MachineConfig d = call.PutMachineConfig (record {
   vcpu_count = unwrap_or (number_at (codes "vcpu_count") d) 0;

@@ -1,7 +1,7 @@
 -- The fields of each body, in the order of the API's table. What isn't built is not in it: a field is unknown
 -- then, and a value out of range.
 use Rattle.std.specs.Prelude.{ℕ, Bool, true, false, List, [], ◌∷◌, codes}
-use Rattle.api_calls.specs.Form.{Kind, path, choice, whole, flag, unset, group, Row, Level, Together, free, some_of, either, differing, Form}
+use Rattle.api_calls.specs.Form.{Kind, path, text, choice, whole, flag, unset, group, Row, Level, Together, free, some_of, either, differing, Form}
 use Rattle.api_calls.specs.declared.endpoint.Body.{Body}
 use Rattle.api_calls.specs.declared.endpoint.Body.TheVariants as body
 
@@ -20,12 +20,16 @@ none_alone = choice (codes "None" ∷ [])
 
 -- PUT /boot-source
 abbrev pub boot_source : Form
-boot_source = flat (needed (codes "kernel_image_path") path ∷ []) free
+boot_source = flat (
+    needed (codes "kernel_image_path") path
+    ∷ optional (codes "initrd_path") path
+    ∷ optional (codes "boot_args") (text 2048)
+    ∷ []) free
 
--- PUT /machine-config: one hart, 4 to 1,024 MiB
+-- PUT /machine-config: 1 to 32 harts, 4 to 1,024 MiB
 abbrev pub machine_config : Form
 machine_config = flat (
-    needed (codes "vcpu_count") (whole 1 1)
+    needed (codes "vcpu_count") (whole 1 32)
     ∷ needed (codes "mem_size_mib") (whole 4 1024)
     ∷ optional (codes "smt") unset
     ∷ optional (codes "track_dirty_pages") unset
@@ -36,7 +40,7 @@ machine_config = flat (
 -- PATCH /machine-config: the same fields, at least one of them
 abbrev pub machine_patch : Form
 machine_patch = flat (
-    optional (codes "vcpu_count") (whole 1 1)
+    optional (codes "vcpu_count") (whole 1 32)
     ∷ optional (codes "mem_size_mib") (whole 4 1024)
     ∷ optional (codes "smt") unset
     ∷ optional (codes "track_dirty_pages") unset

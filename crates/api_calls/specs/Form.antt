@@ -11,10 +11,11 @@ use Rattle.api_calls.specs.declared.test.Test.TheVariants as test
 
 -- ---- tables
 
--- What a field's value must be: the name of a file; one of these texts; a whole number, at least and at
--- most; a flag; a flag that must not be set; an object, whose fields have a level of their own.
+-- What a field's value must be: the name of a file; a text of at most so many bytes; one of these texts; a whole
+-- number, at least and at most; a flag; a flag that must not be set; an object, whose fields have a level of their own.
 pub data Kind : Type 0 where
   path : Kind
+  text : ℕ → Kind
   choice : List (List ℕ) → Kind
   whole : ℕ → ℕ → Kind
   flag : Kind
@@ -99,6 +100,7 @@ is_known rows name = list_any (λ row. bytes_eq row.name name) rows
 
 unfoldable pub is_of_kind : Kind → Data → Bool
 is_of_kind path d = is_some (as_str d)
+is_of_kind (text most) d = is_some (as_str d)
 is_of_kind (choice texts) d = is_some (as_str d)
 is_of_kind (whole least most) d = is_some (as_whole d)
 is_of_kind flag d = is_some (as_bool d)
@@ -111,6 +113,7 @@ is_path t = nat_lt 0 (length t) && nat_le (length t) 4095 && not (list_any (λ b
 
 unfoldable pub is_in_range : Kind → Data → Bool
 is_in_range path d = holds is_path (as_str d)
+is_in_range (text most) d = holds (λ t. nat_le (length t) most) (as_str d)
 is_in_range (choice texts) d = holds (λ t. list_any (λ c. bytes_eq c t) texts) (as_str d)
 is_in_range (whole least most) d = holds (λ n. nat_le least n && nat_le n most) (as_whole d)
 is_in_range flag d = true

@@ -19,6 +19,10 @@ pub enum Part {
 pub struct BootSource {
     /// The name of the kernel image's file, of 1 to 4,095 bytes.
     pub kernel_image_path: TextList,
+    /// The name of the initial RAM disk's file, of 1 to 4,095 bytes.
+    pub initrd_path: Option<TextList>,
+    /// What the kernel is told on its command line, of at most 2,048 bytes.
+    pub boot_args: TextList,
 }
 
 /// The machine itself. Simultaneous multithreading is always off.

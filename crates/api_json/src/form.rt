@@ -17,6 +17,8 @@ const LONGEST_PATH: usize = 4095;
 pub enum Kind {
     /// The name of a file: 1 to 4,095 bytes, none of them a NUL.
     Path,
+    /// A text of at most so many bytes.
+    Text(usize),
     /// One of these texts.
     Choice(&'static [&'static str]),
     /// A whole number, at least and at most.
@@ -87,7 +89,7 @@ fn is_of_kind(kind: &Kind, value: &Value) -> bool
     ensures { result ≡ form.is_of_kind (kind_of kind.now) (view value.now) }
 {
     match kind {
-        Kind::Path | Kind::Choice(_) => value.is_string(),
+        Kind::Path | Kind::Text(_) | Kind::Choice(_) => value.is_string(),
         Kind::Whole(_, _) => value.is_u64(),
         Kind::Flag | Kind::Unset => value.is_boolean(),
         Kind::Group => value.is_object(),
@@ -113,6 +115,10 @@ fn is_in_range(kind: &Kind, value: &Value) -> bool
     match kind {
         Kind::Path => match value.as_str() {
             Some(text) => is_path(text),
+            None => true,
+        },
+        Kind::Text(most) => match value.as_str() {
+            Some(text) => text.len() <= *most,
             None => true,
         },
         Kind::Choice(texts) => match value.as_str() {

@@ -10,7 +10,7 @@ use crate::levels::{Form, Level, Together};
 use api_calls::{ApiCall, MachineConfig, MachinePatch};
 use serde_json::Value;
 
-const MOST_HARTS: u64 = 1;
+const MOST_HARTS: u64 = 32;
 
 const LEAST_MIB: u64 = 4;
 

@@ -1,6 +1,6 @@
 -- Which calls are allowed: the API's table, row by row, without the checks of bodies, which come before.
 use Rattle.std.specs.Prelude.{ℕ, ◌^◌, nat_le, Bool, true, false, not, if◌then◌else◌, List, [], ◌∷◌, length, Option, Some, None, is_none, unwrap_or, Result, Ok, Err}
-use Rattle.guest_memory.specs.Boot.{image_fits}
+use Rattle.guest_memory.specs.Boot.{loads_fit}
 use Rattle.refusals.specs.declared.refusal.Refusal.{Refusal}
 use Rattle.refusals.specs.declared.refusal.Refusal.TheVariants as refusal
 use Rattle.api_calls.specs.declared.call.ApiCall.{ApiCall}
@@ -14,6 +14,8 @@ use Rattle.vm_config.specs.declared.change.Change.{Change}
 use Rattle.vm_config.specs.declared.change.Change.TheVariants as change
 use Rattle.api_rules.specs.declared.deciding.When.{When}
 use Rattle.api_rules.specs.declared.deciding.When.TheVariants.{BeforeBoot, AfterBoot, Always}
+use Rattle.api_rules.specs.declared.actions.InitrdFile.{InitrdFile}
+use Rattle.api_rules.specs.declared.actions.InitrdFile.TheVariants as initrd
 use Rattle.api_rules.specs.declared.ids.Ids.{Ids}
 
 -- ---- the phase
@@ -112,15 +114,26 @@ decision p config ids c =
 
 -- ---- what an allowed start is refused by the files, where image is how many bytes its kernel image has
 
-abbrev pub fits_by : Option ℕ → ℕ → Bool
-fits_by None mib = true
-fits_by (Some len) mib = image_fits mib len
+abbrev pub is_missing : InitrdFile → Bool
+is_missing initrd.Unnamed = false
+is_missing initrd.Missing = true
+is_missing (initrd.There len) = false
 
-abbrev pub image_rows : Config → Option ℕ → Rows
-image_rows config image =
+abbrev pub len_of : InitrdFile → Option ℕ
+len_of initrd.Unnamed = None
+len_of initrd.Missing = None
+len_of (initrd.There len) = Some len
+
+abbrev pub fits_by : Option ℕ → InitrdFile → ℕ → Bool
+fits_by None file mib = true
+fits_by (Some len) file mib = loads_fit mib len (len_of file)
+
+abbrev pub boot_rows : Config → Option ℕ → InitrdFile → Rows
+boot_rows config image file =
     (is_none image, refusal.NoSuchFile)
-    ∷ (not (fits_by image config.machine.mem_size_mib), refusal.DoesNotFit)
+    ∷ (is_missing file, refusal.NoSuchFile)
+    ∷ (not (fits_by image file config.machine.mem_size_mib), refusal.DoesNotFit)
     ∷ []
 
-abbrev pub image_refusal : Config → Option ℕ → Option Refusal
-image_refusal config image = first_refusal (image_rows config image)
+abbrev pub boot_refusal : Config → Option ℕ → InitrdFile → Option Refusal
+boot_refusal config image file = first_refusal (boot_rows config image file)

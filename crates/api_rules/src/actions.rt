@@ -3,7 +3,7 @@ ghost use Rattle.std.specs.Prelude.{◌≡◌};
 ghost use Rattle.api_calls.specs.declared.call.ApiCall.TheVariants.{InstanceStart};
 ghost use Rattle.api_rules.specs.Table as table;
 
-use guest_memory::is_image_fit;
+use guest_memory::do_loads_fit;
 use refusals::Refusal;
 use vm_config::Config;
 
@@ -18,18 +18,42 @@ pub fn start_refusal(config: &Config) -> Option<Refusal>
     }
 }
 
+/// What the files have under the name of the initial RAM disk.
+#[derive(Clone, Copy, Debug, PartialEq, Eq, Drop)]
+pub enum InitrdFile {
+    /// No name is configured.
+    Unnamed,
+    /// There is no file of that name.
+    Missing,
+    /// There is one, of so many bytes.
+    There(u64),
+}
+
+/// How many bytes the file has, if there is one.
+pub fn initrd_len(initrd: InitrdFile) -> Option<u64>
+    ensures { result ≡ table.len_of initrd }
+{
+    match initrd {
+        InitrdFile::Unnamed | InitrdFile::Missing => None,
+        InitrdFile::There(len) => Some(len),
+    }
+}
+
 /// What a start that `decide` allows is refused by the files.
 ///
 /// `image` is how many bytes the file of the kernel image has, if there is one.
-pub fn image_refusal(config: &Config, image: Option<u64>) -> Option<Refusal>
-    ensures { result ≡ table.image_refusal config.now image }
+pub fn boot_refusal(config: &Config, image: Option<u64>, initrd: InitrdFile) -> Option<Refusal>
+    ensures { result ≡ table.boot_refusal config.now image initrd }
 {
-    match image {
-        None => Some(Refusal::NoSuchFile),
-        Some(len) => if is_image_fit(config.machine.mem_size_mib, len) {
-            None
-        } else {
-            Some(Refusal::DoesNotFit)
-        },
+    let Some(image) = image else {
+        return Some(Refusal::NoSuchFile);
+    };
+    if initrd == InitrdFile::Missing {
+        return Some(Refusal::NoSuchFile);
+    }
+    if do_loads_fit(config.machine.mem_size_mib, image, initrd_len(initrd)) {
+        None
+    } else {
+        Some(Refusal::DoesNotFit)
     }
 }

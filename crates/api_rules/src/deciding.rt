@@ -72,7 +72,7 @@ fn change_of(config: &Config, call: ApiCall) -> Change
 
 /// What a call asks for in this phase, or its first refusal: by the phase, then its own in the table's order.
 ///
-/// It takes no memory: texts are moved. It asks no file: a start goes on with `image_refusal`.
+/// It takes no memory: texts are moved. It asks no file: a start goes on with `boot_refusal`.
 pub fn decide(phase: Phase, config: &Config, ids: &Ids, call: ApiCall) -> Result<Change, Refusal>
     ensures { result ≡ table.decision phase config.now ids.now call }
 {

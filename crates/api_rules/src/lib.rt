@@ -2,7 +2,7 @@
 //!
 //! `decide` is the table: a call is refused by the phase, then by the refusals of its own, each in the table's
 //! order, and else it is a change. It takes no memory, and asks no file: what a start is refused by the file of its
-//! kernel image, `image_refusal` says. The definition is `specs/Table.antt`, row by row. `specs/Answers.antt` has what
+//! kernel image, `boot_refusal` says. The definition is `specs/Table.antt`, row by row. `specs/Answers.antt` has what
 //! a call is answered.
 #![tactic(auto)]
 
@@ -23,7 +23,7 @@ mod deciding;
 #[cfg(test)]
 mod tests;
 
-pub use actions::image_refusal;
+pub use actions::{InitrdFile, boot_refusal, initrd_len};
 pub use answer::{Answer, accepted_answer, fault_answer};
 pub use deciding::{When, decide};
 pub use ids::Ids;

@@ -1,6 +1,7 @@
 // What calls are answered: values from outside, by configuration, phase and call.
 use crate::{
-    Answer, Change, Config, Ids, Phase, accepted_answer, decide, fault_answer, image_refusal,
+    Answer, Change, Config, Ids, InitrdFile, Phase, accepted_answer, boot_refusal, decide,
+    fault_answer,
 };
 use api_calls::{
     ApiCall, BootSource, MachineConfig, MachinePatch, Part, SnapshotFiles, SnapshotLoad, VmState,
@@ -44,7 +45,7 @@ const NEW_TEXT: &[u8] = b"{\"balloon\":null,\"boot-source\":null,\"drives\":[],\
 \"mmds-config\":null,\"network-interfaces\":[],\"vsock\":null}";
 
 const SET_TEXT: &[u8] = b"{\"balloon\":null,\
-\"boot-source\":{\"boot_args\":\"\",\"initrd_path\":null,\"kernel_image_path\":\"k\"},\"drives\":[],\
+\"boot-source\":{\"boot_args\":\"quiet\",\"initrd_path\":\"i\",\"kernel_image_path\":\"k\"},\"drives\":[],\
 \"machine-config\":{\"mem_size_mib\":4,\"smt\":false,\"track_dirty_pages\":false,\"vcpu_count\":1},\
 \"mmds-config\":null,\"network-interfaces\":[],\"vsock\":null}";
 
@@ -63,6 +64,8 @@ const PATCH: MachinePatch = MachinePatch {
 fn source(alloc: Global) -> Result<BootSource, AllocError> {
     Ok(BootSource {
         kernel_image_path: TextList::copy_of(alloc, "k")?,
+        initrd_path: Some(TextList::copy_of(alloc, "i")?),
+        boot_args: TextList::copy_of(alloc, "quiet")?,
     })
 }
 
@@ -155,15 +158,34 @@ fn each_call_in_each_phase(rt: HostRuntime) -> Result<(), Fail> {
 }
 
 #[test]
-fn a_start_needs_a_file_that_fits(rt: HostRuntime) -> Result<(), Fail> {
+fn a_start_needs_files_that_fit(rt: HostRuntime) -> Result<(), Fail> {
     let config = config(rt.alloc(), false)?;
-    for (image, wanted) in [
-        (None, Some(Refusal::NoSuchFile)),
-        (Some(2_031_617), Some(Refusal::DoesNotFit)),
-        (Some(2_031_616), None),
-        (Some(u64::MAX), Some(Refusal::DoesNotFit)),
+    for (image, initrd, wanted) in [
+        (None, InitrdFile::Unnamed, Some(Refusal::NoSuchFile)),
+        (
+            Some(2_031_617),
+            InitrdFile::Missing,
+            Some(Refusal::NoSuchFile),
+        ),
+        (
+            Some(2_031_617),
+            InitrdFile::Unnamed,
+            Some(Refusal::DoesNotFit),
+        ),
+        (Some(2_031_616), InitrdFile::Unnamed, None),
+        (Some(2_031_616), InitrdFile::There(0), None),
+        (
+            Some(2_031_616),
+            InitrdFile::There(1),
+            Some(Refusal::DoesNotFit),
+        ),
+        (
+            Some(u64::MAX),
+            InitrdFile::There(1),
+            Some(Refusal::DoesNotFit),
+        ),
     ] {
-        assert_eq!(rt; image_refusal(&config, image), wanted);
+        assert_eq!(rt; boot_refusal(&config, image, initrd), wanted);
     }
     Ok(())
 }

@@ -22,6 +22,7 @@ use Rattle.hart_trace.proofs.Traces.{leads_start, hart_prefix, some_hart, some_o
 use Rattle.timer_trace.specs.States.{new_timer, wants_by}
 use Rattle.timer_trace.specs.Traces as timer
 use Rattle.timer_trace.proofs.Traces as timer_traces
+use Rattle.guest_memory.specs.Boot.{Loads}
 use Rattle.flat_guest.specs.Guest.{Guest, Wants, WantsFrom, is_actor, layout_of}
 use Rattle.flat_guest.specs.Places.{place_of}
 use Rattle.flat_guest.specs.declared.places.Layout.{Layout}
@@ -34,8 +35,8 @@ use Rattle.flat_guest.proofs.Answering.{answers_at, answer_fits}
 no_steps : timer.IsPrefix []
 no_steps = timer_traces.timer_prefix [] new_timer timer_traces.leads_start
 
-pub sound_start : (harts mib : ℕ) (image : List ℕ) → IsSound (started harts mib image)
-sound_start harts mib image = record {
+pub sound_start : (harts mib : ℕ) (loads : Loads) → IsSound (started harts mib loads)
+sound_start harts mib loads = record {
   timer_on = no_steps;
   harts_on = λ k start is. hart_prefix start [] (fresh start) (leads_start start);
 }

@@ -2,7 +2,7 @@
 use Rattle.std.specs.Prelude.{ℕ, if◌then◌else◌, List, [], replicate, slice_set}
 use Rattle.vm_types.specs.declared.ids.ActorId.TheVariants.{Timer}
 use Rattle.vm_types.specs.Ids.{same_actor}
-use Rattle.guest_memory.specs.Boot.{boot_memory, image_start, tree_start}
+use Rattle.guest_memory.specs.Boot.{Loads, boot_memory, image_start, tree_start}
 use Rattle.board_table.specs.Board.{new_board}
 use Rattle.rv_supervisor.specs.declared.regs.Regs.{Regs}
 use Rattle.rv_supervisor.specs.Start.{start_regs}
@@ -14,10 +14,10 @@ use Rattle.flat_guest.specs.Guest.{Guest}
 abbrev pub start_of_harts : ℕ → ℕ → List Regs
 start_of_harts harts mib = slice_set (replicate harts stopped_regs) 0 (start_regs image_start 0 (tree_start mib))
 
--- so many harts, with this much memory and this image in it
-abbrev pub started : ℕ → ℕ → List ℕ → Guest
-started harts mib image = record {
-  memory = boot_memory mib image;
+-- so many harts, with this much memory and this loaded into it
+abbrev pub started : ℕ → ℕ → Loads → Guest
+started harts mib loads = record {
+  memory = boot_memory mib loads;
   board = new_board harts;
   starts = start_of_harts harts mib;
   steps = λ actor. [];

@@ -6,6 +6,7 @@ ghost use Rattle.vm_types.specs.declared.ids.ActorId.{ActorId};
 ghost use Rattle.vm_types.specs.declared.ids.ActorId.TheVariants.{Hart};
 ghost use Rattle.vm_types.specs.declared.op.Op.{Op};
 ghost use Rattle.vm_types.specs.declared.reply.Reply.{Reply};
+ghost use Rattle.guest_memory.specs.Boot.{Loads};
 ghost use Rattle.flat_guest.specs.Guest.{Guest, Wants, is_actor};
 ghost use Rattle.flat_guest.specs.Sound.{IsSound};
 ghost use Rattle.flat_guest.specs.Start.{started, timer_restarted};
@@ -30,7 +31,7 @@ pub fn one_step()
 /// A guest that has started is never stuck: each of its actors always wants something, which is done with whatever reply
 /// is due to it, and so on. A hart never waits for a reply of a host object.
 pub fn some_step()
-    ensures start { (harts mib : ℕ) (image : List ℕ) → IsSound (started harts mib image) }
+    ensures start { (harts mib : ℕ) (loads : Loads) → IsSound (started harts mib loads) }
     ensures restart { (g : Guest) → IsSound g → IsSound (timer_restarted g) }
     ensures step { (g : Guest) (actor : ActorId) → IsSound g → is_actor g actor ≡ true →
         (op : Op) × Wants g actor op × ((given : Option Reply) → is_given op given ≡ true →

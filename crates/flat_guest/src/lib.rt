@@ -1,7 +1,7 @@
 //! The flat machine's guest: memory as one list, the board, and the timer and harts by their traces.
 //!
 //! `specs/` says what a guest is, what an event does to it, how it starts, and which guests a body's data are; `law`
-//! has what holds of every guest. `place` says where an op acts, and `tree_address` where a start puts the device tree.
+//! has what holds of every guest. `place` says where an op acts.
 #![tactic(auto)]
 
 mod boot;
@@ -10,6 +10,6 @@ mod places;
 #[cfg(test)]
 mod tests;
 
-pub use boot::{MOST_MIB, tree_address};
+pub use boot::MOST_MIB;
 pub use law::{one_step, some_step};
 pub use places::{Layout, place};

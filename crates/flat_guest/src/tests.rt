@@ -1,5 +1,5 @@
 // Where ops act, and where a start puts things.
-use crate::{Layout, MOST_MIB, place, tree_address};
+use crate::{Layout, place};
 use vm_types::{AmoKind, BoardOp, Op, OutOp, Piece, PlaceId, PortOp};
 
 #[test]
@@ -153,11 +153,4 @@ fn an_op_acts_on_one_page_a_port_or_the_board(rt: HostRuntime) {
     ] {
         assert_eq!(rt; place(layout, &op), wanted);
     }
-}
-
-#[test]
-fn the_device_tree_is_64_kib_below_the_end(rt: HostRuntime) {
-    assert_eq!(rt; tree_address(3), 0x802f_0000);
-    assert_eq!(rt; tree_address(64), 0x83ff_0000);
-    assert_eq!(rt; tree_address(MOST_MIB), 0x100_7fff_0000);
 }

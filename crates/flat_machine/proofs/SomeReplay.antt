@@ -46,7 +46,7 @@ use Rattle.flat_machine.specs.Outcome.Outcome.{Answered}
 use Rattle.flat_machine.specs.Machine.{Machine, console_of, drained, drained_guest, is_off, new_machine, running, running_by}
 use Rattle.flat_machine.specs.Items.{Answers, ItemStep, MemoryLine, Misfits, Moves, RegisterLine, Replies, RepliesLine, Shows, ShowsFrom, StepsLine, Talks, steps_text}
 use Rattle.flat_machine.specs.Replay.{IsEnd, IsReplay, closed, closing, judged_script}
-use Rattle.flat_machine.specs.Requests.{Creates, Leaves, LeavesBy, Loads, RequestStep, allowed, answer_by, carried, configured, created, halted, image_of, started_from}
+use Rattle.flat_machine.specs.Requests.{Creates, Leaves, LeavesBy, Loads, RequestStep, allowed, answer_by, carried, configured, created, disk_of, halted, image_of, loads_from, started_from}
 use Rattle.flat_machine.specs.Run.{Act, AllAnswered, OnBefore, Run, lines_done}
 use Rattle.flat_machine.proofs.Determined.{item_one}
 
@@ -65,9 +65,10 @@ made_sound (e ∷ es) g h actor made sound =
     let event : Event = record { actor = actor; reply = None } in
     made_sound es made.1 h actor made.3 (sound_next g event e made.1 sound made.2)
 
-from_sound : (image : Option (List ℕ)) (m : Machine) → Sound m → Sound (started_from image m)
-from_sound (Some image) m sound = sound_start m.config.machine.vcpu_count m.config.machine.mem_size_mib image
-from_sound None m sound = sound
+from_sound : (image disk : Option (List ℕ)) (m : Machine) → Sound m → Sound (started_from image disk m)
+from_sound (Some image) disk m sound =
+    sound_start m.config.machine.vcpu_count m.config.machine.mem_size_mib (loads_from m.config image disk)
+from_sound None disk m sound = sound
 
 halted_sound : (paused : Bool) (guest : Option Guest) → SoundBy guest → SoundBy (halted paused guest)
 halted_sound true guest sound = sound
@@ -89,7 +90,7 @@ some_change : (it : Change) (m : Machine) → Sound m → (n : Machine) × Leave
 some_change (change.BootSource source) m sound = (configured m (change.BootSource source), refl, sound)
 some_change (change.MachineConfig machine) m sound = (configured m (change.MachineConfig machine), refl, sound)
 some_change change.Start m sound =
-    (configured (started_from (image_of m) m) change.Start, refl, from_sound (image_of m) m sound)
+    (configured (started_from (image_of m) (disk_of m) m) change.Start, refl, from_sound (image_of m) (disk_of m) m sound)
 some_change (change.State Paused) m sound =
     (record m { guest = halted m.paused m.guest; paused = true }, refl, halted_sound m.paused m.guest sound)
 some_change (change.State Resumed) m sound = (record m { paused = false }, refl, sound)

@@ -1,5 +1,5 @@
 -- What the flat machine makes of a request.
-use Rattle.std.specs.Prelude.{ℕ, ◌≡◌, ◌≢◌, ◌+◌, Bool, true, false, not, List, ◌++◌, length, Option, Some, None, option_map, Result, Ok, Err}
+use Rattle.std.specs.Prelude.{ℕ, ◌≡◌, ◌≢◌, ◌+◌, Bool, true, false, not, List, ◌++◌, length, Option, Some, None, option_and_then, option_map, Result, Ok, Err}
 use Rattle.std.specs.FinMap.{get, insert}
 use Rattle.vm_types.specs.declared.identity.Identity.{Identity}
 use Rattle.vm_outside.specs.Calls.{MakesFront}
@@ -14,13 +14,19 @@ use Rattle.api_calls.specs.declared.call.BootSource.{BootSource}
 use Rattle.api_calls.specs.declared.call.SnapshotFiles.{SnapshotFiles}
 use Rattle.api_calls.specs.declared.call.VmState.TheVariants.{Paused, Resumed}
 use Rattle.api_calls.specs.Call.{call_of, ◌>>=◌}
+use Rattle.vm_config.specs.declared.config.Config.{Config}
 use Rattle.vm_config.specs.declared.change.Change.{Change}
 use Rattle.vm_config.specs.declared.change.Change.TheVariants as change
 use Rattle.vm_config.specs.Changes.{changed}
 use Rattle.api_rules.specs.declared.answer.Answer.{Answer}
 use Rattle.api_rules.specs.declared.ids.Ids.{Ids}
 use Rattle.api_rules.specs.Answers.{accepted, refused}
-use Rattle.api_rules.specs.Table.{decision, image_refusal, unless}
+use Rattle.api_rules.specs.declared.actions.InitrdFile.{InitrdFile}
+use Rattle.api_rules.specs.declared.actions.InitrdFile.TheVariants as initrd
+use Rattle.api_rules.specs.Table.{boot_refusal, decision, unless}
+use Rattle.guest_memory.specs.Boot.{Loads, initrd_start}
+use Rattle.devtree.specs.declared.machine.InitrdPlace.{InitrdPlace}
+use Rattle.devtree.specs.Machine.{tree_bytes}
 use Rattle.script_output.specs.Output.{reply_line}
 use Rattle.flat_guest.specs.Guest.{Guest}
 use Rattle.flat_guest.specs.Start.{started, timer_restarted}
@@ -58,9 +64,33 @@ image_by (Some source) saved = get saved source.kernel_image_path
 abbrev pub image_of : Machine → Option (List ℕ)
 image_of m = image_by m.config.boot_source m.saved
 
+-- the name of the initial RAM disk, if one is configured, and what the files have under it
+abbrev pub initrd_name : Option BootSource → Option (List ℕ)
+initrd_name None = None
+initrd_name (Some source) = source.initrd_path
+
+abbrev pub file_with : Option ℕ → InitrdFile
+file_with None = initrd.Missing
+file_with (Some len) = initrd.There len
+
+abbrev pub file_by : Option (List ℕ) → Saved → InitrdFile
+file_by None saved = initrd.Unnamed
+file_by (Some name) saved = file_with (option_map length (get saved name))
+
+abbrev pub disk_by : Option (List ℕ) → Saved → Option (List ℕ)
+disk_by name saved = option_and_then (get saved) name
+
+abbrev pub disk_of : Machine → Option (List ℕ)
+disk_of m = disk_by (initrd_name m.config.boot_source) m.saved
+
+-- what a start is refused by the files
+abbrev pub start_refusal : Config → Saved → Option Refusal
+start_refusal config saved =
+    boot_refusal config (option_map length (image_by config.boot_source saved)) (file_by (initrd_name config.boot_source) saved)
+
 -- a start and a load are also refused by the files, which they alone ask
 abbrev pub by_files : Machine → Change → Result Change Refusal
-by_files m change.Start = unless (image_refusal m.config (option_map length (image_of m))) (Ok change.Start)
+by_files m change.Start = unless (start_refusal m.config m.saved) (Ok change.Start)
 by_files m (change.LoadSnapshot load) = do
   _ ← found m.saved load.files
   Ok (change.LoadSnapshot load)
@@ -82,14 +112,29 @@ answer_by m (Err why) = refused why
 abbrev pub configured : Machine → Change → Machine
 configured m it = record m { config = changed m.config it }
 
--- a start makes the guest of the image, which runs
-abbrev pub started_from : Option (List ℕ) → Machine → Machine
-started_from (Some image) m =
+-- what it loads: the image, the disk, and the device tree that says where the disk is
+abbrev pub place_of : ℕ → Option (List ℕ) → Option InitrdPlace
+place_of mib None = None
+place_of mib (Some disk) = Some (record {
+  start = initrd_start mib (length disk);
+  end = initrd_start mib (length disk) + length disk;
+})
+
+abbrev pub loads_from : Config → List ℕ → Option (List ℕ) → Loads
+loads_from config image disk = record {
+  image = image;
+  initrd = disk;
+  tree = tree_bytes config (place_of config.machine.mem_size_mib disk);
+}
+
+-- a start makes the guest of what it loads, which runs
+abbrev pub started_from : Option (List ℕ) → Option (List ℕ) → Machine → Machine
+started_from (Some image) disk m =
     record m {
-      guest = Some (started m.config.machine.vcpu_count m.config.machine.mem_size_mib image);
+      guest = Some (started m.config.machine.vcpu_count m.config.machine.mem_size_mib (loads_from m.config image disk));
       paused = false;
     }
-started_from None m = m
+started_from None disk m = m
 
 -- a guest that is to stand still: one that ran begins its timer anew
 abbrev pub halted : Bool → Option Guest → Option Guest
@@ -138,7 +183,7 @@ Loads (Err why) m resumes n = n ≡ m
 abbrev pub Leaves : Machine → Change → Machine → Type 0
 Leaves m (change.BootSource source) n = n ≡ configured m (change.BootSource source)
 Leaves m (change.MachineConfig machine) n = n ≡ configured m (change.MachineConfig machine)
-Leaves m change.Start n = n ≡ configured (started_from (image_of m) m) change.Start
+Leaves m change.Start n = n ≡ configured (started_from (image_of m) (disk_of m) m) change.Start
 Leaves m (change.State Paused) n = n ≡ record m { guest = halted m.paused m.guest; paused = true }
 Leaves m (change.State Resumed) n = n ≡ record m { paused = false }
 Leaves m (change.CreateSnapshot files) n = Creates m.guest m files n

@@ -1,7 +1,6 @@
 -- What a plan does is what the machine does.
-use Rattle.std.proofs.Common.{◌≡◌, ℕ, ◌≤◌, ◌⊎◌, inl, inr, Bool, true, false, refl, sym, ap, subst, ◌∙◌, List, length, Option, Some, None, Ok, Err, Result}
+use Rattle.std.proofs.Common.{◌≡◌, ℕ, ◌≤◌, ◌⊎◌, inl, inr, Bool, true, false, refl, sym, ap, subst, ◌∙◌, List, Option, Some, None, Ok, Err, Result}
 use Rattle.std.proofs.Math.Nat.{le_refl}
-use Rattle.std.specs.Prelude.{option_map}
 use Rattle.vm_types.specs.Saved.{Saved}
 use Rattle.refusals.specs.declared.refusal.Refusal.{Refusal}
 use Rattle.http_stream.specs.declared.request.Request.{Request}
@@ -19,20 +18,20 @@ use Rattle.vm_config.specs.declared.change.Change.{Change}
 use Rattle.vm_config.specs.declared.change.Change.TheVariants as change
 use Rattle.vm_config.specs.Changes.{changed}
 use Rattle.api_rules.specs.declared.ids.Ids.{Ids}
-use Rattle.api_rules.specs.Table.{change_of, decision, image_refusal, misplaced, own_refusal, patched, unless, when_allowed}
+use Rattle.api_rules.specs.Table.{change_of, decision, misplaced, own_refusal, patched, unless, when_allowed}
 use Rattle.script_output.specs.Output.{reply_line}
 use Rattle.flat_guest.specs.Guest.{Guest}
 use Rattle.flat_guest.specs.Start.{started}
 use Rattle.flat_machine.specs.Outcome as flat
 use Rattle.flat_machine.specs.Machine.{AreFilesOf, Machine}
 use Rattle.flat_machine.specs.Machine as machine
-use Rattle.flat_machine.specs.Requests.{Leaves, LeavesBy, RequestStep, allowed, answer_by, by_files, configured, decided, halted, image_of, started_from}
+use Rattle.flat_machine.specs.Requests.{Leaves, LeavesBy, RequestStep, allowed, answer_by, by_files, configured, decided, disk_of, halted, image_of, loads_from, start_refusal, started_from}
 use Rattle.vm_world.specs.Worlds.{IsWorld, WorldValue}
 use Rattle.vm_world.proofs.Events.{restarted}
 use Rattle.monitor_plans.specs.declared.plan.Plan.{Plan}
 use Rattle.monitor_plans.specs.declared.plan.Plan.TheVariants as plan
 use Rattle.monitor_plans.specs.Plans.{PlanCause, is_start, plan_answer}
-use Rattle.monitor_plans.specs.Starting.{StartGives, image_in, start_refusal}
+use Rattle.monitor_plans.specs.Starting.{StartGives, disk_in, image_in}
 use Rattle.monitor_machine.specs.declared.machine.LiveMachine.{LiveMachine}
 use Rattle.monitor_machine.specs.declared.outcome.Outcome.{Outcome}
 use Rattle.monitor_machine.specs.Plans.{Answers, IsPlan, decided_call, halted_world, is_snapshot, paused_by, phase_by, phase_of, plan_after, plan_line, plan_outcome, world_by}
@@ -131,9 +130,19 @@ image_is live known m is =
     ap (λ (c : Config). image_in c known.saved) is.own.config_is ∙ ap (λ (s : Saved). image_in m.config s) is.files.saved_is
 
 refusal_is : (live : LiveMachine) (known : FilesKnown) (m : Machine) → IsMachine live known m
-    → start_refusal live.config known.saved ≡ image_refusal m.config (option_map length (image_of m))
+    → start_refusal live.config known.saved ≡ start_refusal m.config m.saved
 refusal_is live known m is =
     ap (λ (c : Config). start_refusal c known.saved) is.own.config_is ∙ ap (λ (s : Saved). start_refusal m.config s) is.files.saved_is
+
+loads_same : (live : LiveMachine) (known : FilesKnown) (m : Machine) (w : WorldValue) (image : List ℕ) → IsMachine live known m
+    → IsWorld w (started live.config.machine.vcpu_count live.config.machine.mem_size_mib
+    (loads_from live.config image (disk_in live.config known.saved)))
+    → IsWorld w (started m.config.machine.vcpu_count m.config.machine.mem_size_mib (loads_from m.config image (disk_of m)))
+loads_same live known m w image is world =
+    subst (λ (s : Saved). IsWorld w (started m.config.machine.vcpu_count m.config.machine.mem_size_mib
+    (loads_from m.config image (disk_in m.config s)))) is.files.saved_is
+    (subst (λ (c : Config). IsWorld w (started c.machine.vcpu_count c.machine.mem_size_mib
+    (loads_from c image (disk_in c known.saved)))) is.own.config_is world)
 
 start_plan_by : (it : Plan) (live : LiveMachine) (known : FilesKnown) (m : Machine) (given : Next) → IsMachine live known m
     → decided m given ≡ Ok change.Start → StartGives it live.config known.saved → IsPlan it m given
@@ -146,7 +155,7 @@ start_plan_by (plan.Starts w) live known m given is asks (none, image, there, wo
       ∙ ap (λ (o : Option Refusal). unless o (Ok change.Start)) (sym (refusal_is live known m is) ∙ none),
   image,
   sym (image_is live known m is) ∙ there,
-  subst (λ (c : Config). IsWorld w (started c.machine.vcpu_count c.machine.mem_size_mib image)) is.own.config_is world,
+  loads_same live known m w image is world,
 )
 start_plan_by plan.FilesFailed live known m given is asks gives = asks
 start_plan_by plan.NoMemory live known m given is asks gives = tt
@@ -239,10 +248,10 @@ plan_does (plan.Changes it) live known m given is (asks, unlike, plain) = (
   },
 )
 plan_does (plan.Starts w) live known m given is (asks, image, there, world) =
-    let n : Machine = configured (started_from (Some image) m) change.Start in (
+    let n : Machine = configured (started_from (Some image) (disk_of m) m) change.Start in (
       n,
       answered live known m n given (Ok change.Start) _ asks (line_is (plan.Starts w) live m is.own)
-          (ap (λ (o : Option (List ℕ)). configured (started_from o m) change.Start) (sym there)),
+          (ap (λ (o : Option (List ℕ)). configured (started_from o (disk_of m) m) change.Start) (sym there)),
       record {
         own = record {
           id_is = is.own.id_is;

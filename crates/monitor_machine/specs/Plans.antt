@@ -17,7 +17,7 @@ use Rattle.script_output.specs.Output.{reply_line}
 use Rattle.timer_trace.specs.States.{new_timer}
 use Rattle.flat_guest.specs.Start.{started}
 use Rattle.flat_machine.specs.Machine.{Machine}
-use Rattle.flat_machine.specs.Requests.{allowed, built, decided, image_of}
+use Rattle.flat_machine.specs.Requests.{allowed, built, decided, disk_of, image_of, loads_from}
 use Rattle.vm_world.specs.Worlds.{IsWorld, WorldValue}
 use Rattle.monitor_plans.specs.declared.plan.Plan.{Plan}
 use Rattle.monitor_plans.specs.declared.plan.Plan.TheVariants as plan
@@ -52,7 +52,7 @@ IsPlan (plan.Refused why) m given = allowed m given ≡ Err why
 IsPlan (plan.Changes it) m given = (allowed m given ≡ Ok it) × (is_start it ≡ false) × (is_snapshot it ≡ false)
 IsPlan (plan.Starts w) m given =
     (allowed m given ≡ Ok change.Start) × (image : List ℕ) × (image_of m ≡ Some image)
-    × IsWorld w (started m.config.machine.vcpu_count m.config.machine.mem_size_mib image)
+    × IsWorld w (started m.config.machine.vcpu_count m.config.machine.mem_size_mib (loads_from m.config image (disk_of m)))
 IsPlan plan.FilesFailed m given = decided m given ≡ Ok change.Start
 IsPlan plan.NoMemory m given = Unit {0}
 

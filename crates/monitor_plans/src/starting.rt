@@ -1,27 +1,34 @@
 // What a start comes to.
-ghost use Rattle.std.specs.Prelude.{◌≡◌, ◌≤◌, IfSome};
+ghost use Rattle.std.specs.Prelude.{◌≡◌, ◌+◌, ◌≤◌, ◌^◌, IfSome, option_map};
+ghost use Rattle.guest_memory.specs.Boot as boot;
+ghost use Rattle.boot_loader.specs.Loading.{loads_of};
 ghost use Rattle.flat_guest.specs.Start.{started};
+ghost use Rattle.flat_machine.specs.Requests.{loads_from, place_of};
 ghost use Rattle.vm_outside.specs.Filing.{SameFiles};
 ghost use Rattle.vm_outside.specs.Known.{Lasts, Tells};
 ghost use Rattle.vm_world.specs.Worlds.{IsWorld};
 ghost use Rattle.monitor_plans.specs.Plans.{PlanCause};
 ghost use Rattle.monitor_plans.specs.Starting.{StartGives};
 
+use crate::disk::{disk_file, load_disk};
 use crate::loading::{LoadError, load};
 use crate::plan::Plan;
 use api_calls::MachineConfig;
-use api_rules::{Config, image_refusal};
+use api_rules::{Config, boot_refusal};
+use boot_loader::Loads;
+use devtree::{InitrdPlace, write_tree};
 use flat_guest::MOST_MIB;
-use guest_memory::is_image_fit;
+use guest_memory::initrd_start;
 use refusals::Refusal;
 use std::alloc::Global;
 use vm_outside::{Failed, Files};
+use vm_types::ByteList;
 use vm_world::World;
 
 /// The most harts that a machine has.
 const MOST_HARTS: u64 = 32;
 
-/// What comes of a start that the configuration allows, by the file of its kernel image.
+/// What comes of a start that the configuration allows, by the files of its kernel image and its disk.
 pub fn start<F: Files>(alloc: Global, config: &Config, files: &mut F) -> Plan
     ensures gives { Tells (F.known files.old).health → StartGives result config.now (F.known files.old).saved }
     ensures same { Tells (F.known files.old).health → SameFiles (F.known files.old) (F.known files.new) }
@@ -35,14 +42,22 @@ pub fn start<F: Files>(alloc: Global, config: &Config, files: &mut F) -> Plan
     let Ok(size) = files.size(path) else {
         return Plan::FilesFailed;
     };
-    if let Some(why) = image_refusal(config, size) {
+    let Some(len) = size else {
+        return Plan::Refused(Refusal::NoSuchFile);
+    };
+    let Ok(file) = disk_file(files, &source.initrd_path) else {
+        return Plan::FilesFailed;
+    };
+    if let Some(why) = boot_refusal(config, size, file) {
         return Plan::Refused(why);
     }
-    let Some(len) = size else {
-        return Plan::NoMemory;
+    let image = match load(alloc, files, path, len) {
+        Ok(image) => image,
+        Err(LoadError::Failed) => return Plan::FilesFailed,
+        Err(LoadError::NoMemory) => return Plan::NoMemory,
     };
-    match load(alloc, files, path, len) {
-        Ok(image) => match guest_of(alloc, config.machine, &image) {
+    match load_disk(alloc, files, &source.initrd_path, file) {
+        Ok(disk) => match guest_of(alloc, config, &image, &disk) {
             Some(guest) => Plan::Starts(guest),
             None => Plan::NoMemory,
         },
@@ -51,15 +66,73 @@ pub fn start<F: Files>(alloc: Global, config: &Config, files: &mut F) -> Plan
     }
 }
 
-// The guest of this machine and image, if there is memory for it and the image fits.
-fn guest_of(alloc: Global, machine: MachineConfig, image: &[u8]) -> Option<World>
-    ensures { IfSome result (λ guest. IsWorld guest (started machine.vcpu_count machine.mem_size_mib image.now)) }
+// Where the disk stands.
+fn place_of(mem_size_mib: u64, disk: &Option<ByteList>) -> Option<InitrdPlace>
+    requires { mem_size_mib ≤ 2 ^ 20 }
+    ensures { result ≡ place_of mem_size_mib disk.now }
 {
+    match disk {
+        Some(disk) => Some(place_by(mem_size_mib, disk.len())),
+        None => None,
+    }
+}
+
+fn place_by(mem_size_mib: u64, len: usize) -> InitrdPlace
+    requires { mem_size_mib ≤ 2 ^ 20 }
+    ensures { result ≡ record {
+      start = boot.initrd_start mem_size_mib len;
+      end = boot.initrd_start mem_size_mib len + len;
+    } }
+{
+    let start = initrd_start(mem_size_mib, len as u64) as u64;
+    InitrdPlace {
+        start,
+        end: start + len as u64,
+    }
+}
+
+fn initrd_of(disk: &Option<ByteList>) -> Option<&[u8]>
+    ensures { option_map (λ t. t.now) result ≡ disk.now }
+{
+    match disk {
+        Some(disk) => Some(disk.as_slice()),
+        None => None,
+    }
+}
+
+fn world_of(alloc: Global, machine: MachineConfig, loads: &Loads<'_>) -> Option<World>
+    requires few { machine.vcpu_count ≤ 32 }
+    requires small { machine.mem_size_mib ≤ 2 ^ 20 }
+    ensures { IfSome result (λ world.
+        IsWorld world (started machine.vcpu_count machine.mem_size_mib (loads_of loads.now))) }
+{
+    World::start(
+        alloc,
+        machine.vcpu_count as usize,
+        machine.mem_size_mib,
+        loads,
+    )
+    .ok()
+}
+
+// The guest of this configuration, image and disk, if there is memory for it and they fit.
+fn guest_of(alloc: Global, config: &Config, image: &[u8], disk: &Option<ByteList>) -> Option<World>
+    ensures { IfSome result (λ guest.
+        IsWorld guest (started config.now.machine.vcpu_count config.now.machine.mem_size_mib
+        (loads_from config.now image.now disk.now))) }
+{
+    let machine = config.machine;
     if machine.vcpu_count > MOST_HARTS || machine.mem_size_mib > MOST_MIB {
         return None;
     }
-    if !is_image_fit(machine.mem_size_mib, image.len() as u64) {
+    let Ok(tree) = write_tree(alloc, config, place_of(machine.mem_size_mib, disk)) else {
         return None;
-    }
-    World::start(alloc, machine.vcpu_count as usize, machine.mem_size_mib, image).ok()
+    };
+    let loads = Loads {
+        image,
+        initrd: initrd_of(disk),
+        tree: tree.as_slice(),
+    };
+    let world = world_of(alloc, machine, &loads)?;
+    Some(world)
 }

@@ -52,7 +52,11 @@ fn a_save_fails_at_each_call(rt: HostRuntime) -> Result<(), Fail> {
     let left: [Option<&[u8]>; 3] = [None, Some(b""), Some(b"abc")];
     for (call, left) in left.iter().enumerate() {
         let mut files = files_of(alloc, &[call as u64])?;
-        assert_eq!(rt; save_file(&mut files, "k", b"abc"), Err(Failed), "call {call}");
+        assert_eq!(rt;
+            save_file(&mut files, "k", b"abc"),
+            Err(Failed),
+            "call {call}"
+        );
         assert_eq!(rt; files.find("k"), *left, "call {call}");
         assert_eq!(rt; files.faults(), 1);
         assert_eq!(rt; save_file(&mut files, "k", b"xy"), Ok(()));

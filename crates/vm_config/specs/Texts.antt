@@ -36,10 +36,15 @@ machine m = object (
     (member (codes "track_dirty_pages") (boolean m.track_dirty_pages)
     (member (codes "vcpu_count") (number (unsigned m.vcpu_count)) no_members))))
 
+-- a text that is there, or null
+abbrev pub text_or_null : Option (List ℕ) → Data
+text_or_null None = null
+text_or_null (Some t) = string t
+
 abbrev pub given_source : BootSource → Data
 given_source s = object (
-    member (codes "boot_args") (string (codes ""))
-    (member (codes "initrd_path") null
+    member (codes "boot_args") (string s.boot_args)
+    (member (codes "initrd_path") (text_or_null s.initrd_path)
     (member (codes "kernel_image_path") (string s.kernel_image_path) no_members)))
 
 abbrev pub boot_source : Option BootSource → Data

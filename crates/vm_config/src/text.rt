@@ -7,7 +7,7 @@ use crate::config::{Config, Phase};
 use api_calls::{BootSource, MachineConfig, Part};
 use serde_json::{Value, json};
 use std::alloc::{AllocError, Global};
-use vm_types::ByteList;
+use vm_types::{ByteList, TextList};
 
 impl Config {
     /// A part as compact JSON with its keys in byte order, of the machine with this id in this phase.
@@ -70,13 +70,23 @@ fn machine(alloc: Global, machine: &MachineConfig) -> Result<Value, AllocError>
     })
 }
 
+fn text_or_null(alloc: Global, text: &Option<TextList>) -> Result<Value, AllocError>
+    ensures { IfOk result (λ v. view v ≡ texts.text_or_null text.now) }
+{
+    match text {
+        Some(text) => Ok(Value::String(String::from_str(alloc, text.as_str())?)),
+        None => Ok(Value::Null),
+    }
+}
+
 fn given_source(alloc: Global, source: &BootSource) -> Result<Value, AllocError>
     ensures { IfOk result (λ v. view v ≡ texts.given_source source.now) }
 {
+    let initrd = text_or_null(alloc, &source.initrd_path)?;
     json!(in alloc; {
         "kernel_image_path": source.kernel_image_path.as_str(),
-        "initrd_path": null,
-        "boot_args": "",
+        "initrd_path": initrd,
+        "boot_args": source.boot_args.as_str(),
     })
 }
 

@@ -1,4 +1,3 @@
-mod Booting
 pub mod Events
 mod Listed
 pub mod Running

@@ -8,7 +8,8 @@ use Rattle.hart_trace.specs.Stopped.{stopped_regs}
 use Rattle.hart_trace.proofs.Traces.{leads_start}
 use Rattle.timer_trace.proofs.Traces as timer_traces
 use Rattle.guest_memory.specs.Memory.{Memory}
-use Rattle.guest_memory.specs.Boot.{boot_memory, image_start, tree_start}
+use Rattle.guest_memory.specs.Boot.{Loads, boot_memory, image_start, tree_start}
+use Rattle.boot_loader.specs.declared.loading.Start.{Start}
 use Rattle.board_table.specs.Board.{Board, new_board}
 use Rattle.rv_supervisor.specs.Start.{start_regs}
 use Rattle.timer_trace.specs.declared.timer.Timer.{Timer}
@@ -67,24 +68,28 @@ module _ (mib : ℕ) where
       (subst (λ (r : Regs). LeadsTo r [] (fresh first)) one (leads_start first))
   each_from (suc n) (suc k) start hart start_is hart_is = stopped_each n k start hart start_is hart_is
 
-  as_many : (n : ℕ) → length (harts_at_start n mib) ≡ length (start_of_harts n mib)
+  as_many : (n : ℕ) → length (harts_at_start n image_start (tree_start mib)) ≡ length (start_of_harts n mib)
   as_many n =
       length-set (replicate n (fresh stopped_regs)) 0 (fresh first) ∙ length-replicate n (fresh stopped_regs)
       ∙ sym (length-set (replicate n stopped_regs) 0 first ∙ length-replicate n stopped_regs)
 
-  at_start : (n : ℕ) (image : List ℕ) (m : Memory) (b : Board) (harts : List Hart) → m ≡ boot_memory mib image
-      → b ≡ new_board n → harts ≡ harts_at_start n mib → IsGuest m b new_timer harts (started n mib image)
-  at_start n image m b harts memory board is = record {
+  at_start : (n : ℕ) (loads : Loads) (m : Memory) (b : Board) (harts : List Hart) → m ≡ boot_memory mib loads
+      → b ≡ new_board n → harts ≡ harts_at_start n image_start (tree_start mib)
+      → IsGuest m b new_timer harts (started n mib loads)
+  at_start n loads m b harts memory board is = record {
     memory_is = memory;
     board_is = board;
     timer_is = timer_traces.leads_start;
-    harts_are = subst (λ (hs : List Hart). AreHarts hs (started n mib image)) (sym is)
+    harts_are = subst (λ (hs : List Hart). AreHarts hs (started n mib loads)) (sym is)
         (record { count = as_many n; each = λ k start hart start_is hart_is. each_from n k start hart start_is hart_is });
   }
 
-  pub started_is : (n : ℕ) (image : List ℕ) (m : Memory) (b : Board) (t : Timer) (harts : List Hart)
-      → m ≡ boot_memory mib image → b ≡ new_board n → t ≡ new_timer → harts ≡ harts_at_start n mib
-      → IsGuest m b t harts (started n mib image)
-  started_is n image m b t harts memory board timer is =
-      subst (λ (u : Timer). IsGuest m b u harts (started n mib image)) (sym timer)
-      (at_start n image m b harts memory board is)
+  pub started_is : (n : ℕ) (loads : Loads) (m : Memory) (b : Board) (t : Timer) (harts : List Hart) (start : Start)
+      → m ≡ boot_memory mib loads → b ≡ new_board n → t ≡ new_timer
+      → start ≡ record { pc = image_start; tree = tree_start mib } → harts ≡ harts_at_start n start.pc start.tree
+      → IsGuest m b t harts (started n mib loads)
+  started_is n loads m b t harts start memory board timer begins is =
+      let here : harts ≡ harts_at_start n image_start (tree_start mib) =
+      is ∙ ap (λ (s : Start). harts_at_start n s.pc s.tree) begins in
+      subst (λ (u : Timer). IsGuest m b u harts (started n mib loads)) (sym timer)
+      (at_start n loads m b harts memory board here)

@@ -1,25 +1,23 @@
 // The harts of the world: how they start, and what is asked of one of them.
-ghost use Rattle.std.specs.Prelude.{◌≡◌, ◌≤◌, ◌^◌, IfOk, replicate, slice_get};
+ghost use Rattle.std.specs.Prelude.{◌≡◌, ◌%◌, IfOk, replicate, slice_get};
 ghost use Rattle.hart_trace.specs.States.{fresh};
 ghost use Rattle.hart_trace.specs.Stopped.{stopped_regs};
 ghost use Rattle.flat_guest.specs.Body.{want_of, with_reply};
 ghost use Rattle.vm_world.specs.Starting.{harts_at_start};
 
-use flat_guest::tree_address;
-use guest_memory::IMAGE_START;
+use boot_loader::Start;
 use hart_rv64::Hart;
 use std::alloc::{AllocError, Global};
 use vm_types::{Actor, Op, Reply};
 
-/// So many harts as a start makes them: the first begins at the image, and all others are stopped.
-pub fn start_harts(alloc: Global, count: usize, mem_size_mib: u64) -> Result<Vec<Hart>, AllocError>
-    requires high { mem_size_mib ≤ 2 ^ 20 }
-    requires low { 1 ≤ mem_size_mib }
-    ensures { IfOk result (λ harts. harts.items ≡ harts_at_start count mem_size_mib) }
+/// So many harts as a start makes them: the first begins where the guest does, and all others are stopped.
+pub fn start_harts(alloc: Global, count: usize, start: Start) -> Result<Vec<Hart>, AllocError>
+    requires { start.pc % 4 ≡ 0 }
+    ensures { IfOk result (λ harts. harts.items ≡ harts_at_start count start.pc start.tree) }
 {
     let mut harts = stopped_harts(alloc, count)?;
     if count > 0 {
-        harts[0] = Hart::new(IMAGE_START, 0, tree_address(mem_size_mib));
+        harts[0] = Hart::new(start.pc, 0, start.tree);
     }
     Ok(harts)
 }

@@ -1,6 +1,7 @@
 // A start, its events one at a time and as a run, and bytes at the ends of pages and of RAM.
 use crate::step_error::refusal_of;
 use crate::{NoActor, NotRam, StepError, World};
+use boot_loader::Loads;
 use std::test::Fail;
 use vm_types::{
     ActorId, AmoKind, BoardOp, Op, OutOp, Piece, PlaceId, Reply, is_same_op, is_same_reply,
@@ -13,6 +14,15 @@ const PUTS_A_AND_ENDS: [u8; 28] = [
     0x13, 0x05, 0x10, 0x04, 0x93, 0x08, 0x10, 0x00, 0x73, 0x00, 0x00, 0x00, 0x93, 0x05, 0x00, 0x00,
     0xb7, 0x58, 0x52, 0x53, 0x93, 0x88, 0x48, 0x35, 0x73, 0x00, 0x00, 0x00,
 ];
+
+// An image, with no disk and no tree.
+fn alone(image: &[u8]) -> Loads<'_> {
+    Loads {
+        image,
+        initrd: None,
+        tree: &[],
+    }
+}
 
 fn fetch(at: u64) -> Op {
     Op::Read { at, len: 4 }
@@ -39,7 +49,7 @@ fn look_or_fault(world: &mut World) -> (bool, bool) {
 
 #[test]
 fn each_event_is_one_act_at_its_place(rt: HostRuntime) -> Result<(), Fail> {
-    let mut world = World::start(rt.alloc(), 2, 4, &PUTS_A_AND_ENDS)?;
+    let mut world = World::start(rt.alloc(), 2, 4, &alone(&PUTS_A_AND_ENDS))?;
     assert_eq!(rt;
         (world.reg(0, 32), world.reg(0, 10), world.reg(0, 11)),
         (Some(0x8020_0000), Some(0), Some(0x803f_0000))
@@ -84,7 +94,7 @@ fn a_run_makes_its_events_or_ends_where_the_guest_is_off(rt: HostRuntime) -> Res
         (9, 9, &b"A"[..], true),
         (1000, 9, &b"A"[..], true),
     ] {
-        let mut world = World::start(rt.alloc(), 2, 4, &PUTS_A_AND_ENDS)?;
+        let mut world = World::start(rt.alloc(), 2, 4, &alone(&PUTS_A_AND_ENDS))?;
         assert_eq!(rt; world.run(H0, count), Ok(made), "{count}");
         assert_eq!(rt; world.console(), console, "{count}");
         assert_eq!(rt; world.is_off(), is_off, "{count}");
@@ -101,7 +111,7 @@ fn looks_and_faults_come_where_they_do(rt: HostRuntime) -> Result<(), Fail> {
     for k in 1..31 {
         image[4 * k] = 0x73;
     }
-    let mut world = World::start(rt.alloc(), 2, 4, &image)?;
+    let mut world = World::start(rt.alloc(), 2, 4, &alone(&image))?;
     let mut looks = 0_u32;
     let mut faults = 0_u32;
     for _ in 0..100 {
@@ -115,7 +125,7 @@ fn looks_and_faults_come_where_they_do(rt: HostRuntime) -> Result<(), Fail> {
 
 #[test]
 fn what_is_no_event_is_refused(rt: HostRuntime) -> Result<(), Fail> {
-    let mut world = World::start(rt.alloc(), 2, 4, &PUTS_A_AND_ENDS)?;
+    let mut world = World::start(rt.alloc(), 2, 4, &alone(&PUTS_A_AND_ENDS))?;
     for (actor, reply, why) in [
         (ActorId::Hart(2), None, StepError::NoActor),
         (ActorId::Device(0), None, StepError::NoActor),
@@ -141,7 +151,7 @@ fn what_is_no_event_is_refused(rt: HostRuntime) -> Result<(), Fail> {
 
 #[test]
 fn bytes_are_in_one_page_or_nowhere(rt: HostRuntime) -> Result<(), Fail> {
-    let world = World::start(rt.alloc(), 2, 4, &PUTS_A_AND_ENDS)?;
+    let world = World::start(rt.alloc(), 2, 4, &alone(&PUTS_A_AND_ENDS))?;
     let amo = Op::Amo {
         at: 0x8000_0ffc,
         value: 1,
@@ -211,7 +221,7 @@ fn bytes_are_in_one_page_or_nowhere(rt: HostRuntime) -> Result<(), Fail> {
 fn memory_is_read_over_the_ends_of_pages_and_not_past_its_own(rt: HostRuntime) -> Result<(), Fail> {
     let mut image = [0; 4100];
     image[4094..].copy_from_slice(&[1, 2, 3, 4, 5, 6]);
-    let world = World::start(rt.alloc(), 2, 4, &image)?;
+    let world = World::start(rt.alloc(), 2, 4, &alone(&image))?;
     for (at, read, bytes) in [
         (0x8020_0ffd, Ok(()), [0, 1, 2, 3]),
         (0x8020_0fff, Ok(()), [2, 3, 4, 5]),
@@ -236,7 +246,7 @@ fn memory_is_read_over_the_ends_of_pages_and_not_past_its_own(rt: HostRuntime) -
 #[test]
 fn the_timer_waits_for_the_clock_and_a_stopped_hart_looks(rt: HostRuntime) -> Result<(), Fail> {
     let image = [0xf3, 0x22, 0x10, 0xc0, 0x73, 0x23, 0x10, 0xc0];
-    let mut world = World::start(rt.alloc(), 2, 4, &image)?;
+    let mut world = World::start(rt.alloc(), 2, 4, &alone(&image))?;
     let timer = ActorId::Timer;
     assert_eq!(rt; world.run(timer, 1), Ok(0));
     for (answer, made) in [(5, 1), (25, 1), (20, 1)] {

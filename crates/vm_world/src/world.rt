@@ -4,10 +4,10 @@ ghost use Rattle.std.specs.Prelude.{IfErr, IfOk, MatchOption, None, Some, OnErr,
 ghost use Rattle.std.specs.Option.{option_map};
 ghost use Rattle.vm_types.specs.declared.entry.Entry.{Entry};
 ghost use Rattle.vm_types.specs.declared.op.Op.{Op};
-ghost use Rattle.guest_memory.specs.Boot.{image_fits};
 ghost use Rattle.guest_memory.specs.Memory.{read_from};
 ghost use Rattle.guest_memory.specs.Ram.{is_ram};
 ghost use Rattle.guest_pages.specs.Pages.{flat_of};
+ghost use Rattle.boot_loader.specs.Loading.{loads_of};
 ghost use Rattle.hart_trace.specs.Asks.{is_host_op};
 ghost use Rattle.hart_trace.specs.Shown.{register_of};
 ghost use Rattle.timer_trace.specs.States.{new_timer};
@@ -20,8 +20,9 @@ ghost use Rattle.vm_world.specs.Worlds.{IsWorld, MakesEvent, Runs, place_in, wan
 
 use crate::actors::{give_hart, start_harts, want_of_hart};
 use crate::hart_run::run_hart;
-use crate::memory::{boot_pages, read_pages};
+use crate::memory::read_pages;
 use crate::step_error::{NoActor, NotRam, StepError, refusal_of};
+use boot_loader::{BootError, Booted, Loads, boot};
 use flat_guest::{Layout, place};
 use guest_memory::PAGE_SIZE;
 use guest_pages::PageSet;
@@ -57,21 +58,26 @@ impl Model for World {
 
 impl World {
     /// The world as a start makes it, with so many harts, so many MiB of memory, at most `flat_guest::MOST_MIB`, and
-    /// this image in it.
+    /// this in it.
+    ///
+    /// Errors: `NoRoom` where what is loaded does not fit, and `OutOfMemory`.
     pub fn start(
         alloc: Global,
         harts: usize,
         mem_size_mib: u64,
-        image: &[u8],
-    ) -> Result<World, AllocError>
+        loads: &Loads<'_>,
+    ) -> Result<World, BootError>
         requires few { harts ≤ 32 }
         requires small { mem_size_mib ≤ 2 ^ 20 }
-        requires fits { image_fits mem_size_mib (length image.now) ≡ true }
-        ensures { IfOk result (λ world. IsWorld world (started harts mem_size_mib image.now)) }
+        ensures { IfOk result (λ world. IsWorld world (started harts mem_size_mib (loads_of loads.now))) }
     {
-        let pages = boot_pages(alloc, mem_size_mib, image)?;
-        let board = Board::new(alloc, harts)?;
-        let harts = start_harts(alloc, harts, mem_size_mib)?;
+        let Booted { pages, start } = boot(alloc, mem_size_mib, loads)?;
+        let Ok(board) = Board::new(alloc, harts) else {
+            return Err(BootError::OutOfMemory);
+        };
+        let Ok(harts) = start_harts(alloc, harts, start) else {
+            return Err(BootError::OutOfMemory);
+        };
         Ok(World {
             pages,
             board,

@@ -1,0 +1,4 @@
+pub mod Coding
+pub mod Flat
+pub mod Machine
+pub mod Tree
