@@ -14,7 +14,7 @@ use Rattle.flat_snapshot.specs.Copies.{IsCopyOf}
 use Rattle.flat_snapshot.specs.Found.{Snapshot, found}
 use Rattle.flat_snapshot.proofs.Loaded.{found_again}
 use Rattle.flat_machine.specs.Machine.{Machine}
-use Rattle.flat_machine.specs.Requests.{Creates, Leaves, Loads, carried, next_identity}
+use Rattle.flat_machine.specs.Requests.{Creates, Leaves, Restores, carried, next_identity}
 
 -- what the files of a create can have
 abbrev pub CanSave : Machine → Guest → StateCopy → Type 0
@@ -34,4 +34,4 @@ loaded_of m n k p g files load there differ can creates names same loads =
     let finds : found k.saved load.files ≡ Ok snapshot
     = ap (λ (f : SnapshotFiles). found k.saved f) names ∙ ap (λ (s : Saved). found s files) (same ∙ ap (λ (q : Machine). q.saved) made.2)
     ∙ found_again m.saved files (next_identity m) made.0 g.memory.bytes differ fits.0 fits.1 fits.2 in
-    (made.0, made.1, subst (λ (r : Result Snapshot Refusal). Loads r k load.resume_vm p) finds loads)
+    (made.0, made.1, subst (λ (r : Result Snapshot Refusal). Restores r k load.resume_vm p) finds loads)

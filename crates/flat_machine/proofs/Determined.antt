@@ -30,7 +30,7 @@ use Rattle.snap_state.specs.declared.copy.StateCopy.{StateCopy}
 use Rattle.api_calls.specs.declared.call.SnapshotFiles.{SnapshotFiles}
 use Rattle.flat_snapshot.specs.Found.{Snapshot, found}
 use Rattle.flat_snapshot.proofs.Copied.{same_copy}
-use Rattle.flat_machine.specs.Requests.{CreateFails, Creates, Fails, Leaves, LeavesBy, Loads, RequestStep, allowed, created}
+use Rattle.flat_machine.specs.Requests.{CreateFails, Creates, Fails, Leaves, LeavesBy, Restores, RequestStep, allowed, created}
 use Rattle.vm_config.specs.declared.change.Change.{Change}
 use Rattle.vm_config.specs.declared.change.Change.TheVariants as change
 use Rattle.api_calls.specs.declared.call.VmState.TheVariants.{Paused, Resumed}
@@ -52,7 +52,7 @@ creates_one None m files n k x y = x ∙ sym y
 creates_one (Some g) m files n k (copy, of, is) (other, same, be) =
     is ∙ ap (λ (c : StateCopy). created m g.memory.bytes files c) (same_copy m.config g copy other of same) ∙ sym be
 
-loads_one : (it : Result Snapshot Refusal) (m : Machine) (resumes : Bool) (n k : Machine) → Loads it m resumes n → Loads it m resumes k → n ≡ k
+loads_one : (it : Result Snapshot Refusal) (m : Machine) (resumes : Bool) (n k : Machine) → Restores it m resumes n → Restores it m resumes k → n ≡ k
 loads_one (Ok it) m resumes n k x y = x ∙ sym y
 loads_one (Err why) m resumes n k x y = x ∙ sym y
 

@@ -46,7 +46,7 @@ use Rattle.flat_machine.specs.Outcome.Outcome.{Answered}
 use Rattle.flat_machine.specs.Machine.{Machine, console_of, drained, drained_guest, is_off, new_machine, running, running_by}
 use Rattle.flat_machine.specs.Items.{Answers, ItemStep, MemoryLine, Misfits, Moves, RegisterLine, Replies, RepliesLine, Shows, ShowsFrom, StepsLine, Talks, steps_text}
 use Rattle.flat_machine.specs.Replay.{IsEnd, IsReplay, closed, closing, judged_script}
-use Rattle.flat_machine.specs.Requests.{Creates, Leaves, LeavesBy, Loads, RequestStep, allowed, answer_by, carried, configured, created, disk_of, halted, image_of, loads_from, started_from}
+use Rattle.flat_machine.specs.Requests.{Creates, Leaves, LeavesBy, Restores, RequestStep, allowed, answer_by, carried, configured, created, disk_of, halted, image_of, loads_from, started_from}
 use Rattle.flat_machine.specs.Run.{Act, AllAnswered, OnBefore, Run, lines_done}
 use Rattle.flat_machine.proofs.Determined.{item_one}
 
@@ -81,7 +81,7 @@ some_create (Some g) m files own sound =
     let copy = some_copy m.config g own in
     (created m g.memory.bytes files copy.0, (copy.0, copy.1, refl), sound)
 
-some_load : (it : Result Snapshot Refusal) (m : Machine) (resumes : Bool) → Sound m → (n : Machine) × Loads it m resumes n × Sound n
+some_load : (it : Result Snapshot Refusal) (m : Machine) (resumes : Bool) → Sound m → (n : Machine) × Restores it m resumes n × Sound n
 some_load (Ok it) m resumes sound = (carried m resumes it, refl, carried_sound it.copy it.bytes)
 some_load (Err why) m resumes sound = (m, refl, sound)
 

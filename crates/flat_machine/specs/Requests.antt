@@ -175,9 +175,9 @@ carried m resumes it = record m {
   paused = not resumes;
 }
 
-abbrev pub Loads : Result Snapshot Refusal → Machine → Bool → Machine → Type 0
-Loads (Ok it) m resumes n = n ≡ carried m resumes it
-Loads (Err why) m resumes n = n ≡ m
+abbrev pub Restores : Result Snapshot Refusal → Machine → Bool → Machine → Type 0
+Restores (Ok it) m resumes n = n ≡ carried m resumes it
+Restores (Err why) m resumes n = n ≡ m
 
 -- An allowed change leaves n of m.
 abbrev pub Leaves : Machine → Change → Machine → Type 0
@@ -187,7 +187,7 @@ Leaves m change.Start n = n ≡ configured (started_from (image_of m) (disk_of m
 Leaves m (change.State Paused) n = n ≡ record m { guest = halted m.paused m.guest; paused = true }
 Leaves m (change.State Resumed) n = n ≡ record m { paused = false }
 Leaves m (change.CreateSnapshot files) n = Creates m.guest m files n
-Leaves m (change.LoadSnapshot load) n = Loads (found m.saved load.files) m load.resume_vm n
+Leaves m (change.LoadSnapshot load) n = Restores (found m.saved load.files) m load.resume_vm n
 Leaves m (change.Tell part) n = n ≡ m
 
 -- a refused call changes nothing

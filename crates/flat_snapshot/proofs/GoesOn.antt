@@ -9,7 +9,8 @@ use Rattle.hart_trace.specs.Traces.{Continues, IsPrefix, opening}
 use Rattle.hart_trace.specs.States.{fresh}
 use Rattle.hart_trace.proofs.Traces.{any_reply, hart_continues, hart_prefix, leads_start}
 use Rattle.flat_guest.specs.Sound.{IsSound}
-use Rattle.flat_guest.proofs.Soundness.{sound_start}
+use Rattle.timer_trace.specs.States.{new_timer}
+use Rattle.timer_trace.proofs.Traces as timer_traces
 use Rattle.snap_state.specs.declared.hart.SavedHart.{SavedHart}
 use Rattle.snap_state.specs.declared.hart.HartPlace.{HartPlace}
 use Rattle.snap_state.specs.declared.hart.HartPlace.TheVariants.{Begin, BeginWaiting, Idle, IdleWaiting, Access}
@@ -53,6 +54,6 @@ harts_on (h ∷ harts) (suc k) start is = harts_on harts k start is
 
 pub carried_sound : (copy : StateCopy) (bytes : List ℕ) → IsSound (carried_guest copy bytes)
 carried_sound copy bytes = record {
-  timer_on = (sound_start 1 0 []).timer_on;
+  timer_on = timer_traces.timer_prefix [] new_timer timer_traces.leads_start;
   harts_on = λ k start is. harts_on copy.harts k start is;
 }

@@ -47,7 +47,11 @@ carried_guest copy bytes = record {
 -- the configuration of the copy, in which no dirty page is tracked
 abbrev pub carried_config : Configuration → Config
 carried_config c = record {
-  boot_source = Some (record { kernel_image_path = c.boot_source.kernel_image_path });
+  boot_source = Some (record {
+    kernel_image_path = c.boot_source.kernel_image_path;
+    initrd_path = c.boot_source.initrd_path;
+    boot_args = c.boot_source.boot_args;
+  });
   machine = record c.machine { track_dirty_pages = false };
   configured = true;
 }

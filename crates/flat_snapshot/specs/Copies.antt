@@ -33,7 +33,11 @@ reservations_from slot (Some offset ∷ slots) =
 abbrev pub source_of : Option call.BootSource → BootSource
 source_of None = record { kernel_image_path = []; initrd_path = None; boot_args = [] }
 source_of (Some source) =
-    record { kernel_image_path = source.kernel_image_path; initrd_path = None; boot_args = [] }
+    record {
+      kernel_image_path = source.kernel_image_path;
+      initrd_path = source.initrd_path;
+      boot_args = source.boot_args;
+    }
 
 -- the copy of a guest whose harts are where these are
 abbrev pub copy_of : Config → Guest → List Hart → StateCopy
