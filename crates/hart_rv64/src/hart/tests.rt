@@ -100,7 +100,7 @@ fn a_call_returns_in_a0_and_a1(rt: HostRuntime) {
         ),
         (
             0x10,
-            0,
+            7,
             fetch_at(IMAGE + 4),
             Reply::AccessFault,
             0xffff_ffff_ffff_fffe,
