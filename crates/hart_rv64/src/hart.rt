@@ -7,10 +7,12 @@ ghost use Rattle.rv_doing.specs.HartOps.{op_of, reply_of};
 ghost use Rattle.guest_memory.specs.Ram.{ram_start};
 ghost use Rattle.hart_trace.specs.Traces.{executes};
 
+mod fetching;
+
 use crate::begun::Begun;
 use guest_memory::RAM_START;
 use hart_trace::look;
-use rv_doing::{HartOp, HartReply, effect_of_word, perform, wanted};
+use rv_doing::{HartOp, HartReply, effect_of_word, perform, run_plain, wanted};
 use rv_rows::numbers::low_word;
 use rv_rows::{Exception, Register};
 use rv_supervisor::{Regs, Turn, start_regs, trap};
@@ -111,11 +113,23 @@ impl Hart {
         }
     }
 
-    // Does what the fetched word says, or begins it where it asks for an access. The word is decoded here alone. It
-    // is out of line so that there is one copy of it.
+    // Does what the fetched word says, or begins it where it asks for an access.
+    #[inline]
+    fn execute(&mut self, word: u32)
+        requires between { self.old.begun ≡ None }
+        requires ram { ram_start ≤ self.old.regs.pc }
+        ensures { (reply : Reply) →
+            self.new ≡ begins_by (asked (executes word self.old.regs)) word self.old.regs reply }
+    {
+        if !run_plain(word, &mut self.regs) {
+            self.execute_any(word);
+        }
+    }
+
+    // The same of any word, which is decoded here alone. It is out of line so that there is one copy of it.
     #[inline(never)]
     #[tactic(auto, using(crate::proofs::Ends::ends_alike))]
-    fn execute(&mut self, word: u32)
+    fn execute_any(&mut self, word: u32)
         requires between { self.old.begun ≡ None }
         requires ram { ram_start ≤ self.old.regs.pc }
         ensures { (reply : Reply) →

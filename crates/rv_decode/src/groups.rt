@@ -12,6 +12,33 @@ use crate::functions::{
 use rv_rows::fields::bits;
 use rv_rows::{AluOp, Instr, operands};
 
+/// LUI, opcode 0x37.
+#[tactic(auto, using(crate::proofs::Opcodes::upper_words))]
+pub fn lui(word: u32) -> Option<Instr>
+    requires { opcode word ≡ 0x37 }
+    ensures { result ≡ instr_of word }
+{
+    Some(operands::lui(word))
+}
+
+/// AUIPC, opcode 0x17.
+#[tactic(auto, using(crate::proofs::Opcodes::pc_words))]
+pub fn auipc(word: u32) -> Option<Instr>
+    requires { opcode word ≡ 0x17 }
+    ensures { result ≡ instr_of word }
+{
+    Some(operands::auipc(word))
+}
+
+/// JAL, opcode 0x6f.
+#[tactic(auto, using(crate::proofs::Opcodes::jumps))]
+pub fn jal(word: u32) -> Option<Instr>
+    requires { opcode word ≡ 0x6f }
+    ensures { result ≡ instr_of word }
+{
+    Some(operands::jal(word))
+}
+
 /// LOAD, opcode 0x03.
 #[tactic(auto, using(crate::proofs::Opcodes::loads))]
 pub fn load(word: u32) -> Option<Instr>

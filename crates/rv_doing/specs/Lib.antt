@@ -1,3 +1,4 @@
+pub mod Accesses
 pub mod Does
 pub mod Doing
 pub mod HartOps

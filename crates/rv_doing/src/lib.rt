@@ -4,17 +4,24 @@
 //! if any, and `perform` what becomes of the registers by the last reply to it: all as `specs/Does.antt` says, by the
 //! table of `rv_rows`, the effects of its instructions, and one line an effect. `HartOp` and `HartReply` are the ops
 //! and replies of harts in few bytes.
+//!
+//! What is frequent has shorter ways, which say the same: `run_plain` does a word that computes, jumps or branches as it is
+//! decoded, and `Load` and `Store` are words whose access is made at once.
 #![tactic(auto)]
 
+mod access;
 mod csr;
 mod hart_op;
 mod hart_reply;
 mod instruction;
+mod plain;
 mod replies;
 mod sbi;
 #[cfg(test)]
 mod tests;
 
+pub use access::{Load, Store};
 pub use hart_op::HartOp;
 pub use hart_reply::HartReply;
 pub use instruction::{effect_of_word, perform, wanted};
+pub use plain::run_plain;

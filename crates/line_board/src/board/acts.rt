@@ -1,11 +1,23 @@
 // The board as a place.
 ghost use Rattle.std.specs.Prelude.{◌≡◌};
-ghost use Rattle.board_table.specs.Acts.{advance, board_act, raise_line};
+ghost use Rattle.vm_types.specs.declared.op.BoardOp.{BoardOp};
+ghost use Rattle.vm_types.specs.declared.op.Op.{Op};
+ghost use Rattle.vm_types.specs.declared.reply.Reply.{Reply};
+ghost use Rattle.board_table.specs.Acts.{advance, board_act, raise_line, touch};
 
 use crate::Board;
-use vm_types::{ActorId, BoardOp, Op, Place, Reply};
+use vm_types::{ActorId, BoardOp, Op, Place, Reply, Shown};
 
 impl Board {
+    /// What a look of this actor shows: the act, without an op and a reply made for it.
+    pub fn show(&mut self, actor: ActorId) -> Shown
+        ensures reply { Reply.Shown result ≡ (touch self.old actor (Op.Board BoardOp.Look)).0 }
+        ensures value { self.new ≡ (touch self.old actor (Op.Board BoardOp.Look)).1 }
+    {
+        let hart = self.hart_of(actor);
+        self.look(hart)
+    }
+
     fn raise_line(&mut self, actor: ActorId)
         ensures { self.new ≡ raise_line self.old actor }
     {
@@ -27,7 +39,7 @@ impl Board {
     {
         let hart = self.hart_of(actor);
         match act {
-            BoardOp::Look => self.look(hart),
+            BoardOp::Look => Reply::Shown(self.look(hart)),
             BoardOp::Putchar { byte } => self.put_byte(*byte),
             BoardOp::Reset { kind, reason } => self.reset_by(*kind, *reason),
             BoardOp::Time => Reply::Word(self.moment),

@@ -97,33 +97,33 @@ impl Board {
             + value_if(self.pending & self.enables[k] != 0, 0x200)
     }
 
-    fn look_as(&mut self, k: usize) -> Reply
+    fn look_as(&mut self, k: usize) -> Shown
         requires { k < length self.old.states }
-        ensures reply { result ≡ (pending.look_as (state_of self.old k) self.old k).0 }
+        ensures reply { Reply.Shown result ≡ (pending.look_as (state_of self.old k) self.old k).0 }
         ensures value { self.new ≡ (pending.look_as (state_of self.old k) self.old k).1 }
     {
         match self.states[k] {
-            HartState::Started => Reply::Shown(Shown::Pending(self.pending_bits(k))),
-            HartState::Stopped => Reply::Shown(Shown::Stopped),
+            HartState::Started => Shown::Pending(self.pending_bits(k)),
+            HartState::Stopped => Shown::Stopped,
             HartState::StartPending { pc, word } => {
                 self.states[k] = HartState::Started;
-                Reply::Shown(Shown::Start {
+                Shown::Start {
                     pc,
                     number: k as u64,
                     word,
-                })
+                }
             }
         }
     }
 
     /// A look of this hart, or of what is no hart of this board.
-    pub fn look(&mut self, hart: Option<usize>) -> Reply
+    pub fn look(&mut self, hart: Option<usize>) -> Shown
         requires { IfSome hart (λ k. k < length self.old.states) }
-        ensures reply { result ≡ (pending.look self.old hart).0 }
+        ensures reply { Reply.Shown result ≡ (pending.look self.old hart).0 }
         ensures value { self.new ≡ (pending.look self.old hart).1 }
     {
         match hart {
-            None => Reply::Shown(Shown::Stopped),
+            None => Shown::Stopped,
             Some(k) => self.look_as(k),
         }
     }
