@@ -1,5 +1,5 @@
 -- What the hart's small ops are answered is what its ops are answered.
-use Rattle.std.proofs.Common.{◌≡◌, ℕ, zero, suc, ◌+◌, ◌-◌, ◌≤◌, nat_le, nat_lt, Bool, true, false, cond, ◌&&◌, List, [], ◌∷◌, Option, Some, None, length, slice_get, slice_set, refl, sym, ap, subst, ◌∙◌, arith}
+use Rattle.std.proofs.Common.{◌≡◌, ℕ, zero, suc, ◌+◌, ◌-◌, ◌≤◌, nat_le, nat_lt, Bool, true, false, cond, ◌&&◌, List, [], ◌∷◌, Option, Some, None, length, slice_get, slice_set, refl, sym, ap, subst, ◌∙◌, inl, inr, arith}
 use Rattle.std.proofs.lemmas.Bool.{leb-true, ltb-false}
 use Rattle.vm_types.specs.declared.ids.ActorId.{ActorId}
 use Rattle.vm_types.specs.declared.ids.PlaceId.{PlaceId}
@@ -12,13 +12,14 @@ use Rattle.guest_memory.specs.Memory.{Memory, read_from}
 use Rattle.guest_memory.specs.Ram.{ram_start, is_ram, page_number, page_offset, page_size}
 use Rattle.board_table.specs.Board.{Board}
 use Rattle.guest_pages.specs.Pages.{PageValue, flat_of}
-use Rattle.guest_pages.specs.Words.{at_place, read_of, served, write_of}
+use Rattle.guest_pages.specs.Words.{at_place, read_of, read_reply, served, write_of, write_reply}
 use Rattle.rv_rows.specs.declared.memory.Width.{Width}
 use Rattle.rv_rows.specs.Loads.{width_bytes}
 use Rattle.rv_doing.specs.declared.hart_op.HartOp.{HartOp}
+use Rattle.rv_doing.specs.Accesses.{made_reply}
 use Rattle.rv_doing.specs.HartOps.{op_of}
 use Rattle.hart_trace.specs.Asks.{is_hart_op}
-use Rattle.hart_trace.specs.States.{Hart, hart_wants}
+use Rattle.hart_trace.specs.States.{Hart, hart_next, hart_wants}
 use Rattle.hart_trace.proofs.Asks.{hart_asks, never_host, no_host, no_port}
 use Rattle.flat_guest.specs.Body.{out_reply, reply_at, want_of, with_reply}
 use Rattle.flat_guest.specs.Places.{are_registers, without_devices}
@@ -30,7 +31,7 @@ use Rattle.flat_guest.proofs.Answering.{answer_fits}
 use Rattle.flat_guest.proofs.Acting.{get_set_same}
 use Rattle.flat_guest.proofs.Soundness.{none_given}
 use Rattle.flat_guest.proofs.Stepping.{entry_of, has_made_none}
-use Rattle.vm_world.specs.Answering.{Advances, IsAnswered, place_with}
+use Rattle.vm_world.specs.Answering.{Advances, Goes, IsAnswered, place_with}
 use Rattle.vm_world.specs.Worlds.{MakesEvent, WorldValue, place_in, world_with}
 use Rattle.vm_world.proofs.Events.{HasRun, event_made, run_more}
 
@@ -188,3 +189,49 @@ module _ (k : ℕ) (pages mid later : List PageValue) (board between after : Boa
       run_more (ActorId.Hart k) start here (world_with later after timer (slice_set harts k next)) made has on
       (advanced here (world_with later after timer (slice_set harts k next)) k hart next (get_set_same harts k first hart there)
       by refl (sym (set_twice harts k hart next)))
+
+-- a hart's event that is the read or write of a word
+pub read_advances : (pages : List PageValue) (board : Board) (actor : ActorId) (hart next : Hart) (width : Width) (at word : ℕ)
+    → hart_wants hart ≡ read_of width at → nat_lt at ram_start ≡ false
+    → read_reply width (Some word) ≡ (served pages actor (read_of width at)).0
+    → next ≡ hart_next hart (read_reply width (Some word)) → Advances pages board hart actor pages board next
+read_advances pages board actor hart next width at word wants high is on = (
+  read_reply width (Some word),
+  subst (λ (op : Op). IsAnswered pages board actor op (read_reply width (Some word)) pages board) (sym wants)
+      (read_answered pages board actor at width (read_reply width (Some word)) (not_low at high) is),
+  on,
+)
+
+made_as : (is_made : Bool) → made_reply is_made ≡ write_reply is_made
+made_as true = refl
+made_as false = refl
+
+pub write_advances : (pages later : List PageValue) (board : Board) (actor : ActorId) (hart next : Hart) (width : Width) (at word : ℕ)
+    (is_made : Bool) → hart_wants hart ≡ write_of width at word → ram_start ≤ at
+    → write_reply is_made ≡ (served pages actor (write_of width at word)).0
+    → flat_of later ≡ (served pages actor (write_of width at word)).1 → length later ≡ length pages
+    → next ≡ hart_next hart (made_reply is_made) → Advances pages board hart actor later board next
+write_advances pages later board actor hart next width at word is_made wants high is memory count on = (
+  write_reply is_made,
+  subst (λ (op : Op). IsAnswered pages board actor op (write_reply is_made) later board) (sym wants)
+      (write_answered pages board actor at word width (write_reply is_made) later high is memory count),
+  on ∙ ap (hart_next hart) (made_as is_made),
+)
+
+-- one or two more
+pub some_more : (k : ℕ) (pages mid later : List PageValue) (board between after : Board) (first hart next : Hart) (made n : ℕ)
+    (timer : Timer) (harts : List Hart) → slice_get harts k ≡ Some first
+    → HasRun (ActorId.Hart k) (world_with pages board timer harts) made (world_with mid between timer (slice_set harts k hart))
+    → between.off ≡ false → Goes mid between hart (ActorId.Hart k) n later after next
+    → HasRun (ActorId.Hart k) (world_with pages board timer harts) (made + n)
+    (world_with later after timer (slice_set harts k next))
+some_more k pages mid later board between after first hart next made n timer harts there has on (inl by) =
+    subst (λ (m : ℕ). HasRun (ActorId.Hart k) (world_with pages board timer harts) (made + m)
+    (world_with later after timer (slice_set harts k next))) (sym by.0)
+    (one_more k pages mid later board between after first hart next made timer harts there has on by.1)
+some_more k pages mid later board between after first hart next made n timer harts there has on (inr by) =
+    let one = one_more k pages mid mid board between between first hart by.1 made timer harts there has on by.2 in
+    let two = one_more k pages mid later board between after first by.1 next (made + 1) timer harts there one on by.3 in
+    let count : made + 1 + 1 ≡ made + n = omega (arith, by.0) in
+    subst (λ (m : ℕ). HasRun (ActorId.Hart k) (world_with pages board timer harts) m
+    (world_with later after timer (slice_set harts k next))) count two

@@ -1,5 +1,5 @@
 -- What an act is answered where it acts, and what it leaves there.
-use Rattle.std.specs.Prelude.{◌≡◌, nat_lt, Bool, false, None, List, length}
+use Rattle.std.specs.Prelude.{ℕ, ◌≡◌, ◌⊎◌, nat_lt, Bool, false, None, List, length}
 use Rattle.vm_types.specs.declared.ids.ActorId.{ActorId}
 use Rattle.vm_types.specs.declared.ids.PlaceId.{PlaceId}
 use Rattle.vm_types.specs.declared.op.Op.{Op}
@@ -30,6 +30,13 @@ pub record IsAnswered (pages : List PageValue) (board : Board) (actor : ActorId)
 abbrev pub Advances : List PageValue → Board → Hart → ActorId → List PageValue → Board → Hart → Type 0
 Advances pages board hart actor later after next =
     (reply : Reply) × IsAnswered pages board actor (hart_wants hart) reply later after × (next ≡ hart_next hart reply)
+
+-- one event of a hart, or two: the fetch of an instruction, which leaves pages and board, and its access
+abbrev pub Goes : List PageValue → Board → Hart → ActorId → ℕ → List PageValue → Board → Hart → Type 0
+Goes pages board hart actor made later after next =
+    ((made ≡ 1) × Advances pages board hart actor later after next)
+    ⊎ ((made ≡ 2) × (mid : Hart) × Advances pages board hart actor pages board mid
+    × Advances pages board mid actor later after next)
 
 -- an access below RAM, where the board's registers are
 abbrev pub is_low : HartOp → Bool

@@ -1,13 +1,15 @@
 // Events of one hart, one after another. What is frequent goes by the hart's small ops and a word of a page; a whole
 // `Op` and `Reply` are made for the rest alone.
-ghost use Rattle.std.specs.Prelude.{◌≡◌, ◌≤◌, ◌^◌, true, List, Some, length, slice_get, slice_set};
+ghost use Rattle.std.specs.Prelude.{◌≡◌, ◌≤◌, ◌^◌, nat_lt, true, false, List, Some, IfSome, length, slice_get, slice_set};
 ghost use Rattle.vm_types.specs.declared.ids.ActorId.{ActorId};
-ghost use Rattle.guest_pages.specs.Words.{read_of, served, write_of};
+ghost use Rattle.guest_memory.specs.Ram.{ram_start};
+ghost use Rattle.guest_pages.specs.Words.{read_of, read_reply, served, write_of};
+ghost use Rattle.rv_rows.specs.Loads.{load_width};
 ghost use Rattle.hart_trace.specs.Asks.{is_hart_op};
 ghost use Rattle.rv_doing.specs.HartOps.{op_of, reply_of};
 ghost use Rattle.hart_trace.specs.States.{Hart as HartValue};
 ghost use Rattle.timer_trace.specs.declared.timer.Timer.{Timer};
-ghost use Rattle.vm_world.specs.Answering.{Advances, IsAnswered, is_low};
+ghost use Rattle.vm_world.specs.Answering.{Advances, Goes, IsAnswered, is_low};
 ghost use Rattle.vm_world.specs.Worlds.{Runs, world_with};
 
 use flat_guest::{Layout, place};
@@ -15,9 +17,9 @@ use guest_memory::{PAGE_SIZE, RAM_START};
 use guest_pages::PageSet;
 use hart_rv64::Hart;
 use line_board::Board;
-use rv_doing::{HartOp, HartReply};
+use rv_doing::{HartOp, HartReply, Load};
 use rv_rows::Width;
-use vm_types::{ActorId, Op, Place, PlaceId, Reply};
+use vm_types::{ActorId, BoardOp, Op, Place, PlaceId, Reply};
 
 #[inline]
 fn read(pages: &PageSet, at: u64, width: Width) -> HartReply
@@ -91,20 +93,83 @@ fn answer(pages: &mut PageSet, board: &mut Board, actor: ActorId, op: HartOp) ->
                 HartReply::Fault
             }
         }
+        HartOp::Board(BoardOp::Look) => HartReply::Shown(board.show(actor)),
         HartOp::Idle => HartReply::Done,
         _ => answer_rare(pages, board, actor, op),
     }
 }
 
-/// The next event of the hart of this number.
-#[inline]
-pub fn advance(pages: &mut PageSet, board: &mut Board, hart: &mut Hart, number: u8)
+// The next event of the hart of this number.
+#[inline(never)]
+fn advance(pages: &mut PageSet, board: &mut Board, hart: &mut Hart, number: u8)
     requires small { length pages.old ≤ 2 ^ 28 }
     ensures event { Advances pages.old board.old hart.old (ActorId.Hart number) pages.new board.new hart.new }
     ensures count { length pages.new ≡ length pages.old }
 {
     let reply = answer(pages, board, ActorId::Hart(number), hart.asks());
     hart.goes_on(reply);
+}
+
+// What a load reads, where RAM has it.
+#[inline]
+fn read_load(pages: &PageSet, load: Load) -> Option<u64>
+    ensures ram { IfSome result (λ read. nat_lt load.address ram_start ≡ false) }
+    ensures read { IfSome result (λ read. (actor : ActorId) →
+        read_reply (load_width load.kind) (Some read)
+        ≡ (served pages.now actor (read_of (load_width load.kind) load.address)).0) }
+{
+    if load.address < RAM_START {
+        return None;
+    }
+    pages.read_word(load.address, load.kind.width())
+}
+
+// The next events of the hart of this number, of which so many are left, and how many they are: an instruction with its
+// load or store, where RAM has both, or else one event.
+#[inline]
+fn advance_some(
+    pages: &mut PageSet,
+    board: &mut Board,
+    hart: &mut Hart,
+    number: u8,
+    left: u64,
+) -> u64
+    requires small { length pages.old ≤ 2 ^ 28 }
+    requires some { 1 ≤ left }
+    ensures events { Goes pages.old board.old hart.old (ActorId.Hart number) result pages.new board.new hart.new }
+    ensures some { 1 ≤ result }
+    ensures within { result ≤ left }
+    ensures count { length pages.new ≡ length pages.old }
+{
+    let Some(pc) = hart.fetches() else {
+        advance(pages, board, hart, number);
+        return 1;
+    };
+    let Some(word) = pages.read_word(pc, Width::Word) else {
+        advance(pages, board, hart, number);
+        return 1;
+    };
+    if left > 1 {
+        if let Some(load) = hart.load(word) {
+            if let Some(read) = read_load(pages, load) {
+                hart.loads(load, read);
+                return 2;
+            }
+        } else if let Some(store) = hart.store(word) {
+            if store.address >= RAM_START {
+                let is_made = pages.write_word(
+                    ActorId::Hart(number),
+                    store.address,
+                    store.value,
+                    store.width,
+                );
+                hart.stores(store, is_made);
+                return 2;
+            }
+        }
+    }
+    hart.begins(word);
+    1
 }
 
 /// Events of the hart of this number, and how many there were. Whatever the timer and the other harts are, they stay.
@@ -127,8 +192,7 @@ pub fn run_hart(
         if board.is_off() {
             return made;
         }
-        advance(pages, board, hart, number);
-        made += 1;
+        made += advance_some(pages, board, hart, number, count - made);
     }
     made
 }
