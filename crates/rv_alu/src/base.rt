@@ -23,6 +23,7 @@ fn sraw(a: u64, b: u64) -> u64
 }
 
 /// What an operation of the base computes of two values (unprivileged manual, 2.4 and 5.2).
+#[inline(always)]
 pub fn alu(op: AluOp, a: u64, b: u64) -> u64
     ensures { result ≡ alu op a b }
 {

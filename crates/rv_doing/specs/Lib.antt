@@ -4,3 +4,4 @@ pub mod Doing
 pub mod HartOps
 pub mod Replies
 pub mod Sbi
+pub mod Values

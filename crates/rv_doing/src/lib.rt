@@ -19,6 +19,7 @@ mod replies;
 mod sbi;
 #[cfg(test)]
 mod tests;
+mod values;
 
 pub use access::{Load, Store};
 pub use hart_op::HartOp;

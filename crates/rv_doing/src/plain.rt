@@ -8,82 +8,72 @@ ghost use Rattle.rv_doing.specs.Doing.{Ends};
 ghost use Rattle.rv_doing.specs.Does.{does};
 
 use crate::replies::end_with;
-use rv_alu::{alu, is_taken, muldiv};
+use crate::values;
+use rv_alu::is_taken;
 use rv_decode::function_fields::opcode;
 use rv_decode::groups;
 use rv_effect::even;
+use rv_rows::fields::{rd, rs1, rs2};
 use rv_rows::{Instr, Register};
 use rv_supervisor::{Regs, finish, jump};
 
 #[inline]
-#[tactic(auto, unfolding(crate::specs::Does::does))]
 fn op_imm(word: u32, regs: &mut Regs) -> bool
     requires { opcode word ≡ 0x13 }
     ensures done { result ≡ true → does word regs.old ≡ Ends regs.new }
     ensures left { result ≡ false → regs.new ≡ regs.old }
 {
-    match groups::op_imm(word) {
-        Some(Instr::AluImm { op, rd, rs1, value }) => {
-            end_with(rd, alu(op, regs.get(rs1), value), regs);
+    match values::of_immediate(word, regs.get(rs1(word))) {
+        Some(value) => {
+            end_with(rd(word), value, regs);
             true
         }
-        _ => false,
+        None => false,
     }
 }
 
 #[inline]
-#[tactic(auto, unfolding(crate::specs::Does::does))]
 fn op_imm_32(word: u32, regs: &mut Regs) -> bool
     requires { opcode word ≡ 0x1b }
     ensures done { result ≡ true → does word regs.old ≡ Ends regs.new }
     ensures left { result ≡ false → regs.new ≡ regs.old }
 {
-    match groups::op_imm_32(word) {
-        Some(Instr::AluImm { op, rd, rs1, value }) => {
-            end_with(rd, alu(op, regs.get(rs1), value), regs);
+    match values::of_word_immediate(word, regs.get(rs1(word))) {
+        Some(value) => {
+            end_with(rd(word), value, regs);
             true
         }
-        _ => false,
+        None => false,
     }
 }
 
 #[inline]
-#[tactic(auto, unfolding(crate::specs::Does::does))]
 fn op(word: u32, regs: &mut Regs) -> bool
     requires { opcode word ≡ 0x33 }
     ensures done { result ≡ true → does word regs.old ≡ Ends regs.new }
     ensures left { result ≡ false → regs.new ≡ regs.old }
 {
-    match groups::op(word) {
-        Some(Instr::Alu { op, rd, rs1, rs2 }) => {
-            end_with(rd, alu(op, regs.get(rs1), regs.get(rs2)), regs);
+    match values::of_operation(word, regs.get(rs1(word)), regs.get(rs2(word))) {
+        Some(value) => {
+            end_with(rd(word), value, regs);
             true
         }
-        Some(Instr::MulDiv { op, rd, rs1, rs2 }) => {
-            end_with(rd, muldiv(op, regs.get(rs1), regs.get(rs2)), regs);
-            true
-        }
-        _ => false,
+        None => false,
     }
 }
 
 #[inline]
-#[tactic(auto, unfolding(crate::specs::Does::does))]
 fn op_32(word: u32, regs: &mut Regs) -> bool
     requires { opcode word ≡ 0x3b }
     ensures done { result ≡ true → does word regs.old ≡ Ends regs.new }
     ensures left { result ≡ false → regs.new ≡ regs.old }
 {
-    match groups::op_32(word) {
-        Some(Instr::Alu { op, rd, rs1, rs2 }) => {
-            end_with(rd, alu(op, regs.get(rs1), regs.get(rs2)), regs);
+    match values::of_word_operation(word, regs.get(rs1(word)), regs.get(rs2(word))) {
+        Some(value) => {
+            end_with(rd(word), value, regs);
             true
         }
-        Some(Instr::MulDiv { op, rd, rs1, rs2 }) => {
-            end_with(rd, muldiv(op, regs.get(rs1), regs.get(rs2)), regs);
-            true
-        }
-        _ => false,
+        None => false,
     }
 }
 
