@@ -1,5 +1,5 @@
 // Bytes of a file.
-ghost use Rattle.std.specs.Prelude.{◌≡◌, length, IfOk};
+ghost use Rattle.std.specs.Prelude.{◌≡◌, length, replicate, IfOk};
 ghost use Rattle.std.specs.Option.{option_map};
 ghost use Rattle.std.specs.FinMap.{get};
 ghost use Rattle.gate_file.specs.Reading.{FileCause};
@@ -62,7 +62,8 @@ pub fn read_file<F: Files>(
 
 /// So many zeros.
 pub fn zeros(alloc: Global, len: usize) -> Result<Vec<u8>, AllocError>
-    ensures { IfOk result (λ bytes. length bytes.items ≡ len) }
+    ensures size { IfOk result (λ bytes. length bytes.items ≡ len) }
+    ensures zeros { IfOk result (λ bytes. bytes.items ≡ replicate len 0) }
 {
     Ok(vec![in alloc; 0u8; len]?)
 }
