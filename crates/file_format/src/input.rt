@@ -43,6 +43,7 @@ impl<'a> Input<'a> {
     pub fn take(&mut self, count: usize) -> Option<&'a [u8]>
         ensures some { IfSome result (λ front. front_at count self.old ≡ Some (front.now, self.new)) }
         ensures none { IfNone result (front_at count self.old ≡ None) }
+        ensures kept { IfNone result (self.new ≡ self.old) }
     {
         let left = self.left;
         if left.len() < count {
