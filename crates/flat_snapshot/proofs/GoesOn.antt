@@ -28,7 +28,7 @@ fetched start word fetches =
     subst (λ t. Continues start [] (opening t start)) fetches (hart_continues start [] (fresh start) (leads_start start)) in
     any_reply start [] (Op.Read start.pc 4) (Reply.Bytes (bytes_of 4 word)) wants refl
 
-access_fetches : (due : Bool) (word : ℕ) → turn_of due (Access word) ≡ turn.Fetch
+pub access_fetches : (due : Bool) (word : ℕ) → turn_of due (Access word) ≡ turn.Fetch
 access_fetches true word = refl
 access_fetches false word = refl
 

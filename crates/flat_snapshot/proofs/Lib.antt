@@ -1,3 +1,5 @@
 pub mod Copied
+pub mod CopiedAgain
 pub mod GoesOn
 pub mod Loaded
+pub mod Refused

@@ -1,6 +1,6 @@
 -- The files of a create are found as its snapshot.
-use Rattle.std.proofs.Common.{◌≡◌, ◌≢◌, ℕ, ◌+◌, ◌*◌, Bool, true, not, ◌&&◌, eqb, if◌then◌else◌, List, [], ◌∷◌, ◌++◌, length, take, drop, Option, Some, Result, Ok, Err, refl, sym, ap, ◌∙◌, arith, length-append}
-use Rattle.std.proofs.lemmas.Bool.{eq-eqb}
+use Rattle.std.proofs.Common.{◌≡◌, ◌≢◌, ℕ, ◌+◌, ◌*◌, Bool, true, false, not, ◌&&◌, eqb, if◌then◌else◌, List, [], ◌∷◌, ◌++◌, length, take, drop, Option, Some, Result, Ok, Err, refl, sym, ap, ◌∙◌, arith, length-append}
+use Rattle.std.proofs.lemmas.Bool.{eq-eqb, eqb-true}
 use Rattle.std.proofs.lemmas.List.{append-nil}
 use Rattle.std.proofs.Math.Seq.{drop-append_seam, take-append_seam}
 use Rattle.std.specs.Prelude.{IsTrue}
@@ -89,6 +89,20 @@ module _ (i : Identity) (pages size : ℕ) (front : List ℕ) (h : MemHeader) (b
       ∙ ap (λ r. memory_read i pages size r) reads_header
       ∙ ap (λ (t : Bool). if t then memory_judged i pages size h else Err refusal.BadField) b.valid
 
+falls : (b : Bool) → (b ≡ true → ⊥) → b ≡ false
+falls false never = refl
+falls true never = absurd (never refl)
+
+and_parts : (a b : Bool) → (a && b) ≡ true → (a ≡ true) × (b ≡ true)
+and_parts true true e = (refl, refl)
+and_parts true false e = absurd cc
+and_parts false b e = absurd cc
+
+same_when : (a b : Identity) → is_same a b ≡ true → a ≡ b
+same_when a b e =
+    let parts = and_parts (eqb a.lineage b.lineage) (eqb a.number b.number) e in
+    λ i. record { lineage = eqb-true a.lineage b.lineage parts.0 i; number = eqb-true a.number b.number parts.1 i }
+
 module _ (i : Identity) (pages : ℕ) (bytes : List ℕ) (fits : memory.header.Fits (memory.new_header pages i))
     (numbered : IsTrue (is_numbered i)) (whole : length bytes ≡ page_size * pages) where
   abbrev h : MemHeader
@@ -144,6 +158,24 @@ module _ (i : Identity) (pages : ℕ) (bytes : List ℕ) (fits : memory.header.F
       (front_of_header i pages (length given) (take 4096 given) h begins ∙ judged)
       ∙ ap Ok behind
 
+  -- by a load of another snapshot
+  module _ (asked : Identity) (differ : i ≢ asked) where
+    other_identity : is_same i asked ≡ false
+    other_identity = falls (is_same i asked) (λ e. differ (same_when i asked e))
+
+    judged_other : memory_judged asked pages (length given) h ≡ Err refusal.ParentDiffers
+    judged_other =
+        ap (λ (t : Bool). if not (t && eqb (length given) (4096 + page_size * pages)) then Err refusal.SizesDiffer
+        else (if not (is_same i asked) then Err refusal.ParentDiffers else Ok tt)) (eq-eqb pages pages refl)
+        ∙ ap (λ (t : Bool). if not t then Err refusal.SizesDiffer
+        else (if not (is_same i asked) then Err refusal.ParentDiffers else Ok tt)) (eq-eqb _ _ size_is)
+        ∙ ap (λ (t : Bool). if not t then Err refusal.ParentDiffers else Ok tt) other_identity
+
+    memory_other : memory_in asked pages given ≡ Err refusal.ParentDiffers
+    memory_other =
+        ap (λ (r : Result (Unit {0}) Refusal). r >>= λ _. Ok (drop 4096 given))
+        (front_of_header asked pages (length given) (take 4096 given) h begins ∙ judged_other)
+
 -- ---- both
 
 pub found_again : (before : Saved) (files : SnapshotFiles) (i : Identity) (c : StateCopy) (bytes : List ℕ)
@@ -164,3 +196,23 @@ found_again before files i c bytes differ saved fits whole =
     ∙ ap (λ (r : Result (Identity × StateCopy) Refusal). r >>= λ s. memory_found s.0 s.1.pages (get after files.mem_file_path) >>= λ b. Ok (record { identity = s.0; copy = s.1; bytes = b })) (state_again i c saved)
     ∙ ap (λ (o : Option (List ℕ)). memory_found i c.pages o >>= λ b. Ok (record { identity = i; copy = c; bytes = b })) memory_there
     ∙ ap (λ (r : Result (List ℕ) Refusal). r >>= λ b. Ok (record { identity = i; copy = c; bytes = b })) (memory_again i c.pages bytes fits saved.numbered whole)
+
+pub found_other : (before : Saved) (files : SnapshotFiles) (i other : Identity) (c : StateCopy) (bytes : List ℕ)
+    → files.mem_file_path ≢ files.snapshot_path → state.IsSaved (record { identity = i; copy = c })
+    → memory.header.Fits (memory.new_header c.pages other) → IsTrue (is_numbered other) → length bytes ≡ page_size * c.pages
+    → other ≢ i
+    → found (insert (insert before files.mem_file_path (memory_file other c.pages bytes)) files.snapshot_path (state_file i c)) files
+    ≡ Err refusal.ParentDiffers
+unfolding found
+found_other before files i other c bytes differ saved fits numbered whole others =
+    let with_memory = insert before files.mem_file_path (memory_file other c.pages bytes) in
+    let after = insert with_memory files.snapshot_path (state_file i c) in
+    let memory_there : get after files.mem_file_path ≡ Some (memory_file other c.pages bytes)
+    = got_other with_memory files.snapshot_path (state_file i c) files.mem_file_path differ
+    ∙ got_there before files.mem_file_path (memory_file other c.pages bytes) in
+    let state_there : get after files.snapshot_path ≡ Some (state_file i c)
+    = got_there with_memory files.snapshot_path (state_file i c) in
+    ap (λ (o : Option (List ℕ)). state_found o >>= λ s. memory_found s.0 s.1.pages (get after files.mem_file_path) >>= λ b. Ok (record { identity = s.0; copy = s.1; bytes = b })) state_there
+    ∙ ap (λ (r : Result (Identity × StateCopy) Refusal). r >>= λ s. memory_found s.0 s.1.pages (get after files.mem_file_path) >>= λ b. Ok (record { identity = s.0; copy = s.1; bytes = b })) (state_again i c saved)
+    ∙ ap (λ (o : Option (List ℕ)). memory_found i c.pages o >>= λ b. Ok (record { identity = i; copy = c; bytes = b })) memory_there
+    ∙ ap (λ (r : Result (List ℕ) Refusal). r >>= λ b. Ok (record { identity = i; copy = c; bytes = b })) (memory_other other c.pages bytes fits numbered whole i others)

@@ -55,3 +55,12 @@ carried_config c = record {
   machine = record c.machine { track_dirty_pages = false };
   configured = true;
 }
+
+-- the copy of what goes on, in which no dirty page is tracked
+abbrev pub untracked : StateCopy → StateCopy
+untracked copy = record copy {
+  configuration = record copy.configuration {
+    machine = record copy.configuration.machine { track_dirty_pages = false };
+  };
+  track_dirty_pages = false;
+}

@@ -1,5 +1,5 @@
--- The two files of a snapshot, and the calls that write them. Each is a total function: whether a file of these bytes is
--- one that can be loaded is for the load to judge.
+-- The two files of a snapshot, and the calls that write them. Each is a total function: whether a file of these bytes
+-- is one that can be loaded is for the load to judge.
 use Rattle.std.specs.Prelude.{ℕ, List, ◌∷◌, ◌++◌, drop}
 use Rattle.vm_types.specs.declared.identity.Identity.{Identity}
 use Rattle.vm_outside.specs.Calls.{FileCall}

@@ -1,9 +1,12 @@
 // What holds of every guest, and of every snapshot.
-ghost use Rattle.std.specs.Prelude.{◌≡◌, ◌≢◌, ◌*◌, ℕ, List, Ok, length};
-ghost use Rattle.std.specs.FinMap.{insert};
+ghost use Rattle.std.specs.Prelude.{◌≡◌, ◌≢◌, ◌*◌, ◌⊎◌, ℕ, List, IsTrue, IsErr, Ok, Err, length};
+ghost use Rattle.std.specs.FinMap.{get, insert};
 ghost use Rattle.vm_types.specs.Saved.{Saved};
 ghost use Rattle.vm_types.specs.declared.identity.Identity.{Identity};
+ghost use Rattle.refusals.specs.declared.refusal.Refusal.TheVariants as refusal;
 ghost use Rattle.api_calls.specs.declared.call.SnapshotFiles.{SnapshotFiles};
+ghost use Rattle.file_format.specs.Identities.{is_numbered};
+ghost use Rattle.gate_file.specs.Moments.{IsShut};
 ghost use Rattle.guest_memory.specs.Ram.{page_size};
 ghost use Rattle.snap_memory.specs.Headers.{header, new_header};
 ghost use Rattle.snap_state.specs.Files.{IsSaved};
@@ -13,7 +16,7 @@ ghost use Rattle.vm_config.specs.declared.config.Config.{Config};
 ghost use Rattle.flat_guest.specs.Guest.{Guest};
 ghost use Rattle.flat_guest.specs.Sound.{IsSound};
 ghost use Rattle.snap_state.specs.declared.copy.StateCopy.{StateCopy};
-ghost use Rattle.flat_snapshot.specs.Carried.{carried_guest};
+ghost use Rattle.flat_snapshot.specs.Carried.{carried_config, carried_guest, untracked};
 ghost use Rattle.flat_snapshot.specs.Copies.{IsCopyOf};
 
 /// A guest has one copy at most, and one that is never stuck has one.
@@ -28,6 +31,14 @@ pub fn goes_on()
     ensures { (copy : StateCopy) (bytes : List ℕ) → IsSound (carried_guest copy bytes) }
 {}
 
+/// The copy of the guest that goes on from a snapshot is the one that it goes on from, but that no dirty page is
+/// tracked.
+pub fn copied_again()
+    ensures { (identity : Identity) (copy : StateCopy) (bytes : List ℕ) →
+        IsSaved (record { identity = identity; copy = copy }) → length bytes ≡ page_size * copy.pages →
+        IsCopyOf (carried_config copy.configuration) (carried_guest copy bytes) (untracked copy) }
+{}
+
 /// Where a create put the two files of a copy that a state file can have, of a memory of its pages, a load finds just
 /// this snapshot.
 pub fn create_then_load()
@@ -36,4 +47,18 @@ pub fn create_then_load()
         header.Fits (new_header copy.pages identity) → length bytes ≡ page_size * copy.pages →
         found (insert (insert before files.mem_file_path (memory_file identity copy.pages bytes)) files.snapshot_path
         (state_file identity copy)) files ≡ Ok (record { identity = identity; copy = copy; bytes = bytes }) }
+{}
+
+/// A load finds no snapshot where a file isn't there, is shorter than its header or has its gate closed, and none where
+/// the memory file is of another snapshot.
+pub fn no_snapshot()
+    ensures shut { (saved : Saved) (files : SnapshotFiles) →
+        IsShut 32 (get saved files.snapshot_path) ⊎ IsShut 4096 (get saved files.mem_file_path) →
+        IsErr (found saved files) }
+    ensures other { (before : Saved) (files : SnapshotFiles) (identity other : Identity) (copy : StateCopy)
+        (bytes : List ℕ) → files.mem_file_path ≢ files.snapshot_path →
+        IsSaved (record { identity = identity; copy = copy }) → header.Fits (new_header copy.pages other) →
+        IsTrue (is_numbered other) → length bytes ≡ page_size * copy.pages → other ≢ identity →
+        found (insert (insert before files.mem_file_path (memory_file other copy.pages bytes)) files.snapshot_path
+        (state_file identity copy)) files ≡ Err refusal.ParentDiffers }
 {}
