@@ -1,8 +1,8 @@
 -- The guest that goes on from a snapshot has that snapshot's copy.
-use Rattle.std.proofs.Common.{◌≡◌, ◌<◌, ◌≤◌, ◌⊎◌, inl, inr, ℕ, zero, suc, ◌+◌, ◌*◌, ◌/◌, ◌%◌, nat_lt, nat_le, not, ◌^◌, if◌then◌else◌, ◌==◌, Bool, true, false, ◌&&◌, ◌||◌, refl, sym, ap, subst, ◌∙◌, List, [], ◌∷◌, ◌++◌, length, map, replicate, Option, Some, None, slice_get, slice_set, append_assoc, arith}
+use Rattle.std.proofs.Common.{◌≡◌, ◌<◌, ◌≤◌, ◌⊎◌, inl, inr, ℕ, zero, suc, ◌+◌, ◌*◌, ◌/◌, ◌%◌, nat_lt, nat_le, not, ◌^◌, if◌then◌else◌, ◌==◌, true, ◌&&◌, refl, sym, ap, subst, ◌∙◌, List, [], ◌∷◌, ◌++◌, length, map, replicate, Option, Some, None, slice_get, slice_set, append_assoc, arith}
 use Rattle.std.specs.Prelude.{is_some}
 use Rattle.std.specs.List.{list_all, AllByRecursion}
-use Rattle.std.proofs.lemmas.Bool.{eqb-true, ltb-true, leb-true}
+use Rattle.std.proofs.lemmas.Bool.{and_parts, eqb-true, leb-true, ltb-true, or_cases}
 use Rattle.std.proofs.lemmas.List.{length-set, length-replicate}
 use Rattle.vm_types.specs.declared.ids.ActorId.{ActorId}
 use Rattle.vm_types.specs.declared.ids.ActorId.TheVariants.{Hart as HartId}
@@ -34,16 +34,6 @@ use Rattle.snap_state.proofs.Parts.{hart_again}
 use Rattle.flat_snapshot.specs.Copies.{AreHarts, IsCopyOf, reservations_from}
 use Rattle.flat_snapshot.specs.Carried.{carried_config, carried_guest, hart_steps, slots_with, steps_at, steps_from, untracked}
 use Rattle.flat_snapshot.proofs.GoesOn.{access_fetches}
-
-and_parts : (a b : Bool) → (a && b) ≡ true → (a ≡ true) × (b ≡ true)
-and_parts true true e = (refl, refl)
-and_parts true false e = absurd cc
-and_parts false b e = absurd cc
-
-or_parts : (a b : Bool) → (a || b) ≡ true → (a ≡ true) ⊎ (b ≡ true)
-or_parts true b e = inl refl
-or_parts false true e = inr refl
-or_parts false false e = absurd cc
 
 -- ---- harts
 
@@ -171,7 +161,7 @@ there pages harts r few is =
     record { page = ltb-true _ _ p0.0; own = omega (arith, few, ltb-true _ _ p0.1) }
 
 rises : (pages : ℕ) (a b : Reservation) → IsThere pages a → is_before a b ≡ true → suc (slot_of a) ≤ slot_of b
-rises pages a b is before = by_cases (or_parts (nat_lt a.page b.page) ((a.page == b.page) && nat_lt a.hart b.hart) before) where
+rises pages a b is before = by_cases (or_cases (nat_lt a.page b.page) ((a.page == b.page) && nat_lt a.hart b.hart) before) where
   by_cases : (nat_lt a.page b.page ≡ true) ⊎ (((a.page == b.page) && nat_lt a.hart b.hart) ≡ true) → suc (slot_of a) ≤ slot_of b
   by_cases (inl e) = omega (arith, is.own, ltb-true _ _ e)
   by_cases (inr e) =

@@ -1,6 +1,6 @@
 -- The files of a create are found as its snapshot.
 use Rattle.std.proofs.Common.{◌≡◌, ◌≢◌, ℕ, ◌+◌, ◌*◌, Bool, true, false, not, ◌&&◌, eqb, if◌then◌else◌, List, [], ◌∷◌, ◌++◌, length, take, drop, Option, Some, Result, Ok, Err, refl, sym, ap, ◌∙◌, arith, length-append}
-use Rattle.std.proofs.lemmas.Bool.{eq-eqb, eqb-true}
+use Rattle.std.proofs.lemmas.Bool.{and_parts, eq-eqb, eqb-true, false_from_ne_true}
 use Rattle.std.proofs.lemmas.List.{append-nil}
 use Rattle.std.proofs.Math.Seq.{drop-append_seam, take-append_seam}
 use Rattle.std.specs.Prelude.{IsTrue}
@@ -89,15 +89,6 @@ module _ (i : Identity) (pages size : ℕ) (front : List ℕ) (h : MemHeader) (b
       ∙ ap (λ r. memory_read i pages size r) reads_header
       ∙ ap (λ (t : Bool). if t then memory_judged i pages size h else Err refusal.BadField) b.valid
 
-falls : (b : Bool) → (b ≡ true → ⊥) → b ≡ false
-falls false never = refl
-falls true never = absurd (never refl)
-
-and_parts : (a b : Bool) → (a && b) ≡ true → (a ≡ true) × (b ≡ true)
-and_parts true true e = (refl, refl)
-and_parts true false e = absurd cc
-and_parts false b e = absurd cc
-
 same_when : (a b : Identity) → is_same a b ≡ true → a ≡ b
 same_when a b e =
     let parts = and_parts (eqb a.lineage b.lineage) (eqb a.number b.number) e in
@@ -161,7 +152,7 @@ module _ (i : Identity) (pages : ℕ) (bytes : List ℕ) (fits : memory.header.F
   -- by a load of another snapshot
   module _ (asked : Identity) (differ : i ≢ asked) where
     other_identity : is_same i asked ≡ false
-    other_identity = falls (is_same i asked) (λ e. differ (same_when i asked e))
+    other_identity = false_from_ne_true (is_same i asked) (λ e. differ (same_when i asked e))
 
     judged_other : memory_judged asked pages (length given) h ≡ Err refusal.ParentDiffers
     judged_other =

@@ -1,9 +1,9 @@
 -- Where a load finds no snapshot.
-use Rattle.std.proofs.Common.{◌≡◌, ◌⊎◌, inl, inr, ℕ, Bool, true, false, not, ◌||◌, if◌then◌else◌, List, [], ◌∷◌, take, drop, length, Option, Some, None, Result, Ok, Err, refl, sym, ap, subst, ◌∙◌, arith}
+use Rattle.std.proofs.Common.{◌≡◌, ◌⊎◌, inl, inr, ℕ, Bool, true, not, ◌||◌, if◌then◌else◌, List, [], ◌∷◌, take, drop, length, Option, Some, None, Result, Ok, Err, refl, sym, ap, subst, ◌∙◌, arith}
 use Rattle.std.specs.Prelude.{◌==◌, IsErr, nat_lt, slice_index}
 use Rattle.std.specs.FinMap.{get}
 use Rattle.std.proofs.Math.Bool.{or-true}
-use Rattle.std.proofs.lemmas.Bool.{eqb-true, lt-ltb}
+use Rattle.std.proofs.lemmas.Bool.{eqb-true, false_from_ne_true, lt-ltb}
 use Rattle.std.proofs.lemmas.List.{length-take}
 use Rattle.vm_types.specs.Saved.{Saved}
 use Rattle.vm_types.specs.declared.identity.Identity.{Identity}
@@ -19,14 +19,10 @@ use Rattle.snap_state.specs.Files as state
 use Rattle.file_format.specs.Starts.{is_other}
 use Rattle.flat_snapshot.specs.Found.{Snapshot, found, memory_found, memory_read, state_found, state_read}
 
-falls : (b : Bool) → (b ≡ true → ⊥) → b ≡ false
-falls false never = refl
-falls true never = absurd (never refl)
-
 closed : (size : ℕ) (text : List ℕ) → IsShut size (Some text) → is_closed size text ≡ true
 closed size text (inl short) = ap (λ (b : Bool). b || not (slice_index text 0 == 1)) (lt-ltb _ _ short)
 closed size text (inr other) =
-    ap (λ (b : Bool). nat_lt (length text) size || not b) (falls (slice_index text 0 == 1) (λ e. other (eqb-true _ _ e)))
+    ap (λ (b : Bool). nat_lt (length text) size || not b) (false_from_ne_true (slice_index text 0 == 1) (λ e. other (eqb-true _ _ e)))
     ∙ or-true (nat_lt (length text) size)
 
 -- a front of a file that is shut is shut
