@@ -8,10 +8,12 @@
 
 mod call;
 mod endpoint;
+mod law;
 mod test;
 
 pub use call::{
     ApiCall, BootSource, MachineConfig, MachinePatch, Part, SnapshotFiles, SnapshotLoad, VmState,
 };
 pub use endpoint::{Body, Endpoint};
+pub use law::paths_differ;
 pub use test::Test;
