@@ -1,6 +1,7 @@
 pub mod Copying
 pub mod Ending
 pub mod Here
+pub mod Holding
 pub mod Joined
 pub mod Loading
 pub mod Marking

@@ -23,10 +23,12 @@ put_put bytes xs ys o inside =
     ∙ sym (append_assoc front ys (drop (o + length (xs ++ ys)) bytes))
     ∙ ap (λ (l : List ℕ). l ++ drop (o + length (xs ++ ys)) bytes) (append_assoc (take o bytes) xs ys)
 
-same_slots : (pages : List PageValue) (i : ℕ) (d q : PageValue) → i < length pages → q.reserved ≡ (get_or pages i d).reserved → flat_map (λ p. p.reserved) (set pages i q) ≡ flat_map (λ p. p.reserved) pages
-same_slots [] i d q lt same = absurd (omega arith)
-same_slots (p ∷ ps) zero d q lt same = ap (λ (l : List (Option ℕ)). l ++ flat_map (λ p. p.reserved) ps) same
-same_slots (p ∷ ps) (suc i) d q lt same = ap (λ (l : List (Option ℕ)). p.reserved ++ l) (same_slots ps i d q (omega arith) same)
+-- what a changed page has as before is as before in all
+pub same_joined : {A : Type 0} (part : PageValue → List A) (pages : List PageValue) (i : ℕ) (d q : PageValue) → i < length pages
+    → part q ≡ part (get_or pages i d) → flat_map part (set pages i q) ≡ flat_map part pages
+same_joined part [] i d q lt same = absurd (omega arith)
+same_joined part (p ∷ ps) zero d q lt same = ap (λ l. l ++ flat_map part ps) same
+same_joined part (p ∷ ps) (suc i) d q lt same = ap (λ l. part p ++ l) (same_joined part ps i d q (omega arith) same)
 
 -- a piece inside one page
 module _ (value pages : List PageValue) (i offset : ℕ) (piece : List ℕ) (old new : PageValue) (view : value ≡ pages) (are : ArePages 0 pages) (lt : i < length value) (was : old ≡ get_or pages i old) (now : new ≡ patched offset piece old) (room : offset + length piece ≤ 4096) where
@@ -37,7 +39,7 @@ module _ (value pages : List PageValue) (i offset : ℕ) (piece : List ℕ) (old
   patched_memory =
       let is : new.bytes ≡ put_at (get_or pages i old).bytes offset piece = ap (λ (p : PageValue). p.bytes) now ∙ ap (λ (p : PageValue). put_at p.bytes offset piece) was in
       let bytes = put_joined 0 pages i offset piece old new are below room is in
-      let slots = same_slots pages i old new below (ap (λ (p : PageValue). p.reserved) now ∙ ap (λ (p : PageValue). p.reserved) was) in
+      let slots = same_joined (λ p. p.reserved) pages i old new below (ap (λ (p : PageValue). p.reserved) now ∙ ap (λ (p : PageValue). p.reserved) was) in
       let here : flat_of (set pages i new) ≡ loaded (4096 * i + offset) piece (flat_of pages) = (λ k. record { bytes = sym bytes k; reserved = slots k }) in
       here ∙ ap (λ (l : List PageValue). loaded (4096 * i + offset) piece (flat_of l)) (sym view)
 

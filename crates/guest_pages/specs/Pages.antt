@@ -110,5 +110,9 @@ empty_memory pages = record { bytes = replicate (page_size * pages) 0; reserved 
 abbrev pub loaded : ℕ → List ℕ → Memory → Memory
 loaded offset block m = record m { bytes = put_at m.bytes offset block }
 
+-- a granule at this offset reserved in a slot, by no act
+abbrev pub held_at : ℕ → ℕ → Memory → Memory
+held_at slot offset m = record m { reserved = slice_set m.reserved slot (Some offset) }
+
 abbrev pub marks_of : List PageValue → List Bool
 marks_of pages = map (λ p. p.marked) pages

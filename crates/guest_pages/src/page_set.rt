@@ -1,9 +1,11 @@
 // All pages of guest memory.
-ghost use Rattle.std.specs.Prelude.{◌≡◌, ◌≤◌, ◌<◌, ◌+◌, ◌*◌, ◌%◌, ◌^◌, ℕ, false, length, replicate, take, drop, slice_set, slice_index_or, IfOk, MatchOption};
+ghost use Rattle.std.specs.Prelude.{◌≡◌, ◌≤◌, ◌<◌, ◌+◌, ◌*◌, ◌%◌, ◌^◌, ℕ, false, length, replicate, take, drop};
+ghost use Rattle.std.specs.Prelude.{slice_set, slice_index_or, IfOk, MatchOption, None};
 ghost use Rattle.vm_types.specs.declared.ids.PlaceId.{PlaceId};
 ghost use Rattle.guest_memory.specs.Memory.{touch};
 ghost use Rattle.guest_memory.specs.Route.{access_place, page_of};
-ghost use Rattle.guest_pages.specs.Pages.{PageValue, cleared, empty_memory, filled, flat_of, loaded, marks_of, new_pages, page_holding, page_touch, unmarked};
+ghost use Rattle.guest_pages.specs.Pages.{PageValue, cleared, empty_memory, filled, flat_of, held_at, loaded, marks_of};
+ghost use Rattle.guest_pages.specs.Pages.{new_pages, page_holding, page_touch, unmarked};
 ghost use Rattle.guest_pages.specs.Words.{pages_at, place_among, read_of, read_reply, served, write_of, write_reply};
 
 use crate::page::Page;
@@ -12,6 +14,9 @@ use rv_rows::Width;
 use std::alloc::{AllocError, Global};
 use std::marker::Model;
 use vm_types::{ActorId, GuestAddr, Op, Place, Reply};
+
+/// A page has a slot for each hart that there can be.
+const HARTS: usize = 32;
 
 /// The pages in order, which contracts see as the list of their values, and by `flat_of` as the one memory.
 #[derive(Drop)]
@@ -50,6 +55,7 @@ impl PageSet {
     pub fn len(&self) -> usize
         ensures pages { result ≡ length self.now }
         ensures bytes { length (flat_of self.now).bytes ≡ 4096 * result }
+        ensures slots { length (flat_of self.now).reserved ≡ 32 * result }
     {
         self.pages.len()
     }
@@ -187,10 +193,21 @@ impl PageSet {
         requires hart { hart < 32 }
         requires inside { offset < 4096 }
         requires granule { offset % 8 ≡ 0 }
-        ensures { (d : PageValue) →
+        ensures pages { (d : PageValue) →
             self.new ≡ slice_set self.old number (page_holding hart offset (slice_index_or self.old number d)) }
+        ensures memory { flat_of self.new ≡ held_at (32 * number + hart) offset (flat_of self.old) }
+        ensures count { length self.new ≡ length self.old }
     {
         self.pages[number].hold(hart, offset);
+    }
+
+    /// What is reserved in the slot of this number: the offset of a granule in its page. A page has 32 slots, one for
+    /// each hart.
+    pub fn reserved(&self, slot: usize) -> Option<u16>
+        requires { slot < 32 * length self.now }
+        ensures { result ≡ slice_index_or (flat_of self.now).reserved slot None }
+    {
+        self.pages[slot / HARTS].reservations()[slot % HARTS]
     }
 }
 

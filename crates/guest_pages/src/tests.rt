@@ -104,6 +104,8 @@ fn what_is_put_there_marks_nothing(rt: HostRuntime) -> Result<(), Fail> {
     assert!(rt; page.bytes() == text.as_slice());
     assert_eq!(rt; page.reservations(), wanted.as_slice());
     assert!(rt; !page.is_marked());
+    assert_eq!(rt; pages.reserved(62), None);
+    assert_eq!(rt; pages.reserved(63), Some(4088));
     Ok(())
 }
 
