@@ -8,6 +8,7 @@ ghost use Rattle.guest_memory.specs.Ram.{ram_start};
 ghost use Rattle.hart_trace.specs.Traces.{executes};
 
 mod fetching;
+mod parts;
 
 use crate::begun::Begun;
 use guest_memory::RAM_START;

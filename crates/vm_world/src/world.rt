@@ -1,13 +1,15 @@
 // The world: pages, the board, the timer and the harts.
-ghost use Rattle.std.specs.Prelude.{◌≡◌, ◌≤◌, ◌<◌, ◌++◌, ◌^◌, true, false, length, min, take, drop, slice_get};
+ghost use Rattle.std.specs.Prelude.{◌≡◌, ◌≤◌, ◌<◌, ◌++◌, ◌*◌, ◌^◌, true, false, length, min, take, drop};
+ghost use Rattle.std.specs.Prelude.{replicate, slice_get};
 ghost use Rattle.std.specs.Prelude.{IfErr, IfOk, MatchOption, None, Some, OnErr, OnOk, is_ok, Option};
 ghost use Rattle.std.specs.Option.{option_map};
 ghost use Rattle.vm_types.specs.declared.entry.Entry.{Entry};
 ghost use Rattle.vm_types.specs.declared.op.Op.{Op};
 ghost use Rattle.guest_memory.specs.Memory.{read_from};
 ghost use Rattle.guest_memory.specs.Ram.{is_ram};
-ghost use Rattle.guest_pages.specs.Pages.{flat_of};
-ghost use Rattle.boot_loader.specs.Loading.{loads_of};
+ghost use Rattle.guest_pages.specs.Pages.{flat_of, marks_of};
+ghost use Rattle.boot_loader.specs.declared.booting.BootError as boot_error;
+ghost use Rattle.boot_loader.specs.Loading.{have_room, loads_of};
 ghost use Rattle.hart_trace.specs.Asks.{is_host_op};
 ghost use Rattle.hart_trace.specs.Shown.{register_of};
 ghost use Rattle.timer_trace.specs.States.{new_timer};
@@ -16,7 +18,7 @@ ghost use Rattle.flat_guest.specs.Body.{harts_after, out_reply, reply_at, timer_
 ghost use Rattle.flat_guest.specs.Start.{started, timer_restarted};
 ghost use Rattle.flat_guest.specs.Steps.{board_after, is_given, memory_after};
 ghost use Rattle.vm_world.specs.Refusing.{IsRefused, refusal_of};
-ghost use Rattle.vm_world.specs.Worlds.{IsWorld, MakesEvent, Runs, place_in, want_in};
+ghost use Rattle.vm_world.specs.Worlds.{IsWorld, MakesEvent, Runs, place_in, want_in, world_with};
 
 use crate::actors::{give_hart, start_harts, want_of_hart};
 use crate::hart_run::run_hart;
@@ -58,9 +60,9 @@ impl Model for World {
 
 impl World {
     /// The world as a start makes it, with so many harts, so many MiB of memory, at most `flat_guest::MOST_MIB`, and
-    /// this in it.
+    /// this in it. No page is marked.
     ///
-    /// Errors: `NoRoom` where what is loaded does not fit, and `OutOfMemory`.
+    /// Errors: `NoRoom` exactly where what is loaded does not fit, unless memory is wanting first, and `OutOfMemory`.
     pub fn start(
         alloc: Global,
         harts: usize,
@@ -69,7 +71,11 @@ impl World {
     ) -> Result<World, BootError>
         requires few { harts ≤ 32 }
         requires small { mem_size_mib ≤ 2 ^ 20 }
-        ensures { IfOk result (λ world. IsWorld world (started harts mem_size_mib (loads_of loads.now))) }
+        ensures world { IfOk result (λ world. IsWorld world (started harts mem_size_mib (loads_of loads.now))) }
+        ensures marks { IfOk result (λ world. marks_of world.pages ≡ replicate (256 * mem_size_mib) false) }
+        ensures room { OnOk result (have_room mem_size_mib (loads_of loads.now) ≡ true) }
+        ensures no_room { IfErr result (λ why.
+            why ≡ boot_error.BootError.NoRoom → have_room mem_size_mib (loads_of loads.now) ≡ false) }
     {
         let Booted { pages, start } = boot(alloc, mem_size_mib, loads)?;
         let Ok(board) = Board::new(alloc, harts) else {
@@ -84,6 +90,41 @@ impl World {
             timer: Timer::new(),
             harts,
         })
+    }
+
+    /// The world that has these parts, with the timer at its start. There are at most 2^28 pages.
+    pub fn from_parts(pages: PageSet, board: Board, harts: Vec<Hart>) -> World
+        requires { length pages ≤ 2 ^ 28 }
+        ensures { result ≡ world_with pages board new_timer harts.items }
+    {
+        World {
+            pages,
+            board,
+            timer: Timer::new(),
+            harts,
+        }
+    }
+
+    /// Guest memory.
+    pub fn pages(&self) -> &PageSet
+        ensures pages { result.now ≡ self.now.pages }
+        ensures few { length result.now ≤ 2 ^ 28 }
+    {
+        &self.pages
+    }
+
+    /// The board.
+    pub fn board(&self) -> &Board
+        ensures { result.now ≡ self.now.board }
+    {
+        &self.board
+    }
+
+    /// The harts, by their numbers.
+    pub fn harts(&self) -> &[Hart]
+        ensures { result.now ≡ self.now.harts }
+    {
+        &self.harts
     }
 
     /// The place of an op: the page of RAM that has all of its bytes, the board, or `Out` where neither has it.
