@@ -1,11 +1,12 @@
 // A create of two pages and a load of them, and what is left where a call fails.
 use crate::{load_pages, read_start};
-use gate_file::{FileError, read_file};
+use gate_file::read_file;
 use guest_pages::PageSet;
 use outside_mem::{Failing, MemoryFiles};
-use snap_writer::create;
+use snap_writer::{Room, create};
 use std::alloc::{AllocError, Global};
 use std::test::Fail;
+use vm_outside::Failed;
 
 const HEAD: [u8; 3] = [5, 6, 7];
 
@@ -24,9 +25,10 @@ fn what_is_created_is_loaded(rt: HostRuntime) -> Result<(), Fail> {
     let text = [0xa5; 4096];
     pages.fill(1, &text);
     let mut files = files_failing(alloc, 21)?;
+    let mut room = Room::new(alloc)?;
     assert_eq!(rt; pages.len(), 2);
     assert_eq!(rt;
-        create(alloc, &mut files, &pages, &HEAD, &BODY, "s", "m"),
+        create(&mut files, &pages, &mut room, &HEAD, &BODY, "s", "m"),
         Ok(())
     );
     let Some(body) = read_file(alloc, &mut files, "s")? else {
@@ -52,6 +54,7 @@ fn what_is_created_is_loaded(rt: HostRuntime) -> Result<(), Fail> {
 fn a_gate_is_open_only_behind_what_was_synced(rt: HostRuntime) -> Result<(), Fail> {
     let alloc = rt.alloc();
     let pages = PageSet::new(alloc, 2)?;
+    let mut room = Room::new(alloc)?;
     assert_eq!(rt; pages.len(), 2);
     let lefts: [(Option<(Option<u8>, usize)>, Option<(Option<u8>, usize)>); 15] = [
         (None, None),
@@ -72,8 +75,8 @@ fn a_gate_is_open_only_behind_what_was_synced(rt: HostRuntime) -> Result<(), Fai
     ];
     for (call, (memory, state)) in lefts.iter().enumerate() {
         let mut files = files_failing(alloc, call as u64)?;
-        let made = create(alloc, &mut files, &pages, &HEAD, &BODY, "s", "m");
-        assert_eq!(rt; made, Err(FileError::Fault), "call {call}");
+        let made = create(&mut files, &pages, &mut room, &HEAD, &BODY, "s", "m");
+        assert_eq!(rt; made, Err(Failed), "call {call}");
         assert_eq!(rt; gate_and_size(files.find("m")), *memory, "call {call}");
         assert_eq!(rt; gate_and_size(files.find("s")), *state, "call {call}");
         assert_eq!(rt; files.faults(), 1, "call {call}");

@@ -51,20 +51,6 @@ module _ (memory head bytes state body : List ℕ) (differ : memory ≢ state) w
   unfolding create_calls
   parted old new others calls = record { others = others; calls = calls }
 
-  -- there was no memory, and nothing was done
-  pub none_done : (old : FilesKnown) → CreatesPart memory head bytes state body old old
-  unfolding create_calls
-  none_done old = record {
-    others = λ name nm ns. refl;
-    calls = record {
-      done = [];
-      rest = create_calls memory head bytes state body;
-      parts = refl;
-      lacks = λ is. cc;
-      calls = sym (append-nil old.calls);
-    };
-  }
-
   pub memory_fails : (old new : FilesKnown) → RunsPart memory fill_m old new → CreatesPart memory head bytes state body old new
   memory_fails old new part = parted old new (λ name nm ns. part.others name nm) (front_more fill_m (fill_s ++ (open_m ++ open_s)) old.calls new.calls part.calls)
 

@@ -1,28 +1,26 @@
 // Both files of a snapshot.
 ghost use Rattle.std.specs.Prelude.{◌≡◌, ◌≢◌, ◌<◌, ◌^◌, length, OnErr, OnOk};
-ghost use Rattle.gate_file.specs.Reading.{FileCause};
-ghost use Rattle.vm_outside.specs.Known.{Called, Lasts, Tells};
+ghost use Rattle.vm_outside.specs.Known.{Called, Tells};
 ghost use Rattle.guest_pages.specs.Pages.{flat_of};
 ghost use Rattle.snap_writer.specs.Create.{Creates, CreatesPart};
 
 use crate::filling::{fill_memory, fill_state};
-use crate::pages::BLOCK;
-use gate_file::{FileError, open_file, zeros};
+use crate::room::Room;
+use gate_file::open_file;
 use guest_pages::PageSet;
-use std::alloc::Global;
 use vm_outside::{Failed, Files};
 
 /// Writes a snapshot: to `memory` an open gate, `head` and all pages, to `state` an open gate and `body`. The two
-/// names differ. An `Err` leaves every other name as it was; where there was no memory, no call on files was made.
+/// names differ. An `Err` leaves every other name as it was. No memory is taken.
 pub fn create<F: Files>(
-    alloc: Global,
     files: &mut F,
     pages: &PageSet,
+    room: &mut Room,
     head: &[u8],
     body: &[u8],
     state: &str,
     memory: &str,
-) -> Result<(), FileError>
+) -> Result<(), Failed>
     requires small { length pages.now < 2 ^ 32 }
     requires differ { memory.now ≢ state.now }
     ensures created { OnOk result (Tells (F.known files.old).health →
@@ -31,17 +29,9 @@ pub fn create<F: Files>(
     ensures begun { OnErr result (Tells (F.known files.old).health →
         CreatesPart memory.now head.now (flat_of pages.now).bytes state.now body.now
         (F.known files.old) (F.known files.new)) }
-    ensures unreached { result ≡ Err FileError.OutOfMemory → files.new ≡ files.old }
-    ensures cause { FileCause result (F.known files.old).health.faults (F.known files.new).health.faults }
-    ensures lasts { Lasts (F.known files.old).health (F.known files.new).health }
+    ensures called { Called (F.known files.old).health (F.known files.new).health result }
 {
-    let Ok(mut block) = zeros(alloc, BLOCK) else {
-        return Err(FileError::OutOfMemory);
-    };
-    let Ok(()) = write_files(files, pages, &mut block, head, body, state, memory) else {
-        return Err(FileError::Fault);
-    };
-    Ok(())
+    write_files(files, pages, room.block(), head, body, state, memory)
 }
 
 // The calls in their order.

@@ -2,12 +2,14 @@
 //!
 //! `create` makes the calls of `specs/Create.antt` in that order: both files are closed, filled and synced, and then
 //! opened, the memory file first. Where a call failed it says how far it came. What stands in the files is handed in
-//! as bytes and pages. Memory is written in blocks of sixteen pages, and all that this needs is taken before the first
-//! call.
+//! as bytes and pages. Memory is written in blocks of sixteen pages, and the room for one is handed in too, so that no
+//! memory is taken once the first call is made.
 #![tactic(auto)]
 
 mod creating;
 mod filling;
 mod pages;
+mod room;
 
 pub use creating::create;
+pub use room::Room;
