@@ -1,8 +1,9 @@
 // What is found of a snapshot.
-ghost use Rattle.std.specs.Prelude.{◌≡◌, IfOk};
+ghost use Rattle.std.specs.Prelude.{◌≡◌, IfOk, false, length, replicate};
 ghost use Rattle.std.specs.FinMap.{get};
 ghost use Rattle.guest_memory.specs.Reserved.{unreserved};
-ghost use Rattle.guest_pages.specs.Pages.{flat_of};
+ghost use Rattle.guest_pages.specs.Pages.{flat_of, marks_of};
+ghost use Rattle.snap_state.specs.Files.{IsSaved};
 ghost use Rattle.vm_outside.specs.Filing.{SameFiles};
 ghost use Rattle.vm_outside.specs.Known.{Lasts, Tells};
 ghost use Rattle.flat_snapshot.specs.Found.{found, state_found};
@@ -42,6 +43,7 @@ pub enum FindError {
 fn find_state<F: Files>(alloc: Global, files: &mut F, name: &str) -> Result<Saved, FindError>
     ensures finds { Tells (F.known files.old).health →
         Answers state_of result (state_found (get (F.known files.old).saved name.now)) }
+    ensures saved { IfOk result (λ saved. IsSaved saved) }
     ensures same { Tells (F.known files.old).health → SameFiles (F.known files.old) (F.known files.new) }
     ensures cause { FindCause result (F.known files.old).health.faults (F.known files.new).health.faults }
     ensures lasts { Lasts (F.known files.old).health (F.known files.new).health }
@@ -88,7 +90,10 @@ pub fn find<F: Files>(
 ) -> Result<FoundSnapshot, FindError>
     ensures finds { Tells (F.known files.old).health →
         Answers snapshot_of result (found (F.known files.old).saved names.now) }
+    ensures saved { IfOk result (λ it. IsSaved (record { identity = it.identity; copy = it.copy })) }
     ensures reserved { IfOk result (λ it. (flat_of it.pages).reserved ≡ unreserved it.copy.pages) }
+    ensures count { IfOk result (λ it. length it.pages ≡ it.copy.pages) }
+    ensures marks { IfOk result (λ it. marks_of it.pages ≡ replicate it.copy.pages false) }
     ensures same { Tells (F.known files.old).health → SameFiles (F.known files.old) (F.known files.new) }
     ensures cause { FindCause result (F.known files.old).health.faults (F.known files.new).health.faults }
     ensures lasts { Lasts (F.known files.old).health (F.known files.new).health }

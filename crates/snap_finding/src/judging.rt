@@ -1,5 +1,6 @@
 // What the bytes of a file are found as.
-ghost use Rattle.std.specs.Prelude.{◌≡◌, ℕ};
+ghost use Rattle.std.specs.Prelude.{◌≡◌, ℕ, IfOk};
+ghost use Rattle.snap_state.specs.Files.{IsSaved};
 ghost use Rattle.flat_snapshot.specs.Found.{memory_front, memory_judged, state_in};
 ghost use Rattle.snap_finding.specs.Finding.{Answers, FindCause, nothing_of, refused_by, state_of};
 
@@ -29,6 +30,7 @@ fn refused_by(why: DecodeError) -> FindError
 /// The bytes of a state file.
 pub fn judge_state(alloc: Global, bytes: &[u8]) -> Result<Saved, FindError>
     ensures judged { Answers state_of result (state_in bytes.now) }
+    ensures saved { IfOk result (λ saved. IsSaved saved) }
     ensures cause { (n : ℕ) → FindCause result n n }
 {
     match decode(alloc, bytes) {

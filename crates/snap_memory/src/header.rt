@@ -137,6 +137,7 @@ impl MemHeader {
         requires { IsTrue (is_valid self.now) }
         ensures begins { IfOk result (λ file. (pages : List ℕ) → Begins (file.items ++ pages) self.now) }
         ensures size { IfOk result (λ file. length file.items ≡ 4096) }
+        ensures bytes { IfOk result (λ file. file.items ≡ header.bytes self.now) }
     {
         let mut file = Vec::new(alloc);
         self.write(&mut file)?;

@@ -1,4 +1,4 @@
-use Rattle.std.proofs.Common.{ap, ◌∙◌}
+use Rattle.std.proofs.Common.{ap, ◌∙◌, []}
 use Rattle.snap_memory.specs.Headers.{header}
 use Rattle.snap_memory.proofs.Fronts.{encoded, length-encoded}
 use Rattle.snap_memory.proofs.header.MemHeader.encode.Goals as goal
@@ -12,3 +12,7 @@ pub returns-clause-size : goal.returns-clause-size
 returns-clause-size c =
     length-encoded c.args.self.now c.write.new.out.items c.in_ok-write.ensures.fits
     (c.in_ok-write.ensures.bytes ∙ ap (header.puts c.args.self.now) c.new-file.ensures.items)
+
+pub returns-clause-bytes : goal.returns-clause-bytes
+returns-clause-bytes c =
+    c.in_ok-write.ensures.bytes ∙ ap (header.puts c.args.self.now) c.new-file.ensures.items ∙ header.same c.args.self.now []
