@@ -1,0 +1,93 @@
+-- The copy of a world is the copy of each guest that it is.
+use Rattle.std.proofs.Common.{◌≡◌, ℕ, zero, suc, ◌+◌, ◌<◌, Bool, true, false, ◌&&◌, List, [], ◌∷◌, Option, Some, length, get_or, map, slice_get, refl, sym, ap, subst, ◌∙◌, arith}
+use Rattle.std.specs.List.{list_all}
+use Rattle.vm_types.specs.declared.ids.ActorId.{ActorId}
+use Rattle.vm_types.specs.declared.ids.ActorId.TheVariants.{Hart as HartId}
+use Rattle.vm_types.specs.declared.entry.Step.{Step}
+use Rattle.vm_config.specs.declared.config.Config.{Config}
+use Rattle.rv_supervisor.specs.declared.regs.Regs.{Regs}
+use Rattle.hart_trace.specs.States.{Hart, LeadsTo}
+use Rattle.flat_guest.specs.Body as body
+use Rattle.flat_guest.specs.Guest.{Guest}
+use Rattle.snap_state.specs.declared.hart.SavedHart.{SavedHart}
+use Rattle.snap_state.specs.declared.copy.StateCopy.{StateCopy}
+use Rattle.snap_state.specs.Copy.{saved_hart}
+use Rattle.snap_state.specs.Valid.{is_hart, is_valid}
+use Rattle.flat_snapshot.specs.Copies.{AreHarts, IsCopyOf, copy_of}
+use Rattle.flat_snapshot.proofs.Copied.{same_copy}
+use Rattle.vm_world.specs.Worlds.{IsWorld, WorldValue}
+use Rattle.world_copy.specs.Copying.{copy_in}
+use Rattle.world_copy.proofs.Parts.{parts_of}
+
+are_listed : (starts : List Regs) (k : ℕ) (steps : ActorId → List Step) (harts : List Hart) → length harts ≡ length starts
+    → ((i : ℕ) (start : Regs) (hart : Hart) → slice_get starts i ≡ Some start → slice_get harts i ≡ Some hart
+    → LeadsTo start (steps (HartId (k + i))) hart)
+    → AreHarts k starts steps harts
+are_listed [] k steps [] long each = refl
+are_listed [] k steps (h ∷ harts) long each = absurd (omega (arith, long))
+are_listed (start ∷ starts) k steps [] long each = absurd (omega (arith, long))
+are_listed (start ∷ starts) k steps (h ∷ harts) long each =
+    let here : k + 0 ≡ k = omega arith in
+    let later : (i : ℕ) (s : Regs) (q : Hart) → slice_get starts i ≡ Some s → slice_get harts i ≡ Some q
+    → LeadsTo s (steps (HartId (suc k + i))) q = λ i s q begins is.
+    let next : k + suc i ≡ suc k + i = omega arith in
+    subst (λ (n : ℕ). LeadsTo s (steps (HartId n)) q) next (each (suc i) s q begins is) in (
+      h,
+      harts,
+      refl,
+      subst (λ (n : ℕ). LeadsTo start (steps (HartId n)) h) here (each 0 start h refl refl),
+      are_listed starts (suc k) steps harts (omega (arith, long)) later,
+    )
+
+pub harts_are : (w : WorldValue) (g : Guest) → IsWorld w g → AreHarts 0 g.starts g.steps w.harts
+harts_are w g is = are_listed g.starts 0 g.steps w.harts is.harts_are.count (λ i start hart begins here.
+    let same : i ≡ 0 + i = omega arith in
+    subst (λ (n : ℕ). LeadsTo start (g.steps (HartId n)) hart) same (is.harts_are.each i start hart begins here))
+
+pub copied : (config : Config) (w : WorldValue) (g : Guest) (copy : StateCopy) → copy ≡ copy_in config w → IsWorld w g → IsCopyOf config g copy
+copied config w g copy made is = (
+  w.harts,
+  harts_are w g is,
+  made ∙ (λ i. copy_of config (record {
+    memory = is.memory_is i;
+    board = is.board_is i;
+    starts = [];
+    steps = λ actor. [];
+  }) w.harts),
+)
+
+-- where the copy of a world is none that a file can have, no guest that it is has one
+pub unsavable : (config : Config) (w : WorldValue) (made : StateCopy) → made ≡ copy_in config w → is_valid made ≡ false
+    → (g : Guest) (copy : StateCopy) → IsWorld w g → IsCopyOf config g copy → is_valid copy ≡ false
+unsavable config w made is bad g copy world of =
+    ap is_valid (same_copy config g copy made of (copied config w g made is world)) ∙ bad
+
+-- one hart that is none is enough
+all_but_one : (pages i : ℕ) (harts : List Hart) (h : Hart) → i < length harts → h ≡ get_or harts i h
+    → is_hart pages (saved_hart h) ≡ false → list_all (is_hart pages) (map saved_hart harts) ≡ false
+all_but_one pages i [] h lt is bad = absurd (omega arith)
+all_but_one pages zero (first ∷ harts) h lt is bad =
+    ap (λ (b : Bool). b && list_all (is_hart pages) (map saved_hart harts))
+    (ap (λ (q : Hart). is_hart pages (saved_hart q)) (sym is) ∙ bad)
+all_but_one pages (suc i) (first ∷ harts) h lt is bad =
+    ap (λ (b : Bool). is_hart pages (saved_hart first) && b) (all_but_one pages i harts h (omega arith) is bad)
+    ∙ no_right (is_hart pages (saved_hart first))
+  where
+    no_right : (a : Bool) → (a && false) ≡ false
+    no_right true = refl
+    no_right false = refl
+
+pub one_bad : (pages i : ℕ) (harts : List Hart) (h : Hart) → i < length harts → h ≡ get_or harts i h
+    → is_hart pages (saved_hart h) ≡ false → list_all (is_hart pages) (map saved_hart harts) ≡ false
+one_bad pages i harts h lt is bad = all_but_one pages i harts h lt is bad
+
+pub bad_harts : (config : Config) (w : WorldValue) → ((pages : ℕ) → list_all (is_hart pages) (map saved_hart w.harts) ≡ false)
+    → (g : Guest) (copy : StateCopy) → IsWorld w g → IsCopyOf config g copy → is_valid copy ≡ false
+bad_harts config w bad g copy world of =
+    let same : copy.harts ≡ map saved_hart w.harts =
+    ap (λ (c : StateCopy). c.harts) (same_copy config g copy (copy_in config w) of (copied config w g (copy_in config w) refl world)) in
+    by_test (is_valid copy) refl (ap (list_all (is_hart copy.pages)) same ∙ bad copy.pages)
+  where
+    by_test : (b : Bool) → is_valid copy ≡ b → list_all (is_hart copy.pages) copy.harts ≡ false → is_valid copy ≡ false
+    by_test true valid none = absurd (let k : true ≡ false = sym (parts_of copy valid).harts ∙ none in cc)
+    by_test false valid none = valid

@@ -1,0 +1,98 @@
+-- A world goes on where the guest does.
+use Rattle.std.proofs.Common.{◌≡◌, ℕ, zero, suc, ◌<◌, ◌^◌, Bool, true, false, List, [], ◌∷◌, ◌++◌, Option, Some, None, is_some, length, map, slice_get, refl, sym, ap, subst, ◌∙◌, arith}
+use Rattle.vm_types.specs.declared.op.Op.{Op}
+use Rattle.vm_types.specs.declared.reply.Reply.{Reply}
+use Rattle.vm_types.specs.declared.entry.Step.{Step}
+use Rattle.le_fields.specs.Fields.{bytes_of}
+use Rattle.le_fields.proofs.Values.{value_of_bytes}
+use Rattle.rv_supervisor.specs.declared.regs.Regs.{Regs}
+use Rattle.rv_supervisor.specs.declared.regs.Turn.{Turn}
+use Rattle.rv_supervisor.specs.declared.regs.Turn.TheVariants as turn
+use Rattle.rv_doing.specs.Doing.{asked}
+use Rattle.hart_trace.specs.Traces.{executes}
+use Rattle.hart_trace.specs.States.{Hart, LeadsTo, fresh}
+use Rattle.hart_trace.proofs.Traces.{leads_start}
+use Rattle.guest_memory.specs.Reserved.{unreserved}
+use Rattle.guest_pages.specs.Pages.{PageValue, flat_of}
+use Rattle.board_table.specs.Board.{Board}
+use Rattle.timer_trace.specs.States.{new_timer}
+use Rattle.timer_trace.proofs.Traces as timer_traces
+use Rattle.flat_guest.specs.Body.{AreHarts}
+use Rattle.snap_state.specs.declared.hart.SavedHart.{SavedHart}
+use Rattle.snap_state.specs.declared.hart.HartPlace.{HartPlace}
+use Rattle.snap_state.specs.declared.hart.HartPlace.TheVariants.{Access}
+use Rattle.snap_state.specs.declared.copy.StateCopy.{StateCopy}
+use Rattle.snap_state.specs.Copy.{board_at, regs_of, turn_of}
+use Rattle.flat_snapshot.specs.Carried.{carried_guest, hart_steps, slots_with, steps_at}
+use Rattle.vm_world.specs.Worlds.{IsWorld, world_with}
+use Rattle.world_copy.specs.GoingOn.{GoOn}
+
+-- ---- one hart
+
+some_op : (o : Option Op) → is_some o ≡ true → (op : Op) × (o ≡ Some op)
+some_op None is = cc
+some_op (Some op) is = (op, refl)
+
+access_fetches : (due : Bool) (word : ℕ) → turn_of due (Access word) ≡ turn.Fetch
+access_fetches true word = refl
+access_fetches false word = refl
+
+-- one that has begun an instruction
+pub leads_begun : (h : SavedHart) (word : ℕ) → h.place ≡ Access word → word < 2 ^ 32
+    → is_some (asked (executes word (regs_of h))) ≡ true
+    → LeadsTo (regs_of h) (steps_at h.place h.pc) (record { regs = regs_of h; begun = Some word })
+leads_begun h word at small asks =
+    let op = some_op (asked (executes word (regs_of h))) asks in
+    let fetches : turn_of h.is_look_due h.place ≡ turn.Fetch = ap (turn_of h.is_look_due) at ∙ access_fetches h.is_look_due word in
+    let steps : steps_at (Access word) h.pc ≡ steps_at h.place h.pc = ap (λ (p : HartPlace). steps_at p h.pc) (sym at) in (
+      [],
+      steps_at (Access word) h.pc,
+      refl,
+      (fetches, bytes_of 4 word, refl, refl, value_of_bytes 4 word small, op.0, op.1, tt),
+      steps,
+    )
+
+-- ---- all of them
+
+pub one_more : (saved : List SavedHart) (harts : List Hart) (s : SavedHart) (h : Hart) → GoOn saved harts
+    → LeadsTo (regs_of s) (steps_at s.place s.pc) h → GoOn (saved ++ s ∷ []) (harts ++ h ∷ [])
+one_more [] [] s h so_far leads = (leads, tt)
+one_more [] (q ∷ harts) s h so_far leads = absurd so_far
+one_more (t ∷ saved) [] s h so_far leads = absurd so_far
+one_more (t ∷ saved) (q ∷ harts) s h so_far leads = (so_far.0, one_more saved harts s h so_far.1 leads)
+
+as_many : (saved : List SavedHart) (harts : List Hart) → GoOn saved harts → length harts ≡ length (map regs_of saved)
+as_many [] [] on = refl
+as_many [] (h ∷ harts) on = absurd on
+as_many (s ∷ saved) [] on = absurd on
+as_many (s ∷ saved) (h ∷ harts) on = ap suc (as_many saved harts on.1)
+
+each : (saved : List SavedHart) (harts : List Hart) → GoOn saved harts → (k : ℕ) (start : Regs) (hart : Hart)
+    → slice_get (map regs_of saved) k ≡ Some start → slice_get harts k ≡ Some hart
+    → LeadsTo start (hart_steps (slice_get saved k)) hart
+each [] harts on k start hart begins is = cc
+each (s ∷ saved) [] on k start hart begins is = absurd on
+each (s ∷ saved) (h ∷ harts) on zero start hart begins is =
+    let one : regs_of s ≡ start = cc in
+    let same : h ≡ hart = cc in
+    subst (λ (q : Hart). LeadsTo start (steps_at s.place s.pc) q) same
+    (subst (λ (r : Regs). LeadsTo r (steps_at s.place s.pc) h) one on.0)
+each (s ∷ saved) (h ∷ harts) on (suc k) start hart begins is = each saved harts on.1 k start hart begins is
+
+-- ---- the world
+
+pub goes_on : (copy : StateCopy) (before pages : List PageValue) (board : Board) (harts : List Hart)
+    → (flat_of pages).bytes ≡ (flat_of before).bytes
+    → (flat_of pages).reserved ≡ slots_with copy.reservations (flat_of before).reserved
+    → (flat_of before).reserved ≡ unreserved copy.pages
+    → board ≡ board_at copy.guest_time copy.board → GoOn copy.harts harts
+    → IsWorld (world_with pages board new_timer harts) (carried_guest copy (flat_of before).bytes)
+goes_on copy before pages board harts bytes reserved free board_is on = record {
+  memory_is = λ i. record {
+    bytes = bytes i;
+    reserved = (reserved ∙ ap (slots_with copy.reservations) free) i;
+  };
+  board_is = board_is;
+  timer_is = timer_traces.leads_start;
+  harts_are = record { count = as_many copy.harts harts on; each = λ k start hart begins is. each copy.harts harts on k start hart begins is };
+}

@@ -1,0 +1,76 @@
+// What was configured, as a copy has it, and back.
+ghost use Rattle.std.specs.Prelude.{◌≡◌, IfOk};
+ghost use Rattle.std.specs.Option.{option_map};
+ghost use Rattle.flat_snapshot.specs.Carried.{carried_config};
+ghost use Rattle.flat_snapshot.specs.Copies.{source_of};
+
+use api_calls::{BootSource, MachineConfig};
+use snap_state::Configuration;
+use std::alloc::{AllocError, Global};
+use vm_config::Config;
+use vm_types::TextList;
+
+fn path_of(alloc: Global, path: &Option<TextList>) -> Result<Option<TextList>, AllocError>
+    ensures { IfOk result (λ copy. copy ≡ path.now) }
+{
+    match path {
+        None => Ok(None),
+        Some(path) => Ok(Some(TextList::copy_of(alloc, path.as_str())?)),
+    }
+}
+
+// What was booted. A machine that has started has a boot source.
+fn source_of(
+    alloc: Global,
+    source: &Option<BootSource>,
+) -> Result<snap_state::BootSource, AllocError>
+    ensures { IfOk result (λ copy. copy ≡ source_of source.now) }
+{
+    match source {
+        None => Ok(snap_state::BootSource {
+            kernel_image_path: TextList::copy_of(alloc, "")?,
+            initrd_path: None,
+            boot_args: TextList::copy_of(alloc, "")?,
+        }),
+        Some(source) => {
+            let kernel_image_path = TextList::copy_of(alloc, source.kernel_image_path.as_str())?;
+            let initrd_path = path_of(alloc, &source.initrd_path)?;
+            let boot_args = TextList::copy_of(alloc, source.boot_args.as_str())?;
+            Ok(snap_state::BootSource {
+                kernel_image_path,
+                initrd_path,
+                boot_args,
+            })
+        }
+    }
+}
+
+/// The configuration as a copy has it.
+pub(crate) fn configuration_of(alloc: Global, config: &Config) -> Result<Configuration, AllocError>
+    ensures { IfOk result (λ copy.
+        copy ≡ record { boot_source = source_of config.now.boot_source; machine = config.now.machine }) }
+{
+    Ok(Configuration {
+        boot_source: source_of(alloc, &config.boot_source)?,
+        machine: config.machine,
+    })
+}
+
+/// The configuration of a machine that goes on from a copy with this one.
+pub fn config_of(configuration: Configuration) -> Config
+    ensures { result ≡ carried_config configuration }
+{
+    Config {
+        boot_source: Some(BootSource {
+            kernel_image_path: configuration.boot_source.kernel_image_path,
+            initrd_path: configuration.boot_source.initrd_path,
+            boot_args: configuration.boot_source.boot_args,
+        }),
+        machine: MachineConfig {
+            vcpu_count: configuration.machine.vcpu_count,
+            mem_size_mib: configuration.machine.mem_size_mib,
+            track_dirty_pages: false,
+        },
+        configured: true,
+    }
+}

@@ -1,0 +1,94 @@
+// The world that goes on from a copy.
+ghost use Rattle.std.specs.Prelude.{◌≡◌, ◌≤◌, true, IsTrue, IfOk, length};
+ghost use Rattle.std.specs.List.{list_all};
+ghost use Rattle.guest_memory.specs.Reserved.{unreserved};
+ghost use Rattle.guest_pages.specs.Pages.{flat_of};
+ghost use Rattle.hart_trace.specs.States.{LeadsTo};
+ghost use Rattle.snap_state.specs.declared.hart.HartPlace.TheVariants.{Access};
+ghost use Rattle.snap_state.specs.Copy.{board_at, hart_of, regs_of};
+ghost use Rattle.snap_state.specs.Valid.{asks, is_board, is_hart, is_valid};
+ghost use Rattle.flat_snapshot.specs.Carried.{carried_guest, steps_at};
+ghost use Rattle.vm_world.specs.Worlds.{IsWorld};
+ghost use Rattle.world_copy.specs.GoingOn.{GoOn};
+
+use crate::reserving::reserve;
+use board_table::HartState;
+use guest_pages::PageSet;
+use hart_rv64::Hart;
+use line_board::{Board, HartParts};
+use snap_state::{HartPlace, SavedBoard, SavedHart, SavedHartState, StateCopy};
+use std::alloc::{AllocError, Global};
+use vm_world::World;
+
+// A hart where its copy has it, and where the steps of one that goes on lead.
+fn hart_of(saved: &SavedHart) -> Hart
+    requires { asks saved.now.place (regs_of saved.now) ≡ true }
+    ensures same { result ≡ hart_of saved.now }
+    ensures leads { LeadsTo (regs_of saved.now) (steps_at saved.now.place saved.now.pc) result }
+{
+    match saved.place {
+        HartPlace::Access(word) => begun_hart(saved, word),
+        _ => Hart::with_regs(saved.regs()),
+    }
+}
+
+// A hart that has begun the instruction of this word.
+fn begun_hart(saved: &SavedHart, word: u32) -> Hart
+    requires place { saved.now.place ≡ Access word }
+    requires asks { asks (Access word) (regs_of saved.now) ≡ true }
+    ensures same { result ≡ hart_of saved.now }
+    ensures leads { LeadsTo (regs_of saved.now) (steps_at saved.now.place saved.now.pc) result }
+{
+    Hart::from_parts(saved.regs(), Some(word))
+}
+
+fn harts_of(alloc: Global, pages: u32, saved: &[SavedHart]) -> Result<Vec<Hart>, AllocError>
+    requires { list_all (is_hart pages) saved.now ≡ true }
+    ensures { IfOk result (λ harts. GoOn saved.now harts.items) }
+{
+    let mut harts = Vec::new(alloc);
+    for hart in saved {
+        harts.push(hart_of(hart))?;
+    }
+    Ok(harts)
+}
+
+fn states_of(alloc: Global, saved: &[SavedHartState]) -> Result<Vec<HartState>, AllocError>
+    ensures { IfOk result (λ states. states.items ≡ saved.now) }
+{
+    let mut states = Vec::new(alloc);
+    for state in saved {
+        states.push(state.state)?;
+    }
+    Ok(states)
+}
+
+fn board_of(alloc: Global, harts: u64, now: u64, saved: &SavedBoard) -> Result<Board, AllocError>
+    requires valid { is_board harts saved.now ≡ true }
+    requires few { harts ≤ 32 }
+    ensures { IfOk result (λ board. board ≡ board_at now saved.now) }
+{
+    let parts = HartParts {
+        enables: saved.enables.as_slice().to_vec(alloc)?,
+        software: saved.software.as_slice().to_vec(alloc)?,
+        deadlines: saved.deadlines.as_slice().to_vec(alloc)?,
+        states: states_of(alloc, saved.states.as_slice())?,
+    };
+    let board = Board::from_parts(alloc, saved.console.as_slice(), now, saved.pending, parts)?;
+    Ok(board)
+}
+
+/// The world that goes on from a copy, whose memory has these bytes. Nothing is reserved in the pages yet.
+pub fn world_of(alloc: Global, copy: &StateCopy, pages: PageSet) -> Result<World, AllocError>
+    requires valid { IsTrue (is_valid copy.now) }
+    requires count { length pages ≡ copy.now.pages }
+    requires free { (flat_of pages).reserved ≡ unreserved copy.now.pages }
+    ensures { IfOk result (λ world. IsWorld world (carried_guest copy.now (flat_of pages).bytes)) }
+{
+    let mut pages = pages;
+    let count = copy.configuration.machine.vcpu_count;
+    let board = board_of(alloc, count, copy.guest_time, &copy.board)?;
+    let harts = harts_of(alloc, copy.pages, copy.harts.as_slice())?;
+    reserve(&mut pages, count, copy.reservations.as_slice());
+    Ok(World::from_parts(pages, board, harts))
+}

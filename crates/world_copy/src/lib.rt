@@ -1,0 +1,14 @@
+//! A world as the copy that a snapshot keeps of it, and the world that goes on from a copy.
+//!
+//! `copy_world` answers the copy of each guest that the world is (`flat_snapshot`), and only one that a state file can
+//! have. `world_of` makes of a copy and the pages of its memory the world of the guest that goes on from them.
+#![tactic(auto)]
+
+mod configuring;
+mod copying;
+mod going_on;
+mod reserving;
+
+pub use configuring::config_of;
+pub use copying::{CopyError, copy_world};
+pub use going_on::world_of;

@@ -1,0 +1,48 @@
+// What is reserved in memory, as a copy has it, and back.
+ghost use Rattle.std.specs.Prelude.{◌≡◌, ◌≤◌, ◌^◌, true, IfOk, length};
+ghost use Rattle.std.specs.List.{list_all};
+ghost use Rattle.guest_pages.specs.Pages.{flat_of};
+ghost use Rattle.snap_state.specs.Valid.{is_reserved};
+ghost use Rattle.flat_snapshot.specs.Carried.{slots_with};
+ghost use Rattle.flat_snapshot.specs.Copies.{reservations_from};
+
+use file_format::Items;
+use guest_pages::PageSet;
+use snap_state::Reservation;
+use std::alloc::{AllocError, Global};
+
+/// A page has a slot for each hart that there can be.
+const HARTS: usize = 32;
+
+/// What is reserved in the pages, by page and then by hart.
+pub fn reservations_of(alloc: Global, pages: &PageSet) -> Result<Items<Reservation>, AllocError>
+    requires { length pages.now ≤ 2 ^ 28 }
+    ensures { IfOk result (λ items. items ≡ reservations_from 0 (flat_of pages.now).reserved) }
+{
+    let mut items = Items::new(alloc);
+    for slot in 0..HARTS * pages.len() {
+        if let Some(offset) = pages.reserved(slot) {
+            items.push(Reservation {
+                page: (slot / HARTS) as u32,
+                hart: (slot % HARTS) as u32,
+                offset: offset as u32,
+            })?;
+        }
+    }
+    Ok(items)
+}
+
+/// Reserves all of these in the pages. They are of pages and harts that are there, of which there are at most 32.
+pub fn reserve(pages: &mut PageSet, harts: u64, reservations: &[Reservation])
+    requires few { harts ≤ 32 }
+    requires there { list_all (is_reserved (length pages.old) harts) reservations.now ≡ true }
+    ensures bytes { (flat_of pages.new).bytes ≡ (flat_of pages.old).bytes }
+    ensures reserved { (flat_of pages.new).reserved ≡ slots_with reservations.now (flat_of pages.old).reserved }
+    ensures count { length pages.new ≡ length pages.old }
+{
+    let mut left = reservations;
+    while let Some((first, others)) = left.split_first() {
+        pages.hold(first.page as usize, first.hart as u8, first.offset as u16);
+        left = others;
+    }
+}
