@@ -1,6 +1,6 @@
 // What calls are answered.
 ghost use Rattle.std.specs.Prelude.{◌≡◌, IfOk};
-ghost use Rattle.api_rules.specs.Answers.{accepted, refused};
+ghost use Rattle.api_rules.specs.Answers.{accepted, no_content, refused};
 
 use refusals::{Refusal, fault_text};
 use std::alloc::{AllocError, Global};
@@ -16,6 +16,16 @@ const NO_CONTENT: u16 = 204;
 pub struct Answer {
     pub status: u16,
     pub body: Option<ByteList>,
+}
+
+/// What a call is answered that is done and tells nothing.
+pub fn done_answer() -> Answer
+    ensures { result ≡ no_content }
+{
+    Answer {
+        status: NO_CONTENT,
+        body: None,
+    }
 }
 
 /// What a refused call is answered.
@@ -43,9 +53,6 @@ pub fn accepted_answer(
             status: OK,
             body: Some(config.json(alloc, *part, id, phase)?),
         }),
-        _ => Ok(Answer {
-            status: NO_CONTENT,
-            body: None,
-        }),
+        _ => Ok(done_answer()),
     }
 }

@@ -24,7 +24,7 @@ mod deciding;
 mod tests;
 
 pub use actions::{InitrdFile, boot_refusal, initrd_len};
-pub use answer::{Answer, accepted_answer, fault_answer};
+pub use answer::{Answer, accepted_answer, done_answer, fault_answer};
 pub use deciding::{When, decide};
 pub use ids::Ids;
 pub use vm_config::{Change, Config, Phase};

@@ -8,8 +8,6 @@ use Rattle.refusals.specs.declared.refusal.Refusal.{Refusal}
 use Rattle.refusals.specs.declared.refusal.Refusal.TheVariants as refusal
 use Rattle.http_stream.specs.declared.request.Next.{Next}
 use Rattle.http_stream.specs.declared.request.Next.TheVariants as next
-use Rattle.api_calls.specs.declared.call.ApiCall.{ApiCall}
-use Rattle.api_calls.specs.declared.call.ApiCall.TheVariants as call
 use Rattle.api_calls.specs.declared.call.BootSource.{BootSource}
 use Rattle.api_calls.specs.declared.call.SnapshotFiles.{SnapshotFiles}
 use Rattle.api_calls.specs.declared.call.VmState.TheVariants.{Paused, Resumed}
@@ -39,19 +37,12 @@ use Rattle.flat_machine.specs.Outcome.{Left, Outcome}
 use Rattle.flat_machine.specs.Outcome.Outcome.{Answered, Failed, NoMemory}
 use Rattle.flat_machine.specs.Machine.{Machine, phase_of}
 
--- a call that is read and that the machine doesn't make yet is refused as a path that isn't there
-abbrev pub built : ApiCall → Result ApiCall Refusal
-built (call.CreateSnapshot files) = Err refusal.NoSuchPath
-built (call.LoadSnapshot load) = Err refusal.NoSuchPath
-built it = Ok it
-
 -- ---- which change is allowed
 
 -- what is due asks for this change, or is refused: by its bytes, as a call, and by the machine
 abbrev pub decided : Machine → Next → Result Change Refusal
 decided m (next.Request request) = do
   it ← call_of request
-  it ← built it
   decision (phase_of m) m.config m.ids it
 decided m (next.Bad why) = Err why
 decided m next.None = Err refusal.BadHead

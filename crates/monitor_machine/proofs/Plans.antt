@@ -1,5 +1,5 @@
 -- What a plan does is what the machine does.
-use Rattle.std.proofs.Common.{◌≡◌, ℕ, ◌≤◌, ◌⊎◌, inl, inr, Bool, true, false, refl, sym, ap, subst, ◌∙◌, List, Option, Some, None, Ok, Err, Result}
+use Rattle.std.proofs.Common.{◌≡◌, ℕ, ◌≤◌, ◌⊎◌, inl, inr, Bool, true, false, not, refl, sym, ap, subst, ◌∙◌, List, Option, Some, None, Ok, Err, Result}
 use Rattle.std.proofs.Math.Nat.{le_refl}
 use Rattle.vm_types.specs.Saved.{Saved}
 use Rattle.refusals.specs.declared.refusal.Refusal.{Refusal}
@@ -11,7 +11,9 @@ use Rattle.vm_outside.specs.Known.{FilesKnown, Lasts, Tells}
 use Rattle.api_calls.specs.declared.call.ApiCall.{ApiCall}
 use Rattle.api_calls.specs.declared.call.ApiCall.TheVariants as call
 use Rattle.api_calls.specs.declared.call.VmState.TheVariants.{Paused, Resumed}
+use Rattle.api_calls.specs.declared.call.SnapshotLoad.{SnapshotLoad}
 use Rattle.api_calls.specs.Call.{call_of, ◌>>=◌}
+use Rattle.api_calls.proofs.Snapshots.{asked_is}
 use Rattle.vm_config.specs.declared.config.Config.{Config}
 use Rattle.vm_config.specs.declared.config.Phase.{Phase}
 use Rattle.vm_config.specs.declared.change.Change.{Change}
@@ -25,17 +27,19 @@ use Rattle.flat_guest.specs.Start.{started}
 use Rattle.flat_machine.specs.Outcome as flat
 use Rattle.flat_machine.specs.Machine.{AreFilesOf, Machine}
 use Rattle.flat_machine.specs.Machine as machine
-use Rattle.flat_machine.specs.Requests.{Leaves, LeavesBy, RequestStep, allowed, answer_by, by_files, configured, decided, disk_of, halted, image_of, loads_from, start_refusal, started_from}
+use Rattle.flat_snapshot.specs.Found.{Snapshot}
+use Rattle.flat_machine.specs.Requests.{Fails, Leaves, LeavesBy, RequestStep, Restores, allowed, answer_by, by_files, carried, configured, decided, disk_of, halted, image_of, loads_from, start_refusal, started_from}
 use Rattle.vm_world.specs.Worlds.{IsWorld, WorldValue}
 use Rattle.vm_world.proofs.Events.{restarted}
 use Rattle.monitor_plans.specs.declared.plan.Plan.{Plan}
 use Rattle.monitor_plans.specs.declared.plan.Plan.TheVariants as plan
-use Rattle.monitor_plans.specs.Plans.{PlanCause, is_start, plan_answer}
+use Rattle.monitor_plans.specs.Plans.{PlanCause, plan_answer}
+use Rattle.monitor_plans.specs.Restoring.{RestoreGives}
 use Rattle.monitor_plans.specs.Starting.{StartGives, disk_in, image_in}
 use Rattle.monitor_machine.specs.declared.machine.LiveMachine.{LiveMachine}
 use Rattle.monitor_machine.specs.declared.outcome.Outcome.{Outcome}
-use Rattle.monitor_machine.specs.Plans.{Answers, IsPlan, decided_call, halted_world, is_snapshot, paused_by, phase_by, phase_of, plan_after, plan_line, plan_outcome, world_by}
-use Rattle.monitor_machine.specs.Replying.{OutcomeCause, Replies, calls_files, outcome_by}
+use Rattle.monitor_machine.specs.Plans.{Answers, HasTwoFiles, IsPlan, halted_world, is_plain, paused_by, phase_by, phase_of, plan_after, plan_line, plan_outcome, reads_files, world_by}
+use Rattle.monitor_machine.specs.Replying.{OutcomeCause, Replies, calls_files, left_by, outcome_by}
 use Rattle.monitor_machine.specs.State.{IsGuestBy, IsLive, IsMachine}
 
 phase_one : (w : Option WorldValue) (g : Option Guest) (paused : Bool) → IsGuestBy w g → phase_by w paused ≡ machine.phase_by g paused
@@ -51,12 +55,12 @@ phase_is live m own =
 
 -- what the monitor decides is what the machine decides
 pub decided_is : (live : LiveMachine) (m : Machine) (request : Request) (it : ApiCall) → IsLive live m
-    → call_of request ≡ Ok it → decided_call (phase_of live) live.config live.ids it ≡ decided m (next.Request request)
+    → call_of request ≡ Ok it → decision (phase_of live) live.config live.ids it ≡ decided m (next.Request request)
 decided_is live m request it own asks =
-    ap (λ (p : Phase). decided_call p live.config live.ids it) (phase_is live m own)
-    ∙ ap (λ (c : Config). decided_call (machine.phase_of m) c live.ids it) own.config_is
-    ∙ ap (λ (i : Ids). decided_call (machine.phase_of m) m.config i it) own.ids_is
-    ∙ sym (ap (λ (r : Result ApiCall Refusal). r >>= λ x. decided_call (machine.phase_of m) m.config m.ids x) asks)
+    ap (λ (p : Phase). decision p live.config live.ids it) (phase_is live m own)
+    ∙ ap (λ (c : Config). decision (machine.phase_of m) c live.ids it) own.config_is
+    ∙ ap (λ (i : Ids). decision (machine.phase_of m) m.config i it) own.ids_is
+    ∙ sym (ap (λ (r : Result ApiCall Refusal). r >>= λ x. decision (machine.phase_of m) m.config m.ids x) asks)
 
 -- ---- what a call asks for
 
@@ -73,55 +77,37 @@ change_is p config ids it c is =
     (unless_ok (own_refusal p config ids it) (Ok (change_of config it)) c
     (unless_ok (misplaced (when_allowed it) p) (unless (own_refusal p config ids it) (Ok (change_of config it))) c is))
 
--- no call that the monitor makes asks for a snapshot
-never_snapshot : (p : Phase) (config : Config) (ids : Ids) (it : ApiCall) (c : Change) → decided_call p config ids it ≡ Ok c
-    → is_snapshot c ≡ false
-never_snapshot p config ids (call.PutBootSource source) c is = ap is_snapshot (sym (change_is p config ids (call.PutBootSource source) c is))
-never_snapshot p config ids (call.PutMachineConfig machine) c is = ap is_snapshot (sym (change_is p config ids (call.PutMachineConfig machine) c is))
-never_snapshot p config ids (call.PatchMachineConfig patch) c is = ap is_snapshot (sym (change_is p config ids (call.PatchMachineConfig patch) c is))
-never_snapshot p config ids call.InstanceStart c is = ap is_snapshot (sym (change_is p config ids call.InstanceStart c is))
-never_snapshot p config ids (call.PatchVm state) c is = ap is_snapshot (sym (change_is p config ids (call.PatchVm state) c is))
-never_snapshot p config ids (call.CreateSnapshot files) c is = cc
-never_snapshot p config ids (call.LoadSnapshot load) c is = cc
-never_snapshot p config ids (call.Get part) c is = ap is_snapshot (sym (change_is p config ids (call.Get part) c is))
-
-never_by : (m : Machine) (asked : Result ApiCall Refusal) (c : Change)
-    → (asked >>= λ x. decided_call (machine.phase_of m) m.config m.ids x) ≡ Ok c → is_snapshot c ≡ false
-never_by m (Ok it) c is = never_snapshot (machine.phase_of m) m.config m.ids it c is
-never_by m (Err why) c is = cc
-
-never_due : (m : Machine) (given : Next) (c : Change) → decided m given ≡ Ok c → is_snapshot c ≡ false
-never_due m (next.Request request) c is = never_by m (call_of request) c is
-never_due m (next.Bad why) c is = cc
-never_due m next.None c is = cc
+-- a create names two files
+pub two_files : (p : Phase) (config : Config) (ids : Ids) (it : ApiCall) (c : Change) → decision p config ids it ≡ Ok c
+    → (request : Request) → call_of request ≡ Ok it → HasTwoFiles c
+two_files p config ids it c is request asks = subst HasTwoFiles (change_is p config ids it c is) (by_call it asks)
+  where
+    by_call : (it : ApiCall) → call_of request ≡ Ok it → HasTwoFiles (change_of config it)
+    by_call (call.PutBootSource source) asks = tt
+    by_call (call.PutMachineConfig machine) asks = tt
+    by_call (call.PatchMachineConfig patch) asks = tt
+    by_call call.InstanceStart asks = tt
+    by_call (call.PatchVm state) asks = tt
+    by_call (call.CreateSnapshot files) asks = (asked_is request (call.CreateSnapshot files) asks).2
+    by_call (call.LoadSnapshot load) asks = tt
+    by_call (call.Get part) asks = tt
 
 -- ---- plans of each kind
 
 pub refused_plan : (m : Machine) (given : Next) (why : Refusal) → decided m given ≡ Err why → IsPlan (plan.Refused why) m given
 refused_plan m given why is = ap (λ (r : Result Change Refusal). r >>= by_files m) is
 
-not_start : (m : Machine) (it : Change) → is_start it ≡ false → is_snapshot it ≡ false → by_files m it ≡ Ok it
-not_start m (change.BootSource source) unlike plain = refl
-not_start m (change.MachineConfig machine) unlike plain = refl
-not_start m change.Start unlike plain = cc
-not_start m (change.State state) unlike plain = refl
-not_start m (change.CreateSnapshot files) unlike plain = cc
-not_start m (change.LoadSnapshot load) unlike plain = cc
-not_start m (change.Tell part) unlike plain = refl
+plain_change : (m : Machine) (it : Change) → is_plain it ≡ true → by_files m it ≡ Ok it
+plain_change m (change.BootSource source) plain = refl
+plain_change m (change.MachineConfig machine) plain = refl
+plain_change m change.Start plain = cc
+plain_change m (change.State state) plain = refl
+plain_change m (change.CreateSnapshot files) plain = cc
+plain_change m (change.LoadSnapshot load) plain = cc
+plain_change m (change.Tell part) plain = refl
 
-pub changes_plan : (m : Machine) (given : Next) (it : Change) → decided m given ≡ Ok it → is_start it ≡ false → IsPlan (plan.Changes it) m given
-changes_plan m given it is unlike =
-    let plain = never_due m given it is in
-    (ap (λ (r : Result Change Refusal). r >>= by_files m) is ∙ not_start m it unlike plain, unlike, plain)
-
-start_is : (it : Change) → is_start it ≡ true → it ≡ change.Start
-start_is (change.BootSource source) like = cc
-start_is (change.MachineConfig machine) like = cc
-start_is change.Start like = refl
-start_is (change.State state) like = cc
-start_is (change.CreateSnapshot files) like = cc
-start_is (change.LoadSnapshot load) like = cc
-start_is (change.Tell part) like = cc
+pub changes_plan : (m : Machine) (given : Next) (it : Change) → decided m given ≡ Ok it → is_plain it ≡ true → IsPlan (plan.Changes it) m given
+changes_plan m given it is plain = (ap (λ (r : Result Change Refusal). r >>= by_files m) is ∙ plain_change m it plain, plain)
 
 -- the machine that has what the monitor has
 image_is : (live : LiveMachine) (known : FilesKnown) (m : Machine) → IsMachine live known m
@@ -144,26 +130,48 @@ loads_same live known m w image is world =
     (subst (λ (c : Config). IsWorld w (started c.machine.vcpu_count c.machine.mem_size_mib
     (loads_from c image (disk_in c known.saved)))) is.own.config_is world)
 
-start_plan_by : (it : Plan) (live : LiveMachine) (known : FilesKnown) (m : Machine) (given : Next) → IsMachine live known m
+pub start_plan : (it : Plan) (live : LiveMachine) (known : FilesKnown) (m : Machine) (given : Next) → IsMachine live known m
     → decided m given ≡ Ok change.Start → StartGives it live.config known.saved → IsPlan it m given
-start_plan_by (plan.Refused why) live known m given is asks gives =
+start_plan (plan.Refused why) live known m given is asks gives =
     ap (λ (r : Result Change Refusal). r >>= by_files m) asks
     ∙ ap (λ (o : Option Refusal). unless o (Ok change.Start)) (sym (refusal_is live known m is) ∙ gives)
-start_plan_by (plan.Changes it) live known m given is asks gives = absurd gives
-start_plan_by (plan.Starts w) live known m given is asks (none, image, there, world) = (
+start_plan (plan.Changes it) live known m given is asks gives = absurd gives
+start_plan (plan.Starts w) live known m given is asks (none, image, there, world) = (
   ap (λ (r : Result Change Refusal). r >>= by_files m) asks
       ∙ ap (λ (o : Option Refusal). unless o (Ok change.Start)) (sym (refusal_is live known m is) ∙ none),
   image,
   sym (image_is live known m is) ∙ there,
   loads_same live known m w image is world,
 )
-start_plan_by plan.FilesFailed live known m given is asks gives = asks
-start_plan_by plan.NoMemory live known m given is asks gives = tt
+start_plan (plan.Restores r) live known m given is asks gives = absurd gives
+start_plan plan.FilesFailed live known m given is asks gives = (change.Start, asks, refl)
+start_plan plan.NoMemory live known m given is asks gives = tt
 
-pub start_plan : (it : Plan) (c : Change) (live : LiveMachine) (known : FilesKnown) (m : Machine) (given : Next) → IsMachine live known m
-    → decided m given ≡ Ok c → is_start c ≡ true → StartGives it live.config known.saved → IsPlan it m given
-start_plan it c live known m given is asks like gives =
-    start_plan_by it live known m given is (asks ∙ ap Ok (start_is c like)) gives
+pub restore_plan : (it : Plan) (load : SnapshotLoad) (live : LiveMachine) (known : FilesKnown) (m : Machine) (given : Next)
+    → IsMachine live known m → decided m given ≡ Ok (change.LoadSnapshot load) → RestoreGives it load known.saved → IsPlan it m given
+restore_plan it load live known m given is asks gives =
+    by_kind it (subst (λ (s : Saved). RestoreGives it load s) is.files.saved_is gives)
+  where
+    files : allowed m given ≡ by_files m (change.LoadSnapshot load)
+    files = ap (λ (r : Result Change Refusal). r >>= by_files m) asks
+
+    goes : Result Snapshot Refusal → Result Change Refusal
+    goes found = found >>= λ snapshot. Ok (change.LoadSnapshot load)
+
+    by_kind : (it : Plan) → RestoreGives it load m.saved → IsPlan it m given
+    by_kind (plan.Refused why) gives = files ∙ ap goes gives
+    by_kind (plan.Changes c) gives = absurd gives
+    by_kind (plan.Starts w) gives = absurd gives
+    by_kind (plan.Restores r) (it, there, goes_on, resumes) = record {
+      load = load;
+      asks = files ∙ ap goes there;
+      it = it;
+      there = there;
+      goes_on = goes_on;
+      resumes_is = resumes;
+    }
+    by_kind plan.FilesFailed gives = (change.LoadSnapshot load, asks, refl)
+    by_kind plan.NoMemory gives = tt
 
 -- ---- what a plan answers and leaves
 
@@ -179,7 +187,7 @@ Does it m given text after known =
     (n : Machine) × RequestStep (outcome_by (plan_outcome it) known) given m text n × IsMachine after known n
 
 -- an answer of the machine, whose change leaves n
-answered : (live : LiveMachine) (known : FilesKnown) (m n : Machine) (given : Next) (made : Result Change Refusal) (text : List ℕ)
+pub answered : (live : LiveMachine) (known : FilesKnown) (m n : Machine) (given : Next) (made : Result Change Refusal) (text : List ℕ)
     → allowed m given ≡ made → text ≡ reply_line (answer_by m made) → LeavesBy m made n → RequestStep flat.Outcome.Answered given m text n
 answered live known m n given made text asks writes leaves = (
   writes ∙ ap (λ (r : Result Change Refusal). reply_line (answer_by m r)) (sym asks),
@@ -217,23 +225,34 @@ left_is (change.CreateSnapshot files) paused w g is = is
 left_is (change.LoadSnapshot load) paused w g is = is
 left_is (change.Tell part) paused w g is = is
 
-plain_leaves : (m : Machine) (it : Change) → is_start it ≡ false → is_snapshot it ≡ false → Leaves m it (plainly m it)
-plain_leaves m (change.BootSource source) unlike plain = refl
-plain_leaves m (change.MachineConfig machine) unlike plain = refl
-plain_leaves m change.Start unlike plain = cc
-plain_leaves m (change.State Paused) unlike plain = refl
-plain_leaves m (change.State Resumed) unlike plain = refl
-plain_leaves m (change.CreateSnapshot files) unlike plain = cc
-plain_leaves m (change.LoadSnapshot load) unlike plain = cc
-plain_leaves m (change.Tell part) unlike plain = refl
+plain_leaves : (m : Machine) (it : Change) → is_plain it ≡ true → Leaves m it (plainly m it)
+plain_leaves m (change.BootSource source) plain = refl
+plain_leaves m (change.MachineConfig machine) plain = refl
+plain_leaves m change.Start plain = cc
+plain_leaves m (change.State Paused) plain = refl
+plain_leaves m (change.State Resumed) plain = refl
+plain_leaves m (change.CreateSnapshot files) plain = cc
+plain_leaves m (change.LoadSnapshot load) plain = cc
+plain_leaves m (change.Tell part) plain = refl
+
+-- a start or a load leaves the files as they were
+fails_alone : (it : Change) (m : Machine) (known : FilesKnown) → AreFilesOf known m → reads_files it ≡ true
+    → Fails m it (left_by known) m
+fails_alone (change.BootSource source) m known files reads = cc
+fails_alone (change.MachineConfig machine) m known files reads = cc
+fails_alone change.Start m known files reads = (λ i. record { saved = files.saved_is i; calls = files.calls_is i }, refl)
+fails_alone (change.State state) m known files reads = cc
+fails_alone (change.CreateSnapshot names) m known files reads = cc
+fails_alone (change.LoadSnapshot load) m known files reads = (λ i. record { saved = files.saved_is i; calls = files.calls_is i }, refl)
+fails_alone (change.Tell part) m known files reads = cc
 
 pub plan_does : (it : Plan) (live : LiveMachine) (known : FilesKnown) (m : Machine) (given : Next) → IsMachine live known m
     → IsPlan it m given → Does it m given (plan_line it live) (plan_after it live) known
 plan_does (plan.Refused why) live known m given is asks =
     (m, answered live known m m given (Err why) _ asks (line_is (plan.Refused why) live m is.own) refl, is)
-plan_does (plan.Changes it) live known m given is (asks, unlike, plain) = (
+plan_does (plan.Changes it) live known m given is (asks, plain) = (
   plainly m it,
-  answered live known m (plainly m it) given (Ok it) _ asks (line_is (plan.Changes it) live m is.own) (plain_leaves m it unlike plain),
+  answered live known m (plainly m it) given (Ok it) _ asks (line_is (plan.Changes it) live m is.own) (plain_leaves m it plain),
   record {
     own = record {
       id_is = is.own.id_is;
@@ -263,35 +282,45 @@ plan_does (plan.Starts w) live known m given is (asks, image, there, world) =
         files = record { saved_is = is.files.saved_is; calls_is = is.files.calls_is };
       },
     )
-plan_does plan.FilesFailed live known m given is asks = (
+plan_does (plan.Restores r) live known m given is asks = (
+  carried m asks.load.resume_vm asks.it,
+  answered live known m (carried m asks.load.resume_vm asks.it) given (Ok (change.LoadSnapshot asks.load)) _ asks.asks
+      (line_is (plan.Restores r) live m is.own)
+      (subst (λ (f : Result Snapshot Refusal). Restores f m asks.load.resume_vm (carried m asks.load.resume_vm asks.it)) (sym asks.there) refl),
+  record {
+    own = record {
+      id_is = is.own.id_is;
+      ids_is = λ i. record {
+        lineage = (is.own.ids_is i).lineage;
+        base = Some (asks.goes_on.identity_is i);
+        next = asks.goes_on.next_is i;
+      };
+      config_is = asks.goes_on.config_is;
+      guest_is = asks.goes_on.guest_is;
+      paused_is = ap not asks.resumes_is;
+    };
+    files = record { saved_is = is.files.saved_is; calls_is = is.files.calls_is };
+  },
+)
+plan_does plan.FilesFailed live known m given is (it, asks, reads) = (
   m,
-  (
-    change.Start,
-    asks,
-    (λ i. record { saved = is.files.saved_is i; calls = is.files.calls_is i }, refl),
-    line_is plan.FilesFailed live m is.own,
-  ),
+  (it, asks, fails_alone it m known is.files reads, line_is plan.FilesFailed live m is.own),
   is,
 )
 plan_does plan.NoMemory live known m given is asks = (m, (line_is plan.NoMemory live m is.own, refl), is)
 
--- ---- only a start asks for a start
+-- ---- which calls call the files
 
-unlike : (p : Phase) (config : Config) (ids : Ids) (it : ApiCall) (c d : Change) → decision p config ids it ≡ Ok c → is_start c ≡ true
-    → change_of config it ≡ d → is_start d ≡ false → ⊥
-unlike p config ids it c d is start asks other =
-    let same : true ≡ false = sym start ∙ ap is_start (sym (change_is p config ids it c is) ∙ asks) ∙ other in cc
-
-pub only_start : (p : Phase) (config : Config) (ids : Ids) (it : ApiCall) (c : Change) → decided_call p config ids it ≡ Ok c → is_start c ≡ true
-    → calls_files it ≡ true
-only_start p config ids (call.PutBootSource source) c is start = absurd (unlike p config ids (call.PutBootSource source) c (change.BootSource source) is start refl refl)
-only_start p config ids (call.PutMachineConfig machine) c is start = absurd (unlike p config ids (call.PutMachineConfig machine) c (change.MachineConfig machine) is start refl refl)
-only_start p config ids (call.PatchMachineConfig patch) c is start = absurd (unlike p config ids (call.PatchMachineConfig patch) c (change.MachineConfig (patched config.machine patch)) is start refl refl)
-only_start p config ids call.InstanceStart c is start = refl
-only_start p config ids (call.PatchVm state) c is start = absurd (unlike p config ids (call.PatchVm state) c (change.State state) is start refl refl)
-only_start p config ids (call.CreateSnapshot files) c is start = cc
-only_start p config ids (call.LoadSnapshot load) c is start = cc
-only_start p config ids (call.Get part) c is start = absurd (unlike p config ids (call.Get part) c (change.Tell part) is start refl refl)
+pub plain_call : (p : Phase) (config : Config) (ids : Ids) (it : ApiCall) (c : Change) → decision p config ids it ≡ Ok c
+    → (calls_files it ≡ true → ⊥) → is_plain c ≡ true
+plain_call p config ids (call.PutBootSource source) c is never = ap is_plain (sym (change_is p config ids (call.PutBootSource source) c is))
+plain_call p config ids (call.PutMachineConfig machine) c is never = ap is_plain (sym (change_is p config ids (call.PutMachineConfig machine) c is))
+plain_call p config ids (call.PatchMachineConfig patch) c is never = ap is_plain (sym (change_is p config ids (call.PatchMachineConfig patch) c is))
+plain_call p config ids call.InstanceStart c is never = absurd (never refl)
+plain_call p config ids (call.PatchVm state) c is never = ap is_plain (sym (change_is p config ids (call.PatchVm state) c is))
+plain_call p config ids (call.CreateSnapshot files) c is never = absurd (never refl)
+plain_call p config ids (call.LoadSnapshot load) c is never = absurd (never refl)
+plain_call p config ids (call.Get part) c is never = ap is_plain (sym (change_is p config ids (call.Get part) c is))
 
 -- ---- one thing that is due
 
@@ -304,6 +333,7 @@ cause_by it done how before now (inl same) is cause later =
     own (plan.Refused why) before now cause later = cause
     own (plan.Changes c) before now cause later = cause
     own (plan.Starts w) before now cause later = cause
+    own (plan.Restores r) before now cause later = cause
     own plan.FilesFailed before now cause later = cause
     own plan.NoMemory before now cause later = later
 cause_by it done how before now (inr same) is cause later =

@@ -1,27 +1,35 @@
 -- What a plan is of the machine, and what it leaves.
-use Rattle.std.specs.Prelude.{◌≡◌, ◌⊎◌, ℕ, List, ◌++◌, Bool, true, false, Option, Some, None, Result, Ok, Err}
-use Rattle.refusals.specs.declared.refusal.Refusal.{Refusal}
+use Rattle.std.specs.Prelude.{◌≡◌, ◌≢◌, ◌⊎◌, ◌+◌, ℕ, List, ◌++◌, Bool, true, false, not, Option, Some, None, Result, Ok, Err}
+use Rattle.vm_types.specs.declared.identity.Identity.{Identity}
+use Rattle.vm_outside.specs.Known.{FilesKnown}
 use Rattle.http_stream.specs.declared.request.Next.{Next}
-use Rattle.api_calls.specs.declared.call.ApiCall.{ApiCall}
+use Rattle.api_calls.specs.declared.call.SnapshotFiles.{SnapshotFiles}
+use Rattle.api_calls.specs.declared.call.SnapshotLoad.{SnapshotLoad}
 use Rattle.api_calls.specs.declared.call.VmState.TheVariants.{Paused, Resumed}
-use Rattle.api_calls.specs.Call.{◌>>=◌}
-use Rattle.vm_config.specs.declared.config.Config.{Config}
 use Rattle.vm_config.specs.declared.config.Phase.{Phase}
 use Rattle.vm_config.specs.declared.config.Phase.TheVariants as phase
 use Rattle.vm_config.specs.declared.change.Change.{Change}
 use Rattle.vm_config.specs.declared.change.Change.TheVariants as change
 use Rattle.vm_config.specs.Changes.{changed}
-use Rattle.api_rules.specs.declared.ids.Ids.{Ids}
-use Rattle.api_rules.specs.Table.{decision}
 use Rattle.script_output.specs.Output.{reply_line}
 use Rattle.timer_trace.specs.States.{new_timer}
+use Rattle.flat_guest.specs.Guest.{Guest}
 use Rattle.flat_guest.specs.Start.{started}
+use Rattle.snap_state.specs.declared.copy.StateCopy.{StateCopy}
+use Rattle.flat_snapshot.specs.Copies.{IsCopyOf}
+use Rattle.flat_snapshot.specs.Files.{memory_head, state_body}
+use Rattle.flat_snapshot.specs.Found.{Snapshot, found}
 use Rattle.flat_machine.specs.Machine.{Machine}
-use Rattle.flat_machine.specs.Requests.{allowed, built, decided, disk_of, image_of, loads_from}
+use Rattle.flat_machine.specs.Requests.{allowed, decided, disk_of, image_of, loads_from, next_identity}
 use Rattle.vm_world.specs.Worlds.{IsWorld, WorldValue}
+use Rattle.monitor_plans.specs.declared.creating.Creation.{Creation}
+use Rattle.monitor_plans.specs.declared.restoring.Restored.{Restored}
 use Rattle.monitor_plans.specs.declared.plan.Plan.{Plan}
 use Rattle.monitor_plans.specs.declared.plan.Plan.TheVariants as plan
-use Rattle.monitor_plans.specs.Plans.{is_start, plan_answer}
+use Rattle.monitor_plans.specs.declared.plan.Task.{Task}
+use Rattle.monitor_plans.specs.declared.plan.Task.TheVariants as task
+use Rattle.monitor_plans.specs.Plans.{plan_answer}
+use Rattle.monitor_plans.specs.Restoring.{GoesOn}
 use Rattle.monitor_machine.specs.declared.machine.LiveMachine.{LiveMachine}
 use Rattle.monitor_machine.specs.declared.outcome.Outcome.{Outcome}
 use Rattle.monitor_machine.specs.declared.outcome.Outcome.TheVariants.{Answered, Failed, NoMemory}
@@ -34,27 +42,76 @@ phase_by (Some w) true = phase.Paused
 abbrev pub phase_of : LiveMachine → Phase
 phase_of live = phase_by live.guest live.paused
 
--- what a call asks for, or its first refusal
-abbrev pub decided_call : Phase → Config → Ids → ApiCall → Result Change Refusal
-decided_call p config ids it = do
-  it ← built it
-  decision p config ids it
+-- a change that neither makes a guest nor reads or writes a file
+abbrev pub is_plain : Change → Bool
+is_plain change.Start = false
+is_plain (change.CreateSnapshot files) = false
+is_plain (change.LoadSnapshot load) = false
+is_plain it = true
 
--- a create or a load, which the monitor doesn't make yet
-abbrev pub is_snapshot : Change → Bool
-is_snapshot (change.CreateSnapshot files) = true
-is_snapshot (change.LoadSnapshot load) = true
-is_snapshot it = false
+-- a change that reads files and leaves them as they are
+abbrev pub reads_files : Change → Bool
+reads_files change.Start = true
+reads_files (change.LoadSnapshot load) = true
+reads_files it = false
 
--- the plan is what the machine does where that is due; where a call on the files failed, it asked for a start
+-- a create of the machine's guest is due, and this is what it writes
+pub record IsCreate (c : Creation) (m : Machine) (given : Next) : Type 0 where
+  pub asks : decided m given ≡ Ok (change.CreateSnapshot c.names)
+  pub guest : Guest
+  pub there : m.guest ≡ Some guest
+  pub copy : StateCopy
+  pub copied : IsCopyOf m.config guest copy
+  pub identity_is : c.identity ≡ next_identity m
+  pub next_is : c.next ≡ m.ids.next + 1
+  pub head_is : c.head ≡ memory_head (next_identity m) copy.pages
+  pub body_is : c.body ≡ state_body (next_identity m) copy
+
+-- the machine goes on from what it loads
+pub record IsRestore (r : Restored) (m : Machine) (given : Next) : Type 0 where
+  pub load : SnapshotLoad
+  pub asks : allowed m given ≡ Ok (change.LoadSnapshot load)
+  pub it : Snapshot
+  pub there : found m.saved load.files ≡ Ok it
+  pub goes_on : GoesOn r it
+  pub resumes_is : r.resumes ≡ load.resume_vm
+
+-- the plan is what the machine does where that is due; where a call on the files failed, a change that reads them was due
 abbrev pub IsPlan : Plan → Machine → Next → Type 0
 IsPlan (plan.Refused why) m given = allowed m given ≡ Err why
-IsPlan (plan.Changes it) m given = (allowed m given ≡ Ok it) × (is_start it ≡ false) × (is_snapshot it ≡ false)
+IsPlan (plan.Changes it) m given = (allowed m given ≡ Ok it) × (is_plain it ≡ true)
 IsPlan (plan.Starts w) m given =
     (allowed m given ≡ Ok change.Start) × (image : List ℕ) × (image_of m ≡ Some image)
     × IsWorld w (started m.config.machine.vcpu_count m.config.machine.mem_size_mib (loads_from m.config image (disk_of m)))
-IsPlan plan.FilesFailed m given = decided m given ≡ Ok change.Start
+IsPlan (plan.Restores r) m given = IsRestore r m given
+IsPlan plan.FilesFailed m given = (it : Change) × (decided m given ≡ Ok it) × (reads_files it ≡ true)
 IsPlan plan.NoMemory m given = Unit {0}
+
+abbrev pub IsTask : Task → Machine → Next → Type 0
+IsTask (task.Plan it) m given = IsPlan it m given
+IsTask (task.Create c) m given = IsCreate c m given
+
+-- the two files of a create have names of their own
+abbrev pub HasTwoNames : SnapshotFiles → Type 0
+HasTwoNames names = names.mem_file_path ≢ names.snapshot_path
+
+abbrev pub AreTwoFiles : Task → Type 0
+AreTwoFiles (task.Plan it) = Unit {0}
+AreTwoFiles (task.Create c) = HasTwoNames c.names
+
+abbrev pub HasTwoFiles : Change → Type 0
+HasTwoFiles (change.CreateSnapshot names) = HasTwoNames names
+HasTwoFiles it = Unit {0}
+
+-- a plan for which no file was called, or that no call on the files failed
+abbrev pub CallsNone : Task → ℕ → ℕ → Type 0
+CallsNone (task.Plan it) before now = now ≡ before
+CallsNone (task.Create c) before now = ⊥
+
+-- for a create no file is called before its own calls
+abbrev pub CallsLater : Task → FilesKnown → FilesKnown → Type 0
+CallsLater (task.Plan it) before now = Unit {0}
+CallsLater (task.Create c) before now = now ≡ before
 
 -- the line of what it answers
 abbrev pub plan_line : Plan → LiveMachine → List ℕ
@@ -64,6 +121,7 @@ abbrev pub plan_outcome : Plan → Outcome
 plan_outcome (plan.Refused why) = Answered
 plan_outcome (plan.Changes it) = Answered
 plan_outcome (plan.Starts w) = Answered
+plan_outcome (plan.Restores r) = Answered
 plan_outcome plan.FilesFailed = Failed
 plan_outcome plan.NoMemory = NoMemory
 
@@ -93,7 +151,22 @@ plan_after (plan.Changes it) live =
     }
 plan_after (plan.Starts w) live =
     record live { config = changed live.config change.Start; guest = Some w; paused = false }
+plan_after (plan.Restores r) live =
+    record live {
+      ids = record { lineage = live.ids.lineage; base = Some r.identity; next = r.next };
+      config = r.config;
+      guest = Some r.guest;
+      paused = not r.resumes;
+    }
 plan_after it live = live
+
+-- what is left where a snapshot was written, and where a call on the files failed: its number is spent
+abbrev pub created_after : Creation → LiveMachine → LiveMachine
+created_after c live =
+    record live { ids = record { lineage = live.ids.lineage; base = Some c.identity; next = c.next } }
+
+abbrev pub failed_after : Creation → LiveMachine → LiveMachine
+failed_after c live = record live { ids = record live.ids { next = c.next } }
 
 -- The plan's line, or where there was no memory for it the line that says so, came behind the text, and what the line
 -- says is done.

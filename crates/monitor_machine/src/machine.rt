@@ -8,6 +8,7 @@ use std::alloc::Global;
 use vm_types::TextList;
 use vm_world::World;
 
+mod creating;
 mod lines;
 mod planning;
 mod replying;

@@ -1,1 +1,2 @@
-mod Loads
+pub mod Heads
+pub mod Loads

@@ -1,3 +1,5 @@
+pub mod Creating
 pub mod Loading
 pub mod Plans
+pub mod Restoring
 pub mod Starting

@@ -1,25 +1,22 @@
 -- What a plan answers, and why it is one.
-use Rattle.std.specs.Prelude.{◌≡◌, ℕ, List, Bool, true, false}
+use Rattle.std.specs.Prelude.{◌≡◌, ℕ, List}
 use Rattle.vm_types.specs.Causes.{Rose}
 use Rattle.refusals.specs.declared.refusal.Refusal.TheVariants as refusal
 use Rattle.vm_config.specs.declared.config.Config.{Config}
 use Rattle.vm_config.specs.declared.config.Phase.{Phase}
-use Rattle.vm_config.specs.declared.change.Change.{Change}
-use Rattle.vm_config.specs.declared.change.Change.TheVariants as change
 use Rattle.api_rules.specs.declared.answer.Answer.{Answer}
-use Rattle.api_rules.specs.Answers.{accepted, refused}
+use Rattle.api_rules.specs.Answers.{accepted, no_content, refused}
 use Rattle.monitor_plans.specs.declared.plan.Plan.{Plan}
 use Rattle.monitor_plans.specs.declared.plan.Plan.TheVariants as plan
-
-abbrev pub is_start : Change → Bool
-is_start change.Start = true
-is_start it = false
+use Rattle.monitor_plans.specs.declared.plan.Task.{Task}
+use Rattle.monitor_plans.specs.declared.plan.Task.TheVariants as task
 
 -- what it answers
 abbrev pub plan_answer : Plan → List ℕ → Phase → Config → Answer
 plan_answer (plan.Refused why) id p config = refused why
 plan_answer (plan.Changes it) id p config = accepted it id p config
-plan_answer (plan.Starts w) id p config = accepted change.Start id p config
+plan_answer (plan.Starts w) id p config = no_content
+plan_answer (plan.Restores r) id p config = no_content
 plan_answer plan.FilesFailed id p config = refused refusal.OutsideFailed
 plan_answer plan.NoMemory id p config = refused refusal.OutOfMemory
 
@@ -27,3 +24,8 @@ plan_answer plan.NoMemory id p config = refused refusal.OutOfMemory
 abbrev pub PlanCause : Plan → ℕ → ℕ → Type 0
 PlanCause plan.FilesFailed before now = Rose before now
 PlanCause it before now = now ≡ before
+
+-- a create that is to be written has called no file yet
+abbrev pub TaskCause : Task → ℕ → ℕ → Type 0
+TaskCause (task.Plan it) before now = PlanCause it before now
+TaskCause (task.Create c) before now = now ≡ before

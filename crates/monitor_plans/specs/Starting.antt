@@ -20,6 +20,6 @@ StartGives (plan.Starts w) config saved =
     (start_refusal config saved ≡ None) × (image : List ℕ) × (image_in config saved ≡ Some image)
     × IsWorld w (started config.machine.vcpu_count config.machine.mem_size_mib (loads_from config image (disk_in config saved)))
 StartGives (plan.Refused why) config saved = start_refusal config saved ≡ Some why
-StartGives (plan.Changes it) config saved = ⊥
 StartGives plan.FilesFailed config saved = Unit {0}
 StartGives plan.NoMemory config saved = Unit {0}
+StartGives it config saved = ⊥

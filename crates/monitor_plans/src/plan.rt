@@ -1,23 +1,34 @@
 // What comes of something that is due on the connection.
 ghost use Rattle.std.specs.Prelude.{◌≡◌, IfOk};
 ghost use Rattle.script_output.specs.Output.{reply_line};
-ghost use Rattle.monitor_plans.specs.Plans.{is_start, plan_answer};
+ghost use Rattle.api_rules.specs.Answers.{no_content};
+ghost use Rattle.monitor_plans.specs.Plans.{plan_answer};
 
-use api_rules::{Answer, Change, Config, Phase, accepted_answer, fault_answer};
+use crate::creating::Creation;
+use crate::restoring::Restored;
+use api_rules::{Answer, Change, Config, Phase, accepted_answer, done_answer, fault_answer};
 use refusals::Refusal;
 use std::alloc::{AllocError, Global};
 use vm_types::ByteList;
 use vm_world::World;
 
-/// What comes of a request: it is refused; it changes this; it starts this guest; a call on the files failed; or there
-/// is no memory.
+/// What comes of a request, where no file is left to be written: it is refused; it changes this; it starts this guest;
+/// it goes on from a snapshot; a call on the files failed; or there is no memory.
 #[derive(Drop)]
 pub enum Plan {
     Refused(Refusal),
     Changes(Change),
     Starts(World),
+    Restores(Restored),
     FilesFailed,
     NoMemory,
+}
+
+/// What is to be done for a request: what a plan says, or a snapshot is to be written.
+#[derive(Drop)]
+pub enum Task {
+    Plan(Plan),
+    Create(Creation),
 }
 
 impl Plan {
@@ -34,7 +45,7 @@ impl Plan {
         match self {
             Plan::Refused(why) => fault_answer(alloc, *why),
             Plan::Changes(change) => accepted_answer(alloc, change, id, phase, config),
-            Plan::Starts(_) => accepted_answer(alloc, &Change::Start, id, phase, config),
+            Plan::Starts(_) | Plan::Restores(_) => Ok(done_answer()),
             Plan::FilesFailed => fault_answer(alloc, Refusal::OutsideFailed),
             Plan::NoMemory => fault_answer(alloc, Refusal::OutOfMemory),
         }
@@ -55,9 +66,9 @@ impl Plan {
     }
 }
 
-/// Whether the change is a start.
-pub fn is_start(change: &Change) -> bool
-    ensures { result ≡ is_start change.now }
+/// The line of a call that is done and tells nothing.
+pub fn done_line(alloc: Global) -> Result<ByteList, AllocError>
+    ensures { IfOk result (λ line. line ≡ reply_line no_content) }
 {
-    matches!(change, Change::Start)
+    script_output::reply_line(alloc, &done_answer())
 }

@@ -1,25 +1,29 @@
 // What comes of a request.
-ghost use Rattle.std.specs.Prelude.{◌≡◌, Ok, true};
+ghost use Rattle.std.specs.Prelude.{◌≡◌, ℕ, Ok, true};
 ghost use Rattle.vm_outside.specs.Filing.{SameFiles};
-ghost use Rattle.vm_outside.specs.Known.{Lasts, Tells};
+ghost use Rattle.vm_outside.specs.Known.{FilesKnown, Lasts, Tells};
 ghost use Rattle.http_stream.specs.declared.request.Request.{Request};
 ghost use Rattle.api_calls.specs.Call.{call_of};
+ghost use Rattle.api_rules.specs.Table.{decision};
 ghost use Rattle.flat_machine.specs.Machine.{Machine};
-ghost use Rattle.flat_machine.specs.Requests.{built};
-ghost use Rattle.monitor_plans.specs.Plans.{PlanCause};
+ghost use Rattle.flat_machine.specs.Requests.{decided};
+ghost use Rattle.vm_config.specs.declared.change.Change.TheVariants as change;
+ghost use Rattle.monitor_plans.specs.Plans.{TaskCause};
 ghost use Rattle.monitor_machine.specs.Replying.{AsksFiles, calls_files};
 
 use crate::machine::LiveMachine;
-use api_calls::ApiCall;
+use api_calls::{ApiCall, SnapshotFiles};
 use api_json::{ReadError, read};
 use api_rules::{Change, Phase, decide};
 use http_stream::{Next, Request};
-use monitor_plans::{Plan, is_start, start};
+use monitor_plans::{Plan, Task, create, restore, start};
 use refusals::Refusal;
 use vm_outside::Files;
+use vm_types::Identity;
 
 impl LiveMachine {
-    ghost use Rattle.monitor_machine.specs.Plans.{IsPlan, decided_call, phase_of};
+    ghost use Rattle.monitor_machine.specs.Plans.{AreTwoFiles, CallsLater, CallsNone, HasTwoFiles, HasTwoNames, IsTask};
+    ghost use Rattle.monitor_machine.specs.Plans.{is_plain, phase_of};
     ghost use Rattle.monitor_machine.specs.State.{IsMachine};
 
     pub(super) fn phase(&self) -> Phase
@@ -33,61 +37,87 @@ impl LiveMachine {
     }
 
     fn decided(&self, call: ApiCall) -> Result<Change, Refusal>
-        ensures { result ≡ decided_call (phase_of self.now) self.now.config self.now.ids call }
+        ensures { result ≡ decision (phase_of self.now) self.now.config self.now.ids call }
     {
-        match built(call) {
-            Ok(call) => decide(self.phase(), &self.config, &self.ids, call),
-            Err(why) => Err(why),
-        }
+        decide(self.phase(), &self.config, &self.ids, call)
     }
 
-    // What comes of a call. The files are asked for a start alone.
-    fn plan_call<F: Files>(&self, call: ApiCall, files: &mut F) -> Plan
-        ensures plan { Tells (F.known files.old).health → (m : Machine) →
+    // What comes of a call. The files are asked for a start and a load alone.
+    fn task_of_call<F: Files>(&self, call: ApiCall, files: &mut F) -> Task
+        requires { (request : Request) × (call_of request ≡ Ok call) }
+        ensures task { Tells (F.known files.old).health → (m : Machine) →
             IsMachine self.now (F.known files.old) m → (request : Request) → call_of request ≡ Ok call →
-            IsPlan result m (Next.Request request) }
-        ensures cause { PlanCause result (F.known files.old).health.faults (F.known files.new).health.faults }
-        ensures uncalled { (calls_files call ≡ true → ⊥) →
-            (F.known files.new).health.faults ≡ (F.known files.old).health.faults }
+            IsTask result m (Next.Request request) }
+        ensures files { AreTwoFiles result }
+        ensures later { CallsLater result (F.known files.old) (F.known files.new) }
+        ensures cause { TaskCause result (F.known files.old).health.faults (F.known files.new).health.faults }
+        ensures uncalled { (calls_files call ≡ true → ⊥) → CallsNone result
+            (F.known files.old).health.faults (F.known files.new).health.faults }
         ensures same { Tells (F.known files.old).health → SameFiles (F.known files.old) (F.known files.new) }
         ensures lasts { Lasts (F.known files.old).health (F.known files.new).health }
     {
         match self.decided(call) {
-            Ok(change) => {
-                if is_start(&change) {
-                    start(self.alloc, &self.config, files)
-                } else {
-                    Plan::Changes(change)
-                }
-            }
-            Err(why) => Plan::Refused(why),
+            Ok(change) => self.task_of_change(change, files),
+            Err(why) => Task::Plan(Plan::Refused(why)),
+        }
+    }
+
+    // What comes of a change that is allowed, but for what the files say.
+    fn task_of_change<F: Files>(&self, change: Change, files: &mut F) -> Task
+        requires { HasTwoFiles change }
+        ensures task { Tells (F.known files.old).health → (m : Machine) →
+            IsMachine self.now (F.known files.old) m → (given : Next) → decided m given ≡ Ok change →
+            IsTask result m given }
+        ensures files { AreTwoFiles result }
+        ensures later { CallsLater result (F.known files.old) (F.known files.new) }
+        ensures cause { TaskCause result (F.known files.old).health.faults (F.known files.new).health.faults }
+        ensures uncalled { is_plain change ≡ true → CallsNone result
+            (F.known files.old).health.faults (F.known files.new).health.faults }
+        ensures same { Tells (F.known files.old).health → SameFiles (F.known files.old) (F.known files.new) }
+        ensures lasts { Lasts (F.known files.old).health (F.known files.new).health }
+    {
+        match change {
+            Change::Start => Task::Plan(start(self.alloc, &self.config, files)),
+            Change::LoadSnapshot(load) => Task::Plan(restore(self.alloc, &load, files)),
+            Change::CreateSnapshot(names) => self.task_of_create(names),
+            change => Task::Plan(Plan::Changes(change)),
+        }
+    }
+
+    // What comes of a create. Only a machine that has started comes here.
+    fn task_of_create(&self, names: SnapshotFiles) -> Task
+        requires { HasTwoNames names }
+        ensures task { (known : FilesKnown) (m : Machine) → IsMachine self.now known m → (given : Next) →
+            decided m given ≡ Ok (change.CreateSnapshot names) → IsTask result m given }
+        ensures files { AreTwoFiles result }
+        ensures cause { (n : ℕ) → TaskCause result n n }
+    {
+        let identity = Identity {
+            lineage: self.ids.lineage,
+            number: self.ids.next,
+        };
+        match &self.guest {
+            None => Task::Plan(Plan::NoMemory),
+            Some(guest) => create(self.alloc, &self.config, identity, guest, names),
         }
     }
 
     // What comes of a request.
-    pub(super) fn plan<F: Files>(&self, request: &Request, files: &mut F) -> Plan
-        ensures plan { Tells (F.known files.old).health → (m : Machine) →
-            IsMachine self.now (F.known files.old) m → IsPlan result m (Next.Request request.now) }
-        ensures cause { PlanCause result (F.known files.old).health.faults (F.known files.new).health.faults }
-        ensures uncalled { (AsksFiles request.now → ⊥) →
-            (F.known files.new).health.faults ≡ (F.known files.old).health.faults }
+    pub(super) fn task<F: Files>(&self, request: &Request, files: &mut F) -> Task
+        ensures task { Tells (F.known files.old).health → (m : Machine) →
+            IsMachine self.now (F.known files.old) m → IsTask result m (Next.Request request.now) }
+        ensures files { AreTwoFiles result }
+        ensures later { CallsLater result (F.known files.old) (F.known files.new) }
+        ensures cause { TaskCause result (F.known files.old).health.faults (F.known files.new).health.faults }
+        ensures uncalled { (AsksFiles request.now → ⊥) → CallsNone result
+            (F.known files.old).health.faults (F.known files.new).health.faults }
         ensures same { Tells (F.known files.old).health → SameFiles (F.known files.old) (F.known files.new) }
         ensures lasts { Lasts (F.known files.old).health (F.known files.new).health }
     {
         match read(self.alloc, request) {
-            Ok(call) => self.plan_call(call, files),
-            Err(ReadError::Refused(why)) => Plan::Refused(why),
-            Err(ReadError::OutOfMemory) => Plan::NoMemory,
+            Ok(call) => self.task_of_call(call, files),
+            Err(ReadError::Refused(why)) => Task::Plan(Plan::Refused(why)),
+            Err(ReadError::OutOfMemory) => Task::Plan(Plan::NoMemory),
         }
-    }
-}
-
-// The calls that the machine doesn't make yet are refused as paths that aren't there.
-fn built(call: ApiCall) -> Result<ApiCall, Refusal>
-    ensures { result ≡ built call }
-{
-    match call {
-        ApiCall::CreateSnapshot(_) | ApiCall::LoadSnapshot(_) => Err(Refusal::NoSuchPath),
-        call => Ok(call),
     }
 }

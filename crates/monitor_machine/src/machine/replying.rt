@@ -10,7 +10,7 @@ use crate::outcome::Outcome;
 use api_calls::VmState;
 use api_rules::Change;
 use http_stream::Request;
-use monitor_plans::Plan;
+use monitor_plans::{Plan, Task};
 use refusals::Refusal;
 use std::alloc::AllocError;
 use vm_outside::Files;
@@ -20,7 +20,7 @@ impl LiveMachine {
     ghost use Rattle.monitor_machine.specs.Plans.{Answers, plan_after, plan_line, plan_outcome};
     ghost use Rattle.monitor_machine.specs.Replying.{AsksFiles, Replies};
 
-    fn write_line(&self, plan: &Plan, text: &mut ByteList) -> Result<(), AllocError>
+    pub(super) fn write_line(&self, plan: &Plan, text: &mut ByteList) -> Result<(), AllocError>
         ensures ok { OnOk result (text.new ≡ text.old ++ plan_line plan.now self.now) }
         ensures err { OnErr result (text.new ≡ text.old) }
     {
@@ -88,6 +88,14 @@ impl LiveMachine {
                 self.paused = false;
                 Outcome::Answered
             }
+            Plan::Restores(restored) => {
+                self.ids.base = Some(restored.identity);
+                self.ids.next = restored.next;
+                self.config = restored.config;
+                self.guest = Some(restored.guest);
+                self.paused = !restored.resumes;
+                Outcome::Answered
+            }
             Plan::FilesFailed => Outcome::Failed,
             Plan::NoMemory => Outcome::NoMemory,
         }
@@ -119,9 +127,16 @@ impl LiveMachine {
             SameFiles (F.known files.old) (F.known files.new)) }
         ensures lasts { Lasts (F.known files.old).health (F.known files.new).health }
     {
-        let plan = self.plan(request, files);
-        let how = self.answer(plan, text)?;
-        Ok(how)
+        match self.task(request, files) {
+            Task::Plan(plan) => {
+                let how = self.answer(plan, text)?;
+                Ok(how)
+            }
+            Task::Create(creation) => {
+                let done = self.answer_create(creation, files, text)?;
+                Ok(done)
+            }
+        }
     }
 
     /// Answers bytes that are no request, by why they are none, or 503 where there was no memory. An `Err` changes

@@ -1,0 +1,168 @@
+-- A create that is due does what the machine does.
+use Rattle.std.proofs.Common.{◌≡◌, ℕ, List, ◌∷◌, ◌++◌, Option, Some, None, Ok, Result, refl, sym, ap, subst, ◌∙◌}
+use Rattle.std.specs.FinMap.{get, insert}
+use Rattle.vm_types.specs.Causes.{Rose}
+use Rattle.vm_types.specs.Saved.{Saved}
+use Rattle.vm_outside.specs.Calls.{FileCall, MakesFront}
+use Rattle.vm_outside.specs.Known.{FilesKnown, Tells}
+use Rattle.refusals.specs.declared.refusal.Refusal.{Refusal}
+use Rattle.refusals.specs.declared.refusal.Refusal.TheVariants as refusal
+use Rattle.http_stream.specs.declared.request.Next.{Next}
+use Rattle.api_calls.specs.Call.{◌>>=◌}
+use Rattle.vm_config.specs.declared.change.Change.{Change}
+use Rattle.vm_config.specs.declared.change.Change.TheVariants as change
+use Rattle.api_rules.specs.Answers.{no_content, refused}
+use Rattle.script_output.specs.Output.{reply_line}
+use Rattle.guest_pages.specs.Pages.{PageValue, flat_of}
+use Rattle.flat_guest.specs.Guest.{Guest}
+use Rattle.flat_snapshot.specs.Files.{calls_of}
+use Rattle.snap_writer.specs.Create.{create_calls}
+use Rattle.snap_writer.specs.Create as files
+use Rattle.flat_machine.specs.Machine.{Machine}
+use Rattle.flat_machine.specs.Outcome as flat
+use Rattle.flat_machine.specs.Requests.{CreateFails, Creates, RequestStep, by_files, created, next_identity, spent}
+use Rattle.vm_world.specs.Worlds.{IsWorld, WorldValue}
+use Rattle.monitor_plans.specs.declared.creating.Creation.{Creation}
+use Rattle.monitor_machine.specs.declared.machine.LiveMachine.{LiveMachine}
+use Rattle.monitor_machine.specs.declared.outcome.Outcome.{Outcome}
+use Rattle.monitor_machine.specs.Plans.{IsCreate, created_after, failed_after}
+use Rattle.monitor_machine.specs.Replying.{Replies, left_by}
+use Rattle.monitor_machine.specs.State.{IsGuestBy, IsMachine}
+use Rattle.monitor_machine.proofs.Plans.{answered}
+
+-- the world of a live machine is the guest of the machine
+world_is : (live : Option WorldValue) (w : WorldValue) (guest : Option Guest) (g : Guest) → IsGuestBy live guest → live ≡ Some w
+    → guest ≡ Some g → IsWorld w g
+world_is live w guest g is one there =
+    subst (λ (o : Option Guest). IsGuestBy (Some w) o) there (subst (λ (o : Option WorldValue). IsGuestBy o guest) one is)
+
+module _ (c : Creation) (live : LiveMachine) (w : WorldValue) (known left : FilesKnown) (m : Machine) (given : Next)
+    (there : live.guest ≡ Some w) (is : IsMachine live known m) (due : IsCreate c m given) where
+  memory_is : flat_of w.pages ≡ due.guest.memory
+  memory_is = (world_is live.guest w m.guest due.guest is.own.guest_is there due.there).memory_is
+
+  -- what was written of the world is what is written of the guest
+  calls_are : create_calls c.names.mem_file_path c.head (flat_of w.pages).bytes c.names.snapshot_path c.body
+      ≡ calls_of c.names.mem_file_path c.names.snapshot_path (next_identity m) due.copy due.guest.memory.bytes
+  calls_are = λ i.
+      create_calls c.names.mem_file_path (due.head_is i) (memory_is i).bytes c.names.snapshot_path (due.body_is i)
+
+  abbrev end : Machine
+  end = created m due.guest.memory.bytes c.names due.copy
+
+  pub create_does : files.Creates c.names.mem_file_path c.head (flat_of w.pages).bytes c.names.snapshot_path c.body known left
+      → RequestStep flat.Outcome.Answered given m (reply_line no_content) end × IsMachine (created_after c live) left end
+  create_does wrote = (
+    answered live known m end given (Ok (change.CreateSnapshot c.names)) (reply_line no_content)
+        (ap (λ (r : Result Change Refusal). r >>= by_files m) due.asks) refl
+        (subst (λ (o : Option Guest). Creates o m c.names end) (sym due.there) (due.copy, due.copied, refl)),
+    record {
+      own = record {
+        id_is = is.own.id_is;
+        ids_is = λ i. record {
+          lineage = (is.own.ids_is i).lineage;
+          base = Some (due.identity_is i);
+          next = due.next_is i;
+        };
+        config_is = is.own.config_is;
+        guest_is = is.own.guest_is;
+        paused_is = is.own.paused_is;
+      };
+      files = record {
+        saved_is = wrote.saved ∙ (λ i. insert (insert (is.files.saved_is i) c.names.mem_file_path
+            (1 ∷ due.head_is i ++ (memory_is i).bytes)) c.names.snapshot_path (1 ∷ due.body_is i));
+        calls_is = wrote.calls ∙ (λ i. is.files.calls_is i ++ calls_are i);
+      };
+    },
+  )
+
+  abbrev stopped : Machine
+  stopped = record m { saved = left.saved; calls = left.calls; ids = spent m }
+
+  pub create_fails : files.CreatesPart c.names.mem_file_path c.head (flat_of w.pages).bytes c.names.snapshot_path c.body known left
+      → RequestStep (flat.Outcome.Failed (left_by left)) given m (reply_line (refused refusal.OutsideFailed)) stopped
+      × IsMachine (failed_after c live) left stopped
+  create_fails part = (
+    (
+      change.CreateSnapshot c.names,
+      due.asks,
+      subst (λ (o : Option Guest). CreateFails o m c.names (left_by left) stopped) (sym due.there) (
+        due.copy,
+        due.copied,
+        (λ name nm ns. part.others name nm ns ∙ ap (λ (s : Saved). get s name) is.files.saved_is),
+        subst (λ (b : List FileCall). MakesFront (calls_of c.names.mem_file_path c.names.snapshot_path (next_identity m) due.copy due.guest.memory.bytes) b left.calls) is.files.calls_is
+            (subst (λ (script : List FileCall). MakesFront script known.calls left.calls) calls_are part.calls),
+        refl,
+      ),
+      refl,
+    ),
+    record {
+      own = record {
+        id_is = is.own.id_is;
+        ids_is = λ i. record {
+          lineage = (is.own.ids_is i).lineage;
+          base = (is.own.ids_is i).base;
+          next = due.next_is i;
+        };
+        config_is = is.own.config_is;
+        guest_is = is.own.guest_is;
+        paused_is = is.own.paused_is;
+      };
+      files = record { saved_is = refl; calls_is = refl };
+    },
+  )
+
+-- files that were called by names, bytes and pages that are these
+pub same_create : (memory head state body m h s b : List ℕ) (pages g : List PageValue) (known left : FilesKnown) → memory ≡ m
+    → head ≡ h → pages ≡ g → state ≡ s → body ≡ b → files.Creates memory head (flat_of pages).bytes state body known left
+    → files.Creates m h (flat_of g).bytes s b known left
+same_create memory head state body m h s b pages g known left em eh eg es eb wrote = record {
+  saved = wrote.saved
+      ∙ (λ i. insert (insert known.saved (em i) (1 ∷ eh i ++ (flat_of (eg i)).bytes)) (es i) (1 ∷ eb i));
+  calls = wrote.calls ∙ (λ i. known.calls ++ create_calls (em i) (eh i) (flat_of (eg i)).bytes (es i) (eb i));
+}
+
+pub same_part : (memory head state body m h s b : List ℕ) (pages g : List PageValue) (known left : FilesKnown) → memory ≡ m
+    → head ≡ h → pages ≡ g → state ≡ s → body ≡ b → files.CreatesPart memory head (flat_of pages).bytes state body known left
+    → files.CreatesPart m h (flat_of g).bytes s b known left
+same_part memory head state body m h s b pages g known left em eh eg es eb part = record {
+  others = λ name nm ns. part.others name (λ e. nm (e ∙ em)) (λ e. ns (e ∙ es));
+  calls = subst (λ (script : List FileCall). MakesFront script known.calls left.calls)
+      (λ i. create_calls (em i) (eh i) (flat_of (eg i)).bytes (es i) (eb i)) part.calls;
+}
+
+-- what is due is answered so
+module _ (c : Creation) (live after : LiveMachine) (w : WorldValue) (text written : List ℕ) (known left : FilesKnown) (given : Next)
+    (there : live.guest ≡ Some w) (due : Tells known.health → (m : Machine) → IsMachine live known m → IsCreate c m given) where
+  pub is_written : after ≡ created_after c live → written ≡ text ++ reply_line no_content → left.health.faults ≡ known.health.faults
+      → (Tells known.health
+      → files.Creates c.names.mem_file_path c.head (flat_of w.pages).bytes c.names.snapshot_path c.body known left)
+      → Replies given Outcome.Answered live after text written known left
+  is_written leaves writes faults wrote = record {
+    cause = faults;
+    reply = reply_line no_content;
+    writes = writes;
+    went = λ told m is.
+        let does = create_does c live w known left m given there is (due told m is) (wrote told) in (
+          end c live w known left m given there is (due told m is),
+          does.0,
+          subst (λ (l : LiveMachine). IsMachine l left (end c live w known left m given there is (due told m is))) (sym leaves) does.1,
+        );
+  }
+
+  pub is_unwritten : after ≡ failed_after c live → written ≡ text ++ reply_line (refused refusal.OutsideFailed)
+      → Rose known.health.faults left.health.faults
+      → (Tells known.health
+      → files.CreatesPart c.names.mem_file_path c.head (flat_of w.pages).bytes c.names.snapshot_path c.body known left)
+      → Replies given Outcome.Failed live after text written known left
+  is_unwritten leaves writes rose part = record {
+    cause = rose;
+    reply = reply_line (refused refusal.OutsideFailed);
+    writes = writes;
+    went = λ told m is.
+        let does = create_fails c live w known left m given there is (due told m is) (part told) in (
+          stopped c live w known left m given there is (due told m is),
+          does.0,
+          subst (λ (l : LiveMachine). IsMachine l left (stopped c live w known left m given there is (due told m is))) (sym leaves) does.1,
+        );
+  }

@@ -1,0 +1,19 @@
+use Rattle.std.proofs.Common.{refl}
+use Rattle.monitor_machine.proofs.Creating.{is_unwritten, is_written, same_create, same_part}
+use Rattle.monitor_machine.proofs.machine.LiveMachine.answer_create.Goals as goal
+
+pub returns-in-Ok-written-clause-ok : goal.returns-in-Ok-written-clause-ok
+returns-in-Ok-written-clause-ok g c = λ given due.
+    let known = g.F.Files.known in
+    is_written c.args.creation c.args.self.now _ c.in-Some.guest c.args.text.now c.in-Ok.texts.done (known c.args.files.now)
+    (known c.create-written.new.files) given c.in-Some.is due refl c.in-Ok.ensures.done c.in-Ok-written.ensures.called.kept
+    (λ told. same_create _ _ _ _ _ _ _ _ _ _ _ _ c.as_str-2.ensures c.as_slice.ensures c.pages.ensures.pages c.as_str.ensures
+    c.as_slice-2.ensures (c.in-Ok-written.ensures.created told))
+
+pub returns-clause-ok : goal.returns-clause-ok
+returns-clause-ok g c = λ given due.
+    let known = g.F.Files.known in
+    is_unwritten c.args.creation c.args.self.now _ c.in-Some.guest c.args.text.now c.in-Ok.texts.failed (known c.args.files.now)
+    (known c.create-written.new.files) given c.in-Some.is due refl c.in-Ok.ensures.failed c.in-Err.ensures.called.failed
+    (λ told. same_part _ _ _ _ _ _ _ _ _ _ _ _ c.as_str-2.ensures c.as_slice.ensures c.pages.ensures.pages c.as_str.ensures
+    c.as_slice-2.ensures (c.in-Err.ensures.begun told))

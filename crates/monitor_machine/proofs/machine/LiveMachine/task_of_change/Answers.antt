@@ -1,0 +1,17 @@
+use Rattle.std.proofs.Common.{ap, ◌∙◌, Ok}
+use Rattle.monitor_machine.proofs.Plans.{restore_plan, start_plan}
+use Rattle.monitor_machine.proofs.machine.LiveMachine.task_of_change.Goals as goal
+
+pub returns-in-Start-clause-task : goal.returns-in-Start-clause-task
+returns-in-Start-clause-task g c = λ told m is given asks.
+    start_plan c.start.result c.args.self.now (g.F.Files.known c.args.files.now) m given is (asks ∙ ap Ok c.in-Start.is)
+    (c.start.ensures.gives told)
+
+pub returns-in-LoadSnapshot-clause-task : goal.returns-in-LoadSnapshot-clause-task
+returns-in-LoadSnapshot-clause-task g c = λ told m is given asks.
+    restore_plan c.restore.result c.in-LoadSnapshot.load c.args.self.now (g.F.Files.known c.args.files.now) m given is
+    (asks ∙ ap Ok c.in-LoadSnapshot.is) (c.restore.ensures.gives told)
+
+pub returns-in-CreateSnapshot-clause-task : goal.returns-in-CreateSnapshot-clause-task
+returns-in-CreateSnapshot-clause-task g c = λ told m is given asks.
+    c.task_of_create.ensures.task (g.F.Files.known c.args.files.now) m is given (asks ∙ ap Ok c.in-CreateSnapshot.is)

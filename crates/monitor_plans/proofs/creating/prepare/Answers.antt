@@ -1,0 +1,14 @@
+use Rattle.std.proofs.Common.{refl}
+use Rattle.monitor_plans.proofs.creating.prepare.Goals as goal
+
+pub returns : goal.returns
+returns c = record {
+  names_is = refl;
+  identity_is = refl;
+  next_is = refl;
+  differ = c.requires;
+  copy = c.in-Ok.copy;
+  copied = c.in-Ok.ensures.copied;
+  head_is = c.in-Ok-head_of.ensures;
+  body_is = c.in-Ok-body_of.ensures;
+}

@@ -1,0 +1,116 @@
+// What a create comes to.
+ghost use Rattle.std.specs.Prelude.{◌≡◌, ◌≢◌, drop, IfOk, IfSome, IsTrue};
+ghost use Rattle.file_format.specs.Identities.{is_numbered};
+ghost use Rattle.flat_snapshot.specs.Files.{memory_head, state_body};
+ghost use Rattle.snap_state.specs.Valid.{is_valid};
+ghost use Rattle.monitor_plans.specs.Creating.{CreateGives, IsCreation};
+
+use crate::plan::{Plan, Task};
+use api_calls::SnapshotFiles;
+use api_rules::Config;
+use file_format::is_numbered;
+use snap_memory::MemHeader;
+use snap_state::{StateCopy, encode};
+use snap_writer::Room;
+use std::alloc::{AllocError, Global};
+use vm_types::{ByteList, Identity};
+use vm_world::World;
+use world_copy::copy_world;
+
+/// A create that is due: all that it writes besides the pages, and the room that this takes.
+#[derive(Drop)]
+pub struct Creation {
+    /// The two files.
+    pub names: SnapshotFiles,
+    /// What they are made under, and then the base of the machine.
+    pub identity: Identity,
+    /// The number of the snapshot after it.
+    pub next: u64,
+    /// What stands between the gate of the memory file and the pages.
+    pub head: ByteList,
+    /// What stands behind the gate of the state file.
+    pub body: ByteList,
+    pub room: Room,
+}
+
+/// What comes of a create that the machine allows, of this guest and under this identity. The two names differ.
+pub fn create(
+    alloc: Global,
+    config: &Config,
+    identity: Identity,
+    guest: &World,
+    names: SnapshotFiles,
+) -> Task
+    requires { names.mem_file_path ≢ names.snapshot_path }
+    ensures { CreateGives result config.now identity guest.now names }
+{
+    match prepare(alloc, config, identity, guest, names) {
+        Some(creation) => Task::Create(creation),
+        None => Task::Plan(Plan::NoMemory),
+    }
+}
+
+// All that a create needs, or `None` where there is no memory, or no state file can have its copy.
+fn prepare(
+    alloc: Global,
+    config: &Config,
+    identity: Identity,
+    guest: &World,
+    names: SnapshotFiles,
+) -> Option<Creation>
+    requires { names.mem_file_path ≢ names.snapshot_path }
+    ensures { IfSome result (λ creation. IsCreation creation config.now identity guest.now names) }
+{
+    if !is_numbered(identity) {
+        return None;
+    }
+    let Ok(copy) = copy_world(alloc, config, guest) else {
+        return None;
+    };
+    let Ok(head) = head_of(alloc, copy.pages, identity) else {
+        return None;
+    };
+    let Ok(body) = body_of(alloc, identity, &copy) else {
+        return None;
+    };
+    let Ok(room) = Room::new(alloc) else {
+        return None;
+    };
+    Some(Creation {
+        names,
+        identity,
+        next: identity.number + 1,
+        head,
+        body,
+        room,
+    })
+}
+
+// The bytes behind the gate, which is the first.
+fn behind_gate(alloc: Global, file: &[u8]) -> Result<ByteList, AllocError>
+    ensures { IfOk result (λ bytes. bytes ≡ drop 1 file.now) }
+{
+    match file.split_first() {
+        None => Ok(ByteList::new(alloc)),
+        Some((_, rest)) => ByteList::copy_of(alloc, rest),
+    }
+}
+
+fn head_of(alloc: Global, pages: u32, identity: Identity) -> Result<ByteList, AllocError>
+    requires { IsTrue (is_numbered identity) }
+    ensures { IfOk result (λ head. head ≡ memory_head identity pages) }
+{
+    let file = MemHeader::new(pages, identity).encode(alloc)?;
+    let head = behind_gate(alloc, &file)?;
+    Ok(head)
+}
+
+fn body_of(alloc: Global, identity: Identity, copy: &StateCopy) -> Result<ByteList, AllocError>
+    requires numbered { IsTrue (is_numbered identity) }
+    requires valid { IsTrue (is_valid copy.now) }
+    ensures { IfOk result (λ body. body ≡ state_body identity copy.now) }
+{
+    let file = encode(alloc, identity, copy)?;
+    let body = behind_gate(alloc, &file)?;
+    Ok(body)
+}

@@ -1,0 +1,56 @@
+// What a load comes to.
+ghost use Rattle.std.specs.Prelude.{◌≡◌};
+ghost use Rattle.vm_outside.specs.Filing.{SameFiles};
+ghost use Rattle.vm_outside.specs.Known.{Lasts, Tells};
+ghost use Rattle.monitor_plans.specs.Plans.{PlanCause};
+ghost use Rattle.monitor_plans.specs.Restoring.{RestoreGives};
+
+use crate::plan::Plan;
+use api_calls::SnapshotLoad;
+use api_rules::Config;
+use snap_finding::{FindError, find};
+use std::alloc::Global;
+use vm_outside::Files;
+use vm_types::Identity;
+use vm_world::World;
+use world_copy::{config_of, world_of};
+
+/// A machine that goes on from a snapshot.
+#[derive(Drop)]
+pub struct Restored {
+    /// The snapshot that it goes on from.
+    pub identity: Identity,
+    /// The number of the snapshot after it.
+    pub next: u64,
+    pub config: Config,
+    pub guest: World,
+    /// Whether it runs at once.
+    pub resumes: bool,
+}
+
+/// What comes of a load that the machine allows, by the two files that it names.
+pub fn restore<F: Files>(alloc: Global, load: &SnapshotLoad, files: &mut F) -> Plan
+    ensures gives { Tells (F.known files.old).health → RestoreGives result load.now (F.known files.old).saved }
+    ensures same { Tells (F.known files.old).health → SameFiles (F.known files.old) (F.known files.new) }
+    ensures cause { PlanCause result (F.known files.old).health.faults (F.known files.new).health.faults }
+    ensures lasts { Lasts (F.known files.old).health (F.known files.new).health }
+{
+    match find(alloc, files, &load.files) {
+        Ok(found) => {
+            let copy = found.copy;
+            let Ok(guest) = world_of(alloc, &copy, found.pages) else {
+                return Plan::NoMemory;
+            };
+            Plan::Restores(Restored {
+                identity: found.identity,
+                next: found.identity.number + 1,
+                config: config_of(copy.configuration),
+                guest,
+                resumes: load.resume_vm,
+            })
+        }
+        Err(FindError::Refused(why)) => Plan::Refused(why),
+        Err(FindError::Fault) => Plan::FilesFailed,
+        Err(FindError::OutOfMemory) => Plan::NoMemory,
+    }
+}
