@@ -1,8 +1,10 @@
 -- What is loaded is what the machine loads.
-use Rattle.std.proofs.Common.{◌≡◌, ℕ, List, length, Option, Some, None, false, refl, sym, subst, ◌∙◌, ap}
+use Rattle.std.proofs.Common.{◌≡◌, ℕ, List, length, take, Option, Some, None, false, refl, sym, subst, ◌∙◌, ap}
+use Rattle.std.proofs.Math.Seq.{take-length}
 use Rattle.std.specs.Prelude.{option_map}
 use Rattle.std.specs.FinMap.{get}
 use Rattle.vm_types.specs.Saved.{Saved}
+use Rattle.vm_outside.specs.Filing.{IsReadAt}
 use Rattle.api_calls.specs.declared.call.BootSource.{BootSource}
 use Rattle.api_rules.specs.declared.actions.InitrdFile.{InitrdFile}
 use Rattle.api_rules.specs.declared.actions.InitrdFile.TheVariants as initrd
@@ -28,12 +30,12 @@ loads_are config image disk initrd place tree lent w e p t l world =
     subst (λ (ls : Loads). IsWorld w (started config.machine.vcpu_count config.machine.mem_size_mib ls)) same world
 
 -- a file of this many bytes is there
-found : (g : Option (List ℕ)) (len : ℕ) (image : List ℕ) → Some len ≡ option_map length g
-    → ((content : List ℕ) → g ≡ Some content → len ≡ length content → image ≡ content) → g ≡ Some image
-found None len image e is = cc
-found (Some content) len image e is =
-    let long : len ≡ length content = cc in
-    ap Some (sym (is content refl long))
+found : (g : Option (List ℕ)) (len : ℕ) (image : List ℕ) → Some len ≡ option_map length g → length image ≡ len
+    → IsReadAt g 0 image → g ≡ Some image
+found None len image e whole is = cc
+found (Some content) len image e whole is =
+    let long : length image ≡ length content = cc in
+    ap Some (sym (is.1 ∙ ap (λ (n : ℕ). take n content) long ∙ take-length content))
 
 -- a disk that is missing refuses
 there : (config : Config) (len : ℕ) (file : InitrdFile) → None ≡ boot_refusal config (Some len) file → is_missing file ≡ false
@@ -45,10 +47,10 @@ there config len (initrd.There size) clear = refl
 pub start_gives : (config : Config) (source : BootSource) (s0 s1 s2 s3 : Saved) (path : List ℕ) (size : Option ℕ) (len : ℕ) (file : InitrdFile)
     (image lent : List ℕ) (disk : Option (List ℕ)) (w : WorldValue) → config.boot_source ≡ Some source → path ≡ source.kernel_image_path
     → size ≡ option_map length (get s0 path) → size ≡ Some len → s1 ≡ s0 → s2 ≡ s1 → s3 ≡ s2 → file ≡ file_by source.initrd_path s1
-    → None ≡ boot_refusal config (Some len) file → ((content : List ℕ) → get s2 path ≡ Some content → len ≡ length content → image ≡ content)
+    → None ≡ boot_refusal config (Some len) file → length image ≡ len → IsReadAt (get s2 path) 0 image
     → (file ≡ file_by source.initrd_path s3 → is_missing file ≡ false → disk ≡ disk_by source.initrd_path s3) → lent ≡ image
     → IsWorld w (started config.machine.vcpu_count config.machine.mem_size_mib (loads_from config lent disk)) → StartGives (plan.Starts w) config s0
-start_gives config source s0 s1 s2 s3 path size len file image lent disk w eq pe sz sl e1 e2 e3 fe clear im dk le wd =
+start_gives config source s0 s1 s2 s3 path size len file image lent disk w eq pe sz sl e1 e2 e3 fe clear whole im dk le wd =
     let size_is : size ≡ option_map length (image_in config s0) =
     sz
     ∙ ap (λ (p : List ℕ). option_map length (get s0 p)) pe
@@ -67,7 +69,7 @@ start_gives config source s0 s1 s2 s3 path size len file image lent disk w eq pe
     ap (λ (b : Option BootSource). image_by b s0) eq
     ∙ ap (λ (p : List ℕ). get s0 p) (sym pe)
     ∙ ap (λ (s : Saved). get s path) (sym (e2 ∙ e1))
-    ∙ found (get s2 path) len image sized im in
+    ∙ found (get s2 path) len image sized whole im in
     let disk_is : disk ≡ disk_in config s0 =
     dk (fe ∙ ap (file_by source.initrd_path) (sym (e3 ∙ e2))) missing
     ∙ ap (λ (s : Saved). disk_by source.initrd_path s) (e3 ∙ e2 ∙ e1)

@@ -1,5 +1,4 @@
 pub mod Creating
-pub mod Loading
 pub mod Plans
 pub mod Restoring
 pub mod Starting

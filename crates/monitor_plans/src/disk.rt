@@ -4,10 +4,10 @@ ghost use Rattle.vm_outside.specs.Filing.{SameFiles};
 ghost use Rattle.vm_outside.specs.Known.{Called, Lasts, Tells};
 ghost use Rattle.api_rules.specs.Table.{is_missing};
 ghost use Rattle.flat_machine.specs.Requests.{disk_by, file_by, file_with};
-ghost use Rattle.monitor_plans.specs.Loading.{LoadCause};
+ghost use Rattle.gate_file.specs.Reading.{FileCause};
 
-use crate::loading::{LoadError, load};
 use api_rules::{InitrdFile, initrd_len};
+use gate_file::{FileError, read_front};
 use std::alloc::Global;
 use vm_outside::{Failed, Files};
 use vm_types::{ByteList, TextList};
@@ -43,12 +43,12 @@ pub fn load_disk<F: Files>(
     files: &mut F,
     path: &Option<TextList>,
     file: InitrdFile,
-) -> Result<Option<ByteList>, LoadError>
+) -> Result<Option<ByteList>, FileError>
     ensures disk { IfOk result (λ disk. Tells (F.known files.old).health →
         file ≡ file_by path.now (F.known files.old).saved → is_missing file ≡ false →
         disk ≡ disk_by path.now (F.known files.old).saved) }
     ensures same { Tells (F.known files.old).health → SameFiles (F.known files.old) (F.known files.new) }
-    ensures cause { LoadCause result (F.known files.old).health.faults (F.known files.new).health.faults }
+    ensures cause { FileCause result (F.known files.old).health.faults (F.known files.new).health.faults }
     ensures lasts { Lasts (F.known files.old).health (F.known files.new).health }
 {
     let Some(len) = initrd_len(file) else {
@@ -57,6 +57,6 @@ pub fn load_disk<F: Files>(
     let Some(path) = path else {
         return Ok(None);
     };
-    let bytes = load(alloc, files, path.as_str(), len)?;
+    let bytes = read_front(alloc, files, path.as_str(), len)?;
     Ok(Some(ByteList::from_vec(bytes)))
 }

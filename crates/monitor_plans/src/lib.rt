@@ -2,20 +2,16 @@
 //!
 //! A `Plan` has all that the answer needs in memory, so what it asks for is done without taking any. `start` plans a
 //! start by the files of its kernel image and its disk, `create` a snapshot of a guest, and `restore` what goes on from
-//! the files of one. `load` reads a file whole.
+//! the files of one.
 #![tactic(auto)]
 
 mod creating;
 mod disk;
-mod loading;
 mod plan;
 mod restoring;
 mod starting;
-#[cfg(test)]
-mod tests;
 
 pub use creating::{Creation, create};
-pub use loading::{LoadError, load, zeros};
 pub use plan::{Plan, Task, done_line};
 pub use restoring::{Restored, restore};
 pub use starting::start;

@@ -11,13 +11,13 @@ ghost use Rattle.monitor_plans.specs.Plans.{PlanCause};
 ghost use Rattle.monitor_plans.specs.Starting.{StartGives};
 
 use crate::disk::{disk_file, load_disk};
-use crate::loading::{LoadError, load};
 use crate::plan::Plan;
 use api_calls::MachineConfig;
 use api_rules::{Config, boot_refusal};
 use boot_loader::Loads;
 use devtree::{InitrdPlace, write_tree};
 use flat_guest::MOST_MIB;
+use gate_file::{FileError, read_front};
 use guest_memory::initrd_start;
 use refusals::Refusal;
 use std::alloc::Global;
@@ -51,18 +51,18 @@ pub fn start<F: Files>(alloc: Global, config: &Config, files: &mut F) -> Plan
     if let Some(why) = boot_refusal(config, size, file) {
         return Plan::Refused(why);
     }
-    let image = match load(alloc, files, path, len) {
+    let image = match read_front(alloc, files, path, len) {
         Ok(image) => image,
-        Err(LoadError::Failed) => return Plan::FilesFailed,
-        Err(LoadError::NoMemory) => return Plan::NoMemory,
+        Err(FileError::Fault) => return Plan::FilesFailed,
+        Err(FileError::OutOfMemory) => return Plan::NoMemory,
     };
     match load_disk(alloc, files, &source.initrd_path, file) {
         Ok(disk) => match guest_of(alloc, config, &image, &disk) {
             Some(guest) => Plan::Starts(guest),
             None => Plan::NoMemory,
         },
-        Err(LoadError::Failed) => Plan::FilesFailed,
-        Err(LoadError::NoMemory) => Plan::NoMemory,
+        Err(FileError::Fault) => Plan::FilesFailed,
+        Err(FileError::OutOfMemory) => Plan::NoMemory,
     }
 }
 

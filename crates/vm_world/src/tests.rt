@@ -1,11 +1,9 @@
-// A start, its events one at a time and as a run, and bytes at the ends of pages and of RAM.
+// A start, and its events one at a time and as a run.
 use crate::step_error::refusal_of;
-use crate::{NoActor, NotRam, StepError, World};
+use crate::{NoActor, StepError, World};
 use boot_loader::Loads;
 use std::test::Fail;
-use vm_types::{
-    ActorId, AmoKind, BoardOp, Op, OutOp, Piece, PlaceId, Reply, is_same_op, is_same_reply,
-};
+use vm_types::{ActorId, BoardOp, Op, OutOp, Piece, PlaceId, Reply, is_same_op, is_same_reply};
 
 const H0: ActorId = ActorId::Hart(0);
 
@@ -146,99 +144,6 @@ fn what_is_no_event_is_refused(rt: HostRuntime) -> Result<(), Fail> {
     ] {
         assert_eq!(rt; refusal_of(&op, &given), why, "{op:?}");
     }
-    Ok(())
-}
-
-#[test]
-fn bytes_are_in_one_page_or_nowhere(rt: HostRuntime) -> Result<(), Fail> {
-    let world = World::start(rt.alloc(), 2, 4, &alone(&PUTS_A_AND_ENDS))?;
-    let amo = Op::Amo {
-        at: 0x8000_0ffc,
-        value: 1,
-        kind: AmoKind::Add,
-        wide: true,
-    };
-    for (op, place) in [
-        (
-            Op::Read {
-                at: 0x8000_0000,
-                len: 1,
-            },
-            PlaceId::Page(0),
-        ),
-        (
-            Op::Read {
-                at: 0x803f_ffff,
-                len: 1,
-            },
-            PlaceId::Page(1023),
-        ),
-        (
-            Op::Read {
-                at: 0x803f_ffff,
-                len: 2,
-            },
-            PlaceId::Out,
-        ),
-        (
-            Op::Read {
-                at: 0x8040_0000,
-                len: 1,
-            },
-            PlaceId::Out,
-        ),
-        (
-            Op::Read {
-                at: 0x7fff_ffff,
-                len: 1,
-            },
-            PlaceId::Out,
-        ),
-        (
-            Op::Read {
-                at: 0x8000_0ffc,
-                len: 4,
-            },
-            PlaceId::Page(0),
-        ),
-        (
-            Op::Read {
-                at: 0x8000_0ffd,
-                len: 4,
-            },
-            PlaceId::Out,
-        ),
-        (amo, PlaceId::Out),
-        (Op::Board(BoardOp::Look), PlaceId::Board),
-        (Op::Idle, PlaceId::Out),
-    ] {
-        assert_eq!(rt; world.route(&op), place, "{op:?}");
-    }
-    Ok(())
-}
-
-#[test]
-fn memory_is_read_over_the_ends_of_pages_and_not_past_its_own(rt: HostRuntime) -> Result<(), Fail> {
-    let mut image = [0; 4100];
-    image[4094..].copy_from_slice(&[1, 2, 3, 4, 5, 6]);
-    let world = World::start(rt.alloc(), 2, 4, &alone(&image))?;
-    for (at, read, bytes) in [
-        (0x8020_0ffd, Ok(()), [0, 1, 2, 3]),
-        (0x8020_0fff, Ok(()), [2, 3, 4, 5]),
-        (0x8020_1001, Ok(()), [4, 5, 6, 0]),
-        (0x8000_0000, Ok(()), [0, 0, 0, 0]),
-        (0x803f_fffc, Ok(()), [0, 0, 0, 0]),
-        (0x803f_fffd, Err(NotRam), [9, 9, 9, 9]),
-        (0x7fff_ffff, Err(NotRam), [9, 9, 9, 9]),
-        (0xffff_ffff_ffff_ffff, Err(NotRam), [9, 9, 9, 9]),
-    ] {
-        let mut out = [9; 4];
-        assert_eq!(rt; world.read_memory(at, &mut out), read, "{at}");
-        assert_eq!(rt; out, bytes, "{at}");
-    }
-    let mut whole = [9; 4100];
-    assert_eq!(rt; world.read_memory(0x8020_0000, &mut whole), Ok(()));
-    assert!(rt; whole == image);
     Ok(())
 }
 

@@ -11,7 +11,7 @@ ghost use Rattle.script_output.specs.Output.{console_line};
 use crate::answering::{reply_given, take_reply};
 use crate::machine::LiveMachine;
 use crate::waiting::{steps_line, waits_room};
-use monitor_plans::zeros;
+use gate_file::zeros;
 use script_output::console_line;
 use script_text::{HostReply, Misfit, memory_line, misfit_line, register_line};
 use std::alloc::{AllocError, Global};

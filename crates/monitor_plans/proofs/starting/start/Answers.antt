@@ -5,10 +5,10 @@ pub returns-in-Some-guest_of-clause-gives : goal.returns-in-Some-guest_of-clause
 returns-in-Some-guest_of-clause-gives g c t =
     let t1 = c.in-Ok.ensures.called.lasts.still t in
     let t2 = c.in-Ok-disk_file.ensures.called.lasts.still t1 in
-    let t3 = c.in-Ok-load.ensures.lasts.still t2 in
+    let t3 = c.in-Ok-read_front.ensures.lasts.still t2 in
     start_gives c.args.config.now c.in-Some.source _ _ _ _ c.as_str-path.result.now c.in-Ok.size c.in-Some-size.len c.in-Ok-disk_file.file
-    c.in-Ok-load.image.items c.deref.result.now c.in-Ok-load_disk.disk c.in-Some-guest_of.guest
+    c.in-Ok-read_front.image.items c.deref.result.now c.in-Ok-load_disk.disk c.in-Some-guest_of.guest
     c.in-Some.is c.as_str-path.ensures (c.in-Ok.ensures.size t) c.in-Some-size.is
-    (c.in-Ok.ensures.same t).saved (c.in-Ok-disk_file.ensures.same t1).saved (c.in-Ok-load.ensures.same t2).saved
-    (c.in-Ok-disk_file.ensures.file t1) c.in_default-boot_refusal.ensures (c.in-Ok-load.ensures.bytes t2)
+    (c.in-Ok.ensures.same t).saved (c.in-Ok-disk_file.ensures.same t1).saved (c.in-Ok-read_front.ensures.same t2).saved
+    (c.in-Ok-disk_file.ensures.file t1) c.in_default-boot_refusal.ensures c.in-Ok-read_front.ensures.size (c.in-Ok-read_front.ensures.bytes t2)
     (c.in-Ok-load_disk.ensures.disk t3) c.deref.ensures.value c.in-Some-guest_of.ensures
