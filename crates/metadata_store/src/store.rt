@@ -1,8 +1,8 @@
 // The store.
-ghost use Rattle.std.specs.Prelude.{◌≡◌, Ok, Err, IfOk, OnOk, OnErr, IfErr};
+ghost use Rattle.std.specs.Prelude.{◌≡◌, false, Ok, IfOk, OnOk, OnErr, IfErr};
 ghost use Rattle.serde_json.specs.Data.{null};
 ghost use Rattle.serde_json.specs.View.{view};
-ghost use Rattle.serde_json.specs.Written.{compact_text};
+ghost use Rattle.serde_json.specs.Written.{compact_text, has_float};
 ghost use Rattle.metadata_store.specs.Store.{put, patched, Refuses};
 
 use crate::error::StoreError;
@@ -82,9 +82,10 @@ impl Store {
         Ok(ByteList::from_vec(text.into_bytes()))
     }
 
-    /// What is stored.
+    /// What is stored: no number in it is a float.
     pub fn value(&self) -> &Value
-        ensures { view result.now ≡ self.now }
+        ensures value { view result.now ≡ self.now }
+        ensures whole { has_float self.now ≡ false }
     {
         &self.value
     }
