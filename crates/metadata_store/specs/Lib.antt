@@ -1,0 +1,3 @@
+pub mod Code
+pub mod MergePatch
+pub mod Store
