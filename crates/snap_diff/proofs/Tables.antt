@@ -4,9 +4,9 @@ use Rattle.std.specs.Prelude.{nat_le, nat_lt, slice_get}
 use Rattle.std.specs.List.{AllByRecursion}
 use Rattle.std.specs.Int.{w32, from_le_bytes}
 use Rattle.std.proofs.lemmas.Bool.{cases_lt, lt-ltb, le-leb, lt-leb, and_right, le-ltb}
-use Rattle.std.proofs.lemmas.List.{get_or-append-add, get_or-drop, get_or-take, get_or_past, drop_all, length-drop, length-take, length-take-le, take-append-drop}
+use Rattle.std.proofs.lemmas.List.{append-nil, get_or-append-add, get_or-drop, get_or-take, get_or_past, drop_all, length-drop, length-take, length-take-le, take-append-drop}
 use Rattle.file_format.specs.Format.{IsBytes}
-use Rattle.file_format.specs.Kinds.{number32}
+use Rattle.file_format.specs.Kinds.{number32, times}
 use Rattle.file_format.specs.Laws.{wide32}
 use Rattle.snap_diff.specs.Copies.{rises}
 use Rattle.snap_diff.specs.Diffs.{IsTable, table_bytes}
@@ -71,13 +71,13 @@ all_risen pages low i numbers end = ap (λ (l : List ℕ). rises pages low l) (d
 
 -- ---- each four bytes are a number
 
-bytes_behind : (given : List ℕ) → IsBytes given → IsBytes (drop 4 given)
-bytes_behind given bytes i = subst (λ (n : ℕ). n < 256) (sym (get_or-drop 4 given i 0)) (bytes (4 + i))
+pub bytes_behind : (n : ℕ) (given : List ℕ) → IsBytes given → IsBytes (drop n given)
+bytes_behind n given bytes i = subst (λ (b : ℕ). b < 256) (sym (get_or-drop n given i 0)) (bytes (n + i))
 
-bytes_before : (given : List ℕ) → IsBytes given → IsBytes (take 4 given)
-bytes_before given bytes i = elim (cases_lt i 4) [
-  | inl lt ↦ subst (λ (n : ℕ). n < 256) (sym (get_or-take 4 given i 0 lt)) (bytes i)
-  | inr le ↦ subst (λ (n : ℕ). n < 256) (sym (get_or_past (take 4 given) i 0 (omega (arith, le, length-take 4 given)))) (omega arith)
+pub bytes_front : (n : ℕ) (given : List ℕ) → IsBytes given → IsBytes (take n given)
+bytes_front n given bytes i = elim (cases_lt i n) [
+  | inl lt ↦ subst (λ (b : ℕ). b < 256) (sym (get_or-take n given i 0 lt)) (bytes i)
+  | inr le ↦ subst (λ (b : ℕ). b < 256) (sym (get_or_past (take n given) i 0 (omega (arith, le, length-take n given)))) (omega arith)
 ]
 
 one_number : (front : List ℕ) → IsBytes front → length front ≡ 4 → number32.Fits (from_le_bytes w32 front) × (number32.bytes (from_le_bytes w32 front) ≡ front)
@@ -90,8 +90,8 @@ some_numbers zero (b ∷ bs) bytes size = absurd (omega (arith, size))
 some_numbers (suc count) table bytes size =
     let front : List ℕ = take 4 table in
     let more : List ℕ = drop 4 table in
-    let rest = some_numbers count more (bytes_behind table bytes) (omega (arith, size, length-drop 4 table)) in
-    let first = one_number front (bytes_before table bytes) (length-take-le 4 table (omega (arith, size))) in (
+    let rest = some_numbers count more (bytes_behind 4 table bytes) (omega (arith, size, length-drop 4 table)) in
+    let first = one_number front (bytes_front 4 table bytes) (length-take-le 4 table (omega (arith, size))) in (
       from_le_bytes w32 front ∷ rest.0,
       (
         omega (arith, rest.1.0),
@@ -101,3 +101,18 @@ some_numbers (suc count) table bytes size =
         },
       ),
     )
+
+-- ---- a table that is read
+
+pub table_reads : (numbers : List ℕ) (count : ℕ) → AllByRecursion number32.Fits numbers → length numbers ≡ count
+    → (times count number32).reads (table_bytes numbers) ≡ Some (numbers, [])
+unfolding times
+table_reads numbers count fit size =
+    ap (times count number32).reads (sym (append-nil (table_bytes numbers))) ∙ (times count number32).again numbers [] (size, fit)
+
+pub table_only : (count : ℕ) (table numbers left : List ℕ) → IsBytes table → (times count number32).reads table ≡ Some (numbers, left)
+    → (length numbers ≡ count) × (AllByRecursion number32.Fits numbers × (table ≡ table_bytes numbers ++ left))
+unfolding times
+table_only count table numbers left bytes read =
+    let takes = (times count number32).only table numbers left bytes read in
+    (takes.0.0, (takes.0.1, takes.1))

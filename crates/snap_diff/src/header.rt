@@ -7,7 +7,7 @@ ghost use Rattle.snap_diff.specs.Diffs.{Begins, Found, IsDiffFile, table_bytes};
 ghost use Rattle.snap_diff.specs.Headers.{copy_with, header, is_header, magic};
 
 use file_format::{
-    DecodeError, Input, ReadError, Stored, is_closed, is_numbered, is_other, read_fixed,
+    DecodeError, Input, ReadError, Stored, is_closed, is_numbered, is_other, is_same, read_fixed,
     read_zeros, write_fixed, write_items, write_zeros,
 };
 use std::alloc::{AllocError, Global};
@@ -115,7 +115,6 @@ impl DiffHeader {
     {
         is_numbered(self.parent)
             && is_numbered(self.identity)
-            && !(self.parent.lineage == self.identity.lineage
-                && self.parent.number == self.identity.number)
+            && !is_same(self.parent, self.identity)
     }
 }
