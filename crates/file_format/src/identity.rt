@@ -1,6 +1,6 @@
 // What names a snapshot, as files have it.
 ghost use Rattle.std.specs.Prelude.{◌≡◌};
-ghost use Rattle.file_format.specs.Identities.{identity, is_numbered};
+ghost use Rattle.file_format.specs.Identities.{identity, is_numbered, is_same};
 
 use crate::error::ReadError;
 use crate::input::Input;
@@ -29,4 +29,11 @@ pub fn is_numbered(identity: Identity) -> bool
     ensures { result ≡ is_numbered identity }
 {
     0 < identity.number && identity.number < 0x8000_0000_0000_0000
+}
+
+/// Whether both name one snapshot.
+pub fn is_same(a: Identity, b: Identity) -> bool
+    ensures { result ≡ is_same a b }
+{
+    a.lineage == b.lineage && a.number == b.number
 }

@@ -18,7 +18,7 @@ mod stored;
 
 pub use error::{DecodeError, ReadError};
 pub use fixed::{read_fixed, read_zeros, write_fixed, write_zeros};
-pub use identity::is_numbered;
+pub use identity::{is_numbered, is_same};
 pub use input::Input;
 pub use items::Items;
 pub use lists::{read_into, read_items, write_items};

@@ -1,0 +1,7 @@
+pub mod Bases
+pub mod Merges
+pub mod Calls
+pub mod Plans
+pub mod Rebasing
+pub mod Answering
+pub mod Memories

@@ -1,0 +1,40 @@
+-- What a rebase answers, and what it leaves of files that tell what they hold.
+use Rattle.std.specs.Prelude.{◌≡◌, ◌⊎◌, ℕ, List, Some, Result, Ok, Err}
+use Rattle.std.specs.FinMap.{get}
+use Rattle.vm_types.specs.Causes.{Rose}
+use Rattle.vm_outside.specs.Filing.{SameFiles}
+use Rattle.vm_outside.specs.Known.{FilesKnown}
+use Rattle.gate_file.specs.Runs.{RunsAll, RunsPart}
+use Rattle.snapshot_merge.specs.declared.error.RebaseError.{RebaseError}
+use Rattle.snapshot_merge.specs.declared.error.RebaseError.TheVariants.{Refused, Fault, OutOfMemory}
+use Rattle.snapshot_merge.specs.Calls.{calls_of, stages, text_after}
+use Rattle.snapshot_merge.specs.Plans.{Plan, planned_in}
+
+-- all that is left of the merge was done: the base holds what its stages make of it, and nothing else changed
+pub record Merges (base diff : List ℕ) (old new : FilesKnown) : Type 0 where
+  pub plan : Plan
+  pub text : List ℕ
+  pub planned : planned_in old.saved base diff ≡ Ok plan
+  pub there : get old.saved base ≡ Some text
+  pub runs : RunsAll base (calls_of base (stages plan.merge plan.diff) text) (text_after (stages plan.merge plan.diff) text) old new
+
+-- a call of it failed: the first were done, and every name but the base's holds what it held
+pub record MergesPart (base diff : List ℕ) (old new : FilesKnown) : Type 0 where
+  pub plan : Plan
+  pub text : List ℕ
+  pub planned : planned_in old.saved base diff ≡ Ok plan
+  pub there : get old.saved base ≡ Some text
+  pub runs : RunsPart base (calls_of base (stages plan.merge plan.diff) text) old new
+
+-- A refusal is the first that fits, and nothing is written then. A call that failed may have been one that reads.
+abbrev pub Rebases : {T : Type 0} → List ℕ → List ℕ → Result T RebaseError → FilesKnown → FilesKnown → Type 0
+Rebases base diff (Ok done) old new = Merges base diff old new
+Rebases base diff (Err (Refused why)) old new = (planned_in old.saved base diff ≡ Err why) × SameFiles old new
+Rebases base diff (Err Fault) old new = SameFiles old new ⊎ MergesPart base diff old new
+Rebases base diff (Err OutOfMemory) old new = SameFiles old new
+
+-- a failure has a fault, and what did not come to one has none
+abbrev pub RebaseCause : {T : Type 0} → Result T RebaseError → ℕ → ℕ → Type 0
+RebaseCause (Ok it) before now = now ≡ before
+RebaseCause (Err Fault) before now = Rose before now
+RebaseCause (Err why) before now = now ≡ before
