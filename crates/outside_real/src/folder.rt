@@ -4,24 +4,33 @@ ghost use Rattle.vm_outside.specs.Known.{Called};
 ghost use Rattle.outside_real.specs.Counting.{CountsFailure};
 
 use crate::counted::counted;
+use crate::entered::Entered;
 use crate::named_file;
-use std::rt;
+use std::{io, rt};
 use vm_outside::{Failed, Files};
 
 /// Files whose names are paths, the relative ones from the folder that the program runs in. Only
 /// regular files are read, written or made: a directory, a FIFO or a device under the name is a
 /// failure, and so is a name with a NUL byte. A link is followed.
+///
+/// A folder is synced where a file is made, and when a file that was there before is first synced: from then on its
+/// name is known to be on disk, and a sync is of the file alone.
 #[derive(Drop)]
 pub struct Folder<'a, R> {
     rt: &'a R,
+    entered: Entered,
     faults: u64,
 }
 
-impl<'a, R: rt::Files> Folder<'a, R> {
+impl<'a, R: rt::Files + AllocGlobal> Folder<'a, R> {
     pub fn new(rt: &'a R) -> Folder<'a, R>
         ensures { (⟦<Folder<'a, R> as Files>⟧.known result).health.faults ≡ 0 }
     {
-        Folder { rt, faults: 0 }
+        Folder {
+            rt,
+            entered: Entered::new(rt.alloc()),
+            faults: 0,
+        }
     }
 
     /// How many calls have failed. It stays at its last value.
@@ -32,7 +41,7 @@ impl<'a, R: rt::Files> Folder<'a, R> {
     }
 }
 
-impl<'a, R: rt::Files> Files for Folder<'a, R> {
+impl<'a, R: rt::Files + AllocGlobal> Files for Folder<'a, R> {
     ghost use Rattle.std.specs.Prelude.{[]};
     ghost use Rattle.outside_real.specs.Counting.{untold};
     ghost use Rattle.vm_types.specs.Saved.{nothing_saved};
@@ -80,15 +89,35 @@ impl<'a, R: rt::Files> Files for Folder<'a, R> {
         ensures called { Called (⟦<Folder<'a, R> as Files>⟧.known self.old).health
             (⟦<Folder<'a, R> as Files>⟧.known self.new).health result }
     {
-        counted(&mut self.faults, named_file::sync(self.rt, name))
+        counted(&mut self.faults, sync(self.rt, &mut self.entered, name))
     }
 
+    /// It waits until the disk has the empty file, and the folder's entry for it.
     fn make(&mut self, name: &str) -> Result<(), Failed>
         ensures counts { CountsFailure (⟦<Folder<'a, R> as Files>⟧.known self.old).health.faults
             (⟦<Folder<'a, R> as Files>⟧.known self.new).health.faults result }
         ensures called { Called (⟦<Folder<'a, R> as Files>⟧.known self.old).health
             (⟦<Folder<'a, R> as Files>⟧.known self.new).health result }
     {
-        counted(&mut self.faults, named_file::make(self.rt, name))
+        counted(&mut self.faults, make(self.rt, &mut self.entered, name))
     }
+}
+
+fn sync<R: rt::Files + AllocGlobal>(rt: &R, entered: &mut Entered, name: &str) -> io::Result<()> {
+    named_file::sync(rt, name)?;
+    if !entered.has(name) {
+        enter(rt, entered, name)?;
+    }
+    Ok(())
+}
+
+fn make<R: rt::Files + AllocGlobal>(rt: &R, entered: &mut Entered, name: &str) -> io::Result<()> {
+    named_file::make(rt, name)?;
+    enter(rt, entered, name)
+}
+
+fn enter<R: rt::Files + AllocGlobal>(rt: &R, entered: &mut Entered, name: &str) -> io::Result<()> {
+    named_file::sync_entry(rt, name)?;
+    entered.keep(rt.alloc(), name);
+    Ok(())
 }

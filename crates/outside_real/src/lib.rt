@@ -6,10 +6,11 @@
 //! in and go out is tested, over real files.
 //!
 //! Read `reading`, `writing` and `folder`, one for each trait, then `named_file` with the calls on one
-//! file and `tries` with the calls that a signal may cut off.
+//! file, `entered` with the names that are on disk, and `tries` with the calls that a signal may cut off.
 #![tactic(auto)]
 
 mod counted;
+mod entered;
 mod folder;
 mod named_file;
 mod reading;

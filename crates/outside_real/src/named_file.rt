@@ -49,10 +49,14 @@ pub(crate) fn write_at<R: rt::Files>(rt: &R, name: &str, at: u64, bytes: &[u8]) 
     tries::write_whole(&mut file, bytes)
 }
 
-/// Has the file on its disk, and then its name in the folder, without which the file would be lost.
+/// Has the file on its disk.
 pub(crate) fn sync<R: rt::Files>(rt: &R, name: &str) -> io::Result<()> {
     present(rt, name)?;
-    File::open(rt, name)?.sync_all()?;
+    File::open(rt, name)?.sync_all()
+}
+
+/// Has the file's name in its folder on the disk, without which the file would be lost.
+pub(crate) fn sync_entry<R: rt::Files>(rt: &R, name: &str) -> io::Result<()> {
     File::open(rt, folder_of(name))?.sync_all()
 }
 
@@ -63,9 +67,8 @@ pub(crate) fn folder_of(name: &str) -> Path<'_> {
     }
 }
 
-/// Makes a file, or empties the one that is there.
+/// Makes a file, or empties the one that is there, and has that on its disk.
 pub(crate) fn make<R: rt::Files>(rt: &R, name: &str) -> io::Result<()> {
     length(rt, name)?;
-    File::create(rt, name)?;
-    Ok(())
+    File::create(rt, name)?.sync_all()
 }

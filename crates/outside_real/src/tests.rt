@@ -1,5 +1,4 @@
-// Each adapter over real objects, and over fakes for what a real one doesn't do on demand.
-mod fakes;
+// Each adapter over real objects, and the calls below them over a file that does on demand what a real one seldom does.
 mod folder;
 mod reading;
 mod steps;

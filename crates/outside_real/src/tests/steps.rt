@@ -1,37 +1,137 @@
-// A file that gives or takes less at a time than it was asked to.
-use crate::tests::fakes::{FakeReader, FakeWriter, Step};
-use crate::tries::{fill, write_whole};
-use std::test::Fail;
+// A file that gives or takes less at a time than it was asked to, or that a signal cuts off.
+ghost use Rattle.std.specs.Prelude.{◌≤◌, IfOk};
 
-#[test]
-fn a_buffer_is_filled_piece_by_piece(rt: HostRuntime) -> Result<(), Fail> {
-    let cases: [(&[Step], bool); 4] = [
-        (&[Step::Pass(2), Step::Cut, Step::Pass(9)], true),
-        (&[Step::Pass(4)], true),
-        (&[Step::Pass(2), Step::Pass(0)], false),
-        (&[Step::Pass(3), Step::Fail], false),
-    ];
-    for (steps, filled) in cases {
-        let mut buf = [0; 4];
-        let done = fill(&mut FakeReader::new(steps, b"abcdef"), &mut buf);
-        assert!(rt; done.is_ok() == filled);
-        assert!(rt; !filled || buf == *b"abcd");
+use crate::tries::{fill, flush, write_whole};
+use std::io;
+use std::io::{ErrorKind, Read, Write};
+
+/// What one call does. Every call after the last step is cut off.
+#[derive(Clone, Copy)]
+enum Step {
+    /// At most so many bytes pass.
+    Pass(usize),
+    /// A signal cuts the call off.
+    Cut,
+    /// The call fails.
+    Fail,
+}
+
+/// Four bytes that are read or written, of which so many have passed, and the steps that are left.
+#[derive(Drop)]
+struct Stepping<'a> {
+    steps: &'a [Step],
+    bytes: [u8; 4],
+    passed: usize,
+}
+
+impl Stepping<'_> {
+    /// How many of so many bytes the next call passes.
+    fn next(&mut self, len: usize) -> io::Result<usize>
+        ensures { IfOk result (λ n. n ≤ len) }
+    {
+        let Some((step, others)) = self.steps.split_first() else {
+            return Err(io::Error::from(ErrorKind::Interrupted));
+        };
+        self.steps = others;
+        match step {
+            Step::Pass(most) => Ok((*most).min(len).min(4usize.saturating_sub(self.passed))),
+            Step::Cut => Err(io::Error::from(ErrorKind::Interrupted)),
+            Step::Fail => Err(io::Error::from(ErrorKind::InvalidData)),
+        }
     }
-    Ok(())
+}
+
+impl Read for Stepping<'_> {
+    fn read(&mut self, buf: &mut [u8]) -> io::Result<usize> {
+        let count = self.next(buf.len())?;
+        for byte in buf.iter_mut().take(count) {
+            *byte = self.bytes.get(self.passed).copied().unwrap_or(0);
+            self.passed = self.passed.saturating_add(1);
+        }
+        Ok(count)
+    }
+}
+
+impl Write for Stepping<'_> {
+    fn write(&mut self, buf: &[u8]) -> io::Result<usize> {
+        let count = self.next(buf.len())?;
+        for byte in buf.iter().take(count) {
+            if let Some(place) = self.bytes.get_mut(self.passed) {
+                *place = *byte;
+            }
+            self.passed = self.passed.saturating_add(1);
+        }
+        Ok(count)
+    }
+
+    fn flush(&mut self) -> io::Result<()> {
+        self.next(0)?;
+        Ok(())
+    }
+}
+
+#[derive(Clone, Copy)]
+enum Call {
+    Fill,
+    WriteWhole,
+    Flush,
+}
+
+/// The call, what the file does, whether the call is done, and how many bytes have passed.
+type Case<'a> = (Call, &'a [Step], bool, usize);
+
+const CASES: [Case<'_>; 11] = [
+    (
+        Call::Fill,
+        &[Step::Pass(2), Step::Cut, Step::Pass(9)],
+        true,
+        4,
+    ),
+    (Call::Fill, &[Step::Pass(4)], true, 4),
+    (Call::Fill, &[Step::Pass(2), Step::Pass(0)], false, 2),
+    (Call::Fill, &[Step::Pass(3), Step::Fail], false, 3),
+    (Call::Fill, &[Step::Pass(3)], false, 3),
+    (
+        Call::WriteWhole,
+        &[Step::Pass(2), Step::Cut, Step::Pass(9)],
+        true,
+        4,
+    ),
+    (Call::WriteWhole, &[Step::Pass(2), Step::Pass(0)], false, 2),
+    (Call::WriteWhole, &[Step::Pass(3), Step::Fail], false, 3),
+    (Call::WriteWhole, &[Step::Pass(3)], false, 3),
+    (Call::Flush, &[Step::Cut, Step::Pass(0)], true, 0),
+    (Call::Flush, &[Step::Fail], false, 0),
+];
+
+// Whether the call answers as the case says, and the bytes that have passed are the first of these four.
+fn is_met(case: &Case<'_>) -> bool {
+    let (call, steps, done, passed) = *case;
+    let mut read = [0; 4];
+    let mut file = Stepping {
+        steps,
+        bytes: [0; 4],
+        passed: 0,
+    };
+    let answer = match call {
+        Call::Fill => {
+            file.bytes = *b"abcd";
+            fill(&mut file, &mut read)
+        }
+        Call::WriteWhole => write_whole(&mut file, b"abcd"),
+        Call::Flush => flush(&mut file),
+    };
+    if let Call::WriteWhole = call {
+        read = file.bytes;
+    }
+    answer.is_ok() == done
+        && file.passed == passed
+        && read.iter().take(passed).eq(b"abcd".iter().take(passed))
 }
 
 #[test]
-fn all_bytes_are_written_piece_by_piece(rt: HostRuntime) -> Result<(), Fail> {
-    let cases: [(&[Step], bool, &[u8]); 4] = [
-        (&[Step::Pass(2), Step::Cut, Step::Pass(9)], true, b"abcd"),
-        (&[Step::Pass(4)], true, b"abcd"),
-        (&[Step::Pass(2), Step::Pass(0)], false, b"ab"),
-        (&[Step::Pass(3), Step::Fail], false, b"abc"),
-    ];
-    for (steps, whole, taken) in cases {
-        let mut writer = FakeWriter::new(steps, &[], Vec::new(rt.alloc()));
-        assert!(rt; write_whole(&mut writer, b"abcd").is_ok() == whole);
-        assert!(rt; writer.taken.as_slice() == taken);
+fn bytes_pass_piece_by_piece(rt: HostRuntime) {
+    for case in &CASES {
+        assert!(rt; is_met(case));
     }
-    Ok(())
 }
