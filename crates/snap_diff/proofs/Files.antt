@@ -81,13 +81,6 @@ module _ (given : List ℕ) (d : DiffCopy) (is : IsDiffFile given d) where
   rest_is : drop 64 given ≡ table_bytes d.numbers ++ d.bytes
   rest_is = ap (drop 64) (is.bytes ∙ bytes_of d) ∙ drop_at (header.bytes (header_of d)) (table_bytes d.numbers ++ d.bytes) 64 (fronts.length-header (header_of d))
 
-  pub front_reads : header.reads (take 64 given) ≡ Some (header_of d, [])
-  front_reads =
-      let head : List ℕ = header.bytes (header_of d) in
-      ap (λ (l : List ℕ). header.reads (take 64 l)) (is.bytes ∙ bytes_of d)
-      ∙ ap header.reads (take_at head (table_bytes d.numbers ++ d.bytes) 64 (fronts.length-header (header_of d)) ∙ sym (append-nil head))
-      ∙ header.again (header_of d) [] (parts_fit d is.fits).0
-
   rest_again : rest_read (header_of d) (table_bytes d.numbers ++ d.bytes) ≡ Ok d
   rest_again =
       let count : ℕ = length d.numbers in
@@ -99,12 +92,19 @@ module _ (given : List ℕ) (d : DiffCopy) (is : IsDiffFile given d) where
       ∙ ap (table_read (header_of d) d.bytes) (table_reads d.numbers count (parts_fit d is.fits).1.0 refl)
       ∙ ap (λ (b : Bool). cond b (Ok d) (Err refusal.BadField)) tests.1
 
+  begins_front : Begins (take 64 given) (header_of d)
+  begins_front =
+      let head : List ℕ = header.bytes (header_of d) in
+      record {
+        fits = begins.fits;
+        valid = begins.valid;
+        behind = [];
+        bytes = ap (take 64) (is.bytes ∙ bytes_of d) ∙ take_at head (table_bytes d.numbers ++ d.bytes) 64 (fronts.length-header (header_of d)) ∙ sym (append-nil head);
+      }
+
   pub found_again : diff_found (Some given) ≡ Ok d
   found_again =
-      ap (λ (b : Bool). cond b (Err refusal.GateClosed) (cond (is_other magic given) (Err refusal.WrongMagic) (header_read (drop 64 given) (header.reads (take 64 given))))) (fronts.opened given (header_of d) begins)
-      ∙ ap (λ (b : Bool). cond b (Err refusal.WrongMagic) (header_read (drop 64 given) (header.reads (take 64 given)))) (fronts.known given (header_of d) begins)
-      ∙ ap (header_read (drop 64 given)) front_reads
-      ∙ ap (λ (b : Bool). cond b (rest_read (header_of d) (drop 64 given)) (Err refusal.BadField)) tests.0
+      fronts.front_read (take 64 given) (drop 64 given) (header_of d) begins_front
       ∙ ap (rest_read (header_of d)) rest_is
       ∙ rest_again
 
@@ -174,8 +174,8 @@ header_found given d (Some (h, left)) bytes read is =
 pub found_good : (given : List ℕ) (d : DiffCopy) → IsBytes given → diff_found (Some given) ≡ Ok d → IsDiffFile given d
 found_good given d bytes is =
     let rest : Result DiffCopy Refusal = header_read (drop 64 given) (header.reads (take 64 given)) in
-    let opened = no_refusal (is_closed 64 given) refusal.GateClosed (cond (is_other magic given) (Err refusal.WrongMagic) rest) d is in
-    let known = no_refusal (is_other magic given) refusal.WrongMagic rest d opened.1 in
+    let opened = no_refusal (is_closed 64 (take 64 given)) refusal.GateClosed (cond (is_other magic (take 64 given)) (Err refusal.WrongMagic) rest) d is in
+    let known = no_refusal (is_other magic (take 64 given)) refusal.WrongMagic rest d opened.1 in
     header_found given d (header.reads (take 64 given)) bytes refl known.1
 
 -- ---- the start of a file

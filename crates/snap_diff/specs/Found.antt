@@ -27,13 +27,13 @@ abbrev pub header_read : List ℕ → Option (DiffHeader × List ℕ) → Result
 header_read rest None = Err refusal.BadField
 header_read rest (Some read) = if is_header read.0 then rest_read read.0 rest else Err refusal.BadField
 
--- shorter than its header, or its gate is closed; of another kind or version; no diff has these bytes
-abbrev pub diff_in : List ℕ → Result DiffCopy Refusal
-diff_in given =
-    if is_closed 64 given then Err refusal.GateClosed
-    else (if is_other magic given then Err refusal.WrongMagic
-    else header_read (drop 64 given) (header.reads (take 64 given)))
+-- by its first 64 bytes, and the rest: shorter than its header, or its gate is closed; of another kind or version; no
+-- diff has these bytes
+abbrev pub diff_front : List ℕ → List ℕ → Result DiffCopy Refusal
+diff_front front rest =
+    if is_closed 64 front then Err refusal.GateClosed
+    else (if is_other magic front then Err refusal.WrongMagic else header_read rest (header.reads front))
 
 abbrev pub diff_found : Option (List ℕ) → Result DiffCopy Refusal
 diff_found None = Err refusal.NoSuchFile
-diff_found (Some given) = diff_in given
+diff_found (Some given) = diff_front (take 64 given) (drop 64 given)

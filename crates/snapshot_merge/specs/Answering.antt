@@ -1,11 +1,16 @@
 -- What the parts of the code answer.
-use Rattle.std.specs.Prelude.{◌≡◌, ℕ, List, drop, length, Result, Ok, Err}
+use Rattle.std.specs.Prelude.{◌≡◌, ◌≢◌, ℕ, ◌+◌, ◌*◌, List, length, take, drop, Option, Some, None, Result, Ok, Err}
+use Rattle.std.specs.FinMap.{get}
+use Rattle.vm_types.specs.Saved.{Saved}
 use Rattle.refusals.specs.declared.refusal.Refusal.{Refusal}
 use Rattle.refusals.specs.declared.refusal.Refusal.TheVariants as refusal
-use Rattle.file_format.specs.Identities.{identity}
+use Rattle.gate_file.specs.declared.file_error.FileError.{FileError}
+use Rattle.guest_memory.specs.Ram.{page_size}
 use Rattle.file_format.specs.declared.error.DecodeError.{DecodeError}
 use Rattle.snap_diff.specs.Copies.{DiffCopy}
-use Rattle.snap_diff.specs.Diffs.{IsTable}
+use Rattle.snap_diff.specs.declared.header.DiffHeader.{DiffHeader}
+use Rattle.snap_diff.specs.Diffs.{Begins, IsTable}
+use Rattle.snap_diff.specs.Found.{diff_found}
 use Rattle.snap_diff.specs.Headers.{header_of}
 use Rattle.snapshot_merge.specs.declared.error.RebaseError.{RebaseError}
 use Rattle.snapshot_merge.specs.declared.error.RebaseError.TheVariants.{Refused, Fault, OutOfMemory}
@@ -31,11 +36,43 @@ refused_by DecodeError.WrongMagic = Refused refusal.WrongMagic
 refused_by DecodeError.BadField = Refused refusal.BadField
 refused_by DecodeError.OutOfMemory = OutOfMemory
 
--- the bytes of a diff's file before its pages
-pub record IsStartOf (start : DiffStart) (d : DiffCopy) : Type 0 where
+-- the bytes of this file before its pages, and the pages behind them
+pub record IsStartOf (given : List ℕ) (start : DiffStart) (d : DiffCopy) : Type 0 where
   pub header : start.header ≡ header_of d
   pub table : IsTable (drop 64 start.bytes.items) d.numbers
+  pub size : length d.bytes ≡ page_size * length d.numbers
+  pub pages : drop (64 + 4 * length d.numbers) given ≡ d.bytes
 
-pub record IsMergingOf (merging : Merging) (plan : Plan) : Type 0 where
+abbrev pub IsStartIn : Option (List ℕ) → DiffStart → DiffCopy → Type 0
+IsStartIn None start d = ⊥
+IsStartIn (Some given) start d = IsStartOf given start d
+
+pub record IsMergingIn (diff : Option (List ℕ)) (merging : Merging) (plan : Plan) : Type 0 where
   pub merge : merging.merge ≡ plan.merge
-  pub diff : IsStartOf merging.diff plan.diff
+  pub start : IsStartIn diff merging.diff plan.diff
+
+-- a diff's file by its first 64 bytes and its size
+abbrev pub StartJudged : List ℕ → Result DiffHeader RebaseError → Type 0
+StartJudged given (Ok h) = Begins (take 64 given) h × (length given ≡ 64 + (4 + page_size) * h.count)
+StartJudged given (Err (Refused why)) = diff_found (Some given) ≡ Err why
+StartJudged given (Err Fault) = Unit {0}
+StartJudged given (Err OutOfMemory) = Unit {0}
+
+-- why a file was not read
+abbrev pub failed_by : FileError → RebaseError
+failed_by FileError.Fault = Fault
+failed_by FileError.OutOfMemory = OutOfMemory
+
+-- a diff's file by its header and table, which are these bytes
+abbrev pub TableJudged : List ℕ → DiffHeader → List ℕ → Result (Unit {0}) RebaseError → Type 0
+TableJudged given h bytes (Ok done) =
+    (d : DiffCopy) × ((diff_found (Some given) ≡ Ok d) × (h ≡ header_of d) × IsTable (drop 64 bytes) d.numbers
+    × (length d.bytes ≡ page_size * length d.numbers) × (drop (64 + 4 * length d.numbers) given ≡ d.bytes))
+TableJudged given h bytes (Err (Refused why)) = diff_found (Some given) ≡ Err why
+TableJudged given h bytes (Err Fault) = Unit {0}
+TableJudged given h bytes (Err OutOfMemory) = Unit {0}
+
+-- the pages of a diff can be read from its file, which isn't the base
+pub record AreThere (base diff : List ℕ) (start : DiffStart) (d : DiffCopy) (saved : Saved) : Type 0 where
+  pub differ : diff ≢ base
+  pub there : IsStartIn (get saved diff) start d

@@ -1,8 +1,10 @@
 // What is found under the names of both files.
-ghost use Rattle.std.specs.Prelude.{◌≡◌};
+ghost use Rattle.std.specs.Prelude.{◌≡◌, ◌+◌, ◌*◌, List, ℕ, Some, IfOk, length, take};
 ghost use Rattle.std.specs.FinMap.{get};
+ghost use Rattle.guest_memory.specs.Ram.{page_size};
+ghost use Rattle.snap_diff.specs.Diffs.{Begins};
 ghost use Rattle.snap_diff.specs.Found.{diff_found};
-ghost use Rattle.snapshot_merge.specs.Answering.{Answers, IsMergingOf, IsStartOf, Same};
+ghost use Rattle.snapshot_merge.specs.Answering.{Answers, IsMergingIn, IsStartIn, IsStartOf, Same};
 ghost use Rattle.snapshot_merge.specs.Bases.{base_found};
 ghost use Rattle.snapshot_merge.specs.Plans.{planned_in};
 ghost use Rattle.snapshot_merge.specs.Rebasing.{RebaseCause};
@@ -10,12 +12,11 @@ ghost use Rattle.vm_outside.specs.Filing.{SameFiles};
 ghost use Rattle.vm_outside.specs.Known.{Lasts, Tells};
 
 use crate::error::RebaseError;
-use crate::judging::{judge_base, refused_by};
+use crate::judging::{failed_by, judge_base, judge_diff, judge_table};
 use crate::merge::{Merge, merge_of};
-use gate_file::{FileError, read_front, read_start};
-use guest_memory::PAGE_SIZE;
+use gate_file::{read_front, read_start};
 use refusals::Refusal;
-use snap_diff::{DiffHeader, check_table};
+use snap_diff::DiffHeader;
 use snap_memory::MemHeader;
 use std::alloc::Global;
 use vm_outside::Files;
@@ -50,7 +51,82 @@ fn find_base<F: Files>(alloc: Global, files: &mut F, name: &str) -> Result<MemHe
     match read_start(alloc, files, name, BASE_HEADER) {
         Ok(Some(start)) => judge_base(alloc, start.size, &start.bytes),
         Ok(None) => Err(RebaseError::Refused(Refusal::NoSuchFile)),
-        Err(FileError::Fault) => Err(RebaseError::Fault),
-        Err(FileError::OutOfMemory) => Err(RebaseError::OutOfMemory),
+        Err(why) => Err(failed_by(why)),
+    }
+}
+
+// A diff before its pages.
+fn find_diff<F: Files>(alloc: Global, files: &mut F, name: &str) -> Result<DiffStart, RebaseError>
+    ensures finds { Tells (F.known files.old).health →
+        Answers (IsStartIn (get (F.known files.old).saved name.now)) result
+        (diff_found (get (F.known files.old).saved name.now)) }
+    ensures size { IfOk result (λ start. length start.bytes.items ≡ 64 + 4 * start.header.count) }
+    ensures same { Tells (F.known files.old).health → SameFiles (F.known files.old) (F.known files.new) }
+    ensures cause { RebaseCause result (F.known files.old).health.faults (F.known files.new).health.faults }
+    ensures lasts { Lasts (F.known files.old).health (F.known files.new).health }
+{
+    let start = match read_start(alloc, files, name, DIFF_HEADER) {
+        Ok(Some(start)) => start,
+        Ok(None) => return Err(RebaseError::Refused(Refusal::NoSuchFile)),
+        Err(why) => return Err(failed_by(why)),
+    };
+    match judge_diff(alloc, start.size, &start.bytes) {
+        Ok(header) => read_table(alloc, files, name, header),
+        Err(why) => Err(why),
+    }
+}
+
+// The table behind a header, in a file that has as many bytes as the header says.
+fn read_table<F: Files>(
+    alloc: Global,
+    files: &mut F,
+    name: &str,
+    header: DiffHeader,
+) -> Result<DiffStart, RebaseError>
+    ensures finds { Tells (F.known files.old).health → (given : List ℕ) →
+        get (F.known files.old).saved name.now ≡ Some given → Begins (take 64 given) header →
+        length given ≡ 64 + (4 + page_size) * header.count → Answers (IsStartOf given) result (diff_found (Some given)) }
+    ensures size { IfOk result (λ start. length start.bytes.items ≡ 64 + 4 * start.header.count) }
+    ensures same { Tells (F.known files.old).health → SameFiles (F.known files.old) (F.known files.new) }
+    ensures cause { RebaseCause result (F.known files.old).health.faults (F.known files.new).health.faults }
+    ensures lasts { Lasts (F.known files.old).health (F.known files.new).health }
+{
+    let bytes = match read_front(alloc, files, name, DIFF_HEADER + 4 * header.count as u64) {
+        Ok(bytes) => bytes,
+        Err(why) => return Err(failed_by(why)),
+    };
+    match judge_table(header, &bytes) {
+        Ok(()) => Ok(DiffStart { header, bytes }),
+        Err(why) => Err(why),
+    }
+}
+
+/// What is left to do of the merge of the second file into the first, or why it is refused.
+pub(crate) fn find<F: Files>(
+    alloc: Global,
+    files: &mut F,
+    base: &str,
+    diff: &str,
+) -> Result<Merging, RebaseError>
+    ensures finds { Tells (F.known files.old).health →
+        Answers (IsMergingIn (get (F.known files.old).saved diff.now)) result
+        (planned_in (F.known files.old).saved base.now diff.now) }
+    ensures size { IfOk result (λ merging.
+        length merging.diff.bytes.items ≡ 64 + 4 * merging.diff.header.count) }
+    ensures same { Tells (F.known files.old).health → SameFiles (F.known files.old) (F.known files.new) }
+    ensures cause { RebaseCause result (F.known files.old).health.faults (F.known files.new).health.faults }
+    ensures lasts { Lasts (F.known files.old).health (F.known files.new).health }
+{
+    let header = match find_base(alloc, files, base) {
+        Ok(header) => header,
+        Err(why) => return Err(why),
+    };
+    let start = match find_diff(alloc, files, diff) {
+        Ok(start) => start,
+        Err(why) => return Err(why),
+    };
+    match merge_of(&header, &start.header) {
+        Ok(merge) => Ok(Merging { merge, diff: start }),
+        Err(why) => Err(RebaseError::Refused(why)),
     }
 }

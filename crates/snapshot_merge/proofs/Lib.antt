@@ -1,0 +1,5 @@
+pub mod Judged
+pub mod Planned
+pub mod Staged
+pub mod Paging
+pub mod Whole

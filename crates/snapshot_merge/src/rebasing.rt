@@ -1,0 +1,83 @@
+// A diff is merged into its base.
+ghost use Rattle.std.specs.Prelude.{◌≡◌, ◌+◌, ◌*◌, List, ℕ, Some, length, OnErr, OnOk};
+ghost use Rattle.std.specs.FinMap.{get};
+ghost use Rattle.file_format.specs.Identities.{identity};
+ghost use Rattle.gate_file.specs.Runs.{RunsAll, RunsPart};
+ghost use Rattle.snapshot_merge.specs.Answering.{AreThere};
+ghost use Rattle.snapshot_merge.specs.Calls.{calls_of, stages, text_after};
+ghost use Rattle.snapshot_merge.specs.Plans.{Plan};
+ghost use Rattle.snapshot_merge.specs.Rebasing.{RebaseCause, Rebases};
+ghost use Rattle.vm_outside.specs.Known.{Called, Lasts, Tells};
+
+use crate::error::RebaseError;
+use crate::finding::{Merging, find};
+use crate::merge::Merge;
+use crate::room::Room;
+use crate::stages::{begin, fill, mark};
+use std::alloc::Global;
+use vm_outside::{Failed, Files};
+
+/// Merges the diff under the second name into the memory file under the first, which then holds the copy that the diff
+/// makes of it. A merge of the two that was cut off is gone on with.
+///
+/// Errors: `Refused` by the first that fits: of the base no such file, its gate, its magic, a field, its size; then of
+/// the diff no such file, its gate, its magic, a field; then another number of pages, another merge that is unfinished,
+/// a parent that isn't the base's identity, and no slot that is left. `Fault` where a call on the files failed: the
+/// calls up to it were done, and a later call goes on. Nothing is written with `Refused` or `OutOfMemory`.
+pub fn rebase<F: Files>(
+    alloc: Global,
+    files: &mut F,
+    base: &str,
+    diff: &str,
+) -> Result<(), RebaseError>
+    ensures rebased { Tells (F.known files.old).health →
+        Rebases base.now diff.now result (F.known files.old) (F.known files.new) }
+    ensures cause { RebaseCause result (F.known files.old).health.faults (F.known files.new).health.faults }
+    ensures lasts { Lasts (F.known files.old).health (F.known files.new).health }
+{
+    let merging = match find(alloc, files, base, diff) {
+        Ok(merging) => merging,
+        Err(why) => return Err(why),
+    };
+    let Ok(mut room) = Room::new(alloc, merging.diff.header.identity) else {
+        return Err(RebaseError::OutOfMemory);
+    };
+    match merge(files, base, diff, &merging, &mut room) {
+        Ok(()) => Ok(()),
+        Err(Failed) => Err(RebaseError::Fault),
+    }
+}
+
+// The calls in their order.
+fn merge<F: Files>(
+    files: &mut F,
+    base: &str,
+    diff: &str,
+    merging: &Merging,
+    room: &mut Room,
+) -> Result<(), Failed>
+    requires name { room.old.name.items ≡ identity.bytes merging.now.diff.header.identity }
+    requires room { length room.old.page.items ≡ 4096 }
+    requires table { length merging.now.diff.bytes.items ≡ 64 + 4 * merging.now.diff.header.count }
+    ensures done { OnOk result (Tells (F.known files.old).health → (plan : Plan) (text : List ℕ) →
+        get (F.known files.old).saved base.now ≡ Some text → merging.now.merge ≡ plan.merge →
+        AreThere base.now diff.now merging.now.diff plan.diff (F.known files.old).saved →
+        RunsAll base.now (calls_of base.now (stages plan.merge plan.diff) text)
+        (text_after (stages plan.merge plan.diff) text) (F.known files.old) (F.known files.new)) }
+    ensures begun { OnErr result (Tells (F.known files.old).health → (plan : Plan) (text : List ℕ) →
+        get (F.known files.old).saved base.now ≡ Some text → merging.now.merge ≡ plan.merge →
+        AreThere base.now diff.now merging.now.diff plan.diff (F.known files.old).saved →
+        RunsPart base.now (calls_of base.now (stages plan.merge plan.diff) text)
+        (F.known files.old) (F.known files.new)) }
+    ensures called { Called (F.known files.old).health (F.known files.new).health result }
+{
+    files.sync(base)?;
+    match merging.merge {
+        Merge::Begin { slot } => {
+            begin(files, base, slot, &room.name)?;
+            fill(files, base, diff, slot, &merging.diff, &mut room.page)
+        }
+        Merge::GoOn { slot } => fill(files, base, diff, slot, &merging.diff, &mut room.page),
+        Merge::Finish => mark(files, base, 0),
+    }
+}

@@ -1,0 +1,150 @@
+// The stages of a merge: writes to the base, and a sync behind them.
+ghost use Rattle.std.specs.Prelude.{◌≡◌, ◌+◌, ◌*◌, ◌∷◌, [], List, ℕ, Some, length, OnErr, OnOk};
+ghost use Rattle.std.specs.FinMap.{get};
+ghost use Rattle.file_format.specs.Identities.{identity};
+ghost use Rattle.gate_file.specs.Runs.{RunsAll, RunsPart};
+ghost use Rattle.snap_diff.specs.Copies.{DiffCopy};
+ghost use Rattle.snapshot_merge.specs.Answering.{AreThere};
+ghost use Rattle.snapshot_merge.specs.Calls.{
+  calls_of,
+  filling,
+  marking,
+  naming,
+  page_writes,
+  slot_at,
+  stage_calls,
+  text_after,
+  written_all,
+};
+ghost use Rattle.vm_outside.specs.Known.{Called, Tells};
+
+use crate::finding::{DIFF_HEADER, DiffStart};
+use guest_memory::PAGE_SIZE;
+use snap_diff::table_page;
+use vm_outside::{Failed, Files};
+
+const BASE_HEADER: u64 = 4096;
+
+// Where the merging byte is.
+const MERGING: u64 = 32;
+
+// The place of the slot of this number.
+fn slot_at(slot: u32) -> u64
+    ensures { result ≡ slot_at slot }
+{
+    64 + 32 * slot as u64
+}
+
+// One write, and a sync.
+fn put<F: Files>(files: &mut F, name: &str, at: u64, bytes: &[u8]) -> Result<(), Failed>
+    ensures done { OnOk result (Tells (F.known files.old).health →
+        (text : List ℕ) → get (F.known files.old).saved name.now ≡ Some text →
+        RunsAll name.now (stage_calls name.now ((at, bytes.now) ∷ []) text) (written_all ((at, bytes.now) ∷ []) text)
+        (F.known files.old) (F.known files.new)) }
+    ensures begun { OnErr result (Tells (F.known files.old).health →
+        (text : List ℕ) → get (F.known files.old).saved name.now ≡ Some text →
+        RunsPart name.now (stage_calls name.now ((at, bytes.now) ∷ []) text) (F.known files.old) (F.known files.new)) }
+    ensures called { Called (F.known files.old).health (F.known files.new).health result }
+{
+    files.write_at(name, at, bytes)?;
+    files.sync(name)?;
+    Ok(())
+}
+
+/// The merging byte is set, and synced.
+pub(crate) fn mark<F: Files>(files: &mut F, base: &str, value: u8) -> Result<(), Failed>
+    ensures done { OnOk result (Tells (F.known files.old).health →
+        (text : List ℕ) → get (F.known files.old).saved base.now ≡ Some text →
+        RunsAll base.now (calls_of base.now ((marking value ∷ []) ∷ []) text) (text_after ((marking value ∷ []) ∷ []) text)
+        (F.known files.old) (F.known files.new)) }
+    ensures begun { OnErr result (Tells (F.known files.old).health →
+        (text : List ℕ) → get (F.known files.old).saved base.now ≡ Some text →
+        RunsPart base.now (calls_of base.now ((marking value ∷ []) ∷ []) text) (F.known files.old) (F.known files.new)) }
+    ensures called { Called (F.known files.old).health (F.known files.new).health result }
+{
+    put(files, base, MERGING, &[value])?;
+    Ok(())
+}
+
+/// The slot is given the diff's identity, and the merging byte says that the merge is unfinished.
+pub(crate) fn begin<F: Files>(
+    files: &mut F,
+    base: &str,
+    slot: u32,
+    name: &[u8],
+) -> Result<(), Failed>
+    ensures done { OnOk result (Tells (F.known files.old).health →
+        (text : List ℕ) → get (F.known files.old).saved base.now ≡ Some text →
+        RunsAll base.now (calls_of base.now (((slot_at slot, name.now) ∷ []) ∷ (marking 1 ∷ []) ∷ []) text)
+        (text_after (((slot_at slot, name.now) ∷ []) ∷ (marking 1 ∷ []) ∷ []) text)
+        (F.known files.old) (F.known files.new)) }
+    ensures begun { OnErr result (Tells (F.known files.old).health →
+        (text : List ℕ) → get (F.known files.old).saved base.now ≡ Some text →
+        RunsPart base.now (calls_of base.now (((slot_at slot, name.now) ∷ []) ∷ (marking 1 ∷ []) ∷ []) text)
+        (F.known files.old) (F.known files.new)) }
+    ensures called { Called (F.known files.old).health (F.known files.new).health result }
+{
+    put(files, base, slot_at(slot), name)?;
+    mark(files, base, 1)?;
+    Ok(())
+}
+
+/// The diff's pages are put in their places, then the slot's gate is opened, and at last the merge is finished.
+pub(crate) fn fill<F: Files>(
+    files: &mut F,
+    base: &str,
+    diff: &str,
+    slot: u32,
+    start: &DiffStart,
+    page: &mut [u8],
+) -> Result<(), Failed>
+    requires room { length page.old ≡ 4096 }
+    requires table { length start.now.bytes.items ≡ 64 + 4 * start.now.header.count }
+    ensures done { OnOk result (Tells (F.known files.old).health → (d : DiffCopy) (text : List ℕ) →
+        get (F.known files.old).saved base.now ≡ Some text →
+        AreThere base.now diff.now start.now d (F.known files.old).saved →
+        RunsAll base.now (calls_of base.now (filling slot d) text) (text_after (filling slot d) text)
+        (F.known files.old) (F.known files.new)) }
+    ensures begun { OnErr result (Tells (F.known files.old).health → (d : DiffCopy) (text : List ℕ) →
+        get (F.known files.old).saved base.now ≡ Some text →
+        AreThere base.now diff.now start.now d (F.known files.old).saved →
+        RunsPart base.now (calls_of base.now (filling slot d) text) (F.known files.old) (F.known files.new)) }
+    ensures called { Called (F.known files.old).health (F.known files.new).health result }
+{
+    put_pages(files, base, diff, start, page)?;
+    put(files, base, slot_at(slot) + 16, &[1])?;
+    mark(files, base, 0)?;
+    Ok(())
+}
+
+// The pages, one write each, and a sync.
+fn put_pages<F: Files>(
+    files: &mut F,
+    base: &str,
+    diff: &str,
+    start: &DiffStart,
+    page: &mut [u8],
+) -> Result<(), Failed>
+    requires room { length page.old ≡ 4096 }
+    requires table { length start.now.bytes.items ≡ 64 + 4 * start.now.header.count }
+    ensures done { OnOk result (Tells (F.known files.old).health → (d : DiffCopy) (text : List ℕ) →
+        get (F.known files.old).saved base.now ≡ Some text →
+        AreThere base.now diff.now start.now d (F.known files.old).saved →
+        RunsAll base.now (stage_calls base.now (page_writes d.numbers d.bytes) text)
+        (written_all (page_writes d.numbers d.bytes) text) (F.known files.old) (F.known files.new)) }
+    ensures begun { OnErr result (Tells (F.known files.old).health → (d : DiffCopy) (text : List ℕ) →
+        get (F.known files.old).saved base.now ≡ Some text →
+        AreThere base.now diff.now start.now d (F.known files.old).saved →
+        RunsPart base.now (stage_calls base.now (page_writes d.numbers d.bytes) text)
+        (F.known files.old) (F.known files.new)) }
+    ensures called { Called (F.known files.old).health (F.known files.new).health result }
+{
+    let pages = DIFF_HEADER + 4 * start.header.count as u64;
+    for i in 0..start.header.count {
+        let number = table_page(&start.bytes[64..], i);
+        files.read_at(diff, pages + (PAGE_SIZE as u64) * i as u64, page)?;
+        files.write_at(base, BASE_HEADER + (PAGE_SIZE as u64) * number as u64, page)?;
+    }
+    files.sync(base)?;
+    Ok(())
+}
