@@ -38,8 +38,8 @@ impl Service {
         }
     }
 
-    /// What is answered to a request at this moment of guest time, in nanoseconds; where it is given a token, this is the
-    /// token's word. An `Err` changes nothing.
+    /// What is answered to a request at this moment of guest time, in nanoseconds; where it is given a token, this is
+    /// the token's word. An `Err` changes nothing.
     ///
     /// The status is 200 with a text, or the first of these that fits: 405 for what is neither a GET nor, in version 2,
     /// a PUT that asks for a token; 400 for such a PUT that names no time to live of 1 to 21,600 seconds; 401 for a GET

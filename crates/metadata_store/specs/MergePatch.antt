@@ -20,8 +20,9 @@ remove name (member k d ms) = if bytes_eq name k then ms else member k d (remove
 abbrev pub value_at : List ℕ → Members → Data
 value_at name ms = unwrap_or (get_member name ms) null
 
--- A patch that is an object changes the target's members, and makes an object of a target that is none: a member of the
--- patch that is `null` removes the target's, and any other is merged into it. A patch that is no object takes the target's place.
+-- A patch that is an object changes the target's members, and makes an object of a target that is none: a member of
+-- the patch that is `null` removes the target's, and any other is merged into it. A patch that is no object takes the
+-- target's place.
 abbrev mutual
   pub merge_patch : Data → Data → Data
   merge_patch target null = null

@@ -1,8 +1,8 @@
 //! The metadata store: a JSON tree that a PUT replaces and a PATCH merges into.
 //!
-//! `specs/MergePatch.antt` is JSON Merge Patch on trees (RFC 7396, 2), and `specs/Store.antt` says what a PUT and a PATCH
-//! make of a store, or which refusal comes first. A store is `null` until a PUT. Contracts see a `Tree` and a `Store`
-//! as the value that their JSON stands for, which the definitions above this crate hold too.
+//! `specs/MergePatch.antt` is JSON Merge Patch on trees (RFC 7396, 2), and `specs/Store.antt` says what a PUT and a
+//! PATCH make of a store, or which refusal comes first. A store is `null` until a PUT. Contracts see a `Tree` and a
+//! `Store` as the value that their JSON stands for, which the definitions above this crate hold too.
 #![tactic(auto)]
 
 mod error;

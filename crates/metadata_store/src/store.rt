@@ -50,8 +50,8 @@ impl Store {
 
     /// Replaces what is stored. An `Err` changes nothing.
     ///
-    /// `WrongKind`: the body is no object, or a number in it is no whole number of 64 bits, signed or not. `TooLarge`: its
-    /// compact text has more than 51,200 bytes.
+    /// `WrongKind`: the body is no object, or a number in it is no whole number of 64 bits, signed or not. `TooLarge`:
+    /// its compact text has more than 51,200 bytes.
     pub fn put(&mut self, body: Tree) -> Result<(), StoreError>
         ensures ok { OnOk result (put body ≡ Ok self.new) }
         ensures refused { IfErr result (λ e. Refuses e (put body)) }
@@ -63,8 +63,8 @@ impl Store {
 
     /// Merges a patch into what is stored. An `Err` changes nothing.
     ///
-    /// `WrongKind`: the patch is none that `put` would take as a body. `StoreNotInitialized`: nothing was put yet. `TooLarge`: the
-    /// compact text of what would be stored has more than 51,200 bytes.
+    /// `WrongKind`: the patch is none that `put` would take as a body. `StoreNotInitialized`: nothing was put yet.
+    /// `TooLarge`: the compact text of what would be stored has more than 51,200 bytes.
     pub fn patch(&mut self, patch: &Tree) -> Result<(), StoreError>
         ensures ok { OnOk result (patched self.old patch.now ≡ Ok self.new) }
         ensures refused { IfErr result (λ e. Refuses e (patched self.old patch.now)) }
