@@ -14,7 +14,7 @@ use Rattle.api_calls.specs.Call.{◌>>=◌}
 use Rattle.guest_memory.specs.Ram.{page_size}
 use Rattle.gate_file.proofs.Inserts.{got_other, got_there}
 use Rattle.file_format.specs.Kinds.{fixed, number32, number64}
-use Rattle.file_format.specs.Identities.{identity, is_numbered}
+use Rattle.file_format.specs.Identities.{identity, is_numbered, is_same}
 use Rattle.file_format.specs.Starts.{is_other}
 use Rattle.snap_memory.specs.declared.header.MemHeader.{MemHeader}
 use Rattle.snap_memory.specs.Headers as memory
@@ -25,7 +25,7 @@ use Rattle.snap_state.specs.Copies.{state_copy}
 use Rattle.snap_state.specs.Files as state
 use Rattle.snap_state.proofs.Copies as copies
 use Rattle.flat_snapshot.specs.Files.{memory_file, memory_head, state_body, state_file}
-use Rattle.flat_snapshot.specs.Found.{found, is_same, memory_found, memory_front, memory_in, memory_judged, memory_read, state_found, state_in, state_read}
+use Rattle.flat_snapshot.specs.Found.{found, memory_found, memory_front, memory_in, memory_judged, memory_read, state_found, state_in, state_read}
 
 all_true : (a b c : Bool) → a ≡ true → b ≡ true → c ≡ true → (a && b && c) ≡ true
 all_true a b c p q r = rw (p, q, r) refl

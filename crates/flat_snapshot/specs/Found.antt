@@ -9,6 +9,7 @@ use Rattle.refusals.specs.declared.refusal.Refusal.TheVariants as refusal
 use Rattle.api_calls.specs.declared.call.SnapshotFiles.{SnapshotFiles}
 use Rattle.api_calls.specs.Call.{◌>>=◌}
 use Rattle.guest_memory.specs.Ram.{page_size}
+use Rattle.file_format.specs.Identities.{is_same}
 use Rattle.file_format.specs.Starts.{is_closed, is_other}
 use Rattle.snap_memory.specs.declared.header.MemHeader.{MemHeader}
 use Rattle.snap_memory.specs.Headers as memory
@@ -20,11 +21,6 @@ pub record Snapshot : Type 0 where
   pub identity : Identity
   pub copy : StateCopy
   pub bytes : List ℕ
-
--- ---- identities
-
-abbrev pub is_same : Identity → Identity → Bool
-is_same a b = (a.lineage == b.lineage) && (a.number == b.number)
 
 -- ---- the state file
 

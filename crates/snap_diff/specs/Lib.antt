@@ -1,0 +1,4 @@
+pub mod Copies
+pub mod Headers
+pub mod Diffs
+pub mod Found
