@@ -10,10 +10,12 @@ mod file_error;
 mod gate;
 mod law;
 mod reading;
+mod starting;
 mod whole;
 
 pub use file_error::FileError;
 pub use gate::{close_file, open_file};
 pub use law::any_moment;
 pub use reading::{read_file, read_front, zeros};
+pub use starting::{FileStart, read_start};
 pub use whole::save_file;

@@ -1,5 +1,6 @@
 -- Copies of a memory, and what a diff changes of one.
-use Rattle.std.specs.Prelude.{◌≡◌, ℕ, ◌*◌, ◌<◌, ◌==◌, false, List, [], ◌∷◌, length, take, drop}
+use Rattle.std.specs.Prelude.{◌≡◌, ℕ, suc, ◌*◌, ◌<◌, ◌==◌, nat_le, nat_lt, ◌&&◌, Bool, true, false, IsTrue, List, [], ◌∷◌, length}
+use Rattle.std.specs.Prelude.{take, drop}
 use Rattle.std.specs.List.{flat_map, list_any}
 use Rattle.vm_types.specs.declared.identity.Identity.{Identity}
 use Rattle.guest_memory.specs.Ram.{page_size}
@@ -71,12 +72,28 @@ overlaid_all m (d ∷ diffs) = overlaid_all (overlaid m d) diffs
 abbrev pub IsWhole : MemoryCopy → Type 0
 IsWhole m = length m.bytes ≡ page_size * m.pages
 
+-- the numbers rise strictly from this one on, and each is that of a page
+abbrev pub rises : ℕ → ℕ → List ℕ → Bool
+rises pages low [] = true
+rises pages low (number ∷ numbers) =
+    nat_le low number && nat_lt number pages && rises pages (suc number) numbers
+
+-- it has pages of a memory in rising order, and the bytes of each
+pub record IsDiff (d : DiffCopy) : Type 0 where
+  pub rise : IsTrue (rises d.pages 0 d.numbers)
+  pub size : length d.bytes ≡ page_size * length d.numbers
+
+-- one of the diff's pages is that of this number
+abbrev pub has_page : DiffCopy → ℕ → Bool
+has_page d number = list_any (λ n. n == number) d.numbers
+
 -- The second copy was made after the first, and what was written between them is in the diff's pages: the diff has these
 -- as the second copy does, and no other page differs.
 pub record IsDiffOf (old new : MemoryCopy) (d : DiffCopy) : Type 0 where
   pub pages : new.pages ≡ old.pages
+  pub rise : IsTrue (rises d.pages 0 d.numbers)
   pub written : d ≡ diff_of old.identity new d.numbers
-  pub others : (number : ℕ) → number < new.pages → list_any (λ n. n == number) d.numbers ≡ false
+  pub others : (number : ℕ) → number < new.pages → has_page d number ≡ false
       → page_at number new.bytes ≡ page_at number old.bytes
 
 -- a diff, and the whole memory as its snapshot found it
@@ -89,3 +106,8 @@ abbrev pub LeadBy : MemoryCopy → List DiffStep → MemoryCopy → Type 0
 LeadBy first [] last = first ≡ last
 LeadBy first (step ∷ steps) last =
     IsWhole step.after × IsDiffOf first step.after step.diff × LeadBy step.after steps last
+
+-- each diff is of what the ones before it make of the copy
+abbrev pub JoinAll : MemoryCopy → List DiffCopy → Type 0
+JoinAll m [] = Unit {0}
+JoinAll m (d ∷ diffs) = Joins m d × JoinAll (overlaid m d) diffs

@@ -1,26 +1,23 @@
 -- A diff file: 64 bytes of header, a table of page numbers, and the pages. Numbers are little-endian.
-use Rattle.std.specs.Prelude.{◌≡◌, ℕ, suc, nat_le, nat_lt, ◌&&◌, Bool, true, IsTrue, List, [], ◌∷◌}
+use Rattle.std.specs.Prelude.{◌≡◌, ℕ, ◌&&◌, Bool, IsTrue, if◌then◌else◌, List, ◌++◌, Result, Ok, Err}
+use Rattle.std.specs.List.{AllByRecursion, flat_map}
 use Rattle.file_format.specs.Format.{Format}
-use Rattle.file_format.specs.Kinds.{chosen_by}
-use Rattle.snap_diff.specs.Copies.{DiffCopy}
+use Rattle.file_format.specs.Kinds.{chosen_by, number32}
+use Rattle.file_format.specs.declared.error.ReadError.{ReadError}
+use Rattle.file_format.specs.declared.error.ReadError.TheVariants.{Bad, Memory}
+use Rattle.file_format.specs.declared.error.DecodeError.{DecodeError}
+use Rattle.file_format.specs.declared.error.DecodeError.TheVariants.{BadField}
+use Rattle.snap_diff.specs.declared.header.DiffHeader.{DiffHeader}
+use Rattle.snap_diff.specs.Copies.{DiffCopy, rises}
 use Rattle.snap_diff.specs.Headers.{header, header_of, is_header, behind, header_is}
 
 -- ---- the encoding
 
--- the header, as many page numbers as it says, and as many pages
+-- the header, as many page numbers as it says, and as many pages (`behind`)
 unfoldable pub diff : Format DiffCopy
-diff =
-    chosen_by header
-    behind
-    header_of header_is
+diff = chosen_by header behind header_of header_is
 
 -- ---- which diffs there are
-
--- the numbers rise strictly from this one on, and each is that of a page
-abbrev pub rises : ℕ → ℕ → List ℕ → Bool
-rises pages low [] = true
-rises pages low (number ∷ numbers) =
-    nat_le low number && nat_lt number pages && rises pages (suc number) numbers
 
 -- a header that there is, and pages of the memory in rising order
 abbrev pub is_valid : DiffCopy → Bool
@@ -31,3 +28,31 @@ pub record IsDiffFile (given : List ℕ) (d : DiffCopy) : Type 0 where
   pub fits : diff.Fits d
   pub valid : IsTrue (is_valid d)
   pub bytes : given ≡ diff.bytes d
+
+-- ---- for the parts of the code
+
+-- these bytes begin with this header, whatever follows it
+pub record Begins (given : List ℕ) (h : DiffHeader) : Type 0 where
+  pub fits : header.Fits h
+  pub valid : IsTrue (is_header h)
+  pub behind : List ℕ
+  pub bytes : given ≡ header.bytes h ++ behind
+
+-- the header at a front whose gate, magic and version were tested
+abbrev pub Found : List ℕ → Result DiffHeader ReadError → Type 0
+Found given (Ok h) = Begins given h
+Found given (Err Bad) = (h : DiffHeader) → ¬ (Begins given h)
+Found given (Err Memory) = Unit {0}
+
+-- these page numbers, one behind the other
+abbrev pub table_bytes : List ℕ → List ℕ
+table_bytes = flat_map number32.bytes
+
+-- these bytes are the table of these numbers
+pub record IsTable (table numbers : List ℕ) : Type 0 where
+  pub fit : AllByRecursion number32.Fits numbers
+  pub bytes : table ≡ table_bytes numbers
+
+-- whether its numbers rise
+abbrev pub judged : Bool → Result (Unit {0}) DecodeError
+judged rise = if rise then Ok tt else Err BadField

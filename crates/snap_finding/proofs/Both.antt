@@ -16,7 +16,7 @@ use Rattle.snap_memory.specs.declared.header.MemHeader.{MemHeader}
 use Rattle.snap_memory.specs.Headers as memory
 use Rattle.snap_state.specs.declared.copy.StateCopy.{StateCopy}
 use Rattle.flat_snapshot.specs.Found.{Snapshot, found, memory_found, memory_front, memory_judged, memory_read, state_found}
-use Rattle.snap_restore.specs.Reading.{start_of}
+use Rattle.gate_file.specs.Reading.{start_of}
 use Rattle.snap_finding.specs.declared.finding.FindError.{FindError}
 use Rattle.snap_finding.specs.declared.finding.FindError.TheVariants.{Refused, Fault, OutOfMemory}
 use Rattle.snap_finding.specs.Finding.{Answers, front_found, nothing_of, snapshot_of, state_of}

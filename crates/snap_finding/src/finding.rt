@@ -11,10 +11,10 @@ ghost use Rattle.snap_finding.specs.Finding.{Answers, FindCause, front_found, no
 
 use crate::judging::{judge_memory, judge_state};
 use api_calls::SnapshotFiles;
-use gate_file::{FileError, read_file};
+use gate_file::{FileError, read_file, read_start};
 use guest_pages::PageSet;
 use refusals::Refusal;
-use snap_restore::{load_pages, read_start};
+use snap_restore::load_pages;
 use snap_state::{Saved, StateCopy};
 use std::alloc::Global;
 use vm_outside::Files;

@@ -1,13 +1,11 @@
 //! A snapshot is read: what the two files hold, over any files, and no file is changed.
 //!
-//! `read_file` (`gate_file`) gives all of the state file; `read_start` gives the size of the memory file and the bytes
-//! of its header, and `load_pages` the pages behind it, in blocks of sixteen pages.
+//! `read_file` (`gate_file`) gives all of the state file; `read_start` (there too) gives the size of the memory file and
+//! the bytes of its header, and `load_pages` the pages behind it, in blocks of sixteen pages.
 #![tactic(auto)]
 
 mod loading;
-mod starting;
 #[cfg(test)]
 mod tests;
 
 pub use loading::load_pages;
-pub use starting::{FileStart, read_start};

@@ -1,6 +1,6 @@
 // A create of two pages and a load of them, and what is left where a call fails.
-use crate::{load_pages, read_start};
-use gate_file::read_file;
+use crate::load_pages;
+use gate_file::{read_file, read_start};
 use guest_pages::PageSet;
 use outside_mem::{Failing, MemoryFiles};
 use snap_writer::{Room, create};

@@ -2,12 +2,12 @@
 ghost use Rattle.std.specs.Prelude.{◌≡◌, IfOk};
 ghost use Rattle.std.specs.Option.{option_map};
 ghost use Rattle.std.specs.FinMap.{get};
-ghost use Rattle.gate_file.specs.Reading.{FileCause};
-ghost use Rattle.snap_restore.specs.Reading.{start_of};
+ghost use Rattle.gate_file.specs.Reading.{FileCause, start_of};
 ghost use Rattle.vm_outside.specs.Filing.{SameFiles};
 ghost use Rattle.vm_outside.specs.Known.{Lasts, Tells};
 
-use gate_file::{FileError, read_front};
+use crate::file_error::FileError;
+use crate::reading::read_front;
 use std::alloc::Global;
 use vm_outside::Files;
 

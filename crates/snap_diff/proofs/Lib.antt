@@ -1,0 +1,5 @@
+pub mod Laying
+pub mod Overlays
+pub mod Tables
+pub mod Fronts
+pub mod Files

@@ -1,0 +1,49 @@
+// What holds of every diff.
+ghost use Rattle.std.specs.Prelude.{◌≡◌, ◌<◌, ◌↔◌, List, ℕ, Some, Ok, false, length, map, slice_get};
+ghost use Rattle.file_format.specs.Format.{IsBytes};
+ghost use Rattle.snap_diff.specs.Copies.{
+  MemoryCopy,
+  DiffCopy,
+  DiffStep,
+  IsDiff,
+  IsDiffOf,
+  IsWhole,
+  JoinAll,
+  LeadBy,
+  has_page,
+  overlaid,
+  overlaid_all,
+  page_at,
+};
+ghost use Rattle.snap_diff.specs.Diffs.{IsDiffFile};
+ghost use Rattle.snap_diff.specs.Found.{diff_found};
+
+/// Bytes are the file of one diff at most, and a diff has one file. What is found in a file is the diff whose file it
+/// is, and none is found exactly where it is none's.
+pub fn one_diff()
+    ensures one { (given : List ℕ) (c d : DiffCopy) → IsDiffFile given c → IsDiffFile given d → c ≡ d }
+    ensures file { (given other : List ℕ) (d : DiffCopy) → IsDiffFile given d → IsDiffFile other d → given ≡ other }
+    ensures found { (given : List ℕ) (d : DiffCopy) → IsBytes given →
+        (diff_found (Some given) ≡ Ok d) ↔ IsDiffFile given d }
+    ensures whole { (given : List ℕ) (d : DiffCopy) → IsDiffFile given d → IsDiff d }
+{}
+
+/// A copy that is overlaid with a diff of its memory is whole; it has the diff's pages, and is in all others as it was.
+pub fn overlay()
+    ensures whole { (m : MemoryCopy) (d : DiffCopy) → IsWhole m → IsDiff d → d.pages ≡ m.pages →
+        IsWhole (overlaid m d) }
+    ensures inside { (m : MemoryCopy) (d : DiffCopy) → IsWhole m → IsDiff d → d.pages ≡ m.pages →
+        (k number : ℕ) → k < length d.numbers → number < m.pages → slice_get d.numbers k ≡ Some number →
+        page_at number (overlaid m d).bytes ≡ page_at k d.bytes }
+    ensures outside { (m : MemoryCopy) (d : DiffCopy) → IsWhole m → IsDiff d → d.pages ≡ m.pages →
+        (number : ℕ) → number < m.pages → has_page d number ≡ false →
+        page_at number (overlaid m d).bytes ≡ page_at number m.bytes }
+{}
+
+/// A whole copy that is overlaid with its later diffs in order is the memory as the last of them found it.
+pub fn later_diffs()
+    ensures joined { (first : MemoryCopy) (steps : List DiffStep) (last : MemoryCopy) →
+        IsWhole first → LeadBy first steps last → JoinAll first (map (λ step. step.diff) steps) }
+    ensures last { (first : MemoryCopy) (steps : List DiffStep) (last : MemoryCopy) →
+        IsWhole first → LeadBy first steps last → overlaid_all first (map (λ step. step.diff) steps) ≡ last }
+{}
