@@ -5,17 +5,16 @@ ghost use Rattle.std.specs.FinMap.{get};
 ghost use Rattle.gate_file.specs.Reading.{FileCause};
 ghost use Rattle.guest_memory.specs.Reserved.{unreserved};
 ghost use Rattle.guest_pages.specs.Pages.{flat_of, marks_of};
+ghost use Rattle.snap_writer.specs.Blocks.{block_size};
 ghost use Rattle.vm_outside.specs.Filing.{SameFiles};
 ghost use Rattle.vm_outside.specs.Known.{Called, Lasts, Tells};
 
 use gate_file::{FileError, zeros};
 use guest_memory::PAGE_SIZE;
 use guest_pages::PageSet;
-use std::alloc::Global;
+use snap_writer::BLOCK_SIZE;
+use std::alloc::{AllocError, Global};
 use vm_outside::{Failed, Files};
-
-// How many bytes one read takes at most: sixteen pages.
-const BLOCK: usize = 16 * PAGE_SIZE;
 
 /// So many new pages with the bytes that the file of this name has from an offset on. That there are too few, or no
 /// file, is a fault.
@@ -37,7 +36,7 @@ pub fn load_pages<F: Files>(
     ensures cause { FileCause result (F.known files.old).health.faults (F.known files.new).health.faults }
     ensures lasts { Lasts (F.known files.old).health (F.known files.new).health }
 {
-    let Ok(mut block) = zeros(alloc, BLOCK) else {
+    let Ok(mut block) = room(alloc) else {
         return Err(FileError::OutOfMemory);
     };
     let Ok(mut pages) = PageSet::new(alloc, count) else {
@@ -47,6 +46,13 @@ pub fn load_pages<F: Files>(
         return Err(FileError::Fault);
     };
     Ok(pages)
+}
+
+// Room for the bytes of one read.
+fn room(alloc: Global) -> Result<Vec<u8>, AllocError>
+    ensures { IfOk result (λ room. length room.items ≡ block_size) }
+{
+    zeros(alloc, BLOCK_SIZE)
 }
 
 // Puts into all pages the bytes that the file has from an offset on, and marks nothing. `block` is where they are read.
@@ -59,7 +65,7 @@ fn read_pages<F: Files>(
 ) -> Result<(), Failed>
     requires small { length pages.old < 2 ^ 32 }
     requires early { at ≤ 2 ^ 63 }
-    requires room { length block.old ≡ 65536 }
+    requires room { length block.old ≡ block_size }
     ensures bytes { OnOk result (Tells (F.known files.old).health → (content : List ℕ) →
         get (F.known files.old).saved name.now ≡ Some content →
         (flat_of pages.new).bytes ≡ take (4096 * length pages.old) (drop at content)) }
@@ -72,7 +78,7 @@ fn read_pages<F: Files>(
     let size = PAGE_SIZE * pages.len();
     let mut done = 0;
     while done < size {
-        let count = BLOCK.min(size - done);
+        let count = BLOCK_SIZE.min(size - done);
         files.read_at(name, at + done as u64, &mut block[..count])?;
         pages.load(done, &block[..count]);
         done += count;

@@ -1,6 +1,5 @@
 -- The runs of a create, one after another.
 use Rattle.std.proofs.Common.{◌≡◌, ◌≢◌, ℕ, List, [], ◌∷◌, ◌++◌, Some, refl, sym, ap, ◌∙◌, append_assoc}
-use Rattle.std.proofs.lemmas.List.{append-nil}
 use Rattle.std.specs.FinMap.{get, insert}
 use Rattle.vm_types.specs.Saved.{Saved, SameOthers}
 use Rattle.vm_outside.specs.Calls.{FileCall, MakesFront}

@@ -40,15 +40,15 @@ least n xs =
     ap (λ (k : ℕ). take k xs) (sym (length-take n xs)) ∙ ap (take (length front)) (sym (take-append-drop n xs)) ∙ take_at front (drop n xs) (length front) refl
 
 -- a block that is gathered at the front of a buffer: so much of the rest as there is
-pub gathered : (bytes block out : List ℕ) (done count : ℕ) → count ≡ min 65536 (length bytes - done) → length block ≡ 65536 → out ≡ take (length (take count block)) (drop done bytes)
-    → take count (out ++ drop count block) ≡ take 65536 (drop done bytes)
+pub gathered : (bytes block out : List ℕ) (done count : ℕ) → count ≡ min block_size (length bytes - done) → length block ≡ block_size → out ≡ take (length (take count block)) (drop done bytes)
+    → take count (out ++ drop count block) ≡ take block_size (drop done bytes)
 gathered bytes block out done count is room copied =
     let rest : List ℕ = drop done bytes in
     let size : length rest ≡ length bytes - done = length-drop done bytes in
     let held : length (take count block) ≡ count = length-take-le count block (omega arith) in
     let front : out ≡ take count rest = copied ∙ ap (λ (k : ℕ). take k rest) held in
     let long : length out ≡ count = ap length front ∙ length-take-le count rest (omega arith) in
-    take_at out (drop count block) count long ∙ front ∙ ap (λ (k : ℕ). take k rest) (is ∙ ap (min 65536) (sym size)) ∙ least 65536 rest
+    take_at out (drop count block) count long ∙ front ∙ ap (λ (k : ℕ). take k rest) (is ∙ ap (min block_size) (sym size)) ∙ least block_size rest
 
 module _ (name : List ℕ) (at : ℕ) (bytes front : List ℕ) (old : FilesKnown) where
   abbrev text : ℕ → List ℕ

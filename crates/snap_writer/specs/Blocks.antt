@@ -2,9 +2,9 @@
 use Rattle.std.specs.Prelude.{ℕ, zero, suc, ◌+◌, List, [], ◌∷◌, length, take, drop}
 use Rattle.std.specs.Int.{div_ceil}
 
--- how many bytes one write carries at most: sixteen pages
+-- how many bytes one write carries at most: a mebibyte, which is 256 pages
 abbrev pub block_size : ℕ
-block_size = 65536
+block_size = 1048576
 
 -- so many blocks of these bytes: the first at this offset, and each right behind the one before
 abbrev pub block_writes : ℕ → ℕ → List ℕ → List (ℕ × List ℕ)

@@ -2,6 +2,7 @@
 ghost use Rattle.std.specs.Prelude.{◌≡◌, ◌≢◌, ◌<◌, ◌^◌, length, OnErr, OnOk};
 ghost use Rattle.vm_outside.specs.Known.{Called, Tells};
 ghost use Rattle.guest_pages.specs.Pages.{flat_of};
+ghost use Rattle.snap_writer.specs.Blocks.{block_size};
 ghost use Rattle.snap_writer.specs.Create.{Creates, CreatesPart};
 
 use crate::filling::{fill_memory, fill_state};
@@ -45,7 +46,7 @@ fn write_files<F: Files>(
     memory: &str,
 ) -> Result<(), Failed>
     requires small { length pages.now < 2 ^ 32 }
-    requires room { length block.old ≡ 65536 }
+    requires room { length block.old ≡ block_size }
     requires differ { memory.now ≢ state.now }
     ensures created { OnOk result (Tells (F.known files.old).health →
         Creates memory.now head.now (flat_of pages.now).bytes state.now body.now

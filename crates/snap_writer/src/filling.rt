@@ -2,6 +2,7 @@
 ghost use Rattle.std.specs.Prelude.{◌≡◌, ◌<◌, ◌^◌, ◌∷◌, ◌++◌, length, OnErr, OnOk};
 ghost use Rattle.gate_file.specs.Runs.{RunsAll, RunsPart};
 ghost use Rattle.guest_pages.specs.Pages.{flat_of};
+ghost use Rattle.snap_writer.specs.Blocks.{block_size};
 ghost use Rattle.snap_writer.specs.Create.{memory_calls, state_calls};
 ghost use Rattle.vm_outside.specs.Known.{Called, Tells};
 
@@ -19,7 +20,7 @@ pub(crate) fn fill_memory<F: Files>(
     block: &mut [u8],
 ) -> Result<(), Failed>
     requires small { length pages.now < 2 ^ 32 }
-    requires room { length block.old ≡ 65536 }
+    requires room { length block.old ≡ block_size }
     ensures filled { OnOk result (Tells (F.known files.old).health →
         RunsAll name.now (memory_calls name.now head.now (flat_of pages.now).bytes)
         (0 ∷ head.now ++ (flat_of pages.now).bytes) (F.known files.old) (F.known files.new)) }

@@ -2,8 +2,8 @@
 //!
 //! `create` makes the calls of `specs/Create.antt` in that order: both files are closed, filled and synced, and then
 //! opened, the memory file first. Where a call failed it says how far it came. What stands in the files is handed in
-//! as bytes and pages. Memory is written in blocks of sixteen pages, and the room for one is handed in too, so that no
-//! memory is taken once the first call is made.
+//! as bytes and pages. Memory is written in blocks of `BLOCK_SIZE` bytes, and the room for one is handed in too, so
+//! that no memory is taken once the first call is made.
 #![tactic(auto)]
 
 mod creating;
@@ -12,4 +12,5 @@ mod pages;
 mod room;
 
 pub use creating::create;
+pub use pages::BLOCK_SIZE;
 pub use room::Room;

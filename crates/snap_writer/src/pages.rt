@@ -11,8 +11,8 @@ use guest_memory::PAGE_SIZE;
 use guest_pages::PageSet;
 use vm_outside::{Failed, Files};
 
-// How many bytes one write carries at most: sixteen pages.
-pub(crate) const BLOCK: usize = 16 * PAGE_SIZE;
+/// How many bytes one write carries at most: a mebibyte, which is 256 pages.
+pub const BLOCK_SIZE: usize = 256 * PAGE_SIZE;
 
 // All pages at the end of a file that holds so many bytes, the first of them a closed gate; and a sync. `block` is
 // where blocks are gathered.
@@ -25,7 +25,7 @@ pub(crate) fn write_pages<F: Files>(
 ) -> Result<(), Failed>
     requires small { length pages.now < 2 ^ 32 }
     requires early { at ≤ 2 ^ 63 }
-    requires room { length block.old ≡ 65536 }
+    requires room { length block.old ≡ block_size }
     ensures filled { OnOk result (Tells (F.known files.old).health →
         (front : List ℕ) → get (F.known files.old).saved name.now ≡ Some (0 ∷ front) → at ≡ length (0 ∷ front) →
         RunsAll name.now
@@ -38,10 +38,10 @@ pub(crate) fn write_pages<F: Files>(
         (F.known files.old) (F.known files.new)) }
     ensures called { Called (F.known files.old).health (F.known files.new).health result }
 {
-    let blocks = (PAGE_SIZE * pages.len()).div_ceil(BLOCK);
+    let blocks = (PAGE_SIZE * pages.len()).div_ceil(BLOCK_SIZE);
     for number in 0..blocks {
         let count = gather(pages, number, block);
-        files.write_at(name, at + (BLOCK * number) as u64, &block[..count])?;
+        files.write_at(name, at + (BLOCK_SIZE * number) as u64, &block[..count])?;
     }
     files.sync(name)?;
     Ok(())
@@ -50,14 +50,14 @@ pub(crate) fn write_pages<F: Files>(
 // Puts the block of this number at the front of `block`, and answers how many bytes it has.
 fn gather(pages: &PageSet, number: usize, block: &mut [u8]) -> usize
     requires small { length pages.now < 2 ^ 32 }
-    requires room { length block.old ≡ 65536 }
-    requires inside { 65536 * number ≤ 4096 * length pages.now }
+    requires room { length block.old ≡ block_size }
+    requires inside { block_size * number ≤ 4096 * length pages.now }
     ensures most { result ≤ length block.new }
-    ensures room { length block.new ≡ 65536 }
+    ensures room { length block.new ≡ block_size }
     ensures bytes { take result block.new ≡ take block_size (drop (block_size * number) (flat_of pages.now).bytes) }
 {
-    let done = BLOCK * number;
-    let count = BLOCK.min(PAGE_SIZE * pages.len() - done);
+    let done = BLOCK_SIZE * number;
+    let count = BLOCK_SIZE.min(PAGE_SIZE * pages.len() - done);
     pages.copy_out(done, &mut block[..count]);
     count
 }

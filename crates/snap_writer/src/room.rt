@@ -1,7 +1,8 @@
 // The memory that a create takes.
 ghost use Rattle.std.specs.Prelude.{◌≡◌, IfOk, length};
+ghost use Rattle.snap_writer.specs.Blocks.{block_size};
 
-use crate::pages::BLOCK;
+use crate::pages::BLOCK_SIZE;
 use gate_file::zeros;
 use std::alloc::{AllocError, Global};
 use std::marker::Model;
@@ -14,26 +15,27 @@ pub struct Room {
 
 impl Model for Room {
     ghost use Rattle.std.specs.Prelude.{◌≡◌, List, ℕ, length};
+    ghost use Rattle.snap_writer.specs.Blocks.{block_size};
 
     ghost Value = { List ℕ };
 
     ghost view = { λ r. r.bytes.items };
 
-    ghost invariant = { λ r. length r.bytes.items ≡ 65536 };
+    ghost invariant = { λ r. length r.bytes.items ≡ block_size };
 }
 
 impl Room {
-    /// Room of 65,536 bytes.
+    /// Room of a block of `BLOCK_SIZE` bytes.
     pub fn new(alloc: Global) -> Result<Room, AllocError>
-        ensures { IfOk result (λ room. length room ≡ 65536) }
+        ensures { IfOk result (λ room. length room ≡ block_size) }
     {
         Ok(Room {
-            bytes: zeros(alloc, BLOCK)?,
+            bytes: zeros(alloc, BLOCK_SIZE)?,
         })
     }
 
     pub(crate) fn block(&mut self) -> &mut [u8]
-        ensures { length result.now ≡ 65536 }
+        ensures { length result.now ≡ block_size }
     {
         &mut self.bytes
     }

@@ -3,6 +3,7 @@ use Rattle.std.specs.FinMap.{get}
 use Rattle.vm_outside.specs.Filing.{SameFiles}
 use Rattle.vm_outside.specs.Known.{Tells}
 use Rattle.guest_pages.specs.Pages.{flat_of, marks_of}
+use Rattle.snap_writer.specs.Blocks.{block_size}
 use Rattle.snap_restore.proofs.loading.read_pages.Given as goal
 
 abbrev pub invariant-loop-done : goal.invariant-loop-done
@@ -10,7 +11,7 @@ invariant-loop-done g l =
     let known = g.F.Files.known in
     record {
       some : l.done ≤ l.size;
-      room : length l.block ≡ 65536;
+      room : length l.block ≡ block_size;
       count : length l.pages ≡ length l.initial.pages;
       reserved : (flat_of l.pages).reserved ≡ (flat_of l.initial.pages).reserved;
       marks : marks_of l.pages ≡ marks_of l.initial.pages;

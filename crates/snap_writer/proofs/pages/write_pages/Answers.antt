@@ -31,7 +31,7 @@ returns-in_err-write_at-clause-begun g c =
     let lt : i < blocks = omega (arith, count, c.loop-number-test.true) in
     let part : Tells (known c.args.files.now).health → (front : List ℕ) → get (known c.args.files.now).saved name ≡ Some (0 ∷ front) → at ≡ length (0 ∷ front)
     → RunsPart name (behind_calls name (block_writes at blocks bytes) (front ++ bytes)) (known c.args.files.now) (known c.write_at.new.self) = λ t front there start.
-    wrote_fails name at bytes front _ i (at + 65536 * i) (take c.gather-count.result c.gather-count.new.block) _ _ (omega arith) c.gather-count.ensures.bytes (c.loop-number.invariant.wrote t front there start) blocks (front ++ bytes) lt
+    wrote_fails name at bytes front _ i (at + block_size * i) (take c.gather-count.result c.gather-count.new.block) _ _ (omega arith) c.gather-count.ensures.bytes (c.loop-number.invariant.wrote t front there start) blocks (front ++ bytes) lt
     (c.in_err-write_at.ensures.begun (c.loop-number.invariant.still t)) in
     on_err _ _ part
 
@@ -47,7 +47,7 @@ loop-number-preserved g c =
       still = λ t. c.write_at.ensures.called.lasts.still (so_far.still t);
       kept = c.in_ok-write_at.ensures.called.kept ∙ so_far.kept;
       wrote = λ t front there start.
-          wrote_more name at bytes front _ i (at + 65536 * i) (take c.gather-count.result c.gather-count.new.block) _ _ (omega arith) c.gather-count.ensures.bytes (so_far.wrote t front there start) start (omega (arith, c.len.ensures.bytes, c.loop-number-test.true, c.div_ceil-blocks.ensures, (div_ceil_times (4096 * c.len.result) 65536 (omega arith)).1))
+          wrote_more name at bytes front _ i (at + block_size * i) (take c.gather-count.result c.gather-count.new.block) _ _ (omega arith) c.gather-count.ensures.bytes (so_far.wrote t front there start) start (omega (arith, c.len.ensures.bytes, c.loop-number-test.true, c.div_ceil-blocks.ensures, (div_ceil_times (4096 * c.len.result) block_size (omega arith)).1))
           (c.in_ok-write_at.ensures.written (so_far.still t));
     }
 
@@ -77,6 +77,6 @@ returns-clause-filled g c = λ t front there start.
     let blocks : ℕ = div_ceil (length bytes) block_size in
     let count : c.div_ceil-blocks.result ≡ blocks = c.div_ceil-blocks.ensures ∙ ap (λ (k : ℕ). div_ceil k block_size) (sym c.len.ensures.bytes) in
     let end : i ≡ blocks = omega (arith, count, c.loop-number-test.false, c.loop-number.auto.number-end) in
-    let all : length bytes ≤ block_size * i = omega (arith, end, (div_ceil_times (length bytes) 65536 (omega arith)).0) in
+    let all : length bytes ≤ block_size * i = omega (arith, end, (div_ceil_times (length bytes) block_size (omega arith)).0) in
     subst (λ (n : ℕ). RunsAll name (behind_calls name (block_writes at n bytes) (front ++ bytes)) (0 ∷ front ++ bytes) (known c.args.files.now) (known c.sync.new.self)) end
     (wrote_all name at bytes front _ i _ _ all (c.loop-number.invariant.wrote t front there start) (c.in_ok-sync.ensures.synced (c.loop-number.invariant.still t)))
