@@ -1,4 +1,5 @@
 pub mod Creating
+pub mod Headings
 pub mod Loading
 pub mod Plans
 pub mod Restoring

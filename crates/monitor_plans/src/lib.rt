@@ -7,6 +7,7 @@
 
 mod creating;
 mod disk;
+mod heading;
 mod loading;
 mod plan;
 mod restoring;
@@ -14,7 +15,7 @@ mod starting;
 #[cfg(test)]
 mod tests;
 
-pub use creating::{Creation, create};
+pub use creating::{Creation, create, pages_of};
 pub use loading::{LoadError, load, zeros};
 pub use plan::{Plan, Task, done_line};
 pub use restoring::{Restored, restore};
