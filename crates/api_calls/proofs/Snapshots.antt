@@ -164,7 +164,9 @@ load_is ms none =
 
 -- what is said of a call
 abbrev pub IsAsked : ApiCall → Type 0
-IsAsked (call.CreateSnapshot files) = (is_path files.snapshot_path ≡ true) × (is_path files.mem_file_path ≡ true) × (files.mem_file_path ≢ files.snapshot_path)
+IsAsked (call.CreateSnapshot it) =
+    (is_path it.files.snapshot_path ≡ true) × (is_path it.files.mem_file_path ≡ true)
+    × (it.files.mem_file_path ≢ it.files.snapshot_path)
 IsAsked (call.LoadSnapshot load) = (is_path load.files.snapshot_path ≡ true) × (is_path load.files.mem_file_path ≡ true)
 IsAsked (call.PutBootSource s) = ⊤
 IsAsked (call.PutMachineConfig c) = ⊤

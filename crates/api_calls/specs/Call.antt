@@ -1,5 +1,5 @@
 -- What a request asks for, or its first refusal.
-use Rattle.std.specs.Prelude.{ℕ, Bool, true, false, List, [], ◌∷◌, if◌then◌else◌, Option, Some, None, is_some, option_and_then, unwrap_or, Result, Ok, Err, codes}
+use Rattle.std.specs.Prelude.{ℕ, Bool, true, false, ◌||◌, List, [], ◌∷◌, if◌then◌else◌, Option, Some, None, is_some, option_and_then, unwrap_or, Result, Ok, Err, codes}
 use Rattle.std.specs.Str.{bytes_eq, is_utf8}
 use Rattle.serde_json.specs.Data.{Data}
 use Rattle.serde_json.specs.Find.{get, as_object}
@@ -15,6 +15,8 @@ use Rattle.api_calls.specs.declared.call.ApiCall.TheVariants as call
 use Rattle.api_calls.specs.declared.call.VmState.{VmState}
 use Rattle.api_calls.specs.declared.call.VmState.TheVariants as state
 use Rattle.api_calls.specs.declared.call.SnapshotFiles.{SnapshotFiles}
+use Rattle.api_calls.specs.declared.call.SnapshotType.{SnapshotType}
+use Rattle.api_calls.specs.declared.call.SnapshotType.TheVariants as snapshot
 use Rattle.api_calls.specs.declared.endpoint.Body.{Body}
 use Rattle.api_calls.specs.declared.endpoint.Body.TheVariants as body
 use Rattle.api_calls.specs.declared.endpoint.Endpoint.{Endpoint}
@@ -55,6 +57,17 @@ is_text text (Some t) = bytes_eq t text
 abbrev pub state_of : Data → VmState
 state_of d = if is_text (codes "Paused") (text_at (codes "state") d) then state.Paused else state.Resumed
 
+-- a full snapshot, where nothing is said
+abbrev pub type_of : Data → SnapshotType
+type_of d = if is_text (codes "Diff") (text_at (codes "snapshot_type") d) then snapshot.Diff else snapshot.Full
+
+-- dirty pages are tracked where either of two fields asks for it
+abbrev pub is_set : List ℕ → Data → Bool
+is_set name d = unwrap_or (flag_at name d) false
+
+abbrev pub tracking_of : Data → Bool
+tracking_of d = is_set (codes "enable_diff_snapshots") d || is_set (codes "track_dirty_pages") d
+
 -- the text in an object in the body
 abbrev pub text_in : List ℕ → List ℕ → Data → Option (List ℕ)
 text_in place name d = option_and_then (text_at name) (get place d)
@@ -75,7 +88,7 @@ made body.BootSource d = call.PutBootSource (record {
 made body.MachineConfig d = call.PutMachineConfig (record {
   vcpu_count = unwrap_or (number_at (codes "vcpu_count") d) 0;
   mem_size_mib = unwrap_or (number_at (codes "mem_size_mib") d) 0;
-  track_dirty_pages = unwrap_or (flag_at (codes "track_dirty_pages") d) false;
+  track_dirty_pages = is_set (codes "track_dirty_pages") d;
 })
 made body.MachinePatch d = call.PatchMachineConfig (record {
   vcpu_count = number_at (codes "vcpu_count") d;
@@ -85,15 +98,19 @@ made body.MachinePatch d = call.PatchMachineConfig (record {
 made body.Action d = call.InstanceStart
 made body.VmState d = call.PatchVm (state_of d)
 made body.SnapshotCreate d = call.CreateSnapshot (record {
-  snapshot_path = text_or_none (text_at (codes "snapshot_path") d);
-  mem_file_path = text_or_none (text_at (codes "mem_file_path") d);
+  files = record {
+    snapshot_path = text_or_none (text_at (codes "snapshot_path") d);
+    mem_file_path = text_or_none (text_at (codes "mem_file_path") d);
+  };
+  snapshot_type = type_of d;
 })
 made body.SnapshotLoad d = call.LoadSnapshot (record {
   files = record {
     snapshot_path = text_or_none (text_at (codes "snapshot_path") d);
     mem_file_path = text_or_none (memory_path d);
   };
-  resume_vm = unwrap_or (flag_at (codes "resume_vm") d) false;
+  track_dirty_pages = tracking_of d;
+  resume_vm = is_set (codes "resume_vm") d;
 })
 
 -- ---- the request

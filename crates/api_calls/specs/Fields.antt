@@ -32,7 +32,7 @@ machine_config = flat (
     needed (codes "vcpu_count") (whole 1 32)
     ∷ needed (codes "mem_size_mib") (whole 4 1024)
     ∷ optional (codes "smt") unset
-    ∷ optional (codes "track_dirty_pages") unset
+    ∷ optional (codes "track_dirty_pages") flag
     ∷ optional (codes "cpu_template") none_alone
     ∷ optional (codes "huge_pages") none_alone
     ∷ []) free
@@ -43,7 +43,7 @@ machine_patch = flat (
     optional (codes "vcpu_count") (whole 1 32)
     ∷ optional (codes "mem_size_mib") (whole 4 1024)
     ∷ optional (codes "smt") unset
-    ∷ optional (codes "track_dirty_pages") unset
+    ∷ optional (codes "track_dirty_pages") flag
     ∷ optional (codes "cpu_template") none_alone
     ∷ optional (codes "huge_pages") none_alone
     ∷ []) (some_of (codes "vcpu_count" ∷ codes "mem_size_mib" ∷ codes "smt"
@@ -62,7 +62,7 @@ abbrev pub snapshot_create : Form
 snapshot_create = flat (
     needed (codes "snapshot_path") path
     ∷ needed (codes "mem_file_path") path
-    ∷ optional (codes "snapshot_type") (choice (codes "Full" ∷ []))
+    ∷ optional (codes "snapshot_type") (choice (codes "Full" ∷ codes "Diff" ∷ []))
     ∷ []) (differing (codes "snapshot_path") (codes "mem_file_path"))
 
 -- PUT /snapshot/load: the memory's file is named by one of two fields
@@ -75,8 +75,8 @@ snapshot_load = record {
             needed (codes "snapshot_path") path
             ∷ optional (codes "mem_file_path") path
             ∷ optional (codes "mem_backend") group
-            ∷ optional (codes "enable_diff_snapshots") unset
-            ∷ optional (codes "track_dirty_pages") unset
+            ∷ optional (codes "enable_diff_snapshots") flag
+            ∷ optional (codes "track_dirty_pages") flag
             ∷ optional (codes "resume_vm") flag
             ∷ [];
       }

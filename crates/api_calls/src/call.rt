@@ -58,10 +58,29 @@ pub struct SnapshotFiles {
     pub mem_file_path: TextList,
 }
 
-/// The snapshot that is to be loaded, and whether the machine then runs.
+/// Which pages a snapshot's memory file has.
+#[derive(Clone, Copy, Debug, PartialEq, Eq, Drop)]
+pub enum SnapshotType {
+    /// All of them.
+    Full,
+    /// Those that the guest wrote since the snapshot that was written or loaded last.
+    Diff,
+}
+
+/// The snapshot that is to be written.
+#[derive(Drop)]
+pub struct SnapshotCreate {
+    pub files: SnapshotFiles,
+    pub snapshot_type: SnapshotType,
+}
+
+/// The snapshot that is to be loaded.
 #[derive(Drop)]
 pub struct SnapshotLoad {
     pub files: SnapshotFiles,
+    /// Whether the pages that the guest writes are marked from then on: either of the two fields that ask for it is set.
+    pub track_dirty_pages: bool,
+    /// Whether the machine then runs.
     pub resume_vm: bool,
 }
 
@@ -78,8 +97,8 @@ pub enum ApiCall {
     InstanceStart,
     /// PATCH /vm
     PatchVm(VmState),
-    /// PUT /snapshot/create, of a full snapshot.
-    CreateSnapshot(SnapshotFiles),
+    /// PUT /snapshot/create
+    CreateSnapshot(SnapshotCreate),
     /// PUT /snapshot/load
     LoadSnapshot(SnapshotLoad),
     /// GET of a part

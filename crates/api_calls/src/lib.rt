@@ -12,7 +12,8 @@ mod law;
 mod test;
 
 pub use call::{
-    ApiCall, BootSource, MachineConfig, MachinePatch, Part, SnapshotFiles, SnapshotLoad, VmState,
+    ApiCall, BootSource, MachineConfig, MachinePatch, Part, SnapshotCreate, SnapshotFiles,
+    SnapshotLoad, SnapshotType, VmState,
 };
 pub use endpoint::{Body, Endpoint};
 pub use law::paths_differ;

@@ -60,3 +60,10 @@ pub fn flag(object: &Value, name: &str) -> Option<bool>
 {
     object.get(name).and_then(Value::as_bool)
 }
+
+/// Whether a flag is there and set.
+pub fn is_set(object: &Value, name: &str) -> bool
+    ensures { result ≡ call.is_set name.now (view object.now) }
+{
+    flag(object, name).unwrap_or(false)
+}

@@ -4,7 +4,7 @@ ghost use Rattle.serde_json.specs.View.{view};
 ghost use Rattle.api_calls.specs.Call.{made};
 ghost use Rattle.api_calls.specs.declared.endpoint.Body.TheVariants as body;
 
-use crate::body::{flag, number};
+use crate::body::{flag, is_set, number};
 use crate::form::{Kind, Row};
 use crate::levels::{Form, Level, Together};
 use api_calls::{ApiCall, MachineConfig, MachinePatch};
@@ -35,7 +35,7 @@ const PUT_ROWS: [Row; 6] = [
     Row {
         name: "track_dirty_pages",
         required: false,
-        kind: Kind::Unset,
+        kind: Kind::Flag,
     },
     Row {
         name: "cpu_template",
@@ -68,7 +68,7 @@ const PATCH_ROWS: [Row; 6] = [
     Row {
         name: "track_dirty_pages",
         required: false,
-        kind: Kind::Unset,
+        kind: Kind::Flag,
     },
     Row {
         name: "cpu_template",
@@ -112,7 +112,7 @@ pub fn put(object: &Value) -> ApiCall
     ApiCall::PutMachineConfig(MachineConfig {
         vcpu_count: number(object, "vcpu_count").unwrap_or(0),
         mem_size_mib: number(object, "mem_size_mib").unwrap_or(0),
-        track_dirty_pages: flag(object, "track_dirty_pages").unwrap_or(false),
+        track_dirty_pages: is_set(object, "track_dirty_pages"),
     })
 }
 

@@ -5,10 +5,10 @@ ghost use Rattle.api_calls.specs.Call as call;
 ghost use Rattle.api_calls.specs.Call.{made};
 ghost use Rattle.api_calls.specs.declared.endpoint.Body.TheVariants as body;
 
-use crate::body::{flag, text, text_or_none};
+use crate::body::{is_set, text, text_or_none};
 use crate::form::{Kind, Row};
 use crate::levels::{Form, Level, Together};
-use api_calls::{ApiCall, SnapshotFiles, SnapshotLoad};
+use api_calls::{ApiCall, SnapshotCreate, SnapshotFiles, SnapshotLoad, SnapshotType};
 use serde_json::Value;
 use std::alloc::{AllocError, Global};
 use vm_types::TextList;
@@ -27,7 +27,7 @@ const CREATE_ROWS: [Row; 3] = [
     Row {
         name: "snapshot_type",
         required: false,
-        kind: Kind::Choice(&["Full"]),
+        kind: Kind::Choice(&["Full", "Diff"]),
     },
 ];
 
@@ -50,12 +50,12 @@ const LOAD_ROWS: [Row; 6] = [
     Row {
         name: "enable_diff_snapshots",
         required: false,
-        kind: Kind::Unset,
+        kind: Kind::Flag,
     },
     Row {
         name: "track_dirty_pages",
         required: false,
-        kind: Kind::Unset,
+        kind: Kind::Flag,
     },
     Row {
         name: "resume_vm",
@@ -105,10 +105,29 @@ pub fn create(alloc: Global, object: &Value) -> Result<ApiCall, AllocError>
 {
     let snapshot_path = TextList::copy_of(alloc, text_or_none(object, "snapshot_path"))?;
     let mem_file_path = TextList::copy_of(alloc, text_or_none(object, "mem_file_path"))?;
-    Ok(ApiCall::CreateSnapshot(SnapshotFiles {
-        snapshot_path,
-        mem_file_path,
+    Ok(ApiCall::CreateSnapshot(SnapshotCreate {
+        files: SnapshotFiles {
+            snapshot_path,
+            mem_file_path,
+        },
+        snapshot_type: type_of(object),
     }))
+}
+
+// A full snapshot, where nothing is said.
+fn type_of(object: &Value) -> SnapshotType
+    ensures { result ≡ call.type_of (view object.now) }
+{
+    match text(object, "snapshot_type") {
+        Some(text) => {
+            if text == "Diff" {
+                SnapshotType::Diff
+            } else {
+                SnapshotType::Full
+            }
+        }
+        None => SnapshotType::Full,
+    }
 }
 
 // The name of the memory's file, by whichever of the two fields is there.
@@ -135,6 +154,14 @@ pub fn load(alloc: Global, object: &Value) -> Result<ApiCall, AllocError>
             snapshot_path,
             mem_file_path,
         },
-        resume_vm: flag(object, "resume_vm").unwrap_or(false),
+        track_dirty_pages: is_tracking(object),
+        resume_vm: is_set(object, "resume_vm"),
     }))
+}
+
+// Dirty pages are tracked where either of two fields asks for it.
+fn is_tracking(object: &Value) -> bool
+    ensures { result ≡ call.tracking_of (view object.now) }
+{
+    is_set(object, "enable_diff_snapshots") || is_set(object, "track_dirty_pages")
 }

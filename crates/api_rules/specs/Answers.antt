@@ -22,5 +22,5 @@ accepted (change.BootSource source) id p config = no_content
 accepted (change.MachineConfig machine) id p config = no_content
 accepted change.Start id p config = no_content
 accepted (change.State state) id p config = no_content
-accepted (change.CreateSnapshot files) id p config = no_content
+accepted (change.CreateSnapshot it) id p config = no_content
 accepted (change.LoadSnapshot load) id p config = no_content

@@ -1,11 +1,13 @@
 -- Which calls are allowed: the API's table, row by row, without the checks of bodies, which come before.
-use Rattle.std.specs.Prelude.{ℕ, ◌^◌, nat_le, Bool, true, false, not, if◌then◌else◌, List, [], ◌∷◌, length, Option, Some, None, is_none, unwrap_or, Result, Ok, Err}
+use Rattle.std.specs.Prelude.{ℕ, ◌^◌, nat_le, Bool, true, false, not, ◌&&◌, if◌then◌else◌, List, [], ◌∷◌, length, Option, Some, None, is_none, unwrap_or, Result, Ok, Err}
 use Rattle.guest_memory.specs.Boot.{loads_fit}
 use Rattle.refusals.specs.declared.refusal.Refusal.{Refusal}
 use Rattle.refusals.specs.declared.refusal.Refusal.TheVariants as refusal
 use Rattle.api_calls.specs.declared.call.ApiCall.{ApiCall}
 use Rattle.api_calls.specs.declared.call.ApiCall.TheVariants as call
 use Rattle.api_calls.specs.declared.call.MachineConfig.{MachineConfig}
+use Rattle.api_calls.specs.declared.call.SnapshotType.{SnapshotType}
+use Rattle.api_calls.specs.declared.call.SnapshotType.TheVariants as snapshot
 use Rattle.api_calls.specs.declared.call.MachinePatch.{MachinePatch}
 use Rattle.vm_config.specs.declared.config.Config.{Config}
 use Rattle.vm_config.specs.declared.config.Phase.{Phase}
@@ -26,7 +28,7 @@ when_allowed (call.PutMachineConfig machine) = BeforeBoot
 when_allowed (call.PatchMachineConfig patch) = BeforeBoot
 when_allowed call.InstanceStart = BeforeBoot
 when_allowed (call.PatchVm state) = AfterBoot
-when_allowed (call.CreateSnapshot files) = AfterBoot
+when_allowed (call.CreateSnapshot it) = AfterBoot
 when_allowed (call.LoadSnapshot load) = BeforeBoot
 when_allowed (call.Get part) = Always
 
@@ -53,10 +55,16 @@ Rows = List (Bool × Refusal)
 abbrev pub start_rows : Config → Rows
 start_rows config = (is_none config.boot_source, refusal.NoBootSource) ∷ []
 
--- a number of a snapshot is below 2^63
-abbrev pub create_rows : Phase → Ids → Rows
-create_rows p ids =
+abbrev pub is_diff : SnapshotType → Bool
+is_diff snapshot.Full = false
+is_diff snapshot.Diff = true
+
+-- a diff needs pages that are tracked and a snapshot that it is a diff of; a number of a snapshot is below 2^63
+abbrev pub create_rows : Phase → Config → Ids → SnapshotType → Rows
+create_rows p config ids type =
     (not (is_paused p), refusal.NotPaused)
+    ∷ (is_diff type && not config.machine.track_dirty_pages, refusal.NotTracked)
+    ∷ (is_diff type && is_none ids.base, refusal.NoBase)
     ∷ (nat_le (2 ^ 63) ids.next, refusal.NoSlotLeft)
     ∷ []
 
@@ -69,7 +77,7 @@ own_rows p config ids (call.PutMachineConfig machine) = []
 own_rows p config ids (call.PatchMachineConfig patch) = []
 own_rows p config ids call.InstanceStart = start_rows config
 own_rows p config ids (call.PatchVm state) = []
-own_rows p config ids (call.CreateSnapshot files) = create_rows p ids
+own_rows p config ids (call.CreateSnapshot it) = create_rows p config ids it.snapshot_type
 own_rows p config ids (call.LoadSnapshot load) = load_rows config
 own_rows p config ids (call.Get part) = []
 
@@ -96,7 +104,7 @@ change_of config (call.PutMachineConfig machine) = change.MachineConfig machine
 change_of config (call.PatchMachineConfig patch) = change.MachineConfig (patched config.machine patch)
 change_of config call.InstanceStart = change.Start
 change_of config (call.PatchVm state) = change.State state
-change_of config (call.CreateSnapshot files) = change.CreateSnapshot files
+change_of config (call.CreateSnapshot it) = change.CreateSnapshot it
 change_of config (call.LoadSnapshot load) = change.LoadSnapshot load
 change_of config (call.Get part) = change.Tell part
 

@@ -47,7 +47,7 @@ fn own_refusal(phase: Phase, config: &Config, ids: &Ids, call: &ApiCall) -> Opti
 {
     match call {
         ApiCall::InstanceStart => start_refusal(config),
-        ApiCall::CreateSnapshot(_) => create_refusal(phase, ids),
+        ApiCall::CreateSnapshot(create) => create_refusal(phase, config, ids, create.snapshot_type),
         ApiCall::LoadSnapshot(_) => load_refusal(config),
         _ => None,
     }
@@ -64,7 +64,7 @@ fn change_of(config: &Config, call: ApiCall) -> Change
         }
         ApiCall::InstanceStart => Change::Start,
         ApiCall::PatchVm(state) => Change::State(state),
-        ApiCall::CreateSnapshot(files) => Change::CreateSnapshot(files),
+        ApiCall::CreateSnapshot(create) => Change::CreateSnapshot(create),
         ApiCall::LoadSnapshot(load) => Change::LoadSnapshot(load),
         ApiCall::Get(part) => Change::Tell(part),
     }

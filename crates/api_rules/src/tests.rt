@@ -4,14 +4,15 @@ use crate::{
     fault_answer,
 };
 use api_calls::{
-    ApiCall, BootSource, MachineConfig, MachinePatch, Part, SnapshotFiles, SnapshotLoad, VmState,
+    ApiCall, BootSource, MachineConfig, MachinePatch, Part, SnapshotCreate, SnapshotFiles,
+    SnapshotLoad, SnapshotType, VmState,
 };
 use refusals::Refusal;
 use std::alloc::{AllocError, Global};
 use std::test::Fail;
-use vm_types::TextList;
+use vm_types::{Identity, TextList};
 
-// Each line: whether something is configured, the phase, the call, the status, and the body.
+// Each line: what is configured and known of snapshots, the phase, the call, the status, and the body.
 const CASES: &str = r#"
 new before boot 204
 new before machine 204
@@ -29,6 +30,12 @@ new before create 400 {"fault_message":"11: allowed only after boot"}
 set running create 400 {"fault_message":"12: the microVM is not paused"}
 set paused create 204
 last paused create 400 {"fault_message":"28: no merge slot or number is left"}
+tracked running diff 400 {"fault_message":"12: the microVM is not paused"}
+set paused diff 400 {"fault_message":"20: dirty pages are not tracked"}
+tracked paused diff 400 {"fault_message":"21: there is no base snapshot"}
+based paused diff 204
+new paused diff 400 {"fault_message":"20: dirty pages are not tracked"}
+last paused diff 400 {"fault_message":"28: no merge slot or number is left"}
 new before load 204
 set before load 400 {"fault_message":"13: something is already configured"}
 set running load 400 {"fault_message":"10: allowed only before boot"}
@@ -76,6 +83,13 @@ fn files(alloc: Global) -> Result<SnapshotFiles, AllocError> {
     })
 }
 
+fn create(alloc: Global, snapshot_type: SnapshotType) -> Result<SnapshotCreate, AllocError> {
+    Ok(SnapshotCreate {
+        files: files(alloc)?,
+        snapshot_type,
+    })
+}
+
 fn call(alloc: Global, word: &[u8]) -> Result<ApiCall, AllocError> {
     Ok(match word {
         b"boot" => ApiCall::PutBootSource(source(alloc)?),
@@ -83,9 +97,11 @@ fn call(alloc: Global, word: &[u8]) -> Result<ApiCall, AllocError> {
         b"patch" => ApiCall::PatchMachineConfig(PATCH),
         b"start" => ApiCall::InstanceStart,
         b"pause" => ApiCall::PatchVm(VmState::Paused),
-        b"create" => ApiCall::CreateSnapshot(files(alloc)?),
+        b"create" => ApiCall::CreateSnapshot(create(alloc, SnapshotType::Full)?),
+        b"diff" => ApiCall::CreateSnapshot(create(alloc, SnapshotType::Diff)?),
         b"load" => ApiCall::LoadSnapshot(SnapshotLoad {
             files: files(alloc)?,
+            track_dirty_pages: false,
             resume_vm: true,
         }),
         b"version" => ApiCall::Get(Part::Version),
@@ -109,6 +125,23 @@ fn config(alloc: Global, is_new: bool) -> Result<Config, AllocError> {
         config.apply(Change::BootSource(source(alloc)?))?;
     }
     Ok(config)
+}
+
+// A process that has a base, but for some; the last number is spent, or the first is next.
+fn ids(set: &str) -> Ids {
+    let base = Identity {
+        lineage: 0,
+        number: 1,
+    };
+    Ids {
+        lineage: 0,
+        base: if set == "new" || set == "tracked" {
+            None
+        } else {
+            Some(base)
+        },
+        next: if set == "last" { 1 << 63 } else { 2 },
+    }
 }
 
 fn is_answered(answer: &Answer, wanted: &str) -> bool {
@@ -135,12 +168,9 @@ fn each_call_in_each_phase(rt: HostRuntime) -> Result<(), Fail> {
             && let Some((word, wanted)) = rest.split_once(' ')
         {
             let phase = phase(when.as_bytes());
-            let config = config(alloc, set == "new")?;
-            let ids = Ids {
-                lineage: 0,
-                base: None,
-                next: if set == "last" { 1 << 63 } else { 1 },
-            };
+            let mut config = config(alloc, set == "new")?;
+            config.machine.track_dirty_pages = set == "tracked" || set == "based" || set == "last";
+            let ids = ids(set);
             let answer = match decide(phase, &config, &ids, call(alloc, word.as_bytes())?) {
                 Ok(change) => accepted_answer(alloc, &change, "a", phase, &config)?,
                 Err(why) => fault_answer(alloc, why)?,
@@ -149,7 +179,7 @@ fn each_call_in_each_phase(rt: HostRuntime) -> Result<(), Fail> {
             seen = seen.wrapping_add(1);
         }
     }
-    assert_eq!(rt; seen, 25);
+    assert_eq!(rt; seen, 31);
     for (is_new, text) in [(true, NEW_TEXT), (false, SET_TEXT)] {
         let told = config(alloc, is_new)?.json(alloc, Part::VmConfig, "a", Phase::Running)?;
         assert!(rt; told.as_slice() == text);

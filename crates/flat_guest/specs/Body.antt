@@ -1,11 +1,12 @@
--- The guests that a body's data are: its memory, its board, its timer and its harts.
-use Rattle.std.specs.Prelude.{ℕ, ◌≡◌, List, Option, Some, None, length, slice_get, slice_set}
+-- The guests that a body's data are: its memory, the marks of its pages, its board, its timer and its harts.
+use Rattle.std.specs.Prelude.{ℕ, ◌≡◌, Bool, List, Option, Some, None, length, slice_get, slice_set}
 use Rattle.vm_types.specs.declared.ids.ActorId.{ActorId}
 use Rattle.vm_types.specs.declared.ids.ActorId.TheVariants as actors
 use Rattle.vm_types.specs.declared.ids.PlaceId.{PlaceId}
 use Rattle.vm_types.specs.declared.op.Op.{Op}
 use Rattle.vm_types.specs.declared.reply.Reply.{Reply}
 use Rattle.guest_memory.specs.Memory as memory
+use Rattle.guest_pages.specs.Marks.{AreMarks}
 use Rattle.board_table.specs.Board.{Board}
 use Rattle.board_table.specs.Acts as board
 use Rattle.rv_supervisor.specs.declared.regs.Regs.{Regs}
@@ -20,9 +21,11 @@ pub record AreHarts (harts : List Hart) (g : Guest) : Type 0 where
   pub each : (k : ℕ) (start : Regs) (hart : Hart) → slice_get g.starts k ≡ Some start → slice_get harts k ≡ Some hart
       → LeadsTo start (g.steps (actors.Hart k)) hart
 
--- memory and board are the guest's, and its timer and its harts are where the steps lead
-pub record IsGuest (m : memory.Memory) (b : Board) (t : Timer) (harts : List Hart) (g : Guest) : Type 0 where
+-- memory and board are the guest's, the pages are marked that were written, and its timer and its harts are where the
+-- steps lead
+pub record IsGuest (m : memory.Memory) (marks : List Bool) (b : Board) (t : Timer) (harts : List Hart) (g : Guest) : Type 0 where
   pub memory_is : m ≡ g.memory
+  pub marks_are : AreMarks marks g.written
   pub board_is : b ≡ g.board
   pub timer_is : timer.LeadsTo (g.steps actors.Timer) t
   pub harts_are : AreHarts harts g

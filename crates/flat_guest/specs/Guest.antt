@@ -1,5 +1,6 @@
--- A guest: memory, the board, for each hart its registers at the start, and for each actor its steps since.
-use Rattle.std.specs.Prelude.{nat_lt, Bool, true, false, List, Option, Some, None, length, slice_get}
+-- A guest: memory, the board, for each hart its registers at the start, for each actor its steps since, and which pages
+-- were written.
+use Rattle.std.specs.Prelude.{ℕ, zero, suc, nat_lt, Bool, true, false, if◌then◌else◌, List, [], ◌∷◌, Option, Some, None, length, slice_get}
 use Rattle.vm_types.specs.declared.ids.ActorId.{ActorId}
 use Rattle.vm_types.specs.declared.ids.ActorId.TheVariants.{Timer, Hart}
 use Rattle.vm_types.specs.declared.op.Op.{Op}
@@ -12,11 +13,28 @@ use Rattle.timer_trace.specs.Traces as timer
 use Rattle.flat_guest.specs.declared.places.Layout.{Layout}
 use Rattle.flat_guest.specs.Places.{without_devices}
 
+-- `written` says of each page by its number whether an event wrote it since the guest started, goes on from a snapshot,
+-- or was last saved in one
 pub record Guest : Type 0 where
   pub memory : Memory
   pub board : Board
   pub starts : List Regs
   pub steps : ActorId → List Step
+  pub written : ℕ → Bool
+
+-- no page was written
+abbrev pub none_written : ℕ → Bool
+none_written i = false
+
+-- the numbers of those that were written, of so many pages from this one on
+abbrev pub numbers_written : (ℕ → Bool) → ℕ → ℕ → List ℕ
+numbers_written written i zero = []
+numbers_written written i (suc count) =
+    if written i then i ∷ numbers_written written (suc i) count else numbers_written written (suc i) count
+
+-- a guest of which no page was written, as one that was saved just now
+abbrev pub unwritten : Guest → Guest
+unwritten g = record g { written = none_written }
 
 -- the actors that there are: the timer, and the harts by their numbers
 abbrev pub is_actor : Guest → ActorId → Bool

@@ -7,7 +7,7 @@ use Rattle.board_table.specs.Board.{new_board}
 use Rattle.rv_supervisor.specs.declared.regs.Regs.{Regs}
 use Rattle.rv_supervisor.specs.Start.{start_regs}
 use Rattle.hart_trace.specs.Stopped.{stopped_regs}
-use Rattle.flat_guest.specs.Guest.{Guest}
+use Rattle.flat_guest.specs.Guest.{Guest, none_written}
 
 -- Hart 0 starts at the image, its number 0 in a0 and the device tree's address in a1, every other register 0. All
 -- others are stopped.
@@ -21,6 +21,7 @@ started harts mib loads = record {
   board = new_board harts;
   starts = start_of_harts harts mib;
   steps = λ actor. [];
+  written = none_written;
 }
 
 -- the timer is put back to its start, an advance that isn't made yet included

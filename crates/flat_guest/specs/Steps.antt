@@ -1,5 +1,5 @@
 -- The flat step: an actor's want is done where it belongs. And several of them.
-use Rattle.std.specs.Prelude.{ℕ, ◌≡◌, ◌<◌, ◌⊎◌, true, false, if◌then◌else◌, Bool, Option, Some, None}
+use Rattle.std.specs.Prelude.{ℕ, ◌≡◌, ◌<◌, ◌⊎◌, true, false, ◌||◌, if◌then◌else◌, Bool, Option, Some, None}
 use Rattle.std.specs.Prelude.{List, [], ◌∷◌, ◌++◌, length}
 use Rattle.vm_types.specs.declared.ids.ActorId.{ActorId}
 use Rattle.vm_types.specs.declared.ids.PlaceId.{PlaceId}
@@ -12,6 +12,7 @@ use Rattle.vm_types.specs.Fits.{out_fits}
 use Rattle.vm_types.specs.Ids.{same_actor}
 use Rattle.vm_types.specs.Serial.{OutFits}
 use Rattle.guest_memory.specs.Memory as memory
+use Rattle.guest_pages.specs.Marks.{writes_page}
 use Rattle.board_table.specs.Board.{Board}
 use Rattle.board_table.specs.Acts as board
 use Rattle.hart_trace.specs.Asks.{is_host_op}
@@ -54,11 +55,16 @@ board_after place b actor op = b
 abbrev pub steps_after : (ActorId → List Step) → ActorId → Step → ActorId → List Step
 steps_after steps actor s a = if same_actor a actor then steps a ++ s ∷ [] else steps a
 
+-- the page that an event wrote is one that was written
+abbrev pub written_after : (ℕ → Bool) → Entry → ℕ → Bool
+written_after written e i = written i || writes_page i e
+
 abbrev pub guest_after : Guest → Entry → Guest
 guest_after g e = record g {
   memory = memory_after e.place g.memory e.actor e.op;
   board = board_after e.place g.board e.actor e.op;
   steps = steps_after g.steps e.actor (record { op = e.op; reply = e.reply });
+  written = written_after g.written e;
 }
 
 -- an event: the actor's want is done by its place, or with the reply that is given

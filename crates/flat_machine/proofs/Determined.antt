@@ -27,10 +27,11 @@ use Rattle.flat_machine.specs.Outcome.Outcome.{Answered, Failed, NoMemory}
 use Rattle.flat_machine.specs.Machine.{Machine, running}
 use Rattle.flat_machine.specs.Items.{Answers, ItemStep, MemoryLine, Misfits, Moves, RegisterLine, Replies, RepliesLine, ShowsFrom, StepsLine, Talks, steps_text}
 use Rattle.snap_state.specs.declared.copy.StateCopy.{StateCopy}
-use Rattle.api_calls.specs.declared.call.SnapshotFiles.{SnapshotFiles}
+use Rattle.api_calls.specs.declared.call.SnapshotCreate.{SnapshotCreate}
+use Rattle.api_calls.specs.declared.call.SnapshotLoad.{SnapshotLoad}
 use Rattle.flat_snapshot.specs.Found.{Snapshot, found}
 use Rattle.flat_snapshot.proofs.Copied.{same_copy}
-use Rattle.flat_machine.specs.Requests.{CreateFails, Creates, Fails, Leaves, LeavesBy, Restores, RequestStep, allowed, created}
+use Rattle.flat_machine.specs.Requests.{CreateFails, Creates, Fails, Leaves, LeavesBy, Restores, RequestStep, allowed, created, parent_in}
 use Rattle.vm_config.specs.declared.change.Change.{Change}
 use Rattle.vm_config.specs.declared.change.Change.TheVariants as change
 use Rattle.api_calls.specs.declared.call.VmState.TheVariants.{Paused, Resumed}
@@ -47,19 +48,19 @@ both x y = (x.0 ∙ sym y.0, x.1 ∙ sym y.1)
 
 -- ---- requests
 
-creates_one : (guest : Option Guest) (m : Machine) (files : SnapshotFiles) (n k : Machine) → Creates guest m files n → Creates guest m files k → n ≡ k
-creates_one None m files n k x y = x ∙ sym y
-creates_one (Some g) m files n k (copy, of, is) (other, same, be) =
-    is ∙ ap (λ (c : StateCopy). created m g.memory.bytes files c) (same_copy m.config g copy other of same) ∙ sym be
+creates_one : (guest : Option Guest) (m : Machine) (it : SnapshotCreate) (n k : Machine) → Creates guest m it n → Creates guest m it k → n ≡ k
+creates_one None m it n k x y = x ∙ sym y
+creates_one (Some g) m it n k (copy, of, is) (other, same, be) =
+    is ∙ ap (λ (c : StateCopy). created m g it.files (parent_in m it) c) (same_copy m.config g copy other of same) ∙ sym be
 
-loads_one : (it : Result Snapshot Refusal) (m : Machine) (resumes : Bool) (n k : Machine) → Restores it m resumes n → Restores it m resumes k → n ≡ k
-loads_one (Ok it) m resumes n k x y = x ∙ sym y
-loads_one (Err why) m resumes n k x y = x ∙ sym y
+loads_one : (it : Result Snapshot Refusal) (m : Machine) (load : SnapshotLoad) (n k : Machine) → Restores it m load n → Restores it m load k → n ≡ k
+loads_one (Ok it) m load n k x y = x ∙ sym y
+loads_one (Err why) m load n k x y = x ∙ sym y
 
-create_fails_one : (guest : Option Guest) (m : Machine) (files : SnapshotFiles) (left : Left) (n k : Machine) → CreateFails guest m files left n
-    → CreateFails guest m files left k → n ≡ k
-create_fails_one None m files left n k x y = absurd x
-create_fails_one (Some g) m files left n k x y = x.4 ∙ sym y.4
+create_fails_one : (guest : Option Guest) (m : Machine) (it : SnapshotCreate) (left : Left) (n k : Machine) → CreateFails guest m it left n
+    → CreateFails guest m it left k → n ≡ k
+create_fails_one None m it left n k x y = absurd x
+create_fails_one (Some g) m it left n k x y = x.4 ∙ sym y.4
 
 leaves_one : (it : Change) (m n k : Machine) → Leaves m it n → Leaves m it k → n ≡ k
 leaves_one (change.BootSource source) m n k x y = x ∙ sym y
@@ -67,8 +68,8 @@ leaves_one (change.MachineConfig machine) m n k x y = x ∙ sym y
 leaves_one change.Start m n k x y = x ∙ sym y
 leaves_one (change.State Paused) m n k x y = x ∙ sym y
 leaves_one (change.State Resumed) m n k x y = x ∙ sym y
-leaves_one (change.CreateSnapshot files) m n k x y = creates_one m.guest m files n k x y
-leaves_one (change.LoadSnapshot load) m n k x y = loads_one (found m.saved load.files) m load.resume_vm n k x y
+leaves_one (change.CreateSnapshot it) m n k x y = creates_one m.guest m it n k x y
+leaves_one (change.LoadSnapshot load) m n k x y = loads_one (found m.saved load.files) m load n k x y
 leaves_one (change.Tell part) m n k x y = x ∙ sym y
 
 result_one : (r : Result Change Refusal) (m n k : Machine) → LeavesBy m r n → LeavesBy m r k → n ≡ k
@@ -83,7 +84,7 @@ fails_one (change.BootSource source) m left n k x y = absurd x
 fails_one (change.MachineConfig machine) m left n k x y = absurd x
 fails_one change.Start m left n k x y = x.1 ∙ sym y.1
 fails_one (change.State state) m left n k x y = absurd x
-fails_one (change.CreateSnapshot files) m left n k x y = create_fails_one m.guest m files left n k x y
+fails_one (change.CreateSnapshot it) m left n k x y = create_fails_one m.guest m it left n k x y
 fails_one (change.LoadSnapshot load) m left n k x y = x.1 ∙ sym y.1
 fails_one (change.Tell part) m left n k x y = absurd x
 

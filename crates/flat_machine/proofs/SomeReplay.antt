@@ -36,7 +36,8 @@ use Rattle.flat_guest.specs.Sound.{IsSound}
 use Rattle.flat_guest.specs.Steps.{Makes, is_given}
 use Rattle.flat_guest.proofs.Soundness.{actor_step, actor_steps, missing, sound_next, sound_restart, sound_start}
 use Rattle.gate_file.specs.Runs.{save_calls}
-use Rattle.api_calls.specs.declared.call.SnapshotFiles.{SnapshotFiles}
+use Rattle.api_calls.specs.declared.call.SnapshotCreate.{SnapshotCreate}
+use Rattle.api_calls.specs.declared.call.SnapshotLoad.{SnapshotLoad}
 use Rattle.flat_snapshot.specs.Found.{Snapshot, found}
 use Rattle.flat_snapshot.proofs.Copied.{some_copy}
 use Rattle.flat_snapshot.proofs.GoesOn.{carried_sound}
@@ -46,7 +47,7 @@ use Rattle.flat_machine.specs.Outcome.Outcome.{Answered}
 use Rattle.flat_machine.specs.Machine.{Machine, console_of, drained, drained_guest, is_off, new_machine, running, running_by}
 use Rattle.flat_machine.specs.Items.{Answers, ItemStep, MemoryLine, Misfits, Moves, RegisterLine, Replies, RepliesLine, Shows, ShowsFrom, StepsLine, Talks, steps_text}
 use Rattle.flat_machine.specs.Replay.{IsEnd, IsReplay, closed, closing, judged_script}
-use Rattle.flat_machine.specs.Requests.{Creates, Leaves, LeavesBy, Restores, RequestStep, allowed, answer_by, carried, configured, created, disk_of, halted, image_of, loads_from, started_from}
+use Rattle.flat_machine.specs.Requests.{Creates, Leaves, LeavesBy, Restores, RequestStep, allowed, answer_by, carried, configured, created, disk_of, halted, image_of, parent_in, loads_from, started_from}
 use Rattle.flat_machine.specs.Run.{Act, AllAnswered, OnBefore, Run, lines_done}
 use Rattle.flat_machine.proofs.Determined.{item_one}
 
@@ -75,15 +76,15 @@ halted_sound true guest sound = sound
 halted_sound false None sound = sound
 halted_sound false (Some g) sound = sound_restart g sound
 
-some_create : (guest : Option Guest) (m : Machine) (files : SnapshotFiles) → SoundBy guest → Sound m → (n : Machine) × Creates guest m files n × Sound n
-some_create None m files own sound = (m, refl, sound)
-some_create (Some g) m files own sound =
+some_create : (guest : Option Guest) (m : Machine) (it : SnapshotCreate) → SoundBy guest → Sound m → (n : Machine) × Creates guest m it n × Sound n
+some_create None m it own sound = (m, refl, sound)
+some_create (Some g) m it own sound =
     let copy = some_copy m.config g own in
-    (created m g.memory.bytes files copy.0, (copy.0, copy.1, refl), sound)
+    (created m g it.files (parent_in m it) copy.0, (copy.0, copy.1, refl), record { timer_on = own.timer_on; harts_on = own.harts_on })
 
-some_load : (it : Result Snapshot Refusal) (m : Machine) (resumes : Bool) → Sound m → (n : Machine) × Restores it m resumes n × Sound n
-some_load (Ok it) m resumes sound = (carried m resumes it, refl, carried_sound it.copy it.bytes)
-some_load (Err why) m resumes sound = (m, refl, sound)
+some_load : (it : Result Snapshot Refusal) (m : Machine) (load : SnapshotLoad) → Sound m → (n : Machine) × Restores it m load n × Sound n
+some_load (Ok it) m load sound = (carried m load it, refl, carried_sound it.copy it.bytes)
+some_load (Err why) m load sound = (m, refl, sound)
 
 -- what an allowed change leaves
 some_change : (it : Change) (m : Machine) → Sound m → (n : Machine) × Leaves m it n × Sound n
@@ -94,8 +95,8 @@ some_change change.Start m sound =
 some_change (change.State Paused) m sound =
     (record m { guest = halted m.paused m.guest; paused = true }, refl, halted_sound m.paused m.guest sound)
 some_change (change.State Resumed) m sound = (record m { paused = false }, refl, sound)
-some_change (change.CreateSnapshot files) m sound = some_create m.guest m files sound sound
-some_change (change.LoadSnapshot load) m sound = some_load (found m.saved load.files) m load.resume_vm sound
+some_change (change.CreateSnapshot it) m sound = some_create m.guest m it sound sound
+some_change (change.LoadSnapshot load) m sound = some_load (found m.saved load.files) m load sound
 some_change (change.Tell part) m sound = (m, refl, sound)
 
 some_result : (made : Result Change Refusal) (m : Machine) → Sound m → (n : Machine) × LeavesBy m made n × Sound n

@@ -1,5 +1,5 @@
 -- What the flat machine makes of a request.
-use Rattle.std.specs.Prelude.{ℕ, ◌≡◌, ◌≢◌, ◌+◌, Bool, true, false, not, List, ◌++◌, length, Option, Some, None, option_and_then, option_map, Result, Ok, Err}
+use Rattle.std.specs.Prelude.{ℕ, ◌≡◌, ◌≢◌, ◌+◌, Bool, true, false, not, List, ◌∷◌, ◌++◌, length, Option, Some, None, option_and_then, option_map, Result, Ok, Err}
 use Rattle.std.specs.FinMap.{get, insert}
 use Rattle.vm_types.specs.declared.identity.Identity.{Identity}
 use Rattle.vm_outside.specs.Calls.{MakesFront}
@@ -10,6 +10,10 @@ use Rattle.http_stream.specs.declared.request.Next.{Next}
 use Rattle.http_stream.specs.declared.request.Next.TheVariants as next
 use Rattle.api_calls.specs.declared.call.BootSource.{BootSource}
 use Rattle.api_calls.specs.declared.call.SnapshotFiles.{SnapshotFiles}
+use Rattle.api_calls.specs.declared.call.SnapshotCreate.{SnapshotCreate}
+use Rattle.api_calls.specs.declared.call.SnapshotType.{SnapshotType}
+use Rattle.api_calls.specs.declared.call.SnapshotType.TheVariants as snapshot
+use Rattle.api_calls.specs.declared.call.SnapshotLoad.{SnapshotLoad}
 use Rattle.api_calls.specs.declared.call.VmState.TheVariants.{Paused, Resumed}
 use Rattle.api_calls.specs.Call.{call_of, ◌>>=◌}
 use Rattle.vm_config.specs.declared.config.Config.{Config}
@@ -26,12 +30,12 @@ use Rattle.guest_memory.specs.Boot.{Loads, initrd_start}
 use Rattle.devtree.specs.declared.machine.InitrdPlace.{InitrdPlace}
 use Rattle.devtree.specs.Machine.{tree_bytes}
 use Rattle.script_output.specs.Output.{reply_line}
-use Rattle.flat_guest.specs.Guest.{Guest}
+use Rattle.flat_guest.specs.Guest.{Guest, unwritten}
 use Rattle.flat_guest.specs.Start.{started, timer_restarted}
 use Rattle.snap_state.specs.declared.copy.StateCopy.{StateCopy}
 use Rattle.flat_snapshot.specs.Carried.{carried_config, carried_guest}
 use Rattle.flat_snapshot.specs.Copies.{IsCopyOf}
-use Rattle.flat_snapshot.specs.Files.{calls_of, memory_file, state_file}
+use Rattle.flat_snapshot.specs.Files.{calls_of, head_of, saved_pages, state_file}
 use Rattle.flat_snapshot.specs.Found.{Snapshot, found}
 use Rattle.flat_machine.specs.Outcome.{Left, Outcome}
 use Rattle.flat_machine.specs.Outcome.Outcome.{Answered, Failed, NoMemory}
@@ -141,34 +145,44 @@ next_identity m = record { lineage = m.ids.lineage; number = m.ids.next }
 abbrev pub spent : Machine → Ids
 spent m = record m.ids { next = m.ids.next + 1 }
 
--- A create of this copy, of this memory: the files hold it, its calls were made, and it is the base from now on.
-abbrev pub created : Machine → List ℕ → SnapshotFiles → StateCopy → Machine
-created m bytes files copy = record m {
-  saved = insert (insert m.saved files.mem_file_path (memory_file (next_identity m) copy.pages bytes))
+-- a diff is one since the base
+abbrev pub parent_of : SnapshotType → Option Identity → Option Identity
+parent_of snapshot.Full base = None
+parent_of snapshot.Diff base = base
+
+abbrev pub parent_in : Machine → SnapshotCreate → Option Identity
+parent_in m it = parent_of it.snapshot_type m.ids.base
+
+-- A create of this copy of a guest, since the parent if there is one: the files hold it, its calls were made, it is the
+-- base from now on, and no page was written since.
+abbrev pub created : Machine → Guest → SnapshotFiles → Option Identity → StateCopy → Machine
+created m g files parent copy = record m {
+  saved = insert (insert m.saved files.mem_file_path
+      (1 ∷ head_of parent (next_identity m) copy.pages g ++ saved_pages parent copy.pages g))
       files.snapshot_path (state_file (next_identity m) copy);
-  calls = m.calls ++ calls_of files.mem_file_path files.snapshot_path (next_identity m) copy bytes;
+  calls = m.calls ++ calls_of files.mem_file_path files.snapshot_path parent (next_identity m) copy g;
   ids = record (spent m) { base = Some (next_identity m) };
+  guest = Some (unwritten g);
 }
 
 -- of the guest's own copy
-abbrev pub Creates : Option Guest → Machine → SnapshotFiles → Machine → Type 0
-Creates None m files n = n ≡ m
-Creates (Some g) m files n =
-    (copy : StateCopy) × IsCopyOf m.config g copy × (n ≡ created m g.memory.bytes files copy)
+abbrev pub Creates : Option Guest → Machine → SnapshotCreate → Machine → Type 0
+Creates None m it n = n ≡ m
+Creates (Some g) m it n = (copy : StateCopy) × IsCopyOf m.config g copy × (n ≡ created m g it.files (parent_in m it) copy)
 
 -- A load of this snapshot: its guest goes on, or stands still; the machine keeps its id, its lineage, its connection and
--- its files.
-abbrev pub carried : Machine → Bool → Snapshot → Machine
-carried m resumes it = record m {
+-- its files. Whether dirty pages are tracked is said by the load.
+abbrev pub carried : Machine → SnapshotLoad → Snapshot → Machine
+carried m load it = record m {
   ids = record { lineage = m.ids.lineage; base = Some it.identity; next = it.identity.number + 1 };
-  config = carried_config it.copy.configuration;
+  config = carried_config load.track_dirty_pages it.copy.configuration;
   guest = Some (carried_guest it.copy it.bytes);
-  paused = not resumes;
+  paused = not load.resume_vm;
 }
 
-abbrev pub Restores : Result Snapshot Refusal → Machine → Bool → Machine → Type 0
-Restores (Ok it) m resumes n = n ≡ carried m resumes it
-Restores (Err why) m resumes n = n ≡ m
+abbrev pub Restores : Result Snapshot Refusal → Machine → SnapshotLoad → Machine → Type 0
+Restores (Ok it) m load n = n ≡ carried m load it
+Restores (Err why) m load n = n ≡ m
 
 -- An allowed change leaves n of m.
 abbrev pub Leaves : Machine → Change → Machine → Type 0
@@ -177,8 +191,8 @@ Leaves m (change.MachineConfig machine) n = n ≡ configured m (change.MachineCo
 Leaves m change.Start n = n ≡ configured (started_from (image_of m) (disk_of m) m) change.Start
 Leaves m (change.State Paused) n = n ≡ record m { guest = halted m.paused m.guest; paused = true }
 Leaves m (change.State Resumed) n = n ≡ record m { paused = false }
-Leaves m (change.CreateSnapshot files) n = Creates m.guest m files n
-Leaves m (change.LoadSnapshot load) n = Restores (found m.saved load.files) m load.resume_vm n
+Leaves m (change.CreateSnapshot it) n = Creates m.guest m it n
+Leaves m (change.LoadSnapshot load) n = Restores (found m.saved load.files) m load n
 Leaves m (change.Tell part) n = n ≡ m
 
 -- a refused call changes nothing
@@ -192,21 +206,23 @@ LeavesBy m (Err why) n = n ≡ m
 abbrev pub untouched : Machine → Left
 untouched m = record { saved = m.saved; calls = m.calls }
 
--- A create: its two names hold anything, the first of its calls were made, and not all; its number is spent.
-abbrev pub CreateFails : Option Guest → Machine → SnapshotFiles → Left → Machine → Type 0
-CreateFails None m files left n = ⊥
-CreateFails (Some g) m files left n =
+-- A create: its two names hold anything, the first of its calls were made, and not all; its number is spent, and the
+-- pages that were written stay so.
+abbrev pub CreateFails : Option Guest → Machine → SnapshotCreate → Left → Machine → Type 0
+CreateFails None m it left n = ⊥
+CreateFails (Some g) m it left n =
     (copy : StateCopy) × IsCopyOf m.config g copy
-    × ((name : List ℕ) → name ≢ files.mem_file_path → name ≢ files.snapshot_path
+    × ((name : List ℕ) → name ≢ it.files.mem_file_path → name ≢ it.files.snapshot_path
     → get left.saved name ≡ get m.saved name)
-    × MakesFront (calls_of files.mem_file_path files.snapshot_path (next_identity m) copy g.memory.bytes) m.calls left.calls
+    × MakesFront (calls_of it.files.mem_file_path it.files.snapshot_path (parent_in m it) (next_identity m) copy g)
+    m.calls left.calls
     × (n ≡ record m { saved = left.saved; calls = left.calls; ids = spent m })
 
 -- a start or a load changes nothing; no other change calls the files
 abbrev pub Fails : Machine → Change → Left → Machine → Type 0
 Fails m change.Start left n = (left ≡ untouched m) × (n ≡ m)
 Fails m (change.LoadSnapshot load) left n = (left ≡ untouched m) × (n ≡ m)
-Fails m (change.CreateSnapshot files) left n = CreateFails m.guest m files left n
+Fails m (change.CreateSnapshot it) left n = CreateFails m.guest m it left n
 Fails m it left n = ⊥
 
 -- ---- what is due

@@ -10,7 +10,8 @@ ghost use Rattle.flat_machine.specs.Outcome.{Outcome};
 ghost use Rattle.flat_machine.specs.Replay.{IsReplay};
 ghost use Rattle.flat_machine.specs.Run.{Act, AllAnswered, Run};
 ghost use Rattle.flat_machine.specs.Stops.{IsStopped};
-ghost use Rattle.api_calls.specs.declared.call.SnapshotFiles.{SnapshotFiles};
+ghost use Rattle.api_calls.specs.declared.call.SnapshotCreate.{SnapshotCreate};
+ghost use Rattle.api_calls.specs.declared.call.SnapshotType.TheVariants as snapshot;
 ghost use Rattle.api_calls.specs.declared.call.SnapshotLoad.{SnapshotLoad};
 ghost use Rattle.vm_config.specs.declared.change.Change.TheVariants as change;
 ghost use Rattle.guest_memory.specs.Ram.{page_size};
@@ -62,17 +63,17 @@ pub fn whole_lines()
         IsStopped script (new_machine id saved calls) acts part (Exit.Fault name) text end → part ≡ [] }
 {}
 
-/// The two files of a create that was answered are loaded as the machine of that copy, by any machine whose files hold
+/// The two files of a full create that was answered are loaded as the machine of that copy, by any machine whose files hold
 /// what they held then: its guest, its configuration and its identity are the copy's, and the rest is its own. The copy
 /// is one that the files can have, and its memory is all of its pages.
 pub fn create_then_load()
-    ensures { (m n k p : Machine) (g : Guest) (files : SnapshotFiles) (load : SnapshotLoad) →
-        m.guest ≡ Some g → files.mem_file_path ≢ files.snapshot_path →
+    ensures { (m n k p : Machine) (g : Guest) (it : SnapshotCreate) (load : SnapshotLoad) →
+        it.snapshot_type ≡ snapshot.Full → m.guest ≡ Some g → it.files.mem_file_path ≢ it.files.snapshot_path →
         ((copy : StateCopy) → IsCopyOf m.config g copy →
         IsSaved (record { identity = next_identity m; copy = copy }) × header.Fits (new_header copy.pages (next_identity m))
         × (length g.memory.bytes ≡ page_size * copy.pages)) →
-        Leaves m (change.CreateSnapshot files) n → load.files ≡ files → k.saved ≡ n.saved →
+        Leaves m (change.CreateSnapshot it) n → load.files ≡ it.files → k.saved ≡ n.saved →
         Leaves k (change.LoadSnapshot load) p →
         (copy : StateCopy) × IsCopyOf m.config g copy
-        × (p ≡ carried k load.resume_vm (record { identity = next_identity m; copy = copy; bytes = g.memory.bytes })) }
+        × (p ≡ carried k load (record { identity = next_identity m; copy = copy; bytes = g.memory.bytes })) }
 {}

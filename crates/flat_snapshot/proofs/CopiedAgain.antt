@@ -1,5 +1,5 @@
 -- The guest that goes on from a snapshot has that snapshot's copy.
-use Rattle.std.proofs.Common.{◌≡◌, ◌<◌, ◌≤◌, ◌⊎◌, inl, inr, ℕ, zero, suc, ◌+◌, ◌*◌, ◌/◌, ◌%◌, nat_lt, nat_le, not, ◌^◌, if◌then◌else◌, ◌==◌, true, ◌&&◌, refl, sym, ap, subst, ◌∙◌, List, [], ◌∷◌, ◌++◌, length, map, replicate, Option, Some, None, slice_get, slice_set, append_assoc, arith}
+use Rattle.std.proofs.Common.{Bool, ◌≡◌, ◌<◌, ◌≤◌, ◌⊎◌, inl, inr, ℕ, zero, suc, ◌+◌, ◌*◌, ◌/◌, ◌%◌, nat_lt, nat_le, not, ◌^◌, if◌then◌else◌, ◌==◌, true, ◌&&◌, refl, sym, ap, subst, ◌∙◌, List, [], ◌∷◌, ◌++◌, length, map, replicate, Option, Some, None, slice_get, slice_set, append_assoc, arith}
 use Rattle.std.specs.Prelude.{is_some}
 use Rattle.std.specs.List.{list_all, AllByRecursion}
 use Rattle.std.proofs.lemmas.Bool.{and_parts, eqb-true, leb-true, ltb-true, or_cases}
@@ -32,7 +32,7 @@ use Rattle.snap_state.specs.Harts.{hart, place}
 use Rattle.snap_state.specs.Valid.{asks, has_machine, is_before, is_board, is_hart, is_machine, is_reserved, is_rising, is_source, is_valid, rises_from}
 use Rattle.snap_state.proofs.Parts.{hart_again}
 use Rattle.flat_snapshot.specs.Copies.{AreHarts, IsCopyOf, reservations_from}
-use Rattle.flat_snapshot.specs.Carried.{carried_config, carried_guest, hart_steps, slots_with, steps_at, steps_from, untracked}
+use Rattle.flat_snapshot.specs.Carried.{carried_config, carried_guest, hart_steps, slots_with, steps_at, steps_from, with_tracking}
 use Rattle.flat_snapshot.proofs.GoesOn.{access_fetches}
 
 -- ---- harts
@@ -233,10 +233,10 @@ harts_fit : (c : StateCopy) → state_copy.Fits c → AllByRecursion hart.Fits c
 unfolding state_copy list_of
 harts_fit c fits = fits.1.1.0.1
 
-pub copied_again : (identity : Identity) (c : StateCopy) (bytes : List ℕ) → IsSaved (record { identity = identity; copy = c })
+pub copied_again : (identity : Identity) (c : StateCopy) (bytes : List ℕ) (tracking : Bool) → IsSaved (record { identity = identity; copy = c })
     → length bytes ≡ page_size * c.pages
-    → IsCopyOf (carried_config c.configuration) (carried_guest c bytes) (untracked c)
-copied_again identity c bytes saved whole =
+    → IsCopyOf (carried_config tracking c.configuration) (carried_guest c bytes) (with_tracking tracking c)
+copied_again identity c bytes tracking saved whole =
     let parts = parts_of c saved.valid in
     let pages : c.pages ≡ length bytes / page_size = omega (arith, whole) in
     let harts = sym (harts_again c.pages c.harts parts.harts) in
@@ -246,5 +246,5 @@ copied_again identity c bytes saved whole =
     ap (λ (n : ℕ). hart_steps (slice_get c.harts n)) same in (
       harts_of c,
       harts_lead c.pages c.harts 0 (steps_from c.harts) first parts.harts (harts_fit c saved.fits.1.1),
-      λ i. record (untracked c) { pages = pages i; harts = harts i; reservations = reserved i },
+      λ i. record (with_tracking tracking c) { pages = pages i; harts = harts i; reservations = reserved i },
     )

@@ -1,5 +1,5 @@
 -- The guest and the configuration that go on from a snapshot.
-use Rattle.std.specs.Prelude.{ℕ, ◌+◌, ◌*◌, true, false, List, [], ◌∷◌, Option, Some, None, map, slice_get, slice_set}
+use Rattle.std.specs.Prelude.{ℕ, ◌+◌, ◌*◌, Bool, true, List, [], ◌∷◌, Option, Some, None, map, slice_get, slice_set}
 use Rattle.vm_types.specs.declared.ids.ActorId.{ActorId}
 use Rattle.vm_types.specs.declared.ids.ActorId.TheVariants.{Hart as HartId}
 use Rattle.vm_types.specs.declared.op.Op.{Op}
@@ -8,7 +8,7 @@ use Rattle.vm_types.specs.declared.entry.Step.{Step}
 use Rattle.vm_config.specs.declared.config.Config.{Config}
 use Rattle.le_fields.specs.Fields.{bytes_of}
 use Rattle.guest_memory.specs.Reserved.{hart_limit, unreserved}
-use Rattle.flat_guest.specs.Guest.{Guest}
+use Rattle.flat_guest.specs.Guest.{Guest, none_written}
 use Rattle.snap_state.specs.declared.configuration.Configuration.{Configuration}
 use Rattle.snap_state.specs.declared.hart.SavedHart.{SavedHart}
 use Rattle.snap_state.specs.declared.hart.HartPlace.{HartPlace}
@@ -42,25 +42,26 @@ carried_guest copy bytes = record {
   board = board_of copy;
   starts = map regs_of copy.harts;
   steps = steps_from copy.harts;
+  written = none_written;
 }
 
--- the configuration of the copy, in which no dirty page is tracked
-abbrev pub carried_config : Configuration → Config
-carried_config c = record {
+-- the configuration of the copy; whether dirty pages are tracked is said by the load
+abbrev pub carried_config : Bool → Configuration → Config
+carried_config tracking c = record {
   boot_source = Some (record {
     kernel_image_path = c.boot_source.kernel_image_path;
     initrd_path = c.boot_source.initrd_path;
     boot_args = c.boot_source.boot_args;
   });
-  machine = record c.machine { track_dirty_pages = false };
+  machine = record c.machine { track_dirty_pages = tracking };
   configured = true;
 }
 
--- the copy of what goes on, in which no dirty page is tracked
-abbrev pub untracked : StateCopy → StateCopy
-untracked copy = record copy {
+-- the copy of what goes on
+abbrev pub with_tracking : Bool → StateCopy → StateCopy
+with_tracking tracking copy = record copy {
   configuration = record copy.configuration {
-    machine = record copy.configuration.machine { track_dirty_pages = false };
+    machine = record copy.configuration.machine { track_dirty_pages = tracking };
   };
-  track_dirty_pages = false;
+  track_dirty_pages = tracking;
 }

@@ -1,12 +1,19 @@
 -- The two files of a snapshot, and the calls that write them. Each is a total function: whether a file of these bytes
 -- is one that can be loaded is for the load to judge.
-use Rattle.std.specs.Prelude.{ℕ, List, ◌∷◌, ◌++◌, drop}
+use Rattle.std.specs.Prelude.{ℕ, List, ◌∷◌, ◌++◌, drop, Option, Some, None}
 use Rattle.vm_types.specs.declared.identity.Identity.{Identity}
 use Rattle.vm_outside.specs.Calls.{FileCall}
+use Rattle.flat_guest.specs.Guest.{Guest, numbers_written}
 use Rattle.snap_memory.specs.Headers.{header, new_header}
+use Rattle.snap_diff.specs.Copies.{DiffCopy, diff_of, pages_at}
+use Rattle.snap_diff.specs.Headers as diffs
+use Rattle.snap_diff.specs.Headers.{header_of}
+use Rattle.snap_diff.specs.Diffs.{table_bytes}
 use Rattle.snap_state.specs.declared.copy.StateCopy.{StateCopy}
 use Rattle.snap_state.specs.Files as state
 use Rattle.snap_writer.specs.Create.{create_calls}
+
+-- ---- the memory file of a full snapshot
 
 -- the header of a memory file of so many pages, behind its gate
 unfoldable pub memory_head : Identity → ℕ → List ℕ
@@ -15,6 +22,35 @@ memory_head identity pages = drop 1 (header.bytes (new_header pages identity))
 -- an open gate, the header and the bytes of memory
 abbrev pub memory_file : Identity → ℕ → List ℕ → List ℕ
 memory_file identity pages bytes = 1 ∷ memory_head identity pages ++ bytes
+
+-- ---- that of a diff
+
+-- the diff of a guest's memory of so many pages since the parent: the pages that were written
+abbrev pub diff_in : Identity → Identity → ℕ → Guest → DiffCopy
+diff_in parent identity pages g =
+    diff_of parent (record { identity = identity; pages = pages; bytes = g.memory.bytes }) (numbers_written g.written 0 pages)
+
+-- the header and the page numbers, behind the gate
+unfoldable pub diff_head : DiffCopy → List ℕ
+diff_head d = drop 1 (diffs.header.bytes (header_of d) ++ table_bytes d.numbers)
+
+-- an open gate, that, and the pages
+abbrev pub diff_file : DiffCopy → List ℕ
+diff_file d = 1 ∷ diff_head d ++ d.bytes
+
+-- ---- either: a diff has a parent, and a full snapshot has none
+
+-- what stands between the gate and the pages
+abbrev pub head_of : Option Identity → Identity → ℕ → Guest → List ℕ
+head_of None identity pages g = memory_head identity pages
+head_of (Some parent) identity pages g = diff_head (diff_in parent identity pages g)
+
+-- the pages
+abbrev pub saved_pages : Option Identity → ℕ → Guest → List ℕ
+saved_pages None pages g = g.memory.bytes
+saved_pages (Some parent) pages g = pages_at (numbers_written g.written 0 pages) g.memory.bytes
+
+-- ---- the state file
 
 -- what stands behind the gate of a state file
 unfoldable pub state_body : Identity → StateCopy → List ℕ
@@ -25,7 +61,9 @@ state_body identity copy =
 abbrev pub state_file : Identity → StateCopy → List ℕ
 state_file identity copy = 1 ∷ state_body identity copy
 
--- the calls of a create, in their order
-abbrev pub calls_of : List ℕ → List ℕ → Identity → StateCopy → List ℕ → List FileCall
-calls_of memory_path state_path identity copy bytes =
-    create_calls memory_path (memory_head identity copy.pages) bytes state_path (state_body identity copy)
+-- ---- the calls of a create, in their order
+
+abbrev pub calls_of : List ℕ → List ℕ → Option Identity → Identity → StateCopy → Guest → List FileCall
+calls_of memory_path state_path parent identity copy g =
+    create_calls memory_path (head_of parent identity copy.pages g) (saved_pages parent copy.pages g) state_path
+    (state_body identity copy)

@@ -1,5 +1,5 @@
 // What holds of every guest, and of every snapshot.
-ghost use Rattle.std.specs.Prelude.{◌≡◌, ◌≢◌, ◌*◌, ◌⊎◌, ℕ, List, IsTrue, IsErr, Ok, Err, length};
+ghost use Rattle.std.specs.Prelude.{◌≡◌, ◌≢◌, ◌*◌, ◌⊎◌, ℕ, Bool, List, IsTrue, IsErr, Ok, Err, length};
 ghost use Rattle.std.specs.FinMap.{get, insert};
 ghost use Rattle.vm_types.specs.Saved.{Saved};
 ghost use Rattle.vm_types.specs.declared.identity.Identity.{Identity};
@@ -16,7 +16,7 @@ ghost use Rattle.vm_config.specs.declared.config.Config.{Config};
 ghost use Rattle.flat_guest.specs.Guest.{Guest};
 ghost use Rattle.flat_guest.specs.Sound.{IsSound};
 ghost use Rattle.snap_state.specs.declared.copy.StateCopy.{StateCopy};
-ghost use Rattle.flat_snapshot.specs.Carried.{carried_config, carried_guest, untracked};
+ghost use Rattle.flat_snapshot.specs.Carried.{carried_config, carried_guest, with_tracking};
 ghost use Rattle.flat_snapshot.specs.Copies.{IsCopyOf};
 
 /// A guest has one copy at most, and one that is never stuck has one.
@@ -31,12 +31,12 @@ pub fn goes_on()
     ensures { (copy : StateCopy) (bytes : List ℕ) → IsSound (carried_guest copy bytes) }
 {}
 
-/// The copy of the guest that goes on from a snapshot is the one that it goes on from, but that no dirty page is
-/// tracked.
+/// The copy of the guest that goes on from a snapshot is the one that it goes on from, but that the load says whether
+/// dirty pages are tracked.
 pub fn copied_again()
-    ensures { (identity : Identity) (copy : StateCopy) (bytes : List ℕ) →
+    ensures { (identity : Identity) (copy : StateCopy) (bytes : List ℕ) (tracking : Bool) →
         IsSaved (record { identity = identity; copy = copy }) → length bytes ≡ page_size * copy.pages →
-        IsCopyOf (carried_config copy.configuration) (carried_guest copy bytes) (untracked copy) }
+        IsCopyOf (carried_config tracking copy.configuration) (carried_guest copy bytes) (with_tracking tracking copy) }
 {}
 
 /// Where a create put the two files of a copy that a state file can have, of a memory of its pages, a load finds just

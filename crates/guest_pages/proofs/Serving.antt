@@ -11,10 +11,12 @@ use Rattle.rv_rows.specs.declared.memory.Width.{Width}
 use Rattle.rv_rows.specs.Loads.{width_bytes}
 use Rattle.guest_memory.specs.Ram.{ram_start, page_size, page_offset, is_ram}
 use Rattle.guest_memory.specs.Route.{page_of}
-use Rattle.guest_pages.specs.Pages.{PageValue, is_within, page_read, page_written, page_touch, flat_of}
+use Rattle.guest_pages.specs.Pages.{PageValue, is_within, page_read, page_written, page_touch, flat_of, marks_of}
+use Rattle.guest_pages.specs.Marks.{marks_after}
 use Rattle.guest_pages.specs.Flat.{IsPage, ArePages}
 use Rattle.guest_pages.specs.Words.{read_of, write_of, at_place, served, pages_at, place_among}
 use Rattle.guest_pages.proofs.Here.{here, within, page_at}
+use Rattle.guest_pages.proofs.Marking.{acted_marks}
 use Rattle.guest_pages.proofs.Sets.{act_stays, act_reply, act_memory, act_pages}
 
 pub found : (size n at len : ℕ) → size ≡ 4096 * n → ram_start ≤ at → 1 ≤ len → (at - ram_start) / 4096 < n → (at - ram_start) % 4096 + len ≤ 4096
@@ -91,6 +93,18 @@ module _ (value pages : List PageValue) (i : ℕ) (old : PageValue) (view : valu
         done : (t : Bool) → t ≡ true → (let answer : Reply × PageValue = cond t (Done, page_written old writer at piece) (AccessFault, old) in answer.1) ≡ page_written old writer at piece
         done true e = refl
         done false e = cc
+
+    replied : Done ≡ (page_touch old writer (write_of width at word)).0
+    replied = sym (done (is_within old.number (length old.bytes) at (length piece)) (is_inside (length old.bytes) at (length piece) is_page.whole place))
+      where
+        done : (t : Bool) → t ≡ true → (let answer : Reply × PageValue = cond t (Done, page_written old writer at piece) (AccessFault, old) in answer.0) ≡ Done
+        done true e = refl
+        done false e = cc
+
+    pub word_marks : marks_of (set pages i new) ≡ marks_after (place_among value (write_of width at word)) (marks_of value) (write_of width at word) Done
+    word_marks =
+        acted_marks value pages i writer (write_of width at word) old new Done view was now replied
+        ∙ sym (ap (λ (p : PlaceId). marks_after p (marks_of value) (write_of width at word) Done) place)
 
     pub word_stays : ArePages 0 (set pages i new)
     word_stays = act_stays value pages i writer (write_of width at word) old new view are lt was now

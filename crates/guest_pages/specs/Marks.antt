@@ -1,7 +1,6 @@
--- Which pages events have written, and marks that say so.
-use Rattle.std.specs.Prelude.{ℕ, suc, ◌≡◌, ◌==◌, Bool, true, false, ◌&&◌, ◌||◌, List, [], ◌∷◌}
+-- Which pages acts write, and marks that say so.
+use Rattle.std.specs.Prelude.{ℕ, suc, ◌≡◌, ◌==◌, Bool, true, false, ◌&&◌, ◌||◌, if◌then◌else◌, List, [], ◌∷◌, Some, slice_get, slice_set}
 use Rattle.vm_types.specs.declared.ids.ActorId.{ActorId}
-use Rattle.std.specs.List.{list_any}
 use Rattle.vm_types.specs.declared.entry.Entry.{Entry}
 use Rattle.vm_types.specs.declared.ids.PlaceId.{PlaceId}
 use Rattle.vm_types.specs.declared.op.Op.{Op}
@@ -28,15 +27,21 @@ is_written_by p [] = false
 is_written_by p (act ∷ acts) =
     is_written act.1 (page_touch p act.0 act.1).0 || is_written_by (page_touch p act.0 act.1).1 acts
 
--- the event wrote this page
+-- the event wrote the page of this number
 abbrev pub writes_page : ℕ → Entry → Bool
 writes_page i e = same_place e.place (PlaceId.Page i) && is_written e.op e.reply
 
--- one of the events since wrote this page
-abbrev pub was_written : ℕ → List Entry → Bool
-was_written i since = list_any (writes_page i) since
+-- what an act so answered leaves of the marks, by its place
+abbrev pub marks_after : PlaceId → List Bool → Op → Reply → List Bool
+marks_after (PlaceId.Page i) marks op reply = if is_written op reply then slice_set marks i true else marks
+marks_after place marks op reply = marks
 
--- each page from this number on is marked exactly where one of the events wrote it
-abbrev pub AreMarked : List Entry → ℕ → List PageValue → Type 0
-AreMarked since i [] = Unit {0}
-AreMarked since i (p ∷ ps) = (p.marked ≡ was_written i since) × AreMarked since (suc i) ps
+-- the numbers of those that are marked, of pages from this number on
+abbrev pub marked_from : ℕ → List Bool → List ℕ
+marked_from i [] = []
+marked_from i (true ∷ marks) = i ∷ marked_from (suc i) marks
+marked_from i (false ∷ marks) = marked_from (suc i) marks
+
+-- each of these pages is marked exactly where it was written
+abbrev pub AreMarks : List Bool → (ℕ → Bool) → Type 0
+AreMarks marks written = (i : ℕ) (marked : Bool) → slice_get marks i ≡ Some marked → marked ≡ written i

@@ -6,6 +6,7 @@ ghost use Rattle.guest_memory.specs.Memory.{touch};
 ghost use Rattle.guest_memory.specs.Route.{access_place, page_of};
 ghost use Rattle.guest_pages.specs.Pages.{PageValue, cleared, empty_memory, filled, flat_of, held_at, loaded, marks_of};
 ghost use Rattle.guest_pages.specs.Pages.{new_pages, page_holding, page_touch, unmarked};
+ghost use Rattle.guest_pages.specs.Marks.{marked_from, marks_after};
 ghost use Rattle.guest_pages.specs.Words.{pages_at, place_among, read_of, read_reply, served, write_of, write_reply};
 
 use crate::page::Page;
@@ -78,6 +79,7 @@ impl PageSet {
         ensures page { (d : PageValue) → result ≡ (page_touch (slice_index_or self.old number d) actor op.now).0 }
         ensures pages { (d : PageValue) →
             self.new ≡ slice_set self.old number (page_touch (slice_index_or self.old number d) actor op.now).1 }
+        ensures marks { marks_of self.new ≡ marks_after (PlaceId.Page number) (marks_of self.old) op.now result }
         ensures len { length self.new ≡ length self.old }
     {
         self.pages[number].act(actor, op)
@@ -122,6 +124,8 @@ impl PageSet {
         ensures memory { flat_of self.new ≡ (served self.old writer (write_of width at word)).1 }
         ensures pages { (d : PageValue) → self.new ≡
             pages_at (place_among self.old (write_of width at word)) d self.old writer (write_of width at word) }
+        ensures marks { marks_of self.new ≡ marks_after (place_among self.old (write_of width at word))
+            (marks_of self.old) (write_of width at word) (write_reply result) }
         ensures count { length self.new ≡ length self.old }
     {
         let Some(number) = self.find(at, width.bytes()) else {
@@ -131,9 +135,19 @@ impl PageSet {
         true
     }
 
+    /// The numbers of the pages that are marked, in rising order.
+    pub fn marked(&self, alloc: Global) -> Result<Vec<u32>, AllocError>
+        requires { length self.now < 2 ^ 32 }
+        ensures { IfOk result (λ numbers. numbers.items ≡ marked_from 0 (marks_of self.now)) }
+    {
+        marked_in(alloc, &self.pages)
+    }
+
     /// Takes every mark away.
     pub fn clear_marks(&mut self)
-        ensures { self.new ≡ cleared self.old }
+        ensures pages { self.new ≡ cleared self.old }
+        ensures memory { flat_of self.new ≡ flat_of self.old }
+        ensures marks { marks_of self.new ≡ replicate (length self.old) false }
     {
         clear_all(&mut self.pages);
     }
@@ -196,6 +210,7 @@ impl PageSet {
         ensures pages { (d : PageValue) →
             self.new ≡ slice_set self.old number (page_holding hart offset (slice_index_or self.old number d)) }
         ensures memory { flat_of self.new ≡ held_at (32 * number + hart) offset (flat_of self.old) }
+        ensures marks { marks_of self.new ≡ marks_of self.old }
         ensures count { length self.new ≡ length self.old }
     {
         self.pages[number].hold(hart, offset);
@@ -209,6 +224,19 @@ impl PageSet {
     {
         self.pages[slot / HARTS].reservations()[slot % HARTS]
     }
+}
+
+fn marked_in(alloc: Global, pages: &[Page]) -> Result<Vec<u32>, AllocError>
+    requires { length pages.now < 2 ^ 32 }
+    ensures { IfOk result (λ numbers. numbers.items ≡ marked_from 0 (marks_of pages.now)) }
+{
+    let mut numbers = Vec::new(alloc);
+    for number in 0..pages.len() {
+        if pages[number].is_marked() {
+            numbers.push(number as u32)?;
+        }
+    }
+    Ok(numbers)
 }
 
 fn clear_all(pages: &mut [Page])

@@ -2,6 +2,8 @@
 use Rattle.std.proofs.Common.{◌≡◌, ℕ, List, ◌∷◌, ◌++◌, Option, Some, None, Ok, Result, refl, sym, ap, subst, ◌∙◌}
 use Rattle.std.specs.FinMap.{get, insert}
 use Rattle.vm_types.specs.Causes.{Rose}
+use Rattle.vm_types.specs.declared.identity.Identity.{Identity}
+use Rattle.api_calls.specs.declared.call.SnapshotFiles.{SnapshotFiles}
 use Rattle.vm_types.specs.Saved.{Saved}
 use Rattle.vm_outside.specs.Calls.{FileCall, MakesFront}
 use Rattle.vm_outside.specs.Known.{FilesKnown, Tells}
@@ -13,19 +15,24 @@ use Rattle.vm_config.specs.declared.change.Change.{Change}
 use Rattle.vm_config.specs.declared.change.Change.TheVariants as change
 use Rattle.api_rules.specs.Answers.{no_content, refused}
 use Rattle.script_output.specs.Output.{reply_line}
-use Rattle.guest_pages.specs.Pages.{PageValue, flat_of}
-use Rattle.flat_guest.specs.Guest.{Guest}
-use Rattle.flat_snapshot.specs.Files.{calls_of}
+use Rattle.guest_memory.specs.Memory.{Memory}
+use Rattle.guest_pages.specs.Pages.{cleared, flat_of}
+use Rattle.guest_pages.proofs.Marking.{flat_cleared, marks_cleared}
+use Rattle.flat_guest.specs.Guest.{Guest, unwritten}
+use Rattle.flat_snapshot.specs.Files.{calls_of, saved_pages}
 use Rattle.snap_writer.specs.Create.{create_calls}
-use Rattle.snap_writer.specs.Create as files
+use Rattle.snap_writer.specs.Create as writes
+use Rattle.snap_writer.specs.Selected.{selected}
+use Rattle.monitor_plans.specs.Headings.{numbers_in}
 use Rattle.flat_machine.specs.Machine.{Machine}
 use Rattle.flat_machine.specs.Outcome as flat
-use Rattle.flat_machine.specs.Requests.{CreateFails, Creates, RequestStep, by_files, created, next_identity, spent}
+use Rattle.flat_machine.specs.Requests.{CreateFails, Creates, RequestStep, by_files, created, next_identity, parent_in, spent}
 use Rattle.vm_world.specs.Worlds.{IsWorld, WorldValue}
+use Rattle.vm_world.proofs.Events.{unwritten_is}
 use Rattle.monitor_plans.specs.declared.creating.Creation.{Creation}
 use Rattle.monitor_machine.specs.declared.machine.LiveMachine.{LiveMachine}
 use Rattle.monitor_machine.specs.declared.outcome.Outcome.{Outcome}
-use Rattle.monitor_machine.specs.Plans.{IsCreate, created_after, failed_after}
+use Rattle.monitor_machine.specs.Plans.{IsCreate, created_after, failed_after, unmarked_world}
 use Rattle.monitor_machine.specs.Replying.{Replies, left_by}
 use Rattle.monitor_machine.specs.State.{IsGuestBy, IsMachine}
 use Rattle.monitor_machine.proofs.Plans.{answered}
@@ -36,26 +43,44 @@ world_is : (live : Option WorldValue) (w : WorldValue) (guest : Option Guest) (g
 world_is live w guest g is one there =
     subst (λ (o : Option Guest). IsGuestBy (Some w) o) there (subst (λ (o : Option WorldValue). IsGuestBy o guest) one is)
 
+-- the bytes of the pages that are written
+abbrev pub written_of : Creation → WorldValue → List ℕ
+written_of c w = selected (numbers_in c.numbers) (flat_of w.pages).bytes
+
 module _ (c : Creation) (live : LiveMachine) (w : WorldValue) (known left : FilesKnown) (m : Machine) (given : Next)
     (there : live.guest ≡ Some w) (is : IsMachine live known m) (due : IsCreate c m given) where
-  memory_is : flat_of w.pages ≡ due.guest.memory
-  memory_is = (world_is live.guest w m.guest due.guest is.own.guest_is there due.there).memory_is
+  here : IsWorld w due.guest
+  here = world_is live.guest w m.guest due.guest is.own.guest_is there due.there
+
+  abbrev files : SnapshotFiles
+  files = due.it.files
+
+  abbrev parent : Option Identity
+  parent = parent_in m due.it
+
+  pages_are : written_of c w ≡ saved_pages parent due.copy.pages due.guest
+  pages_are = ap (λ (k : Memory). selected (numbers_in c.numbers) k.bytes) here.memory_is ∙ due.pages_are
 
   -- what was written of the world is what is written of the guest
-  calls_are : create_calls c.names.mem_file_path c.head (flat_of w.pages).bytes c.names.snapshot_path c.body
-      ≡ calls_of c.names.mem_file_path c.names.snapshot_path (next_identity m) due.copy due.guest.memory.bytes
+  calls_are : create_calls c.names.mem_file_path c.head (written_of c w) c.names.snapshot_path c.body
+      ≡ calls_of files.mem_file_path files.snapshot_path parent (next_identity m) due.copy due.guest
   calls_are = λ i.
-      create_calls c.names.mem_file_path (due.head_is i) (memory_is i).bytes c.names.snapshot_path (due.body_is i)
+      create_calls (due.names_is i).mem_file_path (due.head_is i) (pages_are i) (due.names_is i).snapshot_path (due.body_is i)
 
   abbrev end : Machine
-  end = created m due.guest.memory.bytes c.names due.copy
+  end = created m due.guest files parent due.copy
 
-  pub create_does : files.Creates c.names.mem_file_path c.head (flat_of w.pages).bytes c.names.snapshot_path c.body known left
+  unmarked_is : IsGuestBy (unmarked_world live.guest) (Some (unwritten due.guest))
+  unmarked_is =
+      subst (λ (o : Option WorldValue). IsGuestBy (unmarked_world o) (Some (unwritten due.guest))) (sym there)
+      (unwritten_is w (cleared w.pages) due.guest here (flat_cleared w.pages) (marks_cleared w.pages))
+
+  pub create_does : writes.Creates c.names.mem_file_path c.head (written_of c w) c.names.snapshot_path c.body known left
       → RequestStep flat.Outcome.Answered given m (reply_line no_content) end × IsMachine (created_after c live) left end
   create_does wrote = (
-    answered live known m end given (Ok (change.CreateSnapshot c.names)) (reply_line no_content)
+    answered live known m end given (Ok (change.CreateSnapshot due.it)) (reply_line no_content)
         (ap (λ (r : Result Change Refusal). r >>= by_files m) due.asks) refl
-        (subst (λ (o : Option Guest). Creates o m c.names end) (sym due.there) (due.copy, due.copied, refl)),
+        (subst (λ (o : Option Guest). Creates o m due.it end) (sym due.there) (due.copy, due.copied, refl)),
     record {
       own = record {
         id_is = is.own.id_is;
@@ -65,12 +90,12 @@ module _ (c : Creation) (live : LiveMachine) (w : WorldValue) (known left : File
           next = due.next_is i;
         };
         config_is = is.own.config_is;
-        guest_is = is.own.guest_is;
+        guest_is = unmarked_is;
         paused_is = is.own.paused_is;
       };
       files = record {
-        saved_is = wrote.saved ∙ (λ i. insert (insert (is.files.saved_is i) c.names.mem_file_path
-            (1 ∷ due.head_is i ++ (memory_is i).bytes)) c.names.snapshot_path (1 ∷ due.body_is i));
+        saved_is = wrote.saved ∙ (λ i. insert (insert (is.files.saved_is i) (due.names_is i).mem_file_path
+            (1 ∷ due.head_is i ++ pages_are i)) (due.names_is i).snapshot_path (1 ∷ due.body_is i));
         calls_is = wrote.calls ∙ (λ i. is.files.calls_is i ++ calls_are i);
       };
     },
@@ -79,18 +104,20 @@ module _ (c : Creation) (live : LiveMachine) (w : WorldValue) (known left : File
   abbrev stopped : Machine
   stopped = record m { saved = left.saved; calls = left.calls; ids = spent m }
 
-  pub create_fails : files.CreatesPart c.names.mem_file_path c.head (flat_of w.pages).bytes c.names.snapshot_path c.body known left
+  pub create_fails : writes.CreatesPart c.names.mem_file_path c.head (written_of c w) c.names.snapshot_path c.body known left
       → RequestStep (flat.Outcome.Failed (left_by left)) given m (reply_line (refused refusal.OutsideFailed)) stopped
       × IsMachine (failed_after c live) left stopped
   create_fails part = (
     (
-      change.CreateSnapshot c.names,
+      change.CreateSnapshot due.it,
       due.asks,
-      subst (λ (o : Option Guest). CreateFails o m c.names (left_by left) stopped) (sym due.there) (
+      subst (λ (o : Option Guest). CreateFails o m due.it (left_by left) stopped) (sym due.there) (
         due.copy,
         due.copied,
-        (λ name nm ns. part.others name nm ns ∙ ap (λ (s : Saved). get s name) is.files.saved_is),
-        subst (λ (b : List FileCall). MakesFront (calls_of c.names.mem_file_path c.names.snapshot_path (next_identity m) due.copy due.guest.memory.bytes) b left.calls) is.files.calls_is
+        (λ name nm ns. part.others name (λ e. nm (e ∙ ap (λ (f : SnapshotFiles). f.mem_file_path) due.names_is))
+            (λ e. ns (e ∙ ap (λ (f : SnapshotFiles). f.snapshot_path) due.names_is))
+            ∙ ap (λ (s : Saved). get s name) is.files.saved_is),
+        subst (λ (b : List FileCall). MakesFront (calls_of files.mem_file_path files.snapshot_path parent (next_identity m) due.copy due.guest) b left.calls) is.files.calls_is
             (subst (λ (script : List FileCall). MakesFront script known.calls left.calls) calls_are part.calls),
         refl,
       ),
@@ -113,22 +140,22 @@ module _ (c : Creation) (live : LiveMachine) (w : WorldValue) (known left : File
   )
 
 -- files that were called by names, bytes and pages that are these
-pub same_create : (memory head state body m h s b : List ℕ) (pages g : List PageValue) (known left : FilesKnown) → memory ≡ m
-    → head ≡ h → pages ≡ g → state ≡ s → body ≡ b → files.Creates memory head (flat_of pages).bytes state body known left
-    → files.Creates m h (flat_of g).bytes s b known left
+pub same_create : (memory head state body m h s b : List ℕ) (pages g : List ℕ) (known left : FilesKnown) → memory ≡ m
+    → head ≡ h → pages ≡ g → state ≡ s → body ≡ b → writes.Creates memory head pages state body known left
+    → writes.Creates m h g s b known left
 same_create memory head state body m h s b pages g known left em eh eg es eb wrote = record {
   saved = wrote.saved
-      ∙ (λ i. insert (insert known.saved (em i) (1 ∷ eh i ++ (flat_of (eg i)).bytes)) (es i) (1 ∷ eb i));
-  calls = wrote.calls ∙ (λ i. known.calls ++ create_calls (em i) (eh i) (flat_of (eg i)).bytes (es i) (eb i));
+      ∙ (λ i. insert (insert known.saved (em i) (1 ∷ eh i ++ eg i)) (es i) (1 ∷ eb i));
+  calls = wrote.calls ∙ (λ i. known.calls ++ create_calls (em i) (eh i) (eg i) (es i) (eb i));
 }
 
-pub same_part : (memory head state body m h s b : List ℕ) (pages g : List PageValue) (known left : FilesKnown) → memory ≡ m
-    → head ≡ h → pages ≡ g → state ≡ s → body ≡ b → files.CreatesPart memory head (flat_of pages).bytes state body known left
-    → files.CreatesPart m h (flat_of g).bytes s b known left
+pub same_part : (memory head state body m h s b : List ℕ) (pages g : List ℕ) (known left : FilesKnown) → memory ≡ m
+    → head ≡ h → pages ≡ g → state ≡ s → body ≡ b → writes.CreatesPart memory head pages state body known left
+    → writes.CreatesPart m h g s b known left
 same_part memory head state body m h s b pages g known left em eh eg es eb part = record {
   others = λ name nm ns. part.others name (λ e. nm (e ∙ em)) (λ e. ns (e ∙ es));
   calls = subst (λ (script : List FileCall). MakesFront script known.calls left.calls)
-      (λ i. create_calls (em i) (eh i) (flat_of (eg i)).bytes (es i) (eb i)) part.calls;
+      (λ i. create_calls (em i) (eh i) (eg i) (es i) (eb i)) part.calls;
 }
 
 -- what is due is answered so
@@ -136,7 +163,7 @@ module _ (c : Creation) (live after : LiveMachine) (w : WorldValue) (text writte
     (there : live.guest ≡ Some w) (due : Tells known.health → (m : Machine) → IsMachine live known m → IsCreate c m given) where
   pub is_written : after ≡ created_after c live → written ≡ text ++ reply_line no_content → left.health.faults ≡ known.health.faults
       → (Tells known.health
-      → files.Creates c.names.mem_file_path c.head (flat_of w.pages).bytes c.names.snapshot_path c.body known left)
+      → writes.Creates c.names.mem_file_path c.head (written_of c w) c.names.snapshot_path c.body known left)
       → Replies given Outcome.Answered live after text written known left
   is_written leaves writes faults wrote = record {
     cause = faults;
@@ -153,7 +180,7 @@ module _ (c : Creation) (live after : LiveMachine) (w : WorldValue) (text writte
   pub is_unwritten : after ≡ failed_after c live → written ≡ text ++ reply_line (refused refusal.OutsideFailed)
       → Rose known.health.faults left.health.faults
       → (Tells known.health
-      → files.CreatesPart c.names.mem_file_path c.head (flat_of w.pages).bytes c.names.snapshot_path c.body known left)
+      → writes.CreatesPart c.names.mem_file_path c.head (written_of c w) c.names.snapshot_path c.body known left)
       → Replies given Outcome.Failed live after text written known left
   is_unwritten leaves writes rose part = record {
     cause = rose;

@@ -283,10 +283,10 @@ plan_does (plan.Starts w) live known m given is (asks, image, there, world) =
       },
     )
 plan_does (plan.Restores r) live known m given is asks = (
-  carried m asks.load.resume_vm asks.it,
-  answered live known m (carried m asks.load.resume_vm asks.it) given (Ok (change.LoadSnapshot asks.load)) _ asks.asks
+  carried m asks.load asks.it,
+  answered live known m (carried m asks.load asks.it) given (Ok (change.LoadSnapshot asks.load)) _ asks.asks
       (line_is (plan.Restores r) live m is.own)
-      (subst (λ (f : Result Snapshot Refusal). Restores f m asks.load.resume_vm (carried m asks.load.resume_vm asks.it)) (sym asks.there) refl),
+      (subst (λ (f : Result Snapshot Refusal). Restores f m asks.load (carried m asks.load asks.it)) (sym asks.there) refl),
   record {
     own = record {
       id_is = is.own.id_is;

@@ -3,6 +3,7 @@ use Rattle.std.specs.Prelude.{◌≡◌, ◌≢◌, ◌⊎◌, ◌+◌, ℕ, Lis
 use Rattle.vm_types.specs.declared.identity.Identity.{Identity}
 use Rattle.vm_outside.specs.Known.{FilesKnown}
 use Rattle.http_stream.specs.declared.request.Next.{Next}
+use Rattle.api_calls.specs.declared.call.SnapshotCreate.{SnapshotCreate}
 use Rattle.api_calls.specs.declared.call.SnapshotFiles.{SnapshotFiles}
 use Rattle.api_calls.specs.declared.call.SnapshotLoad.{SnapshotLoad}
 use Rattle.api_calls.specs.declared.call.VmState.TheVariants.{Paused, Resumed}
@@ -17,10 +18,12 @@ use Rattle.flat_guest.specs.Guest.{Guest}
 use Rattle.flat_guest.specs.Start.{started}
 use Rattle.snap_state.specs.declared.copy.StateCopy.{StateCopy}
 use Rattle.flat_snapshot.specs.Copies.{IsCopyOf}
-use Rattle.flat_snapshot.specs.Files.{memory_head, state_body}
+use Rattle.flat_snapshot.specs.Files.{head_of, saved_pages, state_body}
+use Rattle.snap_writer.specs.Selected.{selected}
 use Rattle.flat_snapshot.specs.Found.{Snapshot, found}
 use Rattle.flat_machine.specs.Machine.{Machine}
-use Rattle.flat_machine.specs.Requests.{allowed, decided, disk_of, image_of, loads_from, next_identity}
+use Rattle.flat_machine.specs.Requests.{allowed, decided, disk_of, image_of, loads_from, next_identity, parent_in}
+use Rattle.guest_pages.specs.Pages.{cleared}
 use Rattle.vm_world.specs.Worlds.{IsWorld, WorldValue}
 use Rattle.monitor_plans.specs.declared.creating.Creation.{Creation}
 use Rattle.monitor_plans.specs.declared.restoring.Restored.{Restored}
@@ -28,6 +31,7 @@ use Rattle.monitor_plans.specs.declared.plan.Plan.{Plan}
 use Rattle.monitor_plans.specs.declared.plan.Plan.TheVariants as plan
 use Rattle.monitor_plans.specs.declared.plan.Task.{Task}
 use Rattle.monitor_plans.specs.declared.plan.Task.TheVariants as task
+use Rattle.monitor_plans.specs.Headings.{numbers_in}
 use Rattle.monitor_plans.specs.Plans.{plan_answer}
 use Rattle.monitor_plans.specs.Restoring.{GoesOn}
 use Rattle.monitor_machine.specs.declared.machine.LiveMachine.{LiveMachine}
@@ -45,7 +49,7 @@ phase_of live = phase_by live.guest live.paused
 -- a change that neither makes a guest nor reads or writes a file
 abbrev pub is_plain : Change → Bool
 is_plain change.Start = false
-is_plain (change.CreateSnapshot files) = false
+is_plain (change.CreateSnapshot it) = false
 is_plain (change.LoadSnapshot load) = false
 is_plain it = true
 
@@ -57,14 +61,18 @@ reads_files it = false
 
 -- a create of the machine's guest is due, and this is what it writes
 pub record IsCreate (c : Creation) (m : Machine) (given : Next) : Type 0 where
-  pub asks : decided m given ≡ Ok (change.CreateSnapshot c.names)
+  pub it : SnapshotCreate
+  pub asks : decided m given ≡ Ok (change.CreateSnapshot it)
+  pub names_is : c.names ≡ it.files
   pub guest : Guest
   pub there : m.guest ≡ Some guest
   pub copy : StateCopy
   pub copied : IsCopyOf m.config guest copy
   pub identity_is : c.identity ≡ next_identity m
   pub next_is : c.next ≡ m.ids.next + 1
-  pub head_is : c.head ≡ memory_head (next_identity m) copy.pages
+  pub head_is : c.head ≡ head_of (parent_in m it) (next_identity m) copy.pages guest
+  pub pages_are :
+      selected (numbers_in c.numbers) guest.memory.bytes ≡ saved_pages (parent_in m it) copy.pages guest
   pub body_is : c.body ≡ state_body (next_identity m) copy
 
 -- the machine goes on from what it loads
@@ -73,7 +81,7 @@ pub record IsRestore (r : Restored) (m : Machine) (given : Next) : Type 0 where
   pub asks : allowed m given ≡ Ok (change.LoadSnapshot load)
   pub it : Snapshot
   pub there : found m.saved load.files ≡ Ok it
-  pub goes_on : GoesOn r it
+  pub goes_on : GoesOn r load.track_dirty_pages it
   pub resumes_is : r.resumes ≡ load.resume_vm
 
 -- the plan is what the machine does where that is due; where a call on the files failed, a change that reads them was due
@@ -100,7 +108,7 @@ AreTwoFiles (task.Plan it) = Unit {0}
 AreTwoFiles (task.Create c) = HasTwoNames c.names
 
 abbrev pub HasTwoFiles : Change → Type 0
-HasTwoFiles (change.CreateSnapshot names) = HasTwoNames names
+HasTwoFiles (change.CreateSnapshot it) = HasTwoNames it.files
 HasTwoFiles it = Unit {0}
 
 -- a plan for which no file was called, or that no call on the files failed
@@ -160,10 +168,17 @@ plan_after (plan.Restores r) live =
     }
 plan_after it live = live
 
+-- a world of which no page is marked
+abbrev pub unmarked_world : Option WorldValue → Option WorldValue
+unmarked_world None = None
+unmarked_world (Some w) = Some (record w { pages = cleared w.pages })
+
 -- what is left where a snapshot was written, and where a call on the files failed: its number is spent
 abbrev pub created_after : Creation → LiveMachine → LiveMachine
-created_after c live =
-    record live { ids = record { lineage = live.ids.lineage; base = Some c.identity; next = c.next } }
+created_after c live = record live {
+  ids = record { lineage = live.ids.lineage; base = Some c.identity; next = c.next };
+  guest = unmarked_world live.guest;
+}
 
 abbrev pub failed_after : Creation → LiveMachine → LiveMachine
 failed_after c live = record live { ids = record live.ids { next = c.next } }

@@ -18,7 +18,7 @@ use Rattle.monitor_machine.specs.State.{IsMachine}
 -- the calls of the API that call the files
 abbrev pub calls_files : ApiCall → Bool
 calls_files call.InstanceStart = true
-calls_files (call.CreateSnapshot files) = true
+calls_files (call.CreateSnapshot it) = true
 calls_files (call.LoadSnapshot load) = true
 calls_files it = false
 

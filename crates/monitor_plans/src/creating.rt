@@ -1,17 +1,20 @@
 // What a create comes to.
-ghost use Rattle.std.specs.Prelude.{◌≡◌, ◌≢◌, drop, IfOk, IfSome, IsTrue};
+ghost use Rattle.std.specs.Prelude.{◌≡◌, ◌≢◌, IfOk, IfSome, IsTrue};
 ghost use Rattle.file_format.specs.Identities.{is_numbered};
-ghost use Rattle.flat_snapshot.specs.Files.{memory_head, state_body};
+ghost use Rattle.flat_snapshot.specs.Files.{state_body};
+ghost use Rattle.guest_pages.specs.Pages.{flat_of};
+ghost use Rattle.snap_writer.specs.Selected.{selected};
 ghost use Rattle.snap_state.specs.Valid.{is_valid};
 ghost use Rattle.monitor_plans.specs.Creating.{CreateGives, IsCreation};
+ghost use Rattle.monitor_plans.specs.Headings.{numbers_in};
 
+use crate::heading::{behind_gate, heading_of};
 use crate::plan::{Plan, Task};
 use api_calls::SnapshotFiles;
 use api_rules::Config;
 use file_format::is_numbered;
-use snap_memory::MemHeader;
 use snap_state::{StateCopy, encode};
-use snap_writer::Room;
+use snap_writer::{Room, SavedPages};
 use std::alloc::{AllocError, Global};
 use vm_types::{ByteList, Identity};
 use vm_world::World;
@@ -28,23 +31,27 @@ pub struct Creation {
     pub next: u64,
     /// What stands between the gate of the memory file and the pages.
     pub head: ByteList,
+    /// Which pages are written; `None` is all.
+    pub numbers: Option<Vec<u32>>,
     /// What stands behind the gate of the state file.
     pub body: ByteList,
     pub room: Room,
 }
 
-/// What comes of a create that the machine allows, of this guest and under this identity. The two names differ.
+/// What comes of a create that the machine allows, of this guest and under this identity: of a diff since the parent, if
+/// there is one. The two names differ.
 pub fn create(
     alloc: Global,
     config: &Config,
+    parent: Option<Identity>,
     identity: Identity,
     guest: &World,
     names: SnapshotFiles,
 ) -> Task
     requires { names.mem_file_path ≢ names.snapshot_path }
-    ensures { CreateGives result config.now identity guest.now names }
+    ensures { CreateGives result config.now parent identity guest.now names }
 {
-    match prepare(alloc, config, identity, guest, names) {
+    match prepare(alloc, config, parent, identity, guest, names) {
         Some(creation) => Task::Create(creation),
         None => Task::Plan(Plan::NoMemory),
     }
@@ -54,12 +61,13 @@ pub fn create(
 fn prepare(
     alloc: Global,
     config: &Config,
+    parent: Option<Identity>,
     identity: Identity,
     guest: &World,
     names: SnapshotFiles,
 ) -> Option<Creation>
     requires { names.mem_file_path ≢ names.snapshot_path }
-    ensures { IfSome result (λ creation. IsCreation creation config.now identity guest.now names) }
+    ensures { IfSome result (λ creation. IsCreation creation config.now parent identity guest.now names) }
 {
     if !is_numbered(identity) {
         return None;
@@ -67,7 +75,7 @@ fn prepare(
     let Ok(copy) = copy_world(alloc, config, guest) else {
         return None;
     };
-    let Ok(head) = head_of(alloc, copy.pages, identity) else {
+    let Some(heading) = heading_of(alloc, parent, identity, copy.pages, guest) else {
         return None;
     };
     let Ok(body) = body_of(alloc, identity, &copy) else {
@@ -80,29 +88,11 @@ fn prepare(
         names,
         identity,
         next: identity.number + 1,
-        head,
+        head: heading.head,
+        numbers: heading.numbers,
         body,
         room,
     })
-}
-
-// The bytes behind the gate, which is the first.
-fn behind_gate(alloc: Global, file: &[u8]) -> Result<ByteList, AllocError>
-    ensures { IfOk result (λ bytes. bytes ≡ drop 1 file.now) }
-{
-    match file.split_first() {
-        None => Ok(ByteList::new(alloc)),
-        Some((_, rest)) => ByteList::copy_of(alloc, rest),
-    }
-}
-
-fn head_of(alloc: Global, pages: u32, identity: Identity) -> Result<ByteList, AllocError>
-    requires { IsTrue (is_numbered identity) }
-    ensures { IfOk result (λ head. head ≡ memory_head identity pages) }
-{
-    let file = MemHeader::new(pages, identity).encode(alloc)?;
-    let head = behind_gate(alloc, &file)?;
-    Ok(head)
 }
 
 fn body_of(alloc: Global, identity: Identity, copy: &StateCopy) -> Result<ByteList, AllocError>
@@ -113,4 +103,14 @@ fn body_of(alloc: Global, identity: Identity, copy: &StateCopy) -> Result<ByteLi
     let file = encode(alloc, identity, copy)?;
     let body = behind_gate(alloc, &file)?;
     Ok(body)
+}
+
+/// The pages of these numbers, or all. `None` where a number is no page's.
+pub fn pages_of<'a>(guest: &'a World, numbers: &'a Option<Vec<u32>>) -> Option<SavedPages<'a>>
+    ensures { IfSome result (λ pages. pages ≡ selected (numbers_in numbers.now) (flat_of guest.now.pages).bytes) }
+{
+    match numbers {
+        None => Some(SavedPages::all(guest.pages())),
+        Some(numbers) => SavedPages::some(guest.pages(), numbers),
+    }
 }

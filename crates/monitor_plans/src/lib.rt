@@ -7,11 +7,12 @@
 
 mod creating;
 mod disk;
+mod heading;
 mod plan;
 mod restoring;
 mod starting;
 
-pub use creating::{Creation, create};
+pub use creating::{Creation, create, pages_of};
 pub use plan::{Plan, Task, done_line};
 pub use restoring::{Restored, restore};
 pub use starting::start;

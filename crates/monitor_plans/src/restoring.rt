@@ -44,7 +44,7 @@ pub fn restore<F: Files>(alloc: Global, load: &SnapshotLoad, files: &mut F) -> P
             Plan::Restores(Restored {
                 identity: found.identity,
                 next: found.identity.number + 1,
-                config: config_of(copy.configuration),
+                config: config_of(copy.configuration, load.track_dirty_pages),
                 guest,
                 resumes: load.resume_vm,
             })

@@ -1,34 +1,32 @@
 // Both files of a snapshot.
 ghost use Rattle.std.specs.Prelude.{◌≡◌, ◌≢◌, ◌<◌, ◌^◌, length, OnErr, OnOk};
 ghost use Rattle.vm_outside.specs.Known.{Called, Tells};
-ghost use Rattle.guest_pages.specs.Pages.{flat_of};
 ghost use Rattle.snap_writer.specs.Blocks.{block_size};
 ghost use Rattle.snap_writer.specs.Create.{Creates, CreatesPart};
 
 use crate::filling::{fill_memory, fill_state};
 use crate::room::Room;
+use crate::saved_pages::SavedPages;
 use gate_file::open_file;
-use guest_pages::PageSet;
 use vm_outside::{Failed, Files};
 
 /// Writes a snapshot: to `memory` an open gate, `head` and all pages, to `state` an open gate and `body`. The two
 /// names differ. An `Err` leaves every other name as it was. No memory is taken.
 pub fn create<F: Files>(
     files: &mut F,
-    pages: &PageSet,
+    pages: &SavedPages<'_>,
     room: &mut Room,
     head: &[u8],
     body: &[u8],
     state: &str,
     memory: &str,
 ) -> Result<(), Failed>
-    requires small { length pages.now < 2 ^ 32 }
     requires differ { memory.now ≢ state.now }
     ensures created { OnOk result (Tells (F.known files.old).health →
-        Creates memory.now head.now (flat_of pages.now).bytes state.now body.now
+        Creates memory.now head.now pages.now state.now body.now
         (F.known files.old) (F.known files.new)) }
     ensures begun { OnErr result (Tells (F.known files.old).health →
-        CreatesPart memory.now head.now (flat_of pages.now).bytes state.now body.now
+        CreatesPart memory.now head.now pages.now state.now body.now
         (F.known files.old) (F.known files.new)) }
     ensures called { Called (F.known files.old).health (F.known files.new).health result }
 {
@@ -38,21 +36,20 @@ pub fn create<F: Files>(
 // The calls in their order.
 fn write_files<F: Files>(
     files: &mut F,
-    pages: &PageSet,
+    pages: &SavedPages<'_>,
     block: &mut [u8],
     head: &[u8],
     body: &[u8],
     state: &str,
     memory: &str,
 ) -> Result<(), Failed>
-    requires small { length pages.now < 2 ^ 32 }
     requires room { length block.old ≡ block_size }
     requires differ { memory.now ≢ state.now }
     ensures created { OnOk result (Tells (F.known files.old).health →
-        Creates memory.now head.now (flat_of pages.now).bytes state.now body.now
+        Creates memory.now head.now pages.now state.now body.now
         (F.known files.old) (F.known files.new)) }
     ensures begun { OnErr result (Tells (F.known files.old).health →
-        CreatesPart memory.now head.now (flat_of pages.now).bytes state.now body.now
+        CreatesPart memory.now head.now pages.now state.now body.now
         (F.known files.old) (F.known files.new)) }
     ensures called { Called (F.known files.old).health (F.known files.new).health result }
 {

@@ -1,14 +1,13 @@
 // One file, filled behind its closed gate.
 ghost use Rattle.std.specs.Prelude.{◌≡◌, ◌<◌, ◌^◌, ◌∷◌, ◌++◌, length, OnErr, OnOk};
 ghost use Rattle.gate_file.specs.Runs.{RunsAll, RunsPart};
-ghost use Rattle.guest_pages.specs.Pages.{flat_of};
 ghost use Rattle.snap_writer.specs.Blocks.{block_size};
 ghost use Rattle.snap_writer.specs.Create.{memory_calls, state_calls};
 ghost use Rattle.vm_outside.specs.Known.{Called, Tells};
 
 use crate::pages::write_pages;
+use crate::saved_pages::SavedPages;
 use gate_file::close_file;
-use guest_pages::PageSet;
 use vm_outside::{Failed, Files};
 
 // The memory file with this header and these pages, its gate closed, and synced.
@@ -16,16 +15,15 @@ pub(crate) fn fill_memory<F: Files>(
     files: &mut F,
     name: &str,
     head: &[u8],
-    pages: &PageSet,
+    pages: &SavedPages<'_>,
     block: &mut [u8],
 ) -> Result<(), Failed>
-    requires small { length pages.now < 2 ^ 32 }
     requires room { length block.old ≡ block_size }
     ensures filled { OnOk result (Tells (F.known files.old).health →
-        RunsAll name.now (memory_calls name.now head.now (flat_of pages.now).bytes)
-        (0 ∷ head.now ++ (flat_of pages.now).bytes) (F.known files.old) (F.known files.new)) }
+        RunsAll name.now (memory_calls name.now head.now pages.now)
+        (0 ∷ head.now ++ pages.now) (F.known files.old) (F.known files.new)) }
     ensures begun { OnErr result (Tells (F.known files.old).health →
-        RunsPart name.now (memory_calls name.now head.now (flat_of pages.now).bytes)
+        RunsPart name.now (memory_calls name.now head.now pages.now)
         (F.known files.old) (F.known files.new)) }
     ensures called { Called (F.known files.old).health (F.known files.new).health result }
 {

@@ -19,6 +19,6 @@ changed config (change.BootSource source) = record config { boot_source = Some s
 changed config (change.MachineConfig machine) = record config { machine = machine; configured = true }
 changed config change.Start = record config { configured = true }
 changed config (change.State state) = config
-changed config (change.CreateSnapshot files) = config
+changed config (change.CreateSnapshot it) = config
 changed config (change.LoadSnapshot load) = record config { configured = true }
 changed config (change.Tell part) = config

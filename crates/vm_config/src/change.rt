@@ -1,5 +1,5 @@
 // What accepted calls ask for.
-use api_calls::{BootSource, MachineConfig, Part, SnapshotFiles, SnapshotLoad, VmState};
+use api_calls::{BootSource, MachineConfig, Part, SnapshotCreate, SnapshotLoad, VmState};
 
 /// What an accepted call asks for.
 #[derive(Drop)]
@@ -12,8 +12,8 @@ pub enum Change {
     Start,
     /// The machine stands still or goes on.
     State(VmState),
-    /// A full snapshot is written.
-    CreateSnapshot(SnapshotFiles),
+    /// A snapshot is written.
+    CreateSnapshot(SnapshotCreate),
     /// A snapshot is loaded.
     LoadSnapshot(SnapshotLoad),
     /// A part is told, and nothing changes.

@@ -1,5 +1,5 @@
 -- A world's events are the flat machine's.
-use Rattle.std.proofs.Common.{◌≡◌, ℕ, zero, suc, ◌+◌, ◌<◌, true, false, Bool, nat_lt, refl, sym, ap, subst, ◌∙◌, List, [], ◌∷◌, length, slice_get, if◌then◌else◌, MatchOption, Option, Some, None, ◌⊎◌, arith}
+use Rattle.std.proofs.Common.{◌≡◌, ℕ, zero, suc, ◌+◌, ◌<◌, true, false, Bool, nat_lt, refl, sym, ap, subst, ◌∙◌, List, [], ◌∷◌, length, replicate, slice_get, if◌then◌else◌, MatchOption, Option, Some, None, ◌⊎◌, arith}
 use Rattle.std.proofs.lemmas.Bool.{lt-ltb, ltb-false, ltb-true}
 use Rattle.vm_types.specs.declared.ids.ActorId.{ActorId}
 use Rattle.vm_types.specs.Fits.{out_fits}
@@ -8,19 +8,21 @@ use Rattle.vm_types.specs.declared.op.Op.{Op}
 use Rattle.vm_types.specs.declared.reply.Reply.{Reply}
 use Rattle.vm_types.specs.declared.entry.Entry.{Entry}
 use Rattle.guest_memory.specs.Route.{access_place}
-use Rattle.guest_pages.specs.Pages.{flat_of}
+use Rattle.guest_pages.specs.Marks.{AreMarks, marks_after}
+use Rattle.guest_pages.specs.Pages.{PageValue, flat_of, marks_of}
 use Rattle.rv_supervisor.specs.declared.regs.Regs.{Regs}
 use Rattle.hart_trace.specs.States.{Hart, hart_wants, hart_next}
 use Rattle.timer_trace.specs.declared.timer.Timer.{Timer}
 use Rattle.timer_trace.specs.States.{new_timer}
 use Rattle.timer_trace.proofs.Traces as timer_traces
-use Rattle.flat_guest.specs.Guest.{Guest, Wants, WantsFrom, is_actor}
+use Rattle.flat_guest.specs.Guest.{Guest, Wants, WantsFrom, is_actor, none_written, unwritten}
 use Rattle.flat_guest.specs.Places.{is_register_access, place_of, without_devices}
 use Rattle.flat_guest.specs.Body.{harts_after, reply_at, timer_after, want_of, wants, with_reply}
 use Rattle.flat_guest.specs.Start.{timer_restarted}
 use Rattle.flat_guest.specs.Steps.{board_after, is_given, memory_after}
 use Rattle.flat_guest.proofs.Acting as acting
 use Rattle.flat_guest.proofs.Determined.{wants_one}
+use Rattle.flat_guest.proofs.Marked.{none_marked}
 use Rattle.flat_guest.proofs.Stepping.{HasMade, HasStopped, entry_of, has_made_more, ran, step_is, stays}
 use Rattle.vm_world.specs.declared.step_error.StepError.{StepError}
 use Rattle.vm_world.specs.Refusing.{refusal_of}
@@ -52,16 +54,17 @@ place_access size i Op.Idle is = is
 pub event_made : (old new : WorldValue) (actor : ActorId) (op : Op) (given : Option Reply) (place : PlaceId) (reply : Reply)
     → want_in old actor ≡ Some op → is_given op given ≡ true → place ≡ place_in old op
     → reply ≡ reply_at place (flat_of old.pages) old.board actor op given
-    → flat_of new.pages ≡ memory_after place (flat_of old.pages) actor op → new.board ≡ board_after place old.board actor op
+    → flat_of new.pages ≡ memory_after place (flat_of old.pages) actor op
+    → marks_of new.pages ≡ marks_after place (marks_of old.pages) op reply → new.board ≡ board_after place old.board actor op
     → new.timer ≡ timer_after actor old.timer reply → new.harts ≡ harts_after actor old.harts reply
     → MakesEvent old (record { actor = actor; reply = given }) (entry_of place actor op reply) new
-event_made old new actor op given place reply want fit at answer memory board timer harts = record {
+event_made old new actor op given place reply want fit at answer memory marks board timer harts = record {
   unstamped = (refl, refl);
   step =
-      λ g is. step_is (flat_of old.pages) old.board old.timer old.harts g actor op given place reply is want fit at answer;
+      λ g is. step_is (flat_of old.pages) (marks_of old.pages) old.board old.timer old.harts g actor op given place reply is want fit at answer;
   stays =
-      λ g is. stays (flat_of old.pages) (flat_of new.pages) old.board new.board old.timer new.timer old.harts new.harts g
-      actor op given place reply is want fit at answer memory board timer harts;
+      λ g is. stays (flat_of old.pages) (flat_of new.pages) (marks_of old.pages) (marks_of new.pages) old.board new.board
+      old.timer new.timer old.harts new.harts g actor op given place reply is want fit at answer memory marks board timer harts;
 }
 
 -- an actor that wanted something still wants something
@@ -186,21 +189,35 @@ not_refused w g actor op mine given why is want wants none some =
 pub restarted : (w : WorldValue) (g : Guest) → IsWorld w g → IsWorld (record w { timer = new_timer }) (timer_restarted g)
 restarted w g is = record {
   memory_is = is.memory_is;
+  marks_are = is.marks_are;
   board_is = is.board_is;
   timer_is = timer_traces.leads_start;
+  harts_are = record { count = is.harts_are.count; each = is.harts_are.each };
+}
+
+-- and with no mark set
+pub unwritten_is : (w : WorldValue) (pages : List PageValue) (g : Guest) → IsWorld w g → flat_of pages ≡ flat_of w.pages
+    → marks_of pages ≡ replicate (length w.pages) false → IsWorld (record w { pages = pages }) (unwritten g)
+unwritten_is w pages g is memory marks = record {
+  memory_is = memory ∙ is.memory_is;
+  marks_are = subst (λ (l : List Bool). AreMarks l none_written) (sym marks) (none_marked (length w.pages));
+  board_is = is.board_is;
+  timer_is = is.timer_is;
   harts_are = record { count = is.harts_are.count; each = is.harts_are.each };
 }
 
 -- events of an actor, one after another
 abbrev pub HasRun : ActorId → WorldValue → ℕ → WorldValue → Type 0
 HasRun actor old made new =
-    HasMade actor (flat_of old.pages) old.board old.timer old.harts made (flat_of new.pages) new.board new.timer new.harts
+    HasMade actor (flat_of old.pages) (marks_of old.pages) old.board old.timer old.harts made (flat_of new.pages)
+    (marks_of new.pages) new.board new.timer new.harts
 
 pub run_more : (actor : ActorId) (old mid new : WorldValue) (made : ℕ) → HasRun actor old made mid
     → mid.board.off ≡ false → ((e : Entry) × MakesEvent mid (record { actor = actor; reply = None }) e new)
     → HasRun actor old (made + 1) new
 run_more actor old mid new made has on event =
-    has_made_more actor (flat_of old.pages) (flat_of mid.pages) (flat_of new.pages) old.board mid.board new.board
+    has_made_more actor (flat_of old.pages) (flat_of mid.pages) (flat_of new.pages) (marks_of old.pages)
+    (marks_of mid.pages) (marks_of new.pages) old.board mid.board new.board
     old.timer mid.timer new.timer old.harts mid.harts new.harts made event.0 has on event.1.unstamped event.1.step
     event.1.stays
 
@@ -211,5 +228,5 @@ HasEnded actor w = HasStopped actor w.board w.timer w.harts
 pub runs : (actor : ActorId) (old new : WorldValue) (count made : ℕ) → HasRun actor old made new
     → (made ≡ count) ⊎ ((made < count) × HasEnded actor new) → Runs old actor count made new
 runs actor old new count made has all g is =
-    ran actor (flat_of old.pages) (flat_of new.pages) old.board new.board old.timer new.timer old.harts new.harts made
+    ran actor (flat_of old.pages) (flat_of new.pages) (marks_of old.pages) (marks_of new.pages) old.board new.board old.timer new.timer old.harts new.harts made
     count has all g is

@@ -11,8 +11,9 @@ use Rattle.vm_types.specs.Fits.{fits}
 use Rattle.guest_memory.specs.Memory.{Memory, read_from}
 use Rattle.guest_memory.specs.Ram.{ram_start, is_ram, page_number, page_offset, page_size}
 use Rattle.board_table.specs.Board.{Board}
-use Rattle.guest_pages.specs.Pages.{PageValue, flat_of}
-use Rattle.guest_pages.specs.Words.{at_place, read_of, read_reply, served, write_of, write_reply}
+use Rattle.guest_pages.specs.Pages.{PageValue, flat_of, marks_of}
+use Rattle.guest_pages.specs.Marks.{marks_after}
+use Rattle.guest_pages.specs.Words.{at_place, place_among, read_of, read_reply, served, write_of, write_reply}
 use Rattle.rv_rows.specs.declared.memory.Width.{Width}
 use Rattle.rv_rows.specs.Loads.{width_bytes}
 use Rattle.rv_doing.specs.declared.hart_op.HartOp.{HartOp}
@@ -101,6 +102,16 @@ module _ (pages : List PageValue) (board : Board) (actor : ActorId) where
   left op at false true none = refl
   left op at false false none = refl
 
+  marked : (op : Op) (at : ℕ) (reply : Reply) (r b : Bool) → r ≡ false
+      → marks_after (paged at b) (marks_of pages) op reply ≡ marks_after (place at r b) (marks_of pages) op reply
+  marked op at reply true b none = cc
+  marked op at reply false b none = refl
+
+  read_marked : (at : ℕ) (width : Width) (reply : Reply) (b : Bool)
+      → marks_of pages ≡ marks_after (paged at b) (marks_of pages) (read_of width at) reply
+  read_marked at width reply true = refl
+  read_marked at width reply false = refl
+
   kept : (op : Op) (at : ℕ) (r b : Bool) → r ≡ false → board ≡ board_after (place at r b) board actor op
   kept op at true b none = cc
   kept op at false true none = refl
@@ -124,14 +135,16 @@ module _ (pages : List PageValue) (board : Board) (actor : ActorId) where
       let r : Bool = are_registers at len in record {
         reply_is = is ∙ replied op at r b none refl;
         memory_is = read_kept at width b ∙ left op at r b none;
+        marks_is = read_marked at width reply b ∙ marked op at reply r b none;
         board_is = kept op at r b none;
         count_is = refl;
       }
 
   pub write_answered : (at word : ℕ) (width : Width) (reply : Reply) (later : List PageValue) → ram_start ≤ at
       → reply ≡ (served pages actor (write_of width at word)).0 → flat_of later ≡ (served pages actor (write_of width at word)).1
+      → marks_of later ≡ marks_after (place_among pages (write_of width at word)) (marks_of pages) (write_of width at word) reply
       → length later ≡ length pages → IsAnswered pages board actor (write_of width at word) reply later board
-  write_answered at word width reply later high is memory count =
+  write_answered at word width reply later high is memory marks count =
       let op : Op = write_of width at word in
       let len : ℕ = length (bytes_of (width_bytes width) word) in
       let none = not_registers at len high in
@@ -139,6 +152,7 @@ module _ (pages : List PageValue) (board : Board) (actor : ActorId) where
       let r : Bool = are_registers at len in record {
         reply_is = is ∙ replied op at r b none refl;
         memory_is = memory ∙ left op at r b none;
+        marks_is = marks ∙ marked op at reply r b none;
         board_is = kept op at r b none;
         count_is = count;
       }
@@ -164,7 +178,7 @@ advanced old new k hart next there by timer harts =
     let given = ap (λ (o : Option Hart). with_reply o old.harts k by.0) (sym there) in (
       entry_of (place_in old op) (ActorId.Hart k) op by.0,
       event_made old new (ActorId.Hart k) op None (place_in old op) by.0 (ap want_of there)
-          (none_given op (never_host hart)) refl by.1.reply_is by.1.memory_is by.1.board_is timer
+          (none_given op (never_host hart)) refl by.1.reply_is by.1.memory_is by.1.marks_is by.1.board_is timer
           (harts ∙ ap (λ (h : Hart). slice_set old.harts k h) by.2 ∙ given),
     )
 
@@ -180,7 +194,7 @@ module _ (k : ℕ) (pages mid later : List PageValue) (board between after : Boa
   pub none_run : HasRun (ActorId.Hart k) start 0 (world_with pages board timer (slice_set harts k first))
   none_run =
       subst (λ (hs : List Hart). HasRun (ActorId.Hart k) start 0 (world_with pages board timer hs))
-      (sym (set_own harts k first there)) (has_made_none (ActorId.Hart k) (flat_of pages) board timer harts)
+      (sym (set_own harts k first there)) (has_made_none (ActorId.Hart k) (flat_of pages) (marks_of pages) board timer harts)
 
   pub one_more : HasRun (ActorId.Hart k) start made here → between.off ≡ false
       → Advances mid between hart (ActorId.Hart k) later after next
@@ -209,12 +223,13 @@ made_as false = refl
 pub write_advances : (pages later : List PageValue) (board : Board) (actor : ActorId) (hart next : Hart) (width : Width) (at word : ℕ)
     (is_made : Bool) → hart_wants hart ≡ write_of width at word → ram_start ≤ at
     → write_reply is_made ≡ (served pages actor (write_of width at word)).0
-    → flat_of later ≡ (served pages actor (write_of width at word)).1 → length later ≡ length pages
-    → next ≡ hart_next hart (made_reply is_made) → Advances pages board hart actor later board next
-write_advances pages later board actor hart next width at word is_made wants high is memory count on = (
+    → flat_of later ≡ (served pages actor (write_of width at word)).1
+    → marks_of later ≡ marks_after (place_among pages (write_of width at word)) (marks_of pages) (write_of width at word) (write_reply is_made)
+    → length later ≡ length pages → next ≡ hart_next hart (made_reply is_made) → Advances pages board hart actor later board next
+write_advances pages later board actor hart next width at word is_made wants high is memory marks count on = (
   write_reply is_made,
   subst (λ (op : Op). IsAnswered pages board actor op (write_reply is_made) later board) (sym wants)
-      (write_answered pages board actor at word width (write_reply is_made) later high is memory count),
+      (write_answered pages board actor at word width (write_reply is_made) later high is memory marks count),
   on ∙ ap (hart_next hart) (made_as is_made),
 )
 

@@ -6,7 +6,8 @@ use Rattle.vm_types.specs.declared.op.Op.{Op}
 use Rattle.vm_types.specs.declared.reply.Reply.{Reply}
 use Rattle.board_table.specs.Board.{Board}
 use Rattle.guest_memory.specs.Ram.{ram_start}
-use Rattle.guest_pages.specs.Pages.{PageValue, flat_of}
+use Rattle.guest_pages.specs.Marks.{marks_after}
+use Rattle.guest_pages.specs.Pages.{PageValue, flat_of, marks_of}
 use Rattle.rv_doing.specs.declared.hart_op.HartOp.{HartOp}
 use Rattle.rv_doing.specs.declared.hart_op.HartOp.TheVariants.{Fetch, Read, Write}
 use Rattle.hart_trace.specs.States.{Hart, hart_next, hart_wants}
@@ -18,11 +19,12 @@ use Rattle.flat_guest.specs.Steps.{board_after, memory_after}
 abbrev pub place_with : List PageValue → Op → PlaceId
 place_with pages op = place_of (without_devices (length (flat_of pages).bytes)) op
 
--- the reply is the place's, and so is what becomes of the pages, which are as many, and of the board
+-- the reply is the place's, and so is what becomes of the pages, which are as many, of their marks and of the board
 pub record IsAnswered (pages : List PageValue) (board : Board) (actor : ActorId) (op : Op) (reply : Reply)
     (later : List PageValue) (after : Board) : Type 0 where
   pub reply_is : reply ≡ reply_at (place_with pages op) (flat_of pages) board actor op None
   pub memory_is : flat_of later ≡ memory_after (place_with pages op) (flat_of pages) actor op
+  pub marks_is : marks_of later ≡ marks_after (place_with pages op) (marks_of pages) op reply
   pub board_is : after ≡ board_after (place_with pages op) board actor op
   pub count_is : length later ≡ length pages
 

@@ -6,7 +6,7 @@ use Rattle.vm_types.specs.declared.op.Op.{Op}
 use Rattle.vm_types.specs.declared.ids.ActorId.{ActorId}
 use Rattle.vm_types.specs.declared.ids.PlaceId.{PlaceId}
 use Rattle.board_table.specs.Board.{Board}
-use Rattle.guest_pages.specs.Pages.{PageValue, flat_of}
+use Rattle.guest_pages.specs.Pages.{PageValue, flat_of, marks_of}
 use Rattle.hart_trace.specs.States.{Hart}
 use Rattle.timer_trace.specs.declared.timer.Timer.{Timer}
 use Rattle.flat_guest.specs.Guest.{Guest}
@@ -24,9 +24,10 @@ pub record WorldValue : Type 0 where
 abbrev pub world_with : List PageValue → Board → Timer → List Hart → WorldValue
 world_with pages board timer harts = record { pages = pages; board = board; timer = timer; harts = harts }
 
--- the guest's memory is the pages' one memory, its board is the board, and its steps lead to the timer and the harts
+-- the guest's memory is the pages' one memory, the pages are marked that were written, its board is the board, and its
+-- steps lead to the timer and the harts
 abbrev pub IsWorld : WorldValue → Guest → Type 0
-IsWorld w g = IsGuest (flat_of w.pages) w.board w.timer w.harts g
+IsWorld w g = IsGuest (flat_of w.pages) (marks_of w.pages) w.board w.timer w.harts g
 
 -- what an actor wants, if it is there
 abbrev pub want_in : WorldValue → ActorId → Option Op

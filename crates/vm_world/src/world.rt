@@ -7,13 +7,14 @@ ghost use Rattle.vm_types.specs.declared.entry.Entry.{Entry};
 ghost use Rattle.vm_types.specs.declared.op.Op.{Op};
 ghost use Rattle.guest_memory.specs.Memory.{read_from};
 ghost use Rattle.guest_memory.specs.Ram.{is_ram};
-ghost use Rattle.guest_pages.specs.Pages.{flat_of, marks_of};
+ghost use Rattle.guest_pages.specs.Marks.{marks_after};
+ghost use Rattle.guest_pages.specs.Pages.{cleared, flat_of, marks_of};
 ghost use Rattle.boot_loader.specs.declared.booting.BootError as boot_error;
 ghost use Rattle.boot_loader.specs.Loading.{have_room, loads_of};
 ghost use Rattle.hart_trace.specs.Asks.{is_host_op};
 ghost use Rattle.hart_trace.specs.Shown.{register_of};
 ghost use Rattle.timer_trace.specs.States.{new_timer};
-ghost use Rattle.flat_guest.specs.Guest.{Guest, Wants, is_actor};
+ghost use Rattle.flat_guest.specs.Guest.{Guest, Wants, is_actor, unwritten};
 ghost use Rattle.flat_guest.specs.Body.{harts_after, out_reply, reply_at, timer_after, want_of, with_reply};
 ghost use Rattle.flat_guest.specs.Start.{started, timer_restarted};
 ghost use Rattle.flat_guest.specs.Steps.{board_after, is_given, memory_after};
@@ -162,6 +163,7 @@ impl World {
         requires { place ≡ place_in self.old op.now }
         ensures reply { result ≡ reply_at place (flat_of self.old.pages) self.old.board actor op.now given }
         ensures memory { flat_of self.new.pages ≡ memory_after place (flat_of self.old.pages) actor op.now }
+        ensures marks { marks_of self.new.pages ≡ marks_after place (marks_of self.old.pages) op.now result }
         ensures board { self.new.board ≡ board_after place self.old.board actor op.now }
         ensures timer { self.new.timer ≡ self.old.timer }
         ensures harts { self.new.harts ≡ self.old.harts }
@@ -309,6 +311,14 @@ impl World {
         ensures guest { (g : Guest) → IsWorld self.old g → IsWorld self.new (timer_restarted g) }
     {
         self.timer = Timer::new();
+    }
+
+    /// Takes the mark of every page away, as after a snapshot.
+    pub fn clear_marks(&mut self)
+        ensures pages { self.new ≡ record self.old { pages = cleared self.old.pages } }
+        ensures guest { (g : Guest) → IsWorld self.old g → IsWorld self.new (unwritten g) }
+    {
+        self.pages.clear_marks();
     }
 
     /// How many harts there are.

@@ -8,7 +8,7 @@ use Rattle.vm_config.specs.declared.config.Config.{Config}
 use Rattle.rv_supervisor.specs.declared.regs.Regs.{Regs}
 use Rattle.hart_trace.specs.States.{Hart, LeadsTo}
 use Rattle.flat_guest.specs.Body as body
-use Rattle.flat_guest.specs.Guest.{Guest}
+use Rattle.flat_guest.specs.Guest.{Guest, none_written}
 use Rattle.snap_state.specs.declared.hart.SavedHart.{SavedHart}
 use Rattle.snap_state.specs.declared.copy.StateCopy.{StateCopy}
 use Rattle.snap_state.specs.Copy.{saved_hart}
@@ -53,6 +53,7 @@ copied config w g copy made is = (
     board = is.board_is i;
     starts = [];
     steps = λ actor. [];
+    written = none_written;
   }) w.harts),
 )
 

@@ -1,5 +1,5 @@
 -- A world goes on where the guest does.
-use Rattle.std.proofs.Common.{◌≡◌, ℕ, zero, suc, ◌<◌, ◌^◌, Bool, true, false, List, [], ◌∷◌, ◌++◌, Option, Some, None, is_some, length, map, slice_get, refl, sym, ap, subst, ◌∙◌, arith}
+use Rattle.std.proofs.Common.{◌≡◌, ℕ, zero, suc, ◌<◌, ◌^◌, Bool, true, false, List, [], ◌∷◌, ◌++◌, Option, Some, None, is_some, length, map, replicate, slice_get, refl, sym, ap, subst, ◌∙◌, arith}
 use Rattle.vm_types.specs.declared.op.Op.{Op}
 use Rattle.vm_types.specs.declared.reply.Reply.{Reply}
 use Rattle.vm_types.specs.declared.entry.Step.{Step}
@@ -13,11 +13,14 @@ use Rattle.hart_trace.specs.Traces.{executes}
 use Rattle.hart_trace.specs.States.{Hart, LeadsTo, fresh}
 use Rattle.hart_trace.proofs.Traces.{leads_start}
 use Rattle.guest_memory.specs.Reserved.{unreserved}
-use Rattle.guest_pages.specs.Pages.{PageValue, flat_of}
+use Rattle.guest_pages.specs.Marks.{AreMarks}
+use Rattle.guest_pages.specs.Pages.{PageValue, flat_of, marks_of}
 use Rattle.board_table.specs.Board.{Board}
 use Rattle.timer_trace.specs.States.{new_timer}
 use Rattle.timer_trace.proofs.Traces as timer_traces
 use Rattle.flat_guest.specs.Body.{AreHarts}
+use Rattle.flat_guest.specs.Guest.{none_written}
+use Rattle.flat_guest.proofs.Marked.{none_marked}
 use Rattle.snap_state.specs.declared.hart.SavedHart.{SavedHart}
 use Rattle.snap_state.specs.declared.hart.HartPlace.{HartPlace}
 use Rattle.snap_state.specs.declared.hart.HartPlace.TheVariants.{Access}
@@ -84,14 +87,15 @@ each (s ∷ saved) (h ∷ harts) on (suc k) start hart begins is = each saved ha
 pub goes_on : (copy : StateCopy) (before pages : List PageValue) (board : Board) (harts : List Hart)
     → (flat_of pages).bytes ≡ (flat_of before).bytes
     → (flat_of pages).reserved ≡ slots_with copy.reservations (flat_of before).reserved
-    → (flat_of before).reserved ≡ unreserved copy.pages
-    → board ≡ board_at copy.guest_time copy.board → GoOn copy.harts harts
+    → (flat_of before).reserved ≡ unreserved copy.pages → marks_of pages ≡ marks_of before
+    → marks_of before ≡ replicate copy.pages false → board ≡ board_at copy.guest_time copy.board → GoOn copy.harts harts
     → IsWorld (world_with pages board new_timer harts) (carried_guest copy (flat_of before).bytes)
-goes_on copy before pages board harts bytes reserved free board_is on = record {
+goes_on copy before pages board harts bytes reserved free marks unmarked board_is on = record {
   memory_is = λ i. record {
     bytes = bytes i;
     reserved = (reserved ∙ ap (slots_with copy.reservations) free) i;
   };
+  marks_are = subst (λ (l : List Bool). AreMarks l none_written) (sym (marks ∙ unmarked)) (none_marked copy.pages);
   board_is = board_is;
   timer_is = timer_traces.leads_start;
   harts_are = record { count = as_many copy.harts harts on; each = λ k start hart begins is. each copy.harts harts on k start hart begins is };

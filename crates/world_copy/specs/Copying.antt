@@ -3,14 +3,15 @@ use Rattle.std.specs.Prelude.{List, [], map}
 use Rattle.vm_types.specs.declared.ids.ActorId.{ActorId}
 use Rattle.vm_config.specs.declared.config.Config.{Config}
 use Rattle.guest_pages.specs.Pages.{flat_of}
-use Rattle.flat_guest.specs.Guest.{Guest}
+use Rattle.flat_guest.specs.Guest.{Guest, none_written}
 use Rattle.snap_state.specs.declared.copy.StateCopy.{StateCopy}
 use Rattle.flat_snapshot.specs.Copies.{copy_of}
 use Rattle.vm_world.specs.Worlds.{WorldValue}
 
 -- a guest with its memory and its board, which is all that a copy looks at besides the harts
 abbrev pub guest_of : WorldValue → Guest
-guest_of w = record { memory = flat_of w.pages; board = w.board; starts = []; steps = λ actor. [] }
+guest_of w =
+    record { memory = flat_of w.pages; board = w.board; starts = []; steps = λ actor. []; written = none_written }
 
 abbrev pub copy_in : Config → WorldValue → StateCopy
 copy_in config w = copy_of config (guest_of w) w.harts

@@ -56,9 +56,9 @@ pub(crate) fn configuration_of(alloc: Global, config: &Config) -> Result<Configu
     })
 }
 
-/// The configuration of a machine that goes on from a copy with this one.
-pub fn config_of(configuration: Configuration) -> Config
-    ensures { result ≡ carried_config configuration }
+/// The configuration of a machine that goes on from a copy with this one, and tracks dirty pages or doesn't.
+pub fn config_of(configuration: Configuration, track_dirty_pages: bool) -> Config
+    ensures { result ≡ carried_config track_dirty_pages configuration }
 {
     Config {
         boot_source: Some(BootSource {
@@ -69,7 +69,7 @@ pub fn config_of(configuration: Configuration) -> Config
         machine: MachineConfig {
             vcpu_count: configuration.machine.vcpu_count,
             mem_size_mib: configuration.machine.mem_size_mib,
-            track_dirty_pages: false,
+            track_dirty_pages,
         },
         configured: true,
     }

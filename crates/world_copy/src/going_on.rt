@@ -1,8 +1,8 @@
 // The world that goes on from a copy.
-ghost use Rattle.std.specs.Prelude.{◌≡◌, ◌≤◌, true, IsTrue, IfOk, length};
+ghost use Rattle.std.specs.Prelude.{◌≡◌, ◌≤◌, true, false, IsTrue, IfOk, length, replicate};
 ghost use Rattle.std.specs.List.{list_all};
 ghost use Rattle.guest_memory.specs.Reserved.{unreserved};
-ghost use Rattle.guest_pages.specs.Pages.{flat_of};
+ghost use Rattle.guest_pages.specs.Pages.{flat_of, marks_of};
 ghost use Rattle.hart_trace.specs.States.{LeadsTo};
 ghost use Rattle.snap_state.specs.declared.hart.HartPlace.TheVariants.{Access};
 ghost use Rattle.snap_state.specs.Copy.{board_at, hart_of, regs_of};
@@ -78,11 +78,13 @@ fn board_of(alloc: Global, harts: u64, now: u64, saved: &SavedBoard) -> Result<B
     Ok(board)
 }
 
-/// The world that goes on from a copy, whose memory has these bytes. Nothing is reserved in the pages yet.
+/// The world that goes on from a copy, whose memory has these bytes. Nothing is reserved in the pages yet, and none is
+/// marked.
 pub fn world_of(alloc: Global, copy: &StateCopy, pages: PageSet) -> Result<World, AllocError>
     requires valid { IsTrue (is_valid copy.now) }
     requires count { length pages ≡ copy.now.pages }
     requires free { (flat_of pages).reserved ≡ unreserved copy.now.pages }
+    requires unmarked { marks_of pages ≡ replicate copy.now.pages false }
     ensures { IfOk result (λ world. IsWorld world (carried_guest copy.now (flat_of pages).bytes)) }
 {
     let mut pages = pages;

@@ -1,7 +1,7 @@
 // What is reserved in memory, as a copy has it, and back.
 ghost use Rattle.std.specs.Prelude.{◌≡◌, ◌≤◌, ◌^◌, true, IfOk, length};
 ghost use Rattle.std.specs.List.{list_all};
-ghost use Rattle.guest_pages.specs.Pages.{flat_of};
+ghost use Rattle.guest_pages.specs.Pages.{flat_of, marks_of};
 ghost use Rattle.snap_state.specs.Valid.{is_reserved};
 ghost use Rattle.flat_snapshot.specs.Carried.{slots_with};
 ghost use Rattle.flat_snapshot.specs.Copies.{reservations_from};
@@ -32,12 +32,13 @@ pub fn reservations_of(alloc: Global, pages: &PageSet) -> Result<Items<Reservati
     Ok(items)
 }
 
-/// Reserves all of these in the pages. They are of pages and harts that are there, of which there are at most 32.
+/// Reserves all of these in the pages, and marks none. They are of pages and harts that are there, of which there are at most 32.
 pub fn reserve(pages: &mut PageSet, harts: u64, reservations: &[Reservation])
     requires few { harts ≤ 32 }
     requires there { list_all (is_reserved (length pages.old) harts) reservations.now ≡ true }
     ensures bytes { (flat_of pages.new).bytes ≡ (flat_of pages.old).bytes }
     ensures reserved { (flat_of pages.new).reserved ≡ slots_with reservations.now (flat_of pages.old).reserved }
+    ensures marks { marks_of pages.new ≡ marks_of pages.old }
     ensures count { length pages.new ≡ length pages.old }
 {
     let mut left = reservations;

@@ -10,7 +10,7 @@ ghost use Rattle.vm_outside.specs.Known.{Lasts, Tells};
 
 use crate::machine::LiveMachine;
 use crate::outcome::Outcome;
-use monitor_plans::{Creation, Plan, done_line};
+use monitor_plans::{Creation, Plan, done_line, pages_of};
 use snap_writer::create;
 use std::alloc::AllocError;
 use vm_outside::{Failed, Files};
@@ -24,7 +24,7 @@ struct Texts {
 }
 
 impl LiveMachine {
-    ghost use Rattle.monitor_machine.specs.Plans.{HasTwoNames, IsCreate};
+    ghost use Rattle.monitor_machine.specs.Plans.{HasTwoNames, IsCreate, unmarked_world};
     ghost use Rattle.monitor_machine.specs.Replying.{Replies};
     ghost use Rattle.monitor_machine.specs.State.{IsMachine};
 
@@ -39,6 +39,16 @@ impl LiveMachine {
         let mut failed = ByteList::copy_of(self.alloc, text.as_slice())?;
         self.write_line(&Plan::FilesFailed, &mut failed)?;
         Ok(Texts { done, failed })
+    }
+
+    // No page of the guest is marked any more.
+    fn clear_marks(&mut self)
+        ensures { self.new ≡ record self.old { guest = unmarked_world self.old.guest } }
+    {
+        match &mut self.guest {
+            None => {}
+            Some(guest) => guest.clear_marks(),
+        }
     }
 
     // Answers a create, whose files are written by calls that take no memory. An `Err` changes nothing.
@@ -60,13 +70,16 @@ impl LiveMachine {
         let Some(guest) = &self.guest else {
             return self.fall_short(text);
         };
+        let mut room = creation.room;
+        let Some(pages) = pages_of(guest, &creation.numbers) else {
+            return self.fall_short(text);
+        };
         let Ok(texts) = self.texts(text) else {
             return self.fall_short(text);
         };
-        let mut room = creation.room;
         let written = create(
             files,
-            guest.pages(),
+            &pages,
             &mut room,
             creation.head.as_slice(),
             creation.body.as_slice(),
@@ -77,6 +90,7 @@ impl LiveMachine {
         match written {
             Ok(()) => {
                 self.ids.base = Some(creation.identity);
+                self.clear_marks();
                 *text = texts.done;
                 Ok(Outcome::Answered)
             }

@@ -6,13 +6,13 @@ ghost use Rattle.http_stream.specs.declared.request.Request.{Request};
 ghost use Rattle.api_calls.specs.Call.{call_of};
 ghost use Rattle.api_rules.specs.Table.{decision};
 ghost use Rattle.flat_machine.specs.Machine.{Machine};
-ghost use Rattle.flat_machine.specs.Requests.{decided};
+ghost use Rattle.flat_machine.specs.Requests.{decided, parent_of};
 ghost use Rattle.vm_config.specs.declared.change.Change.TheVariants as change;
 ghost use Rattle.monitor_plans.specs.Plans.{TaskCause};
 ghost use Rattle.monitor_machine.specs.Replying.{AsksFiles, calls_files};
 
 use crate::machine::LiveMachine;
-use api_calls::{ApiCall, SnapshotFiles};
+use api_calls::{ApiCall, SnapshotCreate, SnapshotType};
 use api_json::{ReadError, read};
 use api_rules::{Change, Phase, decide};
 use http_stream::{Next, Request};
@@ -79,16 +79,16 @@ impl LiveMachine {
         match change {
             Change::Start => Task::Plan(start(self.alloc, &self.config, files)),
             Change::LoadSnapshot(load) => Task::Plan(restore(self.alloc, &load, files)),
-            Change::CreateSnapshot(names) => self.task_of_create(names),
+            Change::CreateSnapshot(create) => self.task_of_create(create),
             change => Task::Plan(Plan::Changes(change)),
         }
     }
 
     // What comes of a create. Only a machine that has started comes here.
-    fn task_of_create(&self, names: SnapshotFiles) -> Task
-        requires { HasTwoNames names }
+    fn task_of_create(&self, it: SnapshotCreate) -> Task
+        requires { HasTwoNames it.files }
         ensures task { (known : FilesKnown) (m : Machine) → IsMachine self.now known m → (given : Next) →
-            decided m given ≡ Ok (change.CreateSnapshot names) → IsTask result m given }
+            decided m given ≡ Ok (change.CreateSnapshot it) → IsTask result m given }
         ensures files { AreTwoFiles result }
         ensures cause { (n : ℕ) → TaskCause result n n }
     {
@@ -96,9 +96,20 @@ impl LiveMachine {
             lineage: self.ids.lineage,
             number: self.ids.next,
         };
+        let parent = self.parent(it.snapshot_type);
         match &self.guest {
             None => Task::Plan(Plan::NoMemory),
-            Some(guest) => create(self.alloc, &self.config, identity, guest, names),
+            Some(guest) => create(self.alloc, &self.config, parent, identity, guest, it.files),
+        }
+    }
+
+    // What a snapshot of this type is a diff of.
+    fn parent(&self, snapshot_type: SnapshotType) -> Option<Identity>
+        ensures { result ≡ parent_of snapshot_type self.now.ids.base }
+    {
+        match snapshot_type {
+            SnapshotType::Full => None,
+            SnapshotType::Diff => self.ids.base,
         }
     }
 

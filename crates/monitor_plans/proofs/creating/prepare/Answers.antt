@@ -9,6 +9,7 @@ returns c = record {
   differ = c.requires;
   copy = c.in-Ok.copy;
   copied = c.in-Ok.ensures.copied;
-  head_is = c.in-Ok-head_of.ensures;
+  head_is = c.in-Some.ensures.head_is;
+  pages_are = c.in-Some.ensures.pages_are;
   body_is = c.in-Ok-body_of.ensures;
 }

@@ -1,7 +1,6 @@
 use Rattle.std.proofs.Common.{◌≡◌, List, ℕ, ◌∷◌, Some, length}
 use Rattle.std.specs.FinMap.{get}
 use Rattle.vm_outside.specs.Known.{Tells}
-use Rattle.guest_pages.specs.Pages.{flat_of}
 use Rattle.snap_writer.specs.Blocks.{block_size}
 use Rattle.snap_writer.proofs.Runs.{Wrote}
 use Rattle.snap_writer.proofs.pages.write_pages.Given as goal
@@ -14,5 +13,5 @@ invariant-loop-number g l =
       still : Tells (known l.initial.files).health → Tells (known l.files).health;
       kept : (known l.files).health.faults ≡ (known l.initial.files).health.faults;
       wrote : Tells (known l.initial.files).health → (front : List ℕ) → get (known l.initial.files).saved l.name ≡ Some (0 ∷ front) → l.at ≡ length (0 ∷ front)
-          → Wrote l.name l.at (flat_of l.pages).bytes front (known l.initial.files) l.number (known l.files);
+          → Wrote l.name l.at l.pages front (known l.initial.files) l.number (known l.files);
     }

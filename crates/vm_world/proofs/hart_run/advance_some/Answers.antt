@@ -42,7 +42,7 @@ returns-then-store-ge-RAM_START-clause-events c =
           c.in-Some.ensures.wants high (c.in-Some-read_word.ensures actor) refl,
       write_advances c.args.pages.now c.write_word-is_made.new.self c.args.board.now actor mid c.stores.new.self store.width
           store.address store.value c.write_word-is_made.result c.in-Some-store.ensures.wants c.if-store-ge-RAM_START.true
-          made.reply made.memory made.count (c.stores.ensures word c.in-Some-store.ensures.is),
+          made.reply made.memory made.marks made.count (c.stores.ensures word c.in-Some-store.ensures.is),
     )
 
 pub returns-clause-events : goal.returns-clause-events

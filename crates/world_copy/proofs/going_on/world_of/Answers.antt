@@ -42,5 +42,5 @@ returns c =
     subst (λ (w : WorldValue). IsWorld w (carried_guest copy (flat_of c.args.pages).bytes)) (sym c.from_parts.ensures)
     (goes_on copy c.args.pages c.reserve.new.pages c.in_ok-board.board c.in_ok-harts.harts.items c.reserve.ensures.bytes
     (c.reserve.ensures.reserved ∙ ap (λ (l : List Reservation). slots_with l (flat_of c.args.pages).reserved) c.as_slice-2.ensures)
-    c.requires.free c.in_ok-board.ensures
+    c.requires.free c.reserve.ensures.marks c.requires.unmarked c.in_ok-board.ensures
     (subst (λ (l : List SavedHart). GoOn l c.in_ok-harts.harts.items) c.as_slice.ensures c.in_ok-harts.ensures))

@@ -6,8 +6,8 @@ pub returns-in-Ok-written-clause-ok : goal.returns-in-Ok-written-clause-ok
 returns-in-Ok-written-clause-ok g c = λ given due.
     let known = g.F.Files.known in
     is_written c.args.creation c.args.self.now _ c.in-Some.guest c.args.text.now c.in-Ok.texts.done (known c.args.files.now)
-    (known c.create-written.new.files) given c.in-Some.is due refl c.in-Ok.ensures.done c.in-Ok-written.ensures.called.kept
-    (λ told. same_create _ _ _ _ _ _ _ _ _ _ _ _ c.as_str-2.ensures c.as_slice.ensures c.pages.ensures.pages c.as_str.ensures
+    (known c.create-written.new.files) given c.in-Some.is due c.clear_marks.ensures c.in-Ok.ensures.done c.in-Ok-written.ensures.called.kept
+    (λ told. same_create _ _ _ _ _ _ _ _ _ _ _ _ c.as_str-2.ensures c.as_slice.ensures c.in-Some-pages_of.ensures c.as_str.ensures
     c.as_slice-2.ensures (c.in-Ok-written.ensures.created told))
 
 pub returns-clause-ok : goal.returns-clause-ok
@@ -15,5 +15,5 @@ returns-clause-ok g c = λ given due.
     let known = g.F.Files.known in
     is_unwritten c.args.creation c.args.self.now _ c.in-Some.guest c.args.text.now c.in-Ok.texts.failed (known c.args.files.now)
     (known c.create-written.new.files) given c.in-Some.is due refl c.in-Ok.ensures.failed c.in-Err.ensures.called.failed
-    (λ told. same_part _ _ _ _ _ _ _ _ _ _ _ _ c.as_str-2.ensures c.as_slice.ensures c.pages.ensures.pages c.as_str.ensures
+    (λ told. same_part _ _ _ _ _ _ _ _ _ _ _ _ c.as_str-2.ensures c.as_slice.ensures c.in-Some-pages_of.ensures c.as_str.ensures
     c.as_slice-2.ensures (c.in-Err.ensures.begun told))

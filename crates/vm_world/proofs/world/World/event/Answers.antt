@@ -1,6 +1,6 @@
 use Rattle.std.proofs.Common.{List, ap, ◌∙◌}
 use Rattle.vm_types.specs.declared.reply.Reply.{Reply}
-use Rattle.guest_pages.specs.Pages.{flat_of}
+use Rattle.guest_pages.specs.Pages.{flat_of, marks_of}
 use Rattle.hart_trace.specs.States.{Hart}
 use Rattle.timer_trace.specs.declared.timer.Timer.{Timer}
 use Rattle.flat_guest.specs.Body.{harts_after, timer_after}
@@ -15,6 +15,7 @@ returns-clause-made c =
     event_made c.args.self.now c.give.new.self actor c.args.op c.args.given c.route-place.result c.answer-reply.result
     c.requires.want c.requires.given c.route-place.ensures answered.reply
     (ap flat_of given.pages ∙ answered.memory)
+    (ap marks_of given.pages ∙ answered.marks)
     (given.board ∙ answered.board)
     (given.timer ∙ ap (λ (t : Timer). timer_after actor t c.again.result) answered.timer
     ∙ ap (λ (r : Reply). timer_after actor c.args.self.now.timer r) c.again.ensures)

@@ -1,5 +1,5 @@
 use Rattle.monitor_plans.proofs.Heads.{head_is}
-use Rattle.monitor_plans.proofs.creating.head_of.Goals as goal
+use Rattle.monitor_plans.proofs.heading.head_of.Goals as goal
 
 pub returns : goal.returns
 returns c =

@@ -1,0 +1,9 @@
+use Rattle.std.proofs.Common.{ℕ, ap, sym, ◌∙◌, ◌*◌, ◌/◌, arith, option_map, length, List, take, drop}
+use Rattle.snap_writer.proofs.Selecting.{size_is, some_are, some_there}
+use Rattle.snap_writer.proofs.saved_pages.SavedPages.copy_out.Goals as goal
+
+pub copy_pages-requires-clause-inside : goal.copy_pages-requires-clause-inside
+copy_pages-requires-clause-inside c =
+    let size = size_is _ c.in-Some.numbers.now _ _ _ (ap (option_map (λ t. t.now)) c.in-Some.is) c.self.invariant.1
+    (c.len-pages.ensures.bytes ∙ ap (λ (n : ℕ). 4096 * n) c.len-pages.ensures.pages) c.self.view_is in
+    omega (arith, size, c.requires.inside, c.requires.from)
