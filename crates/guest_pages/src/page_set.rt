@@ -8,6 +8,8 @@ ghost use Rattle.guest_pages.specs.Pages.{PageValue, cleared, empty_memory, fill
 ghost use Rattle.guest_pages.specs.Pages.{new_pages, page_holding, page_touch, unmarked};
 ghost use Rattle.guest_pages.specs.Words.{pages_at, place_among, read_of, read_reply, served, write_of, write_reply};
 
+mod parting;
+
 use crate::page::Page;
 use guest_memory::{PAGE_SIZE, RAM_START};
 use rv_rows::Width;

@@ -1,0 +1,8 @@
+//! Harts side by side over locked places.
+#![tactic(auto)]
+
+mod acting;
+mod stop;
+mod worker;
+
+pub use stop::{Stop, Stopped};
