@@ -1,5 +1,5 @@
 -- What an actor does in a slice.
-use Rattle.std.specs.Prelude.{ℕ, ◌≡◌, ◌+◌, ◌<◌, ◌≤◌, ◌^◌, ◌↔◌, true, false, max, List, [], ◌∷◌, ◌++◌, length}
+use Rattle.std.specs.Prelude.{ℕ, ◌≡◌, ◌+◌, ◌<◌, ◌≤◌, ◌^◌, ◌↔◌, true, false, max, List, [], ◌∷◌, ◌++◌, length, slice_index_or}
 use Rattle.std.specs.Prelude.{Option, Some, None, vec_capacity}
 use Rattle.std.specs.List.{AllByRecursion}
 use Rattle.vm_types.specs.declared.entry.Entry.{Entry}
@@ -20,6 +20,7 @@ use Rattle.slice_runner.specs.declared.stop.Stop.{Stop}
 use Rattle.slice_runner.specs.declared.worker.HartWorker.{HartWorker}
 use Rattle.slice_runner.specs.declared.worker.TimerWorker.{TimerWorker}
 use Rattle.slice_runner.specs.declared.worker.Track.{Track}
+use Rattle.slice_runner.specs.Slices.{answers_of}
 use Rattle.slice_runner.specs.Stops.{HasCause, closings, is_last_full}
 use Rattle.slice_runner.specs.Values.{route_among}
 
@@ -116,3 +117,26 @@ IsAsked op old given new = (given ≡ None) × (new ≡ old)
 pub record HasAnswered (start : ClockKnown) (answers : List ℕ) (now : ClockKnown) : Type 0 where
   pub still : Tells start → Tells now
   pub are : Tells start → AreNext start.left answers now.left
+
+-- an actor that begins a slice with a pass of its gate
+pub record IsReady {Q : Type 0} (serves : Q → Type 0) (n : ℕ) (track : Track Q) : Type 0 where
+  pub pass : serves track.pass
+  pub begins : Begins n track
+
+-- and ends it
+pub record HartEnds {Q : Type 0} (serves : Q → Type 0) (closed : Q → ℕ) (count n : ℕ) (before after : HartWorker Q) : Type 0 where
+  pub pass : serves after.track.pass
+  pub worked : HartWorked closed count n before after
+
+pub record TimerEnds {Q : Type 0} (serves : Q → Type 0) (closed : Q → ℕ) (count n : ℕ) (asked now : ClockKnown)
+    (before after : TimerWorker Q) : Type 0 where
+  pub pass : serves after.track.pass
+  pub worked : TimerWorked closed count n before after
+  pub answers : HasAnswered asked (answers_of after.track.journal.items) now
+
+-- each hart of the list does
+pub record HartsWorked {Q : Type 0} (serves : Q → Type 0) (closed : Q → ℕ) (count n : ℕ) (before after : List (HartWorker Q)) :
+    Type 0 where
+  pub same : length after ≡ length before
+  pub each : (i : ℕ) (d : HartWorker Q) → i < length before
+      → HartEnds serves closed count n (slice_index_or before i d) (slice_index_or after i d)

@@ -2,6 +2,7 @@
 #![tactic(auto)]
 
 mod acting;
+mod running;
 mod stop;
 mod worker;
 
