@@ -1,3 +1,5 @@
 pub mod Answers
+pub mod Home
 pub mod Routes
+pub mod Staff
 pub mod Working

@@ -1,5 +1,6 @@
 pub mod Locks
 pub mod Runs
 pub mod Slices
+pub mod Staff
 pub mod Stops
 pub mod Values

@@ -2,7 +2,9 @@
 #![tactic(auto)]
 
 mod acting;
+mod locking;
 mod running;
+mod staffing;
 mod stop;
 mod worker;
 
