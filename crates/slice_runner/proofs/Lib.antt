@@ -3,3 +3,4 @@ pub mod Home
 pub mod Routes
 pub mod Staff
 pub mod Working
+pub mod Stepping

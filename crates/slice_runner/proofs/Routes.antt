@@ -54,7 +54,7 @@ not_port false true i k is = cc
 not_port false false i k is = cc
 
 -- nor on a port, since there is none
-never_port : (n k : ℕ) (op : Op) → is_port_op op ≡ false → route_among n op ≡ PlaceId.Port k → ⊥
+pub never_port : (n k : ℕ) (op : Op) → is_port_op op ≡ false → route_among n op ≡ PlaceId.Port k → ⊥
 never_port n k (Op.Read at len) own is = not_port (are_registers at len) (in_page n at len) ((at - ram_start) / page_size) k is
 never_port n k (Op.Write at piece) own is =
     not_port (are_registers at (length piece)) (in_page n at (length piece)) ((at - ram_start) / page_size) k is

@@ -1,5 +1,6 @@
 -- What a slice is to the flat machine.
-use Rattle.std.specs.Prelude.{ℕ, zero, ◌≡◌, List, [], ◌∷◌, ◌++◌, Option, Some, None}
+use Rattle.std.specs.Prelude.{ℕ, ◌≡◌, List, [], ◌∷◌, ◌++◌, length, Option, Some, None}
+use Rattle.std.specs.List.{AllByRecursion}
 use Rattle.vm_types.specs.declared.entry.Entry.{Entry}
 use Rattle.vm_types.specs.declared.entry.Event.{Event}
 use Rattle.vm_types.specs.declared.ids.ActorId.{ActorId}
@@ -10,10 +11,13 @@ use Rattle.vm_types.specs.declared.reply.Reply.{Reply}
 use Rattle.vm_types.specs.declared.torn.Torn.{Torn}
 use Rattle.vm_types.specs.Ids.{of_actor}
 use Rattle.vm_types.specs.Serial.{OutFits}
+use Rattle.board_table.specs.Acts as board
+use Rattle.board_table.specs.Board.{Board}
 use Rattle.flat_guest.specs.Guest.{Guest}
 use Rattle.flat_guest.specs.Steps.{FlatStep}
 use Rattle.guest_pages.specs.Marks.{AreMarked}
-use Rattle.guest_pages.specs.Pages.{PageValue}
+use Rattle.guest_pages.specs.Flat.{ArePages}
+use Rattle.guest_pages.specs.Pages.{PageValue, page_touch}
 use Rattle.place_locks.specs.Held.{IsHistory}
 use Rattle.stamp_merge.specs.declared.history.History.{History}
 use Rattle.stamp_merge.specs.declared.journal.Journal.{Journal}
@@ -25,7 +29,9 @@ use Rattle.stamp_merge.specs.Parts.{IsTorn}
 use Rattle.stamp_merge.specs.Stamps.{StampsRun}
 use Rattle.vm_host.specs.Telling.{AreNext, ClockKnown, Tells}
 use Rattle.vm_world.specs.Worlds.{IsWorld, WorldValue}
-use Rattle.slice_runner.specs.Values.{ActorState, PlaceValue, actor_next, actor_wants, actors_of, place_touch, places_of, route_among}
+use Rattle.slice_runner.specs.declared.stop.Stopped.{Stopped}
+use Rattle.slice_runner.specs.Stops.{AreStopped}
+use Rattle.slice_runner.specs.Values.{ActorState, actor_next, actor_wants, actors_of, page_at, route_among}
 
 -- the event that an entry tells: who acted, and what a host object answered
 abbrev pub given_of : Op → Reply → Option Reply
@@ -66,13 +72,27 @@ abbrev pub ClockWasAsked : ClockKnown → List Entry → ClockKnown → Type 0
 ClockWasAsked old events new =
     Tells old → Tells new × AreNext old.left (answers_of (of_actor ActorId.Timer events)) new.left
 
+-- a history replays from how its place stood before
+abbrev pub ReplaysFrom : WorldValue → PlaceId → History → Type 0
+ReplaysFrom old PlaceId.Board h = (end : Board) × IsHistory board.touch h.kept old.board h.entries.items end
+ReplaysFrom old lock h = (end : PageValue) × IsHistory page_touch h.kept (page_at old.pages h.kept) h.entries.items end
+
 -- journals that follow their actors' wants, and histories that replay from how the places stood, which don't agree
-pub record IsTornSlice (old : WorldValue) (count : ℕ) (torn : Torn) (journals : List Journal) (histories : List History) :
-    Type 0 where
+pub record IsTornSlice (old : WorldValue) (torn : Torn) (journals : List Journal) (histories : List History) : Type 0 where
   pub lasts : ActorId → ActorState
-  pub follow : AreFollowed actor_wants actor_next (route_among count) OutFits (actors_of old) lasts (journals_of journals)
-  pub ends : History → PlaceValue
-  pub replay : (h : History) → (k : ℕ) → h ≡ h
+  pub follow : AreFollowed actor_wants actor_next (route_among (length old.pages)) OutFits (actors_of old) lasts (journals_of journals)
+  pub replay : AllByRecursion (λ (h : History). ReplaysFrom old h.lock h) histories
   pub order : List Entry
   pub in_order : IsOrder (all_of (journals_of journals)) order
-  pub is_torn : IsTorn order histories torn
+  pub differ : IsTorn order histories torn
+
+-- the events of a slice lead from the world before to the world after, which has pages still
+pub record IsSlice {Q : Type 0} (closed : Q → ℕ) (n : ℕ) (asked now : ClockKnown) (old : WorldValue) (events : List Entry)
+    (new : WorldValue) (stops : List Stopped) (before after : List Q) : Type 0 where
+  pub serial : IsSerial old events new
+  pub stamps : AreStamps events
+  pub marks : MarksFollow old.pages events new.pages
+  pub stopped : AreStopped closed n events new stops before after
+  pub clock : ClockWasAsked asked events now
+  pub pages : ArePages 0 new.pages
+  pub count : length new.pages ≡ length old.pages

@@ -48,7 +48,7 @@ actor_next (HartIs h) reply = HartIs (hart_next h reply)
 abbrev pub route_among : ℕ → Op → PlaceId
 route_among count op = place_of (without_devices (page_size * count)) op
 
--- how the places stand; a page that there isn't is no place
+-- how the places stand; a page that there isn't, and what is no page and not the board, are no places
 abbrev pub page_or_none : List PageValue → ℕ → PageValue
 page_or_none pages i = slice_index_or pages i (new_page 0)
 
@@ -57,16 +57,17 @@ page_at pages (PlaceId.Page i) = page_or_none pages i
 page_at pages place = new_page 0
 
 abbrev pub place_among : List PageValue → Board → PlaceId → PlaceValue
-place_among pages b (PlaceId.Page i) = PageHolds (page_or_none pages i)
-place_among pages b place = BoardHolds b
+place_among pages b PlaceId.Board = BoardHolds b
+place_among pages b place = PageHolds (page_at pages place)
 
--- where the actors stand; a hart that there isn't is no actor
+-- where the actors stand; a hart that there isn't, and a device, are no actors
 abbrev pub hart_or_none : List Hart → ℕ → Hart
 hart_or_none harts k = slice_index_or harts k (fresh stopped_regs)
 
 abbrev pub actor_among : Timer → List Hart → ActorId → ActorState
+actor_among t harts ActorId.Timer = TimerIs t
 actor_among t harts (ActorId.Hart k) = HartIs (hart_or_none harts k)
-actor_among t harts actor = TimerIs t
+actor_among t harts (ActorId.Device k) = HartIs (fresh stopped_regs)
 
 abbrev pub places_of : WorldValue → PlaceId → PlaceValue
 places_of w = place_among w.pages w.board
