@@ -4,3 +4,6 @@ pub mod Routes
 pub mod Staff
 pub mod Working
 pub mod Stepping
+pub mod Crew
+pub mod Leading
+pub mod Returned
