@@ -1,6 +1,6 @@
 -- The journals of a slice: each is its actor's, follows its wants, and is stamped.
 use Rattle.std.proofs.Common.{◌≡◌, ℕ, zero, suc, ◌+◌, ◌<◌, ◌==◌, Bool, true, false, cond, refl, sym, ap, ◌∙◌, subst, arith}
-use Rattle.std.proofs.Common.{List, [], ◌∷◌, ◌++◌, length, map, get_or}
+use Rattle.std.proofs.Common.{List, [], ◌∷◌, ◌++◌, length, map, get_or, slice_get, Option, Some, None}
 use Rattle.std.proofs.lemmas.Bool.{eq-eqb, ne_eqb}
 use Rattle.std.specs.List.{AllByRecursion}
 use Rattle.vm_types.specs.declared.entry.Entry.{Entry}
@@ -28,7 +28,7 @@ use Rattle.slice_runner.proofs.Stepping.{IsThere}
 abbrev pub Journals : Type 0
 Journals = List (ActorId × List Entry)
 
-climbs_from : (last : ℕ) (es : List Entry) → Stamped last es → Climbs last es
+pub climbs_from : (last : ℕ) (es : List Entry) → Stamped last es → Climbs last es
 climbs_from last [] h = tt
 climbs_from last (e ∷ es) h = (omega (arith, h.0), climbs_from e.stamp es h.1)
 
@@ -76,7 +76,7 @@ module _ {Q : Type 0} (count : ℕ) where
       by_test true here there = here
       by_test false here there = there
 
-  same_hart : (v : HartWorker Q) (k j : ℕ) → v.track.id ≡ ActorId.Hart k → same_actor v.track.id (ActorId.Hart j) ≡ (k == j)
+  pub same_hart : (v : HartWorker Q) (k j : ℕ) → v.track.id ≡ ActorId.Hart k → same_actor v.track.id (ActorId.Hart j) ≡ (k == j)
   same_hart v k j is = ap (λ (a : ActorId). same_actor a (ActorId.Hart j)) is
 
   -- an actor whose id none of the harts has
@@ -164,12 +164,12 @@ module _ {Q : Type 0} (count : ℕ) (t : Timer) (hs : List Hart) (u : TimerWorke
   abbrev js : Journals
   js = slice_journals u vs
 
-  at_timer : journal_at ActorId.Timer js ≡ u.track.journal.items
+  pub at_timer : journal_at ActorId.Timer js ≡ u.track.journal.items
   at_timer =
       ap (λ (b : Bool). cond b u.track.journal.items (journal_at ActorId.Timer (harts_journals vs)))
       (ap (λ (a : ActorId). same_actor a ActorId.Timer) first)
 
-  at_other : (a : ActorId) → same_actor ActorId.Timer a ≡ false → journal_at a js ≡ journal_at a (harts_journals vs)
+  pub at_other : (a : ActorId) → same_actor ActorId.Timer a ≡ false → journal_at a js ≡ journal_at a (harts_journals vs)
   at_other a not =
       ap (λ (b : Bool). cond b u.track.journal.items (journal_at a (harts_journals vs)))
       (ap (λ (b : ActorId). same_actor b a) first ∙ not)
@@ -225,3 +225,20 @@ module _ {Q : Type 0} (count : ℕ) (t : Timer) (hs : List Hart) (u : TimerWorke
       (λ e is. subst (IsThere (length hs)) (sym is) tt) ran.own)
       (λ h v n lt r. every (λ (e : Entry). e.actor ≡ ActorId.Hart n) (λ (e : Entry). IsThere (length hs) e.actor) v.track.journal.items
       (λ e is. subst (IsThere (length hs)) (sym is) (let e : n < length hs = omega (arith, lt) in e)) r.own)
+
+-- the journal at a hart's number
+pub journal_there : {Q : Type 0} (count k : ℕ) (vs : List (HartWorker Q)) (hs : List Hart) → Crew count k vs hs → (j : ℕ) (v : HartWorker Q)
+    → slice_get vs j ≡ Some v → journal_at (ActorId.Hart (k + j)) (harts_journals vs) ≡ v.track.journal.items
+journal_there count k [] hs crew j v is = cc
+journal_there count k (w ∷ vs) [] crew j v is = absurd crew
+journal_there count k (w ∷ vs) (h ∷ hs) crew zero v is =
+    let e : k + 0 ≡ k = omega arith in
+    let same : w ≡ v = cc in
+    ap (λ (t : Bool). cond t w.track.journal.items (journal_at (ActorId.Hart (k + 0)) (harts_journals vs)))
+    (same_hart count w k (k + 0) crew.0 ∙ eq-eqb k (k + 0) (sym e))
+    ∙ ap (λ (x : HartWorker _). x.track.journal.items) same
+journal_there count k (w ∷ vs) (h ∷ hs) crew (suc j) v is =
+    let e : k + suc j ≡ suc k + j = omega arith in
+    ap (λ (t : Bool). cond t w.track.journal.items (journal_at (ActorId.Hart (k + suc j)) (harts_journals vs)))
+    (same_hart count w k (k + suc j) crew.0 ∙ ne_eqb k (k + suc j) (λ eq. omega (arith, eq)))
+    ∙ ap (λ (n : ℕ). journal_at (ActorId.Hart n) (harts_journals vs)) e ∙ journal_there count (suc k) vs hs crew.2 j v is

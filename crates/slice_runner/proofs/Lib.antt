@@ -7,3 +7,4 @@ pub mod Stepping
 pub mod Crew
 pub mod Leading
 pub mod Returned
+pub mod Whole
