@@ -25,7 +25,7 @@ use Rattle.slice_runner.specs.Locks.{AreHome, AreOpen, IsBoardHome, IsHome}
 use Rattle.slice_runner.specs.Values.{BoardHolds, PageHolds, PlaceValue, page_or_none, place_among, place_touch}
 
 -- pages and their histories, from this number on
-abbrev Homes : (PlaceId → PageValue) → ℕ → List PageValue → List History → Type 0
+abbrev pub Homes : (PlaceId → PageValue) → ℕ → List PageValue → List History → Type 0
 Homes opening i [] [] = Unit {0}
 Homes opening i (p ∷ ps) (h ∷ hs) = IsHome opening i p h × Homes opening (suc i) ps hs
 Homes opening i ps hs = ⊥

@@ -1,4 +1,5 @@
 pub mod Locks
+pub mod Room
 pub mod Runs
 pub mod Slices
 pub mod Staff

@@ -3,7 +3,9 @@
 
 mod acting;
 mod locking;
+mod room;
 mod running;
+
 mod staffing;
 mod stop;
 mod worker;
