@@ -6,6 +6,7 @@
 #![tactic(auto)]
 
 mod law;
+mod openings;
 mod page;
 mod page_set;
 mod reading;

@@ -9,6 +9,8 @@ ghost use Rattle.guest_pages.specs.Pages.{new_pages, page_holding, page_touch, u
 ghost use Rattle.guest_pages.specs.Marks.{marked_from, marks_after};
 ghost use Rattle.guest_pages.specs.Words.{pages_at, place_among, read_of, read_reply, served, write_of, write_reply};
 
+mod parting;
+
 use crate::page::Page;
 use guest_memory::{PAGE_SIZE, RAM_START};
 use rv_rows::Width;

@@ -6,6 +6,7 @@
 #![tactic(auto)]
 
 mod board;
+mod openings;
 #[cfg(test)]
 mod tests;
 

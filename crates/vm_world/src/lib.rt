@@ -14,4 +14,4 @@ mod tests;
 mod world;
 
 pub use step_error::{NoActor, NotRam, StepError};
-pub use world::World;
+pub use world::{World, WorldParts};

@@ -21,6 +21,10 @@ ghost use Rattle.flat_guest.specs.Steps.{board_after, is_given, memory_after};
 ghost use Rattle.vm_world.specs.Refusing.{IsRefused, refusal_of};
 ghost use Rattle.vm_world.specs.Worlds.{IsWorld, MakesEvent, Runs, place_in, want_in, world_with};
 
+mod parting;
+
+pub use crate::world::parting::WorldParts;
+
 use crate::actors::{give_hart, start_harts, want_of_hart};
 use crate::hart_run::run_hart;
 use crate::memory::read_pages;

@@ -1,0 +1,113 @@
+-- Entries that are fresh lead from a world to another.
+use Rattle.std.proofs.Common.{◌≡◌, ℕ, zero, suc, ◌+◌, ◌<◌, ◌≤◌, true, false, refl, sym, ap, ◌∙◌, subst, arith}
+use Rattle.std.proofs.Common.{List, [], ◌∷◌, ◌++◌, length, get_or}
+use Rattle.std.specs.List.{AllByRecursion}
+use Rattle.vm_types.specs.declared.entry.Entry.{Entry}
+use Rattle.vm_types.specs.declared.ids.ActorId.{ActorId}
+use Rattle.vm_types.specs.declared.ids.PlaceId.{PlaceId}
+use Rattle.vm_types.specs.declared.op.Op.{Op}
+use Rattle.vm_types.specs.Ids.{is_out}
+use Rattle.vm_types.specs.Serial.{IsFresh, OutFits, put_actor, states_end, vals_end}
+use Rattle.board_table.specs.Board.{Board}
+use Rattle.guest_pages.specs.Flat.{ArePages}
+use Rattle.guest_pages.specs.Marks.{AreMarked}
+use Rattle.guest_pages.specs.Pages.{PageValue, new_page}
+use Rattle.hart_trace.specs.States.{Hart, fresh}
+use Rattle.hart_trace.specs.Stopped.{stopped_regs}
+use Rattle.timer_trace.specs.declared.timer.Timer.{Timer}
+use Rattle.flat_guest.specs.Guest.{Guest}
+use Rattle.flat_guest.specs.Steps.{guest_after}
+use Rattle.vm_world.specs.Worlds.{IsWorld, WorldValue, world_with}
+use Rattle.slice_runner.specs.Slices.{IsSerial, MarksFollow}
+use Rattle.slice_runner.specs.Values.{ActorState, BoardHolds, HartIs, PageHolds, PlaceValue, TimerIs, actor_next, actor_wants, actors_of, hart_or_none, page_or_none, place_touch, places_of, route_among}
+use Rattle.slice_runner.proofs.Stepping.{IsThere, StepsOn, steps_on, world_after}
+
+-- the entries lead from the world to one that has these values and states
+pub record Reaches (w : WorldValue) (es : List Entry) : Type 0 where
+  pub end : WorldValue
+  pub serial : IsSerial w es end
+  pub marks : MarksFollow w.pages es end.pages
+  pub pages : ArePages 0 end.pages
+  pub count : length end.pages ≡ length w.pages
+  pub harts : length end.harts ≡ length w.harts
+  pub places : vals_end place_touch (places_of w) es ≡ places_of end
+  pub actors : states_end actor_next (actors_of w) es ≡ actors_of end
+
+append_one : (since : List Entry) (e : Entry) (es : List Entry) → (since ++ e ∷ []) ++ es ≡ since ++ e ∷ es
+append_one [] e es = refl
+append_one (d ∷ since) e es = ap (λ l. d ∷ l) (append_one since e es)
+
+append_none : (since : List Entry) → since ≡ since ++ []
+append_none [] = refl
+append_none (d ∷ since) = ap (λ l. d ∷ l) (append_none since)
+
+reach_more : (w : WorldValue) (e : Entry) (es : List Entry) → StepsOn w e → Reaches (world_after w e) es → Reaches w (e ∷ es)
+reach_more w e es s r = record {
+  end = r.end;
+  serial = λ g is. let next = r.serial (guest_after g e) (s.stays g is) in (next.0, (guest_after g e, s.step g is, next.1), next.2);
+  marks = λ since marked. subst (λ (l : List Entry). AreMarked l 0 r.end.pages) (append_one since e es) (r.marks (since ++ e ∷ []) (s.marks since marked));
+  pages = r.pages;
+  count = r.count ∙ s.count;
+  harts = r.harts ∙ s.harts;
+  places = ap (λ (f : PlaceId → PlaceValue). vals_end place_touch f es) s.places ∙ r.places;
+  actors = ap (λ (f : ActorId → ActorState). states_end actor_next f es) s.actors ∙ r.actors;
+}
+
+pub reaches : (es : List Entry) (w : WorldValue) (n m : ℕ) → n ≡ length w.pages → m ≡ length w.harts → ArePages 0 w.pages
+    → AllByRecursion (λ (e : Entry). IsThere m e.actor) es
+    → IsFresh place_touch actor_wants actor_next (route_among n) OutFits (places_of w) (actors_of w) es → Reaches w es
+reaches [] w n m pages_are harts_are are there fresh_is = record {
+  end = w;
+  serial = λ g is. (g, refl, is);
+  marks = λ since marked. subst (λ (l : List Entry). AreMarked l 0 w.pages) (append_none since) marked;
+  pages = are;
+  count = refl;
+  harts = refl;
+  places = refl;
+  actors = refl;
+}
+reaches (e ∷ es) w n m pages_are harts_are are there fresh_is =
+    let s : StepsOn w e =
+    steps_on w e are (subst (λ (k : ℕ). IsThere k e.actor) harts_are there.0) fresh_is.0
+    (fresh_is.1 ∙ ap (λ (k : ℕ). route_among k e.op) pages_are) fresh_is.2 in
+    let rest : IsFresh place_touch actor_wants actor_next (route_among n) OutFits (places_of (world_after w e)) (actors_of (world_after w e)) es =
+    subst (λ (f : ActorId → ActorState). IsFresh place_touch actor_wants actor_next (route_among n) OutFits (places_of (world_after w e)) f es) s.actors
+    (subst (λ (f : PlaceId → PlaceValue). IsFresh place_touch actor_wants actor_next (route_among n) OutFits f (put_actor (actors_of w) e.actor (actor_next (actors_of w e.actor) e.reply)) es) s.places fresh_is.3) in
+    reach_more w e es s
+    (reaches es (world_after w e) n m (pages_are ∙ sym s.count) (harts_are ∙ sym s.harts) s.pages there.1 rest)
+
+-- lists with the same items are one
+same_lists : {A : Type 0} (xs ys : List A) (d : A) → length xs ≡ length ys → ((i : ℕ) → get_or xs i d ≡ get_or ys i d) → xs ≡ ys
+same_lists [] [] d long same = refl
+same_lists [] (y ∷ ys) d long same = absurd (omega (arith, long))
+same_lists (x ∷ xs) [] d long same = absurd (omega (arith, long))
+same_lists (x ∷ xs) (y ∷ ys) d long same =
+    λ j. same 0 j ∷ same_lists xs ys d (omega (arith, long)) (λ i. same (suc i)) j
+
+abbrev page_in : PlaceValue → PageValue → PageValue
+page_in (PageHolds p) d = p
+page_in (BoardHolds b) d = d
+
+abbrev board_in : PlaceValue → Board → Board
+board_in (PageHolds p) d = d
+board_in (BoardHolds b) d = b
+
+abbrev timer_in : ActorState → Timer → Timer
+timer_in (TimerIs t) d = t
+timer_in (HartIs h) d = d
+
+abbrev hart_in : ActorState → Hart → Hart
+hart_in (TimerIs t) d = d
+hart_in (HartIs h) d = h
+
+-- a world is known by its places and its actors
+pub same_world : (w v : WorldValue) → length w.pages ≡ length v.pages → length w.harts ≡ length v.harts
+    → ((p : PlaceId) → is_out p ≡ false → places_of w p ≡ places_of v p) → ((a : ActorId) → actors_of w a ≡ actors_of v a) → w ≡ v
+same_world w v pages harts places actors =
+    let pages_are : w.pages ≡ v.pages =
+    same_lists w.pages v.pages (new_page 0) pages (λ i. ap (λ (x : PlaceValue). page_in x (new_page 0)) (places (PlaceId.Page i) refl)) in
+    let board_is : w.board ≡ v.board = ap (λ (x : PlaceValue). board_in x w.board) (places PlaceId.Board refl) in
+    let timer_is : w.timer ≡ v.timer = ap (λ (x : ActorState). timer_in x w.timer) (actors ActorId.Timer) in
+    let harts_are : w.harts ≡ v.harts =
+    same_lists w.harts v.harts (fresh stopped_regs) harts (λ k. ap (λ (x : ActorState). hart_in x (fresh stopped_regs)) (actors (ActorId.Hart k))) in
+    λ j. record { pages = pages_are j; board = board_is j; timer = timer_is j; harts = harts_are j }

@@ -1,0 +1,11 @@
+pub mod Answers
+pub mod Crew
+pub mod Home
+pub mod Joined
+pub mod Leading
+pub mod Returned
+pub mod Routes
+pub mod Staff
+pub mod Stepping
+pub mod Whole
+pub mod Working

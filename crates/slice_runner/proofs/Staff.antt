@@ -1,0 +1,58 @@
+-- One after another, from one list to another.
+use Rattle.std.proofs.Common.{◌≡◌, ℕ, zero, suc, ◌+◌, refl, sym, ap, ◌∙◌, subst, arith, List, [], ◌∷◌, ◌++◌, length, map, All}
+use Rattle.std.proofs.lemmas.List.Elements.{All-append, All-from_recursion}
+use Rattle.vm_types.specs.declared.ids.ActorId.{ActorId}
+use Rattle.slice_runner.specs.declared.worker.HartWorker.{HartWorker}
+use Rattle.slice_runner.specs.Runs.{Begins}
+use Rattle.slice_runner.specs.Staff.{AreNumbered}
+
+-- one more in the first list is one less in the second
+one_over : {A B : Type 0} (f : A → B) (xs : List A) (x : A) (ys : List B) → map f (xs ++ x ∷ []) ++ ys ≡ map f xs ++ f x ∷ ys
+one_over f [] x ys = refl
+one_over f (z ∷ xs) x ys = ap (λ l. f z ∷ l) (one_over f xs x ys)
+
+pub moved : {A B : Type 0} (f : A → B) (xs now : List A) (x : A) (ys rest all : List B) → now ≡ xs ++ x ∷ [] → ys ≡ f x ∷ rest
+    → map f xs ++ ys ≡ all → map f now ++ rest ≡ all
+moved f xs now x ys rest all is head so_far =
+    ap (λ l. map f l ++ rest) is ∙ one_over f xs x rest ∙ ap (λ l. map f xs ++ l) (sym head) ∙ so_far
+
+one_under : {B : Type 0} (xs : List B) (x : B) (ys : List B) → (xs ++ x ∷ []) ++ ys ≡ xs ++ x ∷ ys
+one_under [] x ys = refl
+one_under (z ∷ xs) x ys = ap (λ l. z ∷ l) (one_under xs x ys)
+
+pub poured : {A B : Type 0} (f : A → B) (xs now : List B) (ys rest : List A) (y : A) (all : List B) → now ≡ xs ++ f y ∷ []
+    → ys ≡ y ∷ rest → xs ++ map f ys ≡ all → now ++ map f rest ≡ all
+poured f xs now ys rest y all is head so_far =
+    ap (λ l. l ++ map f rest) is ∙ one_under xs (f y) (map f rest) ∙ ap (λ l. xs ++ map f l) (sym head) ∙ so_far
+
+-- within a list that goes on behind
+pub poured_in : {A : Type 0} (xs now ys rest : List A) (y : A) → now ≡ xs ++ y ∷ [] → ys ≡ y ∷ rest → now ++ rest ≡ xs ++ ys
+poured_in xs now ys rest y is head = ap (λ l. l ++ rest) is ∙ one_under xs y rest ∙ ap (λ l. xs ++ l) (sym head)
+
+pub all_over : {A : Type 0} (xs : List A) → xs ++ [] ≡ xs
+all_over [] = refl
+all_over (x ∷ xs) = ap (λ l. x ∷ l) (all_over xs)
+
+numbered_by : {Q : Type 0} (k : ℕ) (ws : List (HartWorker Q)) (w : HartWorker Q) → AreNumbered k ws
+    → w.track.id ≡ ActorId.Hart (k + length ws) → AreNumbered k (ws ++ w ∷ [])
+numbered_by k [] w so_far is = let e : k + 0 ≡ k = omega arith in (is ∙ ap (λ (n : ℕ). ActorId.Hart n) e, tt)
+numbered_by k (v ∷ ws) w so_far is =
+    let e : k + length (v ∷ ws) ≡ suc k + length ws = omega arith in
+    (so_far.0, numbered_by (suc k) ws w so_far.1 (is ∙ ap (λ (n : ℕ). ActorId.Hart n) e))
+
+pub numbered_more : {Q : Type 0} (ws now : List (HartWorker Q)) (w : HartWorker Q) (n : ℕ) → AreNumbered 0 ws → n ≡ length ws
+    → w.track.id ≡ ActorId.Hart n → now ≡ ws ++ w ∷ [] → AreNumbered 0 now
+numbered_more ws now w n so_far long is items =
+    let e : n ≡ 0 + length ws = omega (arith, long) in
+    subst (λ l. AreNumbered 0 l) (sym items) (numbered_by 0 ws w so_far (is ∙ ap (λ (k : ℕ). ActorId.Hart k) e))
+
+pub begin_more : {Q : Type 0} (n : ℕ) (ws now : List (HartWorker Q)) (w : HartWorker Q)
+    → All (λ (v : HartWorker Q). Begins n v.track) ws → Begins n w.track → now ≡ ws ++ w ∷ []
+    → All (λ (v : HartWorker Q). Begins n v.track) now
+begin_more {Q} n ws now w so_far one items =
+    let P : HartWorker Q → Type 0 = λ v. Begins n v.track in
+    subst (All P) (sym items) (All-append P ws (w ∷ []) so_far (All-from_recursion P (w ∷ []) (one, tt)))
+
+pub none_left : {A : Type 0} (xs : List A) → length xs ≡ 0 → xs ≡ []
+none_left [] is = refl
+none_left (x ∷ xs) is = absurd (omega (arith, is))

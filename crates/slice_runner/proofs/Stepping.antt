@@ -1,0 +1,281 @@
+-- One entry is one step of the flat machine.
+use Rattle.std.proofs.Common.{◌≡◌, ℕ, zero, suc, ◌+◌, ◌*◌, ◌<◌, ◌==◌, nat_lt, Bool, true, false, cond, ◌||◌, MatchBool, refl, sym, ap, ◌∙◌, subst, arith}
+use Rattle.std.proofs.Common.{List, [], ◌∷◌, ◌++◌, length, get_or, set, slice_get, slice_set, Option, Some, None}
+use Rattle.std.proofs.lemmas.List.{get_or_default, length-set}
+use Rattle.std.proofs.lemmas.Bool.{eqb-true, eqb-false, eq-eqb, ne_eqb}
+use Rattle.vm_types.specs.declared.entry.Entry.{Entry}
+use Rattle.vm_types.specs.declared.ids.ActorId.{ActorId}
+use Rattle.vm_types.specs.declared.ids.PlaceId.{PlaceId}
+use Rattle.vm_types.specs.declared.op.Op.{Op}
+use Rattle.vm_types.specs.declared.op.OutOp.{OutOp}
+use Rattle.vm_types.specs.declared.reply.Reply.{Reply}
+use Rattle.vm_types.specs.Ids.{is_out, same_actor, same_place}
+use Rattle.vm_types.specs.Serial.{IsReplied, OutFits, put_actor, put_place, vals_after}
+use Rattle.board_table.specs.Acts as board
+use Rattle.board_table.specs.Board.{Board}
+use Rattle.guest_memory.specs.Memory as memory
+use Rattle.guest_pages.specs.Flat.{ArePages}
+use Rattle.guest_pages.specs.Marks.{AreMarked, is_written, writes_page}
+use Rattle.guest_pages.specs.Pages.{PageValue, flat_of, new_page, page_touch}
+use Rattle.guest_pages.proofs.Here.{size_of_pages}
+use Rattle.guest_pages.proofs.Marking.{elsewhere, marked_after, marked_by, untouched}
+use Rattle.guest_pages.proofs.Sets.{act_memory, act_reply, act_stays}
+use Rattle.hart_trace.specs.Asks.{is_port_op}
+use Rattle.hart_trace.specs.States.{Hart, fresh, hart_next, hart_wants}
+use Rattle.timer_trace.specs.declared.timer.Timer.{Timer}
+use Rattle.timer_trace.specs.States.{timer_next, timer_wants}
+use Rattle.flat_guest.specs.Body.{harts_after, out_reply, reply_at, timer_after, want_of, with_reply}
+use Rattle.rv_supervisor.specs.declared.regs.Regs.{Regs}
+use Rattle.hart_trace.specs.Stopped.{stopped_regs}
+use Rattle.flat_guest.specs.Guest.{Guest}
+use Rattle.flat_guest.specs.Places.{place_of, without_devices}
+use Rattle.flat_guest.specs.Steps.{FlatStep, board_after, guest_after, is_given, memory_after}
+use Rattle.flat_guest.proofs.Acting as acting
+use Rattle.flat_guest.proofs.Stepping.{entry_of}
+use Rattle.vm_world.specs.Worlds.{IsWorld, MakesEvent, WorldValue, place_in, want_in}
+use Rattle.vm_world.proofs.Events.{event_made, place_access}
+use Rattle.slice_runner.specs.Slices.{event_of, given_of}
+use Rattle.slice_runner.specs.Values.{ActorState, BoardHolds, HartIs, PageHolds, PlaceValue, TimerIs, actor_next, actor_wants, actors_of, hart_or_none, page_at, page_or_none, place_touch, places_of, route_among}
+use Rattle.slice_runner.proofs.Routes.{never_port, page_there}
+
+-- the pages after an act at a place
+abbrev pub pages_after : PlaceId → List PageValue → ActorId → Op → List PageValue
+pages_after (PlaceId.Page i) pages actor op = set pages i (page_touch (page_or_none pages i) actor op).1
+pages_after place pages actor op = pages
+
+abbrev pub world_after : WorldValue → Entry → WorldValue
+world_after w e = record {
+  pages = pages_after e.place w.pages e.actor e.op;
+  board = board_after e.place w.board e.actor e.op;
+  timer = timer_after e.actor w.timer e.reply;
+  harts = harts_after e.actor w.harts e.reply;
+}
+
+-- the actor is one of the timer and so many harts
+abbrev pub IsThere : ℕ → ActorId → Type 0
+IsThere harts ActorId.Timer = Unit {0}
+IsThere harts (ActorId.Hart k) = k < harts
+IsThere harts (ActorId.Device k) = ⊥
+
+got : {A : Type 0} (xs : List A) (k : ℕ) (d : A) → k < length xs → slice_get xs k ≡ Some (get_or xs k d)
+got [] k d lt = absurd (omega arith)
+got (x ∷ xs) zero d lt = refl
+got (x ∷ xs) (suc k) d lt = got xs k d (omega arith)
+
+set_there : {A : Type 0} (xs : List A) (k : ℕ) (x d : A) → k < length xs → get_or (set xs k x) k d ≡ x
+set_there [] k x d lt = absurd (omega arith)
+set_there (y ∷ xs) zero x d lt = refl
+set_there (y ∷ xs) (suc k) x d lt = set_there xs k x d (omega arith)
+
+set_other : {A : Type 0} (xs : List A) (j k : ℕ) (x d : A) → (k ≡ j → ⊥) → get_or (set xs k x) j d ≡ get_or xs j d
+set_other [] j k x d ne = refl
+set_other (y ∷ xs) zero zero x d ne = absurd (ne refl)
+set_other (y ∷ xs) (suc j) zero x d ne = refl
+set_other (y ∷ xs) zero (suc k) x d ne = refl
+set_other (y ∷ xs) (suc j) (suc k) x d ne = set_other xs j k x d (λ e. ne (ap suc e))
+
+-- one item changed, seen by index
+changed_by : {A B : Type 0} (f : A → B) (xs : List A) (j k : ℕ) (x d : A) → k < length xs → (t : Bool) → (k == j) ≡ t
+    → cond t (f x) (f (get_or xs j d)) ≡ f (get_or (set xs k x) j d)
+changed_by f xs j k x d lt true is =
+    let same : k ≡ j = eqb-true k j is in
+    ap f (sym (set_there xs k x d lt)) ∙ ap (λ (n : ℕ). f (get_or (set xs k x) n d)) same
+changed_by f xs j k x d lt false is = ap f (sym (set_other xs j k x d (eqb-false k j is)))
+
+changed : {A B : Type 0} (f : A → B) (xs : List A) (j k : ℕ) (x d : A) → k < length xs
+    → cond (k == j) (f x) (f (get_or xs j d)) ≡ f (get_or (set xs k x) j d)
+changed f xs j k x d lt = changed_by f xs j k x d lt (k == j) refl
+
+wants_there : (w : WorldValue) (actor : ActorId) → IsThere (length w.harts) actor
+    → want_in w actor ≡ Some (actor_wants (actors_of w actor))
+wants_there w ActorId.Timer there = refl
+wants_there w (ActorId.Hart k) there = ap want_of (got w.harts k (fresh stopped_regs) there)
+wants_there w (ActorId.Device k) there = absurd there
+
+-- what is given is what the reply says
+given_out : (op : Op) (reply : Reply) → OutFits op reply → is_given op (given_of op reply) ≡ true
+given_out (Op.Out act) reply fit = fit
+given_out (Op.Read at len) reply fit = refl
+given_out (Op.Write at piece) reply fit = refl
+given_out (Op.Amo at value kind wide) reply fit = refl
+given_out (Op.Lr at wide) reply fit = refl
+given_out (Op.Sc at value wide) reply fit = refl
+given_out (Op.Port port act) reply fit = absurd fit
+given_out (Op.Board act) reply fit = absurd fit
+given_out Op.Idle reply fit = refl
+
+reply_out : (op : Op) (reply : Reply) → OutFits op reply → reply ≡ out_reply op (given_of op reply)
+reply_out (Op.Out act) reply fit = refl
+reply_out (Op.Read at len) reply fit = fit
+reply_out (Op.Write at piece) reply fit = fit
+reply_out (Op.Amo at value kind wide) reply fit = fit
+reply_out (Op.Lr at wide) reply fit = fit
+reply_out (Op.Sc at value wide) reply fit = fit
+reply_out (Op.Port port act) reply fit = absurd fit
+reply_out (Op.Board act) reply fit = absurd fit
+reply_out Op.Idle reply fit = fit
+
+-- an op with a place asks no host object
+given_in : (n : ℕ) (op : Op) (reply : Reply) → is_out (route_among n op) ≡ false → given_of op reply ≡ None
+given_in n (Op.Out act) reply inner = cc
+given_in n op reply inner = refl
+
+given_none : (n : ℕ) (op : Op) (reply : Reply) → is_out (route_among n op) ≡ false → is_given op (given_of op reply) ≡ true
+given_none n (Op.Out act) reply inner = cc
+given_none n (Op.Read at len) reply inner = refl
+given_none n (Op.Write at piece) reply inner = refl
+given_none n (Op.Amo at value kind wide) reply inner = refl
+given_none n (Op.Lr at wide) reply inner = refl
+given_none n (Op.Sc at value wide) reply inner = refl
+given_none n (Op.Port port act) reply inner = refl
+given_none n (Op.Board act) reply inner = refl
+given_none n Op.Idle reply inner = refl
+
+-- an entry is a step from one world to another
+pub record Steps (w : WorldValue) (e : Entry) : Type 0 where
+  pub made : MakesEvent w (event_of e) (entry_of e.place e.actor e.op e.reply) (world_after w e)
+  pub pages : ArePages 0 (world_after w e).pages
+  pub count : length (world_after w e).pages ≡ length w.pages
+  pub marks : (since : List Entry) → AreMarked since 0 w.pages → AreMarked (since ++ e ∷ []) 0 (world_after w e).pages
+  pub places : vals_after place_touch (places_of w) e ≡ places_of (world_after w e)
+
+module _ (w : WorldValue) (are : ArePages 0 w.pages) (actor : ActorId) (op : Op) (reply : Reply) (stamp before : ℕ)
+    (want : want_in w actor ≡ Some op) (own : is_port_op op ≡ false) where
+  abbrev at : PlaceId → Entry
+  at place = record { stamp = stamp; before = before; actor = actor; place = place; op = op; reply = reply }
+
+  routed : (place : PlaceId) → place ≡ route_among (length w.pages) op → place ≡ place_in w op
+  routed place is = is ∙ ap (λ (n : ℕ). place_of (without_devices n) op) (sym (size_of_pages w.pages are))
+
+  on_page : (i : ℕ) → PlaceId.Page i ≡ route_among (length w.pages) op
+      → reply ≡ (page_touch (page_or_none w.pages i) actor op).0 → Steps w (at (PlaceId.Page i))
+  on_page i is answer =
+      let old = page_or_none w.pages i in
+      let new = (page_touch old actor op).1 in
+      let there : i < length w.pages = page_there (length w.pages) i op (sym is) in
+      let here : place_in w op ≡ PlaceId.Page i = sym (routed (PlaceId.Page i) is) in
+      let size = length (flat_of w.pages).bytes in
+      let access = place_access size i op here in
+      let same : old ≡ get_or w.pages i old = get_or_default w.pages i (new_page 0) old there in
+      let inner : is_out (route_among (length w.pages) op) ≡ false = ap is_out (sym is) in
+      let none = given_in (length w.pages) op reply inner in
+      let made = event_made w (world_after w (at (PlaceId.Page i))) actor op (given_of op reply) (PlaceId.Page i) reply want
+      (given_none (length w.pages) op reply inner) (sym here)
+      (act_reply w.pages w.pages i actor op old new refl are there same refl reply access answer)
+      (act_memory w.pages w.pages i actor op old new refl are there same refl access) refl refl refl in
+      record {
+        made = made;
+        pages = act_stays w.pages w.pages i actor op old new refl are there same refl;
+        count = length-set w.pages i new;
+        marks = λ since marked. marked_after 0 w.pages i old new since (at (PlaceId.Page i)) marked there
+            (let e : i ≡ 0 + i = omega arith in ap PlaceId.Page e) (marks_by same answer);
+        places = λ j p. at_page there p j;
+      }
+    where
+      marks_by : page_or_none w.pages i ≡ get_or w.pages i (page_or_none w.pages i)
+          → reply ≡ (page_touch (page_or_none w.pages i) actor op).0
+          → (page_touch (page_or_none w.pages i) actor op).1.marked ≡ ((get_or w.pages i (page_or_none w.pages i)).marked || is_written op reply)
+      marks_by same answer =
+          marked_by (page_or_none w.pages i) actor op
+          ∙ (λ j. (same j).marked || is_written op (sym answer j))
+      at_page : i < length w.pages → (p : PlaceId)
+          → vals_after place_touch (places_of w) (at (PlaceId.Page i)) p ≡ places_of (world_after w (at (PlaceId.Page i))) p
+      at_page there (PlaceId.Page j) =
+          changed (λ (q : PageValue). PageHolds q) w.pages j i (page_touch (page_or_none w.pages i) actor op).1 (new_page 0) there
+      at_page there (PlaceId.Port k) = refl
+      at_page there PlaceId.Board = refl
+      at_page there PlaceId.Out = refl
+
+  on_board : PlaceId.Board ≡ route_among (length w.pages) op → reply ≡ (board.touch w.board actor op).0
+      → Steps w (at PlaceId.Board)
+  on_board is answer =
+      let inner : is_out (route_among (length w.pages) op) ≡ false = ap is_out (sym is) in
+      let none = given_in (length w.pages) op reply inner in
+      record {
+        made = event_made w (world_after w (at PlaceId.Board)) actor op (given_of op reply) PlaceId.Board reply want
+            (given_none (length w.pages) op reply inner) (routed PlaceId.Board is) answer refl refl refl refl;
+        pages = are;
+        count = refl;
+        marks = λ since marked. untouched 0 w.pages since (at PlaceId.Board) (λ i le. elsewhere (at PlaceId.Board) i refl) marked;
+        places = λ j p. at_board p j;
+      }
+    where
+      at_board : (p : PlaceId)
+          → vals_after place_touch (places_of w) (at PlaceId.Board) p ≡ places_of (world_after w (at PlaceId.Board)) p
+      at_board (PlaceId.Page j) = refl
+      at_board (PlaceId.Port k) = refl
+      at_board PlaceId.Board = refl
+      at_board PlaceId.Out = refl
+
+  nowhere : PlaceId.Out ≡ route_among (length w.pages) op → OutFits op reply → Steps w (at PlaceId.Out)
+  nowhere is fit = record {
+    made = event_made w (world_after w (at PlaceId.Out)) actor op (given_of op reply) PlaceId.Out reply want
+        (given_out op reply fit) (routed PlaceId.Out is) (reply_out op reply fit) refl refl refl refl;
+    pages = are;
+    count = refl;
+    marks = λ since marked. untouched 0 w.pages since (at PlaceId.Out) (λ i le. elsewhere (at PlaceId.Out) i refl) marked;
+    places = refl;
+  }
+
+  steps_at : (place : PlaceId) → place ≡ route_among (length w.pages) op
+      → MatchBool (is_out place) (OutFits op reply) (reply ≡ (place_touch (places_of w place) actor op).0) → Steps w (at place)
+  steps_at (PlaceId.Page i) is answer = on_page i is answer
+  steps_at (PlaceId.Port k) is answer = absurd (never_port (length w.pages) k op own (sym is))
+  steps_at PlaceId.Board is answer = on_board is answer
+  steps_at PlaceId.Out is answer = nowhere is answer
+
+-- an actor that is there asks no port
+own_op : (w : WorldValue) (actor : ActorId) (op : Op) → want_in w actor ≡ Some op → is_port_op op ≡ false
+own_op w actor op want = acting.no_port w.timer w.harts actor op want
+
+-- where the actors stand after the entry
+actors_moved : (w : WorldValue) (e : Entry) → (actor : ActorId) → IsThere (length w.harts) actor → (reply : Reply) → (a : ActorId)
+    → put_actor (actors_of w) actor (actor_next (actors_of w actor) reply) a
+    ≡ actors_of (record w { timer = timer_after actor w.timer reply; harts = harts_after actor w.harts reply }) a
+actors_moved w e ActorId.Timer there reply ActorId.Timer = refl
+actors_moved w e ActorId.Timer there reply (ActorId.Hart j) = refl
+actors_moved w e ActorId.Timer there reply (ActorId.Device j) = refl
+actors_moved w e (ActorId.Hart k) there reply ActorId.Timer = refl
+actors_moved w e (ActorId.Hart k) there reply (ActorId.Device j) = refl
+actors_moved w e (ActorId.Hart k) there reply (ActorId.Hart j) =
+    changed (λ (h : Hart). HartIs h) w.harts j k (hart_next (hart_or_none w.harts k) reply) (fresh stopped_regs) there
+    ∙ ap (λ (o : Option Hart). HartIs (hart_or_none (with_reply o w.harts k reply) j)) (sym (got w.harts k (fresh stopped_regs) there))
+actors_moved w e (ActorId.Device k) there reply a = absurd there
+
+harts_kept : (actor : ActorId) (harts : List Hart) (reply : Reply) → length (harts_after actor harts reply) ≡ length harts
+harts_kept ActorId.Timer harts reply = refl
+harts_kept (ActorId.Device k) harts reply = refl
+harts_kept (ActorId.Hart k) harts reply = by_hart (slice_get harts k)
+  where
+    by_hart : (o : Option Hart) → length (with_reply o harts k reply) ≡ length harts
+    by_hart None = refl
+    by_hart (Some h) = length-set harts k (hart_next h reply)
+
+-- one step, with what the next ones need
+pub record StepsOn (w : WorldValue) (e : Entry) : Type 0 where
+  pub step : (g : Guest) → IsWorld w g → FlatStep g (event_of e) e (guest_after g e)
+  pub stays : (g : Guest) → IsWorld w g → IsWorld (world_after w e) (guest_after g e)
+  pub pages : ArePages 0 (world_after w e).pages
+  pub count : length (world_after w e).pages ≡ length w.pages
+  pub harts : length (world_after w e).harts ≡ length w.harts
+  pub marks : (since : List Entry) → AreMarked since 0 w.pages → AreMarked (since ++ e ∷ []) 0 (world_after w e).pages
+  pub places : vals_after place_touch (places_of w) e ≡ places_of (world_after w e)
+  pub actors : put_actor (actors_of w) e.actor (actor_next (actors_of w e.actor) e.reply) ≡ actors_of (world_after w e)
+
+-- an entry with the machine's want, place and reply
+pub steps_on : (w : WorldValue) (e : Entry) → ArePages 0 w.pages → IsThere (length w.harts) e.actor
+    → e.op ≡ actor_wants (actors_of w e.actor) → e.place ≡ route_among (length w.pages) e.op
+    → IsReplied place_touch OutFits (places_of w) e → StepsOn w e
+steps_on w e are there want place answer =
+    let wants : want_in w e.actor ≡ Some e.op = wants_there w e.actor there ∙ ap Some (sym want) in
+    let s : Steps w e = steps_at w are e.actor e.op e.reply e.stamp e.before wants (own_op w e.actor e.op wants) e.place place answer in
+    record {
+      step = λ g is. let flat = s.made.step g is in record { actor = refl; want = flat.want; place = flat.place; answer = flat.answer; after = refl };
+      stays = λ g is. s.made.stays g is;
+      pages = s.pages;
+      count = s.count;
+      harts = harts_kept e.actor w.harts e.reply;
+      marks = s.marks;
+      places = s.places;
+      actors = λ i a. actors_moved w e e.actor there e.reply a i;
+    }

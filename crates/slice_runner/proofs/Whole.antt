@@ -1,0 +1,275 @@
+-- A slice, from what its actors did and what came back from under the locks.
+use Rattle.std.proofs.Common.{◌≡◌, ℕ, zero, suc, ◌+◌, ◌<◌, ◌≤◌, true, false, refl, sym, ap, ◌∙◌, subst, arith, All}
+use Rattle.std.proofs.Common.{List, [], ◌∷◌, ◌++◌, length, map, get_or, slice_get, slice_index_or, Option, Some, None}
+use Rattle.std.specs.List.{AllByRecursion}
+use Rattle.std.proofs.lemmas.List.Elements.{All-append, All-from_recursion, recursion_from_All}
+use Rattle.std.proofs.lemmas.List.Sorted.{All-permutation}
+use Rattle.vm_types.specs.declared.entry.Entry.{Entry}
+use Rattle.vm_types.specs.declared.ids.ActorId.{ActorId}
+use Rattle.vm_types.specs.declared.ids.PlaceId.{PlaceId}
+use Rattle.vm_types.specs.declared.torn.Torn.{Torn}
+use Rattle.vm_types.specs.Ids.{is_out, of_actor}
+use Rattle.vm_types.specs.Serial.{OutFits}
+use Rattle.board_table.specs.Acts as board
+use Rattle.board_table.specs.Board.{Board}
+use Rattle.place_locks.specs.Held.{IsHistory}
+use Rattle.guest_pages.specs.Flat.{ArePages}
+use Rattle.guest_pages.specs.Pages.{PageValue, page_touch}
+use Rattle.hart_trace.specs.States.{Hart, hart_next, hart_wants}
+use Rattle.timer_trace.specs.declared.timer.Timer.{Timer}
+use Rattle.timer_trace.specs.States.{timer_next, timer_wants}
+use Rattle.flat_guest.specs.Body.{want_of}
+use Rattle.flat_guest.specs.Guest.{Guest}
+use Rattle.stamp_merge.specs.declared.history.History.{History}
+use Rattle.stamp_merge.specs.declared.journal.Journal.{Journal}
+use Rattle.stamp_merge.specs.Journals.{all_of, journal_at}
+use Rattle.stamp_merge.specs.Legal.{AreFollowed, IsRun}
+use Rattle.stamp_merge.specs.Merged.{journals_of}
+use Rattle.stamp_merge.specs.Order.{IsOrder}
+use Rattle.stamp_merge.specs.Parts.{Agree, IsTorn}
+use Rattle.stamp_merge.proofs.Legal.{parts_run, to_journal}
+use Rattle.stamp_merge.proofs.Stamps.{stamps_run}
+use Rattle.vm_host.specs.Telling.{AreNext, ClockKnown, Tells}
+use Rattle.vm_world.specs.Worlds.{IsWorld, WorldValue, want_in, world_with}
+use Rattle.slice_runner.specs.declared.stop.Stopped.{Stopped}
+use Rattle.slice_runner.specs.declared.worker.HartWorker.{HartWorker}
+use Rattle.slice_runner.specs.declared.worker.TimerWorker.{TimerWorker}
+use Rattle.slice_runner.specs.Locks.{AreHome, AreOpen, IsBoardHome}
+use Rattle.slice_runner.specs.Runs.{HartEnds, HartsWorked, HasRun, TimerEnds}
+use Rattle.slice_runner.specs.Slices.{IsSerial, IsSlice, IsTornSlice, MarksFollow, ReplaysFrom, answers_of}
+use Rattle.slice_runner.specs.Staff.{AreBack, AreNumbered, AreStaffed, harts_of, journals_from, passes_of, stop_of, stops_from}
+use Rattle.slice_runner.specs.Stops.{AreStopped, HasCause, IsStopped}
+use Rattle.slice_runner.specs.Values.{actor_next, actor_wants, actors_of, page_at, place_touch, places_of, route_among}
+use Rattle.slice_runner.proofs.Crew.{Crew, are_followed, are_stamped, are_there, at_other, at_timer, climbs_from, harts_journals, journal_there, journals_are, slice_journals}
+use Rattle.slice_runner.proofs.Leading.{Reaches, reaches, same_world}
+use Rattle.slice_runner.proofs.Returned.{Homes, homes, replayed, rising}
+use Rattle.slice_runner.proofs.Stepping.{IsThere}
+
+module _ {Q : Type 0} (serves : Q → Type 0) (closed : Q → ℕ) (count n : ℕ) where
+  -- each hart, by its number
+  crew_by : (k : ℕ) (ws vs : List (HartWorker Q)) → length vs ≡ length ws → AreNumbered k ws
+      → ((i : ℕ) (d : HartWorker Q) → i < length ws → HartEnds serves closed count n (slice_index_or ws i d) (slice_index_or vs i d))
+      → Crew count k vs (harts_of ws)
+  crew_by k [] [] long ids each = tt
+  crew_by k [] (v ∷ vs) long ids each = absurd (omega (arith, long))
+  crew_by k (w ∷ ws) [] long ids each = absurd (omega (arith, long))
+  crew_by k (w ∷ ws) (v ∷ vs) long ids each =
+      let one : 0 < length (w ∷ ws) = omega arith in
+      let first : HartEnds serves closed count n w v = each 0 w one in (
+        first.worked.same ∙ ids.0,
+        subst (λ (a : ActorId). HasRun hart_wants hart_next count a w.hart v.track.journal.items v.hart v.track.clock) ids.0 first.worked.ran,
+        crew_by (suc k) ws vs (omega (arith, long)) ids.1
+        (λ i d below. let more : suc i < length (w ∷ ws) = omega (arith, below) in each (suc i) d more),
+      )
+
+  -- its stop, with its cause
+  pub record HartStop (k j : ℕ) (vs : List (HartWorker Q)) (s : Stopped) (p q : Q) : Type 0 where
+    pub worker : HartWorker Q
+    pub is_there : slice_get vs j ≡ Some worker
+    pub actor_is : s.actor ≡ ActorId.Hart (k + j)
+    pub cause : HasCause n s.stop worker.track.journal.items (hart_wants worker.hart) (closed p) (closed q)
+
+  stop_by : (left : List Q) (k : ℕ) (ws vs : List (HartWorker Q)) → length vs ≡ length ws → AreNumbered k ws
+      → ((i : ℕ) (d : HartWorker Q) → i < length ws → HartEnds serves closed count n (slice_index_or ws i d) (slice_index_or vs i d))
+      → (j : ℕ) (s : Stopped) (p q : Q) → slice_get (map (λ (v : HartWorker Q). stop_of v.track) vs) j ≡ Some s
+      → slice_get (passes_of ws ++ left) j ≡ Some p → slice_get (passes_of vs ++ left) j ≡ Some q → HartStop k j vs s p q
+  stop_by left k [] [] long ids each j s p q stop before after = cc
+  stop_by left k [] (v ∷ vs) long ids each j s p q stop before after = absurd (omega (arith, long))
+  stop_by left k (w ∷ ws) [] long ids each j s p q stop before after = absurd (omega (arith, long))
+  stop_by left k (w ∷ ws) (v ∷ vs) long ids each zero s p q stop before after =
+      let one : 0 < length (w ∷ ws) = omega arith in
+      let first : HartEnds serves closed count n w v = each 0 w one in
+      let s_is : stop_of v.track ≡ s = cc in
+      let p_is : w.track.pass ≡ p = cc in
+      let q_is : v.track.pass ≡ q = cc in
+      let e : k ≡ k + 0 = omega arith in record {
+        worker = v;
+        is_there = refl;
+        actor_is = sym (ap (λ (x : Stopped). x.actor) s_is) ∙ first.worked.same ∙ ids.0 ∙ ap (λ (m : ℕ). ActorId.Hart m) e;
+        cause = subst (λ (x : Stopped). HasCause n x.stop v.track.journal.items (hart_wants v.hart) (closed p) (closed q)) s_is
+            (subst (λ (x : Q). HasCause n v.track.stop v.track.journal.items (hart_wants v.hart) (closed x) (closed q)) p_is
+            (subst (λ (x : Q). HasCause n v.track.stop v.track.journal.items (hart_wants v.hart) (closed w.track.pass) (closed x)) q_is first.worked.cause));
+      }
+  stop_by left k (w ∷ ws) (v ∷ vs) long ids each (suc j) s p q stop before after =
+      let rest : HartStop (suc k) j vs s p q =
+      stop_by left (suc k) ws vs (omega (arith, long)) ids.1
+      (λ i d below. let more : suc i < length (w ∷ ws) = omega (arith, below) in each (suc i) d more) j s p q stop before after in
+      let e : suc k + j ≡ k + suc j = omega arith in
+      record { worker = rest.worker; is_there = rest.is_there; actor_is = rest.actor_is ∙ ap (λ (m : ℕ). ActorId.Hart m) e; cause = rest.cause }
+
+get_map : {A B : Type 0} (f : A → B) (xs : List A) (j : ℕ) (x : A) → slice_get xs j ≡ Some x → slice_get (map f xs) j ≡ Some (f x)
+get_map f [] j x is = cc
+get_map f (y ∷ xs) zero x is = let same : y ≡ x = cc in ap (λ z. Some (f z)) same
+get_map f (y ∷ xs) (suc j) x is = get_map f xs j x is
+
+length_map : {A B : Type 0} (f : A → B) (xs : List A) → length (map f xs) ≡ length xs
+length_map f [] = refl
+length_map f (x ∷ xs) = let e = length_map f xs in omega (arith, e)
+
+module _ {Q : Type 0} (serves : Q → Type 0) (closed : Q → ℕ) (n : ℕ) (asked now : ClockKnown) (old : WorldValue)
+    (opening : PlaceId → PageValue) (board_opening : PlaceId → Board) (t u : TimerWorker Q) (ws vs : List (HartWorker Q))
+    (left passes later : List Q) (pages : List PageValue) (b : Board) (harts : List Hart) (hs : List History) (hb : History)
+    (journals : List Journal) (stops : List Stopped) (events : List Entry) (are : ArePages 0 old.pages)
+    (begun : AreOpen opening old.pages) (board_same : (p : PlaceId) → board_opening p ≡ old.board)
+    (staffed : AreStaffed n old.timer old.harts passes t ws left)
+    (timer_ends : TimerEnds serves closed (length old.pages) n asked now t u)
+    (worked : HartsWorked serves closed (length old.pages) n ws vs) (back : AreBack u vs left harts later journals stops)
+    (home : AreHome opening (length old.pages) pages hs) (board_home : IsBoardHome board_opening b hb)
+    (order : IsOrder (all_of (journals_of journals)) events) where
+  abbrev size : ℕ
+  size = length old.pages
+
+  abbrev js : List (ActorId × List Entry)
+  js = slice_journals u vs
+
+  abbrev new : WorldValue
+  new = world_with pages b u.timer harts
+
+  crew : Crew size 0 vs old.harts
+  crew = subst (λ (l : List Hart). Crew size 0 vs l) staffed.harts_are (crew_by serves closed size n 0 ws vs worked.same staffed.numbered worked.each)
+
+  first : u.track.id ≡ ActorId.Timer
+  first = timer_ends.worked.same ∙ staffed.first
+
+  ran : HasRun timer_wants timer_next size ActorId.Timer old.timer u.track.journal.items u.timer u.track.clock
+  ran =
+      subst (λ (x : Timer). HasRun timer_wants timer_next size ActorId.Timer x u.track.journal.items u.timer u.track.clock) staffed.timer_is
+      (subst (λ (a : ActorId). HasRun timer_wants timer_next size a t.timer u.track.journal.items u.timer u.track.clock) staffed.first timer_ends.worked.ran)
+
+  ordered : IsOrder (all_of js) events
+  ordered = subst (λ (l : List (ActorId × List Entry)). IsOrder (all_of l) events) (ap journals_of back.journals_are ∙ journals_are u vs) order
+
+  followed : AreFollowed actor_wants actor_next (route_among size) OutFits (actors_of old) (actors_of new) js
+  followed =
+      subst (λ (l : List Hart). AreFollowed actor_wants actor_next (route_among size) OutFits (actors_of old) (actors_of (world_with pages b u.timer l)) js)
+      (sym back.harts_are) (are_followed size old.timer old.harts u vs first ran crew)
+
+  replays_each : (i : ℕ) (ps : List PageValue) (ks : List History) → Homes opening i ps ks
+      → ((p : PlaceId) → opening p ≡ page_at old.pages p) → AllByRecursion (λ (h : History). ReplaysFrom old h.lock h) (ks ++ hb ∷ [])
+  replays_each i [] [] homes_are begun_so = (
+    subst (λ (p : PlaceId). ReplaysFrom old p hb) (sym board_home.lock)
+    (b, subst (λ (x : Board). IsHistory board.touch hb.kept x hb.entries.items b) (board_same hb.kept) board_home.history),
+    tt,
+  )
+  replays_each i [] (h ∷ ks) homes_are begun_so = absurd homes_are
+  replays_each i (p ∷ ps) [] homes_are begun_so = absurd homes_are
+  replays_each i (p ∷ ps) (h ∷ ks) homes_are begun_so = (
+    subst (λ (q : PlaceId). ReplaysFrom old q h) (sym homes_are.0.lock)
+    (p, subst (λ (x : PageValue). IsHistory page_touch h.kept x h.entries.items p) (begun_so h.kept) homes_are.0.history),
+    replays_each (suc i) ps ks homes_are.1 begun_so,
+  )
+
+  -- where they don't agree
+  pub parted : ((p : PlaceId) → opening p ≡ page_at old.pages p) → (torn : Torn) → IsTorn events (hs ++ hb ∷ []) torn
+      → IsTornSlice old torn journals (hs ++ hb ∷ [])
+  parted begun_so torn is = record {
+    lasts = actors_of new;
+    follow = subst (λ (l : List (ActorId × List Entry)). AreFollowed actor_wants actor_next (route_among size) OutFits (actors_of old) (actors_of new) l)
+        (sym (ap journals_of back.journals_are ∙ journals_are u vs)) followed;
+    replay = replays_each 0 pages hs (homes opening size pages hs home) begun_so;
+    order = events;
+    in_order = order;
+    differ = is;
+  }
+
+  -- where they agree
+  module _ (agree : Agree events (hs ++ hb ∷ [])) where
+    own_all : AllByRecursion (λ (h : History). h.kept ≡ h.lock) (hs ++ hb ∷ [])
+    own_all = recursion_from_All (λ (h : History). h.kept ≡ h.lock) (hs ++ hb ∷ []) agree.kept
+
+    own_front : (hs : List History) → AllByRecursion (λ (h : History). h.kept ≡ h.lock) (hs ++ hb ∷ []) → AllByRecursion (λ (h : History). h.kept ≡ h.lock) hs × (hb.kept ≡ hb.lock)
+    own_front [] all = (tt, all.0)
+    own_front (h ∷ hs) all = let rest = own_front hs all.1 in ((all.0, rest.0), rest.1)
+
+    run : IsRun place_touch actor_wants actor_next (route_among size) OutFits (places_of old) (places_of new) (actors_of old) (actors_of new) events
+    run =
+        let own = own_front hs own_all in
+        parts_run place_touch actor_wants actor_next (route_among size) OutFits (places_of old) (places_of new) (actors_of old) (actors_of new) js _
+        followed
+        (replayed opening board_opening old.board b hb (board_same PlaceId.Board) board_home own.1 old.pages pages hs (homes opening size pages hs home) (sym home.pages_are) begun own.0)
+        events ordered agree.parts
+
+    there : AllByRecursion (λ (e : Entry). IsThere (length old.harts) e.actor) events
+    there =
+        recursion_from_All (λ (e : Entry). IsThere (length old.harts) e.actor) events
+        (All-permutation (λ (e : Entry). IsThere (length old.harts) e.actor) (all_of js) events ordered.moved
+        (All-from_recursion (λ (e : Entry). IsThere (length old.harts) e.actor) (all_of js) (are_there size old.timer old.harts u vs first ran crew)))
+
+    reached : Reaches old events
+    reached = reaches events old size (length old.harts) refl refl are there run.fresh
+
+    harts_long : length harts ≡ length old.harts
+    harts_long =
+        ap length back.harts_are ∙ length_map (λ (v : HartWorker Q). v.hart) vs ∙ worked.same
+        ∙ sym (length_map (λ (w : HartWorker Q). w.hart) ws) ∙ ap length staffed.harts_are
+
+    arrived : reached.end ≡ new
+    arrived =
+        same_world reached.end new (reached.count ∙ sym home.pages_are) (reached.harts ∙ sym harts_long)
+        (λ p inner. sym (ap (λ (f : PlaceId → _). f p) reached.places) ∙ run.places p inner)
+        (λ a. sym (ap (λ (f : ActorId → _). f a) reached.actors) ∙ run.actors a)
+
+    mine : (a : ActorId) → of_actor a events ≡ journal_at a js
+    mine a = to_journal js events followed.own followed.climb ordered a
+
+    timers : of_actor ActorId.Timer events ≡ u.track.journal.items
+    timers = mine ActorId.Timer ∙ at_timer size old.timer old.harts u vs first ran crew
+
+    harts_own : (j : ℕ) (v : HartWorker Q) → slice_get vs j ≡ Some v → of_actor (ActorId.Hart j) events ≡ v.track.journal.items
+    harts_own j v is =
+        let e : j ≡ 0 + j = omega arith in
+        mine (ActorId.Hart j) ∙ at_other size old.timer old.harts u vs first ran crew (ActorId.Hart j) refl
+        ∙ ap (λ (k : ℕ). journal_at (ActorId.Hart k) (harts_journals vs)) e ∙ journal_there size 0 vs old.harts crew j v is
+
+    stopped : (i : ℕ) (s : Stopped) (p q : Q) → slice_get (stops_from u vs) i ≡ Some s
+        → slice_get (t.track.pass ∷ (passes_of ws ++ left)) i ≡ Some p → slice_get (u.track.pass ∷ (passes_of vs ++ left)) i ≡ Some q
+        → IsStopped closed n events new i s p q
+    stopped zero s p q stop before after =
+        let s_is : stop_of u.track ≡ s = cc in
+        let p_is : t.track.pass ≡ p = cc in
+        let q_is : u.track.pass ≡ q = cc in
+        let actor : s.actor ≡ ActorId.Timer = sym (ap (λ (x : Stopped). x.actor) s_is) ∙ first in record {
+          actor_is = actor;
+          want = timer_wants u.timer;
+          wants = ap (λ (a : ActorId). want_in new a) actor;
+          cause = rw (ap (λ (a : ActorId). of_actor a events) actor ∙ timers)
+              (subst (λ (x : Stopped). HasCause n x.stop u.track.journal.items (timer_wants u.timer) (closed p) (closed q)) s_is
+              (subst (λ (x : Q). HasCause n u.track.stop u.track.journal.items (timer_wants u.timer) (closed x) (closed q)) p_is
+              (subst (λ (x : Q). HasCause n u.track.stop u.track.journal.items (timer_wants u.timer) (closed t.track.pass) (closed x)) q_is timer_ends.worked.cause)));
+        }
+    stopped (suc j) s p q stop before after =
+        let h = stop_by serves closed size n left 0 ws vs worked.same staffed.numbered worked.each j s p q stop before after in
+        let e : 0 + j ≡ j = omega arith in
+        let actor : s.actor ≡ ActorId.Hart j = h.actor_is ∙ ap (λ (k : ℕ). ActorId.Hart k) e in record {
+          actor_is = actor;
+          want = hart_wants h.worker.hart;
+          wants = ap (λ (a : ActorId). want_in new a) actor
+              ∙ ap (λ (l : List Hart). want_of (slice_get l j)) back.harts_are
+              ∙ ap want_of (get_map (λ (v : HartWorker Q). v.hart) vs j h.worker h.is_there);
+          cause = rw (ap (λ (a : ActorId). of_actor a events) actor ∙ harts_own j h.worker h.is_there) h.cause;
+        }
+
+    pub whole : IsSlice closed n asked now old events new stops passes later
+    whole = record {
+      serial = subst (λ (w : WorldValue). IsSerial old events w) arrived reached.serial;
+      stamps =
+          let own = own_front hs own_all in
+          stamps_run js _ events (are_stamped size old.timer old.harts u vs first ran crew)
+          (rising opening board_opening old.board b hb (board_same PlaceId.Board) board_home own.1 old.pages pages hs (homes opening size pages hs home) (sym home.pages_are) begun own.0)
+          ordered agree.parts;
+      marks = subst (λ (w : WorldValue). MarksFollow old.pages events w.pages) arrived reached.marks;
+      stopped = record {
+        count = ap length back.stops_are
+            ∙ (let e = length_map (λ (v : HartWorker Q). stop_of v.track) vs in
+            let f = length_map (λ (v : HartWorker Q). v.hart) vs in
+            let g = ap length back.harts_are in omega (arith, e, f, g));
+        each = λ i s p q stop before after. stopped i s p q (ap (λ l. slice_get l i) (sym back.stops_are) ∙ stop)
+            (ap (λ l. slice_get l i) staffed.passes_are ∙ before) (ap (λ l. slice_get l i) (sym back.passes_are) ∙ after);
+      };
+      clock = λ tells. (
+        timer_ends.answers.still tells,
+        subst (λ (l : List Entry). AreNext asked.left (answers_of l) now.left) (sym timers) (timer_ends.answers.are tells),
+      );
+      pages = subst (λ (w : WorldValue). ArePages 0 w.pages) arrived reached.pages;
+      count = home.pages_are;
+    }

@@ -1,0 +1,135 @@
+-- An actor at work goes on by one entry, or stops.
+use Rattle.std.proofs.Common.{◌≡◌, ℕ, ◌+◌, ◌<◌, ◌≤◌, ◌^◌, max, Bool, true, false, refl, sym, ap, ◌∙◌, subst, arith}
+use Rattle.std.proofs.Common.{List, [], ◌∷◌, ◌++◌, length, Option, Some, None, length-append}
+use Rattle.std.specs.List.{AllByRecursion}
+use Rattle.vm_types.specs.declared.entry.Entry.{Entry}
+use Rattle.vm_types.specs.declared.ids.ActorId.{ActorId}
+use Rattle.vm_types.specs.declared.op.Op.{Op}
+use Rattle.vm_types.specs.declared.reply.Reply.{Reply}
+use Rattle.vm_types.specs.Histories.{last_stamp}
+use Rattle.vm_types.specs.Serial.{Follows, IsPlaced, OutFits}
+use Rattle.hart_trace.specs.Traces.{is_full}
+use Rattle.hart_trace.specs.Asks.{is_host_op}
+use Rattle.flat_guest.specs.Steps.{is_given}
+use Rattle.stamp_merge.specs.Stamps.{OutIsZero, Stamped}
+use Rattle.slice_runner.specs.declared.stop.Stop.{Stop}
+use Rattle.slice_runner.specs.declared.worker.Track.{Track}
+use Rattle.slice_runner.specs.Runs.{GoesOn, HasEnded, HasRun, IsActOf, IsSameBut, IsUnderWay, StopsFor, WritesDown}
+use Rattle.slice_runner.specs.Stops.{closings, is_last_full}
+use Rattle.slice_runner.specs.Values.{route_among}
+
+follows_more : {S : Type 0} (want : S → Op) (next : S → Reply → S) (s : S) (es : List Entry) (t u : S) (e : Entry)
+    → Follows want next s es t → e.op ≡ want t → u ≡ next t e.reply → Follows want next s (es ++ e ∷ []) u
+follows_more want next s [] t u e h op is = (op ∙ ap want (sym h), ap (λ x. next x e.reply) h ∙ sym is)
+follows_more want next s (d ∷ es) t u e h op is = (h.0, follows_more want next (next s d.reply) es t u e h.1 op is)
+
+stamped_more : (b : ℕ) (es : List Entry) (e : Entry) → Stamped b es → e.stamp ≡ 1 + max (last_stamp b es) e.before
+    → Stamped b (es ++ e ∷ [])
+stamped_more b [] e h is = (is, tt)
+stamped_more b (d ∷ es) e h is = (h.0, stamped_more d.stamp es e h.1 is)
+
+last_more : (b : ℕ) (es : List Entry) (e : Entry) → last_stamp b (es ++ e ∷ []) ≡ e.stamp
+last_more b [] e = refl
+last_more b (d ∷ es) e = last_more d.stamp es e
+
+pub all_more : (P : Entry → Type 0) (es : List Entry) (e : Entry) → AllByRecursion P es → P e → AllByRecursion P (es ++ e ∷ [])
+all_more P [] e h p = (p, tt)
+all_more P (d ∷ es) e h p = (h.0, all_more P es e h.1 p)
+
+full_more : (b : Bool) (es : List Entry) (e : Entry) → is_last_full b (es ++ e ∷ []) ≡ is_full e.reply
+full_more b [] e = refl
+full_more b (d ∷ es) e = full_more (is_full d.reply) es e
+
+module _ {S Q : Type 0} (want : S → Op) (next : S → Reply → S) (closed : Q → ℕ) (count : ℕ) (id : ActorId) (s : S)
+    (c : ℕ) (t : S) (old mid : Track Q) (op : Op) (way : IsUnderWay want next closed count id s c t old)
+    (same : IsSameBut old mid) (is_want : op ≡ want t) where
+  mid_id : mid.id ≡ id
+  mid_id = same.id ∙ way.same
+
+  mid_items : mid.journal.items ≡ old.journal.items
+  mid_items = ap (λ j. j.items) same.journal
+
+  mid_run : HasRun want next count id s mid.journal.items t mid.clock
+  mid_run = rw (mid_items, same.clock) way.ran
+
+  -- one more entry
+  pub went : (now new : Track Q) (e : Entry) (given : Option Reply) (u : S) → closed mid.pass ≡ closed old.pass
+      → now.id ≡ mid.id → now.pass ≡ mid.pass → now.journal.items ≡ mid.journal.items → now.clock ≡ e.stamp
+      → IsActOf e mid.id op given count mid.clock → WritesDown e now new → u ≡ next t e.reply
+      → IsUnderWay want next closed count id s c u new
+  went now new e given u kept now_id now_pass now_items now_clock act down is =
+      let run = mid_run in
+      let items : new.journal.items ≡ mid.journal.items ++ e ∷ [] =
+      down.items ∙ ap (λ (xs : List Entry). xs ++ e ∷ []) now_items in
+      let stamp : e.stamp ≡ 1 + max (last_stamp 0 mid.journal.items) e.before =
+      act.stamp_is ∙ ap (λ (n : ℕ). 1 + max n e.before) run.last in
+      record {
+        same = down.id ∙ now_id ∙ mid_id;
+        ran = rw items (record {
+          follows = follows_more want next s mid.journal.items t u e run.follows (act.op_is ∙ is_want) is;
+          stamped = stamped_more 0 mid.journal.items e run.stamped stamp;
+          last = down.clock ∙ now_clock ∙ sym (last_more 0 mid.journal.items e);
+          own = all_more (λ (x : Entry). x.actor ≡ id) mid.journal.items e run.own (act.actor_is ∙ mid_id);
+          placed = all_more (IsPlaced (route_among count) OutFits) mid.journal.items e run.placed act.placed;
+          out = all_more OutIsZero mid.journal.items e run.out act.out;
+        });
+        full_is = down.full ∙ sym (full_more false mid.journal.items e) ∙ ap (is_last_full false) (sym items);
+        unclosed = ap closed (down.pass ∙ now_pass) ∙ kept ∙ way.unclosed;
+      }
+
+  -- a stop
+  pub ended : (n : ℕ) (stop : Stop) → StopsFor closed op old mid stop → length old.journal.items < n
+      → HasEnded want next closed count id s c n t mid stop
+  ended n stop why less =
+      let few : length mid.journal.items < n = subst (λ (xs : List Entry). length xs < n) (sym mid_items) less in
+      record {
+        same = mid_id;
+        ran = mid_run;
+        cause = record {
+          most = omega (arith, few);
+          steps = (λ is. absurd (why.not_steps is), λ is. absurd (omega (arith, few, is)));
+          gate = why.gate ∙ ap (λ (k : ℕ). k + closings stop) way.unclosed;
+          idle = (
+            λ is. (
+              subst (λ (xs : List Entry). 1 ≤ length xs) (sym mid_items) (why.idle.0 is).0,
+              few,
+              sym is_want ∙ (why.idle.0 is).1,
+            ),
+            λ waits. why.idle.1
+            (subst (λ (xs : List Entry). 1 ≤ length xs) mid_items waits.0, is_want ∙ waits.2),
+          );
+          full = λ is. ap (is_last_full false) mid_items ∙ sym way.full_is ∙ why.full is;
+          stamp = λ is. subst (λ (k : ℕ). 2 ^ 63 ≤ k) (sym same.clock ∙ mid_run.last) (why.stamp is);
+        };
+      }
+
+  -- no memory
+  pub wanting : (n : ℕ) (now : Track Q) → GoesOn closed op old mid → length old.journal.items < n → now.id ≡ mid.id
+      → now.pass ≡ mid.pass → now.journal.items ≡ mid.journal.items → now.clock ≡ mid.clock
+      → HasEnded want next closed count id s c n t now Stop.Memory
+  wanting n now on less now_id now_pass now_items now_clock =
+      let items : now.journal.items ≡ old.journal.items = now_items ∙ mid_items in
+      let few : length now.journal.items < n = subst (λ (xs : List Entry). length xs < n) (sym items) less in
+      record {
+        same = now_id ∙ mid_id;
+        ran = rw (now_items, now_clock) mid_run;
+        cause = record {
+          most = omega (arith, few);
+          steps = (λ is. cc, λ is. absurd (omega (arith, few, is)));
+          gate = ap closed now_pass ∙ on.unclosed ∙ way.unclosed ∙ omega arith;
+          idle = (
+            λ is. cc,
+            λ waits. absurd (on.awake (subst (λ (xs : List Entry). 1 ≤ length xs) items waits.0) (is_want ∙ waits.2)),
+          );
+          full = λ is. cc;
+          stamp = λ is. cc;
+        };
+      }
+
+-- what asks no host object is given nothing
+pub none_given : (op want : Op) → op ≡ want → is_host_op want ≡ false → is_given op None ≡ true
+none_given op want is not = ap (λ (o : Op). is_given o None) is ∙ by_op want not
+  where
+    by_op : (o : Op) → is_host_op o ≡ false → is_given o None ≡ true
+    by_op (Op.Out act) none = cc
+    by_op o none = refl

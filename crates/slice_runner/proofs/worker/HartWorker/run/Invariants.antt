@@ -1,0 +1,12 @@
+use Rattle.std.proofs.Common.{◌≡◌, ◌≤◌, length, vec_len, vec_capacity}
+use Rattle.hart_trace.specs.States.{hart_next, hart_wants}
+use Rattle.slice_runner.specs.Runs.{IsUnderWay}
+use Rattle.slice_runner.proofs.worker.HartWorker.run.Given as goal
+
+abbrev pub invariant-loop-step : goal.invariant-loop-step
+invariant-loop-step g l = record {
+  serves : g.G.Gate.serves l.gate l.self.track.pass;
+  made : vec_len l.self.track.journal ≡ l._step;
+  room : l.n ≤ vec_capacity l.self.track.journal;
+  way : IsUnderWay hart_wants hart_next g.G.Gate.closed (length l.pages) l.fn.self.track.id l.fn.self.hart (g.G.Gate.closed l.fn.self.track.pass) l.self.hart l.self.track;
+}

@@ -1,0 +1,142 @@
+-- What an actor does in a slice.
+use Rattle.std.specs.Prelude.{ℕ, ◌≡◌, ◌+◌, ◌<◌, ◌≤◌, ◌^◌, ◌↔◌, true, false, max, List, [], ◌∷◌, ◌++◌, length, slice_index_or}
+use Rattle.std.specs.Prelude.{Option, Some, None, vec_capacity}
+use Rattle.std.specs.List.{AllByRecursion}
+use Rattle.vm_types.specs.declared.entry.Entry.{Entry}
+use Rattle.vm_types.specs.declared.ids.ActorId.{ActorId}
+use Rattle.vm_types.specs.declared.op.Op.{Op}
+use Rattle.vm_types.specs.declared.op.OutOp.TheVariants.{Clock}
+use Rattle.vm_types.specs.declared.reply.Reply.{Reply}
+use Rattle.vm_types.specs.Histories.{last_stamp}
+use Rattle.vm_types.specs.Ids.{is_out}
+use Rattle.vm_types.specs.Serial.{Follows, IsPlaced, OutFits, Placed}
+use Rattle.hart_trace.specs.States.{Hart, hart_next, hart_wants}
+use Rattle.hart_trace.specs.Traces.{is_full}
+use Rattle.timer_trace.specs.States.{timer_next, timer_wants}
+use Rattle.flat_guest.specs.Body.{out_reply}
+use Rattle.stamp_merge.specs.Stamps.{OutIsZero, Stamped}
+use Rattle.vm_host.specs.Telling.{AreNext, ClockKnown, Gives, Tells}
+use Rattle.slice_runner.specs.declared.stop.Stop.{Stop}
+use Rattle.slice_runner.specs.declared.worker.HartWorker.{HartWorker}
+use Rattle.slice_runner.specs.declared.worker.TimerWorker.{TimerWorker}
+use Rattle.slice_runner.specs.declared.worker.Track.{Track}
+use Rattle.slice_runner.specs.Slices.{answers_of}
+use Rattle.slice_runner.specs.Stops.{HasCause, closings, is_last_full}
+use Rattle.slice_runner.specs.Values.{route_among}
+
+-- the entry is of this actor and op, at the op's place among so many pages, with the next stamp after the actor's clock
+-- and the place's last; with no place the reply is what is given
+pub record IsActOf (e : Entry) (actor : ActorId) (op : Op) (given : Option Reply) (count clock : ℕ) : Type 0 where
+  pub actor_is : e.actor ≡ actor
+  pub op_is : e.op ≡ op
+  pub placed : IsPlaced (route_among count) OutFits e
+  pub stamp_is : e.stamp ≡ 1 + max clock e.before
+  pub out : OutIsZero e
+  pub given_is : is_out e.place ≡ true → e.reply ≡ out_reply op given
+
+-- from the state s this journal of the actor leads to the state t, with this last stamp
+pub record HasRun {S : Type 0} (want : S → Op) (next : S → Reply → S) (count : ℕ) (id : ActorId) (s : S)
+    (journal : List Entry) (t : S) (clock : ℕ) : Type 0 where
+  pub follows : Follows want next s journal t
+  pub stamped : Stamped 0 journal
+  pub last : clock ≡ last_stamp 0 journal
+  pub own : AllByRecursion (λ (e : Entry). e.actor ≡ id) journal
+  pub placed : Placed (route_among count) OutFits journal
+  pub out : AllByRecursion OutIsZero journal
+
+-- nothing was done yet, and there is room for so many entries
+pub record Begins {Q : Type 0} (n : ℕ) (track : Track Q) : Type 0 where
+  pub empty : track.journal.items ≡ []
+  pub clock : track.clock ≡ 0
+  pub full : track.full ≡ false
+  pub room : n ≤ vec_capacity track.journal
+
+-- the actor came from the state s to the state t, and its pass was never answered "closed" but the c times before
+pub record IsUnderWay {S Q : Type 0} (want : S → Op) (next : S → Reply → S) (closed : Q → ℕ) (count : ℕ) (id : ActorId)
+    (s : S) (c : ℕ) (t : S) (track : Track Q) : Type 0 where
+  pub same : track.id ≡ id
+  pub ran : HasRun want next count id s track.journal.items t track.clock
+  pub full_is : track.full ≡ is_last_full false track.journal.items
+  pub unclosed : closed track.pass ≡ c
+
+-- the actor came from the state s to the state t, and stopped for a cause
+pub record HasEnded {S Q : Type 0} (want : S → Op) (next : S → Reply → S) (closed : Q → ℕ) (count : ℕ) (id : ActorId)
+    (s : S) (c n : ℕ) (t : S) (track : Track Q) (stop : Stop) : Type 0 where
+  pub same : track.id ≡ id
+  pub ran : HasRun want next count id s track.journal.items t track.clock
+  pub cause : HasCause n stop track.journal.items (want t) c (closed track.pass)
+
+abbrev pub HasWorked : {S Q : Type 0} → (S → Op) → (S → Reply → S) → (Q → ℕ) → ℕ → ℕ → S → S → Track Q → Track Q → Type 0
+HasWorked want next closed count n s t before after =
+    HasEnded want next closed count before.id s (closed before.pass) n t after after.stop
+
+abbrev pub HartWorked : {Q : Type 0} → (Q → ℕ) → ℕ → ℕ → HartWorker Q → HartWorker Q → Type 0
+HartWorked closed count n before after =
+    HasWorked hart_wants hart_next closed count n before.hart after.hart before.track after.track
+
+abbrev pub TimerWorked : {Q : Type 0} → (Q → ℕ) → ℕ → ℕ → TimerWorker Q → TimerWorker Q → Type 0
+TimerWorked closed count n before after =
+    HasWorked timer_wants timer_next closed count n before.timer after.timer before.track after.track
+
+-- nothing but the pass may have changed
+pub record IsSameBut {Q : Type 0} (old new : Track Q) : Type 0 where
+  pub id : new.id ≡ old.id
+  pub clock : new.clock ≡ old.clock
+  pub full : new.full ≡ old.full
+  pub journal : new.journal ≡ old.journal
+
+-- why it makes no further step, with this want
+pub record StopsFor {Q : Type 0} (closed : Q → ℕ) (want : Op) (old new : Track Q) (stop : Stop) : Type 0 where
+  pub not_steps : stop ≡ Stop.Steps → ⊥
+  pub gate : closed new.pass ≡ closed old.pass + closings stop
+  pub idle : (stop ≡ Stop.Idle) ↔ ((1 ≤ length old.journal.items) × (want ≡ Op.Idle))
+  pub full : stop ≡ Stop.Full → old.full ≡ true
+  pub stamp : stop ≡ Stop.Stamp → 2 ^ 63 ≤ old.clock
+
+-- or it makes one
+pub record GoesOn {Q : Type 0} (closed : Q → ℕ) (want : Op) (old new : Track Q) : Type 0 where
+  pub unclosed : closed new.pass ≡ closed old.pass
+  pub awake : 1 ≤ length old.journal.items → want ≡ Op.Idle → ⊥
+  pub low : old.clock < 2 ^ 63
+
+-- the entry is written down
+pub record WritesDown {Q : Type 0} (e : Entry) (old new : Track Q) : Type 0 where
+  pub id : new.id ≡ old.id
+  pub pass : new.pass ≡ old.pass
+  pub clock : new.clock ≡ old.clock
+  pub full : new.full ≡ is_full e.reply
+  pub items : new.journal.items ≡ old.journal.items ++ e ∷ []
+  pub room : vec_capacity new.journal ≡ vec_capacity old.journal
+
+-- a clock answered an op that asks it; nothing else asks it
+abbrev pub IsAsked : Op → ClockKnown → Option Reply → ClockKnown → Type 0
+IsAsked (Op.Out Clock) old given new = (answer : ℕ) × (given ≡ Some (Reply.Word answer)) × Gives old answer new
+IsAsked op old given new = (given ≡ None) × (new ≡ old)
+
+-- since it was so, a clock gave these answers
+pub record HasAnswered (start : ClockKnown) (answers : List ℕ) (now : ClockKnown) : Type 0 where
+  pub still : Tells start → Tells now
+  pub are : Tells start → AreNext start.left answers now.left
+
+-- an actor that begins a slice with a pass of its gate
+pub record IsReady {Q : Type 0} (serves : Q → Type 0) (n : ℕ) (track : Track Q) : Type 0 where
+  pub pass : serves track.pass
+  pub begins : Begins n track
+
+-- and ends it
+pub record HartEnds {Q : Type 0} (serves : Q → Type 0) (closed : Q → ℕ) (count n : ℕ) (before after : HartWorker Q) : Type 0 where
+  pub pass : serves after.track.pass
+  pub worked : HartWorked closed count n before after
+
+pub record TimerEnds {Q : Type 0} (serves : Q → Type 0) (closed : Q → ℕ) (count n : ℕ) (asked now : ClockKnown)
+    (before after : TimerWorker Q) : Type 0 where
+  pub pass : serves after.track.pass
+  pub worked : TimerWorked closed count n before after
+  pub answers : HasAnswered asked (answers_of after.track.journal.items) now
+
+-- each hart of the list does
+pub record HartsWorked {Q : Type 0} (serves : Q → Type 0) (closed : Q → ℕ) (count n : ℕ) (before after : List (HartWorker Q)) :
+    Type 0 where
+  pub same : length after ≡ length before
+  pub each : (i : ℕ) (d : HartWorker Q) → i < length before
+      → HartEnds serves closed count n (slice_index_or before i d) (slice_index_or after i d)

@@ -1,0 +1,98 @@
+-- What a slice is to the flat machine.
+use Rattle.std.specs.Prelude.{ℕ, ◌≡◌, List, [], ◌∷◌, ◌++◌, length, Option, Some, None}
+use Rattle.std.specs.List.{AllByRecursion}
+use Rattle.vm_types.specs.declared.entry.Entry.{Entry}
+use Rattle.vm_types.specs.declared.entry.Event.{Event}
+use Rattle.vm_types.specs.declared.ids.ActorId.{ActorId}
+use Rattle.vm_types.specs.declared.ids.PlaceId.{PlaceId}
+use Rattle.vm_types.specs.declared.op.Op.{Op}
+use Rattle.vm_types.specs.declared.op.OutOp.TheVariants.{Clock}
+use Rattle.vm_types.specs.declared.reply.Reply.{Reply}
+use Rattle.vm_types.specs.declared.torn.Torn.{Torn}
+use Rattle.vm_types.specs.Ids.{of_actor}
+use Rattle.vm_types.specs.Serial.{OutFits}
+use Rattle.board_table.specs.Acts as board
+use Rattle.board_table.specs.Board.{Board}
+use Rattle.flat_guest.specs.Guest.{Guest}
+use Rattle.flat_guest.specs.Steps.{FlatStep}
+use Rattle.guest_pages.specs.Marks.{AreMarked}
+use Rattle.guest_pages.specs.Flat.{ArePages}
+use Rattle.guest_pages.specs.Pages.{PageValue, page_touch}
+use Rattle.place_locks.specs.Held.{IsHistory}
+use Rattle.stamp_merge.specs.declared.history.History.{History}
+use Rattle.stamp_merge.specs.declared.journal.Journal.{Journal}
+use Rattle.stamp_merge.specs.Journals.{all_of}
+use Rattle.stamp_merge.specs.Legal.{AreFollowed}
+use Rattle.stamp_merge.specs.Merged.{journals_of}
+use Rattle.stamp_merge.specs.Order.{IsOrder}
+use Rattle.stamp_merge.specs.Parts.{IsTorn}
+use Rattle.stamp_merge.specs.Stamps.{StampsRun}
+use Rattle.vm_host.specs.Telling.{AreNext, ClockKnown, Tells}
+use Rattle.vm_world.specs.Worlds.{IsWorld, WorldValue}
+use Rattle.slice_runner.specs.declared.stop.Stopped.{Stopped}
+use Rattle.slice_runner.specs.Stops.{AreStopped}
+use Rattle.slice_runner.specs.Values.{ActorState, actor_next, actor_wants, actors_of, page_at, route_among}
+
+-- the event that an entry tells: who acted, and what a host object answered
+abbrev pub given_of : Op → Reply → Option Reply
+given_of (Op.Out act) reply = Some reply
+given_of op reply = None
+
+abbrev pub event_of : Entry → Event
+event_of e = record { actor = e.actor; reply = given_of e.op e.reply }
+
+-- the entries are steps of the flat machine, one after another, each with the reply that it got
+abbrev pub Leads : Guest → List Entry → Guest → Type 0
+Leads g [] h = g ≡ h
+Leads g (e ∷ es) h = (mid : Guest) × FlatStep g (event_of e) e mid × Leads mid es h
+
+-- they lead from each guest that the world was to one that it is
+abbrev pub IsSerial : WorldValue → List Entry → WorldValue → Type 0
+IsSerial old events new = (g : Guest) → IsWorld old g → (h : Guest) × Leads g events h × IsWorld new h
+
+-- stamps begin anew with each slice
+abbrev pub AreStamps : List Entry → Type 0
+AreStamps events = StampsRun (λ actor. 0) (λ place. 0) events
+
+-- where each page was marked exactly where one of the events since wrote it, it is so now
+abbrev pub MarksFollow : List PageValue → List Entry → List PageValue → Type 0
+MarksFollow old events new = (since : List Entry) → AreMarked since 0 old → AreMarked (since ++ events) 0 new
+
+-- what a clock answered in these entries
+abbrev pub answer_in : Op → Reply → List ℕ → List ℕ
+answer_in (Op.Out Clock) (Reply.Word answer) more = answer ∷ more
+answer_in op reply more = more
+
+abbrev pub answers_of : List Entry → List ℕ
+answers_of [] = []
+answers_of (e ∷ es) = answer_in e.op e.reply (answers_of es)
+
+-- the timer got the clock's next answers, in order, and the others are left
+abbrev pub ClockWasAsked : ClockKnown → List Entry → ClockKnown → Type 0
+ClockWasAsked old events new =
+    Tells old → Tells new × AreNext old.left (answers_of (of_actor ActorId.Timer events)) new.left
+
+-- a history replays from how its place stood before
+abbrev pub ReplaysFrom : WorldValue → PlaceId → History → Type 0
+ReplaysFrom old PlaceId.Board h = (end : Board) × IsHistory board.touch h.kept old.board h.entries.items end
+ReplaysFrom old lock h = (end : PageValue) × IsHistory page_touch h.kept (page_at old.pages h.kept) h.entries.items end
+
+-- journals that follow their actors' wants, and histories that replay from how the places stood, which don't agree
+pub record IsTornSlice (old : WorldValue) (torn : Torn) (journals : List Journal) (histories : List History) : Type 0 where
+  pub lasts : ActorId → ActorState
+  pub follow : AreFollowed actor_wants actor_next (route_among (length old.pages)) OutFits (actors_of old) lasts (journals_of journals)
+  pub replay : AllByRecursion (λ (h : History). ReplaysFrom old h.lock h) histories
+  pub order : List Entry
+  pub in_order : IsOrder (all_of (journals_of journals)) order
+  pub differ : IsTorn order histories torn
+
+-- the events of a slice lead from the world before to the world after, which has pages still
+pub record IsSlice {Q : Type 0} (closed : Q → ℕ) (n : ℕ) (asked now : ClockKnown) (old : WorldValue) (events : List Entry)
+    (new : WorldValue) (stops : List Stopped) (before after : List Q) : Type 0 where
+  pub serial : IsSerial old events new
+  pub stamps : AreStamps events
+  pub marks : MarksFollow old.pages events new.pages
+  pub stopped : AreStopped closed n events new stops before after
+  pub clock : ClockWasAsked asked events now
+  pub pages : ArePages 0 new.pages
+  pub count : length new.pages ≡ length old.pages

@@ -1,0 +1,57 @@
+-- Why an actor makes no further step in a slice.
+use Rattle.std.specs.Prelude.{ℕ, zero, suc, ◌≡◌, ◌+◌, ◌<◌, ◌≤◌, ◌^◌, ◌↔◌, Bool, true, false, List, [], ◌∷◌}
+use Rattle.std.specs.Prelude.{Option, Some, length, slice_get}
+use Rattle.vm_types.specs.declared.entry.Entry.{Entry}
+use Rattle.vm_types.specs.declared.ids.ActorId.{ActorId}
+use Rattle.vm_types.specs.declared.op.Op.{Op}
+use Rattle.vm_types.specs.Histories.{last_stamp}
+use Rattle.vm_types.specs.Ids.{of_actor}
+use Rattle.hart_trace.specs.Traces.{is_full}
+use Rattle.vm_world.specs.Worlds.{WorldValue, want_in}
+use Rattle.slice_runner.specs.declared.stop.Stop.{Stop}
+use Rattle.slice_runner.specs.declared.stop.Stop.TheVariants.{Steps, Gate, Idle, Full, Stamp, Memory}
+use Rattle.slice_runner.specs.declared.stop.Stopped.{Stopped}
+
+-- the last reply is that the console ring was full
+abbrev pub is_last_full : Bool → List Entry → Bool
+is_last_full full [] = full
+is_last_full full (e ∷ es) = is_last_full (is_full e.reply) es
+
+-- how often the gate was found closed: once by an actor that stops for it, and by no other
+abbrev pub closings : Stop → ℕ
+closings Gate = 1
+closings stop = 0
+
+-- after 1 to n - 1 steps the actor wants to wait
+abbrev pub Waits : ℕ → List Entry → Op → Type 0
+Waits n entries want = (1 ≤ length entries) × (length entries < n) × (want ≡ Op.Idle)
+
+-- the cause of a stop, after these entries of at most n, with this want, and with a pass that was answered "closed" so often
+-- before and now; want of memory is free
+pub record HasCause (n : ℕ) (stop : Stop) (entries : List Entry) (want : Op) (before now : ℕ) : Type 0 where
+  pub most : length entries ≤ n
+  pub steps : (stop ≡ Steps) ↔ (length entries ≡ n)
+  pub gate : now ≡ before + closings stop
+  pub idle : (stop ≡ Idle) ↔ Waits n entries want
+  pub full : stop ≡ Full → is_last_full false entries ≡ true
+  pub stamp : stop ≡ Stamp → 2 ^ 63 ≤ last_stamp 0 entries
+
+-- the timer comes first, and then the harts by their numbers
+abbrev pub actor_of : ℕ → ActorId
+actor_of zero = ActorId.Timer
+actor_of (suc k) = ActorId.Hart k
+
+-- one actor's stop, with the pass at its place before and after
+pub record IsStopped {Q : Type 0} (closed : Q → ℕ) (n : ℕ) (events : List Entry) (now : WorldValue) (i : ℕ)
+    (s : Stopped) (p q : Q) : Type 0 where
+  pub actor_is : s.actor ≡ actor_of i
+  pub want : Op
+  pub wants : want_in now s.actor ≡ Some want
+  pub cause : HasCause n s.stop (of_actor s.actor events) want (closed p) (closed q)
+
+-- each actor has one stop, with its cause
+pub record AreStopped {Q : Type 0} (closed : Q → ℕ) (n : ℕ) (events : List Entry) (now : WorldValue) (stops : List Stopped)
+    (before after : List Q) : Type 0 where
+  pub count : length stops ≡ suc (length now.harts)
+  pub each : (i : ℕ) (s : Stopped) (p q : Q) → slice_get stops i ≡ Some s → slice_get before i ≡ Some p
+      → slice_get after i ≡ Some q → IsStopped closed n events now i s p q

@@ -1,0 +1,26 @@
+// Why an actor stopped in a slice.
+use vm_types::ActorId;
+
+/// Why an actor makes no further step in a slice.
+#[derive(Clone, Copy, Debug, PartialEq, Eq, Drop)]
+pub enum Stop {
+    /// It made as many steps as the slice has for each.
+    Steps,
+    /// The gate was closed.
+    Gate,
+    /// It made a step, and now it wants to wait.
+    Idle,
+    /// The console ring was full.
+    Full,
+    /// Its last stamp is 2^63 or more.
+    Stamp,
+    /// There was no memory for its next step.
+    Memory,
+}
+
+/// An actor's stop.
+#[derive(Clone, Copy, Debug, PartialEq, Eq, Drop)]
+pub struct Stopped {
+    pub actor: ActorId,
+    pub stop: Stop,
+}

@@ -1,0 +1,54 @@
+// A world's parts, and the world that has them.
+ghost use Rattle.std.specs.Prelude.{◌≡◌, ◌≤◌, ◌^◌, [], length};
+ghost use Rattle.guest_pages.specs.Flat.{ArePages};
+ghost use Rattle.timer_trace.specs.States.{new_timer};
+ghost use Rattle.vm_world.specs.Worlds.{world_with};
+
+use super::World;
+use guest_pages::{Page, PageSet};
+use hart_rv64::Hart;
+use line_board::Board;
+use std::alloc::Global;
+use std::mem::replace;
+use timer_trace::Timer;
+
+/// What a world is made of: its pages by their numbers, the board, the timer, and the harts by their numbers.
+#[derive(Drop)]
+pub struct WorldParts {
+    pub pages: Vec<Page>,
+    pub board: Board,
+    pub timer: Timer,
+    pub harts: Vec<Hart>,
+}
+
+impl World {
+    /// Takes all parts out, and leaves a world with no page and no hart and with this board. It takes no memory.
+    pub fn take(&mut self, alloc: Global, board: Board) -> WorldParts
+        ensures parts { world_with result.pages.items result.board result.timer result.harts.items ≡ self.old }
+        ensures pages { ArePages 0 result.pages.items }
+        ensures few { length result.pages.items ≤ 2 ^ 28 }
+        ensures left { self.new ≡ world_with [] board new_timer [] }
+    {
+        let none = PageSet::from_pages(Vec::new(alloc));
+        WorldParts {
+            pages: replace(&mut self.pages, none).into_pages(),
+            board: replace(&mut self.board, board),
+            timer: replace(&mut self.timer, Timer::new()),
+            harts: replace(&mut self.harts, Vec::new(alloc)),
+        }
+    }
+
+    /// The world that has these parts. It takes no memory.
+    pub fn with_parts(parts: WorldParts) -> World
+        requires pages { ArePages 0 parts.pages.items }
+        requires few { length parts.pages.items ≤ 2 ^ 28 }
+        ensures { result ≡ world_with parts.pages.items parts.board parts.timer parts.harts.items }
+    {
+        World {
+            pages: PageSet::from_pages(parts.pages),
+            board: parts.board,
+            timer: parts.timer,
+            harts: parts.harts,
+        }
+    }
+}
