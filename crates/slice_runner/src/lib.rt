@@ -5,7 +5,6 @@ mod acting;
 mod locking;
 mod room;
 mod running;
-
 mod staffing;
 mod stop;
 mod worker;
