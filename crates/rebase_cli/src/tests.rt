@@ -121,21 +121,28 @@ fn diffs_are_merged_in_order_alone(rt: HostRuntime) -> Result<(), Fail> {
         assert_eq!(rt; ended, end, "{base} {diff}");
         assert_eq!(rt; str::from_utf8(out.taken()), Ok(line), "{base} {diff}");
     }
-    let Some(base) = files.find("m1") else {
-        return Err(Fail::from(AllocError));
-    };
-    assert_eq!(rt; base.len(), 36_864);
-    assert_eq!(rt;
-        base.get(64..81),
-        Some(b"\x05\0\0\0\0\0\0\0\x02\0\0\0\0\0\0\0\x01".as_slice())
-    );
-    assert_eq!(rt;
-        base.get(96..113),
-        Some(b"\x05\0\0\0\0\0\0\0\x03\0\0\0\0\0\0\0\x01".as_slice())
-    );
-    assert_eq!(rt; base.get(32_767..32_769), Some([0, 0xa5].as_slice()));
-    assert_eq!(rt; base.last(), Some(&0xa5));
+    // the slots' identities and gates, the end of page 6 and page 7, and the file's end
+    for (at, byte) in [
+        (64, Some(5)),
+        (72, Some(2)),
+        (80, Some(1)),
+        (96, Some(5)),
+        (104, Some(3)),
+        (112, Some(1)),
+        (113, Some(0)),
+        (32_767, Some(0)),
+        (32_768, Some(0xa5)),
+        (36_863, Some(0xa5)),
+        (36_864, None),
+    ] {
+        assert_eq!(rt; byte_at(&files, at), byte, "{at}");
+    }
     Ok(())
+}
+
+fn byte_at(files: &MemoryFiles, at: usize) -> Option<u8> {
+    let base = files.find("m1")?;
+    base.get(at).copied()
 }
 
 #[test]
