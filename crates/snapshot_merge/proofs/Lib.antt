@@ -3,3 +3,5 @@ pub mod Planned
 pub mod Staged
 pub mod Paging
 pub mod Whole
+pub mod Texts
+pub mod Overlaid

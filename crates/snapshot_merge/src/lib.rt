@@ -9,11 +9,13 @@
 mod error;
 mod finding;
 mod judging;
+mod law;
 mod merge;
 mod rebasing;
 mod room;
 mod stages;
 
 pub use error::RebaseError;
+pub use law::merged;
 pub use merge::{Merge, merge_of};
 pub use rebasing::rebase;

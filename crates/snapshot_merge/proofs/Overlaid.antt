@@ -1,0 +1,273 @@
+-- What the stages of a merge make of a copy's file.
+use Rattle.std.proofs.Common.{◌≡◌, ◌≢◌, ℕ, zero, suc, ◌+◌, ◌*◌, ◌<◌, ◌==◌, ◌&&◌, Bool, true, false, cond, not, List, [], ◌∷◌, ◌++◌, length, take, get_or, set, Some, Result, Ok, Err, refl, sym, ap, subst, ◌∙◌, arith, length-append}
+use Rattle.std.specs.Prelude.{slice_get}
+use Rattle.std.specs.List.{AllByRecursion, list_all}
+use Rattle.std.proofs.lemmas.Bool.{and_parts, eq-eqb, eqb-true, ne_eqb, false_from_ne_true}
+use Rattle.std.proofs.lemmas.List.{append-nil, get_or-set_same, length-set, set-set, take_at}
+use Rattle.vm_types.specs.Saved.{written}
+use Rattle.vm_types.specs.declared.identity.Identity.{Identity}
+use Rattle.refusals.specs.declared.refusal.Refusal.{Refusal}
+use Rattle.refusals.specs.declared.refusal.Refusal.TheVariants as refusal
+use Rattle.file_format.specs.Kinds.{byte, times, zeros}
+use Rattle.file_format.specs.Identities.{identity, is_numbered, is_same}
+use Rattle.snap_memory.specs.declared.header.MemHeader.{MemHeader}
+use Rattle.snap_memory.specs.declared.slot.Slot.{Slot}
+use Rattle.snap_memory.specs.Headers as memory
+use Rattle.snap_memory.specs.Slots.{is_open, is_zero, slot}
+use Rattle.snap_memory.proofs.Fronts.{length-header}
+use Rattle.snap_diff.specs.Copies.{DiffCopy, MemoryCopy, overlaid, rises, with_pages}
+use Rattle.snap_diff.specs.Headers as diffs
+use Rattle.snap_diff.specs.declared.header.DiffHeader.{DiffHeader}
+use Rattle.snap_diff.specs.Diffs.{IsDiffFile}
+use Rattle.snap_diff.specs.Found.{diff_found}
+use Rattle.snap_diff.proofs.Files as files
+use Rattle.snap_diff.proofs.Overlays.{stays_whole}
+use Rattle.snapshot_merge.specs.declared.merge.Merge.TheVariants.{Begin, GoOn}
+use Rattle.snapshot_merge.specs.Bases.{base_found}
+use Rattle.snapshot_merge.specs.Calls.{filling, stages, text_after}
+use Rattle.snapshot_merge.specs.Memories.{Holds, IsMemoryFile}
+use Rattle.snapshot_merge.specs.Merges.{new_merge, open_slots, unfinished_merge}
+use Rattle.snapshot_merge.specs.Plans.{plan_by, plan_with, planned}
+use Rattle.snapshot_merge.proofs.Judged.{base_good}
+use Rattle.snapshot_merge.proofs.Texts.{marked, named, opened, paged}
+
+-- ---- slots
+
+-- zeros are slots, of which none is open
+zeros_are_slots : (slots : List Slot) → list_all is_zero slots ≡ true → memory.are_slots slots ≡ true
+zeros_are_slots [] zeros = refl
+zeros_are_slots (s ∷ others) zeros =
+    let tests = and_parts (is_zero s) (list_all is_zero others) zeros in
+    let gate = (and_parts ((s.identity.lineage == 0) && (s.identity.number == 0)) (s.gate == 0) tests.0).1 in
+    let shut : is_open s ≡ false = ap (λ (n : ℕ). n == 1) (eqb-true s.gate 0 gate) in
+    ap (λ (b : Bool). cond b (is_numbered s.identity && memory.are_slots others) (list_all is_zero others)) shut ∙ tests.1
+
+last_of_zeros : (made_as : Identity) (slots : List Slot) → list_all is_zero slots ≡ true → memory.last_identity made_as slots ≡ made_as
+last_of_zeros made_as [] zeros = refl
+last_of_zeros made_as (s ∷ others) zeros =
+    let tests = and_parts (is_zero s) (list_all is_zero others) zeros in
+    let gate = (and_parts ((s.identity.lineage == 0) && (s.identity.number == 0)) (s.gate == 0) tests.0).1 in
+    let shut : is_open s ≡ false = ap (λ (n : ℕ). n == 1) (eqb-true s.gate 0 gate) in
+    ap (λ (b : Bool). cond b (memory.last_identity s.identity others) made_as) shut
+
+-- the next slot is opened: the slots are slots, and it is the last that is open
+module _ (t : Slot) (opens : is_open t ≡ true) (numbered : is_numbered t.identity ≡ true) where
+  next_opened : (s : Slot) (others : List Slot) (b : Bool) → is_open s ≡ b → memory.are_slots (s ∷ others) ≡ true
+      → (memory.are_slots others ≡ true → b ≡ true → memory.are_slots (set others (open_slots others) t) ≡ true)
+      → memory.are_slots (set (s ∷ others) (open_slots (s ∷ others)) t) ≡ true
+  next_opened s others true is are rest =
+      let tests = and_parts (is_numbered s.identity) (memory.are_slots others) (subst (λ (b : Bool). cond b (is_numbered s.identity && memory.are_slots others) (list_all is_zero others) ≡ true) is are) in
+      let count : open_slots (s ∷ others) ≡ suc (open_slots others) = ap (λ (b : Bool). cond b (suc (open_slots others)) 0) is in
+      ap (λ (n : ℕ). memory.are_slots (set (s ∷ others) n t)) count
+      ∙ ap (λ (b : Bool). cond b (is_numbered s.identity && memory.are_slots (set others (open_slots others) t)) (list_all is_zero (set others (open_slots others) t))) is
+      ∙ ap (λ (b : Bool). b && memory.are_slots (set others (open_slots others) t)) tests.0
+      ∙ rest tests.1 refl
+  next_opened s others false is are rest =
+      let zeros : list_all is_zero others ≡ true = subst (λ (b : Bool). cond b (is_numbered s.identity && memory.are_slots others) (list_all is_zero others) ≡ true) is are in
+      let count : open_slots (s ∷ others) ≡ 0 = ap (λ (b : Bool). cond b (suc (open_slots others)) 0) is in
+      ap (λ (n : ℕ). memory.are_slots (set (s ∷ others) n t)) count
+      ∙ ap (λ (b : Bool). cond b (is_numbered t.identity && memory.are_slots others) (list_all is_zero others)) opens
+      ∙ ap (λ (b : Bool). b && memory.are_slots others) numbered ∙ zeros_are_slots others zeros
+
+  more_left : (s : Slot) (others : List Slot) → is_open s ≡ true → open_slots (s ∷ others) < suc (length others) → open_slots others < length others
+  more_left s others is left = let count : open_slots (s ∷ others) ≡ suc (open_slots others) = ap (λ (b : Bool). cond b (suc (open_slots others)) 0) is in omega (arith, count, left)
+
+  pub are_open : (slots : List Slot) → open_slots slots < length slots → memory.are_slots slots ≡ true → memory.are_slots (set slots (open_slots slots) t) ≡ true
+  are_open [] left are = absurd (omega (arith, left))
+  are_open (s ∷ others) left are = next_opened s others (is_open s) refl are (λ rest is. are_open others (more_left s others is left) rest)
+
+  next_last : (made_as : Identity) (s : Slot) (others : List Slot) (b : Bool) → is_open s ≡ b → memory.are_slots (s ∷ others) ≡ true
+      → (memory.are_slots others ≡ true → b ≡ true → memory.last_identity s.identity (set others (open_slots others) t) ≡ t.identity)
+      → memory.last_identity made_as (set (s ∷ others) (open_slots (s ∷ others)) t) ≡ t.identity
+  next_last made_as s others true is are rest =
+      let tests = and_parts (is_numbered s.identity) (memory.are_slots others) (subst (λ (b : Bool). cond b (is_numbered s.identity && memory.are_slots others) (list_all is_zero others) ≡ true) is are) in
+      let count : open_slots (s ∷ others) ≡ suc (open_slots others) = ap (λ (b : Bool). cond b (suc (open_slots others)) 0) is in
+      ap (λ (n : ℕ). memory.last_identity made_as (set (s ∷ others) n t)) count
+      ∙ ap (λ (b : Bool). cond b (memory.last_identity s.identity (set others (open_slots others) t)) made_as) is
+      ∙ rest tests.1 refl
+  next_last made_as s others false is are rest =
+      let zeros : list_all is_zero others ≡ true = subst (λ (b : Bool). cond b (is_numbered s.identity && memory.are_slots others) (list_all is_zero others) ≡ true) is are in
+      let count : open_slots (s ∷ others) ≡ 0 = ap (λ (b : Bool). cond b (suc (open_slots others)) 0) is in
+      ap (λ (n : ℕ). memory.last_identity made_as (set (s ∷ others) n t)) count
+      ∙ ap (λ (b : Bool). cond b (memory.last_identity t.identity others) made_as) opens
+      ∙ last_of_zeros t.identity others zeros
+
+  pub last_opened : (made_as : Identity) (slots : List Slot) → open_slots slots < length slots → memory.are_slots slots ≡ true → memory.last_identity made_as (set slots (open_slots slots) t) ≡ t.identity
+  last_opened made_as [] left are = absurd (omega (arith, left))
+  last_opened made_as (s ∷ others) left are = next_last made_as s others (is_open s) refl are (λ rest is. last_opened s.identity others (more_left s others is left) rest)
+
+-- ---- headers that fit
+
+slots_fit : (h : MemHeader) → memory.header.Fits h → (length h.slots ≡ 100) × AllByRecursion slot.Fits h.slots
+unfolding memory.header times
+slots_fit h fits = fits.1.1.1.1.1.1.0
+
+slot_fits : (i : Identity) (gate : ℕ) → identity.Fits i → gate < 256 → slot.Fits (record { identity = i; gate = gate })
+unfolding slot byte zeros
+slot_fits i gate fits small = (fits, (small, tt))
+
+all_set : (slots : List Slot) (j : ℕ) (s : Slot) → AllByRecursion slot.Fits slots → slot.Fits s → AllByRecursion slot.Fits (set slots j s)
+all_set [] j s all fits = tt
+all_set (t ∷ ts) zero s all fits = (fits, all.1)
+all_set (t ∷ ts) (suc j) s all fits = (all.0, all_set ts j s all.1 fits)
+
+with_slot : (h : MemHeader) (j : ℕ) (s : Slot) → memory.header.Fits h → slot.Fits s → memory.header.Fits (record h { slots = set h.slots j s })
+unfolding memory.header times
+with_slot h j s fits fit =
+    (fits.0, (fits.1.0, (fits.1.1.0, (fits.1.1.1.0, (fits.1.1.1.1.0, (fits.1.1.1.1.1.0, ((length-set h.slots j s ∙ fits.1.1.1.1.1.1.0.0, all_set h.slots j s fits.1.1.1.1.1.1.0.1 fit), fits.1.1.1.1.1.1.1)))))))
+
+with_mark : (h : MemHeader) (v : ℕ) → memory.header.Fits h → v < 256 → memory.header.Fits (record h { merging = v })
+unfolding memory.header byte
+with_mark h v fits small = (fits.0, (fits.1.0, (fits.1.1.0, (fits.1.1.1.0, (small, fits.1.1.1.1.1)))))
+
+gate_fits : (slots : List Slot) (j : ℕ) (s : Slot) → AllByRecursion slot.Fits slots → slot.Fits s → (get_or slots j s).gate < 256
+unfolding slot byte
+gate_fits [] j s all fits = fits.1.0
+gate_fits (t ∷ ts) zero s all fits = all.0.1.0
+gate_fits (t ∷ ts) (suc j) s all fits = gate_fits ts j s all.1 fits
+
+identity_fits : (h : DiffHeader) → diffs.header.Fits h → identity.Fits h.identity
+unfolding diffs.header
+identity_fits h fits = fits.1.1.1.1.0
+
+in_range : (slots : List Slot) (j : ℕ) (s : Slot) → slice_get slots j ≡ Some s → j < length slots
+in_range [] j s there = absurd cc
+in_range (t ∷ ts) zero s there = omega arith
+in_range (t ∷ ts) (suc j) s there = let rest = in_range ts j s there in omega (arith, rest)
+
+got : (slots : List Slot) (j : ℕ) (s t : Slot) → slice_get slots j ≡ Some s → get_or slots j t ≡ s
+got [] j s t there = absurd cc
+got (u ∷ us) zero s t there = cc
+got (u ∷ us) (suc j) s t there = got us j s t there
+
+-- a slot that is there is found whatever stands in for one that isn't
+same_get : (slots : List Slot) (j : ℕ) (s t : Slot) → j < length slots → get_or slots j s ≡ get_or slots j t
+same_get [] j s t lt = absurd (omega (arith, lt))
+same_get (u ∷ us) zero s t lt = refl
+same_get (u ∷ us) (suc j) s t lt = same_get us j s t (omega (arith, lt))
+
+-- ---- the merge of a diff into a base's file
+
+module _ (given file : List ℕ) (head : MemHeader) (m : MemoryCopy) (d : DiffCopy) (holds : Holds given head m) (is : IsDiffFile file d) (pages : d.pages ≡ m.pages) where
+  abbrev merged_head : MemHeader
+  merged_head = record head { merging = 0; slots = set head.slots (open_slots head.slots) (record { identity = d.identity; gate = 1 }) }
+
+  tests : (is_numbered head.made_as ≡ true) × (memory.are_slots head.slots ≡ true)
+  tests = and_parts (is_numbered head.made_as) (memory.are_slots head.slots) holds.valid
+
+  diff_header : (diffs.is_header (diffs.header_of d) ≡ true) × (rises d.pages 0 d.numbers ≡ true)
+  diff_header = and_parts (diffs.is_header (diffs.header_of d)) (rises d.pages 0 d.numbers) is.valid
+
+  numbered : is_numbered d.identity ≡ true
+  numbered = (and_parts (is_numbered d.parent) (is_numbered d.identity) (and_parts (is_numbered d.parent && is_numbered d.identity) (not (is_same d.parent d.identity)) diff_header.0).0).1
+
+  of_identity : identity.Fits d.identity
+  of_identity = identity_fits (diffs.header_of d) (files.parts_fit d is.fits).0
+
+  size : length head.slots ≡ 100
+  size = (slots_fit head holds.fits).0
+
+  fit : slot.Fits (record { identity = d.identity; gate = 1 })
+  fit = slot_fits d.identity 1 of_identity (omega arith)
+
+  rise : rises m.pages 0 d.numbers ≡ true
+  rise = subst (λ (n : ℕ). rises n 0 d.numbers ≡ true) pages diff_header.1
+
+  -- the last stages, from a header whose next slot has the diff's identity
+  fill_of : (h : MemHeader) (s : Slot) → memory.header.Fits h → h.pages ≡ head.pages → h.made_as ≡ head.made_as
+      → set h.slots (open_slots head.slots) (record { identity = d.identity; gate = 1 }) ≡ set head.slots (open_slots head.slots) (record { identity = d.identity; gate = 1 })
+      → open_slots head.slots < 100 → get_or h.slots (open_slots head.slots) (record { identity = d.identity; gate = 1 }) ≡ s → s.identity ≡ d.identity
+      → text_after (filling (open_slots head.slots) d) (memory.header.bytes h ++ m.bytes) ≡ memory.header.bytes merged_head ++ with_pages d.numbers d.bytes m.bytes
+  fill_of h s fits same_pages same_made same_slots left there same =
+      let slots : List Slot = set h.slots (open_slots head.slots) (record { identity = d.identity; gate = 1 }) in
+      let laid : List ℕ = with_pages d.numbers d.bytes m.bytes in
+      let open_h : MemHeader = record h { slots = slots } in
+      ap (λ (t : List ℕ). written (written t (64 + 32 * open_slots head.slots + 16) (1 ∷ [])) 32 (0 ∷ []))
+      (paged h m.bytes fits d.numbers m.pages 0 d.bytes m.bytes rise holds.whole (files.whole file d is).size)
+      ∙ ap (λ (t : List ℕ). written t 32 (0 ∷ []))
+      (opened h laid fits (open_slots head.slots) d.identity s ((slots_fit h fits).0) left there same)
+      ∙ marked open_h laid (with_slot h (open_slots head.slots) (record { identity = d.identity; gate = 1 }) fits fit) 0
+      ∙ ap (λ (p : ℕ × Identity × List Slot). memory.header.bytes (record { pages = p.0; made_as = p.1; merging = 0; slots = p.2 }) ++ laid)
+      (λ i. (same_pages i, same_made i, same_slots i))
+
+  -- it is a file of the overlaid copy
+  is_overlaid : (text : List ℕ) → open_slots head.slots < 100 → text ≡ memory.header.bytes merged_head ++ with_pages d.numbers d.bytes m.bytes → IsMemoryFile text (overlaid m d)
+  is_overlaid text left text_is = record {
+    head = merged_head;
+    settled = refl;
+    holds = record {
+      fits = with_mark (record head { slots = set head.slots (open_slots head.slots) (record { identity = d.identity; gate = 1 }) }) 0 (with_slot head (open_slots head.slots) (record { identity = d.identity; gate = 1 }) holds.fits fit) (omega arith);
+      valid = ap (λ (b : Bool). b && memory.are_slots (set head.slots (open_slots head.slots) (record { identity = d.identity; gate = 1 }))) tests.0
+          ∙ are_open (record { identity = d.identity; gate = 1 }) refl numbered head.slots (omega (arith, left, size)) tests.1;
+      pages = holds.pages;
+      identity = last_opened (record { identity = d.identity; gate = 1 }) refl numbered head.made_as head.slots (omega (arith, left, size)) tests.1;
+      whole = stays_whole m d holds.whole (files.whole file d is) pages;
+      bytes = text_is;
+    };
+  }
+
+  pub from_slot : (s : Slot) → slice_get head.slots (open_slots head.slots) ≡ Some s → s.identity ≡ d.identity
+      → IsMemoryFile (text_after (stages (GoOn (open_slots head.slots)) d) given) (overlaid m d)
+  from_slot s there same =
+      let left = in_range head.slots (open_slots head.slots) s there in
+      is_overlaid _ (omega (arith, left, size))
+      (ap (text_after (filling (open_slots head.slots) d)) holds.bytes
+      ∙ fill_of head s holds.fits refl refl refl (omega (arith, left, size)) (got head.slots (open_slots head.slots) s (record { identity = d.identity; gate = 1 }) there) same)
+
+  pub from_start : open_slots head.slots < 100 → IsMemoryFile (text_after (stages (Begin (open_slots head.slots)) d) given) (overlaid m d)
+  from_start left =
+      let s : Slot = get_or head.slots (open_slots head.slots) (record { identity = d.identity; gate = 1 }) in
+      let t : Slot = record { identity = d.identity; gate = s.gate } in
+      let named_head : MemHeader = record head { slots = set head.slots (open_slots head.slots) t } in
+      let gate : s.gate < 256 = gate_fits head.slots (open_slots head.slots) (record { identity = d.identity; gate = 1 }) (slots_fit head holds.fits).1 fit in
+      let named_fits = with_slot head (open_slots head.slots) t holds.fits (slot_fits d.identity s.gate of_identity gate) in
+      let marked_head : MemHeader = record named_head { merging = 1 } in
+      is_overlaid _ left
+      (ap (λ (l : List ℕ). text_after (filling (open_slots head.slots) d) (written (written l (64 + 32 * open_slots head.slots) (identity.bytes d.identity)) 32 (1 ∷ []))) holds.bytes
+      ∙ ap (λ (l : List ℕ). text_after (filling (open_slots head.slots) d) (written l 32 (1 ∷ [])))
+      (named head m.bytes holds.fits (open_slots head.slots) d.identity s size left (same_get head.slots (open_slots head.slots) t (record { identity = d.identity; gate = 1 }) (omega (arith, left, size))))
+      ∙ ap (text_after (filling (open_slots head.slots) d)) (marked named_head m.bytes named_fits 1)
+      ∙ fill_of marked_head t (with_mark named_head 1 named_fits (omega arith)) refl refl (set-set head.slots (open_slots head.slots) t (record { identity = d.identity; gate = 1 })) left
+      (get_or-set_same head.slots (open_slots head.slots) t (record { identity = d.identity; gate = 1 }) (omega (arith, left, size))) refl)
+
+-- ---- the plan
+
+same_identity : (i : Identity) → is_same i i ≡ true
+same_identity i = ap (λ (b : Bool). b && (i.number == i.number)) (eq-eqb i.lineage i.lineage refl) ∙ eq-eqb i.number i.number refl
+
+same_when : (a b : Identity) → is_same a b ≡ true → a ≡ b
+same_when a b e =
+    let both = and_parts (a.lineage == b.lineage) (a.number == b.number) e in
+    λ i. record { lineage = eqb-true a.lineage b.lineage both.0 i; number = eqb-true a.number b.number both.1 i }
+
+module _ (given file : List ℕ) (m : MemoryCopy) (d : DiffCopy) (is : IsMemoryFile given m) (diff : IsDiffFile file d) (pages : d.pages ≡ m.pages) where
+  front_is : take 4096 given ≡ memory.header.bytes is.head
+  front_is = ap (take 4096) is.holds.bytes ∙ take_at (memory.header.bytes is.head) m.bytes 4096 (length-header is.head is.holds.fits)
+
+  base_is : base_found (Some given) ≡ Ok is.head
+  base_is =
+      base_good (length given) (take 4096 given) is.head
+      (record { fits = is.holds.fits; valid = is.holds.valid; pages = []; bytes = front_is ∙ sym (append-nil (memory.header.bytes is.head)) })
+      ∙ ap (λ (b : Bool). cond b (Ok is.head) (Err refusal.SizesDiffer))
+      (eq-eqb (length given) (4096 + 4096 * is.head.pages) (omega (arith, ap length is.holds.bytes, length-append (memory.header.bytes is.head) m.bytes, length-header is.head is.holds.fits, is.holds.whole, is.holds.pages)))
+
+  planned_is : planned (Some given) (Some file) ≡ plan_with d (new_merge is.head (diffs.header_of d))
+  planned_is =
+      ap (λ (r : Result MemHeader Refusal). plan_by r (diff_found (Some file))) base_is
+      ∙ ap (plan_by (Ok is.head)) (files.found_again file d diff)
+      ∙ ap (λ (b : Bool). plan_with d (cond (not b) (Err refusal.SizesDiffer) (cond (is.head.merging == 0) (new_merge is.head (diffs.header_of d)) (unfinished_merge is.head (diffs.header_of d) (slice_get is.head.slots (open_slots is.head.slots))))))
+      (eq-eqb d.pages is.head.pages (pages ∙ sym is.holds.pages))
+      ∙ ap (λ (n : ℕ). plan_with d (cond (n == 0) (new_merge is.head (diffs.header_of d)) (unfinished_merge is.head (diffs.header_of d) (slice_get is.head.slots (open_slots is.head.slots))))) is.settled
+
+  pub is_begun : d.parent ≡ m.identity → open_slots is.head.slots < 100 → planned (Some given) (Some file) ≡ Ok (record { diff = d; merge = Begin (open_slots is.head.slots) })
+  is_begun parent left =
+      let same : is_same d.parent (memory.identity_of is.head) ≡ true = ap (λ (i : Identity). is_same d.parent i) (is.holds.identity ∙ sym parent) ∙ same_identity d.parent in
+      planned_is
+      ∙ ap (λ (b : Bool). plan_with d (cond (not b) (Err refusal.ParentDiffers) (cond (open_slots is.head.slots == 100) (Err refusal.NoSlotLeft) (Ok (Begin (open_slots is.head.slots)))))) same
+      ∙ ap (λ (b : Bool). plan_with d (cond b (Err refusal.NoSlotLeft) (Ok (Begin (open_slots is.head.slots))))) (ne_eqb (open_slots is.head.slots) 100 (λ full. omega (arith, full, left)))
+
+  pub is_foreign : d.parent ≢ m.identity → planned (Some given) (Some file) ≡ Err refusal.ParentDiffers
+  is_foreign other =
+      let differs : is_same d.parent (memory.identity_of is.head) ≡ false = false_from_ne_true _ (λ e. other (same_when d.parent (memory.identity_of is.head) e ∙ is.holds.identity)) in
+      planned_is
+      ∙ ap (λ (b : Bool). plan_with d (cond (not b) (Err refusal.ParentDiffers) (cond (open_slots is.head.slots == 100) (Err refusal.NoSlotLeft) (Ok (Begin (open_slots is.head.slots)))))) differs

@@ -1,0 +1,29 @@
+// What a merge makes of its base.
+ghost use Rattle.std.specs.Prelude.{◌≡◌, ◌≢◌, ◌<◌, List, ℕ, Some, Ok, Err, slice_get};
+ghost use Rattle.refusals.specs.declared.refusal.Refusal.TheVariants as refusal;
+ghost use Rattle.snap_memory.specs.declared.header.MemHeader.{MemHeader};
+ghost use Rattle.snap_memory.specs.declared.slot.Slot.{Slot};
+ghost use Rattle.snap_diff.specs.Copies.{DiffCopy, Joins, MemoryCopy, overlaid};
+ghost use Rattle.snap_diff.specs.Diffs.{IsDiffFile};
+ghost use Rattle.snapshot_merge.specs.Calls.{stages, text_after};
+ghost use Rattle.snapshot_merge.specs.Memories.{Holds, IsMemoryFile};
+ghost use Rattle.snapshot_merge.specs.Merges.{open_slots};
+ghost use Rattle.snapshot_merge.specs.Plans.{planned};
+ghost use Rattle.snapshot_merge.specs.declared.merge.Merge.{Merge};
+
+/// A diff that is of the base's copy is merged where a slot is left, and what its stages leave is a file of the copy
+/// that it makes. Merges that were cut off leave the same from where they are gone on with.
+pub fn merged()
+    ensures begun { (given file : List ℕ) (m : MemoryCopy) (d : DiffCopy) (is : IsMemoryFile given m) →
+        IsDiffFile file d → Joins m d → open_slots is.head.slots < 100 →
+        planned (Some given) (Some file) ≡ Ok (record { diff = d; merge = Merge.Begin (open_slots is.head.slots) }) }
+    ensures whole { (given file : List ℕ) (m : MemoryCopy) (d : DiffCopy) (is : IsMemoryFile given m) →
+        IsDiffFile file d → Joins m d → open_slots is.head.slots < 100 →
+        IsMemoryFile (text_after (stages (Merge.Begin (open_slots is.head.slots)) d) given) (overlaid m d) }
+    ensures gone_on { (given file : List ℕ) (head : MemHeader) (m : MemoryCopy) (d : DiffCopy) (slot : Slot) →
+        Holds given head m → IsDiffFile file d → d.pages ≡ m.pages → slice_get head.slots (open_slots head.slots) ≡ Some slot →
+        slot.identity ≡ d.identity →
+        IsMemoryFile (text_after (stages (Merge.GoOn (open_slots head.slots)) d) given) (overlaid m d) }
+    ensures again { (given file : List ℕ) (m : MemoryCopy) (d : DiffCopy) → IsMemoryFile given m → IsDiffFile file d →
+        d.pages ≡ m.pages → d.parent ≢ m.identity → planned (Some given) (Some file) ≡ Err refusal.ParentDiffers }
+{}
