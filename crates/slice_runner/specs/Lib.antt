@@ -1,3 +1,4 @@
+pub mod Ended
 pub mod Locks
 pub mod Room
 pub mod Runs

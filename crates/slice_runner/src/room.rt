@@ -6,17 +6,14 @@ use crate::stop::Stopped;
 use crate::worker::HartWorker;
 use guest_pages::Page;
 use hart_rv64::Hart;
-use line_board::Board;
 use place_locks::Locked;
 use stamp_merge::{History, Journal};
 use std::alloc::{AllocError, Global};
 use vm_types::{Entry, Openings};
 
-/// Empty lists for pages that go under locks and come back with their histories, a number for each history, and a board
-/// that stands where the world's was.
+/// Empty lists for pages that go under locks and come back with their histories, and a number for each history.
 #[derive(Drop)]
 pub struct PlaceRoom<K: Openings<Page>> {
-    pub board: Board,
     pub locks: Vec<Locked<Page, K>>,
     pub pages: Vec<Page>,
     pub histories: Vec<History>,
@@ -55,13 +52,11 @@ impl<K: Openings<Page>> PlaceRoom<K> {
         requires { pages ≤ 2 ^ 28 }
         ensures { IfOk result (λ room. ForPlaces pages room) }
     {
-        let board = Board::new(alloc, 0)?;
         let locks = Vec::with_capacity(alloc, pages)?;
         let home = Vec::with_capacity(alloc, pages)?;
         let histories = Vec::with_capacity(alloc, pages + 1)?;
         let met = vec![in alloc; 0; pages + 1]?;
         Ok(PlaceRoom {
-            board,
             locks,
             pages: home,
             histories,
