@@ -5,4 +5,5 @@ pub mod Runs
 pub mod Slices
 pub mod Staff
 pub mod Stops
+pub mod Unshared
 pub mod Values

@@ -8,7 +8,8 @@ ghost use Rattle.stamp_merge.specs.Order.{IsOrder};
 ghost use Rattle.stamp_merge.specs.Parts.{Agree, AreLaid, IsTorn};
 ghost use Rattle.vm_world.specs.Worlds.{world_with};
 ghost use Rattle.slice_runner.specs.Room.{HasRoom};
-ghost use Rattle.slice_runner.specs.Slices.{IsSlice, IsTornSlice};
+ghost use Rattle.slice_runner.specs.Slices.{IsSlice};
+ghost use Rattle.slice_runner.specs.Unshared.{IsUnshared};
 ghost use Rattle.slice_runner.specs.Values.{page_at};
 
 use crate::locking::{lock_pages, unlock_board, unlock_pages};
@@ -37,7 +38,15 @@ pub struct Shared {
     pub stops: Vec<Stopped>,
 }
 
-/// What it leaves where journals and histories part.
+/// What it leaves where it hands out no events: the journals and the histories, which part; or the parts of the world as
+/// they were, where there was no memory for the locks.
+#[derive(Drop)]
+pub enum Unshared {
+    Parted(Parted),
+    OutOfMemory(WorldParts),
+}
+
+/// Where journals and histories part.
 #[derive(Drop)]
 pub struct Parted {
     pub torn: Torn,
@@ -81,9 +90,9 @@ pub fn share<
     clock: &mut C,
     passes: &mut Vec<Q>,
     parts: WorldParts,
-    room: Room<K, Q>,
+    room: Room<Q>,
     n: u32,
-) -> Result<Shared, Parted>
+) -> Result<Shared, Unshared>
     requires pages { ArePages 0 parts.pages.items }
     requires few { length parts.pages.items ≤ 2 ^ 28 }
     requires harts { length parts.harts.items ≤ 32 }
@@ -96,19 +105,21 @@ pub fn share<
         (world_with parts.pages.items parts.board parts.timer parts.harts.items) shared.events.items
         (world_with shared.parts.pages.items shared.parts.board shared.parts.timer shared.parts.harts.items)
         shared.stops.items passes.old.items passes.new.items) }
-    ensures parted { IfErr result (λ parted. IsTornSlice
+    ensures unshared { IfErr result (λ why. IsUnshared
         (world_with parts.pages.items parts.board parts.timer parts.harts.items)
-        parted.torn parted.journals.items parted.histories.items) }
+        (C.known clock.old) (C.known clock.new) passes.old.items passes.new.items why) }
     ensures serve { All (G.serves gate.now) passes.new.items }
     ensures same { length passes.new.items ≡ length passes.old.items }
 {
+    let Ok(mut locks) = Vec::<Locked<Page, K>>::with_capacity(alloc, parts.pages.len()) else {
+        return Err(Unshared::OutOfMemory(parts));
+    };
     let Room {
         places,
         actors,
         events,
     } = room;
     let PlaceRoom {
-        mut locks,
         mut pages,
         mut histories,
         mut met,
@@ -145,11 +156,11 @@ pub fn share<
         met.as_mut_slice(),
     );
     if let Err(torn) = agreed {
-        return Err(Parted {
+        return Err(Unshared::Parted(Parted {
             torn,
             journals,
             histories,
-        });
+        }));
     }
     let parts = WorldParts {
         pages,

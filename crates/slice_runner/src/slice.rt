@@ -6,7 +6,7 @@ ghost use Rattle.slice_runner.specs.Ended.{HasFailed};
 ghost use Rattle.slice_runner.specs.Stops.{AreStopped};
 
 use crate::room::Room;
-use crate::sharing::{Parted, Shared, share};
+use crate::sharing::{Parted, Shared, Unshared, share};
 use crate::stop::Stopped;
 use line_board::Board;
 use pause_gate::Gate;
@@ -84,7 +84,7 @@ pub fn run_slice<
 {
     let pages = world.pages().len();
     let harts = world.hart_count();
-    let Ok(room) = Room::<Brand, Q>::new(alloc, pages, harts, passes.len(), n) else {
+    let Ok(room) = Room::<Q>::new(alloc, pages, harts, passes.len(), n) else {
         return Err(SliceError::OutOfMemory);
     };
     let Ok(board) = Board::new(alloc, 0) else {
@@ -101,7 +101,7 @@ pub fn run_slice<
             *world = World::with_parts(parts);
             Ok(Slice { events, stops })
         }
-        Err(parted) => {
+        Err(Unshared::Parted(parted)) => {
             let Parted {
                 torn,
                 journals,
@@ -112,6 +112,10 @@ pub fn run_slice<
                 journals,
                 histories,
             })
+        }
+        Err(Unshared::OutOfMemory(parts)) => {
+            *world = World::with_parts(parts);
+            Err(SliceError::OutOfMemory)
         }
     }
 }

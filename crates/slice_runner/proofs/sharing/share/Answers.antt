@@ -52,15 +52,15 @@ agree-agreed-requires-clause-room g c =
 
 pub agree-agreed-requires-clause-laid : goal.agree-agreed-requires-clause-laid
 agree-agreed-requires-clause-laid g c =
-    let long : c.len.result ≡ length c.args.parts.pages.items = omega (arith, c.len.ensures, c.args.parts.pages.ok.0) in
+    let long : c.len-2.result ≡ length c.args.parts.pages.items = omega (arith, c.len-2.ensures, c.args.parts.pages.ok.0) in
     let home = subst (λ (k : ℕ). AreHome g.K.Openings.opening k c.unlock_pages.new.pages.items c.unlock_pages.new.histories.items) c.lock_pages.ensures.count c.unlock_pages.ensures.home in
     let board = c.unlock_board-board.ensures in
-    subst (λ (hs : List History). AreLaid (record { pages = c.len.result; ports = 0 }) 0 hs) (sym (c.as_slice-3.ensures.value ∙ board.1))
+    subst (λ (hs : List History). AreLaid (record { pages = c.len-2.result; ports = 0 }) 0 hs) (sym (c.as_slice-3.ensures.value ∙ board.1))
     (subst (λ (k : ℕ). AreLaid (record { pages = k; ports = 0 }) 0 (c.unlock_pages.new.histories.items ++ board.0 ∷ [])) (sym long)
     (laid g.K.Openings.opening g.L.Openings.opening (length c.args.parts.pages.items) c.unlock_pages.new.pages.items c.unlock_board-board.result c.unlock_pages.new.histories.items board.0 home board.2))
 
-pub returns-in-Err-clause-parted : goal.returns-in-Err-clause-parted
-returns-in-Err-clause-parted g c =
+pub returns-in-Err-clause-unshared : goal.returns-in-Err-clause-unshared
+returns-in-Err-clause-unshared g c =
     let size : length c.as_slice.result.now ≡ length c.args.parts.pages.items = ap length c.as_slice.ensures.value ∙ c.lock_pages.ensures.count in
     let serves = g.G.Gate.serves c.args.gate.now in
     let closed = g.G.Gate.closed in
@@ -115,8 +115,8 @@ returns-clause-shared g c =
     let old = world_with c.args.parts.pages.items c.args.parts.board c.args.parts.timer c.args.parts.harts.items in
     let begun : AreOpen g.K.Openings.opening c.args.parts.pages.items = λ i d below. get_or_default c.args.parts.pages.items i d (new_page 0) below ∙ sym (c.requires.opening (PlaceId.Page i)) in
     let histories : c.as_slice-3.result.now ≡ c.unlock_pages.new.histories.items ++ board.0 ∷ [] = c.as_slice-3.ensures.value ∙ board.1 in
-    let order = subst (λ (js : List Journal). IsOrder (all_of (journals_of js)) c.agree-agreed.new.events.items) c.as_slice-2.ensures.value c.in_default.ensures.order in
-    let agreed = subst (λ (hs : List History). Agree c.agree-agreed.new.events.items hs) histories c.in_default.ensures.agrees in
+    let order = subst (λ (js : List Journal). IsOrder (all_of (journals_of js)) c.agree-agreed.new.events.items) c.as_slice-2.ensures.value c.in_default-agreed.ensures.order in
+    let agreed = subst (λ (hs : List History). Agree c.agree-agreed.new.events.items hs) histories c.in_default-agreed.ensures.agrees in
     subst (λ (u : TimerValue). IsSlice closed n asked now old c.agree-agreed.new.events.items (world_with c.unlock_pages.new.pages.items c.unlock_board-board.result u c.dismiss-timer.new.harts.items) c.dismiss-timer.new.stops.items passes c.dismiss-timer.new.passes.items) (sym c.dismiss-timer.ensures.timer)
     (whole serves closed n asked now old g.K.Openings.opening g.L.Openings.opening t c.run_all.new.timer ws c.run_all.new.harts.items left passes c.dismiss-timer.new.passes.items c.unlock_pages.new.pages.items c.unlock_board-board.result c.dismiss-timer.new.harts.items c.unlock_pages.new.histories.items board.0 c.dismiss-timer.new.journals.items c.dismiss-timer.new.stops.items c.agree-agreed.new.events.items c.requires.pages begun c.requires.board staffed ends worked c.dismiss-timer.ensures.back home board.2 order agreed)
 
