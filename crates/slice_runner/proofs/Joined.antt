@@ -26,7 +26,7 @@ join_of : {A : Type 0} (P : A → Type 0) (xs ys : List A) → AllByRecursion P 
 join_of P [] ys h k = k
 join_of P (x ∷ xs) ys h k = (h.0, join_of P xs ys h.1 k)
 
-long_map : {A B : Type 0} (f : A → B) (xs : List A) → length (map f xs) ≡ length xs
+pub long_map : {A B : Type 0} (f : A → B) (xs : List A) → length (map f xs) ≡ length xs
 long_map f [] = refl
 long_map f (x ∷ xs) = let e = long_map f xs in omega (arith, e)
 

@@ -6,9 +6,7 @@ use Rattle.slice_runner.specs.declared.room.PlaceRoom.{PlaceRoom}
 use Rattle.slice_runner.specs.declared.room.Room.{Room}
 
 -- empty lists with room for so many pages
-pub record ForPlaces {K : Type 0} (pages : ℕ) (room : PlaceRoom K) : Type 0 where
-  pub no_locks : room.locks.items ≡ []
-  pub for_locks : pages ≤ vec_capacity room.locks
+pub record ForPlaces (pages : ℕ) (room : PlaceRoom) : Type 0 where
   pub no_pages : room.pages.items ≡ []
   pub for_pages : pages ≤ vec_capacity room.pages
   pub no_histories : room.histories.items ≡ []
@@ -37,7 +35,7 @@ pub record ForEvents (actors n : ℕ) (room : EventRoom) : Type 0 where
   pub no_events : room.events.items ≡ []
   pub for_events : actors * n ≤ vec_capacity room.events
 
-pub record HasRoom {K Q : Type 0} (pages harts passes n : ℕ) (room : Room K Q) : Type 0 where
+pub record HasRoom {Q : Type 0} (pages harts passes n : ℕ) (room : Room Q) : Type 0 where
   pub places : ForPlaces pages room.places
   pub actors : ForActors harts passes n room.actors
   pub events : ForEvents (harts + 1) n room.events

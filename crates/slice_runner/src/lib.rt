@@ -5,8 +5,12 @@ mod acting;
 mod locking;
 mod room;
 mod running;
+
+mod sharing;
+mod slice;
 mod staffing;
 mod stop;
 mod worker;
 
+pub use slice::{Slice, SliceError, run_slice};
 pub use stop::{Stop, Stopped};

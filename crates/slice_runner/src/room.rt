@@ -6,18 +6,13 @@ use crate::stop::Stopped;
 use crate::worker::HartWorker;
 use guest_pages::Page;
 use hart_rv64::Hart;
-use line_board::Board;
-use place_locks::Locked;
 use stamp_merge::{History, Journal};
 use std::alloc::{AllocError, Global};
-use vm_types::{Entry, Openings};
+use vm_types::Entry;
 
-/// Empty lists for pages that go under locks and come back with their histories, a number for each history, and a board
-/// that stands where the world's was.
+/// Empty lists for pages that come back from under their locks with their histories, and a number for each history.
 #[derive(Drop)]
-pub struct PlaceRoom<K: Openings<Page>> {
-    pub board: Board,
-    pub locks: Vec<Locked<Page, K>>,
+pub struct PlaceRoom {
     pub pages: Vec<Page>,
     pub histories: Vec<History>,
     pub met: Vec<usize>,
@@ -44,25 +39,21 @@ pub struct EventRoom {
 
 /// Room for all that a slice moves and writes down.
 #[derive(Drop)]
-pub struct Room<K: Openings<Page>, Q> {
-    pub places: PlaceRoom<K>,
+pub struct Room<Q> {
+    pub places: PlaceRoom,
     pub actors: ActorRoom<Q>,
     pub events: EventRoom,
 }
 
-impl<K: Openings<Page>> PlaceRoom<K> {
-    fn new(alloc: Global, pages: usize) -> Result<PlaceRoom<K>, AllocError>
+impl PlaceRoom {
+    fn new(alloc: Global, pages: usize) -> Result<PlaceRoom, AllocError>
         requires { pages ≤ 2 ^ 28 }
         ensures { IfOk result (λ room. ForPlaces pages room) }
     {
-        let board = Board::new(alloc, 0)?;
-        let locks = Vec::with_capacity(alloc, pages)?;
         let home = Vec::with_capacity(alloc, pages)?;
         let histories = Vec::with_capacity(alloc, pages + 1)?;
         let met = vec![in alloc; 0; pages + 1]?;
         Ok(PlaceRoom {
-            board,
-            locks,
             pages: home,
             histories,
             met,
@@ -119,7 +110,7 @@ impl EventRoom {
     }
 }
 
-impl<K: Openings<Page>, Q: Drop> Room<K, Q> {
+impl<Q: Drop> Room<Q> {
     /// Room for so many pages, harts and passes, and for so many steps of each actor.
     pub fn new(
         alloc: Global,
@@ -127,7 +118,7 @@ impl<K: Openings<Page>, Q: Drop> Room<K, Q> {
         harts: usize,
         passes: usize,
         n: u32,
-    ) -> Result<Room<K, Q>, AllocError>
+    ) -> Result<Room<Q>, AllocError>
         requires pages { pages ≤ 2 ^ 28 }
         requires harts { harts ≤ 32 }
         ensures { IfOk result (λ room. HasRoom pages harts passes n room) }
