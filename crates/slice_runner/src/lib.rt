@@ -5,7 +5,6 @@ mod acting;
 mod locking;
 mod room;
 mod running;
-
 mod sharing;
 mod slice;
 mod staffing;
