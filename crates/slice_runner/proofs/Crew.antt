@@ -132,7 +132,7 @@ module _ {Q : Type 0} (count : ℕ) where
   crew_own k (v ∷ vs) (h ∷ hs) crew = (
     subst (λ (a : ActorId). AllByRecursion (λ (e : Entry). e.actor ≡ a) v.track.journal.items) (sym crew.0) crew.1.own,
     subst (λ (a : ActorId). AllByRecursion (λ (j : ActorId × List Entry). same_actor j.0 a ≡ false) (harts_journals vs)) (sym crew.0)
-    (others (suc k) k vs hs crew.2 (omega arith)),
+        (others (suc k) k vs hs crew.2 (omega arith)),
     crew_own (suc k) vs hs crew.2,
   )
 

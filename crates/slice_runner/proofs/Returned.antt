@@ -41,9 +41,9 @@ homes_from opening i (p ∷ ps) (h ∷ hs) long each =
     let here : i + 0 ≡ i = omega arith in (
       subst (λ n. IsHome opening n p h) here (each 0 p h one),
       homes_from opening (suc i) ps hs (omega (arith, long))
-      (λ j x y below. let more : suc j < length (p ∷ ps) = omega (arith, below) in
-      let e : i + suc j ≡ suc i + j = omega arith in
-      subst (λ n. IsHome opening n (get_or ps j x) (get_or hs j y)) e (each (suc j) x y more)),
+          (λ j x y below. let more : suc j < length (p ∷ ps) = omega (arith, below) in
+          let e : i + suc j ≡ suc i + j = omega arith in
+          subst (λ n. IsHome opening n (get_or ps j x) (get_or hs j y)) e (each (suc j) x y more)),
     )
 
 pub homes : (opening : PlaceId → PageValue) (count : ℕ) (ps : List PageValue) (hs : List History) → AreHome opening count ps hs → Homes opening 0 ps hs
@@ -67,7 +67,7 @@ laid_from opening n i (p ∷ ps) (h ∷ hs) hb home all is =
       ap (place_index (record { pages = n; ports = 0 })) home.0.lock,
       ap is_out home.0.lock,
       subst (λ k. AreLaid (record { pages = n; ports = 0 }) k (hs ++ hb ∷ [])) (sym e)
-      (laid_from opening n (suc i) ps hs hb home.1 (omega (arith, all)) is),
+          (laid_from opening n (suc i) ps hs hb home.1 (omega (arith, all)) is),
     )
 
 pub laid : (opening : PlaceId → PageValue) (board_opening : PlaceId → Board) (count : ℕ) (ps : List PageValue) (b : Board) (hs : List History) (hb : History)

@@ -178,6 +178,7 @@ module _ (w : WorldValue) (are : ArePages 0 w.pages) (actor : ActorId) (op : Op)
       marks_by same answer =
           marked_by (page_or_none w.pages i) actor op
           ∙ (λ j. (same j).marked || is_written op (sym answer j))
+
       at_page : i < length w.pages → (p : PlaceId)
           → vals_after place_touch (places_of w) (at (PlaceId.Page i)) p ≡ places_of (world_after w (at (PlaceId.Page i))) p
       at_page there (PlaceId.Page j) =

@@ -59,7 +59,7 @@ module _ {Q : Type 0} (serves : Q → Type 0) (closed : Q → ℕ) (count n : �
         first.worked.same ∙ ids.0,
         subst (λ (a : ActorId). HasRun hart_wants hart_next count a w.hart v.track.journal.items v.hart v.track.clock) ids.0 first.worked.ran,
         crew_by (suc k) ws vs (omega (arith, long)) ids.1
-        (λ i d below. let more : suc i < length (w ∷ ws) = omega (arith, below) in each (suc i) d more),
+            (λ i d below. let more : suc i < length (w ∷ ws) = omega (arith, below) in each (suc i) d more),
       )
 
   -- its stop, with its cause
@@ -148,14 +148,14 @@ module _ {Q : Type 0} (serves : Q → Type 0) (closed : Q → ℕ) (n : ℕ) (as
       → ((p : PlaceId) → opening p ≡ page_at old.pages p) → AllByRecursion (λ (h : History). ReplaysFrom old h.lock h) (ks ++ hb ∷ [])
   replays_each i [] [] homes_are begun_so = (
     subst (λ (p : PlaceId). ReplaysFrom old p hb) (sym board_home.lock)
-    (b, subst (λ (x : Board). IsHistory board.touch hb.kept x hb.entries.items b) (board_same hb.kept) board_home.history),
+        (b, subst (λ (x : Board). IsHistory board.touch hb.kept x hb.entries.items b) (board_same hb.kept) board_home.history),
     tt,
   )
   replays_each i [] (h ∷ ks) homes_are begun_so = absurd homes_are
   replays_each i (p ∷ ps) [] homes_are begun_so = absurd homes_are
   replays_each i (p ∷ ps) (h ∷ ks) homes_are begun_so = (
     subst (λ (q : PlaceId). ReplaysFrom old q h) (sym homes_are.0.lock)
-    (p, subst (λ (x : PageValue). IsHistory page_touch h.kept x h.entries.items p) (begun_so h.kept) homes_are.0.history),
+        (p, subst (λ (x : PageValue). IsHistory page_touch h.kept x h.entries.items p) (begun_so h.kept) homes_are.0.history),
     replays_each (suc i) ps ks homes_are.1 begun_so,
   )
 

@@ -96,7 +96,7 @@ module _ {S Q : Type 0} (want : S → Op) (next : S → Reply → S) (closed : Q
               sym is_want ∙ (why.idle.0 is).1,
             ),
             λ waits. why.idle.1
-            (subst (λ (xs : List Entry). 1 ≤ length xs) mid_items waits.0, is_want ∙ waits.2),
+                (subst (λ (xs : List Entry). 1 ≤ length xs) mid_items waits.0, is_want ∙ waits.2),
           );
           full = λ is. ap (is_last_full false) mid_items ∙ sym way.full_is ∙ why.full is;
           stamp = λ is. subst (λ (k : ℕ). 2 ^ 63 ≤ k) (sym same.clock ∙ mid_run.last) (why.stamp is);

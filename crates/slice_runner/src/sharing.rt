@@ -143,9 +143,34 @@ pub fn share<
     lock_pages(alloc, parts.pages, &mut locks);
     let board = Locked::<Board, L>::new(alloc, PlaceId::Board, parts.board);
     let given = replace(passes, none);
-    let mut timer = staff(parts.timer, parts.harts, given, blank, &mut workers, &mut left, n);
-    run_all(rt, gate, locks.as_slice(), &board, n, clock, &mut timer, &mut workers);
-    let timer = dismiss(timer, workers, left, &mut harts, passes, &mut journals, &mut stops);
+    let mut timer = staff(
+        parts.timer,
+        parts.harts,
+        given,
+        blank,
+        &mut workers,
+        &mut left,
+        n,
+    );
+    run_all(
+        rt,
+        gate,
+        locks.as_slice(),
+        &board,
+        n,
+        clock,
+        &mut timer,
+        &mut workers,
+    );
+    let timer = dismiss(
+        timer,
+        workers,
+        left,
+        &mut harts,
+        passes,
+        &mut journals,
+        &mut stops,
+    );
     unlock_pages(locks, &mut pages, &mut histories);
     let board = unlock_board(board, &mut histories);
     let agreed = agree(

@@ -91,7 +91,16 @@ pub fn run_slice<
         return Err(SliceError::OutOfMemory);
     };
     let parts = world.take(alloc, board);
-    match share::<Q, Brand, Brand, C, G, R>(rt, alloc, gate, &mut host.clock, passes, parts, room, n) {
+    match share::<Q, Brand, Brand, C, G, R>(
+        rt,
+        alloc,
+        gate,
+        &mut host.clock,
+        passes,
+        parts,
+        room,
+        n,
+    ) {
         Ok(shared) => {
             let Shared {
                 parts,

@@ -22,12 +22,11 @@ ghost use Rattle.vm_world.specs.Worlds.{IsWorld, MakesEvent, Runs, place_in, wan
 
 mod parting;
 
-pub use crate::world::parting::WorldParts;
-
 use crate::actors::{give_hart, start_harts, want_of_hart};
 use crate::hart_run::run_hart;
 use crate::memory::read_pages;
 use crate::step_error::{NoActor, NotRam, StepError, refusal_of};
+pub use crate::world::parting::WorldParts;
 use boot_loader::{BootError, Booted, Loads, boot};
 use flat_guest::{Layout, place};
 use guest_memory::PAGE_SIZE;
