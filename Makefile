@@ -6,7 +6,7 @@
 run:
 	@.ci/try examples/first.script
 
-# Proves what the program needs and builds it, as crates/firecracker/out/firecracker.
+# Proves what both programs need and builds them, as crates/NAME/out/NAME of firecracker and snapshot_editor.
 build:
 	@.ci/build
 
