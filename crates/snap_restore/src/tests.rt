@@ -3,7 +3,7 @@ use crate::load_pages;
 use gate_file::{read_file, read_start};
 use guest_pages::PageSet;
 use outside_mem::{Failing, MemoryFiles};
-use snap_writer::{Room, create};
+use snap_writer::{Room, SavedPages, create};
 use std::alloc::{AllocError, Global};
 use std::test::Fail;
 use vm_outside::Failed;
@@ -28,7 +28,15 @@ fn what_is_created_is_loaded(rt: HostRuntime) -> Result<(), Fail> {
     let mut room = Room::new(alloc)?;
     assert_eq!(rt; pages.len(), 2);
     assert_eq!(rt;
-        create(&mut files, &pages, &mut room, &HEAD, &BODY, "s", "m"),
+        create(
+            &mut files,
+            &SavedPages::all(&pages),
+            &mut room,
+            &HEAD,
+            &BODY,
+            "s",
+            "m"
+        ),
         Ok(())
     );
     let Some(body) = read_file(alloc, &mut files, "s")? else {
@@ -75,7 +83,8 @@ fn a_gate_is_open_only_behind_what_was_synced(rt: HostRuntime) -> Result<(), Fai
     ];
     for (call, (memory, state)) in lefts.iter().enumerate() {
         let mut files = files_failing(alloc, call as u64)?;
-        let made = create(&mut files, &pages, &mut room, &HEAD, &BODY, "s", "m");
+        let saved = SavedPages::all(&pages);
+        let made = create(&mut files, &saved, &mut room, &HEAD, &BODY, "s", "m");
         assert_eq!(rt; made, Err(Failed), "call {call}");
         assert_eq!(rt; gate_and_size(files.find("m")), *memory, "call {call}");
         assert_eq!(rt; gate_and_size(files.find("s")), *state, "call {call}");
