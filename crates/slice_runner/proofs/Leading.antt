@@ -10,13 +10,12 @@ use Rattle.vm_types.specs.Ids.{is_out}
 use Rattle.vm_types.specs.Serial.{IsFresh, OutFits, put_actor, states_end, vals_end}
 use Rattle.board_table.specs.Board.{Board}
 use Rattle.guest_pages.specs.Flat.{ArePages}
-use Rattle.guest_pages.specs.Marks.{AreMarked}
 use Rattle.guest_pages.specs.Pages.{PageValue, new_page}
 use Rattle.hart_trace.specs.States.{Hart, fresh}
 use Rattle.hart_trace.specs.Stopped.{stopped_regs}
 use Rattle.timer_trace.specs.declared.timer.Timer.{Timer}
 use Rattle.flat_guest.specs.Guest.{Guest}
-use Rattle.flat_guest.specs.Steps.{guest_after}
+use Rattle.flat_guest.specs.Steps.{guest_after, written_after}
 use Rattle.vm_world.specs.Worlds.{IsWorld, WorldValue, world_with}
 use Rattle.slice_runner.specs.Slices.{IsSerial, MarksFollow}
 use Rattle.slice_runner.specs.Values.{ActorState, BoardHolds, HartIs, PageHolds, PlaceValue, TimerIs, actor_next, actor_wants, actors_of, hart_or_none, page_or_none, place_touch, places_of, route_among}
@@ -33,19 +32,11 @@ pub record Reaches (w : WorldValue) (es : List Entry) : Type 0 where
   pub places : vals_end place_touch (places_of w) es ≡ places_of end
   pub actors : states_end actor_next (actors_of w) es ≡ actors_of end
 
-append_one : (since : List Entry) (e : Entry) (es : List Entry) → (since ++ e ∷ []) ++ es ≡ since ++ e ∷ es
-append_one [] e es = refl
-append_one (d ∷ since) e es = ap (λ l. d ∷ l) (append_one since e es)
-
-append_none : (since : List Entry) → since ≡ since ++ []
-append_none [] = refl
-append_none (d ∷ since) = ap (λ l. d ∷ l) (append_none since)
-
 reach_more : (w : WorldValue) (e : Entry) (es : List Entry) → StepsOn w e → Reaches (world_after w e) es → Reaches w (e ∷ es)
 reach_more w e es s r = record {
   end = r.end;
   serial = λ g is. let next = r.serial (guest_after g e) (s.stays g is) in (next.0, (guest_after g e, s.step g is, next.1), next.2);
-  marks = λ since marked. subst (λ (l : List Entry). AreMarked l 0 r.end.pages) (append_one since e es) (r.marks (since ++ e ∷ []) (s.marks since marked));
+  marks = λ written are. r.marks (written_after written e) (s.marks written are);
   pages = r.pages;
   count = r.count ∙ s.count;
   harts = r.harts ∙ s.harts;
@@ -59,7 +50,7 @@ pub reaches : (es : List Entry) (w : WorldValue) (n m : ℕ) → n ≡ length w.
 reaches [] w n m pages_are harts_are are there fresh_is = record {
   end = w;
   serial = λ g is. (g, refl, is);
-  marks = λ since marked. subst (λ (l : List Entry). AreMarked l 0 w.pages) (append_none since) marked;
+  marks = λ written are. are;
   pages = are;
   count = refl;
   harts = refl;

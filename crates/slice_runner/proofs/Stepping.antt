@@ -15,10 +15,10 @@ use Rattle.board_table.specs.Acts as board
 use Rattle.board_table.specs.Board.{Board}
 use Rattle.guest_memory.specs.Memory as memory
 use Rattle.guest_pages.specs.Flat.{ArePages}
-use Rattle.guest_pages.specs.Marks.{AreMarked, is_written, writes_page}
-use Rattle.guest_pages.specs.Pages.{PageValue, flat_of, new_page, page_touch}
+use Rattle.guest_pages.specs.Marks.{AreMarks, marks_after}
+use Rattle.guest_pages.specs.Pages.{PageValue, flat_of, marks_of, new_page, page_touch}
 use Rattle.guest_pages.proofs.Here.{size_of_pages}
-use Rattle.guest_pages.proofs.Marking.{elsewhere, marked_after, marked_by, untouched}
+use Rattle.guest_pages.proofs.Marking.{acted_marks}
 use Rattle.guest_pages.proofs.Sets.{act_memory, act_reply, act_stays}
 use Rattle.hart_trace.specs.Asks.{is_port_op}
 use Rattle.hart_trace.specs.States.{Hart, fresh, hart_next, hart_wants}
@@ -29,8 +29,9 @@ use Rattle.rv_supervisor.specs.declared.regs.Regs.{Regs}
 use Rattle.hart_trace.specs.Stopped.{stopped_regs}
 use Rattle.flat_guest.specs.Guest.{Guest}
 use Rattle.flat_guest.specs.Places.{place_of, without_devices}
-use Rattle.flat_guest.specs.Steps.{FlatStep, board_after, guest_after, is_given, memory_after}
+use Rattle.flat_guest.specs.Steps.{FlatStep, board_after, guest_after, is_given, memory_after, written_after}
 use Rattle.flat_guest.proofs.Acting as acting
+use Rattle.flat_guest.proofs.Marked.{marks_on}
 use Rattle.flat_guest.proofs.Stepping.{entry_of}
 use Rattle.vm_world.specs.Worlds.{IsWorld, MakesEvent, WorldValue, place_in, want_in}
 use Rattle.vm_world.proofs.Events.{event_made, place_access}
@@ -136,7 +137,8 @@ pub record Steps (w : WorldValue) (e : Entry) : Type 0 where
   pub made : MakesEvent w (event_of e) (entry_of e.place e.actor e.op e.reply) (world_after w e)
   pub pages : ArePages 0 (world_after w e).pages
   pub count : length (world_after w e).pages ≡ length w.pages
-  pub marks : (since : List Entry) → AreMarked since 0 w.pages → AreMarked (since ++ e ∷ []) 0 (world_after w e).pages
+  pub marks : (written : ℕ → Bool) → AreMarks (marks_of w.pages) written
+      → AreMarks (marks_of (world_after w e).pages) (written_after written e)
   pub places : vals_after place_touch (places_of w) e ≡ places_of (world_after w e)
 
 module _ (w : WorldValue) (are : ArePages 0 w.pages) (actor : ActorId) (op : Op) (reply : Reply) (stamp before : ℕ)
@@ -146,6 +148,15 @@ module _ (w : WorldValue) (are : ArePages 0 w.pages) (actor : ActorId) (op : Op)
 
   routed : (place : PlaceId) → place ≡ route_among (length w.pages) op → place ≡ place_in w op
   routed place is = is ∙ ap (λ (n : ℕ). place_of (without_devices n) op) (sym (size_of_pages w.pages are))
+
+  -- marks that are as the act leaves them are those of what was written
+  follows : (place : PlaceId)
+      → marks_of (world_after w (at place)).pages ≡ marks_after place (marks_of w.pages) op reply
+      → (written : ℕ → Bool) → AreMarks (marks_of w.pages) written
+      → AreMarks (marks_of (world_after w (at place)).pages) (written_after written (at place))
+  follows place left written are_marks =
+      subst (λ (l : List Bool). AreMarks l (written_after written (at place))) (sym left)
+      (marks_on (marks_of w.pages) written are_marks place op reply)
 
   on_page : (i : ℕ) → PlaceId.Page i ≡ route_among (length w.pages) op
       → reply ≡ (page_touch (page_or_none w.pages i) actor op).0 → Steps w (at (PlaceId.Page i))
@@ -162,22 +173,22 @@ module _ (w : WorldValue) (are : ArePages 0 w.pages) (actor : ActorId) (op : Op)
       let made = event_made w (world_after w (at (PlaceId.Page i))) actor op (given_of op reply) (PlaceId.Page i) reply want
       (given_none (length w.pages) op reply inner) (sym here)
       (act_reply w.pages w.pages i actor op old new refl are there same refl reply access answer)
-      (act_memory w.pages w.pages i actor op old new refl are there same refl access) refl refl refl in
+      (act_memory w.pages w.pages i actor op old new refl are there same refl access) (marks_here same answer) refl refl refl in
       record {
         made = made;
         pages = act_stays w.pages w.pages i actor op old new refl are there same refl;
         count = length-set w.pages i new;
-        marks = λ since marked. marked_after 0 w.pages i old new since (at (PlaceId.Page i)) marked there
-            (let e : i ≡ 0 + i = omega arith in ap PlaceId.Page e) (marks_by same answer);
+        marks = follows (PlaceId.Page i) (marks_here same answer);
         places = λ j p. at_page there p j;
       }
     where
-      marks_by : page_or_none w.pages i ≡ get_or w.pages i (page_or_none w.pages i)
+      marks_here : page_or_none w.pages i ≡ get_or w.pages i (page_or_none w.pages i)
           → reply ≡ (page_touch (page_or_none w.pages i) actor op).0
-          → (page_touch (page_or_none w.pages i) actor op).1.marked ≡ ((get_or w.pages i (page_or_none w.pages i)).marked || is_written op reply)
-      marks_by same answer =
-          marked_by (page_or_none w.pages i) actor op
-          ∙ (λ j. (same j).marked || is_written op (sym answer j))
+          → marks_of (set w.pages i (page_touch (page_or_none w.pages i) actor op).1)
+          ≡ marks_after (PlaceId.Page i) (marks_of w.pages) op reply
+      marks_here same answer =
+          let old = page_or_none w.pages i in
+          acted_marks w.pages w.pages i actor op old (page_touch old actor op).1 reply refl same refl answer
 
       at_page : i < length w.pages → (p : PlaceId)
           → vals_after place_touch (places_of w) (at (PlaceId.Page i)) p ≡ places_of (world_after w (at (PlaceId.Page i))) p
@@ -194,10 +205,10 @@ module _ (w : WorldValue) (are : ArePages 0 w.pages) (actor : ActorId) (op : Op)
       let none = given_in (length w.pages) op reply inner in
       record {
         made = event_made w (world_after w (at PlaceId.Board)) actor op (given_of op reply) PlaceId.Board reply want
-            (given_none (length w.pages) op reply inner) (routed PlaceId.Board is) answer refl refl refl refl;
+            (given_none (length w.pages) op reply inner) (routed PlaceId.Board is) answer refl refl refl refl refl;
         pages = are;
         count = refl;
-        marks = λ since marked. untouched 0 w.pages since (at PlaceId.Board) (λ i le. elsewhere (at PlaceId.Board) i refl) marked;
+        marks = follows PlaceId.Board refl;
         places = λ j p. at_board p j;
       }
     where
@@ -211,10 +222,10 @@ module _ (w : WorldValue) (are : ArePages 0 w.pages) (actor : ActorId) (op : Op)
   nowhere : PlaceId.Out ≡ route_among (length w.pages) op → OutFits op reply → Steps w (at PlaceId.Out)
   nowhere is fit = record {
     made = event_made w (world_after w (at PlaceId.Out)) actor op (given_of op reply) PlaceId.Out reply want
-        (given_out op reply fit) (routed PlaceId.Out is) (reply_out op reply fit) refl refl refl refl;
+        (given_out op reply fit) (routed PlaceId.Out is) (reply_out op reply fit) refl refl refl refl refl;
     pages = are;
     count = refl;
-    marks = λ since marked. untouched 0 w.pages since (at PlaceId.Out) (λ i le. elsewhere (at PlaceId.Out) i refl) marked;
+    marks = follows PlaceId.Out refl;
     places = refl;
   }
 
@@ -259,7 +270,8 @@ pub record StepsOn (w : WorldValue) (e : Entry) : Type 0 where
   pub pages : ArePages 0 (world_after w e).pages
   pub count : length (world_after w e).pages ≡ length w.pages
   pub harts : length (world_after w e).harts ≡ length w.harts
-  pub marks : (since : List Entry) → AreMarked since 0 w.pages → AreMarked (since ++ e ∷ []) 0 (world_after w e).pages
+  pub marks : (written : ℕ → Bool) → AreMarks (marks_of w.pages) written
+      → AreMarks (marks_of (world_after w e).pages) (written_after written e)
   pub places : vals_after place_touch (places_of w) e ≡ places_of (world_after w e)
   pub actors : put_actor (actors_of w) e.actor (actor_next (actors_of w e.actor) e.reply) ≡ actors_of (world_after w e)
 

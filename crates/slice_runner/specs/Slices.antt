@@ -1,5 +1,5 @@
 -- What a slice is to the flat machine.
-use Rattle.std.specs.Prelude.{ℕ, ◌≡◌, List, [], ◌∷◌, ◌++◌, length, Option, Some, None}
+use Rattle.std.specs.Prelude.{ℕ, ◌≡◌, Bool, List, [], ◌∷◌, ◌++◌, length, Option, Some, None}
 use Rattle.std.specs.List.{AllByRecursion}
 use Rattle.vm_types.specs.declared.entry.Entry.{Entry}
 use Rattle.vm_types.specs.declared.entry.Event.{Event}
@@ -14,10 +14,10 @@ use Rattle.vm_types.specs.Serial.{OutFits}
 use Rattle.board_table.specs.Acts as board
 use Rattle.board_table.specs.Board.{Board}
 use Rattle.flat_guest.specs.Guest.{Guest}
-use Rattle.flat_guest.specs.Steps.{FlatStep}
-use Rattle.guest_pages.specs.Marks.{AreMarked}
+use Rattle.flat_guest.specs.Steps.{FlatStep, written_after}
+use Rattle.guest_pages.specs.Marks.{AreMarks}
 use Rattle.guest_pages.specs.Flat.{ArePages}
-use Rattle.guest_pages.specs.Pages.{PageValue, page_touch}
+use Rattle.guest_pages.specs.Pages.{PageValue, marks_of, page_touch}
 use Rattle.place_locks.specs.Held.{IsHistory}
 use Rattle.stamp_merge.specs.declared.history.History.{History}
 use Rattle.stamp_merge.specs.declared.journal.Journal.{Journal}
@@ -54,9 +54,15 @@ IsSerial old events new = (g : Guest) → IsWorld old g → (h : Guest) × Leads
 abbrev pub AreStamps : List Entry → Type 0
 AreStamps events = StampsRun (λ actor. 0) (λ place. 0) events
 
--- where each page was marked exactly where one of the events since wrote it, it is so now
+-- which pages were written, these entries among what wrote them
+abbrev pub written_by : (ℕ → Bool) → List Entry → ℕ → Bool
+written_by written [] = written
+written_by written (e ∷ es) = written_by (written_after written e) es
+
+-- where each page was marked exactly where it was written, it is so now, with what the events wrote
 abbrev pub MarksFollow : List PageValue → List Entry → List PageValue → Type 0
-MarksFollow old events new = (since : List Entry) → AreMarked since 0 old → AreMarked (since ++ events) 0 new
+MarksFollow old events new =
+    (written : ℕ → Bool) → AreMarks (marks_of old) written → AreMarks (marks_of new) (written_by written events)
 
 -- what a clock answered in these entries
 abbrev pub answer_in : Op → Reply → List ℕ → List ℕ
