@@ -4,3 +4,4 @@ pub mod OneReplay
 pub mod Pushed
 pub mod SomeReplay
 pub mod WholeLines
+pub mod Between

@@ -1,3 +1,4 @@
+pub mod Between
 pub mod Given
 pub mod Items
 pub mod Machine

@@ -5,6 +5,7 @@ ghost use Rattle.vm_types.specs.declared.exit.Object.{Object};
 ghost use Rattle.vm_types.specs.Saved.{Saved};
 ghost use Rattle.vm_outside.specs.Calls.{FileCall};
 ghost use Rattle.http_stream.specs.Conversation.{IsQuiet};
+ghost use Rattle.flat_machine.specs.Between.{GoesOn};
 ghost use Rattle.flat_machine.specs.Machine.{Machine, new_machine};
 ghost use Rattle.flat_machine.specs.Outcome.{Outcome};
 ghost use Rattle.flat_machine.specs.Replay.{IsReplay};
@@ -76,4 +77,11 @@ pub fn create_then_load()
         Leaves k (change.LoadSnapshot load) p →
         (copy : StateCopy) × IsCopyOf m.config g copy
         × (p ≡ carried k load (record { identity = next_identity m; copy = copy; bytes = g.memory.bytes })) }
+{}
+
+/// A machine that has started keeps its guest over any run, and gives no number of a snapshot again. Between two creates of
+/// it, whatever else the run does, a page that is unwritten is as it was.
+pub fn between_creates()
+    ensures { (acts : List Act) (m n : Machine) (text : List ℕ) (g : Guest) →
+        m.guest ≡ Some g → Run acts m text n → GoesOn g m n }
 {}

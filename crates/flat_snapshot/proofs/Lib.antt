@@ -3,3 +3,5 @@ pub mod CopiedAgain
 pub mod GoesOn
 pub mod Loaded
 pub mod Refused
+pub mod Unwritten
+pub mod Diffs

@@ -1,5 +1,5 @@
 -- The files of a create are found as its snapshot.
-use Rattle.std.proofs.Common.{◌≡◌, ◌≢◌, ℕ, ◌+◌, ◌*◌, Bool, true, false, not, ◌&&◌, eqb, if◌then◌else◌, List, [], ◌∷◌, ◌++◌, length, take, drop, Option, Some, Result, Ok, Err, refl, sym, ap, ◌∙◌, arith, length-append}
+use Rattle.std.proofs.Common.{◌≡◌, ◌≢◌, ℕ, ◌+◌, ◌*◌, ◌==◌, Bool, true, false, not, ◌&&◌, eqb, if◌then◌else◌, List, [], ◌∷◌, ◌++◌, length, take, drop, Option, Some, Result, Ok, Err, refl, sym, ap, ◌∙◌, arith, length-append}
 use Rattle.std.proofs.lemmas.Bool.{and_parts, eq-eqb, eqb-true, false_from_ne_true}
 use Rattle.std.proofs.lemmas.List.{append-nil}
 use Rattle.std.proofs.Math.Seq.{drop-append_seam, take-append_seam}
@@ -94,99 +94,120 @@ same_when a b e =
     let parts = and_parts (eqb a.lineage b.lineage) (eqb a.number b.number) e in
     λ i. record { lineage = eqb-true a.lineage b.lineage parts.0 i; number = eqb-true a.number b.number parts.1 i }
 
-module _ (i : Identity) (pages : ℕ) (bytes : List ℕ) (fits : memory.header.Fits (memory.new_header pages i))
-    (numbered : IsTrue (is_numbered i)) (whole : length bytes ≡ page_size * pages) where
-  abbrev h : MemHeader
-  h = memory.new_header pages i
+same_identity : (i : Identity) → is_same i i ≡ true
+same_identity i = ap (λ (t : Bool). t && eqb i.number i.number) (eq-eqb i.lineage i.lineage refl) ∙ eq-eqb i.number i.number refl
 
-  abbrev given : List ℕ
-  given = memory_file i pages bytes
-
-  opens : (g : MemHeader) → 1 ∷ drop 1 (memory.header.bytes g) ≡ memory.header.bytes g
-  unfolding memory.header fixed
-  opens g = refl
-
-  memory_is : given ≡ memory.header.bytes h ++ bytes
-  unfolding memory_head
-  memory_is = ap (λ (l : List ℕ). l ++ bytes) (opens h)
-
+-- a memory file with this header, into which no merge is unfinished
+module _ (pages : ℕ) (bytes given : List ℕ) (h : MemHeader) (fits : memory.header.Fits h) (valid : IsTrue (memory.is_valid h))
+    (settled : h.merging ≡ 0) (count : h.pages ≡ pages) (whole : length bytes ≡ page_size * pages)
+    (given_is : given ≡ memory.header.bytes h ++ bytes) where
   front_is : take 4096 given ≡ memory.header.bytes h
   front_is =
-      ap (take 4096) memory_is ∙ ap (λ (n : ℕ). take n (memory.header.bytes h ++ bytes)) (sym (fronts.length-header h fits))
+      ap (take 4096) given_is ∙ ap (λ (n : ℕ). take n (memory.header.bytes h ++ bytes)) (sym (fronts.length-header h fits))
       ∙ take-append_seam (memory.header.bytes h) bytes
-
-  valid : memory.is_valid h ≡ true
-  valid = ap (λ (t : Bool). t && true) numbered
 
   begins : memory.Begins (take 4096 given) h
   begins = record { fits = fits; valid = valid; pages = []; bytes = front_is ∙ sym (append-nil (memory.header.bytes h)) }
 
   size_is : length given ≡ 4096 + page_size * pages
   size_is =
-      ap length memory_is ∙ length-append (memory.header.bytes h) bytes
+      ap length given_is ∙ length-append (memory.header.bytes h) bytes
       ∙ ap (λ (n : ℕ). n + length bytes) (fronts.length-header h fits) ∙ ap (λ (n : ℕ). 4096 + n) whole
 
   behind : drop 4096 given ≡ bytes
   behind =
-      ap (drop 4096) memory_is ∙ ap (λ (n : ℕ). drop n (memory.header.bytes h ++ bytes)) (sym (fronts.length-header h fits))
+      ap (drop 4096) given_is ∙ ap (λ (n : ℕ). drop n (memory.header.bytes h ++ bytes)) (sym (fronts.length-header h fits))
       ∙ drop-append_seam (memory.header.bytes h) bytes
 
-  same_identity : is_same i i ≡ true
-  same_identity =
-      ap (λ (t : Bool). t && eqb i.number i.number) (eq-eqb i.lineage i.lineage refl) ∙ eq-eqb i.number i.number refl
-
-  judged : memory_judged i pages (length given) h ≡ Ok tt
-  judged =
-      ap (λ (t : Bool). if not (t && eqb (length given) (4096 + page_size * pages)) then Err refusal.SizesDiffer
-      else (if not (is_same i i) then Err refusal.ParentDiffers else Ok tt)) (eq-eqb pages pages refl)
-      ∙ ap (λ (t : Bool). if not t then Err refusal.SizesDiffer
-      else (if not (is_same i i) then Err refusal.ParentDiffers else Ok tt)) (eq-eqb _ _ size_is)
-      ∙ ap (λ (t : Bool). if not t then Err refusal.ParentDiffers else Ok tt) same_identity
-
-  memory_again : memory_in i pages given ≡ Ok bytes
-  memory_again =
-      ap (λ (r : Result (Unit {0}) Refusal). r >>= λ _. Ok (drop 4096 given))
-      (front_of_header i pages (length given) (take 4096 given) h begins ∙ judged)
-      ∙ ap Ok behind
-
-  -- by a load of another snapshot
-  module _ (asked : Identity) (differ : i ≢ asked) where
-    other_identity : is_same i asked ≡ false
-    other_identity = false_from_ne_true (is_same i asked) (λ e. differ (same_when i asked e))
-
-    judged_other : memory_judged asked pages (length given) h ≡ Err refusal.ParentDiffers
-    judged_other =
-        ap (λ (t : Bool). if not (t && eqb (length given) (4096 + page_size * pages)) then Err refusal.SizesDiffer
-        else (if not (is_same i asked) then Err refusal.ParentDiffers else Ok tt)) (eq-eqb pages pages refl)
+  module _ (asked : Identity) where
+    judged : memory_judged asked pages (length given) h ≡ (if not (is_same (memory.identity_of h) asked) then Err refusal.ParentDiffers else Ok tt)
+    judged =
+        ap (λ (t : Bool). if not t then Err refusal.MergeUnfinished
+        else (if not ((h.pages == pages) && (length given == 4096 + page_size * pages)) then Err refusal.SizesDiffer
+        else (if not (is_same (memory.identity_of h) asked) then Err refusal.ParentDiffers else Ok tt))) (eq-eqb h.merging 0 settled)
+        ∙ ap (λ (t : Bool). if not (t && (length given == 4096 + page_size * pages)) then Err refusal.SizesDiffer
+        else (if not (is_same (memory.identity_of h) asked) then Err refusal.ParentDiffers else Ok tt)) (eq-eqb h.pages pages count)
         ∙ ap (λ (t : Bool). if not t then Err refusal.SizesDiffer
-        else (if not (is_same i asked) then Err refusal.ParentDiffers else Ok tt)) (eq-eqb _ _ size_is)
-        ∙ ap (λ (t : Bool). if not t then Err refusal.ParentDiffers else Ok tt) other_identity
+        else (if not (is_same (memory.identity_of h) asked) then Err refusal.ParentDiffers else Ok tt)) (eq-eqb _ _ size_is)
 
-    memory_other : memory_in asked pages given ≡ Err refusal.ParentDiffers
-    memory_other =
+    found_by : (same : Bool) → is_same (memory.identity_of h) asked ≡ same
+        → memory_in asked pages given ≡ (if not same then Err refusal.ParentDiffers else Ok bytes)
+    found_by true is =
         ap (λ (r : Result (Unit {0}) Refusal). r >>= λ _. Ok (drop 4096 given))
-        (front_of_header asked pages (length given) (take 4096 given) h begins ∙ judged_other)
+        (front_of_header asked pages (length given) (take 4096 given) h begins ∙ judged
+        ∙ ap (λ (t : Bool). if not t then Err refusal.ParentDiffers else Ok tt) is)
+        ∙ ap Ok behind
+    found_by false is =
+        ap (λ (r : Result (Unit {0}) Refusal). r >>= λ _. Ok (drop 4096 given))
+        (front_of_header asked pages (length given) (take 4096 given) h begins ∙ judged
+        ∙ ap (λ (t : Bool). if not t then Err refusal.ParentDiffers else Ok tt) is)
+
+    memory_again : memory.identity_of h ≡ asked → memory_in asked pages given ≡ Ok bytes
+    memory_again is = found_by true (ap (λ (i : Identity). is_same i asked) is ∙ same_identity asked)
+
+    memory_other : memory.identity_of h ≢ asked → memory_in asked pages given ≡ Err refusal.ParentDiffers
+    memory_other differ = found_by false (false_from_ne_true (is_same (memory.identity_of h) asked) (λ e. differ (same_when (memory.identity_of h) asked e)))
 
 -- ---- both
+
+-- by what both names hold
+module _ (saved : Saved) (files : SnapshotFiles) (i : Identity) (c : StateCopy) (bytes given : List ℕ) (h : MemHeader)
+    (can : state.IsSaved (record { identity = i; copy = c })) (fits : memory.header.Fits h) (valid : IsTrue (memory.is_valid h))
+    (settled : h.merging ≡ 0) (count : h.pages ≡ c.pages) (whole : length bytes ≡ page_size * c.pages)
+    (given_is : given ≡ memory.header.bytes h ++ bytes)
+    (state_there : get saved files.snapshot_path ≡ Some (state_file i c)) (memory_there : get saved files.mem_file_path ≡ Some given) where
+  found_as : found saved files ≡ (memory_in i c.pages given >>= λ b. Ok (record { identity = i; copy = c; bytes = b }))
+  unfolding found
+  found_as =
+      ap (λ (o : Option (List ℕ)). state_found o >>= λ s. memory_found s.0 s.1.pages (get saved files.mem_file_path) >>= λ b. Ok (record { identity = s.0; copy = s.1; bytes = b })) state_there
+      ∙ ap (λ (r : Result (Identity × StateCopy) Refusal). r >>= λ s. memory_found s.0 s.1.pages (get saved files.mem_file_path) >>= λ b. Ok (record { identity = s.0; copy = s.1; bytes = b })) (state_again i c can)
+      ∙ ap (λ (o : Option (List ℕ)). memory_found i c.pages o >>= λ b. Ok (record { identity = i; copy = c; bytes = b })) memory_there
+
+  pub found_here : memory.identity_of h ≡ i → found saved files ≡ Ok (record { identity = i; copy = c; bytes = bytes })
+  found_here is =
+      found_as ∙ ap (λ (r : Result (List ℕ) Refusal). r >>= λ b. Ok (record { identity = i; copy = c; bytes = b }))
+      (memory_again c.pages bytes given h fits valid settled count whole given_is i is)
+
+  pub none_here : memory.identity_of h ≢ i → found saved files ≡ Err refusal.ParentDiffers
+  none_here differ =
+      found_as ∙ ap (λ (r : Result (List ℕ) Refusal). r >>= λ b. Ok (record { identity = i; copy = c; bytes = b }))
+      (memory_other c.pages bytes given h fits valid settled count whole given_is i differ)
+
+-- ---- where a create put them
+
+opens : (g : MemHeader) → 1 ∷ drop 1 (memory.header.bytes g) ≡ memory.header.bytes g
+unfolding memory.header fixed
+opens g = refl
+
+pub memory_is : (i : Identity) (pages : ℕ) (bytes : List ℕ) → memory_file i pages bytes ≡ memory.header.bytes (memory.new_header pages i) ++ bytes
+unfolding memory_head
+memory_is i pages bytes = ap (λ (l : List ℕ). l ++ bytes) (opens (memory.new_header pages i))
+
+pub new_valid : (pages : ℕ) (i : Identity) → IsTrue (is_numbered i) → IsTrue (memory.is_valid (memory.new_header pages i))
+new_valid pages i numbered = ap (λ (t : Bool). t && true) numbered
+
+module _ (before : Saved) (files : SnapshotFiles) (i of : Identity) (c : StateCopy) (bytes : List ℕ)
+    (differ : files.mem_file_path ≢ files.snapshot_path) where
+  abbrev after : Saved
+  after = insert (insert before files.mem_file_path (memory_file of c.pages bytes)) files.snapshot_path (state_file i c)
+
+  memory_there : get after files.mem_file_path ≡ Some (memory_file of c.pages bytes)
+  memory_there =
+      got_other (insert before files.mem_file_path (memory_file of c.pages bytes)) files.snapshot_path (state_file i c) files.mem_file_path differ
+      ∙ got_there before files.mem_file_path (memory_file of c.pages bytes)
+
+  state_there : get after files.snapshot_path ≡ Some (state_file i c)
+  state_there = got_there (insert before files.mem_file_path (memory_file of c.pages bytes)) files.snapshot_path (state_file i c)
 
 pub found_again : (before : Saved) (files : SnapshotFiles) (i : Identity) (c : StateCopy) (bytes : List ℕ)
     → files.mem_file_path ≢ files.snapshot_path → state.IsSaved (record { identity = i; copy = c })
     → memory.header.Fits (memory.new_header c.pages i) → length bytes ≡ page_size * c.pages
     → found (insert (insert before files.mem_file_path (memory_file i c.pages bytes)) files.snapshot_path (state_file i c)) files
     ≡ Ok (record { identity = i; copy = c; bytes = bytes })
-unfolding found
 found_again before files i c bytes differ saved fits whole =
-    let with_memory = insert before files.mem_file_path (memory_file i c.pages bytes) in
-    let after = insert with_memory files.snapshot_path (state_file i c) in
-    let memory_there : get after files.mem_file_path ≡ Some (memory_file i c.pages bytes)
-    = got_other with_memory files.snapshot_path (state_file i c) files.mem_file_path differ
-    ∙ got_there before files.mem_file_path (memory_file i c.pages bytes) in
-    let state_there : get after files.snapshot_path ≡ Some (state_file i c)
-    = got_there with_memory files.snapshot_path (state_file i c) in
-    ap (λ (o : Option (List ℕ)). state_found o >>= λ s. memory_found s.0 s.1.pages (get after files.mem_file_path) >>= λ b. Ok (record { identity = s.0; copy = s.1; bytes = b })) state_there
-    ∙ ap (λ (r : Result (Identity × StateCopy) Refusal). r >>= λ s. memory_found s.0 s.1.pages (get after files.mem_file_path) >>= λ b. Ok (record { identity = s.0; copy = s.1; bytes = b })) (state_again i c saved)
-    ∙ ap (λ (o : Option (List ℕ)). memory_found i c.pages o >>= λ b. Ok (record { identity = i; copy = c; bytes = b })) memory_there
-    ∙ ap (λ (r : Result (List ℕ) Refusal). r >>= λ b. Ok (record { identity = i; copy = c; bytes = b })) (memory_again i c.pages bytes fits saved.numbered whole)
+    found_here (after before files i i c bytes differ) files i c bytes (memory_file i c.pages bytes) (memory.new_header c.pages i) saved fits
+    (new_valid c.pages i saved.numbered) refl refl whole (memory_is i c.pages bytes) (state_there before files i i c bytes differ)
+    (memory_there before files i i c bytes differ) refl
 
 pub found_other : (before : Saved) (files : SnapshotFiles) (i other : Identity) (c : StateCopy) (bytes : List ℕ)
     → files.mem_file_path ≢ files.snapshot_path → state.IsSaved (record { identity = i; copy = c })
@@ -194,16 +215,16 @@ pub found_other : (before : Saved) (files : SnapshotFiles) (i other : Identity) 
     → other ≢ i
     → found (insert (insert before files.mem_file_path (memory_file other c.pages bytes)) files.snapshot_path (state_file i c)) files
     ≡ Err refusal.ParentDiffers
-unfolding found
 found_other before files i other c bytes differ saved fits numbered whole others =
-    let with_memory = insert before files.mem_file_path (memory_file other c.pages bytes) in
-    let after = insert with_memory files.snapshot_path (state_file i c) in
-    let memory_there : get after files.mem_file_path ≡ Some (memory_file other c.pages bytes)
-    = got_other with_memory files.snapshot_path (state_file i c) files.mem_file_path differ
-    ∙ got_there before files.mem_file_path (memory_file other c.pages bytes) in
-    let state_there : get after files.snapshot_path ≡ Some (state_file i c)
-    = got_there with_memory files.snapshot_path (state_file i c) in
-    ap (λ (o : Option (List ℕ)). state_found o >>= λ s. memory_found s.0 s.1.pages (get after files.mem_file_path) >>= λ b. Ok (record { identity = s.0; copy = s.1; bytes = b })) state_there
-    ∙ ap (λ (r : Result (Identity × StateCopy) Refusal). r >>= λ s. memory_found s.0 s.1.pages (get after files.mem_file_path) >>= λ b. Ok (record { identity = s.0; copy = s.1; bytes = b })) (state_again i c saved)
-    ∙ ap (λ (o : Option (List ℕ)). memory_found i c.pages o >>= λ b. Ok (record { identity = i; copy = c; bytes = b })) memory_there
-    ∙ ap (λ (r : Result (List ℕ) Refusal). r >>= λ b. Ok (record { identity = i; copy = c; bytes = b })) (memory_other other c.pages bytes fits numbered whole i others)
+    none_here (after before files i other c bytes differ) files i c bytes (memory_file other c.pages bytes) (memory.new_header c.pages other) saved fits
+    (new_valid c.pages other numbered) refl refl whole (memory_is other c.pages bytes) (state_there before files i other c bytes differ)
+    (memory_there before files i other c bytes differ) others
+
+-- or anywhere else, whatever was merged into the memory file
+pub found_in : (saved : Saved) (files : SnapshotFiles) (i : Identity) (c : StateCopy) (bytes : List ℕ) (h : MemHeader)
+    → state.IsSaved (record { identity = i; copy = c }) → memory.header.Fits h → IsTrue (memory.is_valid h) → h.merging ≡ 0
+    → h.pages ≡ c.pages → memory.identity_of h ≡ i → length bytes ≡ page_size * c.pages
+    → get saved files.snapshot_path ≡ Some (state_file i c) → get saved files.mem_file_path ≡ Some (memory.header.bytes h ++ bytes)
+    → found saved files ≡ Ok (record { identity = i; copy = c; bytes = bytes })
+found_in saved files i c bytes h can fits valid settled count is whole state_there memory_there =
+    found_here saved files i c bytes (memory.header.bytes h ++ bytes) h can fits valid settled count whole refl state_there memory_there is

@@ -5,7 +5,7 @@ use Rattle.vm_types.specs.declared.identity.Identity.{Identity}
 use Rattle.vm_outside.specs.Calls.{FileCall}
 use Rattle.flat_guest.specs.Guest.{Guest, numbers_written}
 use Rattle.snap_memory.specs.Headers.{header, new_header}
-use Rattle.snap_diff.specs.Copies.{DiffCopy, diff_of, pages_at}
+use Rattle.snap_diff.specs.Copies.{DiffCopy, MemoryCopy, diff_of, pages_at}
 use Rattle.snap_diff.specs.Headers as diffs
 use Rattle.snap_diff.specs.Headers.{header_of}
 use Rattle.snap_diff.specs.Diffs.{table_bytes}
@@ -25,10 +25,13 @@ memory_file identity pages bytes = 1 ∷ memory_head identity pages ++ bytes
 
 -- ---- that of a diff
 
--- the diff of a guest's memory of so many pages since the parent: the pages that were written
+-- a guest's memory of so many pages, as a snapshot of this identity has it
+abbrev pub memory_in : Identity → ℕ → Guest → MemoryCopy
+memory_in identity pages g = record { identity = identity; pages = pages; bytes = g.memory.bytes }
+
+-- the diff of it since the parent: the pages that were written
 abbrev pub diff_in : Identity → Identity → ℕ → Guest → DiffCopy
-diff_in parent identity pages g =
-    diff_of parent (record { identity = identity; pages = pages; bytes = g.memory.bytes }) (numbers_written g.written 0 pages)
+diff_in parent identity pages g = diff_of parent (memory_in identity pages g) (numbers_written g.written 0 pages)
 
 -- the header and the page numbers, behind the gate
 unfoldable pub diff_head : DiffCopy → List ℕ

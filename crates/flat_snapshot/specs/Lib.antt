@@ -2,3 +2,4 @@ pub mod Carried
 pub mod Copies
 pub mod Files
 pub mod Found
+pub mod Unwritten

@@ -1,23 +1,32 @@
 // What holds of every guest, and of every snapshot.
-ghost use Rattle.std.specs.Prelude.{◌≡◌, ◌≢◌, ◌*◌, ◌⊎◌, ℕ, Bool, List, IsTrue, IsErr, Ok, Err, length};
+ghost use Rattle.std.specs.Prelude.{◌≡◌, ◌≢◌, ◌*◌, ◌⊎◌, ◌++◌, ℕ, Bool, List, IsTrue, IsErr, Ok, Err, Some, length};
 ghost use Rattle.std.specs.FinMap.{get, insert};
 ghost use Rattle.vm_types.specs.Saved.{Saved};
+ghost use Rattle.vm_types.specs.declared.entry.Entry.{Entry};
+ghost use Rattle.vm_types.specs.declared.entry.Event.{Event};
 ghost use Rattle.vm_types.specs.declared.identity.Identity.{Identity};
+ghost use Rattle.vm_types.specs.declared.ids.ActorId.{ActorId};
 ghost use Rattle.refusals.specs.declared.refusal.Refusal.TheVariants as refusal;
 ghost use Rattle.api_calls.specs.declared.call.SnapshotFiles.{SnapshotFiles};
 ghost use Rattle.file_format.specs.Identities.{is_numbered};
 ghost use Rattle.gate_file.specs.Moments.{IsShut};
 ghost use Rattle.guest_memory.specs.Ram.{page_size};
-ghost use Rattle.snap_memory.specs.Headers.{header, new_header};
+ghost use Rattle.snap_memory.specs.declared.header.MemHeader.{MemHeader};
+ghost use Rattle.snap_memory.specs.Headers.{header, identity_of, is_valid, new_header};
+ghost use Rattle.snap_diff.specs.Copies.{IsDiffOf};
+ghost use Rattle.snap_diff.specs.Diffs.{IsDiffFile};
+ghost use Rattle.snap_diff.specs.Headers.{header as diff_header, header_of, is_header};
 ghost use Rattle.snap_state.specs.Files.{IsSaved};
-ghost use Rattle.flat_snapshot.specs.Files.{memory_file, state_file};
+ghost use Rattle.flat_snapshot.specs.Files.{diff_file, diff_in, memory_file, memory_in, state_file};
 ghost use Rattle.flat_snapshot.specs.Found.{found};
 ghost use Rattle.vm_config.specs.declared.config.Config.{Config};
-ghost use Rattle.flat_guest.specs.Guest.{Guest};
+ghost use Rattle.flat_guest.specs.Guest.{Guest, unwritten};
 ghost use Rattle.flat_guest.specs.Sound.{IsSound};
+ghost use Rattle.flat_guest.specs.Steps.{FlatStep, StepsBy};
 ghost use Rattle.snap_state.specs.declared.copy.StateCopy.{StateCopy};
 ghost use Rattle.flat_snapshot.specs.Carried.{carried_config, carried_guest, with_tracking};
 ghost use Rattle.flat_snapshot.specs.Copies.{IsCopyOf};
+ghost use Rattle.flat_snapshot.specs.Unwritten.{KeepsUnwritten};
 
 /// A guest has one copy at most, and one that is never stuck has one.
 pub fn one_copy_of()
@@ -61,4 +70,38 @@ pub fn no_snapshot()
         IsTrue (is_numbered other) → length bytes ≡ page_size * copy.pages → other ≢ identity →
         found (insert (insert before files.mem_file_path (memory_file other copy.pages bytes)) files.snapshot_path
         (state_file identity copy)) files ≡ Err refusal.ParentDiffers }
+{}
+
+/// A load finds the snapshot whose state file stands under the one name, where under the other stand a memory file's header
+/// of its identity, into which no merge is unfinished, and all of its pages: whatever was merged into it, and wherever it
+/// lies.
+pub fn load_of_files()
+    ensures { (saved : Saved) (files : SnapshotFiles) (identity : Identity) (copy : StateCopy) (bytes : List ℕ)
+        (head : MemHeader) → IsSaved (record { identity = identity; copy = copy }) → header.Fits head →
+        IsTrue (is_valid head) → head.merging ≡ 0 → head.pages ≡ copy.pages → identity_of head ≡ identity →
+        length bytes ≡ page_size * copy.pages →
+        get saved files.snapshot_path ≡ Some (state_file identity copy) →
+        get saved files.mem_file_path ≡ Some (header.bytes head ++ bytes) →
+        found saved files ≡ Ok (record { identity = identity; copy = copy; bytes = bytes }) }
+{}
+
+/// After events a page that is unwritten was so before, and has the bytes that it had.
+pub fn unwritten_pages()
+    ensures one { (g h : Guest) (event : Event) (e : Entry) → FlatStep g event e h → KeepsUnwritten g h }
+    ensures several { (g h : Guest) (actor : ActorId) (count : ℕ) (es : List Entry) →
+        StepsBy g actor count es h → KeepsUnwritten g h }
+    ensures joined { (g h k : Guest) → KeepsUnwritten g h → KeepsUnwritten h k → KeepsUnwritten g k }
+{}
+
+/// What a create of a diff writes under the name of the memory is the file of the diff of the guest's memory since the
+/// parent, where a file can have its header. If the guest is that which the parent's create left, after events, the diff is
+/// what makes its memory of the parent's.
+pub fn diff_since()
+    ensures file { (parent identity : Identity) (pages : ℕ) (g : Guest) →
+        diff_header.Fits (header_of (diff_in parent identity pages g)) →
+        IsTrue (is_header (header_of (diff_in parent identity pages g))) → length g.memory.bytes ≡ page_size * pages →
+        IsDiffFile (diff_file (diff_in parent identity pages g)) (diff_in parent identity pages g) }
+    ensures made { (old new : Identity) (before pages : ℕ) (g h : Guest) → pages ≡ before →
+        KeepsUnwritten (unwritten g) h →
+        IsDiffOf (memory_in old before g) (memory_in new pages h) (diff_in old new pages h) }
 {}

@@ -6,4 +6,7 @@
 
 mod law;
 
-pub use law::{copied_again, create_then_load, goes_on, no_snapshot, one_copy_of};
+pub use law::{
+    copied_again, create_then_load, diff_since, goes_on, load_of_files, no_snapshot, one_copy_of,
+    unwritten_pages,
+};

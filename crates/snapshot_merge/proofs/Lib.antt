@@ -5,3 +5,4 @@ pub mod Paging
 pub mod Whole
 pub mod Texts
 pub mod Overlaid
+pub mod InOrder

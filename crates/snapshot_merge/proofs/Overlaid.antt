@@ -42,6 +42,14 @@ zeros_are_slots (s ∷ others) zeros =
     let shut : is_open s ≡ false = ap (λ (n : ℕ). n == 1) (eqb-true s.gate 0 gate) in
     ap (λ (b : Bool). cond b (is_numbered s.identity && memory.are_slots others) (list_all is_zero others)) shut ∙ tests.1
 
+none_of_zeros : (slots : List Slot) → list_all is_zero slots ≡ true → open_slots slots ≡ 0
+none_of_zeros [] zeros = refl
+none_of_zeros (s ∷ others) zeros =
+    let tests = and_parts (is_zero s) (list_all is_zero others) zeros in
+    let gate = (and_parts ((s.identity.lineage == 0) && (s.identity.number == 0)) (s.gate == 0) tests.0).1 in
+    let shut : is_open s ≡ false = ap (λ (n : ℕ). n == 1) (eqb-true s.gate 0 gate) in
+    ap (λ (b : Bool). cond b (suc (open_slots others)) 0) shut
+
 last_of_zeros : (made_as : Identity) (slots : List Slot) → list_all is_zero slots ≡ true → memory.last_identity made_as slots ≡ made_as
 last_of_zeros made_as [] zeros = refl
 last_of_zeros made_as (s ∷ others) zeros =
@@ -96,6 +104,27 @@ module _ (t : Slot) (opens : is_open t ≡ true) (numbered : is_numbered t.ident
   last_opened made_as [] left are = absurd (omega (arith, left))
   last_opened made_as (s ∷ others) left are = next_last made_as s others (is_open s) refl are (λ rest is. last_opened s.identity others (more_left s others is left) rest)
 
+  -- and one slot more is open
+  next_count : (s : Slot) (others : List Slot) (b : Bool) → is_open s ≡ b → memory.are_slots (s ∷ others) ≡ true
+      → (memory.are_slots others ≡ true → b ≡ true → open_slots (set others (open_slots others) t) ≡ suc (open_slots others))
+      → open_slots (set (s ∷ others) (open_slots (s ∷ others)) t) ≡ suc (open_slots (s ∷ others))
+  next_count s others true is are rest =
+      let tests = and_parts (is_numbered s.identity) (memory.are_slots others) (subst (λ (b : Bool). cond b (is_numbered s.identity && memory.are_slots others) (list_all is_zero others) ≡ true) is are) in
+      let count : open_slots (s ∷ others) ≡ suc (open_slots others) = ap (λ (b : Bool). cond b (suc (open_slots others)) 0) is in
+      ap (λ (n : ℕ). open_slots (set (s ∷ others) n t)) count
+      ∙ ap (λ (b : Bool). cond b (suc (open_slots (set others (open_slots others) t))) 0) is
+      ∙ ap suc (rest tests.1 refl) ∙ ap suc (sym count)
+  next_count s others false is are rest =
+      let zeros : list_all is_zero others ≡ true = subst (λ (b : Bool). cond b (is_numbered s.identity && memory.are_slots others) (list_all is_zero others) ≡ true) is are in
+      let count : open_slots (s ∷ others) ≡ 0 = ap (λ (b : Bool). cond b (suc (open_slots others)) 0) is in
+      ap (λ (n : ℕ). open_slots (set (s ∷ others) n t)) count
+      ∙ ap (λ (b : Bool). cond b (suc (open_slots others)) 0) opens
+      ∙ ap suc (none_of_zeros others zeros) ∙ ap suc (sym count)
+
+  pub one_opened : (slots : List Slot) → open_slots slots < length slots → memory.are_slots slots ≡ true → open_slots (set slots (open_slots slots) t) ≡ suc (open_slots slots)
+  one_opened [] left are = absurd (omega (arith, left))
+  one_opened (s ∷ others) left are = next_count s others (is_open s) refl are (λ rest is. one_opened others (more_left s others is left) rest)
+
 -- ---- headers that fit
 
 slots_fit : (h : MemHeader) → memory.header.Fits h → (length h.slots ≡ 100) × AllByRecursion slot.Fits h.slots
@@ -149,7 +178,7 @@ same_get (u ∷ us) (suc j) s t lt = same_get us j s t (omega (arith, lt))
 -- ---- the merge of a diff into a base's file
 
 module _ (given file : List ℕ) (head : MemHeader) (m : MemoryCopy) (d : DiffCopy) (holds : Holds given head m) (is : IsDiffFile file d) (pages : d.pages ≡ m.pages) where
-  abbrev merged_head : MemHeader
+  abbrev pub merged_head : MemHeader
   merged_head = record head { merging = 0; slots = set head.slots (open_slots head.slots) (record { identity = d.identity; gate = 1 }) }
 
   tests : (is_numbered head.made_as ≡ true) × (memory.are_slots head.slots ≡ true)
@@ -190,9 +219,10 @@ module _ (given file : List ℕ) (head : MemHeader) (m : MemoryCopy) (d : DiffCo
       ∙ ap (λ (p : ℕ × Identity × List Slot). memory.header.bytes (record { pages = p.0; made_as = p.1; merging = 0; slots = p.2 }) ++ laid)
       (λ i. (same_pages i, same_made i, same_slots i))
 
-  -- it is a file of the overlaid copy
-  is_overlaid : (text : List ℕ) → open_slots head.slots < 100 → text ≡ memory.header.bytes merged_head ++ with_pages d.numbers d.bytes m.bytes → IsMemoryFile text (overlaid m d)
-  is_overlaid text left text_is = record {
+  -- it is a file of the overlaid copy, with this header
+  is_overlaid : (text : List ℕ) → open_slots head.slots < 100 → text ≡ memory.header.bytes merged_head ++ with_pages d.numbers d.bytes m.bytes
+      → (file : IsMemoryFile text (overlaid m d)) × (file.head ≡ merged_head)
+  is_overlaid text left text_is = (record {
     head = merged_head;
     settled = refl;
     holds = record {
@@ -204,18 +234,22 @@ module _ (given file : List ℕ) (head : MemHeader) (m : MemoryCopy) (d : DiffCo
       whole = stays_whole m d holds.whole (files.whole file d is) pages;
       bytes = text_is;
     };
-  }
+  }, refl)
+
+  pub one_more : open_slots head.slots < 100 → open_slots merged_head.slots ≡ suc (open_slots head.slots)
+  one_more left = one_opened (record { identity = d.identity; gate = 1 }) refl numbered head.slots (omega (arith, left, size)) tests.1
 
   pub from_slot : (s : Slot) → slice_get head.slots (open_slots head.slots) ≡ Some s → s.identity ≡ d.identity
       → IsMemoryFile (text_after (stages (GoOn (open_slots head.slots)) d) given) (overlaid m d)
   from_slot s there same =
       let left = in_range head.slots (open_slots head.slots) s there in
-      is_overlaid _ (omega (arith, left, size))
+      (is_overlaid _ (omega (arith, left, size))
       (ap (text_after (filling (open_slots head.slots) d)) holds.bytes
-      ∙ fill_of head s holds.fits refl refl refl (omega (arith, left, size)) (got head.slots (open_slots head.slots) s (record { identity = d.identity; gate = 1 }) there) same)
+      ∙ fill_of head s holds.fits refl refl refl (omega (arith, left, size)) (got head.slots (open_slots head.slots) s (record { identity = d.identity; gate = 1 }) there) same)).0
 
-  pub from_start : open_slots head.slots < 100 → IsMemoryFile (text_after (stages (Begin (open_slots head.slots)) d) given) (overlaid m d)
-  from_start left =
+  pub from_start_as : open_slots head.slots < 100
+      → (file : IsMemoryFile (text_after (stages (Begin (open_slots head.slots)) d) given) (overlaid m d)) × (file.head ≡ merged_head)
+  from_start_as left =
       let s : Slot = get_or head.slots (open_slots head.slots) (record { identity = d.identity; gate = 1 }) in
       let t : Slot = record { identity = d.identity; gate = s.gate } in
       let named_head : MemHeader = record head { slots = set head.slots (open_slots head.slots) t } in
@@ -229,6 +263,9 @@ module _ (given file : List ℕ) (head : MemHeader) (m : MemoryCopy) (d : DiffCo
       ∙ ap (text_after (filling (open_slots head.slots) d)) (marked named_head m.bytes named_fits 1)
       ∙ fill_of marked_head t (with_mark named_head 1 named_fits (omega arith)) refl refl (set-set head.slots (open_slots head.slots) t (record { identity = d.identity; gate = 1 })) left
       (get_or-set_same head.slots (open_slots head.slots) t (record { identity = d.identity; gate = 1 }) (omega (arith, left, size))) refl)
+
+  pub from_start : open_slots head.slots < 100 → IsMemoryFile (text_after (stages (Begin (open_slots head.slots)) d) given) (overlaid m d)
+  from_start left = (from_start_as left).0
 
 -- ---- the plan
 

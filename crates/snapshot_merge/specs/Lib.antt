@@ -5,3 +5,4 @@ pub mod Plans
 pub mod Rebasing
 pub mod Answering
 pub mod Memories
+pub mod InOrder

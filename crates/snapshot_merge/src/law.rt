@@ -1,11 +1,12 @@
 // What a merge makes of its base.
-ghost use Rattle.std.specs.Prelude.{◌≡◌, ◌≢◌, ◌<◌, List, ℕ, Some, Ok, Err, slice_get};
+ghost use Rattle.std.specs.Prelude.{◌≡◌, ◌≢◌, ◌<◌, ◌≤◌, ◌+◌, List, ℕ, Some, Ok, Err, length, slice_get};
 ghost use Rattle.refusals.specs.declared.refusal.Refusal.TheVariants as refusal;
 ghost use Rattle.snap_memory.specs.declared.header.MemHeader.{MemHeader};
 ghost use Rattle.snap_memory.specs.declared.slot.Slot.{Slot};
-ghost use Rattle.snap_diff.specs.Copies.{DiffCopy, Joins, MemoryCopy, overlaid};
+ghost use Rattle.snap_diff.specs.Copies.{DiffCopy, JoinAll, Joins, MemoryCopy, overlaid, overlaid_all};
 ghost use Rattle.snap_diff.specs.Diffs.{IsDiffFile};
 ghost use Rattle.snapshot_merge.specs.Calls.{stages, text_after};
+ghost use Rattle.snapshot_merge.specs.InOrder.{AreDiffFiles, MergeAll};
 ghost use Rattle.snapshot_merge.specs.Memories.{Holds, IsMemoryFile};
 ghost use Rattle.snapshot_merge.specs.Merges.{open_slots};
 ghost use Rattle.snapshot_merge.specs.Plans.{planned};
@@ -26,4 +27,16 @@ pub fn merged()
         IsMemoryFile (text_after (stages (Merge.GoOn (open_slots head.slots)) d) given) (overlaid m d) }
     ensures again { (given file : List ℕ) (m : MemoryCopy) (d : DiffCopy) → IsMemoryFile given m → IsDiffFile file d →
         d.pages ≡ m.pages → d.parent ≢ m.identity → planned (Some given) (Some file) ≡ Err refusal.ParentDiffers }
+{}
+
+/// Diffs that are merged in order, each of the copy that the ones before it make, leave a file of the copy that all make.
+/// None of them is refused, where a slot is left for each.
+pub fn merged_in_order()
+    ensures some { (files : List (List ℕ)) (diffs : List DiffCopy) (given : List ℕ) (m : MemoryCopy)
+        (is : IsMemoryFile given m) → AreDiffFiles files diffs → JoinAll m diffs →
+        open_slots is.head.slots + length diffs ≤ 100 → (last : List ℕ) × MergeAll given files last }
+    ensures last { (files : List (List ℕ)) (diffs : List DiffCopy) (given last : List ℕ) (m : MemoryCopy)
+        (is : IsMemoryFile given m) → AreDiffFiles files diffs → JoinAll m diffs →
+        open_slots is.head.slots + length diffs ≤ 100 → MergeAll given files last →
+        IsMemoryFile last (overlaid_all m diffs) }
 {}

@@ -1,0 +1,298 @@
+-- A machine that has started keeps its guest, and between two creates a page that isn't written is as it was.
+use Rattle.std.proofs.Common.{◌≡◌, ℕ, ◌+◌, ◌≤◌, Bool, true, false, cond, MatchBool, refl, sym, ap, subst, ◌∙◌, List, [], ◌∷◌, Option, Some, None, Result, Ok, Err, ◌⊎◌, inl, inr, length, arith}
+use Rattle.vm_types.specs.declared.ids.ActorId.{ActorId}
+use Rattle.vm_types.specs.declared.reply.Reply.{Reply}
+use Rattle.refusals.specs.declared.refusal.Refusal.{Refusal}
+use Rattle.guest_memory.specs.Ram.{is_ram}
+use Rattle.hart_trace.specs.Asks.{is_host_op}
+use Rattle.http_stream.specs.Stream.{Connection}
+use Rattle.http_stream.specs.declared.request.Next.{Next}
+use Rattle.http_stream.specs.declared.request.Next.TheVariants as next
+use Rattle.http_stream.specs.Conversation.{Conversation, arrived}
+use Rattle.http_stream.specs.Sent.{sent}
+use Rattle.api_calls.specs.Call.{call_of, ◌>>=◌}
+use Rattle.api_calls.specs.declared.call.ApiCall.{ApiCall}
+use Rattle.api_calls.specs.declared.call.ApiCall.TheVariants as call
+use Rattle.api_calls.specs.declared.call.SnapshotCreate.{SnapshotCreate}
+use Rattle.api_calls.specs.declared.call.VmState.TheVariants.{Paused, Resumed}
+use Rattle.vm_config.specs.declared.config.Config.{Config}
+use Rattle.vm_config.specs.declared.config.Phase.{Phase}
+use Rattle.vm_config.specs.declared.change.Change.{Change}
+use Rattle.vm_config.specs.declared.change.Change.TheVariants as change
+use Rattle.api_rules.specs.declared.ids.Ids.{Ids}
+use Rattle.api_rules.specs.Table.{decision, has_started, own_refusal, unless}
+use Rattle.script_text.specs.declared.item.Item.{Item}
+use Rattle.script_text.specs.declared.item.Item.TheVariants as item
+use Rattle.flat_guest.specs.Guest.{Guest, is_actor, unwritten}
+use Rattle.flat_guest.specs.Start.{timer_restarted}
+use Rattle.flat_guest.specs.Steps.{is_given}
+use Rattle.flat_snapshot.specs.Unwritten.{KeepsUnwritten}
+use Rattle.flat_snapshot.proofs.Unwritten.{keeps_joined, keeps_same, one_keeps, several_keep}
+use Rattle.flat_machine.specs.Between.{GoesOn, NoCreate, SomeCreate}
+use Rattle.flat_machine.specs.Given.{reply_given}
+use Rattle.flat_machine.specs.Outcome.{Left, Outcome}
+use Rattle.flat_machine.specs.Outcome.Outcome.{Answered, Failed, NoMemory}
+use Rattle.flat_machine.specs.Machine.{Machine, drained, drained_guest, phase_by, phase_of, running_by}
+use Rattle.flat_machine.specs.Items.{ItemStep, MemoryLine, RegisterLine, RepliesLine, StepsLine, Talks}
+use Rattle.flat_machine.specs.Requests.{CreateFails, Creates, Fails, Leaves, LeavesBy, RequestStep, allowed, by_files, configured, decided, halted, next_identity}
+use Rattle.flat_machine.specs.Run.{Act, Run}
+
+-- ---- one after another
+
+since_joined : (m n k : Machine) (g h q : Guest) → m.ids.next ≤ n.ids.next → NoCreate m n g h ⊎ SomeCreate m n → NoCreate n k h q ⊎ SomeCreate n k
+    → NoCreate m k g q ⊎ SomeCreate m k
+since_joined m n k g h q rise (inl first) (inl second) =
+    inl (record { base = second.base ∙ first.base; keeps = keeps_joined g h q first.keeps second.keeps })
+since_joined m n k g h q rise (inr first) (inl second) =
+    inr (record { base = first.base; base_is = second.base ∙ first.base_is; new = first.new })
+since_joined m n k g h q rise first (inr second) =
+    inr (record { base = second.base; base_is = second.base_is; new = (let later = second.new in omega (arith, rise, later)) })
+
+joined : (m n k : Machine) (g : Guest) (first : GoesOn g m n) → GoesOn first.guest n k → GoesOn g m k
+joined m n k g first second = record {
+  guest = second.guest;
+  there = second.there;
+  numbers = (let early = first.numbers in let late = second.numbers in omega (arith, early, late));
+  since = since_joined m n k g first.guest second.guest first.numbers first.since second.since;
+}
+
+moved : (g : Guest) (m n q : Machine) → n ≡ q → GoesOn g m q → GoesOn g m n
+moved g m n q is on = subst (λ (k : Machine). GoesOn g m k) (sym is) on
+
+by_events : (g h : Guest) (m n : Machine) → n.guest ≡ Some h → n.ids.next ≡ m.ids.next → n.ids.base ≡ m.ids.base → KeepsUnwritten g h → GoesOn g m n
+by_events g h m n there numbers base keeps = record {
+  guest = h;
+  there = there;
+  numbers = omega (arith, numbers);
+  since = inl (record { base = base; keeps = keeps });
+}
+
+-- the guest and what is known of snapshots are as they were
+stays : (g : Guest) (m n : Machine) → m.guest ≡ Some g → n.guest ≡ m.guest → n.ids.next ≡ m.ids.next → n.ids.base ≡ m.ids.base → GoesOn g m n
+stays g m n there guest numbers base = by_events g g m n (guest ∙ there) numbers base (keeps_same g g refl)
+
+same : (g : Guest) (m n : Machine) → m.guest ≡ Some g → n ≡ m → GoesOn g m n
+same g m n there is = moved g m n m is (stays g m m there refl refl refl)
+
+-- ---- which changes a machine allows that has started
+
+abbrev IsLater : Change → Type 0
+IsLater change.Start = ⊥
+IsLater (change.LoadSnapshot load) = ⊥
+IsLater it = Unit {0}
+
+passes : (why : Option Refusal) (first it : Change) → unless why (Ok first) ≡ Ok it → first ≡ it
+passes None first it is = cc
+passes (Some why) first it is = cc
+
+before_boot : (started : Bool) (why : Refusal) (due : Result Change Refusal) (it : Change) → started ≡ true
+    → unless (cond started (Some why) None) due ≡ Ok it → ⊥
+before_boot true why due it known is = cc
+before_boot false why due it known is = cc
+
+after_boot : (started : Bool) (why : Refusal) (due : Result Change Refusal) (it : Change) → unless (cond started None (Some why)) due ≡ Ok it → due ≡ Ok it
+after_boot true why due it is = is
+after_boot false why due it is = cc
+
+decision_later : (p : Phase) (config : Config) (ids : Ids) (c : ApiCall) (it : Change) → has_started p ≡ true → decision p config ids c ≡ Ok it → IsLater it
+decision_later p config ids (call.PutBootSource source) it started is = absurd (before_boot (has_started p) _ _ it started is)
+decision_later p config ids (call.PutMachineConfig machine) it started is = absurd (before_boot (has_started p) _ _ it started is)
+decision_later p config ids (call.PatchMachineConfig patch) it started is = absurd (before_boot (has_started p) _ _ it started is)
+decision_later p config ids call.InstanceStart it started is = absurd (before_boot (has_started p) _ _ it started is)
+decision_later p config ids (call.LoadSnapshot load) it started is = absurd (before_boot (has_started p) _ _ it started is)
+decision_later p config ids (call.PatchVm state) it started is =
+    subst IsLater (passes (own_refusal p config ids (call.PatchVm state)) (change.State state) it (after_boot (has_started p) _ _ it is)) tt
+decision_later p config ids (call.CreateSnapshot create) it started is =
+    subst IsLater (passes (own_refusal p config ids (call.CreateSnapshot create)) (change.CreateSnapshot create) it (after_boot (has_started p) _ _ it is)) tt
+decision_later p config ids (call.Get part) it started is =
+    subst IsLater (passes (own_refusal p config ids (call.Get part)) (change.Tell part) it is) tt
+
+call_later : (m : Machine) (asked : Result ApiCall Refusal) (it : Change) → has_started (phase_of m) ≡ true
+    → (asked >>= λ c. decision (phase_of m) m.config m.ids c) ≡ Ok it → IsLater it
+call_later m (Ok c) it started is = decision_later (phase_of m) m.config m.ids c it started is
+call_later m (Err why) it started is = absurd cc
+
+decided_later : (m : Machine) (given : Next) (it : Change) → has_started (phase_of m) ≡ true → decided m given ≡ Ok it → IsLater it
+decided_later m (next.Request request) it started is = call_later m (call_of request) it started is
+decided_later m (next.Bad why) it started is = absurd cc
+decided_later m next.None it started is = absurd cc
+
+same_change : (a b : Change) → ◌≡◌ {A = Result Change Refusal} (Ok a) (Ok b) → a ≡ b
+same_change a b is = cc
+
+files_later : (m : Machine) (first it : Change) → IsLater first → by_files m first ≡ Ok it → IsLater it
+files_later m change.Start it later is = absurd later
+files_later m (change.LoadSnapshot load) it later is = absurd later
+files_later m (change.BootSource source) it later is = subst IsLater (same_change (change.BootSource source) it is) tt
+files_later m (change.MachineConfig machine) it later is = subst IsLater (same_change (change.MachineConfig machine) it is) tt
+files_later m (change.State state) it later is = subst IsLater (same_change (change.State state) it is) tt
+files_later m (change.CreateSnapshot create) it later is = subst IsLater (same_change (change.CreateSnapshot create) it is) tt
+files_later m (change.Tell part) it later is = subst IsLater (same_change (change.Tell part) it is) tt
+
+by_decided : (m : Machine) (given : Next) (asked : Result Change Refusal) (it : Change) → has_started (phase_of m) ≡ true → decided m given ≡ asked
+    → (asked >>= λ first. by_files m first) ≡ Ok it → IsLater it
+by_decided m given (Ok first) it started asks is = files_later m first it (decided_later m given first started asks) is
+by_decided m given (Err why) it started asks is = absurd cc
+
+started_by : (g : Guest) (paused : Bool) → has_started (phase_by (Some g) paused) ≡ true
+started_by g true = refl
+started_by g false = refl
+
+started : (g : Guest) (m : Machine) → m.guest ≡ Some g → has_started (phase_of m) ≡ true
+started g m there = ap (λ (guest : Option Guest). has_started (phase_by guest m.paused)) there ∙ started_by g m.paused
+
+-- ---- what they leave
+
+same_guest : (g h : Guest) → ◌≡◌ {A = Option Guest} (Some g) (Some h) → g ≡ h
+same_guest g h is = cc
+
+halted_keeps : (g : Guest) (paused : Bool) (guest : Option Guest) → guest ≡ Some g → (h : Guest) × (halted paused guest ≡ Some h) × KeepsUnwritten g h
+halted_keeps g true guest is = (g, is, keeps_same g g refl)
+halted_keeps g false None is = absurd cc
+halted_keeps g false (Some q) is = (
+  timer_restarted q,
+  refl,
+  subst (λ (x : Guest). KeepsUnwritten x (timer_restarted q)) (same_guest q g is)
+      (record { size = refl; unwritten = λ i none. none; pages = λ i none. refl }),
+)
+
+drained_keeps : (g : Guest) (guest : Option Guest) → guest ≡ Some g → (h : Guest) × (drained_guest guest ≡ Some h) × KeepsUnwritten g h
+drained_keeps g None is = absurd cc
+drained_keeps g (Some q) is = (
+  record q { board = record q.board { console = [] } },
+  refl,
+  subst (λ (x : Guest). KeepsUnwritten x (record q { board = record q.board { console = [] } })) (same_guest q g is)
+      (record { size = refl; unwritten = λ i none. none; pages = λ i none. refl }),
+)
+
+create_on : (g : Guest) (guest : Option Guest) (m : Machine) (it : SnapshotCreate) (n : Machine) → guest ≡ Some g → Creates guest m it n → GoesOn g m n
+create_on g None m it n there x = absurd cc
+create_on g (Some q) m it n there (copy, of, is) = record {
+  guest = unwritten q;
+  there = ap (λ (k : Machine). k.guest) is;
+  numbers = (let number : n.ids.next ≡ m.ids.next + 1 = ap (λ (k : Machine). k.ids.next) is in omega (arith, number));
+  since = inr (record { base = next_identity m; base_is = ap (λ (k : Machine). k.ids.base) is; new = omega arith });
+}
+
+leaves_on : (g : Guest) (it : Change) (m n : Machine) → m.guest ≡ Some g → IsLater it → Leaves m it n → GoesOn g m n
+leaves_on g (change.BootSource source) m n there later is =
+    moved g m n (configured m (change.BootSource source)) is (stays g m (configured m (change.BootSource source)) there refl refl refl)
+leaves_on g (change.MachineConfig machine) m n there later is =
+    moved g m n (configured m (change.MachineConfig machine)) is (stays g m (configured m (change.MachineConfig machine)) there refl refl refl)
+leaves_on g change.Start m n there later is = absurd later
+leaves_on g (change.State Paused) m n there later is =
+    let h = halted_keeps g m.paused m.guest there in
+    moved g m n (record m { guest = halted m.paused m.guest; paused = true }) is
+    (by_events g h.0 m (record m { guest = halted m.paused m.guest; paused = true }) h.1 refl refl h.2)
+leaves_on g (change.State Resumed) m n there later is = moved g m n (record m { paused = false }) is (stays g m (record m { paused = false }) there refl refl refl)
+leaves_on g (change.CreateSnapshot it) m n there later x = create_on g m.guest m it n there x
+leaves_on g (change.LoadSnapshot load) m n there later x = absurd later
+leaves_on g (change.Tell part) m n there later is = same g m n there is
+
+create_fails_on : (g : Guest) (guest : Option Guest) (m : Machine) (it : SnapshotCreate) (left : Left) (n : Machine) → m.guest ≡ Some g
+    → CreateFails guest m it left n → GoesOn g m n
+create_fails_on g None m it left n there x = absurd x
+create_fails_on g (Some q) m it left n there (copy, of, others, calls, is) = record {
+  guest = g;
+  there = ap (λ (k : Machine). k.guest) is ∙ there;
+  numbers = (let number : n.ids.next ≡ m.ids.next + 1 = ap (λ (k : Machine). k.ids.next) is in omega (arith, number));
+  since = inl (record { base = ap (λ (k : Machine). k.ids.base) is; keeps = keeps_same g g refl });
+}
+
+fails_on : (g : Guest) (it : Change) (m : Machine) (left : Left) (n : Machine) → m.guest ≡ Some g → Fails m it left n → GoesOn g m n
+fails_on g (change.BootSource source) m left n there x = absurd x
+fails_on g (change.MachineConfig machine) m left n there x = absurd x
+fails_on g change.Start m left n there x = same g m n there x.1
+fails_on g (change.State state) m left n there x = absurd x
+fails_on g (change.CreateSnapshot it) m left n there x = create_fails_on g m.guest m it left n there x
+fails_on g (change.LoadSnapshot load) m left n there x = same g m n there x.1
+fails_on g (change.Tell part) m left n there x = absurd x
+
+result_on : (g : Guest) (m n : Machine) (given : Next) (result : Result Change Refusal) → m.guest ≡ Some g → allowed m given ≡ result → LeavesBy m result n
+    → GoesOn g m n
+result_on g m n given (Ok it) there is x =
+    leaves_on g it m n there (by_decided m given (decided m given) it (started g m there) refl is) x
+result_on g m n given (Err why) there is x = same g m n there x
+
+request_on : (g : Guest) (how : Outcome) (given : Next) (m : Machine) (t : List ℕ) (n : Machine) → m.guest ≡ Some g → RequestStep how given m t n → GoesOn g m n
+request_on g Answered given m t n there x = result_on g m n given (allowed m given) there refl x.1
+request_on g (Failed left) given m t n there (it, asks, fails, is) = fails_on g it m left n there fails
+request_on g NoMemory given m t n there x = same g m n there x.1
+
+-- ---- lines
+
+conversation_on : (outcomes : List Outcome) (c d : Connection) (m n : Machine) (t : List ℕ) (g : Guest) → m.guest ≡ Some g
+    → Conversation RequestStep outcomes c m t d n → GoesOn g m n
+conversation_on [] c d m n t g there (quiet, stays_so, none, is) = same g m n there is
+conversation_on (how ∷ outcomes) c d m n t g there (given, after, first, mid, rest, takes, step, more, text) =
+    let on = request_on g how given m first mid there step in
+    joined m mid n g on (conversation_on outcomes after d mid n rest on.guest on.there more)
+
+talks_on : (bytes : List ℕ) (outcomes : List Outcome) (m n : Machine) (t : List ℕ) (g : Guest) → m.guest ≡ Some g → Talks bytes outcomes m t n → GoesOn g m n
+talks_on bytes outcomes m n t g there (after, mid, talk, is) =
+    let on = conversation_on outcomes (arrived m.connection bytes) after m mid t g there talk in
+    moved g m n (record mid { connection = after }) is
+    (joined m mid (record mid { connection = after }) g on (stays on.guest mid (record mid { connection = after }) on.there refl refl refl))
+
+by_either : {A B C : Type 0} (there : Bool) → (A → C) → (B → C) → MatchBool there A B → C
+by_either true some none x = some x
+by_either false some none x = none x
+
+-- the guest that runs is this one
+end_on : (g q h : Guest) (m n : Machine) → ◌≡◌ {A = Option Guest} (Some q) (Some g) → KeepsUnwritten q h → n ≡ record m { guest = Some h } → GoesOn g m n
+end_on g q h m n own keeps is =
+    moved g m n (record m { guest = Some h }) is
+    (by_events g h m (record m { guest = Some h }) refl refl refl (subst (λ (x : Guest). KeepsUnwritten x h) (same_guest q g own) keeps))
+
+steps_on : (g : Guest) (guest : Option Guest) (paused : Bool) (actor : ActorId) (count : ℕ) (m n : Machine) (t : List ℕ) → guest ≡ Some g → m.guest ≡ Some g
+    → StepsLine (running_by guest paused) actor count m t n → GoesOn g m n
+steps_on g guest true actor count m n t own there x = same g m n there x.1
+steps_on g None false actor count m n t own there x = same g m n there x.1
+steps_on g (Some q) false actor count m n t own there x =
+    by_either (is_actor q actor) (λ moves. end_on g q moves.end m n own (several_keep q moves.end actor count moves.entries moves.made) moves.leaves)
+    (λ none. same g m n there none.1) x
+
+replies_on : (g : Guest) (guest : Option Guest) (paused : Bool) (actor : ActorId) (given : Option Reply) (m n : Machine) (t : List ℕ) → guest ≡ Some g
+    → m.guest ≡ Some g → RepliesLine (running_by guest paused) actor given m t n → GoesOn g m n
+replies_on g guest true actor given m n t own there x = same g m n there x.1
+replies_on g None false actor given m n t own there x = same g m n there x.1
+replies_on g (Some q) false actor given m n t own there x =
+    by_either (is_actor q actor)
+    (λ wants. by_either (is_host_op wants.0)
+    (λ host. by_either (is_given wants.0 given)
+    (λ fit. end_on g q fit.end m n own (one_keeps q fit.end (record { actor = actor; reply = given }) fit.entry fit.step) fit.leaves)
+    (λ unfit. same g m n there unfit.1) host)
+    (λ none. same g m n there none.1) wants.2)
+    (λ none. same g m n there none.1) x
+
+register_on : (g : Guest) (guest : Option Guest) (hart number : ℕ) (m n : Machine) (t : List ℕ) → m.guest ≡ Some g → RegisterLine guest hart number m t n
+    → GoesOn g m n
+register_on g None hart number m n t there x = same g m n there x.1
+register_on g (Some q) hart number m n t there x =
+    by_either (is_actor q (ActorId.Hart hart)) (λ shows. same g m n there shows.1) (λ none. same g m n there none.1) x
+
+memory_on : (g : Guest) (guest : Option Guest) (at len : ℕ) (m n : Machine) (t : List ℕ) → m.guest ≡ Some g → MemoryLine guest at len m t n → GoesOn g m n
+memory_on g None at len m n t there x = same g m n there x.1
+memory_on g (Some q) at len m n t there x =
+    by_either (is_ram (length q.memory.bytes) at len) (λ shows. same g m n there shows.1) (λ none. same g m n there none.1) x
+
+item_on : (it : Item) (outcomes : List Outcome) (m n : Machine) (t : List ℕ) (g : Guest) → m.guest ≡ Some g → ItemStep it outcomes m t n → GoesOn g m n
+item_on (item.Bytes bytes) outcomes m n t g there x = talks_on bytes outcomes m n t g there x
+item_on (item.Api method path body) outcomes m n t g there x = talks_on (sent method path body) outcomes m n t g there x
+item_on item.Nothing outcomes m n t g there x = same g m n there x.1.1
+item_on (item.File name content) outcomes m n t g there x = moved g m n _ x.1.1 (stays g m _ there refl refl refl)
+item_on (item.Lineage lineage) outcomes m n t g there x = moved g m n _ x.1.1 (stays g m _ there refl refl refl)
+item_on item.Connect outcomes m n t g there x = moved g m n _ x.1.1 (stays g m _ there refl refl refl)
+item_on (item.Step actor count) outcomes m n t g there x = steps_on g m.guest m.paused actor count m n t there there x.1
+item_on (item.Reply actor reply) outcomes m n t g there x = replies_on g m.guest m.paused actor (reply_given reply) m n t there there x.1
+item_on item.Console outcomes m n t g there x =
+    let h = drained_keeps g m.guest there in
+    moved g m n (drained m) x.1.1 (by_events g h.0 m (drained m) h.1 refl refl h.2)
+item_on (item.Register hart number) outcomes m n t g there x = register_on g m.guest hart number m n t there x.1
+item_on (item.Memory at len) outcomes m n t g there x = memory_on g m.guest at len m n t there x.1
+
+pub run_on : (acts : List Act) (m n : Machine) (t : List ℕ) (g : Guest) → m.guest ≡ Some g → Run acts m t n → GoesOn g m n
+run_on [] m n t g there x = same g m n there (sym x.1)
+run_on (act ∷ acts) m n t g there (first, mid, rest, step, more, text) =
+    let on = item_on act.item act.outcomes m mid first g there step in
+    joined m mid n g on (run_on acts mid n rest on.guest on.there more)

@@ -1,0 +1,159 @@
+-- What a create left, and that each diff is of the memory before it.
+use Rattle.std.proofs.Common.{◌≡◌, ◌≢◌, ℕ, ◌+◌, ◌*◌, ◌<◌, ◌≤◌, ◌==◌, ◌&&◌, Bool, true, false, not, List, [], ◌∷◌, ◌++◌, length, Option, Some, None, refl, sym, ap, subst, ◌∙◌, ◌⊎◌, inl, inr, arith}
+use Rattle.std.specs.Prelude.{IsTrue}
+use Rattle.std.specs.FinMap.{get, insert}
+use Rattle.std.proofs.lemmas.Bool.{and_parts, eqb-true, false_from_ne_true, ne_eqb}
+use Rattle.vm_types.specs.Saved.{Saved}
+use Rattle.vm_types.specs.declared.identity.Identity.{Identity}
+use Rattle.gate_file.proofs.Inserts.{got_other, got_there}
+use Rattle.file_format.specs.Kinds.{fixed, number32, zeros}
+use Rattle.file_format.specs.Identities.{identity, is_numbered, is_same}
+use Rattle.api_calls.specs.declared.call.SnapshotType.{SnapshotType}
+use Rattle.api_calls.specs.declared.call.SnapshotType.TheVariants as snapshot
+use Rattle.snap_memory.specs.Headers as memory
+use Rattle.snap_diff.specs.Copies.{DiffCopy, IsDiffOf, LeadBy}
+use Rattle.snap_diff.specs.Diffs.{IsDiffFile}
+use Rattle.snap_diff.specs.Headers as diffs
+use Rattle.snapshot_merge.specs.Memories.{IsMemoryFile}
+use Rattle.snap_state.specs.declared.copy.StateCopy.{StateCopy}
+use Rattle.flat_guest.specs.Guest.{Guest, unwritten}
+use Rattle.flat_snapshot.specs.Files.{diff_file, head_of, memory_file, saved_pages, state_file}
+use Rattle.flat_snapshot.specs.Unwritten.{KeepsUnwritten}
+use Rattle.flat_snapshot.proofs.Copied.{same_copy}
+use Rattle.flat_snapshot.proofs.Diffs.{diff_of_both, is_file, written_few}
+use Rattle.flat_snapshot.proofs.Loaded.{memory_is, new_valid}
+use Rattle.flat_machine.specs.Between.{GoesOn, NoCreate, SomeCreate}
+use Rattle.flat_machine.specs.Machine.{Machine}
+use Rattle.flat_machine.specs.Requests.{Creates, created, parent_in, parent_of}
+use Rattle.flat_machine.proofs.Between.{run_on}
+use Rattle.snapshot_chain.specs.Chains.{DiffsLead, Follows, IsSaving, Saving, diff_since, identity_of, memory_of, memory_text, state_text, steps_of}
+
+-- ---- what stands under the two names
+
+module _ (type : SnapshotType) (s : Saving) (is : IsSaving type s) where
+  pub after_is : s.after ≡ created s.before s.guest s.asked.files (parent_in s.before s.asked) s.copy
+  after_is =
+      let made : Creates (Some s.guest) s.before s.asked s.after = subst (λ (o : Option Guest). Creates o s.before s.asked s.after) is.there is.leaves in
+      made.2 ∙ ap (λ (c : StateCopy). created s.before s.guest s.asked.files (parent_in s.before s.asked) c)
+      (same_copy s.before.config s.guest made.0 s.copy made.1 is.is_copy)
+
+  pub state_is : state_text s ≡ Some (state_file (identity_of s) s.copy)
+  state_is =
+      ap (λ (m : Machine). get m.saved s.asked.files.snapshot_path) after_is
+      ∙ got_there _ s.asked.files.snapshot_path (state_file (identity_of s) s.copy)
+
+  abbrev text_since : Option Identity → List ℕ
+  text_since parent = 1 ∷ head_of parent (identity_of s) s.copy.pages s.guest ++ saved_pages parent s.copy.pages s.guest
+
+  pub text_is : (parent : Option Identity) → parent_in s.before s.asked ≡ parent → memory_text s ≡ Some (text_since parent)
+  text_is parent of =
+      ap (λ (m : Machine). get m.saved s.asked.files.mem_file_path) after_is
+      ∙ ap (λ (p : Option Identity). get (insert (insert s.before.saved s.asked.files.mem_file_path (text_since p)) s.asked.files.snapshot_path (state_file (identity_of s) s.copy)) s.asked.files.mem_file_path) of
+      ∙ got_other (insert s.before.saved s.asked.files.mem_file_path (text_since parent)) s.asked.files.snapshot_path (state_file (identity_of s) s.copy) s.asked.files.mem_file_path is.names
+      ∙ got_there s.before.saved s.asked.files.mem_file_path (text_since parent)
+
+pub full_text : (s : Saving) → IsSaving snapshot.Full s → memory_text s ≡ Some (memory_file (identity_of s) s.copy.pages s.guest.memory.bytes)
+full_text s is = text_is snapshot.Full s is None (ap (λ (t : SnapshotType). parent_of t s.before.ids.base) is.type_is)
+
+-- with a header into which nothing was merged
+pub full_file : (s : Saving) → IsSaving snapshot.Full s
+    → (file : IsMemoryFile (memory_file (identity_of s) s.copy.pages s.guest.memory.bytes) (memory_of s)) × (file.head ≡ memory.new_header s.copy.pages (identity_of s))
+full_file s is = (
+  record {
+    head = memory.new_header s.copy.pages (identity_of s);
+    holds = record {
+      fits = is.fits;
+      valid = new_valid s.copy.pages (identity_of s) is.saved.numbered;
+      pages = refl;
+      identity = refl;
+      whole = is.whole;
+      bytes = memory_is (identity_of s) s.copy.pages s.guest.memory.bytes;
+    };
+    settled = refl;
+  },
+  refl,
+)
+
+-- ---- a diff
+
+differs : (a b : Identity) → a ≢ b → is_same a b ≡ false
+differs a b other = false_from_ne_true (is_same a b) (λ e.
+    let both = and_parts (a.lineage == b.lineage) (a.number == b.number) e in
+    other (λ i. record { lineage = eqb-true a.lineage b.lineage both.0 i; number = eqb-true a.number b.number both.1 i }))
+
+all_three : (a b c : Bool) → a ≡ true → b ≡ true → c ≡ false → (a && b && not c) ≡ true
+all_three a b c p q r = rw (p, q, r) refl
+
+header_fits : (pages count : ℕ) (parent own : Identity) → identity.Fits parent → count ≤ pages → memory.header.Fits (memory.new_header pages own)
+    → diffs.header.Fits (record { pages = pages; parent = parent; identity = own; count = count })
+unfolding memory.header diffs.header number32 fixed zeros
+header_fits pages count parent own of few fits =
+    let small = fits.1.1.0 in
+    (refl, (refl, (small, (of, (fits.1.1.1.0, (omega (arith, few, small), tt))))))
+
+pub identity_fits : (pages : ℕ) (own : Identity) → memory.header.Fits (memory.new_header pages own) → identity.Fits own
+unfolding memory.header
+identity_fits pages own fits = fits.1.1.1.0
+
+module _ (s : Saving) (parent : Identity) (is : IsSaving snapshot.Diff s) (base : s.before.ids.base ≡ Some parent) (of : identity.Fits parent)
+    (numbered : IsTrue (is_numbered parent)) (other : parent ≢ identity_of s) where
+  pub diff_text : memory_text s ≡ Some (diff_file (diff_since parent s))
+  diff_text = text_is snapshot.Diff s is (Some parent) (ap (λ (t : SnapshotType). parent_of t s.before.ids.base) is.type_is ∙ base)
+
+  pub diff_is_file : IsDiffFile (diff_file (diff_since parent s)) (diff_since parent s)
+  diff_is_file =
+      is_file parent (identity_of s) s.copy.pages s.guest
+      (header_fits s.copy.pages (length (diff_since parent s).numbers) parent (identity_of s) of (written_few s.guest.written 0 s.copy.pages) is.fits)
+      (all_three (is_numbered parent) (is_numbered (identity_of s)) (is_same parent (identity_of s)) numbered is.saved.numbered (differs parent (identity_of s) other))
+      is.whole
+
+-- ---- a diff that follows another create
+
+some_same : {A : Type 0} (a b : A) → Some a ≡ Some b → a ≡ b
+some_same a b is = cc
+
+module _ (type : SnapshotType) (first s : Saving) (of : IsSaving type first) (is : IsSaving snapshot.Diff s) (follows : Follows first s) where
+  left : first.after ≡ created first.before first.guest first.asked.files (parent_in first.before first.asked) first.copy
+  left = after_is type first of
+
+  on : GoesOn (unwritten first.guest) first.after s.before
+  on = run_on follows.acts first.after s.before follows.text (unwritten first.guest) (ap (λ (m : Machine). m.guest) left) follows.ran
+
+  pub base_is : s.before.ids.base ≡ Some (identity_of first)
+  base_is = follows.base ∙ ap (λ (m : Machine). m.ids.base) left
+
+  next_is : first.after.ids.next ≡ first.before.ids.next + 1
+  next_is = ap (λ (m : Machine). m.ids.next) left
+
+  pub is_other : identity_of first ≢ identity_of s
+  is_other same =
+      let number : first.before.ids.next ≡ s.before.ids.next = ap (λ (i : Identity). i.number) same in
+      let rise = on.numbers in
+      let next = next_is in
+      omega (arith, number, rise, next)
+
+  by_since : NoCreate first.after s.before (unwritten first.guest) on.guest ⊎ SomeCreate first.after s.before → KeepsUnwritten (unwritten first.guest) on.guest
+  by_since (inl none) = none.keeps
+  by_since (inr some) =
+      let number : some.base.number ≡ first.before.ids.next = ap (λ (i : Identity). i.number) (some_same some.base (identity_of first) (sym some.base_is ∙ base_is)) in
+      let new = some.new in
+      let next = next_is in
+      absurd (omega (arith, number, new, next))
+
+  keeps : KeepsUnwritten (unwritten first.guest) s.guest
+  keeps = subst (λ (h : Guest). KeepsUnwritten (unwritten first.guest) h) (some_same on.guest s.guest (sym on.there ∙ is.there)) (by_since on.since)
+
+  as_many : s.copy.pages ≡ first.copy.pages
+  as_many =
+      let one = of.whole in
+      let two = is.whole in
+      let size = keeps.size in
+      omega (arith, one, two, size)
+
+  pub is_diff : IsDiffOf (memory_of first) (memory_of s) (diff_since (identity_of first) s)
+  is_diff = diff_of_both (identity_of first) (identity_of s) first.copy.pages s.copy.pages first.guest s.guest as_many keeps
+
+pub lead : (type : SnapshotType) (first last : Saving) (savings : List Saving) → IsSaving type first → DiffsLead first savings last
+    → LeadBy (memory_of first) (steps_of first savings) (memory_of last)
+lead type first last [] of same = ap memory_of same
+lead type first last (s ∷ savings) of (is, follows, rest) = (is.whole, is_diff type first s of is follows, lead snapshot.Diff s last savings is rest)

@@ -1,0 +1,79 @@
+-- Creates of one machine: a full one, and diffs, each since the one before.
+use Rattle.std.specs.Prelude.{◌≡◌, ◌≢◌, ℕ, ◌*◌, List, [], ◌∷◌, length, Option, Some}
+use Rattle.std.specs.FinMap.{get}
+use Rattle.vm_types.specs.declared.identity.Identity.{Identity}
+use Rattle.api_calls.specs.declared.call.SnapshotCreate.{SnapshotCreate}
+use Rattle.api_calls.specs.declared.call.SnapshotType.{SnapshotType}
+use Rattle.api_calls.specs.declared.call.SnapshotType.TheVariants as snapshot
+use Rattle.vm_config.specs.declared.change.Change.TheVariants as change
+use Rattle.guest_memory.specs.Ram.{page_size}
+use Rattle.flat_guest.specs.Guest.{Guest}
+use Rattle.snap_memory.specs.Headers.{header, new_header}
+use Rattle.snap_diff.specs.Copies.{DiffCopy, DiffStep, MemoryCopy}
+use Rattle.snap_state.specs.declared.copy.StateCopy.{StateCopy}
+use Rattle.snap_state.specs.Files.{IsSaved}
+use Rattle.flat_snapshot.specs.Copies.{IsCopyOf}
+use Rattle.flat_snapshot.specs.Files.{diff_in, memory_in}
+use Rattle.flat_machine.specs.Machine.{Machine}
+use Rattle.flat_machine.specs.Requests.{Leaves, next_identity}
+use Rattle.flat_machine.specs.Run.{Act, Run}
+
+-- ---- a create that was answered
+
+-- what was asked, the machine before it and after, its guest, and the guest's copy
+pub record Saving : Type 0 where
+  pub asked : SnapshotCreate
+  pub before : Machine
+  pub after : Machine
+  pub guest : Guest
+  pub copy : StateCopy
+
+-- the identity of its snapshot
+abbrev pub identity_of : Saving → Identity
+identity_of s = next_identity s.before
+
+-- It is of this type, it put the guest's copy under two names, and it left the machine after it. The copy is one that the
+-- files can have, and the memory is all of its pages.
+pub record IsSaving (type : SnapshotType) (s : Saving) : Type 0 where
+  pub type_is : s.asked.snapshot_type ≡ type
+  pub there : s.before.guest ≡ Some s.guest
+  pub names : s.asked.files.mem_file_path ≢ s.asked.files.snapshot_path
+  pub is_copy : IsCopyOf s.before.config s.guest s.copy
+  pub saved : IsSaved (record { identity = identity_of s; copy = s.copy })
+  pub fits : header.Fits (new_header s.copy.pages (identity_of s))
+  pub whole : length s.guest.memory.bytes ≡ page_size * s.copy.pages
+  pub leaves : Leaves s.before (change.CreateSnapshot s.asked) s.after
+
+-- what stands under its two names after it
+abbrev pub memory_text : Saving → Option (List ℕ)
+memory_text s = get s.after.saved s.asked.files.mem_file_path
+
+abbrev pub state_text : Saving → Option (List ℕ)
+state_text s = get s.after.saved s.asked.files.snapshot_path
+
+-- the memory that it found, and the pages of it that were written since the parent
+abbrev pub memory_of : Saving → MemoryCopy
+memory_of s = memory_in (identity_of s) s.copy.pages s.guest
+
+abbrev pub diff_since : Identity → Saving → DiffCopy
+diff_since parent s = diff_in parent (identity_of s) s.copy.pages s.guest
+
+-- ---- several
+
+-- the machine that the first left went on, and the first is still its base at the second
+pub record Follows (first second : Saving) : Type 0 where
+  pub acts : List Act
+  pub text : List ℕ
+  pub ran : Run acts first.after text second.before
+  pub base : second.before.ids.base ≡ first.after.ids.base
+
+-- from a create by diffs, each of which follows the one before, to the last
+abbrev pub DiffsLead : Saving → List Saving → Saving → Type 0
+DiffsLead first [] last = first ≡ last
+DiffsLead first (s ∷ savings) last = IsSaving snapshot.Diff s × Follows first s × DiffsLead s savings last
+
+-- each diff, and the memory that it found
+abbrev pub steps_of : Saving → List Saving → List DiffStep
+steps_of first [] = []
+steps_of first (s ∷ savings) =
+    record { diff = diff_since (identity_of first) s; after = memory_of s } ∷ steps_of s savings

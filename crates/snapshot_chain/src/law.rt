@@ -1,0 +1,64 @@
+// What holds of every chain of creates.
+ghost use Rattle.std.specs.Prelude.{◌≡◌, ◌≢◌, ◌≤◌, List, ℕ, IsTrue, Some, length, map};
+ghost use Rattle.std.specs.FinMap.{get};
+ghost use Rattle.vm_types.specs.declared.identity.Identity.{Identity};
+ghost use Rattle.api_calls.specs.declared.call.SnapshotLoad.{SnapshotLoad};
+ghost use Rattle.api_calls.specs.declared.call.SnapshotType.TheVariants as snapshot;
+ghost use Rattle.api_calls.specs.declared.call.SnapshotType.{SnapshotType};
+ghost use Rattle.vm_config.specs.declared.change.Change.TheVariants as change;
+ghost use Rattle.file_format.specs.Identities.{identity, is_numbered};
+ghost use Rattle.snap_diff.specs.Copies.{LeadBy};
+ghost use Rattle.snap_diff.specs.Diffs.{IsDiffFile};
+ghost use Rattle.snapshot_merge.specs.InOrder.{MergeAll};
+ghost use Rattle.snapshot_merge.specs.Memories.{IsMemoryFile};
+ghost use Rattle.flat_snapshot.specs.Files.{state_file};
+ghost use Rattle.flat_machine.specs.Machine.{Machine};
+ghost use Rattle.flat_machine.specs.Requests.{Leaves, carried};
+ghost use Rattle.snapshot_chain.specs.Chains.{
+  DiffsLead,
+  IsSaving,
+  Saving,
+  diff_since,
+  identity_of,
+  memory_of,
+  memory_text,
+  state_text,
+  steps_of,
+};
+
+/// What a full create wrote under the name of its memory is a file of the memory that it found; what a create of a diff
+/// wrote there is the file of its diff since the base, if that is a snapshot that files can name, and another. Under the
+/// other name stands the state file of the guest's copy.
+pub fn created_files()
+    ensures full { (s : Saving) → IsSaving snapshot.Full s →
+        (text : List ℕ) × (memory_text s ≡ Some text) × IsMemoryFile text (memory_of s) }
+    ensures diff { (s : Saving) (parent : Identity) → IsSaving snapshot.Diff s → s.before.ids.base ≡ Some parent →
+        identity.Fits parent → IsTrue (is_numbered parent) → parent ≢ identity_of s →
+        (text : List ℕ) × (memory_text s ≡ Some text) × IsDiffFile text (diff_since parent s) }
+    ensures state { (type : SnapshotType) (s : Saving) → IsSaving type s →
+        state_text s ≡ Some (state_file (identity_of s) s.copy) }
+{}
+
+/// Creates of diffs, each since the one before, find memories of which each is the one before overlaid with its diff.
+pub fn diffs_of_creates()
+    ensures { (type : SnapshotType) (first last : Saving) (savings : List Saving) → IsSaving type first →
+        DiffsLead first savings last → LeadBy (memory_of first) (steps_of first savings) (memory_of last) }
+{}
+
+/// The files of diffs, each since the one before, are merged in order into that of the full snapshot before them, as many
+/// as it has slots for. What is left, wherever it lies, and the last create's state file are loaded as the machine of that
+/// create: its guest, its configuration and its identity, and the bytes of all its pages.
+pub fn merged_then_load()
+    ensures merges { (first last : Saving) (savings : List Saving) (base : List ℕ) (files : List (List ℕ)) →
+        IsSaving snapshot.Full first → DiffsLead first savings last → length savings ≤ 100 →
+        memory_text first ≡ Some base → map (λ s. memory_text s) savings ≡ map (λ file. Some file) files →
+        (merged : List ℕ) × MergeAll base files merged }
+    ensures loads { (first last : Saving) (savings : List Saving) (base merged : List ℕ) (files : List (List ℕ))
+        (k p : Machine) (load : SnapshotLoad) →
+        IsSaving snapshot.Full first → DiffsLead first savings last → length savings ≤ 100 →
+        memory_text first ≡ Some base → map (λ s. memory_text s) savings ≡ map (λ file. Some file) files →
+        MergeAll base files merged →
+        get k.saved load.files.mem_file_path ≡ Some merged → get k.saved load.files.snapshot_path ≡ state_text last →
+        Leaves k (change.LoadSnapshot load) p →
+        p ≡ carried k load (record { identity = identity_of last; copy = last.copy; bytes = last.guest.memory.bytes }) }
+{}
