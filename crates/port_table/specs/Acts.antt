@@ -85,8 +85,8 @@ is_port_op (Op.Out act) = false
 is_port_op Op.Idle = false
 is_port_op op = true
 
--- The device's configuration becomes another: these bytes are its first ones, and the driver is told (VIRTIO 1.2,
--- 4.2.2.1: "the device MUST change ConfigGeneration").
+-- The device's configuration becomes another: these bytes are its first ones, the rest stays, ConfigGeneration changes
+-- (VIRTIO 1.2, 4.2.2.1), and the driver is told by a configuration interrupt.
 abbrev pub configured : PortState → List ℕ → PortState
 configured p bytes =
     let told : PortState = interrupted p configuration_change in

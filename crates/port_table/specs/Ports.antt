@@ -11,7 +11,7 @@ use Rattle.port_table.specs.Kinds.{config_length, feature_mask, queue_count}
 abbrev pub new_queue : PortQueue
 new_queue = record { descriptors = 0; available = 0; used = 0; size = 0; ready = 0; is_kicked = false }
 
--- The port of a device of this kind that offers these features, with VIRTIO_F_VERSION_1 among them (VIRTIO 1.2, 6.1),
+-- The port of a device of this kind that offers these features, with VIRTIO_F_VERSION_1 among them (VIRTIO 1.2, 6.2),
 -- and has this configuration. Every register that the driver sets is 0.
 abbrev pub port_of : DeviceKind → ℕ → List ℕ → PortState
 port_of kind offered config = record {

@@ -93,7 +93,7 @@ needs_reset = 64
 abbrev pub has_bits : ℕ → ℕ → Bool
 has_bits n bits = bit_and n bits == bits
 
--- the features that the driver accepted: each was offered, and VIRTIO_F_VERSION_1 is among them (VIRTIO 1.2, 2.2, 6.1)
+-- the features that the driver accepted: each was offered, and VIRTIO_F_VERSION_1 is among them (VIRTIO 1.2, 2.2.2 and 6.2)
 abbrev pub are_good : ℕ → ℕ → Bool
 are_good offered accepted = has_bits offered accepted && (accepted / 2 ^ feature_bit Version1 % 2 == 1)
 
