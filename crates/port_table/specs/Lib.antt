@@ -1,0 +1,7 @@
+pub mod Access
+pub mod Acts
+pub mod Fitting
+pub mod Kinds
+pub mod Ports
+pub mod Registers
+pub mod Window
