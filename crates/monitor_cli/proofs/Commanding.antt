@@ -12,7 +12,7 @@ use Rattle.script_output.specs.Output.{last_line}
 use Rattle.flat_machine.specs.Machine.{AreFilesOf, Machine, new_machine}
 use Rattle.flat_machine.specs.Outcome.{AreAnswered, Outcome, failed_in, short_in}
 use Rattle.flat_machine.specs.Outcome.Outcome.{Answered, Failed, NoMemory}
-use Rattle.flat_machine.specs.Replay.{default_id, judged_script}
+use Rattle.flat_machine.specs.Replay.{judged_script}
 use Rattle.flat_machine.specs.Run.{Act, AllAnswered, failures, lines_done, shortages}
 use Rattle.flat_machine.specs.Stops.{stop_failures}
 use Rattle.monitor_cli.specs.Answering.{IsClosing}
@@ -130,10 +130,14 @@ wordless why exit result before now is same unbegun lasts = record {
 pub if_err : {T : Type 0} (words : Result T NoWords) (why : NoWords) (P : NoWords → Type 0) → words ≡ Err why → P why → IfErr words P
 if_err {T} words why P is holds = subst (λ (w : Result T NoWords). IfErr w P) (sym is) holds
 
+-- words that are a command give an id
+pub some_id : (given : Option (List ℕ)) → is_some given ≡ true → (id : List ℕ) × (given ≡ Some id)
+some_id (Some id) is = (id, refl)
+
 -- the last line is written behind the answers, or a front of it
 module _ (words : List (List ℕ)) (exit : Exit) (before mid : Known) (sink : SinkKnown) {E : Type 0} (result : Result (Unit {0}) E)
     (usage : (exit ≡ Exit.Usage) ↔ (is_command words ≡ false)) (unread : exit ≡ Exit.Usage → mid ≡ before)
-    (so_far : AllTell before → is_command words ≡ true → BeforeLast exit (new_machine default_id before.files.saved before.files.calls) before mid.source.left mid.sink mid.files)
+    (so_far : AllTell before → (id : List ℕ) → replay_id words ≡ Some id → BeforeLast exit (new_machine id before.files.saved before.files.calls) before mid.source.left mid.sink mid.files)
     (caused : CausedSoFar exit before mid) (lasts : AllLast before mid) (takes : Tells mid.sink.health → TakesAll mid.sink.taken sink.taken result (last_line exit))
     (quiet : IsQuiet exit → sink ≡ mid.sink) (called : Called mid.sink.health sink.health result) where
   abbrev now : Known
@@ -147,9 +151,9 @@ module _ (words : List (List ℕ)) (exit : Exit) (before mid : Known) (sink : Si
     files = caused.files;
   }
 
-  replayed : AllTell before → is_command words ≡ true → Replayed exit (new_machine default_id before.files.saved before.files.calls) before now
-  replayed tells command =
-      let ran = so_far tells command in
+  replayed : AllTell before → (id : List ℕ) → replay_id words ≡ Some id → Replayed exit (new_machine id before.files.saved before.files.calls) before now
+  replayed tells id command =
+      let ran = so_far tells id command in
       record {
         acts = ran.acts;
         part = ran.part;
@@ -178,7 +182,8 @@ module _ (words : List (List ℕ)) (exit : Exit) (before mid : Known) (sink : Si
     replayed = replayed;
     told = told;
     complete = λ tells command good none.
-        complete exit (new_machine default_id before.files.saved before.files.calls) before now mid.source.left mid.sink mid.files (λ is. not_both (is_command words) command (usage.0 is)) (so_far tells command) told good none;
+        let given = some_id (replay_id words) command in
+        complete exit (new_machine given.0 before.files.saved before.files.calls) before now mid.source.left mid.sink mid.files (λ is. not_both (is_command words) command (usage.0 is)) (so_far tells given.0 given.1) told good none;
     lasts = record {
       source = lasts.source;
       sink = lasts_more before.sink.health mid.sink.health sink.health lasts.sink called.lasts;

@@ -1,21 +1,20 @@
 -- What the program owes for its words.
-use Rattle.std.specs.Prelude.{◌≡◌, ◌↔◌, ◌⊎◌, ℕ, Bool, true, false, List, [], ◌∷◌, ◌++◌, codes, map, Option, Some}
-use Rattle.std.specs.Str.{bytes_eq}
+use Rattle.std.specs.Prelude.{◌≡◌, ◌↔◌, ◌⊎◌, ℕ, Bool, true, false, List, [], ◌++◌, is_some, map, Option, Some}
 use Rattle.vm_types.specs.declared.exit.Exit.{Exit}
 use Rattle.script_text.specs.declared.item.Item.{Item}
 use Rattle.vm_outside.specs.Known.{Tells}
 use Rattle.script_output.specs.Output.{last_line}
 use Rattle.flat_machine.specs.Machine.{new_machine}
-use Rattle.flat_machine.specs.Replay.{default_id, judged_script}
+use Rattle.flat_machine.specs.Replay.{judged_script}
 use Rattle.monitor_cli.specs.Known.{AllLast, AllTell, Known, NoneRose, Caused}
 use Rattle.monitor_cli.specs.Replay.{Replayed}
 use Rattle.monitor_cli.specs.Taking.{TookText}
+use Rattle.monitor_cli.specs.Words.{replay_id}
 use Rattle.monitor_cli.specs.declared.words.NoWords.{NoWords}
 
--- the one command so far
+-- `replay` is the one command so far
 abbrev pub is_command : List (List ℕ) → Bool
-is_command (word ∷ []) = bytes_eq word (codes "replay")
-is_command words = false
+is_command words = is_some (replay_id words)
 
 -- each line of the script is an item, and it is no longer than a script may be
 abbrev pub IsWellFormed : List ℕ → Type 0
@@ -29,7 +28,7 @@ pub record Unbegun (exit : Exit) (before now : Known) : Type 0 where
 
 -- What the call of a command answers, from what was known of the host objects to what is known now.
 -- usage: Usage exactly where the words are no command, and then its last line is all that is done.
--- replayed: else the replay equals the flat machine, where the objects tell their content.
+-- replayed: else the replay equals the flat machine of the id that the words give, where the objects tell their content.
 -- told: a fault is named only where that object's count rose in this call; those of source and sink are all named, but
 -- for a sink that failed at the last line.
 -- complete: a command, a script of items and no failure come to the script's end, or to want of memory.
@@ -37,8 +36,8 @@ pub record Unbegun (exit : Exit) (before now : Known) : Type 0 where
 pub record Commanded (words : List (List ℕ)) (exit : Exit) (before now : Known) : Type 0 where
   pub usage : (exit ≡ Exit.Usage) ↔ (is_command words ≡ false)
   pub unbegun : exit ≡ Exit.Usage → Unbegun Exit.Usage before now
-  pub replayed : AllTell before → is_command words ≡ true
-      → Replayed exit (new_machine default_id before.files.saved before.files.calls) before now
+  pub replayed : AllTell before → (id : List ℕ) → replay_id words ≡ Some id
+      → Replayed exit (new_machine id before.files.saved before.files.calls) before now
   pub told : Caused exit before now
   pub complete : AllTell before → is_command words ≡ true → IsWellFormed before.source.left → NoneRose before now
       → (exit ≡ Exit.Done) ⊎ (exit ≡ Exit.OutOfMemory)

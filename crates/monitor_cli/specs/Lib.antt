@@ -6,3 +6,4 @@ pub mod Lines
 pub mod Reading
 pub mod Replay
 pub mod Taking
+pub mod Words

@@ -1,21 +1,21 @@
 // The top calls: a command's words, and what it does.
-ghost use Rattle.std.specs.Prelude.{◌≡◌, ◌≢◌, ◌↔◌, IfErr, IfOk, false, map, string_bytes, true};
+ghost use Rattle.std.specs.Prelude.{◌≡◌, ◌≢◌, ◌↔◌, ℕ, IfErr, IfOk, List, Some, false, map, string_bytes};
 ghost use Rattle.flat_machine.specs.Machine.{new_machine};
-ghost use Rattle.flat_machine.specs.Replay.{default_id};
 ghost use Rattle.monitor_cli.specs.Command.{Commanded, Unbegun, Wordless, is_command};
 ghost use Rattle.monitor_cli.specs.Known.{AllLast, AllTell, CausedSoFar, all_known};
 ghost use Rattle.monitor_cli.specs.Lines.{BeforeLast};
 ghost use Rattle.monitor_cli.specs.Taking.{IsQuiet};
+ghost use Rattle.monitor_cli.specs.Words.{replay_id};
 
 use crate::last_line::write_last;
 use crate::outside::Outside;
 use crate::replaying::replay;
-use crate::words::{NoWords, is_replay};
+use crate::words::{NoWords, replay_id};
 use std::alloc::Global;
 use vm_outside::{Files, Sink, Source};
 use vm_types::{Exit, TextList};
 
-/// The command of these words, which are those behind the program's name: `replay`, and so far no other. Where the words
+/// The command of these words, which are those behind the program's name: `replay [--id ID]`, and so far no other. Where the words
 /// can't be had, the last line that says so is all that is written.
 pub fn firecracker_main<I: Source, O: Sink, F: Files>(
     alloc: Global,
@@ -53,7 +53,7 @@ fn refuse<I: Source, O: Sink, F: Files>(exit: Exit, out: &mut Outside<I, O, F>) 
 
 /// Reads a script from the source, replays it over the files, and writes its output to the sink.
 ///
-/// `Usage`: the words are not the one word `replay`; nothing is read then. `Script`: the line of that number is
+/// `Usage`: the words are not `replay` with at most the option `--id`; nothing is read then. `Script`: the line of that number is
 /// the first that is no line of a script. `Fault`: a call on that object failed. `OutOfMemory`: there was no memory.
 /// A sink that fails at the last line that tells one of these leaves the answer as it is; `. off` is no such line.
 pub fn replay_main<I: Source, O: Sink, F: Files>(
@@ -80,8 +80,8 @@ fn run_command<I: Source, O: Sink, F: Files>(
     ensures usage { (result ≡ Exit.Usage) ↔ (is_command (map string_bytes words.now) ≡ false) }
     ensures unread { result ≡ Exit.Usage → out.new ≡ out.old }
     ensures so_far { AllTell (all_known (I.known out.old.source) (O.known out.old.sink) (F.known out.old.files)) →
-        is_command (map string_bytes words.now) ≡ true →
-        BeforeLast result (new_machine default_id (F.known out.old.files).saved (F.known out.old.files).calls)
+        (id : List ℕ) → replay_id (map string_bytes words.now) ≡ Some id →
+        BeforeLast result (new_machine id (F.known out.old.files).saved (F.known out.old.files).calls)
         (all_known (I.known out.old.source) (O.known out.old.sink) (F.known out.old.files))
         (I.known out.new.source).left (O.known out.new.sink) (F.known out.new.files) }
     ensures caused { CausedSoFar result
@@ -90,17 +90,20 @@ fn run_command<I: Source, O: Sink, F: Files>(
     ensures lasts { AllLast (all_known (I.known out.old.source) (O.known out.old.sink) (F.known out.old.files))
         (all_known (I.known out.new.source) (O.known out.new.sink) (F.known out.new.files)) }
 {
-    if is_replay(words) {
-        replay_default(alloc, out)
-    } else {
-        Exit::Usage
+    match replay_id(words) {
+        Some(id) => replay_as(alloc, id, out),
+        None => Exit::Usage,
     }
 }
 
-// The replay on a machine that is given no id.
-fn replay_default<I: Source, O: Sink, F: Files>(alloc: Global, out: &mut Outside<I, O, F>) -> Exit
+// The replay on a machine of this id.
+fn replay_as<I: Source, O: Sink, F: Files>(
+    alloc: Global,
+    id: &str,
+    out: &mut Outside<I, O, F>,
+) -> Exit
     ensures so_far { AllTell (all_known (I.known out.old.source) (O.known out.old.sink) (F.known out.old.files)) →
-        BeforeLast result (new_machine default_id (F.known out.old.files).saved (F.known out.old.files).calls)
+        BeforeLast result (new_machine id.now (F.known out.old.files).saved (F.known out.old.files).calls)
         (all_known (I.known out.old.source) (O.known out.old.sink) (F.known out.old.files))
         (I.known out.new.source).left (O.known out.new.sink) (F.known out.new.files) }
     ensures caused { CausedSoFar result
@@ -110,7 +113,7 @@ fn replay_default<I: Source, O: Sink, F: Files>(alloc: Global, out: &mut Outside
     ensures lasts { AllLast (all_known (I.known out.old.source) (O.known out.old.sink) (F.known out.old.files))
         (all_known (I.known out.new.source) (O.known out.new.sink) (F.known out.new.files)) }
 {
-    match TextList::copy_of(alloc, "anonymous-instance") {
+    match TextList::copy_of(alloc, id) {
         Ok(id) => replay(alloc, id, out),
         Err(_) => Exit::OutOfMemory,
     }

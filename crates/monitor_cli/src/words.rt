@@ -1,7 +1,10 @@
 // The words of a command.
 ghost use Rattle.std.specs.Prelude.{◌≡◌, map, string_bytes};
-ghost use Rattle.monitor_cli.specs.Command.{exit_of, is_command};
+ghost use Rattle.std.specs.Option.{option_map};
+ghost use Rattle.monitor_cli.specs.Command.{exit_of};
+ghost use Rattle.monitor_cli.specs.Words.{id_in, is_id, is_id_byte, replay_id};
 
+use command_words::{is_end, option_at};
 use vm_types::Exit;
 
 /// Why a command's words can't be had.
@@ -24,12 +27,45 @@ impl NoWords {
     }
 }
 
-/// Whether these words are the command.
-pub fn is_replay(words: &[String]) -> bool
-    ensures { result ≡ is_command (map string_bytes words.now) }
+/// The id of a machine that is given none.
+const DEFAULT_ID: &str = "anonymous-instance";
+
+/// The id that the words of the command `replay [--id ID]` give the machine; none where they are no such command.
+pub fn replay_id<'a>(words: &'a [String]) -> Option<&'a str>
+    ensures { option_map (λ id. id.now) result ≡ replay_id (map string_bytes words.now) }
 {
-    match words {
-        [word] => word.as_str() == "replay",
-        _ => false,
+    let (command, options) = words.split_first()?;
+    if command.as_str() == "replay" {
+        id_in(options)
+    } else {
+        None
     }
+}
+
+fn id_in<'a>(options: &'a [String]) -> Option<&'a str>
+    ensures { option_map (λ id. id.now) result ≡ id_in (map string_bytes options.now) }
+{
+    if is_end(options) {
+        return Some(DEFAULT_ID);
+    }
+    let option = option_at(options)?;
+    if option.name == "--id" && is_id(option.value) && is_end(option.rest) {
+        Some(option.value)
+    } else {
+        None
+    }
+}
+
+// 1 to 64 letters and digits of ASCII and `-`.
+fn is_id(id: &str) -> bool
+    ensures { result ≡ is_id id.now }
+{
+    let bytes = id.as_bytes();
+    !bytes.is_empty() && bytes.len() <= 64 && !bytes.iter().any(|c| !is_id_byte(*c))
+}
+
+fn is_id_byte(c: u8) -> bool
+    ensures { result ≡ is_id_byte c }
+{
+    matches!(c, b'0'..=b'9' | b'A'..=b'Z' | b'a'..=b'z' | b'-')
 }
