@@ -1,9 +1,8 @@
 -- What a create left, and that each diff is of the memory before it.
-use Rattle.std.proofs.Common.{◌≡◌, ◌≢◌, ℕ, ◌+◌, ◌*◌, ◌<◌, ◌≤◌, ◌==◌, ◌&&◌, Bool, true, false, not, List, [], ◌∷◌, ◌++◌, length, Option, Some, None, refl, sym, ap, subst, ◌∙◌, ◌⊎◌, inl, inr, arith}
+use Rattle.std.proofs.Common.{◌≡◌, ◌≢◌, ℕ, ◌+◌, ◌≤◌, ◌==◌, ◌&&◌, Bool, true, false, not, List, [], ◌∷◌, ◌++◌, length, Option, Some, None, refl, sym, ap, subst, ◌∙◌, ◌⊎◌, inl, inr, arith}
 use Rattle.std.specs.Prelude.{IsTrue}
 use Rattle.std.specs.FinMap.{get, insert}
-use Rattle.std.proofs.lemmas.Bool.{and_parts, eqb-true, false_from_ne_true, ne_eqb}
-use Rattle.vm_types.specs.Saved.{Saved}
+use Rattle.std.proofs.lemmas.Bool.{and_parts, eqb-true, false_from_ne_true}
 use Rattle.vm_types.specs.declared.identity.Identity.{Identity}
 use Rattle.gate_file.proofs.Inserts.{got_other, got_there}
 use Rattle.file_format.specs.Kinds.{fixed, number32, zeros}
@@ -11,7 +10,7 @@ use Rattle.file_format.specs.Identities.{identity, is_numbered, is_same}
 use Rattle.api_calls.specs.declared.call.SnapshotType.{SnapshotType}
 use Rattle.api_calls.specs.declared.call.SnapshotType.TheVariants as snapshot
 use Rattle.snap_memory.specs.Headers as memory
-use Rattle.snap_diff.specs.Copies.{DiffCopy, IsDiffOf, LeadBy}
+use Rattle.snap_diff.specs.Copies.{IsDiffOf, LeadBy}
 use Rattle.snap_diff.specs.Diffs.{IsDiffFile}
 use Rattle.snap_diff.specs.Headers as diffs
 use Rattle.snapshot_merge.specs.Memories.{IsMemoryFile}

@@ -1,5 +1,5 @@
 -- What is merged in order is loaded as the last machine.
-use Rattle.std.proofs.Common.{◌≡◌, ℕ, ◌+◌, ◌*◌, ◌≤◌, List, [], ◌∷◌, length, map, Option, Some, Result, Ok, refl, sym, ap, subst, ◌∙◌, arith}
+use Rattle.std.proofs.Common.{◌≡◌, ℕ, ◌+◌, ◌≤◌, List, [], ◌∷◌, length, map, Option, Some, Result, Ok, refl, sym, ap, subst, ◌∙◌, arith}
 use Rattle.std.specs.FinMap.{get}
 use Rattle.vm_types.specs.declared.identity.Identity.{Identity}
 use Rattle.refusals.specs.declared.refusal.Refusal.{Refusal}
@@ -9,7 +9,7 @@ use Rattle.api_calls.specs.declared.call.SnapshotType.TheVariants as snapshot
 use Rattle.vm_config.specs.declared.change.Change.TheVariants as change
 use Rattle.snap_memory.specs.declared.header.MemHeader.{MemHeader}
 use Rattle.snap_memory.specs.Headers as memory
-use Rattle.snap_diff.specs.Copies.{DiffCopy, DiffStep, JoinAll, MemoryCopy, overlaid_all}
+use Rattle.snap_diff.specs.Copies.{DiffCopy, JoinAll, MemoryCopy, overlaid_all}
 use Rattle.snap_diff.specs.Diffs.{IsDiffFile}
 use Rattle.snap_diff.proofs.Overlays.{make_last}
 use Rattle.snapshot_merge.specs.InOrder.{AreDiffFiles, MergeAll}

@@ -1,5 +1,5 @@
 -- Diffs that are merged in order leave a file of the copy that they make.
-use Rattle.std.proofs.Common.{◌≡◌, ℕ, suc, ◌+◌, ◌<◌, ◌≤◌, List, [], ◌∷◌, length, Some, Result, Ok, refl, sym, ap, subst, ◌∙◌, arith}
+use Rattle.std.proofs.Common.{◌≡◌, ℕ, suc, ◌+◌, ◌<◌, ◌≤◌, List, [], ◌∷◌, length, Result, Ok, refl, sym, ap, subst, ◌∙◌, arith}
 use Rattle.refusals.specs.declared.refusal.Refusal.{Refusal}
 use Rattle.snap_memory.specs.declared.header.MemHeader.{MemHeader}
 use Rattle.snap_diff.specs.Copies.{DiffCopy, JoinAll, MemoryCopy, overlaid, overlaid_all}
@@ -8,7 +8,7 @@ use Rattle.snapshot_merge.specs.Calls.{stages, text_after}
 use Rattle.snapshot_merge.specs.InOrder.{AreDiffFiles, MergeAll}
 use Rattle.snapshot_merge.specs.Memories.{IsMemoryFile}
 use Rattle.snapshot_merge.specs.Merges.{open_slots}
-use Rattle.snapshot_merge.specs.Plans.{Plan, planned}
+use Rattle.snapshot_merge.specs.Plans.{Plan}
 use Rattle.snapshot_merge.proofs.Overlaid.{from_start_as, is_begun, one_more}
 
 same_plan : (p q : Plan) → ◌≡◌ {A = Result Plan Refusal} (Ok p) (Ok q) → p ≡ q

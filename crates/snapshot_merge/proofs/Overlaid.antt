@@ -222,19 +222,22 @@ module _ (given file : List ℕ) (head : MemHeader) (m : MemoryCopy) (d : DiffCo
   -- it is a file of the overlaid copy, with this header
   is_overlaid : (text : List ℕ) → open_slots head.slots < 100 → text ≡ memory.header.bytes merged_head ++ with_pages d.numbers d.bytes m.bytes
       → (file : IsMemoryFile text (overlaid m d)) × (file.head ≡ merged_head)
-  is_overlaid text left text_is = (record {
-    head = merged_head;
-    settled = refl;
-    holds = record {
-      fits = with_mark (record head { slots = set head.slots (open_slots head.slots) (record { identity = d.identity; gate = 1 }) }) 0 (with_slot head (open_slots head.slots) (record { identity = d.identity; gate = 1 }) holds.fits fit) (omega arith);
-      valid = ap (λ (b : Bool). b && memory.are_slots (set head.slots (open_slots head.slots) (record { identity = d.identity; gate = 1 }))) tests.0
-          ∙ are_open (record { identity = d.identity; gate = 1 }) refl numbered head.slots (omega (arith, left, size)) tests.1;
-      pages = holds.pages;
-      identity = last_opened (record { identity = d.identity; gate = 1 }) refl numbered head.made_as head.slots (omega (arith, left, size)) tests.1;
-      whole = stays_whole m d holds.whole (files.whole file d is) pages;
-      bytes = text_is;
-    };
-  }, refl)
+  is_overlaid text left text_is = (
+    record {
+      head = merged_head;
+      settled = refl;
+      holds = record {
+        fits = with_mark (record head { slots = set head.slots (open_slots head.slots) (record { identity = d.identity; gate = 1 }) }) 0 (with_slot head (open_slots head.slots) (record { identity = d.identity; gate = 1 }) holds.fits fit) (omega arith);
+        valid = ap (λ (b : Bool). b && memory.are_slots (set head.slots (open_slots head.slots) (record { identity = d.identity; gate = 1 }))) tests.0
+            ∙ are_open (record { identity = d.identity; gate = 1 }) refl numbered head.slots (omega (arith, left, size)) tests.1;
+        pages = holds.pages;
+        identity = last_opened (record { identity = d.identity; gate = 1 }) refl numbered head.made_as head.slots (omega (arith, left, size)) tests.1;
+        whole = stays_whole m d holds.whole (files.whole file d is) pages;
+        bytes = text_is;
+      };
+    },
+    refl,
+  )
 
   pub one_more : open_slots head.slots < 100 → open_slots merged_head.slots ≡ suc (open_slots head.slots)
   one_more left = one_opened (record { identity = d.identity; gate = 1 }) refl numbered head.slots (omega (arith, left, size)) tests.1
