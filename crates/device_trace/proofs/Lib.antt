@@ -1,0 +1,5 @@
+pub mod Fitting
+pub mod Laws
+pub mod Performs
+pub mod Rest
+pub mod Traces
