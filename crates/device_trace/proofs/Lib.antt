@@ -1,4 +1,5 @@
 pub mod Fitting
+pub mod Keeping
 pub mod Laws
 pub mod Performs
 pub mod Rest
