@@ -1,0 +1,6 @@
+pub mod Fitting
+pub mod Keeping
+pub mod Laws
+pub mod Performs
+pub mod Rest
+pub mod Traces

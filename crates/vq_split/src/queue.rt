@@ -1,0 +1,114 @@
+// A queue, and the parts of a chain.
+ghost use Rattle.std.specs.Prelude.{◌≡◌, ◌≤◌, ◌<◌, ◌++◌, ◌∷◌, length, [], slice_set};
+
+use std::marker::Model;
+
+/// A split queue (VIRTIO 1.2, 2.7): its size, the guest addresses of its three tables, and how many pages
+/// of RAM the guest has.
+#[derive(Clone, Copy, Debug, PartialEq, Eq, Drop)]
+pub struct Queue {
+    pub descriptors: u64,
+    pub available: u64,
+    pub used: u64,
+    pub size: u16,
+    pub pages: u32,
+}
+
+/// Why a queue is broken, in the order in which it is judged.
+#[derive(Clone, Copy, Debug, PartialEq, Eq, Drop)]
+pub enum Why {
+    /// The size is no power of two up to 256.
+    Size,
+    /// A table isn't aligned, or not inside RAM.
+    Table,
+    /// The available index is more than the size ahead.
+    Ahead,
+    /// A head or a next is not below the size.
+    Index,
+    /// A descriptor has INDIRECT set.
+    Indirect,
+    /// A descriptor's length is 0.
+    Length,
+    /// A part isn't inside RAM.
+    Outside,
+    /// A readable part follows a writable one.
+    Order,
+    /// The chain has more descriptors than the size.
+    Long,
+}
+
+/// A part of a chain: a buffer of at least one byte inside RAM.
+#[derive(Clone, Copy, Debug, PartialEq, Eq, Drop)]
+pub struct Part {
+    pub at: u64,
+    pub len: u32,
+    pub writable: bool,
+}
+
+/// A chain's parts, at most 256, which contracts see as a list.
+#[derive(Drop)]
+pub struct PartList {
+    parts: [Part; 256],
+    len: usize,
+}
+
+impl Model for PartList {
+    ghost use Rattle.std.specs.Prelude.{◌≤◌, ◌≡◌, List, take, length};
+    ghost use Rattle.vq_split.specs.declared.queue.Part.{Part};
+
+    ghost Value = { List Part };
+
+    ghost view = { λ p. take p.len p.parts };
+
+    ghost invariant = { λ p. (p.len ≤ 256) × (length p.parts ≡ 256) };
+}
+
+impl PartList {
+    /// No part.
+    pub fn new() -> PartList
+        ensures { result ≡ [] }
+    {
+        let none = Part {
+            at: 0,
+            len: 0,
+            writable: false,
+        };
+        PartList {
+            parts: [none; 256],
+            len: 0,
+        }
+    }
+
+    /// No part any more.
+    pub fn clear(&mut self)
+        ensures { self.new ≡ [] }
+    {
+        self.len = 0;
+    }
+
+    /// One more part at the end.
+    pub fn push(&mut self, part: Part)
+        requires { length self.old < 256 }
+        ensures { self.new ≡ self.old ++ part ∷ [] }
+    {
+        self.parts[self.len] = part;
+        self.len += 1;
+    }
+
+    /// Another part in the place of one.
+    pub fn set(&mut self, index: usize, part: Part)
+        requires { index < length self.old }
+        ensures { self.new ≡ slice_set self.old index part }
+    {
+        if index < self.len {
+            self.parts[index] = part;
+        }
+    }
+
+    pub fn as_slice(&self) -> &[Part]
+        ensures parts { result.now ≡ self.now }
+        ensures most { length result.now ≤ 256 }
+    {
+        &self.parts[..self.len]
+    }
+}
