@@ -14,5 +14,5 @@ given bs rest piece buf at n left is within =
     let came : take n (piece ++ drop n buf) ≡ take n (drop at bs) = given_piece bs rest piece buf at n left is within in (
       take_both at n bs ∙ ap (λ (l : List ℕ). take at bs ++ l) (sym came),
       sym (take-append-drop n (drop at bs)) ∙ ap (λ (l : List ℕ). take n (drop at bs) ++ l) (drop-drop n at bs)
-        ∙ ap (λ (l : List ℕ). l ++ drop (at + n) bs) (sym came),
+          ∙ ap (λ (l : List ℕ). l ++ drop (at + n) bs) (sym came),
     )

@@ -11,6 +11,7 @@ use vm_types::ByteList;
 
 // Bytes of a sector and of a part of it.
 const SECTOR: usize = 512;
+
 const PART: usize = 64;
 
 /// Disks of the devices from number 0 on, which grow where they are written past their end. A call on a device without

@@ -62,7 +62,7 @@ impl MemoryVsock {
     // Writes down what is done.
     fn does(&mut self, act: HostAct) -> Result<(), Failed>
         ensures does { OrRests (⟦<MemoryVsock as VsockHost>⟧.known self.old) (⟦<MemoryVsock as VsockHost>⟧.known self.new) result
-          (λ _. Does act (⟦<MemoryVsock as VsockHost>⟧.known self.old) (⟦<MemoryVsock as VsockHost>⟧.known self.new)) }
+            (λ _. Does act (⟦<MemoryVsock as VsockHost>⟧.known self.old) (⟦<MemoryVsock as VsockHost>⟧.known self.new)) }
         ensures called { Called (⟦<MemoryVsock as VsockHost>⟧.known self.old).health
             (⟦<MemoryVsock as VsockHost>⟧.known self.new).health result }
     {
