@@ -1,7 +1,7 @@
 // Words from the system's source of random bytes.
 ghost use Rattle.std.specs.Prelude.{◌≡◌};
 
-use outside_real::counted;
+use outside_real::counted::counted;
 use serve_host::Words;
 use std::io;
 use std::random::RandomSource;

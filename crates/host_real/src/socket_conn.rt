@@ -2,7 +2,8 @@
 ghost use Rattle.std.specs.Prelude.{◌≡◌, length, IfOk};
 ghost use Rattle.serve_host.specs.Passing.{IsWithin};
 
-use outside_real::{counted, tries};
+use outside_real::counted::counted;
+use outside_real::tries;
 use serve_host::{Conn, Got};
 use std::io;
 use std::io::{ErrorKind, Read};

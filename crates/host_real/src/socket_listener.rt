@@ -3,7 +3,7 @@ ghost use Rattle.std.specs.Prelude.{◌≡◌};
 
 use crate::socket_conn::SocketConn;
 use crate::socket_file::SocketFile;
-use outside_real::counted;
+use outside_real::counted::counted;
 use serve_host::{Accepted, Listener};
 use std::io::ErrorKind;
 use std::net::Net;

@@ -1,20 +1,21 @@
 // A trace in a file.
 ghost use Rattle.std.specs.Prelude.{◌≡◌};
 
-use outside_real::{counted, tries};
+use outside_real::counted::counted;
+use outside_real::tries;
 use script_text::{Item, write_item};
 use serve_host::Trace;
 use std::fs::File;
-use std::io::ErrorKind;
+use std::io::{ErrorKind, Write};
 use std::{io, rt};
 use vm_outside::Failed;
 
 /// Writes each item as a line of a script, and hands it to the system before it answers. Opening it takes the place of
 /// a file that was there. An item before that is a failure, and so is one that there is no memory for.
 #[derive(Drop)]
-pub struct TraceFile<'a, R> {
+pub struct TraceFile<'a, R: rt::Files> {
     rt: &'a R,
-    file: Option<File>,
+    file: Option<R::File>,
     faults: u64,
 }
 
@@ -54,7 +55,7 @@ impl<'a, R: rt::Files + AllocGlobal> Trace for TraceFile<'a, R> {
     }
 }
 
-fn add_line<R: AllocGlobal>(rt: &R, file: &mut Option<File>, item: &Item) -> io::Result<()> {
+fn add_line<R: AllocGlobal, W: Write>(rt: &R, file: &mut Option<W>, item: &Item) -> io::Result<()> {
     let Some(file) = file else {
         return Err(io::Error::from(ErrorKind::NotFound));
     };

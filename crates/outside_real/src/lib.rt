@@ -10,7 +10,7 @@
 //! `counted` and `tries` serve the adapters of other crates too.
 #![tactic(auto)]
 
-mod counted;
+pub mod counted;
 mod entered;
 mod folder;
 mod named_file;
@@ -20,7 +20,6 @@ mod tests;
 pub mod tries;
 mod writing;
 
-pub use counted::counted;
 pub use folder::Folder;
 pub use reading::Reading;
 pub use writing::Writing;

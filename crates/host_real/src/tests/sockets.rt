@@ -7,6 +7,11 @@ use std::os::unix::net::{UnixListener, UnixStream};
 use std::test::Fail;
 use std::fs;
 
+// A reader in another thread can have it.
+fn sendable<C: Conn + Send>(conn: C) -> C {
+    conn
+}
+
 #[test]
 fn bytes_go_both_ways(rt: HostRuntime) -> Result<(), Fail> {
     let (mut client, server) = UnixStream::pair(&rt)?;
@@ -33,6 +38,15 @@ fn a_socket_is_taken_over_only_where_nobody_listens(rt: HostRuntime) -> Result<(
     assert!(rt; listener.accept().is_err());
     assert!(rt; listener.listen(name.as_str()).is_ok());
     assert!(rt; matches!(listener.accept(), Ok(Accepted::NotYet)));
+    let mut client = UnixStream::connect(&rt, name.as_str())?;
+    client.write_all(b"a")?;
+    let Ok(Accepted::Conn(conn)) = listener.accept() else {
+        return Err(Fail::from("no connection"));
+    };
+    let mut conn = sendable(conn);
+    assert!(rt; conn.read(&mut [0; 2]) == Ok(Got::Bytes(1)));
+    listener.end(conn);
+    assert!(rt; client.read(&mut [0; 2])? == 0);
     let mut other = SocketListener::new(&rt);
     assert!(rt; other.listen(name.as_str()).is_err() && other.faults() == 1);
     assert!(rt; listener.faults() == 1 && fs::exists(&rt, name.as_str())?);
