@@ -10,6 +10,7 @@ use vm_types::TextList;
 
 // Bytes of a sector and of a part of it.
 const SECTOR: u64 = 512;
+
 const PART: u64 = 64;
 
 #[derive(Drop)]
@@ -63,7 +64,8 @@ impl<'a, R: rt::Files + AllocGlobal> Disk for DiskFiles<'a, R> {
     fn read(&mut self, device: u8, sector: u64, part: u8) -> Result<[u8; 64], Failed> {
         let mut bytes = [0; 64];
         let name = name_of(&self.names, device);
-        self.files.read_at(name, place_of(sector, part), &mut bytes)?;
+        self.files
+            .read_at(name, place_of(sector, part), &mut bytes)?;
         Ok(bytes)
     }
 

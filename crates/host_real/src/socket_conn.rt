@@ -13,6 +13,7 @@ use vm_outside::Failed;
 
 // How long a read waits for a byte, and a write for room, in milliseconds.
 const READ_WAIT: u64 = 1;
+
 const WRITE_WAIT: u64 = 10_000;
 
 /// A read waits for a millisecond at most, so that who asks again and again leaves the processor to others. A write

@@ -2,10 +2,10 @@
 use crate::tests::name_for;
 use crate::{SocketConn, SocketListener};
 use serve_host::{Accepted, Conn, Got, Listener, put_all};
+use std::fs;
 use std::io::{Read, Write};
 use std::os::unix::net::{UnixListener, UnixStream};
 use std::test::Fail;
-use std::fs;
 
 // A reader in another thread can have it.
 fn sendable<C: Conn + Send>(conn: C) -> C {

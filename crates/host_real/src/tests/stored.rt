@@ -15,7 +15,10 @@ fn a_trace_is_lines_of_a_script(rt: HostRuntime) -> Result<(), Fail> {
     assert!(rt; trace.add(&Item::Console).is_err() && trace.faults() == 1);
     assert!(rt; trace.open(name.as_str()).is_ok());
     assert!(rt; trace.add(&Item::Connect).is_ok());
-    let step = Item::Step { actor: ActorId::Timer, count: 2 };
+    let step = Item::Step {
+        actor: ActorId::Timer,
+        count: 2,
+    };
     assert!(rt; trace.add(&step).is_ok());
     assert!(rt; fs::read(&rt, name.as_str())?.as_slice() == b"conn\nstep t 2\n".as_slice());
     fs::remove_file(&rt, name.as_str())?;
