@@ -14,7 +14,7 @@ mod steady_source;
 
 pub use failing::Failing;
 pub use file_event::FileEvent;
-pub use memory_files::MemoryFiles;
+pub use memory_files::{MemoryFiles, read_bytes};
 pub use memory_sink::MemorySink;
 pub use memory_source::MemorySource;
 pub use steady_source::SteadySource;

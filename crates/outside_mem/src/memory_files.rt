@@ -143,7 +143,8 @@ fn read_content(files: &FileList, name: &str, at: u64, buf: &mut [u8]) -> bool
     read_bytes(content, at, buf)
 }
 
-fn read_bytes(content: &[u8], at: u64, buf: &mut [u8]) -> bool
+/// Fills `buf` from the bytes at this offset, or there are too few.
+pub fn read_bytes(content: &[u8], at: u64, buf: &mut [u8]) -> bool
     ensures { IsTrue result → IsReadAt (Some content.now) at buf.new }
 {
     let at = at as usize;

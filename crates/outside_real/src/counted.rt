@@ -7,7 +7,7 @@ use std::io;
 use vm_outside::Failed;
 
 /// Counts the failure, if it is one. Why it failed isn't kept.
-pub(crate) fn counted<T>(faults: &mut u64, done: io::Result<T>) -> Result<T, Failed>
+pub fn counted<T>(faults: &mut u64, done: io::Result<T>) -> Result<T, Failed>
     ensures value { IfOk result (λ value. done ≡ Ok value) }
     ensures counts { CountsFailure faults.old faults.new result }
     ensures called { Called (untold faults.old) (untold faults.new) result }

@@ -7,16 +7,17 @@
 //!
 //! Read `reading`, `writing` and `folder`, one for each trait, then `named_file` with the calls on one
 //! file, `entered` with the names that are on disk, and `tries` with the calls that a signal may cut off.
+//! `counted` and `tries` serve the adapters of other crates too.
 #![tactic(auto)]
 
-mod counted;
+pub mod counted;
 mod entered;
 mod folder;
 mod named_file;
 mod reading;
 #[cfg(test)]
 mod tests;
-mod tries;
+pub mod tries;
 mod writing;
 
 pub use folder::Folder;

@@ -8,7 +8,7 @@ use std::io::{ErrorKind, Read, Write};
 const TRIES: u32 = 100;
 
 /// One read. A count of 0 in a buffer that isn't empty is the end.
-pub(crate) fn read_some<R: Read>(reader: &mut R, buf: &mut [u8]) -> io::Result<usize>
+pub fn read_some<R: Read>(reader: &mut R, buf: &mut [u8]) -> io::Result<usize>
     ensures bound { IfOk result (λ n. n ≤ length buf.new) }
 {
     for _ in 1..TRIES {
@@ -22,7 +22,7 @@ pub(crate) fn read_some<R: Read>(reader: &mut R, buf: &mut [u8]) -> io::Result<u
 }
 
 /// Fills the buffer. That the end comes first is an error.
-pub(crate) fn fill<R: Read>(reader: &mut R, buf: &mut [u8]) -> io::Result<()> {
+pub fn fill<R: Read>(reader: &mut R, buf: &mut [u8]) -> io::Result<()> {
     let mut filled = 0;
     while filled < buf.len() {
         let count = read_some(reader, &mut buf[filled..])?;
@@ -35,7 +35,7 @@ pub(crate) fn fill<R: Read>(reader: &mut R, buf: &mut [u8]) -> io::Result<()> {
 }
 
 /// One write, of at least one byte where there are any. That none was taken is an error.
-pub(crate) fn write_some<W: Write>(writer: &mut W, bytes: &[u8]) -> io::Result<usize>
+pub fn write_some<W: Write>(writer: &mut W, bytes: &[u8]) -> io::Result<usize>
     ensures bound { IfOk result (λ n. n ≤ length bytes.now) }
     ensures some { IfOk result (λ n. 0 < length bytes.now → 0 < n) }
 {
@@ -51,7 +51,7 @@ pub(crate) fn write_some<W: Write>(writer: &mut W, bytes: &[u8]) -> io::Result<u
 }
 
 /// Writes all of the bytes.
-pub(crate) fn write_whole<W: Write>(writer: &mut W, bytes: &[u8]) -> io::Result<()> {
+pub fn write_whole<W: Write>(writer: &mut W, bytes: &[u8]) -> io::Result<()> {
     let mut sent = 0;
     while sent < bytes.len() {
         sent += write_some(writer, &bytes[sent..])?;
@@ -60,7 +60,7 @@ pub(crate) fn write_whole<W: Write>(writer: &mut W, bytes: &[u8]) -> io::Result<
 }
 
 /// Hands on what the writer holds back.
-pub(crate) fn flush<W: Write>(writer: &mut W) -> io::Result<()> {
+pub fn flush<W: Write>(writer: &mut W) -> io::Result<()> {
     for _ in 1..TRIES {
         match writer.flush() {
             Ok(()) => return Ok(()),

@@ -1,1 +1,5 @@
+pub mod Devices
+pub mod Framing
+pub mod Hosting
+pub mod Storing
 pub mod Telling

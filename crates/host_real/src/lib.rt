@@ -1,0 +1,23 @@
+//! The objects of `vm_host` and `serve_host` over the real thing: the system's clock, a Unix socket and its connections,
+//! a file for a trace, random words, and a file for each device's disk.
+//!
+//! This is the trusted edge. None of these tells its content: the contracts say that each call that failed is counted.
+//! That the right bytes come in and go out is tested, over real files and sockets.
+#![tactic(auto)]
+
+mod disk_files;
+mod random_words;
+mod socket_conn;
+mod socket_file;
+mod socket_listener;
+mod system_clock;
+#[cfg(test)]
+mod tests;
+mod trace_file;
+
+pub use disk_files::DiskFiles;
+pub use random_words::RandomWords;
+pub use socket_conn::SocketConn;
+pub use socket_listener::SocketListener;
+pub use system_clock::SystemClock;
+pub use trace_file::TraceFile;

@@ -1,0 +1,72 @@
+// A listener on a Unix socket.
+ghost use Rattle.std.specs.Prelude.{◌≡◌};
+
+use crate::socket_conn::SocketConn;
+use crate::socket_file::SocketFile;
+use outside_real::counted::counted;
+use serve_host::{Accepted, Listener};
+use std::io::ErrorKind;
+use std::net::Net;
+use std::{io, rt};
+use vm_outside::Failed;
+
+/// Listens on a socket under a name in the file system. A socket on which nobody listens is replaced, one in use is a
+/// failure. The file is removed when the listener is let go. Connections never end to come.
+#[derive(Drop)]
+pub struct SocketListener<'a, R: rt::Files> {
+    rt: &'a R,
+    open: Option<SocketFile<'a, R>>,
+    faults: u64,
+}
+
+impl<'a, R: rt::Files + Net + AllocGlobal> SocketListener<'a, R> {
+    pub fn new(rt: &'a R) -> SocketListener<'a, R>
+        ensures { (⟦<SocketListener<'a, R> as Listener<SocketConn>>⟧.known result).health.faults ≡ 0 }
+    {
+        SocketListener {
+            rt,
+            open: None,
+            faults: 0,
+        }
+    }
+
+    /// How many calls have failed. It stays at its last value.
+    pub fn faults(&self) -> u64
+        ensures { result ≡ (⟦<SocketListener<'a, R> as Listener<SocketConn>>⟧.known self.now).health.faults }
+    {
+        self.faults
+    }
+}
+
+impl<'a, R: rt::Files + Net + AllocGlobal> Listener<SocketConn> for SocketListener<'a, R> {
+    ghost use Rattle.std.specs.Prelude.{[]};
+    ghost use Rattle.outside_real.specs.Counting.{untold};
+
+    ghost known = { λ l. record { health = untold l.faults; ended = [] } };
+
+    /// It goes on listening where it did, if this fails.
+    fn listen(&mut self, path: &str) -> Result<(), Failed> {
+        let file = counted(&mut self.faults, SocketFile::bind(self.rt, path))?;
+        self.open = Some(file);
+        Ok(())
+    }
+
+    fn accept(&mut self) -> Result<Accepted<SocketConn>, Failed> {
+        counted(&mut self.faults, accept_now(&self.open))
+    }
+
+    fn end(&mut self, conn: SocketConn) {
+        drop(conn);
+    }
+}
+
+fn accept_now<R: rt::Files>(open: &Option<SocketFile<'_, R>>) -> io::Result<Accepted<SocketConn>> {
+    let Some(file) = open else {
+        return Err(io::Error::from(ErrorKind::NotConnected));
+    };
+    match file.listener.accept() {
+        Ok((stream, _)) => Ok(Accepted::Conn(SocketConn::new(stream)?)),
+        Err(e) if e.kind() == ErrorKind::WouldBlock => Ok(Accepted::NotYet),
+        Err(e) => Err(e),
+    }
+}

@@ -1,0 +1,4 @@
+pub mod Drawing
+pub mod Listening
+pub mod Passing
+pub mod Tracing

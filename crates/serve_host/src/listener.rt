@@ -1,0 +1,42 @@
+// Where connections come from, and where they go when they are over.
+ghost use Rattle.std.specs.Prelude.{◌≡◌, ◌∷◌, IfOk};
+ghost use Rattle.serve_host.specs.Listening.{ComesFresh, ended_of};
+ghost use Rattle.vm_outside.specs.Known.{Called, Lasts, Tells};
+
+use crate::conn::Conn;
+use vm_outside::Failed;
+
+/// What an accept found.
+#[derive(Drop)]
+pub enum Accepted<C> {
+    Conn(C),
+    /// No connection waits so far.
+    NotYet,
+    /// No connection comes any more.
+    Ended,
+}
+
+/// Gives connections, and takes each back when it is over.
+pub trait Listener<C: Conn>: Drop {
+    ghost use Rattle.serve_host.specs.Listening.{ListenerKnown};
+
+    ghost known: { Self → ListenerKnown };
+
+    /// Listens under this path. Connections come only then.
+    fn listen(&mut self, path: &str) -> Result<(), Failed>
+        ensures same { Tells (known self.old).health → (known self.new).ended ≡ (known self.old).ended }
+        ensures called { Called (known self.old).health (known self.new).health result };
+
+    /// Gives the next connection. It doesn't wait for one.
+    fn accept(&mut self) -> Result<Accepted<C>, Failed>
+        ensures fresh { Tells (known self.old).health → IfOk result (ComesFresh C.known) }
+        ensures same { Tells (known self.old).health → (known self.new).ended ≡ (known self.old).ended }
+        ensures called { Called (known self.old).health (known self.new).health result };
+
+    /// Takes a connection back, which is then closed. It doesn't fail.
+    fn end(&mut self, conn: C)
+        ensures ended { Tells (known self.old).health →
+            (known self.new).ended ≡ ended_of (C.known conn) ∷ (known self.old).ended }
+        ensures lasts { Lasts (known self.old).health (known self.new).health }
+        ensures kept { (known self.new).health.faults ≡ (known self.old).health.faults };
+}

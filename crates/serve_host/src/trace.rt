@@ -1,0 +1,25 @@
+// Where what happened goes, item by item.
+ghost use Rattle.std.specs.Prelude.{◌≡◌};
+ghost use Rattle.serve_host.specs.Tracing.{Adds};
+ghost use Rattle.vm_outside.specs.Known.{Called, Tells};
+
+use script_text::Item;
+use vm_outside::Failed;
+
+/// Takes items in order.
+pub trait Trace: Drop {
+    ghost use Rattle.serve_host.specs.Tracing.{TraceKnown};
+
+    ghost known: { Self → TraceKnown };
+
+    /// Opens the trace under this path. It takes items only then.
+    fn open(&mut self, path: &str) -> Result<(), Failed>
+        ensures same { Tells (known self.old).health → (known self.new).took ≡ (known self.old).took }
+        ensures called { Called (known self.old).health (known self.new).health result };
+
+    /// Takes an item. After an `Err` it has taken none.
+    fn add(&mut self, item: &Item) -> Result<(), Failed>
+        ensures adds { Tells (known self.old).health →
+            Adds (known self.old).took (known self.new).took result item.now }
+        ensures called { Called (known self.old).health (known self.new).health result };
+}
