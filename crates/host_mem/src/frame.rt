@@ -11,10 +11,11 @@ pub struct Frame {
 
 impl Frame {
     ghost use Rattle.std.specs.Prelude.{◌≡◌, length};
+    ghost use Rattle.host_mem.specs.Devices.{frame_bytes};
 
     /// The frame of these bytes, if they are so many.
     pub fn new(bytes: Vec<u8>) -> Option<Frame>
-        ensures { MatchOption result (IsFrameLength (length bytes.items) → ⊥) (λ frame. frame.bytes.items ≡ bytes.items) }
+        ensures { MatchOption result (IsFrameLength (length bytes.items) → ⊥) (λ frame. frame_bytes frame ≡ bytes.items) }
     {
         if bytes.len() < 14 || bytes.len() > 1514 {
             return None;

@@ -20,6 +20,8 @@ mod numbers;
 mod passed;
 mod past;
 mod steady_words;
+#[cfg(test)]
+mod tests;
 
 pub use frame::Frame;
 pub use memory_clock::MemoryClock;

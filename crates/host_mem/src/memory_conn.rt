@@ -59,7 +59,8 @@ impl MemoryConn {
 
     /// What passed so far.
     pub fn passed(&self) -> &Passed
-        ensures { ⟦<MemoryConn as Conn>⟧.known self.now ≡ conn_known result.now self.now.failing }
+        ensures { ⟦<MemoryConn as Conn>⟧.known self.now ≡
+            conn_known result.now (⟦<MemoryConn as Conn>⟧.known self.now).health.faults }
     {
         &self.passed
     }
