@@ -183,7 +183,13 @@ fn each_call_in_each_phase(rt: HostRuntime) -> Result<(), Fail> {
     }
     assert_eq!(rt; seen, 31);
     for (is_new, text) in [(true, NEW_TEXT), (false, SET_TEXT)] {
-        let told = config(alloc, is_new)?.json(alloc, Part::VmConfig, "a", Phase::Running, &metadata)?;
+        let told = config(alloc, is_new)?.json(
+            alloc,
+            Part::VmConfig,
+            "a",
+            Phase::Running,
+            &metadata,
+        )?;
         assert!(rt; told.as_slice() == text);
     }
     Ok(())
