@@ -171,6 +171,8 @@ IsAsked (call.LoadSnapshot load) = (is_path load.files.snapshot_path ≡ true) �
 IsAsked (call.PutBootSource s) = ⊤
 IsAsked (call.PutMachineConfig c) = ⊤
 IsAsked (call.PatchMachineConfig p) = ⊤
+IsAsked (call.PutMetadata d) = ⊤
+IsAsked (call.PatchMetadata d) = ⊤
 IsAsked call.InstanceStart = ⊤
 IsAsked (call.PatchVm s) = ⊤
 IsAsked (call.Get part) = ⊤
@@ -179,6 +181,8 @@ made_is : (b : Body) (ms : Members) → refusal (form_of b) (object ms) ≡ None
 made_is body.BootSource ms none = tt
 made_is body.MachineConfig ms none = tt
 made_is body.MachinePatch ms none = tt
+made_is body.Metadata ms none = tt
+made_is body.MetadataPatch ms none = tt
 made_is body.Action ms none = tt
 made_is body.VmState ms none = tt
 made_is body.SnapshotCreate ms none = create_is ms none

@@ -95,6 +95,8 @@ made body.MachinePatch d = call.PatchMachineConfig (record {
   mem_size_mib = number_at (codes "mem_size_mib") d;
   track_dirty_pages = flag_at (codes "track_dirty_pages") d;
 })
+made body.Metadata d = call.PutMetadata d
+made body.MetadataPatch d = call.PatchMetadata d
 made body.Action d = call.InstanceStart
 made body.VmState d = call.PatchVm (state_of d)
 made body.SnapshotCreate d = call.CreateSnapshot (record {

@@ -49,6 +49,10 @@ machine_patch = flat (
     ∷ []) (some_of (codes "vcpu_count" ∷ codes "mem_size_mib" ∷ codes "smt"
     ∷ codes "track_dirty_pages" ∷ codes "cpu_template" ∷ codes "huge_pages" ∷ []))
 
+-- PUT and PATCH /mmds: of its fields nothing is asked here
+abbrev pub metadata : Form
+metadata = record { levels = []; together = free }
+
 -- PUT /actions
 abbrev pub action : Form
 action = flat (needed (codes "action_type") (choice (codes "InstanceStart" ∷ [])) ∷ []) free
@@ -95,6 +99,8 @@ abbrev pub form_of : Body → Form
 form_of body.BootSource = boot_source
 form_of body.MachineConfig = machine_config
 form_of body.MachinePatch = machine_patch
+form_of body.Metadata = metadata
+form_of body.MetadataPatch = metadata
 form_of body.Action = action
 form_of body.VmState = vm_state
 form_of body.SnapshotCreate = snapshot_create

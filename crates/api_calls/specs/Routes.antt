@@ -22,6 +22,8 @@ routes =
     route (codes "PUT") (codes "/boot-source") (endpoint.Send body.BootSource)
     ∷ route (codes "PUT") (codes "/machine-config") (endpoint.Send body.MachineConfig)
     ∷ route (codes "PATCH") (codes "/machine-config") (endpoint.Send body.MachinePatch)
+    ∷ route (codes "PUT") (codes "/mmds") (endpoint.Send body.Metadata)
+    ∷ route (codes "PATCH") (codes "/mmds") (endpoint.Send body.MetadataPatch)
     ∷ route (codes "PUT") (codes "/actions") (endpoint.Send body.Action)
     ∷ route (codes "PATCH") (codes "/vm") (endpoint.Send body.VmState)
     ∷ route (codes "PUT") (codes "/snapshot/create") (endpoint.Send body.SnapshotCreate)
@@ -29,6 +31,7 @@ routes =
     ∷ route (codes "GET") (codes "/") (endpoint.Get part.Instance)
     ∷ route (codes "GET") (codes "/version") (endpoint.Get part.Version)
     ∷ route (codes "GET") (codes "/machine-config") (endpoint.Get part.MachineConfig)
+    ∷ route (codes "GET") (codes "/mmds") (endpoint.Get part.Metadata)
     ∷ route (codes "GET") (codes "/vm/config") (endpoint.Get part.VmConfig)
     ∷ []
 

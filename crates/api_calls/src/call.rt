@@ -1,4 +1,5 @@
 // The calls of the API, in the table's order.
+use metadata_store::Tree;
 use vm_types::TextList;
 
 /// What a GET tells.
@@ -10,6 +11,8 @@ pub enum Part {
     Version,
     /// GET /machine-config
     MachineConfig,
+    /// GET /mmds: the metadata.
+    Metadata,
     /// GET /vm/config: all that is configured.
     VmConfig,
 }
@@ -93,6 +96,10 @@ pub enum ApiCall {
     PutMachineConfig(MachineConfig),
     /// PATCH /machine-config
     PatchMachineConfig(MachinePatch),
+    /// PUT /mmds: an object, whose numbers may be any.
+    PutMetadata(Tree),
+    /// PATCH /mmds: an object, whose numbers may be any.
+    PatchMetadata(Tree),
     /// PUT /actions with InstanceStart
     InstanceStart,
     /// PATCH /vm

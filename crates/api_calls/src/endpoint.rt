@@ -7,6 +7,8 @@ pub enum Body {
     BootSource,
     MachineConfig,
     MachinePatch,
+    Metadata,
+    MetadataPatch,
     Action,
     VmState,
     SnapshotCreate,

@@ -21,6 +21,9 @@ mod boot_source;
 // PUT and PATCH /machine-config,
 mod machine_config;
 
+// PUT and PATCH /mmds,
+mod metadata;
+
 // PUT /actions,
 mod actions;
 

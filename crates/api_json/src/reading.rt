@@ -12,11 +12,13 @@ use crate::boot_source::{self, BOOT_SOURCE};
 use crate::error::ReadError;
 use crate::levels::{Form, refusal};
 use crate::machine_config::{self, MACHINE_CONFIG, MACHINE_PATCH};
+use crate::metadata::METADATA;
 use crate::routes::endpoint_of;
 use crate::snapshot::{self, SNAPSHOT_CREATE, SNAPSHOT_LOAD};
 use crate::vm::{VM_STATE, state_of};
 use api_calls::{ApiCall, Body, Endpoint};
 use http_stream::Request;
+use metadata_store::Tree;
 use serde_json::Value;
 use std::alloc::{AllocError, Global};
 
@@ -27,6 +29,7 @@ fn form_of(body: Body) -> &'static Form
         Body::BootSource => &BOOT_SOURCE,
         Body::MachineConfig => &MACHINE_CONFIG,
         Body::MachinePatch => &MACHINE_PATCH,
+        Body::Metadata | Body::MetadataPatch => &METADATA,
         Body::Action => &ACTION,
         Body::VmState => &VM_STATE,
         Body::SnapshotCreate => &SNAPSHOT_CREATE,
@@ -34,17 +37,19 @@ fn form_of(body: Body) -> &'static Form
     }
 }
 
-fn make(alloc: Global, body: Body, object: &Value) -> Result<ApiCall, AllocError>
-    ensures { IfOk result (λ found. found ≡ made body (view object.now)) }
+fn make(alloc: Global, body: Body, object: Value) -> Result<ApiCall, AllocError>
+    ensures { IfOk result (λ found. found ≡ made body (view object)) }
 {
     match body {
-        Body::BootSource => boot_source::put(alloc, object),
-        Body::MachineConfig => Ok(machine_config::put(object)),
-        Body::MachinePatch => Ok(machine_config::patch(object)),
+        Body::BootSource => boot_source::put(alloc, &object),
+        Body::MachineConfig => Ok(machine_config::put(&object)),
+        Body::MachinePatch => Ok(machine_config::patch(&object)),
+        Body::Metadata => Ok(ApiCall::PutMetadata(Tree::of_value(object))),
+        Body::MetadataPatch => Ok(ApiCall::PatchMetadata(Tree::of_value(object))),
         Body::Action => Ok(ApiCall::InstanceStart),
-        Body::VmState => Ok(ApiCall::PatchVm(state_of(object))),
-        Body::SnapshotCreate => snapshot::create(alloc, object),
-        Body::SnapshotLoad => snapshot::load(alloc, object),
+        Body::VmState => Ok(ApiCall::PatchVm(state_of(&object))),
+        Body::SnapshotCreate => snapshot::create(alloc, &object),
+        Body::SnapshotLoad => snapshot::load(alloc, &object),
     }
 }
 
@@ -55,7 +60,7 @@ fn read_body(alloc: Global, body: Body, bytes: &[u8]) -> Result<ApiCall, ReadErr
     if let Some(why) = refusal(form_of(body), &object) {
         return Err(ReadError::Refused(why));
     }
-    let call = make(alloc, body, &object)?;
+    let call = make(alloc, body, object)?;
     Ok(call)
 }
 

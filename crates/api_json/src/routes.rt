@@ -15,7 +15,7 @@ pub struct Route {
     endpoint: Endpoint,
 }
 
-static ROUTES: [Route; 11] = [
+static ROUTES: [Route; 14] = [
     Route {
         path: "/boot-source",
         method: "PUT",
@@ -30,6 +30,16 @@ static ROUTES: [Route; 11] = [
         path: "/machine-config",
         method: "PATCH",
         endpoint: Endpoint::Send(Body::MachinePatch),
+    },
+    Route {
+        path: "/mmds",
+        method: "PUT",
+        endpoint: Endpoint::Send(Body::Metadata),
+    },
+    Route {
+        path: "/mmds",
+        method: "PATCH",
+        endpoint: Endpoint::Send(Body::MetadataPatch),
     },
     Route {
         path: "/actions",
@@ -65,6 +75,11 @@ static ROUTES: [Route; 11] = [
         path: "/machine-config",
         method: "GET",
         endpoint: Endpoint::Get(Part::MachineConfig),
+    },
+    Route {
+        path: "/mmds",
+        method: "GET",
+        endpoint: Endpoint::Get(Part::Metadata),
     },
     Route {
         path: "/vm/config",

@@ -1,5 +1,6 @@
 -- What a call is answered: a status, and for some a body.
 use Rattle.std.specs.Prelude.{ℕ, List, Option, Some, None, Result, Ok, Err}
+use Rattle.serde_json.specs.Data.{Data}
 use Rattle.refusals.specs.declared.refusal.Refusal.{Refusal}
 use Rattle.refusals.specs.Refusals.{status_of, fault_text}
 use Rattle.vm_config.specs.declared.change.Change.{Change}
@@ -16,11 +17,16 @@ abbrev pub no_content : Answer
 no_content = record { status = 204; body = None }
 
 -- a call that tells is answered OK with its text, and any other No Content
-abbrev pub accepted : Change → List ℕ → Phase → Config → Answer
-accepted (change.Tell part) id p config = record { status = 200; body = Some (text_of part id p config) }
-accepted (change.BootSource source) id p config = no_content
-accepted (change.MachineConfig machine) id p config = no_content
-accepted change.Start id p config = no_content
-accepted (change.State state) id p config = no_content
-accepted (change.CreateSnapshot it) id p config = no_content
-accepted (change.LoadSnapshot load) id p config = no_content
+abbrev pub accepted : Change → List ℕ → Phase → Config → Data → Answer
+accepted (change.Tell part) id p config metadata = record {
+  status = 200;
+  body = Some (text_of part id p config metadata);
+}
+accepted (change.BootSource source) id p config metadata = no_content
+accepted (change.MachineConfig machine) id p config metadata = no_content
+accepted (change.PutMetadata body) id p config metadata = no_content
+accepted (change.PatchMetadata patch) id p config metadata = no_content
+accepted change.Start id p config metadata = no_content
+accepted (change.State state) id p config metadata = no_content
+accepted (change.CreateSnapshot it) id p config metadata = no_content
+accepted (change.LoadSnapshot load) id p config metadata = no_content

@@ -26,6 +26,8 @@ abbrev pub when_allowed : ApiCall → When
 when_allowed (call.PutBootSource source) = BeforeBoot
 when_allowed (call.PutMachineConfig machine) = BeforeBoot
 when_allowed (call.PatchMachineConfig patch) = BeforeBoot
+when_allowed (call.PutMetadata body) = Always
+when_allowed (call.PatchMetadata patch) = Always
 when_allowed call.InstanceStart = BeforeBoot
 when_allowed (call.PatchVm state) = AfterBoot
 when_allowed (call.CreateSnapshot it) = AfterBoot
@@ -75,6 +77,8 @@ abbrev pub own_rows : Phase → Config → Ids → ApiCall → Rows
 own_rows p config ids (call.PutBootSource source) = []
 own_rows p config ids (call.PutMachineConfig machine) = []
 own_rows p config ids (call.PatchMachineConfig patch) = []
+own_rows p config ids (call.PutMetadata body) = []
+own_rows p config ids (call.PatchMetadata patch) = []
 own_rows p config ids call.InstanceStart = start_rows config
 own_rows p config ids (call.PatchVm state) = []
 own_rows p config ids (call.CreateSnapshot it) = create_rows p config ids it.snapshot_type
@@ -102,6 +106,8 @@ abbrev pub change_of : Config → ApiCall → Change
 change_of config (call.PutBootSource source) = change.BootSource source
 change_of config (call.PutMachineConfig machine) = change.MachineConfig machine
 change_of config (call.PatchMachineConfig patch) = change.MachineConfig (patched config.machine patch)
+change_of config (call.PutMetadata body) = change.PutMetadata body
+change_of config (call.PatchMetadata patch) = change.PatchMetadata patch
 change_of config call.InstanceStart = change.Start
 change_of config (call.PatchVm state) = change.State state
 change_of config (call.CreateSnapshot it) = change.CreateSnapshot it

@@ -2,6 +2,7 @@
 ghost use Rattle.std.specs.Prelude.{◌≡◌, IfOk};
 ghost use Rattle.api_rules.specs.Answers.{accepted, no_content, refused};
 
+use metadata_store::Store;
 use refusals::{Refusal, fault_text};
 use std::alloc::{AllocError, Global};
 use vm_config::{Change, Config, Phase};
@@ -38,20 +39,21 @@ pub fn fault_answer(alloc: Global, refusal: Refusal) -> Result<Answer, AllocErro
     })
 }
 
-/// What an accepted call is answered by the machine of this id in this phase.
+/// What an accepted call is answered by the machine of this id in this phase, with these metadata.
 pub fn accepted_answer(
     alloc: Global,
     change: &Change,
     id: &str,
     phase: Phase,
     config: &Config,
+    metadata: &Store,
 ) -> Result<Answer, AllocError>
-    ensures { IfOk result (λ answer. answer ≡ accepted change.now id.now phase config.now) }
+    ensures { IfOk result (λ answer. answer ≡ accepted change.now id.now phase config.now metadata.now) }
 {
     match change {
         Change::Tell(part) => Ok(Answer {
             status: OK,
-            body: Some(config.json(alloc, *part, id, phase)?),
+            body: Some(config.json(alloc, *part, id, phase, metadata)?),
         }),
         _ => Ok(done_answer()),
     }

@@ -28,7 +28,7 @@ fn when_allowed(call: &ApiCall) -> When
         | ApiCall::InstanceStart
         | ApiCall::LoadSnapshot(_) => When::BeforeBoot,
         ApiCall::PatchVm(_) | ApiCall::CreateSnapshot(_) => When::AfterBoot,
-        ApiCall::Get(_) => When::Always,
+        ApiCall::PutMetadata(_) | ApiCall::PatchMetadata(_) | ApiCall::Get(_) => When::Always,
     }
 }
 
@@ -62,6 +62,8 @@ fn change_of(config: &Config, call: ApiCall) -> Change
         ApiCall::PatchMachineConfig(patch) => {
             Change::MachineConfig(patched(&config.machine, &patch))
         }
+        ApiCall::PutMetadata(body) => Change::PutMetadata(body),
+        ApiCall::PatchMetadata(patch) => Change::PatchMetadata(patch),
         ApiCall::InstanceStart => Change::Start,
         ApiCall::PatchVm(state) => Change::State(state),
         ApiCall::CreateSnapshot(create) => Change::CreateSnapshot(create),
@@ -72,7 +74,8 @@ fn change_of(config: &Config, call: ApiCall) -> Change
 
 /// What a call asks for in this phase, or its first refusal: by the phase, then its own in the table's order.
 ///
-/// It takes no memory: texts are moved. It asks no file: a start goes on with `boot_refusal`.
+/// It takes no memory: texts are moved. It asks no file: a start goes on with `boot_refusal`. Nor does it look at the
+/// metadata: a PUT or a PATCH of them goes on with the store.
 pub fn decide(phase: Phase, config: &Config, ids: &Ids, call: ApiCall) -> Result<Change, Refusal>
     ensures { result ≡ table.decision phase config.now ids.now call }
 {

@@ -7,6 +7,7 @@ use api_calls::{
     ApiCall, BootSource, MachineConfig, MachinePatch, Part, SnapshotCreate, SnapshotFiles,
     SnapshotLoad, SnapshotType, VmState,
 };
+use metadata_store::Store;
 use refusals::Refusal;
 use std::alloc::{AllocError, Global};
 use std::test::Fail;
@@ -161,6 +162,7 @@ fn is_answered(answer: &Answer, wanted: &str) -> bool {
 #[test]
 fn each_call_in_each_phase(rt: HostRuntime) -> Result<(), Fail> {
     let alloc = rt.alloc();
+    let metadata = Store::new(alloc);
     let mut seen: u32 = 0;
     for line in CASES.lines() {
         if let Some((set, rest)) = line.split_once(' ')
@@ -172,7 +174,7 @@ fn each_call_in_each_phase(rt: HostRuntime) -> Result<(), Fail> {
             config.machine.track_dirty_pages = set == "tracked" || set == "based" || set == "last";
             let ids = ids(set);
             let answer = match decide(phase, &config, &ids, call(alloc, word.as_bytes())?) {
-                Ok(change) => accepted_answer(alloc, &change, "a", phase, &config)?,
+                Ok(change) => accepted_answer(alloc, &change, "a", phase, &config, &metadata)?,
                 Err(why) => fault_answer(alloc, why)?,
             };
             assert!(rt; is_answered(&answer, wanted), "{line}");
@@ -181,7 +183,13 @@ fn each_call_in_each_phase(rt: HostRuntime) -> Result<(), Fail> {
     }
     assert_eq!(rt; seen, 31);
     for (is_new, text) in [(true, NEW_TEXT), (false, SET_TEXT)] {
-        let told = config(alloc, is_new)?.json(alloc, Part::VmConfig, "a", Phase::Running)?;
+        let told = config(alloc, is_new)?.json(
+            alloc,
+            Part::VmConfig,
+            "a",
+            Phase::Running,
+            &metadata,
+        )?;
         assert!(rt; told.as_slice() == text);
     }
     Ok(())

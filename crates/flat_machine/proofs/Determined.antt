@@ -31,7 +31,9 @@ use Rattle.api_calls.specs.declared.call.SnapshotCreate.{SnapshotCreate}
 use Rattle.api_calls.specs.declared.call.SnapshotLoad.{SnapshotLoad}
 use Rattle.flat_snapshot.specs.Found.{Snapshot, found}
 use Rattle.flat_snapshot.proofs.Copied.{same_copy}
-use Rattle.flat_machine.specs.Requests.{CreateFails, Creates, Fails, Leaves, LeavesBy, Restores, RequestStep, allowed, created, parent_in}
+use Rattle.flat_machine.specs.Requests.{CreateFails, Creates, Fails, Leaves, LeavesBy, Restores, RequestStep, Stores, allowed, created, parent_in}
+use Rattle.serde_json.specs.Data.{Data}
+use Rattle.metadata_store.specs.Store.{patched, put}
 use Rattle.vm_config.specs.declared.change.Change.{Change}
 use Rattle.vm_config.specs.declared.change.Change.TheVariants as change
 use Rattle.api_calls.specs.declared.call.VmState.TheVariants.{Paused, Resumed}
@@ -57,6 +59,10 @@ loads_one : (it : Result Snapshot Refusal) (m : Machine) (load : SnapshotLoad) (
 loads_one (Ok it) m load n k x y = x ∙ sym y
 loads_one (Err why) m load n k x y = x ∙ sym y
 
+stores_one : (due : Result Data Refusal) (m n k : Machine) → Stores due m n → Stores due m k → n ≡ k
+stores_one (Ok kept) m n k x y = x ∙ sym y
+stores_one (Err why) m n k x y = x ∙ sym y
+
 create_fails_one : (guest : Option Guest) (m : Machine) (it : SnapshotCreate) (left : Left) (n k : Machine) → CreateFails guest m it left n
     → CreateFails guest m it left k → n ≡ k
 create_fails_one None m it left n k x y = absurd x
@@ -65,6 +71,8 @@ create_fails_one (Some g) m it left n k x y = x.4 ∙ sym y.4
 leaves_one : (it : Change) (m n k : Machine) → Leaves m it n → Leaves m it k → n ≡ k
 leaves_one (change.BootSource source) m n k x y = x ∙ sym y
 leaves_one (change.MachineConfig machine) m n k x y = x ∙ sym y
+leaves_one (change.PutMetadata body) m n k x y = stores_one (put body) m n k x y
+leaves_one (change.PatchMetadata patch) m n k x y = stores_one (patched m.metadata patch) m n k x y
 leaves_one change.Start m n k x y = x ∙ sym y
 leaves_one (change.State Paused) m n k x y = x ∙ sym y
 leaves_one (change.State Resumed) m n k x y = x ∙ sym y
@@ -82,6 +90,8 @@ same_change a b is = cc
 fails_one : (it : Change) (m : Machine) (left : Left) (n k : Machine) → Fails m it left n → Fails m it left k → n ≡ k
 fails_one (change.BootSource source) m left n k x y = absurd x
 fails_one (change.MachineConfig machine) m left n k x y = absurd x
+fails_one (change.PutMetadata body) m left n k x y = absurd x
+fails_one (change.PatchMetadata patch) m left n k x y = absurd x
 fails_one change.Start m left n k x y = x.1 ∙ sym y.1
 fails_one (change.State state) m left n k x y = absurd x
 fails_one (change.CreateSnapshot it) m left n k x y = create_fails_one m.guest m it left n k x y

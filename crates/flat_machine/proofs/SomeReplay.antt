@@ -21,6 +21,8 @@ use Rattle.http_stream.specs.Conversation.{arrived, new_connection}
 use Rattle.http_stream.specs.Sent.{sent}
 use Rattle.http_stream.proofs.ConversationLemmas.{each, some_conversation}
 use Rattle.refusals.specs.declared.refusal.Refusal.{Refusal}
+use Rattle.serde_json.specs.Data.{Data}
+use Rattle.metadata_store.specs.Store.{patched, put}
 use Rattle.vm_config.specs.declared.change.Change.{Change}
 use Rattle.vm_config.specs.declared.change.Change.TheVariants as change
 use Rattle.api_calls.specs.declared.call.VmState.TheVariants.{Paused, Resumed}
@@ -47,7 +49,7 @@ use Rattle.flat_machine.specs.Outcome.Outcome.{Answered}
 use Rattle.flat_machine.specs.Machine.{Machine, console_of, drained, drained_guest, is_off, new_machine, running, running_by}
 use Rattle.flat_machine.specs.Items.{Answers, ItemStep, MemoryLine, Misfits, Moves, RegisterLine, Replies, RepliesLine, Shows, ShowsFrom, StepsLine, Talks, steps_text}
 use Rattle.flat_machine.specs.Replay.{IsEnd, IsReplay, closed, closing, judged_script}
-use Rattle.flat_machine.specs.Requests.{Creates, Leaves, LeavesBy, Restores, RequestStep, allowed, answer_by, carried, configured, created, disk_of, halted, image_of, parent_in, loads_from, started_from}
+use Rattle.flat_machine.specs.Requests.{Creates, Leaves, LeavesBy, Restores, RequestStep, Stores, allowed, answer_by, carried, configured, created, disk_of, halted, image_of, parent_in, loads_from, started_from}
 use Rattle.flat_machine.specs.Run.{Act, AllAnswered, OnBefore, Run, lines_done}
 use Rattle.flat_machine.proofs.Determined.{item_one}
 
@@ -86,10 +88,16 @@ some_load : (it : Result Snapshot Refusal) (m : Machine) (load : SnapshotLoad) �
 some_load (Ok it) m load sound = (carried m load it, refl, carried_sound it.copy it.bytes)
 some_load (Err why) m load sound = (m, refl, sound)
 
+some_store : (due : Result Data Refusal) (m : Machine) → Sound m → (n : Machine) × Stores due m n × Sound n
+some_store (Ok kept) m sound = (record m { metadata = kept }, refl, sound)
+some_store (Err why) m sound = (m, refl, sound)
+
 -- what an allowed change leaves
 some_change : (it : Change) (m : Machine) → Sound m → (n : Machine) × Leaves m it n × Sound n
 some_change (change.BootSource source) m sound = (configured m (change.BootSource source), refl, sound)
 some_change (change.MachineConfig machine) m sound = (configured m (change.MachineConfig machine), refl, sound)
+some_change (change.PutMetadata body) m sound = some_store (put body) m sound
+some_change (change.PatchMetadata patch) m sound = some_store (patched m.metadata patch) m sound
 some_change change.Start m sound =
     (configured (started_from (image_of m) (disk_of m) m) change.Start, refl, from_sound (image_of m) (disk_of m) m sound)
 some_change (change.State Paused) m sound =

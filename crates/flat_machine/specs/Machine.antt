@@ -3,6 +3,7 @@ use Rattle.std.specs.Prelude.{ℕ, ◌≡◌, Bool, true, false, List, [], Optio
 use Rattle.vm_types.specs.Saved.{Saved}
 use Rattle.vm_outside.specs.Calls.{FileCall}
 use Rattle.vm_outside.specs.Known.{FilesKnown}
+use Rattle.serde_json.specs.Data.{Data, null}
 use Rattle.http_stream.specs.Stream.{Connection}
 use Rattle.http_stream.specs.Conversation.{new_connection}
 use Rattle.vm_config.specs.declared.config.Config.{Config}
@@ -12,13 +13,14 @@ use Rattle.vm_config.specs.Changes.{default_config}
 use Rattle.api_rules.specs.declared.ids.Ids.{Ids}
 use Rattle.flat_guest.specs.Guest.{Guest}
 
--- its id, its lineage with the snapshots that it knows, what was configured, the connection on which requests come, what
--- each name holds in the files, the calls that were made on them, the oldest first, the guest once it has started, and
--- whether the guest stands still
+-- its id, its lineage with the snapshots that it knows, what was configured, the metadata, the connection on which
+-- requests come, what each name holds in the files, the calls that were made on them, the oldest first, the guest once it
+-- has started, and whether the guest stands still
 pub record Machine : Type 0 where
   pub id : List ℕ
   pub ids : Ids
   pub config : Config
+  pub metadata : Data
   pub connection : Connection
   pub saved : Saved
   pub calls : List FileCall
@@ -35,6 +37,7 @@ new_machine id saved calls = record {
   id = id;
   ids = first_ids;
   config = default_config;
+  metadata = null;
   connection = new_connection;
   saved = saved;
   calls = calls;

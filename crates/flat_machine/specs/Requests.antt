@@ -6,6 +6,7 @@ use Rattle.vm_outside.specs.Calls.{MakesFront}
 use Rattle.vm_types.specs.Saved.{Saved}
 use Rattle.refusals.specs.declared.refusal.Refusal.{Refusal}
 use Rattle.refusals.specs.declared.refusal.Refusal.TheVariants as refusal
+use Rattle.serde_json.specs.Data.{Data, null}
 use Rattle.http_stream.specs.declared.request.Next.{Next}
 use Rattle.http_stream.specs.declared.request.Next.TheVariants as next
 use Rattle.api_calls.specs.declared.call.BootSource.{BootSource}
@@ -16,6 +17,7 @@ use Rattle.api_calls.specs.declared.call.SnapshotType.TheVariants as snapshot
 use Rattle.api_calls.specs.declared.call.SnapshotLoad.{SnapshotLoad}
 use Rattle.api_calls.specs.declared.call.VmState.TheVariants.{Paused, Resumed}
 use Rattle.api_calls.specs.Call.{call_of, ◌>>=◌}
+use Rattle.metadata_store.specs.Store.{patched, put}
 use Rattle.vm_config.specs.declared.config.Config.{Config}
 use Rattle.vm_config.specs.declared.change.Change.{Change}
 use Rattle.vm_config.specs.declared.change.Change.TheVariants as change
@@ -83,22 +85,29 @@ abbrev pub start_refusal : Config → Saved → Option Refusal
 start_refusal config saved =
     boot_refusal config (option_map length (image_by config.boot_source saved)) (file_by (initrd_name config.boot_source) saved)
 
--- a start and a load are also refused by the files, which they alone ask
-abbrev pub by_files : Machine → Change → Result Change Refusal
-by_files m change.Start = unless (start_refusal m.config m.saved) (Ok change.Start)
-by_files m (change.LoadSnapshot load) = do
+-- a start and a load are also refused by the files, which they alone ask, and what is put into the metadata or merged
+-- into them by these
+abbrev pub by_contents : Machine → Change → Result Change Refusal
+by_contents m change.Start = unless (start_refusal m.config m.saved) (Ok change.Start)
+by_contents m (change.LoadSnapshot load) = do
   _ ← found m.saved load.files
   Ok (change.LoadSnapshot load)
-by_files m it = Ok it
+by_contents m (change.PutMetadata body) = do
+  _ ← put body
+  Ok (change.PutMetadata body)
+by_contents m (change.PatchMetadata patch) = do
+  _ ← patched m.metadata patch
+  Ok (change.PatchMetadata patch)
+by_contents m it = Ok it
 
 abbrev pub allowed : Machine → Next → Result Change Refusal
 allowed m given = do
   it ← decided m given
-  by_files m it
+  by_contents m it
 
 -- what is answered
 abbrev pub answer_by : Machine → Result Change Refusal → Answer
-answer_by m (Ok it) = accepted it m.id (phase_of m) m.config
+answer_by m (Ok it) = accepted it m.id (phase_of m) m.config m.metadata
 answer_by m (Err why) = refused why
 
 -- ---- what a change leaves
@@ -171,11 +180,12 @@ Creates None m it n = n ≡ m
 Creates (Some g) m it n = (copy : StateCopy) × IsCopyOf m.config g copy × (n ≡ created m g it.files (parent_in m it) copy)
 
 -- A load of this snapshot: its guest goes on, or stands still; the machine keeps its id, its lineage, its connection and
--- its files. Whether dirty pages are tracked is said by the load.
+-- its files. Whether dirty pages are tracked is said by the load. A snapshot has no metadata.
 abbrev pub carried : Machine → SnapshotLoad → Snapshot → Machine
 carried m load it = record m {
   ids = record { lineage = m.ids.lineage; base = Some it.identity; next = it.identity.number + 1 };
   config = carried_config load.track_dirty_pages it.copy.configuration;
+  metadata = null;
   guest = Some (carried_guest it.copy it.bytes);
   paused = not load.resume_vm;
 }
@@ -184,10 +194,17 @@ abbrev pub Restores : Result Snapshot Refusal → Machine → SnapshotLoad → M
 Restores (Ok it) m load n = n ≡ carried m load it
 Restores (Err why) m load n = n ≡ m
 
+-- these are the metadata from now on
+abbrev pub Stores : Result Data Refusal → Machine → Machine → Type 0
+Stores (Ok kept) m n = n ≡ record m { metadata = kept }
+Stores (Err why) m n = n ≡ m
+
 -- An allowed change leaves n of m.
 abbrev pub Leaves : Machine → Change → Machine → Type 0
 Leaves m (change.BootSource source) n = n ≡ configured m (change.BootSource source)
 Leaves m (change.MachineConfig machine) n = n ≡ configured m (change.MachineConfig machine)
+Leaves m (change.PutMetadata body) n = Stores (put body) m n
+Leaves m (change.PatchMetadata patch) n = Stores (patched m.metadata patch) m n
 Leaves m change.Start n = n ≡ configured (started_from (image_of m) (disk_of m) m) change.Start
 Leaves m (change.State Paused) n = n ≡ record m { guest = halted m.paused m.guest; paused = true }
 Leaves m (change.State Resumed) n = n ≡ record m { paused = false }

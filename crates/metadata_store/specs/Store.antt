@@ -40,6 +40,11 @@ Refuses (Refused why) due = due ≡ Err why
 Refuses OutOfMemory due = Unit {0}
 
 -- what is due was made, or that happened
+abbrev pub GivesData : Result Data StoreError → Result Data Refusal → Type 0
+GivesData (Ok made) due = due ≡ Ok made
+GivesData (Err e) due = Refuses e due
+
+-- the same of a value, by the tree that it stands for
 abbrev pub GivesValue : Result Value StoreError → Result Data Refusal → Type 0
 GivesValue (Ok value) due = due ≡ Ok (view value)
 GivesValue (Err e) due = Refuses e due

@@ -3,7 +3,7 @@ ghost use Rattle.std.specs.Prelude.{◌≡◌, false, Ok, IfOk, OnOk, OnErr, IfE
 ghost use Rattle.serde_json.specs.Data.{null};
 ghost use Rattle.serde_json.specs.View.{view};
 ghost use Rattle.serde_json.specs.Written.{compact_text, has_float};
-ghost use Rattle.metadata_store.specs.Store.{put, patched, Refuses};
+ghost use Rattle.metadata_store.specs.Store.{put, patched, GivesData, Refuses};
 
 use crate::error::StoreError;
 use crate::results;
@@ -48,29 +48,52 @@ impl Store {
         }
     }
 
-    /// Replaces what is stored. An `Err` changes nothing.
+    /// The store that a PUT of a body leaves, whatever was stored.
     ///
     /// `WrongKind`: the body is no object, or a number in it is no whole number of 64 bits, signed or not. `TooLarge`:
     /// its compact text has more than 51,200 bytes.
+    pub fn of_put(alloc: Global, body: Tree) -> Result<Store, StoreError>
+        ensures { GivesData result (put body) }
+    {
+        let value = results::put(alloc, body.into_value())?;
+        Ok(Store { value, alloc })
+    }
+
+    /// The store that a patch makes of this one.
+    ///
+    /// `WrongKind`: the patch is none that `put` would take as a body. `StoreNotInitialized`: nothing was put yet.
+    /// `TooLarge`: the compact text of what would be stored has more than 51,200 bytes.
+    pub fn patched(&self, patch: &Tree) -> Result<Store, StoreError>
+        ensures { GivesData result (patched self.now patch.now) }
+    {
+        let value = results::patched(self.alloc, &self.value, patch.value())?;
+        Ok(Store {
+            value,
+            alloc: self.alloc,
+        })
+    }
+
+    /// Replaces what is stored. An `Err` changes nothing.
+    ///
+    /// The errors are those of `of_put`.
     pub fn put(&mut self, body: Tree) -> Result<(), StoreError>
         ensures ok { OnOk result (put body ≡ Ok self.new) }
         ensures refused { IfErr result (λ e. Refuses e (put body)) }
         ensures err { OnErr result (self.new ≡ self.old) }
     {
-        self.value = results::put(self.alloc, body.into_value())?;
+        *self = Store::of_put(self.alloc, body)?;
         Ok(())
     }
 
     /// Merges a patch into what is stored. An `Err` changes nothing.
     ///
-    /// `WrongKind`: the patch is none that `put` would take as a body. `StoreNotInitialized`: nothing was put yet.
-    /// `TooLarge`: the compact text of what would be stored has more than 51,200 bytes.
+    /// The errors are those of `patched`.
     pub fn patch(&mut self, patch: &Tree) -> Result<(), StoreError>
         ensures ok { OnOk result (patched self.old patch.now ≡ Ok self.new) }
         ensures refused { IfErr result (λ e. Refuses e (patched self.old patch.now)) }
         ensures err { OnErr result (self.new ≡ self.old) }
     {
-        self.value = results::patched(self.alloc, &self.value, patch.value())?;
+        *self = self.patched(patch)?;
         Ok(())
     }
 

@@ -79,6 +79,7 @@ file_goes item monitor known left name content text is quiet kept saves =
                   id_is = live.id_is;
                   ids_is = live.ids_is;
                   config_is = live.config_is;
+                  metadata_is = live.metadata_is;
                   guest_is = live.guest_is;
                   paused_is = live.paused_is;
                 };
@@ -125,6 +126,7 @@ connect_goes item monitor known d text is quiet new =
             id_is = live.id_is;
             ids_is = live.ids_is;
             config_is = live.config_is;
+            metadata_is = live.metadata_is;
             guest_is = live.guest_is;
             paused_is = live.paused_is;
           };
@@ -175,6 +177,7 @@ taken after known n is = record {
       id_is = is.own.id_is;
       ids_is = is.own.ids_is;
       config_is = is.own.config_is;
+      metadata_is = is.own.metadata_is;
       guest_is = is.own.guest_is;
       paused_is = is.own.paused_is;
     };

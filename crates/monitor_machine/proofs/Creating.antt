@@ -26,7 +26,7 @@ use Rattle.snap_writer.specs.Selected.{selected}
 use Rattle.monitor_plans.specs.Headings.{numbers_in}
 use Rattle.flat_machine.specs.Machine.{Machine}
 use Rattle.flat_machine.specs.Outcome as flat
-use Rattle.flat_machine.specs.Requests.{CreateFails, Creates, RequestStep, by_files, created, next_identity, parent_in, spent}
+use Rattle.flat_machine.specs.Requests.{CreateFails, Creates, RequestStep, by_contents, created, next_identity, parent_in, spent}
 use Rattle.vm_world.specs.Worlds.{IsWorld, WorldValue}
 use Rattle.vm_world.proofs.Events.{unwritten_is}
 use Rattle.monitor_plans.specs.declared.creating.Creation.{Creation}
@@ -79,7 +79,7 @@ module _ (c : Creation) (live : LiveMachine) (w : WorldValue) (known left : File
       → RequestStep flat.Outcome.Answered given m (reply_line no_content) end × IsMachine (created_after c live) left end
   create_does wrote = (
     answered live known m end given (Ok (change.CreateSnapshot due.it)) (reply_line no_content)
-        (ap (λ (r : Result Change Refusal). r >>= by_files m) due.asks) refl
+        (ap (λ (r : Result Change Refusal). r >>= by_contents m) due.asks) refl
         (subst (λ (o : Option Guest). Creates o m due.it end) (sym due.there) (due.copy, due.copied, refl)),
     record {
       own = record {
@@ -90,6 +90,7 @@ module _ (c : Creation) (live : LiveMachine) (w : WorldValue) (known left : File
           next = due.next_is i;
         };
         config_is = is.own.config_is;
+        metadata_is = is.own.metadata_is;
         guest_is = unmarked_is;
         paused_is = is.own.paused_is;
       };
@@ -132,6 +133,7 @@ module _ (c : Creation) (live : LiveMachine) (w : WorldValue) (known left : File
           next = due.next_is i;
         };
         config_is = is.own.config_is;
+        metadata_is = is.own.metadata_is;
         guest_is = is.own.guest_is;
         paused_is = is.own.paused_is;
       };

@@ -74,6 +74,7 @@ with_guest live known m w g is guest = record {
     id_is = is.own.id_is;
     ids_is = is.own.ids_is;
     config_is = is.own.config_is;
+    metadata_is = is.own.metadata_is;
     guest_is = guest;
     paused_is = is.own.paused_is;
   };

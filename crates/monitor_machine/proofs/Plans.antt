@@ -2,6 +2,7 @@
 use Rattle.std.proofs.Common.{◌≡◌, ℕ, ◌≤◌, ◌⊎◌, inl, inr, Bool, true, false, not, refl, sym, ap, subst, ◌∙◌, List, Option, Some, None, Ok, Err, Result}
 use Rattle.std.proofs.Math.Nat.{le_refl}
 use Rattle.vm_types.specs.Saved.{Saved}
+use Rattle.serde_json.specs.Data.{Data}
 use Rattle.refusals.specs.declared.refusal.Refusal.{Refusal}
 use Rattle.http_stream.specs.declared.request.Request.{Request}
 use Rattle.http_stream.specs.declared.request.Next.{Next}
@@ -14,6 +15,7 @@ use Rattle.api_calls.specs.declared.call.VmState.TheVariants.{Paused, Resumed}
 use Rattle.api_calls.specs.declared.call.SnapshotLoad.{SnapshotLoad}
 use Rattle.api_calls.specs.Call.{call_of, ◌>>=◌}
 use Rattle.api_calls.proofs.Snapshots.{asked_is}
+use Rattle.metadata_store.specs.Store.{patched as merged, put}
 use Rattle.vm_config.specs.declared.config.Config.{Config}
 use Rattle.vm_config.specs.declared.config.Phase.{Phase}
 use Rattle.vm_config.specs.declared.change.Change.{Change}
@@ -21,6 +23,7 @@ use Rattle.vm_config.specs.declared.change.Change.TheVariants as change
 use Rattle.vm_config.specs.Changes.{changed}
 use Rattle.api_rules.specs.declared.ids.Ids.{Ids}
 use Rattle.api_rules.specs.Table.{change_of, decision, misplaced, own_refusal, patched, unless, when_allowed}
+use Rattle.api_rules.specs.Answers.{accepted, no_content}
 use Rattle.script_output.specs.Output.{reply_line}
 use Rattle.flat_guest.specs.Guest.{Guest}
 use Rattle.flat_guest.specs.Start.{started}
@@ -28,7 +31,7 @@ use Rattle.flat_machine.specs.Outcome as flat
 use Rattle.flat_machine.specs.Machine.{AreFilesOf, Machine}
 use Rattle.flat_machine.specs.Machine as machine
 use Rattle.flat_snapshot.specs.Found.{Snapshot}
-use Rattle.flat_machine.specs.Requests.{Fails, Leaves, LeavesBy, RequestStep, Restores, allowed, answer_by, by_files, carried, configured, decided, disk_of, halted, image_of, loads_from, start_refusal, started_from}
+use Rattle.flat_machine.specs.Requests.{Fails, Leaves, LeavesBy, RequestStep, Restores, Stores, allowed, answer_by, by_contents, carried, configured, decided, disk_of, halted, image_of, loads_from, start_refusal, started_from}
 use Rattle.vm_world.specs.Worlds.{IsWorld, WorldValue}
 use Rattle.vm_world.proofs.Events.{restarted}
 use Rattle.monitor_plans.specs.declared.plan.Plan.{Plan}
@@ -36,9 +39,10 @@ use Rattle.monitor_plans.specs.declared.plan.Plan.TheVariants as plan
 use Rattle.monitor_plans.specs.Plans.{PlanCause, plan_answer}
 use Rattle.monitor_plans.specs.Restoring.{RestoreGives}
 use Rattle.monitor_plans.specs.Starting.{StartGives, disk_in, image_in}
+use Rattle.monitor_plans.specs.Storing.{StoreGives}
 use Rattle.monitor_machine.specs.declared.machine.LiveMachine.{LiveMachine}
 use Rattle.monitor_machine.specs.declared.outcome.Outcome.{Outcome}
-use Rattle.monitor_machine.specs.Plans.{Answers, HasTwoFiles, IsPlan, halted_world, is_plain, paused_by, phase_by, phase_of, plan_after, plan_line, plan_outcome, reads_files, world_by}
+use Rattle.monitor_machine.specs.Plans.{Answers, HasTwoFiles, IsKept, IsPlan, halted_world, is_plain, needs_files, paused_by, phase_by, phase_of, plan_after, plan_line, plan_outcome, reads_files, world_by}
 use Rattle.monitor_machine.specs.Replying.{OutcomeCause, Replies, calls_files, left_by, outcome_by}
 use Rattle.monitor_machine.specs.State.{IsGuestBy, IsLive, IsMachine}
 
@@ -86,6 +90,8 @@ two_files p config ids it c is request asks = subst HasTwoFiles (change_is p con
     by_call (call.PutBootSource source) asks = tt
     by_call (call.PutMachineConfig machine) asks = tt
     by_call (call.PatchMachineConfig patch) asks = tt
+    by_call (call.PutMetadata body) asks = tt
+    by_call (call.PatchMetadata patch) asks = tt
     by_call call.InstanceStart asks = tt
     by_call (call.PatchVm state) asks = tt
     by_call (call.CreateSnapshot files) asks = (asked_is request (call.CreateSnapshot files) asks).2
@@ -95,11 +101,13 @@ two_files p config ids it c is request asks = subst HasTwoFiles (change_is p con
 -- ---- plans of each kind
 
 pub refused_plan : (m : Machine) (given : Next) (why : Refusal) → decided m given ≡ Err why → IsPlan (plan.Refused why) m given
-refused_plan m given why is = ap (λ (r : Result Change Refusal). r >>= by_files m) is
+refused_plan m given why is = ap (λ (r : Result Change Refusal). r >>= by_contents m) is
 
-plain_change : (m : Machine) (it : Change) → is_plain it ≡ true → by_files m it ≡ Ok it
+plain_change : (m : Machine) (it : Change) → is_plain it ≡ true → by_contents m it ≡ Ok it
 plain_change m (change.BootSource source) plain = refl
 plain_change m (change.MachineConfig machine) plain = refl
+plain_change m (change.PutMetadata body) plain = cc
+plain_change m (change.PatchMetadata patch) plain = cc
 plain_change m change.Start plain = cc
 plain_change m (change.State state) plain = refl
 plain_change m (change.CreateSnapshot files) plain = cc
@@ -107,7 +115,50 @@ plain_change m (change.LoadSnapshot load) plain = cc
 plain_change m (change.Tell part) plain = refl
 
 pub changes_plan : (m : Machine) (given : Next) (it : Change) → decided m given ≡ Ok it → is_plain it ≡ true → IsPlan (plan.Changes it) m given
-changes_plan m given it is plain = (ap (λ (r : Result Change Refusal). r >>= by_files m) is ∙ plain_change m it plain, plain)
+changes_plan m given it is plain = (ap (λ (r : Result Change Refusal). r >>= by_contents m) is ∙ plain_change m it plain, plain)
+
+-- ---- metadata
+
+-- what is put
+pub put_plan : (it : Plan) (body : Data) (m : Machine) (given : Next) → decided m given ≡ Ok (change.PutMetadata body)
+    → StoreGives it (put body) → IsPlan it m given
+put_plan (plan.Refused why) body m given asks gives =
+    ap (λ (r : Result Change Refusal). r >>= by_contents m) asks
+    ∙ ap (λ (r : Result Data Refusal). r >>= λ kept. Ok (change.PutMetadata body)) gives
+put_plan (plan.Changes c) body m given asks gives = absurd gives
+put_plan (plan.Stores kept) body m given asks gives = (
+  change.PutMetadata body,
+  ap (λ (r : Result Change Refusal). r >>= by_contents m) asks
+      ∙ ap (λ (r : Result Data Refusal). r >>= λ kept. Ok (change.PutMetadata body)) gives,
+  gives,
+)
+put_plan (plan.Starts w) body m given asks gives = absurd gives
+put_plan (plan.Restores r) body m given asks gives = absurd gives
+put_plan plan.FilesFailed body m given asks gives = absurd gives
+put_plan plan.NoMemory body m given asks gives = tt
+
+-- and what is merged
+pub patch_plan : (it : Plan) (stored patch : Data) (m : Machine) (given : Next) → stored ≡ m.metadata
+    → decided m given ≡ Ok (change.PatchMetadata patch) → StoreGives it (merged stored patch) → IsPlan it m given
+patch_plan it stored patch m given same asks gives =
+    by_kind it (subst (λ (d : Data). StoreGives it (merged d patch)) same gives)
+  where
+    contents : allowed m given ≡ by_contents m (change.PatchMetadata patch)
+    contents = ap (λ (r : Result Change Refusal). r >>= by_contents m) asks
+
+    goes : Result Data Refusal → Result Change Refusal
+    goes due = due >>= λ kept. Ok (change.PatchMetadata patch)
+
+    by_kind : (it : Plan) → StoreGives it (merged m.metadata patch) → IsPlan it m given
+    by_kind (plan.Refused why) gives = contents ∙ ap goes gives
+    by_kind (plan.Changes c) gives = absurd gives
+    by_kind (plan.Stores kept) gives = (change.PatchMetadata patch, contents ∙ ap goes gives, gives)
+    by_kind (plan.Starts w) gives = absurd gives
+    by_kind (plan.Restores r) gives = absurd gives
+    by_kind plan.FilesFailed gives = absurd gives
+    by_kind plan.NoMemory gives = tt
+
+-- ---- a start and a load
 
 -- the machine that has what the monitor has
 image_is : (live : LiveMachine) (known : FilesKnown) (m : Machine) → IsMachine live known m
@@ -133,11 +184,12 @@ loads_same live known m w image is world =
 pub start_plan : (it : Plan) (live : LiveMachine) (known : FilesKnown) (m : Machine) (given : Next) → IsMachine live known m
     → decided m given ≡ Ok change.Start → StartGives it live.config known.saved → IsPlan it m given
 start_plan (plan.Refused why) live known m given is asks gives =
-    ap (λ (r : Result Change Refusal). r >>= by_files m) asks
+    ap (λ (r : Result Change Refusal). r >>= by_contents m) asks
     ∙ ap (λ (o : Option Refusal). unless o (Ok change.Start)) (sym (refusal_is live known m is) ∙ gives)
 start_plan (plan.Changes it) live known m given is asks gives = absurd gives
+start_plan (plan.Stores kept) live known m given is asks gives = absurd gives
 start_plan (plan.Starts w) live known m given is asks (none, image, there, world) = (
-  ap (λ (r : Result Change Refusal). r >>= by_files m) asks
+  ap (λ (r : Result Change Refusal). r >>= by_contents m) asks
       ∙ ap (λ (o : Option Refusal). unless o (Ok change.Start)) (sym (refusal_is live known m is) ∙ none),
   image,
   sym (image_is live known m is) ∙ there,
@@ -152,8 +204,8 @@ pub restore_plan : (it : Plan) (load : SnapshotLoad) (live : LiveMachine) (known
 restore_plan it load live known m given is asks gives =
     by_kind it (subst (λ (s : Saved). RestoreGives it load s) is.files.saved_is gives)
   where
-    files : allowed m given ≡ by_files m (change.LoadSnapshot load)
-    files = ap (λ (r : Result Change Refusal). r >>= by_files m) asks
+    files : allowed m given ≡ by_contents m (change.LoadSnapshot load)
+    files = ap (λ (r : Result Change Refusal). r >>= by_contents m) asks
 
     goes : Result Snapshot Refusal → Result Change Refusal
     goes found = found >>= λ snapshot. Ok (change.LoadSnapshot load)
@@ -161,6 +213,7 @@ restore_plan it load live known m given is asks gives =
     by_kind : (it : Plan) → RestoreGives it load m.saved → IsPlan it m given
     by_kind (plan.Refused why) gives = files ∙ ap goes gives
     by_kind (plan.Changes c) gives = absurd gives
+    by_kind (plan.Stores kept) gives = absurd gives
     by_kind (plan.Starts w) gives = absurd gives
     by_kind (plan.Restores r) (it, there, goes_on, resumes) = record {
       load = load;
@@ -176,11 +229,12 @@ restore_plan it load live known m given is asks gives =
 -- ---- what a plan answers and leaves
 
 line_is : (it : Plan) (live : LiveMachine) (m : Machine) → IsLive live m
-    → plan_line it live ≡ reply_line (plan_answer it m.id (machine.phase_of m) m.config)
+    → plan_line it live ≡ reply_line (plan_answer it m.id (machine.phase_of m) m.config m.metadata)
 line_is it live m own =
-    ap (λ (i : List ℕ). reply_line (plan_answer it i (phase_of live) live.config)) own.id_is
-    ∙ ap (λ (p : Phase). reply_line (plan_answer it m.id p live.config)) (phase_is live m own)
-    ∙ ap (λ (c : Config). reply_line (plan_answer it m.id (machine.phase_of m) c)) own.config_is
+    ap (λ (i : List ℕ). reply_line (plan_answer it i (phase_of live) live.config live.metadata)) own.id_is
+    ∙ ap (λ (p : Phase). reply_line (plan_answer it m.id p live.config live.metadata)) (phase_is live m own)
+    ∙ ap (λ (c : Config). reply_line (plan_answer it m.id (machine.phase_of m) c live.metadata)) own.config_is
+    ∙ ap (λ (d : Data). reply_line (plan_answer it m.id (machine.phase_of m) m.config d)) own.metadata_is
 
 abbrev pub Does : Plan → Machine → Next → List ℕ → LiveMachine → FilesKnown → Type 0
 Does it m given text after known =
@@ -220,6 +274,8 @@ left_is (change.State Paused) paused w g is = halted_is paused w g is
 left_is (change.State Resumed) paused w g is = is
 left_is (change.BootSource source) paused w g is = is
 left_is (change.MachineConfig machine) paused w g is = is
+left_is (change.PutMetadata body) paused w g is = is
+left_is (change.PatchMetadata patch) paused w g is = is
 left_is change.Start paused w g is = is
 left_is (change.CreateSnapshot files) paused w g is = is
 left_is (change.LoadSnapshot load) paused w g is = is
@@ -228,6 +284,8 @@ left_is (change.Tell part) paused w g is = is
 plain_leaves : (m : Machine) (it : Change) → is_plain it ≡ true → Leaves m it (plainly m it)
 plain_leaves m (change.BootSource source) plain = refl
 plain_leaves m (change.MachineConfig machine) plain = refl
+plain_leaves m (change.PutMetadata body) plain = cc
+plain_leaves m (change.PatchMetadata patch) plain = cc
 plain_leaves m change.Start plain = cc
 plain_leaves m (change.State Paused) plain = refl
 plain_leaves m (change.State Resumed) plain = refl
@@ -235,11 +293,28 @@ plain_leaves m (change.CreateSnapshot files) plain = cc
 plain_leaves m (change.LoadSnapshot load) plain = cc
 plain_leaves m (change.Tell part) plain = refl
 
+-- what is stored leaves the machine with it
+keeps : (it : Change) (m : Machine) (kept : Data) → IsKept kept m it
+    → Leaves m it (record m { metadata = kept }) × (accepted it m.id (machine.phase_of m) m.config m.metadata ≡ no_content)
+keeps (change.PutMetadata body) m kept is =
+    (subst (λ (due : Result Data Refusal). Stores due m (record m { metadata = kept })) (sym is) refl, refl)
+keeps (change.PatchMetadata patch) m kept is =
+    (subst (λ (due : Result Data Refusal). Stores due m (record m { metadata = kept })) (sym is) refl, refl)
+keeps (change.BootSource source) m kept is = absurd is
+keeps (change.MachineConfig machine) m kept is = absurd is
+keeps change.Start m kept is = absurd is
+keeps (change.State state) m kept is = absurd is
+keeps (change.CreateSnapshot files) m kept is = absurd is
+keeps (change.LoadSnapshot load) m kept is = absurd is
+keeps (change.Tell part) m kept is = absurd is
+
 -- a start or a load leaves the files as they were
 fails_alone : (it : Change) (m : Machine) (known : FilesKnown) → AreFilesOf known m → reads_files it ≡ true
     → Fails m it (left_by known) m
 fails_alone (change.BootSource source) m known files reads = cc
 fails_alone (change.MachineConfig machine) m known files reads = cc
+fails_alone (change.PutMetadata body) m known files reads = cc
+fails_alone (change.PatchMetadata patch) m known files reads = cc
 fails_alone change.Start m known files reads = (λ i. record { saved = files.saved_is i; calls = files.calls_is i }, refl)
 fails_alone (change.State state) m known files reads = cc
 fails_alone (change.CreateSnapshot names) m known files reads = cc
@@ -258,6 +333,7 @@ plan_does (plan.Changes it) live known m given is (asks, plain) = (
       id_is = is.own.id_is;
       ids_is = is.own.ids_is;
       config_is = ap (λ (k : Config). changed k it) is.own.config_is;
+      metadata_is = is.own.metadata_is;
       guest_is =
           subst (λ (b : Bool). IsGuestBy (world_by it live.paused live.guest) (guest_by it b m.guest)) is.own.paused_is
           (left_is it live.paused live.guest m.guest is.own.guest_is);
@@ -266,6 +342,22 @@ plan_does (plan.Changes it) live known m given is (asks, plain) = (
     files = record { saved_is = is.files.saved_is; calls_is = is.files.calls_is };
   },
 )
+plan_does (plan.Stores kept) live known m given is (it, asks, stores) =
+    let left = keeps it m kept stores in (
+      record m { metadata = kept },
+      answered live known m (record m { metadata = kept }) given (Ok it) _ asks (ap reply_line (sym left.1)) left.0,
+      record {
+        own = record {
+          id_is = is.own.id_is;
+          ids_is = is.own.ids_is;
+          config_is = is.own.config_is;
+          metadata_is = refl;
+          guest_is = is.own.guest_is;
+          paused_is = is.own.paused_is;
+        };
+        files = record { saved_is = is.files.saved_is; calls_is = is.files.calls_is };
+      },
+    )
 plan_does (plan.Starts w) live known m given is (asks, image, there, world) =
     let n : Machine = configured (started_from (Some image) (disk_of m) m) change.Start in (
       n,
@@ -276,6 +368,7 @@ plan_does (plan.Starts w) live known m given is (asks, image, there, world) =
           id_is = is.own.id_is;
           ids_is = is.own.ids_is;
           config_is = ap (λ (k : Config). changed k change.Start) is.own.config_is;
+          metadata_is = is.own.metadata_is;
           guest_is = world;
           paused_is = refl;
         };
@@ -296,6 +389,7 @@ plan_does (plan.Restores r) live known m given is asks = (
         next = asks.goes_on.next_is i;
       };
       config_is = asks.goes_on.config_is;
+      metadata_is = refl;
       guest_is = asks.goes_on.guest_is;
       paused_is = ap not asks.resumes_is;
     };
@@ -311,16 +405,21 @@ plan_does plan.NoMemory live known m given is asks = (m, (line_is plan.NoMemory 
 
 -- ---- which calls call the files
 
-pub plain_call : (p : Phase) (config : Config) (ids : Ids) (it : ApiCall) (c : Change) → decision p config ids it ≡ Ok c
-    → (calls_files it ≡ true → ⊥) → is_plain c ≡ true
-plain_call p config ids (call.PutBootSource source) c is never = ap is_plain (sym (change_is p config ids (call.PutBootSource source) c is))
-plain_call p config ids (call.PutMachineConfig machine) c is never = ap is_plain (sym (change_is p config ids (call.PutMachineConfig machine) c is))
-plain_call p config ids (call.PatchMachineConfig patch) c is never = ap is_plain (sym (change_is p config ids (call.PatchMachineConfig patch) c is))
-plain_call p config ids call.InstanceStart c is never = absurd (never refl)
-plain_call p config ids (call.PatchVm state) c is never = ap is_plain (sym (change_is p config ids (call.PatchVm state) c is))
-plain_call p config ids (call.CreateSnapshot files) c is never = absurd (never refl)
-plain_call p config ids (call.LoadSnapshot load) c is never = absurd (never refl)
-plain_call p config ids (call.Get part) c is never = ap is_plain (sym (change_is p config ids (call.Get part) c is))
+pub no_files : (p : Phase) (config : Config) (ids : Ids) (it : ApiCall) (c : Change) → decision p config ids it ≡ Ok c
+    → (calls_files it ≡ true → ⊥) → needs_files c ≡ false
+no_files p config ids it c is never = ap needs_files (sym (change_is p config ids it c is)) ∙ by_call it never
+  where
+    by_call : (it : ApiCall) → (calls_files it ≡ true → ⊥) → needs_files (change_of config it) ≡ false
+    by_call (call.PutBootSource source) never = refl
+    by_call (call.PutMachineConfig machine) never = refl
+    by_call (call.PatchMachineConfig patch) never = refl
+    by_call (call.PutMetadata body) never = refl
+    by_call (call.PatchMetadata patch) never = refl
+    by_call call.InstanceStart never = absurd (never refl)
+    by_call (call.PatchVm state) never = refl
+    by_call (call.CreateSnapshot files) never = absurd (never refl)
+    by_call (call.LoadSnapshot load) never = absurd (never refl)
+    by_call (call.Get part) never = refl
 
 -- ---- one thing that is due
 
@@ -332,6 +431,7 @@ cause_by it done how before now (inl same) is cause later =
     own : (it : Plan) (before now : ℕ) → PlanCause it before now → before ≤ now → OutcomeCause (plan_outcome it) before now
     own (plan.Refused why) before now cause later = cause
     own (plan.Changes c) before now cause later = cause
+    own (plan.Stores kept) before now cause later = cause
     own (plan.Starts w) before now cause later = cause
     own (plan.Restores r) before now cause later = cause
     own plan.FilesFailed before now cause later = cause

@@ -1,12 +1,14 @@
 -- What a plan is of the machine, and what it leaves.
 use Rattle.std.specs.Prelude.{◌≡◌, ◌≢◌, ◌⊎◌, ◌+◌, ℕ, List, ◌++◌, Bool, true, false, not, Option, Some, None, Result, Ok, Err}
 use Rattle.vm_types.specs.declared.identity.Identity.{Identity}
+use Rattle.serde_json.specs.Data.{Data, null}
 use Rattle.vm_outside.specs.Known.{FilesKnown}
 use Rattle.http_stream.specs.declared.request.Next.{Next}
 use Rattle.api_calls.specs.declared.call.SnapshotCreate.{SnapshotCreate}
 use Rattle.api_calls.specs.declared.call.SnapshotFiles.{SnapshotFiles}
 use Rattle.api_calls.specs.declared.call.SnapshotLoad.{SnapshotLoad}
 use Rattle.api_calls.specs.declared.call.VmState.TheVariants.{Paused, Resumed}
+use Rattle.metadata_store.specs.Store.{patched, put}
 use Rattle.vm_config.specs.declared.config.Phase.{Phase}
 use Rattle.vm_config.specs.declared.config.Phase.TheVariants as phase
 use Rattle.vm_config.specs.declared.change.Change.{Change}
@@ -46,12 +48,21 @@ phase_by (Some w) true = phase.Paused
 abbrev pub phase_of : LiveMachine → Phase
 phase_of live = phase_by live.guest live.paused
 
--- a change that neither makes a guest nor reads or writes a file
+-- a change that neither makes a guest, nor reads or writes a file, nor stores metadata
 abbrev pub is_plain : Change → Bool
+is_plain (change.PutMetadata body) = false
+is_plain (change.PatchMetadata patch) = false
 is_plain change.Start = false
 is_plain (change.CreateSnapshot it) = false
 is_plain (change.LoadSnapshot load) = false
 is_plain it = true
+
+-- a change that reads or writes files
+abbrev pub needs_files : Change → Bool
+needs_files change.Start = true
+needs_files (change.CreateSnapshot it) = true
+needs_files (change.LoadSnapshot load) = true
+needs_files it = false
 
 -- a change that reads files and leaves them as they are
 abbrev pub reads_files : Change → Bool
@@ -84,10 +95,17 @@ pub record IsRestore (r : Restored) (m : Machine) (given : Next) : Type 0 where
   pub goes_on : GoesOn r load.track_dirty_pages it
   pub resumes_is : r.resumes ≡ load.resume_vm
 
+-- what a change stores is this
+abbrev pub IsKept : Data → Machine → Change → Type 0
+IsKept kept m (change.PutMetadata body) = put body ≡ Ok kept
+IsKept kept m (change.PatchMetadata patch) = patched m.metadata patch ≡ Ok kept
+IsKept kept m it = ⊥
+
 -- the plan is what the machine does where that is due; where a call on the files failed, a change that reads them was due
 abbrev pub IsPlan : Plan → Machine → Next → Type 0
 IsPlan (plan.Refused why) m given = allowed m given ≡ Err why
 IsPlan (plan.Changes it) m given = (allowed m given ≡ Ok it) × (is_plain it ≡ true)
+IsPlan (plan.Stores kept) m given = (it : Change) × (allowed m given ≡ Ok it) × IsKept kept m it
 IsPlan (plan.Starts w) m given =
     (allowed m given ≡ Ok change.Start) × (image : List ℕ) × (image_of m ≡ Some image)
     × IsWorld w (started m.config.machine.vcpu_count m.config.machine.mem_size_mib (loads_from m.config image (disk_of m)))
@@ -123,11 +141,12 @@ CallsLater (task.Create c) before now = now ≡ before
 
 -- the line of what it answers
 abbrev pub plan_line : Plan → LiveMachine → List ℕ
-plan_line it live = reply_line (plan_answer it live.id (phase_of live) live.config)
+plan_line it live = reply_line (plan_answer it live.id (phase_of live) live.config live.metadata)
 
 abbrev pub plan_outcome : Plan → Outcome
 plan_outcome (plan.Refused why) = Answered
 plan_outcome (plan.Changes it) = Answered
+plan_outcome (plan.Stores kept) = Answered
 plan_outcome (plan.Starts w) = Answered
 plan_outcome (plan.Restores r) = Answered
 plan_outcome plan.FilesFailed = Failed
@@ -157,12 +176,14 @@ plan_after (plan.Changes it) live =
       guest = world_by it live.paused live.guest;
       paused = paused_by it live.paused;
     }
+plan_after (plan.Stores kept) live = record live { metadata = kept }
 plan_after (plan.Starts w) live =
     record live { config = changed live.config change.Start; guest = Some w; paused = false }
 plan_after (plan.Restores r) live =
     record live {
       ids = record { lineage = live.ids.lineage; base = Some r.identity; next = r.next };
       config = r.config;
+      metadata = null;
       guest = Some r.guest;
       paused = not r.resumes;
     }

@@ -17,6 +17,7 @@ pub record IsLive (live : LiveMachine) (m : Machine) : Type 0 where
   pub id_is : live.id ≡ m.id
   pub ids_is : live.ids ≡ m.ids
   pub config_is : live.config ≡ m.config
+  pub metadata_is : live.metadata ≡ m.metadata
   pub guest_is : IsGuestBy live.guest m.guest
   pub paused_is : live.paused ≡ m.paused
 

@@ -4,6 +4,7 @@ ghost use Rattle.vm_outside.specs.Known.{FilesKnown};
 ghost use Rattle.flat_machine.specs.Machine.{Machine, is_off, console_of, new_machine};
 
 use api_rules::{Config, Ids};
+use metadata_store::Store;
 use std::alloc::Global;
 use vm_types::TextList;
 use vm_world::World;
@@ -13,14 +14,15 @@ mod lines;
 mod planning;
 mod replying;
 
-/// A machine: its id, its lineage with the snapshots that it knows, what was configured, the guest once it has started,
-/// and whether that stands still.
+/// A machine: its id, its lineage with the snapshots that it knows, what was configured, the metadata, the guest once it
+/// has started, and whether that stands still.
 #[derive(Drop)]
 pub struct LiveMachine {
     alloc: Global,
     id: TextList,
     ids: Ids,
     config: Config,
+    metadata: Store,
     guest: Option<World>,
     paused: bool,
 }
@@ -41,6 +43,7 @@ impl LiveMachine {
                 next: 1,
             },
             config: Config::new(),
+            metadata: Store::new(alloc),
             guest: None,
             paused: false,
         }

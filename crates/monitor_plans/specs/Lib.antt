@@ -3,3 +3,4 @@ pub mod Headings
 pub mod Plans
 pub mod Restoring
 pub mod Starting
+pub mod Storing

@@ -1,6 +1,7 @@
 -- What a plan answers, and why it is one.
 use Rattle.std.specs.Prelude.{◌≡◌, ℕ, List}
 use Rattle.vm_types.specs.Causes.{Rose}
+use Rattle.serde_json.specs.Data.{Data}
 use Rattle.refusals.specs.declared.refusal.Refusal.TheVariants as refusal
 use Rattle.vm_config.specs.declared.config.Config.{Config}
 use Rattle.vm_config.specs.declared.config.Phase.{Phase}
@@ -12,13 +13,14 @@ use Rattle.monitor_plans.specs.declared.plan.Task.{Task}
 use Rattle.monitor_plans.specs.declared.plan.Task.TheVariants as task
 
 -- what it answers
-abbrev pub plan_answer : Plan → List ℕ → Phase → Config → Answer
-plan_answer (plan.Refused why) id p config = refused why
-plan_answer (plan.Changes it) id p config = accepted it id p config
-plan_answer (plan.Starts w) id p config = no_content
-plan_answer (plan.Restores r) id p config = no_content
-plan_answer plan.FilesFailed id p config = refused refusal.OutsideFailed
-plan_answer plan.NoMemory id p config = refused refusal.OutOfMemory
+abbrev pub plan_answer : Plan → List ℕ → Phase → Config → Data → Answer
+plan_answer (plan.Refused why) id p config metadata = refused why
+plan_answer (plan.Changes it) id p config metadata = accepted it id p config metadata
+plan_answer (plan.Stores kept) id p config metadata = no_content
+plan_answer (plan.Starts w) id p config metadata = no_content
+plan_answer (plan.Restores r) id p config metadata = no_content
+plan_answer plan.FilesFailed id p config metadata = refused refusal.OutsideFailed
+plan_answer plan.NoMemory id p config metadata = refused refusal.OutOfMemory
 
 -- a failure has a fault, and what did not come to one has none
 abbrev pub PlanCause : Plan → ℕ → ℕ → Type 0

@@ -1,8 +1,8 @@
 //! What comes of a request, as a plan: which answer it has, and what is to be done before it is given.
 //!
 //! A `Plan` has all that the answer needs in memory, so what it asks for is done without taking any. `start` plans a
-//! start by the files of its kernel image and its disk, `create` a snapshot of a guest, and `restore` what goes on from
-//! the files of one.
+//! start by the files of its kernel image and its disk, `create` a snapshot of a guest, `restore` what goes on from the
+//! files of one, and `put_metadata` and `patch_metadata` what is stored.
 #![tactic(auto)]
 
 mod creating;
@@ -11,8 +11,10 @@ mod heading;
 mod plan;
 mod restoring;
 mod starting;
+mod storing;
 
 pub use creating::{Creation, create, pages_of};
 pub use plan::{Plan, Task, done_line};
 pub use restoring::{Restored, restore};
 pub use starting::start;
+pub use storing::{patch_metadata, put_metadata};

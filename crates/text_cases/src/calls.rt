@@ -52,6 +52,8 @@ fn name(call: &ApiCall) -> &'static str {
         ApiCall::PutBootSource(_) => "boot",
         ApiCall::PutMachineConfig(_) => "machine-put",
         ApiCall::PatchMachineConfig(_) => "machine-patch",
+        ApiCall::PutMetadata(_) => "metadata-put",
+        ApiCall::PatchMetadata(_) => "metadata-patch",
         ApiCall::InstanceStart => "start",
         ApiCall::PatchVm(VmState::Paused) => "pause",
         ApiCall::PatchVm(VmState::Resumed) => "resume",
@@ -60,6 +62,7 @@ fn name(call: &ApiCall) -> &'static str {
         ApiCall::Get(Part::Instance) => "instance",
         ApiCall::Get(Part::Version) => "version",
         ApiCall::Get(Part::MachineConfig) => "machine",
+        ApiCall::Get(Part::Metadata) => "metadata",
         ApiCall::Get(Part::VmConfig) => "config",
     }
 }

@@ -13,10 +13,12 @@ default_config = record {
 }
 
 -- What is allowed only before boot makes it configured: a boot source, a machine, a start and a load. What was
--- configured before is replaced.
+-- configured before is replaced. The metadata are no part of it.
 abbrev pub changed : Config → Change → Config
 changed config (change.BootSource source) = record config { boot_source = Some source; configured = true }
 changed config (change.MachineConfig machine) = record config { machine = machine; configured = true }
+changed config (change.PutMetadata body) = config
+changed config (change.PatchMetadata patch) = config
 changed config change.Start = record config { configured = true }
 changed config (change.State state) = config
 changed config (change.CreateSnapshot it) = config

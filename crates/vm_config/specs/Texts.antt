@@ -62,12 +62,13 @@ vm_config c = object (
     (member (codes "network-interfaces") (array no_items)
     (member (codes "vsock") null no_members)))))))
 
-abbrev pub data_of : Part → List ℕ → Phase → Config → Data
-data_of part.Instance id p c = instance id p
-data_of part.Version id p c = version
-data_of part.MachineConfig id p c = machine c.machine
-data_of part.VmConfig id p c = vm_config c
+abbrev pub data_of : Part → List ℕ → Phase → Config → Data → Data
+data_of part.Instance id p c metadata = instance id p
+data_of part.Version id p c metadata = version
+data_of part.MachineConfig id p c metadata = machine c.machine
+data_of part.Metadata id p c metadata = metadata
+data_of part.VmConfig id p c metadata = vm_config c
 
--- of the machine with this id in this phase
-abbrev pub text_of : Part → List ℕ → Phase → Config → List ℕ
-text_of which id p c = compact_text (data_of which id p c)
+-- of the machine with this id in this phase, and with these metadata
+abbrev pub text_of : Part → List ℕ → Phase → Config → Data → List ℕ
+text_of which id p c metadata = compact_text (data_of which id p c metadata)

@@ -1,5 +1,6 @@
 // What accepted calls ask for.
 use api_calls::{BootSource, MachineConfig, Part, SnapshotCreate, SnapshotLoad, VmState};
+use metadata_store::Tree;
 
 /// What an accepted call asks for.
 #[derive(Drop)]
@@ -8,6 +9,10 @@ pub enum Change {
     BootSource(BootSource),
     /// The machine is this one.
     MachineConfig(MachineConfig),
+    /// The metadata are this body.
+    PutMetadata(Tree),
+    /// This is merged into the metadata.
+    PatchMetadata(Tree),
     /// The machine starts.
     Start,
     /// The machine stands still or goes on.

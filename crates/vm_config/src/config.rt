@@ -58,7 +58,11 @@ impl Config {
                 self.configured = true;
             }
             Change::Start | Change::LoadSnapshot(_) => self.configured = true,
-            Change::State(_) | Change::CreateSnapshot(_) | Change::Tell(_) => {}
+            Change::PutMetadata(_)
+            | Change::PatchMetadata(_)
+            | Change::State(_)
+            | Change::CreateSnapshot(_)
+            | Change::Tell(_) => {}
         }
         Ok(())
     }

@@ -5,22 +5,26 @@ ghost use Rattle.vm_config.specs.Texts as texts;
 
 use crate::config::{Config, Phase};
 use api_calls::{BootSource, MachineConfig, Part};
+use metadata_store::Store;
 use serde_json::{Value, json};
 use std::alloc::{AllocError, Global};
 use vm_types::{ByteList, TextList};
 
 impl Config {
-    /// A part as compact JSON with its keys in byte order, of the machine with this id in this phase.
+    /// A part as compact JSON with its keys in byte order, of the machine with this id in this phase, and with these
+    /// metadata.
     pub fn json(
         &self,
         alloc: Global,
         part: Part,
         id: &str,
         phase: Phase,
+        metadata: &Store,
     ) -> Result<ByteList, AllocError>
-        ensures { IfOk result (λ text. text ≡ texts.text_of part id.now phase self.now) }
+        ensures { IfOk result (λ text. text ≡ texts.text_of part id.now phase self.now metadata.now) }
     {
         let value = match part {
+            Part::Metadata => return metadata.get(),
             Part::Instance => instance(alloc, id, phase)?,
             Part::Version => version(alloc)?,
             Part::MachineConfig => machine(alloc, &self.machine)?,

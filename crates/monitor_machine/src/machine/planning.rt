@@ -1,5 +1,5 @@
 // What comes of a request.
-ghost use Rattle.std.specs.Prelude.{◌≡◌, ℕ, Ok, true};
+ghost use Rattle.std.specs.Prelude.{◌≡◌, ℕ, Ok, false, true};
 ghost use Rattle.vm_outside.specs.Filing.{SameFiles};
 ghost use Rattle.vm_outside.specs.Known.{FilesKnown, Lasts, Tells};
 ghost use Rattle.http_stream.specs.declared.request.Request.{Request};
@@ -16,14 +16,14 @@ use api_calls::{ApiCall, SnapshotCreate, SnapshotType};
 use api_json::{ReadError, read};
 use api_rules::{Change, Phase, decide};
 use http_stream::{Next, Request};
-use monitor_plans::{Plan, Task, create, restore, start};
+use monitor_plans::{Plan, Task, create, patch_metadata, put_metadata, restore, start};
 use refusals::Refusal;
 use vm_outside::Files;
 use vm_types::Identity;
 
 impl LiveMachine {
     ghost use Rattle.monitor_machine.specs.Plans.{AreTwoFiles, CallsLater, CallsNone, HasTwoFiles, HasTwoNames, IsTask};
-    ghost use Rattle.monitor_machine.specs.Plans.{is_plain, phase_of};
+    ghost use Rattle.monitor_machine.specs.Plans.{needs_files, phase_of};
     ghost use Rattle.monitor_machine.specs.State.{IsMachine};
 
     pub(super) fn phase(&self) -> Phase
@@ -62,7 +62,7 @@ impl LiveMachine {
         }
     }
 
-    // What comes of a change that is allowed, but for what the files say.
+    // What comes of a change that is allowed, but for what the files and the metadata say.
     fn task_of_change<F: Files>(&self, change: Change, files: &mut F) -> Task
         requires { HasTwoFiles change }
         ensures task { Tells (F.known files.old).health → (m : Machine) →
@@ -71,7 +71,7 @@ impl LiveMachine {
         ensures files { AreTwoFiles result }
         ensures later { CallsLater result (F.known files.old) (F.known files.new) }
         ensures cause { TaskCause result (F.known files.old).health.faults (F.known files.new).health.faults }
-        ensures uncalled { is_plain change ≡ true → CallsNone result
+        ensures uncalled { needs_files change ≡ false → CallsNone result
             (F.known files.old).health.faults (F.known files.new).health.faults }
         ensures same { Tells (F.known files.old).health → SameFiles (F.known files.old) (F.known files.new) }
         ensures lasts { Lasts (F.known files.old).health (F.known files.new).health }
@@ -79,6 +79,8 @@ impl LiveMachine {
         match change {
             Change::Start => Task::Plan(start(self.alloc, &self.config, files)),
             Change::LoadSnapshot(load) => Task::Plan(restore(self.alloc, &load, files)),
+            Change::PutMetadata(body) => Task::Plan(put_metadata(self.alloc, body)),
+            Change::PatchMetadata(patch) => Task::Plan(patch_metadata(&self.metadata, &patch)),
             Change::CreateSnapshot(create) => self.task_of_create(create),
             change => Task::Plan(Plan::Changes(change)),
         }

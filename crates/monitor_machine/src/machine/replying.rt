@@ -10,6 +10,7 @@ use crate::outcome::Outcome;
 use api_calls::VmState;
 use api_rules::Change;
 use http_stream::Request;
+use metadata_store::Store;
 use monitor_plans::{Plan, Task};
 use refusals::Refusal;
 use std::alloc::AllocError;
@@ -24,7 +25,13 @@ impl LiveMachine {
         ensures ok { OnOk result (text.new ≡ text.old ++ plan_line plan.now self.now) }
         ensures err { OnErr result (text.new ≡ text.old) }
     {
-        let line = plan.line(self.alloc, self.id.as_str(), self.phase(), &self.config)?;
+        let line = plan.line(
+            self.alloc,
+            self.id.as_str(),
+            self.phase(),
+            &self.config,
+            &self.metadata,
+        )?;
         text.append(line.as_slice())
     }
 
@@ -82,6 +89,10 @@ impl LiveMachine {
                 let _applied = self.config.apply(change);
                 Outcome::Answered
             }
+            Plan::Stores(metadata) => {
+                self.metadata = metadata;
+                Outcome::Answered
+            }
             Plan::Starts(guest) => {
                 let _applied = self.config.apply(Change::Start);
                 self.guest = Some(guest);
@@ -92,6 +103,7 @@ impl LiveMachine {
                 self.ids.base = Some(restored.identity);
                 self.ids.next = restored.next;
                 self.config = restored.config;
+                self.metadata = Store::new(self.alloc);
                 self.guest = Some(restored.guest);
                 self.paused = !restored.resumes;
                 Outcome::Answered

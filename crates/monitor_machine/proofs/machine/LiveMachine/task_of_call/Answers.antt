@@ -1,7 +1,7 @@
 use Rattle.std.proofs.Common.{sym, ◌∙◌}
 use Rattle.http_stream.specs.declared.request.Next.TheVariants as next
 use Rattle.monitor_machine.specs.Plans.{phase_of}
-use Rattle.monitor_machine.proofs.Plans.{decided_is, plain_call, refused_plan, two_files}
+use Rattle.monitor_machine.proofs.Plans.{decided_is, no_files, refused_plan, two_files}
 use Rattle.monitor_machine.proofs.machine.LiveMachine.task_of_call.Goals as goal
 
 pub task_of_change-requires : goal.task_of_change-requires
@@ -18,7 +18,7 @@ pub returns-in-Ok-clause-uncalled : goal.returns-in-Ok-clause-uncalled
 returns-in-Ok-clause-uncalled g c = λ never.
     let live = c.args.self.now in
     c.task_of_change.ensures.uncalled
-    (plain_call (phase_of live) live.config live.ids c.args.call c.in-Ok.change (sym c.decided.ensures ∙ c.in-Ok.is) never)
+    (no_files (phase_of live) live.config live.ids c.args.call c.in-Ok.change (sym c.decided.ensures ∙ c.in-Ok.is) never)
 
 pub returns-in-Err-clause-task : goal.returns-in-Err-clause-task
 returns-in-Err-clause-task g c = λ told m is request asks.

@@ -1,5 +1,5 @@
 use Rattle.std.proofs.Common.{ap, ◌∙◌, Ok}
-use Rattle.monitor_machine.proofs.Plans.{restore_plan, start_plan}
+use Rattle.monitor_machine.proofs.Plans.{patch_plan, put_plan, restore_plan, start_plan}
 use Rattle.monitor_machine.proofs.machine.LiveMachine.task_of_change.Goals as goal
 
 pub returns-in-Start-clause-task : goal.returns-in-Start-clause-task
@@ -15,3 +15,12 @@ returns-in-LoadSnapshot-clause-task g c = λ told m is given asks.
 pub returns-in-CreateSnapshot-clause-task : goal.returns-in-CreateSnapshot-clause-task
 returns-in-CreateSnapshot-clause-task g c = λ told m is given asks.
     c.task_of_create.ensures.task (g.F.Files.known c.args.files.now) m is given (asks ∙ ap Ok c.in-CreateSnapshot.is)
+
+pub returns-in-PutMetadata-clause-task : goal.returns-in-PutMetadata-clause-task
+returns-in-PutMetadata-clause-task g c = λ told m is given asks.
+    put_plan c.put_metadata.result c.in-PutMetadata.body m given (asks ∙ ap Ok c.in-PutMetadata.is) c.put_metadata.ensures.gives
+
+pub returns-in-PatchMetadata-clause-task : goal.returns-in-PatchMetadata-clause-task
+returns-in-PatchMetadata-clause-task g c = λ told m is given asks.
+    patch_plan c.patch_metadata.result c.args.self.now.metadata c.in-PatchMetadata.patch m given is.own.metadata_is
+    (asks ∙ ap Ok c.in-PatchMetadata.is) c.patch_metadata.ensures.gives
