@@ -23,6 +23,8 @@ use Rattle.api_rules.specs.declared.ids.Ids.{Ids}
 use Rattle.api_rules.specs.Table.{decision, has_started, own_refusal, unless}
 use Rattle.script_text.specs.declared.item.Item.{Item}
 use Rattle.script_text.specs.declared.item.Item.TheVariants as item
+use Rattle.serde_json.specs.Data.{Data}
+use Rattle.metadata_store.specs.Store.{patched, put}
 use Rattle.flat_guest.specs.Guest.{Guest, is_actor, unwritten}
 use Rattle.flat_guest.specs.Start.{timer_restarted}
 use Rattle.flat_guest.specs.Steps.{is_given}
@@ -34,7 +36,7 @@ use Rattle.flat_machine.specs.Outcome.{Left, Outcome}
 use Rattle.flat_machine.specs.Outcome.Outcome.{Answered, Failed, NoMemory}
 use Rattle.flat_machine.specs.Machine.{Machine, drained, drained_guest, phase_by, phase_of, running_by}
 use Rattle.flat_machine.specs.Items.{ItemStep, MemoryLine, RegisterLine, RepliesLine, StepsLine, Talks}
-use Rattle.flat_machine.specs.Requests.{CreateFails, Creates, Fails, Leaves, LeavesBy, RequestStep, allowed, by_files, configured, decided, halted, next_identity}
+use Rattle.flat_machine.specs.Requests.{CreateFails, Creates, Fails, Leaves, LeavesBy, RequestStep, Stores, allowed, by_contents, configured, decided, halted, next_identity}
 use Rattle.flat_machine.specs.Run.{Act, Run}
 
 -- ---- one after another
@@ -104,6 +106,10 @@ decision_later p config ids (call.PatchVm state) it started is =
     subst IsLater (passes (own_refusal p config ids (call.PatchVm state)) (change.State state) it (after_boot (has_started p) _ _ it is)) tt
 decision_later p config ids (call.CreateSnapshot create) it started is =
     subst IsLater (passes (own_refusal p config ids (call.CreateSnapshot create)) (change.CreateSnapshot create) it (after_boot (has_started p) _ _ it is)) tt
+decision_later p config ids (call.PutMetadata body) it started is =
+    subst IsLater (passes (own_refusal p config ids (call.PutMetadata body)) (change.PutMetadata body) it is) tt
+decision_later p config ids (call.PatchMetadata patch) it started is =
+    subst IsLater (passes (own_refusal p config ids (call.PatchMetadata patch)) (change.PatchMetadata patch) it is) tt
 decision_later p config ids (call.Get part) it started is =
     subst IsLater (passes (own_refusal p config ids (call.Get part)) (change.Tell part) it is) tt
 
@@ -120,18 +126,26 @@ decided_later m next.None it started is = absurd cc
 same_change : (a b : Change) → ◌≡◌ {A = Result Change Refusal} (Ok a) (Ok b) → a ≡ b
 same_change a b is = cc
 
-files_later : (m : Machine) (first it : Change) → IsLater first → by_files m first ≡ Ok it → IsLater it
-files_later m change.Start it later is = absurd later
-files_later m (change.LoadSnapshot load) it later is = absurd later
-files_later m (change.BootSource source) it later is = subst IsLater (same_change (change.BootSource source) it is) tt
-files_later m (change.MachineConfig machine) it later is = subst IsLater (same_change (change.MachineConfig machine) it is) tt
-files_later m (change.State state) it later is = subst IsLater (same_change (change.State state) it is) tt
-files_later m (change.CreateSnapshot create) it later is = subst IsLater (same_change (change.CreateSnapshot create) it is) tt
-files_later m (change.Tell part) it later is = subst IsLater (same_change (change.Tell part) it is) tt
+-- what is stored is no start and no load
+stored_later : (kept : Result Data Refusal) (first it : Change) → IsLater first → (kept >>= λ _. Ok first) ≡ Ok it → IsLater it
+stored_later (Ok kept) first it later is = subst IsLater (same_change first it is) later
+stored_later (Err why) first it later is = absurd cc
+
+contents_later : (m : Machine) (first it : Change) → IsLater first → by_contents m first ≡ Ok it → IsLater it
+contents_later m change.Start it later is = absurd later
+contents_later m (change.LoadSnapshot load) it later is = absurd later
+contents_later m (change.BootSource source) it later is = subst IsLater (same_change (change.BootSource source) it is) tt
+contents_later m (change.MachineConfig machine) it later is = subst IsLater (same_change (change.MachineConfig machine) it is) tt
+contents_later m (change.State state) it later is = subst IsLater (same_change (change.State state) it is) tt
+contents_later m (change.CreateSnapshot create) it later is = subst IsLater (same_change (change.CreateSnapshot create) it is) tt
+contents_later m (change.PutMetadata body) it later is = stored_later (put body) (change.PutMetadata body) it tt is
+contents_later m (change.PatchMetadata patch) it later is =
+    stored_later (patched m.metadata patch) (change.PatchMetadata patch) it tt is
+contents_later m (change.Tell part) it later is = subst IsLater (same_change (change.Tell part) it is) tt
 
 by_decided : (m : Machine) (given : Next) (asked : Result Change Refusal) (it : Change) → has_started (phase_of m) ≡ true → decided m given ≡ asked
-    → (asked >>= λ first. by_files m first) ≡ Ok it → IsLater it
-by_decided m given (Ok first) it started asks is = files_later m first it (decided_later m given first started asks) is
+    → (asked >>= λ first. by_contents m first) ≡ Ok it → IsLater it
+by_decided m given (Ok first) it started asks is = contents_later m first it (decided_later m given first started asks) is
 by_decided m given (Err why) it started asks is = absurd cc
 
 started_by : (g : Guest) (paused : Bool) → has_started (phase_by (Some g) paused) ≡ true
@@ -174,6 +188,10 @@ create_on g (Some q) m it n there (copy, of, is) = record {
   since = inr (record { base = next_identity m; base_is = ap (λ (k : Machine). k.ids.base) is; new = omega arith });
 }
 
+stores_on : (g : Guest) (kept : Result Data Refusal) (m n : Machine) → m.guest ≡ Some g → Stores kept m n → GoesOn g m n
+stores_on g (Ok kept) m n there is = moved g m n (record m { metadata = kept }) is (stays g m (record m { metadata = kept }) there refl refl refl)
+stores_on g (Err why) m n there is = same g m n there is
+
 leaves_on : (g : Guest) (it : Change) (m n : Machine) → m.guest ≡ Some g → IsLater it → Leaves m it n → GoesOn g m n
 leaves_on g (change.BootSource source) m n there later is =
     moved g m n (configured m (change.BootSource source)) is (stays g m (configured m (change.BootSource source)) there refl refl refl)
@@ -187,6 +205,8 @@ leaves_on g (change.State Paused) m n there later is =
 leaves_on g (change.State Resumed) m n there later is = moved g m n (record m { paused = false }) is (stays g m (record m { paused = false }) there refl refl refl)
 leaves_on g (change.CreateSnapshot it) m n there later x = create_on g m.guest m it n there x
 leaves_on g (change.LoadSnapshot load) m n there later x = absurd later
+leaves_on g (change.PutMetadata body) m n there later x = stores_on g (put body) m n there x
+leaves_on g (change.PatchMetadata patch) m n there later x = stores_on g (patched m.metadata patch) m n there x
 leaves_on g (change.Tell part) m n there later is = same g m n there is
 
 create_fails_on : (g : Guest) (guest : Option Guest) (m : Machine) (it : SnapshotCreate) (left : Left) (n : Machine) → m.guest ≡ Some g
@@ -206,6 +226,8 @@ fails_on g change.Start m left n there x = same g m n there x.1
 fails_on g (change.State state) m left n there x = absurd x
 fails_on g (change.CreateSnapshot it) m left n there x = create_fails_on g m.guest m it left n there x
 fails_on g (change.LoadSnapshot load) m left n there x = same g m n there x.1
+fails_on g (change.PutMetadata body) m left n there x = absurd x
+fails_on g (change.PatchMetadata patch) m left n there x = absurd x
 fails_on g (change.Tell part) m left n there x = absurd x
 
 result_on : (g : Guest) (m n : Machine) (given : Next) (result : Result Change Refusal) → m.guest ≡ Some g → allowed m given ≡ result → LeavesBy m result n
