@@ -1,5 +1,5 @@
 // What acts on a board are answered.
-use crate::reading::{act_from, parted};
+use crate::reading::act_from;
 use crate::telling::reply_told;
 use line_board::Board;
 use std::alloc::{AllocError, Global};

@@ -1,5 +1,5 @@
 // What a hart wants behind each reply, and its registers then.
-use crate::reading::{parted, reply_from};
+use crate::reading::{Numbers, parted, reply_from};
 use crate::telling::op_told;
 use hart_rv64::{Hart, op_after};
 use rv_rows::Register;
@@ -66,7 +66,8 @@ fn answer(
     reply: Reply,
     text: &mut String,
 ) -> Result<(), AllocError> {
-    let op = trial.hart().want();
+    let hart = trial.hart();
+    let op = hart.want();
     trial.steps.push(Step { op, reply })?;
     match op_after(&trial.start, &trial.steps) {
         Some(op) => text.push_str(op_told(alloc, &op)?.as_str()),
@@ -83,20 +84,38 @@ fn other(
     command: &str,
     text: &mut String,
 ) -> Result<(), AllocError> {
-    match parted(command) {
-        Some(("new", _)) => *trial = Trial::new(alloc),
-        Some(("reg", [number, _, _])) => {
-            let value = trial.hart().reg((number % 33) as usize);
-            return text.push_str(format!(in alloc; "{value:x}")?.as_str());
+    let Some((name, numbers)) = parted(command) else {
+        return text.push_str("none");
+    };
+    match name {
+        "new" => {
+            let fresh = Trial::new(alloc);
+            *trial = fresh;
         }
-        Some(("shown", _)) => return text.push_str(shown(alloc, trial.hart().regs())?.as_str()),
-        Some((name, numbers)) => set(&mut trial.start, name, numbers),
-        None => return text.push_str("none"),
+        "reg" => return add_register(alloc, trial, numbers.a, text),
+        "shown" => return add_shown(alloc, trial, text),
+        _ => set(&mut trial.start, name, numbers),
     }
     text.push('-')
 }
 
-fn set(start: &mut Regs, name: &str, [a, b, _]: [u64; 3]) {
+fn add_register(
+    alloc: Global,
+    trial: &Trial,
+    number: u64,
+    text: &mut String,
+) -> Result<(), AllocError> {
+    let hart = trial.hart();
+    let value = hart.reg((number % 33) as usize);
+    text.push_str(format!(in alloc; "{value:x}")?.as_str())
+}
+
+fn add_shown(alloc: Global, trial: &Trial, text: &mut String) -> Result<(), AllocError> {
+    let hart = trial.hart();
+    text.push_str(shown(alloc, hart.regs())?.as_str())
+}
+
+fn set(start: &mut Regs, name: &str, Numbers { a, b, .. }: Numbers) {
     match name {
         "x" => start.put(Register::from_number((a % 32) as u32), b),
         "count" => start.count = a,

@@ -1,15 +1,23 @@
 // What the words of a command say.
 use vm_types::{ActorId, AmoKind, BoardOp, Op, OutOp, Piece, PortOp, Reply, Shown};
 
-/// A command's first word, and its numbers: up to three, in hexadecimal digits. What is left out is 0.
-pub fn parted(command: &str) -> Option<(&str, [u64; 3])> {
+/// The numbers of a command, in hexadecimal digits. What is left out is 0.
+#[derive(Clone, Copy, Drop)]
+pub struct Numbers {
+    pub a: u64,
+    pub b: u64,
+    pub c: u64,
+}
+
+/// A command's first word, and its numbers.
+pub fn parted(command: &str) -> Option<(&str, Numbers)> {
     let (name, rest) = command.split_once(' ').unwrap_or((command, ""));
     let mut parts = rest.split(' ');
-    let numbers = [
-        number(parts.next())?,
-        number(parts.next())?,
-        number(parts.next())?,
-    ];
+    let numbers = Numbers {
+        a: number(parts.next())?,
+        b: number(parts.next())?,
+        c: number(parts.next())?,
+    };
     Some((name, numbers))
 }
 
@@ -32,9 +40,7 @@ fn actor_of(name: &str) -> Option<ActorId> {
     }
     match name.strip_prefix('h') {
         Some(number) => Some(ActorId::Hart(number.parse::<u8>().ok()?)),
-        None => Some(ActorId::Device(
-            name.strip_prefix('d')?.parse::<u8>().ok()?,
-        )),
+        None => Some(ActorId::Device(name.strip_prefix('d')?.parse::<u8>().ok()?)),
     }
 }
 
@@ -52,7 +58,7 @@ fn piece_of(len: u64, value: u64) -> Piece {
     Piece::from_slice(&bytes[..len.min(8) as usize])
 }
 
-fn access_of(name: &str, [a, b, c]: [u64; 3]) -> Option<Op> {
+fn access_of(name: &str, Numbers { a, b, c }: Numbers) -> Option<Op> {
     Some(match name {
         "read" => Op::Read {
             at: a,
@@ -97,7 +103,7 @@ fn amo_of(name: &str) -> Option<AmoKind> {
     }
 }
 
-fn board_op_of(name: &str, [a, b, c]: [u64; 3]) -> Option<BoardOp> {
+fn board_op_of(name: &str, Numbers { a, b, c }: Numbers) -> Option<BoardOp> {
     match name {
         "look" => Some(BoardOp::Look),
         "putchar" => Some(BoardOp::Putchar {
@@ -122,7 +128,7 @@ fn board_op_of(name: &str, [a, b, c]: [u64; 3]) -> Option<BoardOp> {
 }
 
 pub fn reply_from(command: &str) -> Option<Reply> {
-    let (name, [a, b, c]) = parted(command)?;
+    let (name, Numbers { a, b, c }) = parted(command)?;
     match name {
         "done" => Some(Reply::Done),
         "bytes" => Some(Reply::Bytes(piece_of(a, b))),
