@@ -7,6 +7,8 @@
 
 mod end;
 mod last_line;
+#[cfg(test)]
+mod tests;
 mod top;
 mod words;
 

@@ -26,56 +26,31 @@ pub struct Wanted {
 
 /// Reads the files of the case: `NAME.out`, and those of `NAME.script`, `.given`, `.status` and `.files` that it has.
 pub fn read_case<R: Files + AllocGlobal>(rt: &R, name: &str) -> Result<Case> {
-    let given = read_given(rt, name)?;
-    let script = read_script(rt, name, &given)?;
-    let wanted = read_wanted(rt, name)?;
+    let alloc = rt.alloc();
+    let given = match read_if_there(rt, name, "given")? {
+        Some(text) => given_from(alloc, str::from_utf8(&text)?)?,
+        None => Given::new(alloc)?,
+    };
+    let script = match &given.script_of {
+        Some(other) => read(rt, other.as_str(), "script")?,
+        None => read(rt, name, "script")?,
+    };
+    let wanted = Wanted {
+        output: read(rt, name, "out")?,
+        status: match read_if_there(rt, name, "status")? {
+            Some(text) => str::from_utf8(&text)?.trim_end().parse::<u8>()?,
+            None => 0,
+        },
+        files: match read_if_there(rt, name, "files")? {
+            Some(text) => Some(all_held(alloc, str::from_utf8(&text)?)?),
+            None => None,
+        },
+    };
     Ok(Case {
         script,
         given,
         wanted,
     })
-}
-
-fn read_given<R: Files + AllocGlobal>(rt: &R, name: &str) -> Result<Given> {
-    match read_if_there(rt, name, "given")? {
-        Some(text) => given_from(rt.alloc(), str::from_utf8(&text)?),
-        None => Ok(Given::new(rt.alloc())?),
-    }
-}
-
-// A case without a script has nothing to replay.
-fn read_script<R: Files + AllocGlobal>(rt: &R, name: &str, given: &Given) -> io::Result<Vec<u8>> {
-    let named = match &given.script_of {
-        Some(other) => other.as_str(),
-        None => name,
-    };
-    let script = read_if_there(rt, named, "script")?;
-    Ok(script.unwrap_or(Vec::new(rt.alloc())))
-}
-
-fn read_wanted<R: Files + AllocGlobal>(rt: &R, name: &str) -> Result<Wanted> {
-    let status = read_status(rt, name)?;
-    let files = read_files(rt, name)?;
-    let output = read(rt, name, "out")?;
-    Ok(Wanted {
-        output,
-        status,
-        files,
-    })
-}
-
-fn read_status<R: Files + AllocGlobal>(rt: &R, name: &str) -> Result<u8> {
-    match read_if_there(rt, name, "status")? {
-        Some(text) => Ok(str::from_utf8(&text)?.trim_end().parse::<u8>()?),
-        None => Ok(0),
-    }
-}
-
-fn read_files<R: Files + AllocGlobal>(rt: &R, name: &str) -> Result<Option<Vec<Held>>> {
-    match read_if_there(rt, name, "files")? {
-        Some(text) => Ok(Some(all_held(rt.alloc(), str::from_utf8(&text)?)?)),
-        None => Ok(None),
-    }
 }
 
 fn all_held(alloc: Global, text: &str) -> Result<Vec<Held>> {

@@ -54,36 +54,20 @@ fn files_difference(
     files: &MemoryFiles,
     wanted: &[Held],
 ) -> Result<Option<String>, AllocError> {
-    if let Some(name) = changed(files, wanted) {
-        let told = format!(in alloc; "the file {name} holds something else")?;
-        return Ok(Some(told));
-    }
-    match unwanted(files, wanted) {
-        Some(name) => Ok(Some(format!(in alloc; "a file {name} that isn't wanted")?)),
-        None => Ok(None),
-    }
-}
-
-fn changed<'a>(files: &MemoryFiles, wanted: &'a [Held]) -> Option<&'a str> {
     for held in wanted {
         if files.find(held.name.as_str()) != held.content.as_deref() {
-            return Some(held.name.as_str());
+            return Ok(Some(format!(in alloc; "the file {} holds something else", held.name)?));
         }
     }
-    None
-}
-
-fn unwanted<'a>(files: &'a MemoryFiles, wanted: &[Held]) -> Option<&'a str> {
     for event in files.log() {
         if let FileEvent::Made { name } = event {
-            if !is_wanted(name.as_str(), wanted) {
-                return Some(name.as_str());
+            if !wanted
+                .iter()
+                .any(|held| held.name.as_str() == name.as_str())
+            {
+                return Ok(Some(format!(in alloc; "a file {} that isn't wanted", name.as_str())?));
             }
         }
     }
-    None
-}
-
-fn is_wanted(name: &str, wanted: &[Held]) -> bool {
-    wanted.iter().any(|held| held.name.as_str() == name)
+    Ok(None)
 }

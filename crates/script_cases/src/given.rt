@@ -20,8 +20,6 @@ pub struct Given {
     pub files_fail: Vec<u64>,
     /// What is there at the start.
     pub files: Vec<Held>,
-    /// The commands of the snapshot editor, which are done in turn where there are any: then nothing is replayed.
-    pub edits: Vec<String>,
 }
 
 impl Given {
@@ -35,7 +33,6 @@ impl Given {
             sink_fails: Vec::new(alloc),
             files_fail: Vec::new(alloc),
             files: Vec::new(alloc),
-            edits: Vec::new(alloc),
         })
     }
 }
@@ -58,8 +55,6 @@ fn take_line(alloc: Global, given: &mut Given, line: &str) -> Result<()> {
         given.words.clear();
     } else if let Some(word) = line.strip_prefix("word ") {
         given.words.push(String::from_str(alloc, word)?)?;
-    } else if let Some(words) = line.strip_prefix("edit ") {
-        given.edits.push(String::from_str(alloc, words)?)?;
     } else if let Some(list) = line.strip_prefix("pieces ") {
         given.pieces = numbers(alloc, list)?;
     } else if let Some(list) = line.strip_prefix("source fails ") {

@@ -43,40 +43,27 @@ fn main(rt: HostRuntime) -> ExitCode {
 // Whether each case comes to what is stored.
 fn replay_all<R: Files + Print + AllocGlobal + Clone + Drop>(rt: &R) -> Result<bool> {
     for most in [0, 1, 3, 9] {
-        let pieces = pieces_of(rt.alloc(), most, &[])?;
-        println!(rt; "pieces of {most}: {pieces}")?;
+        println!(rt; "pieces of {most}: {}", pieces_of(rt.alloc(), most, &[])?)?;
     }
-    let pieces = pieces_of(rt.alloc(), 3, &[1, 3])?;
-    println!(rt; "pieces of 3, calls 1 and 3 failing: {pieces}")?;
+    println!(rt;
+        "pieces of 3, calls 1 and 3 failing: {}",
+        pieces_of(rt.alloc(), 3, &[1, 3])?
+    )?;
     let mut count = 0u64;
     let mut differ = 0u64;
     for name in case_names(rt)? {
+        let case = read_case(rt, name.as_str()).context(format_args!("{name}"))?;
         count = count.saturating_add(1);
-        if !is_as_stored(rt, name.as_str())? {
-            differ = differ.saturating_add(1);
+        match difference_of(rt.alloc(), &case)? {
+            None => println!(rt; "{name} ok")?,
+            Some(told) => {
+                differ = differ.saturating_add(1);
+                println!(rt; "{name}: {told}")?;
+            }
         }
     }
     println!(rt; "{count} cases, {differ} differ")?;
     Ok(count > 0 && differ == 0)
-}
-
-// Prints a case's line.
-fn is_as_stored<R: Files + Print + AllocGlobal>(rt: &R, name: &str) -> Result<bool> {
-    match case_difference(rt, name)? {
-        None => {
-            println!(rt; "{name} ok")?;
-            Ok(true)
-        }
-        Some(told) => {
-            println!(rt; "{name}: {told}")?;
-            Ok(false)
-        }
-    }
-}
-
-fn case_difference<R: Files + AllocGlobal>(rt: &R, name: &str) -> Result<Option<String>> {
-    let case = read_case(rt, name).context(format_args!("{name}"))?;
-    difference_of(rt.alloc(), &case)
 }
 
 // What differs, at the first of the case's sizes of pieces at which something does.
