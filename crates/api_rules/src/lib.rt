@@ -20,8 +20,6 @@ mod snapshot;
 // A call, by all of them, and what it is answered.
 mod answer;
 mod deciding;
-#[cfg(test)]
-mod tests;
 
 pub use actions::{InitrdFile, boot_refusal, initrd_len};
 pub use answer::{Answer, accepted_answer, done_answer, fault_answer};

@@ -6,8 +6,6 @@
 
 mod flat;
 mod machine;
-#[cfg(test)]
-mod tests;
 mod token;
 
 pub use machine::{InitrdPlace, write_tree};

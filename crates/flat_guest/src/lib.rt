@@ -7,8 +7,6 @@
 mod boot;
 mod law;
 mod places;
-#[cfg(test)]
-mod tests;
 
 pub use boot::MOST_MIB;
 pub use law::{one_step, some_step};

@@ -10,8 +10,6 @@ mod openings;
 mod page;
 mod page_set;
 mod reading;
-#[cfg(test)]
-mod tests;
 mod word_bytes;
 
 pub use law::marks_follow_acts;

@@ -232,6 +232,3 @@ impl Actor for Hart {
         }
     }
 }
-
-#[cfg(test)]
-mod tests;

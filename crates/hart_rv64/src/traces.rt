@@ -32,6 +32,3 @@ pub fn op_after(start: &Regs, steps: &[Step]) -> Option<Op>
     }
     Some(hart.want())
 }
-
-#[cfg(test)]
-mod tests;

@@ -8,8 +8,6 @@
 
 mod law;
 mod looks;
-#[cfg(test)]
-mod tests;
 
 pub use law::{hart_asks, hart_follows, one_op};
 pub use looks::{Interrupt, look};

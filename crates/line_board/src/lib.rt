@@ -7,7 +7,5 @@
 
 mod board;
 mod openings;
-#[cfg(test)]
-mod tests;
 
 pub use board::{Board, HartParts};

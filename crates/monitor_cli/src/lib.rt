@@ -19,6 +19,3 @@ mod words;
 pub use outside::Outside;
 pub use top::{firecracker_main, replay_main};
 pub use words::NoWords;
-
-#[cfg(test)]
-mod tests;

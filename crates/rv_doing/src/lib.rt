@@ -17,8 +17,6 @@ mod instruction;
 mod plain;
 mod replies;
 mod sbi;
-#[cfg(test)]
-mod tests;
 mod values;
 
 pub use access::{Load, Store};

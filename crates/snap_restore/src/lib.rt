@@ -5,7 +5,5 @@
 #![tactic(auto)]
 
 mod loading;
-#[cfg(test)]
-mod tests;
 
 pub use loading::load_pages;

@@ -14,8 +14,6 @@ mod file;
 mod hart;
 mod hart_state;
 mod law;
-#[cfg(test)]
-mod tests;
 mod valid;
 
 pub use board::SavedBoard;

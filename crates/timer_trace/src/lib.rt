@@ -5,8 +5,6 @@
 #![tactic(auto)]
 
 mod law;
-#[cfg(test)]
-mod tests;
 mod timer;
 
 pub use law::{one_op, timer_follows};

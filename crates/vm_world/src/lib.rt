@@ -9,8 +9,6 @@ mod actors;
 mod hart_run;
 mod memory;
 mod step_error;
-#[cfg(test)]
-mod tests;
 mod world;
 
 pub use step_error::{NoActor, NotRam, StepError};
