@@ -1,8 +1,8 @@
-//! Prints what pages, boards, timers and harts answer to stored acts and replies, and where ops act, for the gate to compare
-//! with `stdout`. What they do is proved; the values here say that the definitions mean what the manuals say.
+//! Prints what pages, boards, timers and harts answer to stored acts and replies, and where ops act, for the gate to
+//! compare with `stdout`. What they do is proved; the values here say that the definitions mean what the manuals say.
 //!
-//! A case is a line of a file of `data/`, whose README says how it is written. A new case is one more line there and one in
-//! `stdout`: it costs no proof.
+//! A case is a line of a file of `data/`, whose README says how it is written. A new case is one more line there and
+//! one in `stdout`: it costs no proof.
 #![tactic(auto)]
 
 mod boards;
