@@ -57,7 +57,7 @@ module _ (pages : ℕ) (few : pages < 2 ^ 32) where
     tt,
     λ reply fit. read_keeps pages reply _ _
         (λ piece. keeps_then (IsInside pages) (λ (left : List Part). AreInside pages left) (Any {A = ℕ})
-            (put_all piece parts) _
+        (put_all piece parts) _
         (put_all_keeps pages piece parts few inside)
         (λ left still. in_keeps more (unit + 1) sector left at still place))
         (status_keeps pages at io_error (used_of unit) place),
@@ -68,7 +68,7 @@ module _ (pages : ℕ) (few : pages < 2 ^ 32) where
   out_keeps zero unit sector at got inside place = status_keeps pages at ok 1 place
   out_keeps (suc more) unit sector at got inside place =
       keeps_then (IsInside pages) (λ (whole : Got). AreInside pages whole.parts) (Any {A = ℕ})
-          (collect_all (64 - length got.bytes) got.bytes got.parts) _
+      (collect_all (64 - length got.bytes) got.bytes got.parts) _
       (collect_all_keeps pages (64 - length got.bytes) got.bytes got.parts few inside)
       (λ whole still. (
         tt,
@@ -86,14 +86,14 @@ module _ (pages : ℕ) (few : pages < 2 ^ 32) where
       (λ b. in_keeps (r.data_in / 64) 0 sector r.writable r.at to place) (λ b. fails))
       (λ a. keeps_if (IsInside pages) (Any {A = ℕ}) (kind == kind_out) _ _ _ refl
       (λ b. keeps_if (IsInside pages) (Any {A = ℕ})
-          (not r.read_only && is_range r.data_out sector r.sectors) _ _ _ refl
+      (not r.read_only && is_range r.data_out sector r.sectors) _ _ _ refl
       (λ c. out_keeps (r.data_out / 64) 0 sector r.at (behind_header r.got) from place) (λ c. fails))
       (λ b. keeps_if (IsInside pages) (Any {A = ℕ}) (kind == kind_flush) _ _ _ refl
       (λ c. (tt, λ reply fit. status_keeps pages r.at (done_status reply) 1 place))
       (λ c. keeps_if (IsInside pages) (Any {A = ℕ}) (kind == kind_get_id) _ _ _ refl
       (λ d. keeps_if (IsInside pages) (Any {A = ℕ}) (r.data_in == 20) _ _ _ refl
       (λ e. keeps_then (IsInside pages) (λ (left : List Part). AreInside pages left) (Any {A = ℕ})
-          (put_all r.id r.writable) _
+      (put_all r.id r.writable) _
       (put_all_keeps pages r.id r.writable few to) (λ left still. status_keeps pages r.at ok 21 place))
       (λ e. fails))
       (λ d. status_keeps pages r.at unsupported 1 place))))
@@ -145,7 +145,7 @@ unfolding request_served
 request_stays q head parts len d got sound is to some from =
     either q.pages (nat_lt (length got.bytes) 16) _ _ (λ a. broken_stays q.pages d (ap (λ (z : Queue). z.pages) is))
     (λ a. performs q.pages (Any {A = ℕ}) (service (request_of d parts len got)) d
-        (λ e used. chain_returned head e used)
+    (λ e used. chain_returned head e used)
     (service_keeps q.pages sound.tables.pages (request_of d parts len got) to from
     (status_place q.pages parts sound.tables.pages to some))
     (λ e used same any. chain_returned_stays q head e used sound (same ∙ is)))
@@ -180,7 +180,7 @@ begun_stays (Some w) d is few = broken_stays d.queue.pages d refl
 begun_stays None d is few =
     let fine = sound d.queue few is in
     performs d.queue.pages (WalkInside d.queue.pages) (chain_walk d.queue d.next) d walked
-        (walk_keeps d.queue d.next fine)
+    (walk_keeps d.queue d.next fine)
     (λ e w same inside. walked_stays d.queue e w fine same inside)
 
 reset_pages : (test : Bool) (d : BlockData) → (if test then was_reset d else d).queue.pages ≡ d.queue.pages

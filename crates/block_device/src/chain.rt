@@ -136,7 +136,8 @@ pub fn service_given(
     requires stage { IsStage stage from.old to.old }
     requires fit { fits (serving_op stage from.old to.old at) reply.now ≡ true }
     ensures left { left_at result facts.now from.new to.new ≡
-        perform (led (serving_left stage from.old to.old at) reply.now) facts.now (λ e used. chain_returned head e used) }
+        perform (led (serving_left stage from.old to.old at) reply.now) facts.now
+        (λ e used. chain_returned head e used) }
     ensures phase { IsPhase result facts.now from.new to.new }
 {
     let mut stage = stage;

@@ -33,9 +33,12 @@ past_if pages n part parts true is few inside short = inside.2
 past_if pages n part parts false is few inside short =
     let r = of_ram pages part.at part.len inside.1 in
     let apart : part.len ≡ n → ⊥ = grind arith in
-    let place_is : (part.at + n) % 2 ^ 64 ≡ part.at + n = omega (arith, r) in
-    (omega (arith, apart), (rw place_is (in_ram pages (part.at + n) (part.len - n) (omega (arith, r))
-        (omega (arith, r)))), inside.2)
+    let place_is : (part.at + n) % 2 ^ 64 ≡ part.at + n = omega (arith, r) in (
+      omega (arith, apart),
+      (rw place_is (in_ram pages (part.at + n) (part.len - n) (omega (arith, r))
+          (omega (arith, r)))),
+      inside.2,
+    )
 
 past_inside : (pages n : ℕ) (parts : List Part) → pages < 2 ^ 32 → AreInside pages parts → n ≤ room parts
     → AreInside pages (past n parts)
@@ -52,7 +55,7 @@ collect_keeps : (pages most missing : ℕ) (bytes : List ℕ) (parts : List Part
 collect_keeps pages zero missing bytes parts few inside = inside
 collect_keeps pages (suc most) missing bytes parts few inside =
     keeps_if (IsInside pages) (λ (got : Got). AreInside pages got.parts) ((missing == 0) || (room parts == 0))
-        ((missing == 0) || (room parts == 0)) _ _ refl (λ done. inside)
+    ((missing == 0) || (room parts == 0)) _ _ refl (λ done. inside)
     (λ more. (
       piece_inside pages (room parts) parts inside (some_room missing (room parts) more) (omega arith),
       λ reply fit. collect_keeps pages most (missing - room parts) (bytes
@@ -73,10 +76,10 @@ put_keeps : (pages most : ℕ) (bytes : List ℕ) (parts : List Part) → pages 
 put_keeps pages zero bytes parts few inside = inside
 put_keeps pages (suc most) bytes parts few inside =
     keeps_if (IsInside pages) (λ (left : List Part). AreInside pages left) (share bytes parts == 0)
-        (share bytes parts == 0) _ _ refl (λ done. inside)
+    (share bytes parts == 0) _ _ refl (λ done. inside)
     (λ more.
     let long : length (take (share bytes parts) bytes) ≡ share bytes parts = length-take-le (share bytes parts) bytes
-        (omega arith) in (
+    (omega arith) in (
       subst (λ z. is_inside pages (place parts) z ≡ true) (sym long)
           (piece_inside pages (share bytes parts) parts inside (some_share (share bytes parts) more) (omega arith)),
       λ reply fit. put_keeps pages most (drop (share bytes parts) bytes) (past (share bytes parts) parts) few
@@ -119,14 +122,17 @@ pub returned_keeps : (port : ℕ) (q : Queue) (used head len : ℕ) → IsSound 
 returned_keeps port q used head len sound =
     let low : 0x80000000 ≤ pair_place q used = omega (arith, sound.tables.used_in) in
     let high : pair_place q used + 8 ≤ 0x80000000 + 4096 * q.pages = omega
-        (arith, sound.tables.used_in, sound.some) in
+    (arith, sound.tables.used_in, sound.some) in
     let index = in_ram q.pages (q.used + 2) 2 (omega (arith, sound.tables.used_in))
-        (omega (arith, sound.tables.used_in)) in
+    (omega (arith, sound.tables.used_in)) in
     keeps_if (IsInside q.pages) (Any {A = Unit {0}}) (pair_place q used % 4096 == 4092) _ _ _ refl
     (λ cut. (
       in_ram q.pages (pair_place q used) 4 low (omega (arith, high)),
-      λ a b. (in_ram q.pages (pair_place q used + 4) 4 (omega (arith, low)) (omega (arith, high)), λ c d.
-          (index, λ e f. (tt, λ g h. (tt, λ i j. tt)))),
+      λ a b. (
+        in_ram q.pages (pair_place q used + 4) 4 (omega (arith, low)) (omega (arith, high)),
+        λ c d.
+            (index, λ e f. (tt, λ g h. (tt, λ i j. tt))),
+      ),
     ))
     (λ whole. (in_ram q.pages (pair_place q used) 8 low high, λ c d. (index, λ e f. (tt, λ g h. (tt, λ i j. tt)))))
 

@@ -10,8 +10,8 @@ ghost use Rattle.dev_core.specs.Inside.{Any};
 ghost use Rattle.dev_core.specs.Pieces.{Got, collect_all, past, place, put_all, room};
 ghost use Rattle.dev_core.specs.Returns.{broken, returned};
 
-/// A piece is the next bytes of the parts, and what is left are the others, in their order and each once. It has at most
-/// 64 bytes, of one page, and there is one where a part is left.
+/// A piece is the next bytes of the parts, and what is left are the others, in their order and each once. It has at
+/// most 64 bytes, of one page, and there is one where a part is left.
 pub fn pieces_follow()
     ensures piece { (parts : List Part) (n : ℕ) → AreParts parts → n ≤ room parts →
         addresses parts ≡ addresses_from (place parts) n ++ addresses (past n parts) }
@@ -24,7 +24,8 @@ pub fn pieces_follow()
 /// What is read of parts inside RAM, and written to them, is inside RAM, and so is what is left of them; and giving a
 /// chain of a sound queue back.
 pub fn pieces_stay()
-    ensures collect { (pages missing : ℕ) (bytes : List ℕ) (parts : List Part) → pages < 2 ^ 32 → AreInside pages parts →
+    ensures collect { (pages missing : ℕ) (bytes : List ℕ) (parts : List Part) → pages < 2 ^ 32 →
+        AreInside pages parts →
         Keeps (IsInside pages) (λ (got : Got). AreInside pages got.parts) (collect_all missing bytes parts) }
     ensures put { (pages : ℕ) (bytes : List ℕ) (parts : List Part) → pages < 2 ^ 32 → AreInside pages parts →
         Keeps (IsInside pages) (λ (left : List Part). AreInside pages left) (put_all bytes parts) }

@@ -67,7 +67,7 @@ descriptors_keep q head (suc most) at parts sound below inside = (
       keeps_unless (IsInside q.pages) (WalkInside q.pages) (descriptor_flaw q parts d) _ (λ w. tt) (λ none.
       let is = fine q parts d none in
       let longer = more_inside q.pages parts
-          (record { at = d.at; len = d.len; writable = is_writable d }) inside is.1 is.2 in
+      (record { at = d.at; len = d.len; writable = is_writable d }) inside is.1 is.2 in
       keeps_if (IsInside q.pages) (WalkInside q.pages) (has_next d) (has_next d) _ _ refl
       (λ more. descriptors_keep q head most d.next (with_part parts d) sound (is.0 more) longer)
       (λ last. longer)),
@@ -76,7 +76,7 @@ descriptors_keep q head (suc most) at parts sound below inside = (
 headed_keep : (q : Queue) (head : ℕ) → IsSound q → Keeps (IsInside q.pages) (WalkInside q.pages) (headed_by q head)
 headed_keep q head sound =
     keeps_if (IsInside q.pages) (WalkInside q.pages) (nat_le q.size head) (nat_le q.size head) _ _ refl
-        (λ past_end. tt)
+    (λ past_end. tt)
     (λ below. descriptors_keep q head q.size head [] sound (grind arith) tt)
 
 indexed_keep : (q : Queue) (next index : ℕ) → IsSound q
@@ -84,7 +84,7 @@ indexed_keep : (q : Queue) (next index : ℕ) → IsSound q
 indexed_keep q next index sound =
     keeps_if (IsInside q.pages) (WalkInside q.pages) (index == next) (index == next) _ _ refl (λ none. tt)
     (λ some. keeps_if (IsInside q.pages) (WalkInside q.pages) (nat_lt q.size ((index + 2 ^ 16 - next) % 2 ^ 16))
-        (nat_lt q.size ((index + 2 ^ 16 - next) % 2 ^ 16)) _ _ refl (λ ahead. tt)
+    (nat_lt q.size ((index + 2 ^ 16 - next) % 2 ^ 16)) _ _ refl (λ ahead. tt)
     (λ near. (
       in_ram q.pages (q.available + (4 + 2 * (next % q.size))) 2 (omega (arith, sound.tables.available_in))
           (omega (arith, sound.tables.available_in, sound.some)),

@@ -61,7 +61,8 @@ impl ChainWalk {
     /// The walk of the chain number `next`, modulo 65,536. `Err` exactly where the queue's own fields make
     /// it broken.
     pub fn new(queue: Queue, next: u16) -> Result<ChainWalk, Why>
-        ensures first { MatchResult result (λ walk. (queue_flaw queue ≡ None) × (walk ≡ walk_of queue next)) (λ why. queue_flaw queue ≡ Some why) }
+        ensures first { MatchResult result (λ walk. (queue_flaw queue ≡ None) × (walk ≡ walk_of queue next))
+            (λ why. queue_flaw queue ≡ Some why) }
         ensures sound { IfOk result (λ walk. IsSound queue) }
     {
         if let Some(why) = queue_flaw(&queue) {
@@ -158,7 +159,8 @@ impl ChainWalk {
 
     fn described(&mut self, head: u16, d: Descriptor) -> Walk
         requires { (at : ℕ) × (self.old.stage ≡ Link head at) }
-        ensures { Told (described_by self.old.queue head (self.old.queue.size - length self.old.parts - 1) self.old.parts d) result (walk_left self.new) }
+        ensures { Told (described_by self.old.queue head (self.old.queue.size - length self.old.parts - 1)
+            self.old.parts d) result (walk_left self.new) }
     {
         if let Some(why) = descriptor_flaw(&self.queue, self.parts.as_slice(), &d) {
             self.stage = Stage::Index;

@@ -15,8 +15,10 @@ returns-then-len-lt16-clause-left c =
           too_short c.args.head c.args.parts.now c.readable-reads.result c.total-len.result c.args.facts.now
           c.readable-reads.ensures (c.total-len.ensures.sum ∙ ap total c.as_slice.ensures.parts) w.if-len-lt16.true
       | then-len-lt16-via-else-len-lt16+then-places-eq0 w ↦
-          no_place c.args.head c.args.parts.now c.writable-writes.result (length c.as_slice-places.result.now) c.args.facts.now
-          c.writable-writes.ensures (ap (λ (z : List Part). length z) c.as_slice-places.ensures.parts) w.if-places-eq0.true
+          no_place c.args.head c.args.parts.now c.writable-writes.result
+          (length c.as_slice-places.result.now) c.args.facts.now
+          c.writable-writes.ensures (ap (λ (z : List Part). length z) c.as_slice-places.ensures.parts)
+          w.if-places-eq0.true
     ]
 
 pub returns-then-is_done-clause-left : goal.returns-then-is_done-clause-left
@@ -27,7 +29,8 @@ returns-then-is_done-clause-left c =
     (ap total (c.new-from.ensures ∙ sym c.as_slice.ensures.parts) ∙ sym c.total-len.ensures.sum)
     (ap (λ (z : List Part). length z) (c.new.ensures ∙ sym c.as_slice-places.ensures.parts)) c.if-len-lt16.false
     c.if-places-eq0.false
-    (header_whole c.args.head c.new-from.result c.new.result c.args.from.now.held c.total-len.result c.args.facts.now _
+    (header_whole c.args.head c.new-from.result c.new.result c.args.from.now.held c.total-len.result c.args.facts.now
+    _
     (c.is_done.ensures.done c.if-is_done.true) c.request.ensures.left)
 
 pub returns-else-is_done-clause-left : goal.returns-else-is_done-clause-left

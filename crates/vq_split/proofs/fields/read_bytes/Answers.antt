@@ -6,4 +6,5 @@ use Rattle.vq_split.proofs.fields.read_bytes.Goals as goal
 
 pub returns-in_default : goal.returns-in_default
 returns-in_default c =
-    c.from_slice.ensures ∙ take-replicate c.args.len 64 0 c.requires ∙ sym (no_bytes c.args.len c.args.reply.now c.in_default.not-Bytes)
+    c.from_slice.ensures ∙ take-replicate c.args.len 64 0 c.requires
+    ∙ sym (no_bytes c.args.len c.args.reply.now c.in_default.not-Bytes)

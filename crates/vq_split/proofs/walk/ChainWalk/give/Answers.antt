@@ -12,6 +12,7 @@ returns-in-Link c =
     told_link w c.in-Link.head c.in-Link.at c.args.reply c.described.result (walk_left c.described.new.self)
     (sym (ap (λ (x : Walking). x.stage) c.self.view_is) ∙ c.in-Link.is)
     (subst (λ (x : Walking). IsStage x.stage x.queue x.parts) c.self.view_is c.self.invariant.1)
-    (subst (λ (d : Descriptor). Told (described_by w.queue c.in-Link.head (w.queue.size - length w.parts - 1) w.parts d) c.described.result (walk_left c.described.new.self))
+    (subst (λ (d : Descriptor). Told (described_by w.queue c.in-Link.head (w.queue.size - length w.parts - 1) w.parts
+    d) c.described.result (walk_left c.described.new.self))
     (c.from_bytes-d.ensures ∙ ap descriptor_of (c.as_slice-in-Link.ensures.bytes ∙ c.read_bytes-in-Link.ensures))
     c.described.ensures)
