@@ -121,7 +121,8 @@ impl Port {
     }
 
     /// These bytes become the first of the configuration, and the driver is told: InterruptStatus has a configuration
-    /// change, and ConfigGeneration is one higher, modulo 2^32. Of more bytes than such a device has the first ones count.
+    /// change, and ConfigGeneration is one higher, modulo 2^32. Of more bytes than such a device has the first ones
+    /// count.
     pub fn configure(&mut self, config: &[u8])
         ensures { self.new ≡ acts.configured self.old config.now }
     {

@@ -19,8 +19,8 @@ pub fn new_port(alloc: Global, text: &str) -> Result<Port> {
     Ok(Port::new(kind, offered, &config))
 }
 
-/// `read OFFSET LENGTH`, `write OFFSET BYTES`, `fetch`, `reserve`, `store` and `swap OFFSET`, `look`, `interrupt CAUSES`
-/// and `break`, with numbers and bytes in hexadecimal digits.
+/// `read OFFSET LENGTH`, `write OFFSET BYTES`, `reserve`, `store` and `swap OFFSET`, `look`, `interrupt CAUSES` and
+/// `break`, with numbers and bytes in hexadecimal digits.
 pub fn op_from(alloc: Global, text: &str) -> Result<Op> {
     let mut words = text.split(' ');
     let name = words.next().context("a case without its act")?;
