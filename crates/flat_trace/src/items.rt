@@ -70,4 +70,3 @@ pub fn event_item(alloc: Global, event: &Entry) -> Result<Item, AllocError>
         }),
     }
 }
-
