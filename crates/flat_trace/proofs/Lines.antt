@@ -1,9 +1,8 @@
 -- Items of a trace as lines of a script.
-use Rattle.std.proofs.Common.{◌≡◌, ℕ, zero, suc, ◌<◌, Bool, true, false, cond, nat_lt, refl, sym, ap, ◌∙◌, subst, List, [], ◌∷◌, length, slice_get, Option, Some, None, MatchBool, ◌⊎◌, inl, inr, arith}
+use Rattle.std.proofs.Common.{◌≡◌, ℕ, zero, suc, ◌<◌, Bool, true, false, nat_lt, refl, sym, ap, ◌∙◌, subst, List, [], ◌∷◌, length, slice_get, Option, Some, None, MatchBool, inl, arith}
 use Rattle.std.proofs.lemmas.Bool.{lt-ltb}
 use Rattle.vm_types.specs.declared.ids.ActorId.{ActorId}
 use Rattle.vm_types.specs.declared.ids.PlaceId.{PlaceId}
-use Rattle.vm_types.specs.declared.entry.Entry.{Entry}
 use Rattle.vm_types.specs.declared.entry.Step.{Step}
 use Rattle.vm_types.specs.declared.op.Op.{Op}
 use Rattle.vm_types.specs.declared.reply.Reply.{Reply}
@@ -14,8 +13,7 @@ use Rattle.script_text.specs.declared.output.Misfit.TheVariants as misfit
 use Rattle.rv_supervisor.specs.declared.regs.Regs.{Regs}
 use Rattle.hart_trace.specs.Asks.{is_host_op}
 use Rattle.flat_guest.specs.Guest.{Guest, Wants, WantsFrom, is_actor}
-use Rattle.flat_guest.specs.Steps.{Answers as AnswersAt, AnswersOut, FlatStep, is_given}
-use Rattle.flat_machine.specs.Given.{reply_given}
+use Rattle.flat_guest.specs.Steps.{Answers as AnswersAt, AnswersOut, is_given}
 use Rattle.flat_machine.specs.Items.{Answers, ItemStep, Misfits, Moves, Replies, RepliesLine, StepsLine}
 use Rattle.flat_machine.specs.Machine.{Machine, is_off, off_by, running, running_by}
 use Rattle.flat_trace.specs.Showing.{HasEvent, TraceStep}
