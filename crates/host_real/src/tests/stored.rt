@@ -36,7 +36,7 @@ fn a_disk_is_a_file(rt: HostRuntime) -> Result<(), Fail> {
     assert!(rt; disk.read(3, 1, 1) == Ok([7; 64]) && disk.read(3, 1, 2) == Ok([9; 64]));
     assert!(rt; disk.read(3, 2, 0).is_err() && disk.read(4, 0, 0).is_err());
     assert!(rt; disk.read(3, u64::MAX, 7).is_err() && disk.faults() == 4);
-    assert!(rt; fs::read(&rt, name.as_str())?[640..704] == [9; 64]);
+    assert!(rt; fs::read(&rt, name.as_str())?.get(640..704) == Some([9; 64].as_slice()));
     fs::remove_file(&rt, name.as_str())?;
     Ok(())
 }
