@@ -1,6 +1,6 @@
 -- From a replay before its last line to what a command owes.
 use Rattle.std.specs.Prelude.{◌↔◌, IfErr, OnOk}
-use Rattle.std.proofs.Common.{◌≡◌, ◌≢◌, zero, suc, ◌+◌, ◌≤◌, inl, inr, ◌⊎◌, Result, Ok, Err, ℕ, Bool, true, false, refl, sym, ap, subst, ◌∙◌, List, [], ◌∷◌, ◌++◌, map, Option, Some, None, arith}
+use Rattle.std.proofs.Common.{◌≡◌, ◌≢◌, is_some, zero, suc, ◌+◌, ◌≤◌, inl, inr, ◌⊎◌, Result, Ok, Err, ℕ, Bool, true, false, refl, sym, ap, subst, ◌∙◌, List, [], ◌∷◌, ◌++◌, map, Option, Some, None, arith}
 use Rattle.std.proofs.lemmas.List.{append-nil}
 use Rattle.vm_types.specs.Causes.{Rose, RoseBy}
 use Rattle.vm_types.specs.declared.exit.Exit.{Exit}
@@ -21,6 +21,7 @@ use Rattle.monitor_cli.specs.Known.{AllLast, AllTell, Caused, CausedSoFar, Known
 use Rattle.monitor_cli.specs.Lines.{BeforeLast, IsRunsEnd}
 use Rattle.monitor_cli.specs.Replay.{Replayed}
 use Rattle.monitor_cli.specs.Taking.{IsQuiet, TookText}
+use Rattle.monitor_cli.specs.Words.{replay_id}
 use Rattle.monitor_cli.specs.declared.words.NoWords.{NoWords}
 use Rattle.monitor_cli.proofs.Counts.{lasts_more, sink_told}
 use Rattle.monitor_cli.proofs.Halting.{not_inside}
@@ -132,6 +133,7 @@ if_err {T} words why P is holds = subst (λ (w : Result T NoWords). IfErr w P) (
 
 -- words that are a command give an id
 pub some_id : (given : Option (List ℕ)) → is_some given ≡ true → (id : List ℕ) × (given ≡ Some id)
+some_id None is = absurd cc
 some_id (Some id) is = (id, refl)
 
 -- the last line is written behind the answers, or a front of it

@@ -1,5 +1,6 @@
 -- The words of the command `replay [--id ID]`.
-use Rattle.std.specs.Prelude.{ℕ, ◌==◌, nat_le, nat_lt, ◌&&◌, ◌||◌, if◌then◌else◌, Bool, List, [], ◌∷◌, codes, length, Option, Some, None, list_any, not}
+use Rattle.std.specs.Prelude.{ℕ, ◌==◌, nat_le, nat_lt, ◌&&◌, ◌||◌, if◌then◌else◌, Bool, List, [], ◌∷◌, codes, length, Option, Some, None}
+use Rattle.std.specs.List.{list_all}
 use Rattle.std.specs.Str.{bytes_eq}
 use Rattle.command_words.specs.Options.{Given, is_end, option_at}
 use Rattle.flat_machine.specs.Replay.{default_id}
@@ -11,7 +12,7 @@ is_id_byte c =
 
 -- an id has 1 to 64 of them
 abbrev pub is_id : List ℕ → Bool
-is_id id = nat_lt 0 (length id) && nat_le (length id) 64 && not (list_any (λ c. not (is_id_byte c)) id)
+is_id id = nat_lt 0 (length id) && nat_le (length id) 64 && list_all is_id_byte id
 
 -- the one option, `--id`
 abbrev pub given_id : Option Given → Option (List ℕ)

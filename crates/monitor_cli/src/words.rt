@@ -1,5 +1,6 @@
 // The words of a command.
 ghost use Rattle.std.specs.Prelude.{◌≡◌, map, string_bytes};
+ghost use Rattle.std.specs.List.{list_all};
 ghost use Rattle.std.specs.Option.{option_map};
 ghost use Rattle.monitor_cli.specs.Command.{exit_of};
 ghost use Rattle.monitor_cli.specs.Words.{id_in, is_id, is_id_byte, replay_id};
@@ -61,7 +62,13 @@ fn is_id(id: &str) -> bool
     ensures { result ≡ is_id id.now }
 {
     let bytes = id.as_bytes();
-    !bytes.is_empty() && bytes.len() <= 64 && !bytes.iter().any(|c| !is_id_byte(*c))
+    !bytes.is_empty() && bytes.len() <= 64 && are_id_bytes(bytes)
+}
+
+fn are_id_bytes(bytes: &[u8]) -> bool
+    ensures { result ≡ list_all is_id_byte bytes.now }
+{
+    bytes.iter().all(|c| is_id_byte(*c))
 }
 
 fn is_id_byte(c: u8) -> bool

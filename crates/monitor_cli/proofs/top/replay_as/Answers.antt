@@ -3,7 +3,7 @@ use Rattle.flat_machine.specs.Machine.{new_machine}
 use Rattle.monitor_cli.specs.Known.{all_known}
 use Rattle.monitor_cli.specs.Lines.{BeforeLast}
 use Rattle.monitor_cli.proofs.Commanding.{nothing_begun}
-use Rattle.monitor_cli.proofs.top.replay_default.Goals as goal
+use Rattle.monitor_cli.proofs.top.replay_as.Goals as goal
 
 pub returns-in-Ok-clause-so_far : goal.returns-in-Ok-clause-so_far
 returns-in-Ok-clause-so_far g c = λ told.
