@@ -4,6 +4,7 @@ ghost use Rattle.vm_outside.specs.Known.{FilesKnown};
 ghost use Rattle.flat_machine.specs.Machine.{Machine, is_off, console_of, new_machine};
 
 use api_rules::{Config, Ids};
+pub use lines::drain_all;
 use std::alloc::Global;
 use vm_types::TextList;
 use vm_world::World;
@@ -12,6 +13,7 @@ mod creating;
 mod lines;
 mod planning;
 mod replying;
+mod running;
 
 /// A machine: its id, its lineage with the snapshots that it knows, what was configured, the guest once it has started,
 /// and whether that stands still.
