@@ -2,13 +2,17 @@
 use Rattle.std.proofs.Common.{◌≡◌, ℕ, zero, suc, ◌+◌, ◌≤◌, ◌<◌, Bool, true, false, refl, sym, ap, ◌∙◌, subst, List, [], ◌∷◌, ◌++◌, length, slice_get, Option, Some, None, MatchBool, arith}
 use Rattle.vm_types.specs.declared.entry.Entry.{Entry}
 use Rattle.vm_types.specs.declared.torn.Torn.{Torn}
-use Rattle.vm_outside.specs.Known.{FilesKnown}
+use Rattle.vm_outside.specs.Known.{FilesKnown, Health}
+use Rattle.vm_outside.specs.Known as known
 use Rattle.vm_host.specs.Telling.{ClockKnown, Lasts}
 use Rattle.stamp_merge.specs.declared.history.History.{History}
 use Rattle.stamp_merge.specs.declared.journal.Journal.{Journal}
 use Rattle.flat_guest.specs.Guest.{Guest}
 use Rattle.flat_machine.specs.Machine.{Machine, is_off, running, running_by}
 use Rattle.vm_world.specs.Worlds.{IsWorld, WorldValue}
+use Rattle.vm_types.specs.Causes.{Rose}
+use Rattle.slice_runner.specs.declared.slice.SliceError.{SliceError}
+use Rattle.slice_runner.specs.declared.slice.SliceError.TheVariants as error
 use Rattle.slice_runner.specs.declared.stop.Stopped.{Stopped}
 use Rattle.slice_runner.specs.Stops.{AreStopped, closings}
 use Rattle.monitor_machine.specs.declared.machine.LiveMachine.{LiveMachine}
@@ -17,7 +21,7 @@ use Rattle.monitor_machine.specs.State.{IsGuestBy, IsLive, IsMachine}
 use Rattle.monitor_running.specs.declared.ran.Ran.{Ran}
 use Rattle.monitor_running.specs.declared.ran.Ran.TheVariants as ran
 use Rattle.monitor_running.specs.Passes.{AtFirst, HasAsked, HasRisen, NeverFell}
-use Rattle.monitor_running.specs.Ran.{IsEnd, IsRunning, IsTornOff, RanOn}
+use Rattle.monitor_running.specs.Ran.{HasFault, IsEnd, IsRunning, IsTornOff, RanOn, slice_end}
 use Rattle.monitor_running.specs.Reached.{Ahead, GetsAhead, IsCut, Keeps, KeepsAs, Kept, Reached, Seen, Start}
 use Rattle.flat_trace.specs.Showing.{Out}
 use Rattle.monitor_running.proofs.Joins.{rests}
@@ -270,3 +274,45 @@ never_on closed first mid last now answer some more fell asked fell_too p q at_f
     let b = once_more answer (closed r.0) (closed t.0) (asked r.0 t.0 r.1 t.1) in
     let c = fell_too t.0 q t.1 at_now in
     omega (arith, a, b, c)
+
+some_same : {A : Type 0} (o : Option A) (x y : A) → o ≡ Some x → o ≡ Some y → x ≡ y
+some_same o x y first last = cc
+
+pub never_fell_same : {Q : Type 0} (closed : Q → ℕ) (passes : List Q) → AtFirst (NeverFell closed) passes passes
+never_fell_same closed passes p q first last =
+    let same = ap closed (some_same (slice_get passes 0) p q first last) in omega (arith, same)
+
+-- ---- ends and their faults
+
+failed_end : (why : SliceError) (trace traced sink sunk : ℕ) → IsEnd (slice_end why) × HasFault (slice_end why) trace traced sink sunk
+failed_end (error.Torn torn journals histories) trace traced sink sunk = (tt, tt)
+failed_end error.OutOfMemory trace traced sink sunk = (tt, tt)
+
+pub failed_is_end : (end : Ran) (why : SliceError) (trace traced sink sunk : ℕ) → end ≡ slice_end why
+    → IsEnd end × HasFault end trace traced sink sunk
+failed_is_end end why trace traced sink sunk is =
+    subst (λ (r : Ran). IsEnd r × HasFault r trace traced sink sunk) (sym is) (failed_end why trace traced sink sunk)
+
+pub not_closed : (end : Ran) → IsEnd end → end ≡ ran.Closed → ⊥
+not_closed end is closed = subst IsEnd closed is
+
+later_rose : (i mid j : ℕ) → i ≤ mid → Rose mid j → Rose i j
+later_rose i mid j later rose = omega (arith, later, rose)
+
+pub fault_later : (end : Ran) (trace traced sink sunk tracing sinking : ℕ) → trace ≤ tracing → sink ≤ sinking
+    → HasFault end tracing traced sinking sunk → HasFault end trace traced sink sunk
+fault_later ran.TraceFailed trace traced sink sunk tracing sinking a b fault = later_rose trace tracing traced a fault
+fault_later ran.SinkFailed trace traced sink sunk tracing sinking a b fault = later_rose sink sinking sunk b fault
+fault_later ran.Closed trace traced sink sunk tracing sinking a b fault = tt
+fault_later ran.Off trace traced sink sunk tracing sinking a b fault = tt
+fault_later (ran.Torn torn journals histories) trace traced sink sunk tracing sinking a b fault = tt
+fault_later ran.OutOfMemory trace traced sink sunk tracing sinking a b fault = tt
+
+-- ---- what an object told, call after call
+
+pub lasts_same : (told : Health) → known.Lasts told told
+lasts_same told = record { still = λ tells. tells; later = omega arith }
+
+pub lasts_more : (before mid now : Health) → known.Lasts before mid → known.Lasts mid now → known.Lasts before now
+lasts_more before mid now first second =
+    record { still = λ tells. second.still (first.still tells); later = omega (arith, first.later, second.later) }

@@ -15,13 +15,16 @@ use Rattle.vm_world.specs.Worlds.{IsWorld, WorldValue}
 use Rattle.slice_runner.specs.Runs.{HasAnswered}
 use Rattle.stamp_merge.specs.declared.history.History.{History}
 use Rattle.stamp_merge.specs.declared.journal.Journal.{Journal}
+use Rattle.slice_runner.specs.declared.slice.SliceError.{SliceError}
+use Rattle.slice_runner.specs.declared.slice.SliceError.TheVariants as error
+use Rattle.slice_runner.specs.Ended.{HasFailed}
 use Rattle.slice_runner.specs.Slices.{ClockWasAsked, IsSerial, IsTornSlice, Leads}
 use Rattle.monitor_running.specs.declared.ran.Ran.{Ran}
 use Rattle.monitor_running.specs.declared.telling.Untold.{Untold}
 use Rattle.monitor_running.specs.declared.telling.Untold.TheVariants as untold
 use Rattle.flat_trace.specs.Events.{answers_in, drain_items, event_acts, event_items, needs_room}
 use Rattle.monitor_running.specs.Items.{DrainStops, Drains, HasDrained, TellStops, TellsPart, TellsSlice, drained_world}
-use Rattle.monitor_running.specs.Ran.{IsRunning, IsTornOff, RanOn, end_by}
+use Rattle.monitor_running.specs.Ran.{IsRunning, IsTornOff, RanOn, end_by, slice_end}
 use Rattle.monitor_running.specs.Reached.{Ahead, GetsAhead, IsCut, Keeps, Kept, Reached, Seen, Start}
 use Rattle.flat_trace.specs.Showing.{Out, items_of}
 use Rattle.monitor_running.proofs.Asked.{answers_same, roomy}
@@ -224,3 +227,37 @@ slice_none took taken asked now w v same unasked s m talk is r = record {
   beside = refl;
   reached = subst (λ (k : ClockKnown). Reached s (seen_by took taken k) m talk) (sym unasked) r;
 }
+
+-- ---- the same, as the ends have it
+
+pub slice_went : (took took' : List Item) (taken taken' : List ℕ) (asked mid now : ClockKnown) (w v u : WorldValue)
+    (es told : List Entry) → told ≡ es → IsSerial w es v → ClockWasAsked asked es mid
+    → HasDrained v took (event_items told) u took' × (taken' ≡ taken ++ v.board.console) → Lasts mid now
+    → Keeps IsRunning (seen_by took taken asked) w (seen_by took' taken' now) u
+slice_went took took' taken taken' asked mid now w v u es told same serial was went lasts =
+    slice_told took took' taken taken' asked mid now w v u es (serial, was)
+    (subst (λ (l : List Entry). HasDrained v took (event_items l) u took') same went.0) went.1 lasts
+
+pub slice_ends : (end : Ran) (why : Untold) (took took' : List Item) (taken taken' : List ℕ) (asked now : ClockKnown)
+    (w v u : WorldValue) (es told : List Entry) → end ≡ end_by why → told ≡ es → IsSerial w es v → ClockWasAsked asked es now
+    → TellStops why told v took taken u took' taken'
+    → RanOn IsRunning end (seen_by took taken asked) w (seen_by took' taken' now) u
+slice_ends end why took took' taken taken' asked now w v u es told is same serial was stops =
+    subst (λ (r : Ran). RanOn IsRunning r (seen_by took taken asked) w (seen_by took' taken' now) u) (sym is)
+    (slice_stops why took took' taken taken' asked now w v u es (serial, was)
+    (subst (λ (l : List Entry). TellStops why l v took taken u took' taken') same stops))
+
+failed_by : {Q : Type 0} (why : SliceError) (took : List Item) (taken : List ℕ) (asked now : ClockKnown) (w v : WorldValue)
+    (begun ended : List Q) → HasFailed w v asked now begun ended why
+    → RanOn IsRunning (slice_end why) (seen_by took taken asked) w (seen_by took taken now) v
+failed_by (error.Torn torn journals histories) took taken asked now w v begun ended failed =
+    slice_torn took taken asked now w torn journals.items histories.items failed.0
+failed_by error.OutOfMemory took taken asked now w v begun ended failed =
+    slice_none took taken asked now w v failed.0 failed.1
+
+pub slice_failed : {Q : Type 0} (end : Ran) (why : SliceError) (took : List Item) (taken : List ℕ) (asked now : ClockKnown)
+    (w v : WorldValue) (begun ended : List Q) → end ≡ slice_end why → HasFailed w v asked now begun ended why
+    → RanOn IsRunning end (seen_by took taken asked) w (seen_by took taken now) v
+slice_failed end why took taken asked now w v begun ended is failed =
+    subst (λ (r : Ran). RanOn IsRunning r (seen_by took taken asked) w (seen_by took taken now) v) (sym is)
+    (failed_by why took taken asked now w v begun ended failed)

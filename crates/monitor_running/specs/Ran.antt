@@ -8,6 +8,8 @@ use Rattle.stamp_merge.specs.declared.journal.Journal.{Journal}
 use Rattle.flat_guest.specs.Guest.{Guest}
 use Rattle.flat_machine.specs.Machine.{Machine, running}
 use Rattle.vm_world.specs.Worlds.{IsWorld, WorldValue}
+use Rattle.slice_runner.specs.declared.slice.SliceError.{SliceError}
+use Rattle.slice_runner.specs.declared.slice.SliceError.TheVariants as error
 use Rattle.slice_runner.specs.Slices.{IsTornSlice}
 use Rattle.monitor_running.specs.declared.ran.Ran.{Ran}
 use Rattle.monitor_running.specs.declared.ran.Ran.TheVariants as ran
@@ -36,6 +38,11 @@ RanOn Is ran.TraceFailed old b now c = GetsAhead Is old b now c
 RanOn Is ran.SinkFailed old b now c = IsCut Is old b now c
 RanOn Is (ran.Torn torn journals histories) old b now c = IsTornOff Is old b now torn journals.items histories.items
 RanOn Is ran.OutOfMemory old b now c = Keeps Is old b now c
+
+-- the end for which there was no slice
+abbrev pub slice_end : SliceError → Ran
+slice_end (error.Torn torn journals histories) = ran.Torn torn journals histories
+slice_end error.OutOfMemory = ran.OutOfMemory
 
 -- the end for which something was not told
 abbrev pub end_by : Untold → Ran

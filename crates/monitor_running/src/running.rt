@@ -1,10 +1,11 @@
 // Slices of a machine until a gate is closed.
 ghost use Rattle.std.specs.Prelude.{◌≡◌, ◌≤◌, ◌<◌, ◌+◌, ℕ, true, length, All, IfErr, IfOk, OnOk, OnErr};
 ghost use Rattle.vm_outside.specs.Known.{Lasts, Tells};
+ghost use Rattle.vm_host.specs.Telling as clocks;
 ghost use Rattle.monitor_machine.specs.State.{IsLive};
 ghost use Rattle.monitor_running.specs.declared.ran.Ran.TheVariants as ran;
 ghost use Rattle.monitor_running.specs.Passes.{AtFirst, HasAsked, HasRisen, NeverFell};
-ghost use Rattle.monitor_running.specs.Ran.{HasFault, IsEnd, IsRunning, RanOn, end_by};
+ghost use Rattle.monitor_running.specs.Ran.{HasFault, IsEnd, IsRunning, RanOn, end_by, slice_end};
 ghost use Rattle.monitor_running.specs.Reached.{Keeps, seen};
 
 use crate::ran::Ran;
@@ -53,6 +54,15 @@ fn are_idle(stops: &[Stopped]) -> bool {
     true
 }
 
+// The clock rests where every hart waits.
+fn rest_where_idle<C: Clock>(stops: &[Stopped], clock: &mut C)
+    ensures { clocks.Lasts (C.known clock.old) (C.known clock.new) }
+{
+    if are_idle(stops) {
+        clock.rest();
+    }
+}
+
 // One slice, its events and a drain.
 fn run_one<
     Q: Send + Drop,
@@ -95,28 +105,31 @@ fn run_one<
 {
     let slice = match run_slice(rt, alloc, world, host, gate, passes, steps) {
         Ok(slice) => slice,
-        Err(
-            SliceError::Torn {
-                torn,
-                journals,
-                histories,
-            },
-        ) => {
-            return Err(Ran::Torn {
-                torn,
-                journals,
-                histories,
-            });
-        }
-        Err(SliceError::OutOfMemory) => return Err(Ran::OutOfMemory),
+        Err(why) => return Err(slice_end(why)),
     };
     if let Err(why) = tell_slice(alloc, slice.events.as_slice(), world, trace, sink) {
         return Err(end_by(why));
     }
-    if are_idle(slice.stops.as_slice()) {
-        host.clock.rest();
-    }
+    rest_where_idle(slice.stops.as_slice(), &mut host.clock);
     Ok(())
+}
+
+// The end for which there was no slice.
+fn slice_end(why: SliceError) -> Ran
+    ensures { result ≡ slice_end why }
+{
+    match why {
+        SliceError::Torn {
+            torn,
+            journals,
+            histories,
+        } => Ran::Torn {
+            torn,
+            journals,
+            histories,
+        },
+        SliceError::OutOfMemory => Ran::OutOfMemory,
+    }
 }
 
 // The end for which something was not told.
@@ -131,6 +144,54 @@ fn end_by(why: Untold) -> Ran
 }
 
 // One slice, where each actor has a pass; else time passes.
+fn run_where_passes<
+    Q: Send + Drop,
+    D,
+    L,
+    V,
+    C: Clock,
+    G: Gate<Pass = Q> + Sync,
+    T: Trace,
+    K: Sink,
+    R: Threads + Wait + Sync,
+>(
+    rt: &R,
+    alloc: Global,
+    world: &mut World,
+    host: &mut Host<D, L, V, C>,
+    gate: &G,
+    passes: &mut Vec<Q>,
+    steps: u32,
+    trace: &mut T,
+    sink: &mut K,
+) -> Result<(), Ran>
+    requires serve { All (G.serves gate.now) passes.old.items }
+    ensures ok { OnOk result (Tells (T.known trace.old).health → Tells (K.known sink.old).health →
+        Keeps IsRunning (seen (T.known trace.old) (K.known sink.old) (C.known host.old.clock)) world.old
+        (seen (T.known trace.new) (K.known sink.new) (C.known host.new.clock)) world.new) }
+    ensures err { IfErr result (λ end. Tells (T.known trace.old).health → Tells (K.known sink.old).health →
+        RanOn IsRunning end (seen (T.known trace.old) (K.known sink.old) (C.known host.old.clock)) world.old
+        (seen (T.known trace.new) (K.known sink.new) (C.known host.new.clock)) world.new) }
+    ensures cause { IfErr result (λ end. IsEnd end
+        × HasFault end (T.known trace.old).health.faults (T.known trace.new).health.faults
+        (K.known sink.old).health.faults (K.known sink.new).health.faults) }
+    ensures trace_lasts { Lasts (T.known trace.old).health (T.known trace.new).health }
+    ensures sink_lasts { Lasts (K.known sink.old).health (K.known sink.new).health }
+    ensures first { OnOk result (AtFirst (NeverFell G.closed) passes.old.items passes.new.items) }
+    ensures serve { All (G.serves gate.now) passes.new.items }
+    ensures same { length passes.new.items ≡ length passes.old.items }
+{
+    if !has_passes(world, passes.len()) {
+        host.clock.rest();
+        return Ok(());
+    }
+    match run_one(rt, alloc, world, host, gate, passes, steps, trace, sink) {
+        Ok(()) => Ok(()),
+        Err(end) => Err(end),
+    }
+}
+
+// One slice, where a guest runs; else time passes.
 fn go_on<
     Q: Send + Drop,
     D,
@@ -168,16 +229,14 @@ fn go_on<
     ensures serve { All (G.serves gate.now) passes.new.items }
     ensures same { length passes.new.items ≡ length passes.old.items }
 {
-    let Some(mut world) = machine.take_running() else {
-        host.clock.rest();
-        return Ok(());
+    let mut world = match machine.take_running() {
+        Some(world) => world,
+        None => {
+            host.clock.rest();
+            return Ok(());
+        }
     };
-    if !has_passes(&world, passes.len()) {
-        machine.put_guest(world);
-        host.clock.rest();
-        return Ok(());
-    }
-    let ended = run_one(
+    let ended = run_where_passes(
         rt, alloc, &mut world, host, gate, passes, steps, trace, sink,
     );
     machine.put_guest(world);
