@@ -1,4 +1,5 @@
 pub mod Answering
 pub mod Plans
 pub mod Replying
+pub mod Running
 pub mod State

@@ -10,5 +10,5 @@ mod machine;
 mod outcome;
 mod waiting;
 
-pub use machine::LiveMachine;
+pub use machine::{LiveMachine, drain_all};
 pub use outcome::Outcome;

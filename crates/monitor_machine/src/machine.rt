@@ -5,6 +5,7 @@ ghost use Rattle.flat_machine.specs.Machine.{Machine, is_off, console_of, new_ma
 
 use api_rules::{Config, Ids};
 use metadata_store::Store;
+pub use lines::drain_all;
 use std::alloc::Global;
 use vm_types::TextList;
 use vm_world::World;
@@ -13,6 +14,7 @@ mod creating;
 mod lines;
 mod planning;
 mod replying;
+mod running;
 
 /// A machine: its id, its lineage with the snapshots that it knows, what was configured, the metadata, the guest once it
 /// has started, and whether that stands still.

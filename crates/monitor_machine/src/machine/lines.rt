@@ -122,8 +122,8 @@ fn register_in(guest: &World, hart: u8, number: u8) -> Option<u64>
     }
 }
 
-// Drains the console, which takes no memory.
-fn drain_all(guest: &mut World)
+/// Drains the console, which takes no memory.
+pub fn drain_all(guest: &mut World)
     ensures { guest.new ≡ record guest.old { board = record guest.old.board { console = [] } } }
 {
     let mut part = [0; PART];

@@ -1,0 +1,23 @@
+// The guest of a machine, taken out for a slice.
+ghost use Rattle.std.specs.Prelude.{◌≡◌, Some};
+ghost use Rattle.monitor_machine.specs.Running.{resting_world, running_world};
+
+use crate::machine::LiveMachine;
+use vm_world::World;
+
+impl LiveMachine {
+    /// Takes out the guest that runs. Until `put_guest` gives one back the machine has none.
+    pub fn take_running(&mut self) -> Option<World>
+        ensures running { result ≡ running_world self.old.guest self.old.paused }
+        ensures left { self.new ≡ record self.old { guest = resting_world self.old.guest self.old.paused } }
+    {
+        if self.paused { None } else { self.guest.take() }
+    }
+
+    /// This is the guest from now on.
+    pub fn put_guest(&mut self, guest: World)
+        ensures { self.new ≡ record self.old { guest = Some guest } }
+    {
+        self.guest = Some(guest);
+    }
+}

@@ -1,0 +1,169 @@
+-- A slice's events, and a drain, are a run over the items that tell them.
+use Rattle.std.proofs.Common.{◌≡◌, ℕ, zero, suc, Bool, true, false, refl, sym, ap, ◌∙◌, subst, List, [], ◌∷◌, ◌++◌, map, take, drop, append-nil, take-append-drop, Option, Some, None}
+use Rattle.vm_types.specs.declared.ids.ActorId.{ActorId}
+use Rattle.vm_types.specs.declared.entry.Entry.{Entry}
+use Rattle.vm_types.specs.declared.entry.Event.{Event}
+use Rattle.vm_types.specs.declared.op.Op.{Op}
+use Rattle.vm_types.specs.declared.reply.Reply.{Reply}
+use Rattle.script_text.specs.declared.item.Item.{Item}
+use Rattle.script_text.specs.declared.item.Item.TheVariants as item
+use Rattle.board_table.specs.Board.{Board}
+use Rattle.flat_guest.specs.Guest.{Guest}
+use Rattle.flat_guest.specs.Steps.{FlatStep}
+use Rattle.flat_machine.specs.Given.{reply_given}
+use Rattle.flat_machine.specs.Items.{Answers}
+use Rattle.flat_machine.specs.Machine.{Machine, running, running_by}
+use Rattle.flat_machine.specs.Run.{Act}
+use Rattle.vm_world.specs.Worlds.{IsWorld, WorldValue}
+use Rattle.slice_runner.specs.Slices.{Leads, event_of, given_of}
+use Rattle.monitor_running.proofs.Asked.{IsAsking, is_asking}
+use Rattle.flat_trace.specs.Events.{drain_items, event_acts, event_items, host_reply, item_by, item_of, quiet_act}
+use Rattle.monitor_running.specs.Items.{drained_world}
+use Rattle.flat_trace.specs.Showing.{HasEvent, Out, Run, TraceStep, items_of, said, shown}
+use Rattle.flat_trace.specs.Showing.Out.{Quiet, Shown}
+
+abbrev pub with_guest : Machine → Guest → Machine
+with_guest m g = record m { guest = Some g }
+
+-- a machine whose guest runs isn't paused
+some_runs : (guest : Option Guest) (paused : Bool) (g h : Guest) → running_by guest paused ≡ Some g → running_by (Some h) paused ≡ Some h
+some_runs guest true g h is = cc
+some_runs guest false g h is = refl
+
+pub still_runs : (m : Machine) (g h : Guest) → running m ≡ Some g → running (with_guest m h) ≡ Some h
+still_runs m g h is = some_runs m.guest m.paused g h is
+
+own_guest : (guest : Option Guest) (paused : Bool) (g : Guest) → running_by guest paused ≡ Some g → guest ≡ Some g
+own_guest guest true g is = cc
+own_guest guest false g is = is
+
+pub guest_is : (m : Machine) (g : Guest) → running m ≡ Some g → m.guest ≡ Some g
+guest_is m g is = own_guest m.guest m.paused g is
+
+-- ---- an event
+
+-- the entry as it is outside a slice
+abbrev unstamped : Entry → Entry
+unstamped e = record e { stamp = 0; before = 0 }
+
+module _ (m : Machine) (g mid : Guest) (e : Entry) (runs : running m ≡ Some g) (step : FlatStep g (event_of e) e mid) where
+  has_event : (given : Option Reply) → given_of e.op e.reply ≡ given → HasEvent (running m) e.actor given m (with_guest m mid)
+  has_event given is =
+      let there : FlatStep g (record { actor = e.actor; reply = given }) e mid =
+      subst (λ (r : Option Reply). FlatStep g (record { actor = e.actor; reply = r }) e mid) is step in
+      let answers : Answers g e.actor given m [] (with_guest m mid) = record {
+        entry = unstamped e;
+        end = mid;
+        unstamped = (refl, refl);
+        step = record { actor = there.actor; want = there.want; place = there.place; answer = there.answer; after = there.after };
+        quiet = refl;
+        leaves = refl;
+      } in
+      subst (λ (o : Option Guest). HasEvent o e.actor given m (with_guest m mid)) (sym runs) answers
+
+  told_plain : given_of e.op e.reply ≡ None → TraceStep (item.Step e.actor 1) [] m Quiet (with_guest m mid)
+  told_plain is = (refl, refl, refl, has_event None is)
+
+  told_by : (op : Op) → e.op ≡ op → TraceStep (item_by op e.actor e.reply) [] m Quiet (with_guest m mid)
+  told_by (Op.Out act) is =
+      let asking = is_asking g (event_of e) e mid act step is in
+      let reads : reply_given (host_reply e.reply) ≡ Some e.reply =
+      subst (λ (r : Reply). reply_given (host_reply r) ≡ Some r) (sym asking.reply) refl in
+      (refl, refl, e.reply, reads, has_event (Some e.reply) (ap (λ (o : Op). given_of o e.reply) is))
+  told_by (Op.Read at len) is = told_plain (ap (λ (o : Op). given_of o e.reply) is)
+  told_by (Op.Write at piece) is = told_plain (ap (λ (o : Op). given_of o e.reply) is)
+  told_by (Op.Amo at value kind wide) is = told_plain (ap (λ (o : Op). given_of o e.reply) is)
+  told_by (Op.Lr at wide) is = told_plain (ap (λ (o : Op). given_of o e.reply) is)
+  told_by (Op.Sc at value wide) is = told_plain (ap (λ (o : Op). given_of o e.reply) is)
+  told_by (Op.Port port act) is = told_plain (ap (λ (o : Op). given_of o e.reply) is)
+  told_by (Op.Board act) is = told_plain (ap (λ (o : Op). given_of o e.reply) is)
+  told_by Op.Idle is = told_plain (ap (λ (o : Op). given_of o e.reply) is)
+
+  pub told : TraceStep (item_of e) [] m Quiet (with_guest m mid)
+  told = told_by e.op refl
+
+-- ---- events
+
+abbrev pub quiets : List Entry → List Out
+quiets es = map (λ e. Quiet) es
+
+pub quiets_show : (es : List Entry) → shown (quiets es) ≡ []
+quiets_show [] = refl
+quiets_show (e ∷ es) = quiets_show es
+
+pub quiets_say : (es : List Entry) → said (quiets es) ≡ []
+quiets_say [] = refl
+quiets_say (e ∷ es) = quiets_say es
+
+pub acts_items : (es : List Entry) → items_of (event_acts es) ≡ event_items es
+acts_items [] = refl
+acts_items (e ∷ es) = ap (λ (l : List Item). item_of e ∷ l) (acts_items es)
+
+pub events_run : (es : List Entry) (m : Machine) (g h : Guest) → running m ≡ Some g → Leads g es h
+    → Run (event_acts es) m (quiets es) (with_guest m h)
+events_run [] m g h runs leads =
+    (refl, sym (ap (λ (o : Option Guest). record m { guest = o }) (ap (λ (x : Guest). Some x) (sym leads) ∙ sym (guest_is m g runs))))
+events_run (e ∷ es) m g h runs leads = (
+  Quiet,
+  with_guest m leads.0,
+  quiets es,
+  refl,
+  told m g leads.0 e runs leads.1,
+  events_run es (with_guest m leads.0) leads.0 h (still_runs m g leads.0 runs) leads.2,
+)
+
+-- the first of the events, and the others
+pub leads_split : (n : ℕ) (es : List Entry) (g h : Guest) → Leads g es h
+    → (mid : Guest) × Leads g (take n es) mid × Leads mid (drop n es) h
+leads_split zero es g h leads = (g, refl, leads)
+leads_split (suc n) [] g h leads = (g, refl, leads)
+leads_split (suc n) (e ∷ es) g h leads =
+    let rest = leads_split n es leads.0 h leads.2 in
+    (rest.0, (leads.0, leads.1, rest.1), rest.2)
+
+items_append : (a b : List Entry) → event_items (a ++ b) ≡ event_items a ++ event_items b
+items_append [] b = refl
+items_append (e ∷ a) b = ap (λ (l : List Item). item_of e ∷ l) (items_append a b)
+
+pub items_split : (n : ℕ) (es : List Entry) → event_items es ≡ event_items (take n es) ++ event_items (drop n es)
+items_split n es = ap event_items (sym (take-append-drop n es)) ∙ items_append (take n es) (drop n es)
+
+-- ---- a drain
+
+abbrev pub drained_guest : Guest → Guest
+drained_guest g = record g { board = record g.board { console = [] } }
+
+abbrev pub drain_acts : List ℕ → List Act
+drain_acts bytes = map quiet_act (drain_items bytes)
+
+abbrev pub drain_outs : List ℕ → List Out
+drain_outs [] = []
+drain_outs (byte ∷ bytes) = Shown (byte ∷ bytes) ∷ []
+
+pub drain_shows : (bytes : List ℕ) → shown (drain_outs bytes) ≡ bytes
+drain_shows [] = refl
+drain_shows (byte ∷ bytes) = append-nil (byte ∷ bytes)
+
+pub drain_says : (bytes : List ℕ) → said (drain_outs bytes) ≡ []
+drain_says [] = refl
+drain_says (byte ∷ bytes) = refl
+
+pub drain_told : (bytes : List ℕ) → items_of (drain_acts bytes) ≡ drain_items bytes
+drain_told [] = refl
+drain_told (byte ∷ bytes) = refl
+
+pub drain_run : (m : Machine) (h : Guest) (bytes : List ℕ) → bytes ≡ h.board.console
+    → Run (drain_acts bytes) (with_guest m h) (drain_outs bytes) (with_guest m (drained_guest h))
+drain_run m h [] is =
+    (refl, ap (λ (c : List ℕ). with_guest m (record h { board = record h.board { console = c } })) (sym is))
+drain_run m h (byte ∷ bytes) is =
+    (Shown (byte ∷ bytes), with_guest m (drained_guest h), [], refl, (ap Shown is, (refl, (refl, refl))), (refl, refl))
+
+pub drained_is : (w : WorldValue) (g : Guest) → IsWorld w g → IsWorld (drained_world w) (drained_guest g)
+drained_is w g is = record {
+  memory_is = is.memory_is;
+  marks_are = is.marks_are;
+  board_is = ap (λ (b : Board). record b { console = [] }) is.board_is;
+  timer_is = is.timer_is;
+  harts_are = record { count = is.harts_are.count; each = is.harts_are.each };
+}

@@ -1,0 +1,5 @@
+pub mod Asked
+pub mod Joins
+pub mod Led
+pub mod Lifts
+pub mod Told

@@ -1,0 +1,263 @@
+-- What a slice leaves, told to its end or not.
+use Rattle.std.proofs.Common.{◌≡◌, ℕ, false, refl, sym, ap, ◌∙◌, subst, List, [], ◌∷◌, ◌++◌, take, drop, All, append_assoc, append-nil, take-append-drop, length, Some}
+use Rattle.std.specs.Prelude.{Result, Ok, Err}
+use Rattle.std.proofs.lemmas.List.Elements.{All-from_recursion}
+use Rattle.vm_types.specs.declared.ids.ActorId.{ActorId}
+use Rattle.vm_types.specs.declared.entry.Entry.{Entry}
+use Rattle.vm_types.specs.declared.torn.Torn.{Torn}
+use Rattle.vm_outside.specs.Passing.{TakesPart}
+use Rattle.script_text.specs.declared.item.Item.{Item}
+use Rattle.vm_host.specs.Telling.{ClockKnown, Lasts}
+use Rattle.board_table.specs.Board.{Board}
+use Rattle.flat_guest.specs.Guest.{Guest}
+use Rattle.flat_machine.specs.Machine.{Machine, running}
+use Rattle.vm_world.specs.Worlds.{IsWorld, WorldValue}
+use Rattle.slice_runner.specs.Runs.{HasAnswered}
+use Rattle.stamp_merge.specs.declared.history.History.{History}
+use Rattle.stamp_merge.specs.declared.journal.Journal.{Journal}
+use Rattle.slice_runner.specs.declared.slice.SliceError.{SliceError}
+use Rattle.slice_runner.specs.declared.slice.SliceError.TheVariants as error
+use Rattle.slice_runner.specs.Ended.{HasFailed}
+use Rattle.slice_runner.specs.Slices.{ClockWasAsked, IsSerial, IsTornSlice, Leads}
+use Rattle.monitor_running.specs.declared.ran.Ran.{Ran}
+use Rattle.monitor_running.specs.declared.telling.Untold.{Untold}
+use Rattle.monitor_running.specs.declared.telling.Untold.TheVariants as untold
+use Rattle.flat_trace.specs.Events.{answers_in, drain_items, event_acts, event_items, needs_room}
+use Rattle.monitor_running.specs.Items.{DrainStops, Drains, HasDrained, TellStops, TellsPart, TellsSlice, drained_world}
+use Rattle.monitor_running.specs.Ran.{IsRunning, IsTornOff, RanOn, end_by, slice_end}
+use Rattle.monitor_running.specs.Reached.{Ahead, GetsAhead, IsCut, Keeps, Kept, Reached, Seen, Start}
+use Rattle.flat_trace.specs.Showing.{Out, items_of}
+use Rattle.monitor_running.proofs.Asked.{answers_same, roomy}
+use Rattle.monitor_running.proofs.Joins.{answered_first, answers_append, goes_by, rests}
+use Rattle.monitor_running.proofs.Led.{acts_items, drain_acts, drain_outs, drain_run, drain_says, drain_shows, drain_told, drained_guest, drained_is, events_run, items_split, leads_split, quiets, quiets_say, quiets_show, still_runs, with_guest}
+
+abbrev seen_by : List Item → List ℕ → ClockKnown → Seen
+seen_by took taken clock = record { took = took; taken = taken; clock = clock }
+
+-- a clock that answered in the events
+pub was_asked : (asked now : ClockKnown) (es : List Entry) (g h : Guest) → ClockWasAsked asked es now → Leads g es h
+    → HasAnswered asked (answers_in (event_items es)) now
+was_asked asked now es g h was leads =
+    subst (λ (l : List ℕ). HasAnswered asked l now) (sym (answers_same es g h leads))
+    (record { still = λ tells. (was tells).0; are = λ tells. (was tells).1 })
+
+-- ---- the events, and then the drain
+
+take_length : (es : List Entry) → take (length es) es ≡ es
+take_length [] = refl
+take_length (e ∷ es) = ap (λ (l : List Entry). e ∷ l) (take_length es)
+
+joins : (w v : WorldValue) (took mid now : List Item) (es : List Entry) → mid ≡ took ++ event_items es → HasDrained w mid [] v now
+    → HasDrained w took (event_items es) v now
+joins w v took mid now es all drained = record {
+  world = drained.world;
+  told =
+      drained.told ∙ ap (λ (l : List Item). l ++ drain_items w.board.console) all
+      ∙ append_assoc took (event_items es) (drain_items w.board.console);
+}
+
+stops_then : (why : Untold) (es : List Entry) (w v : WorldValue) (took mid now : List Item) (taken all : List ℕ)
+    → mid ≡ took ++ event_items es → DrainStops why w mid taken v now all → TellStops why es w took taken v now all
+stops_then untold.Trace es w v took mid now taken all told stops = (
+  stops.0,
+  (length es, stops.1 ∙ told ∙ ap (λ (l : List Entry). took ++ event_items l) (sym (take_length es))),
+  stops.2,
+)
+stops_then untold.Sink es w v took mid now taken all told stops = (joins w v took mid now es told stops.0, stops.1)
+stops_then untold.OutOfMemory es w v took mid now taken all told stops = absurd stops
+
+pub told_then : {T : Type 0} (result : Result T Untold) (es : List Entry) (w v : WorldValue) (took mid now : List Item)
+    (taken all : List ℕ) → mid ≡ took ++ event_items es → Drains result w mid taken v now all
+    → TellsSlice result es w took taken v now all
+told_then (Ok done) es w v took mid now taken all told drains = (joins w v took mid now es told drains.0, drains.1)
+told_then (Err why) es w v took mid now taken all told drains = stops_then why es w v took mid now taken all told drains
+
+-- ---- a slice whose events lead from the guest of each machine that the world was
+
+module _ (s : Start) (m : Machine) (talk : List Out) (took : List Item) (taken : List ℕ) (asked now : ClockKnown)
+    (w v : WorldValue) (es : List Entry) (serial : IsSerial w es v) (was : ClockWasAsked asked es now) (is : IsRunning w m)
+    (r : Reached s (seen_by took taken asked) m talk) where
+  abbrev old : Seen
+  old = seen_by took taken asked
+
+  led : (h : Guest) × Leads is.0 es h × IsWorld v h
+  led = serial is.0 is.2
+
+  abbrev after : Machine
+  after = with_guest m led.0
+
+  after_runs : running after ≡ Some led.0
+  after_runs = still_runs m is.0 led.0 is.1
+
+  all_asked : HasAnswered asked (answers_in (event_items es)) now
+  all_asked = was_asked asked now es is.0 led.0 was led.1
+
+  -- all events are told
+  events_told : Reached s (seen_by (took ++ event_items es) taken now) after talk
+  events_told =
+      goes_by s old (seen_by (took ++ event_items es) taken now) m after talk (event_acts es) (quiets es) r
+      (events_run es m is.0 led.0 is.1 led.1) (ap (λ (l : List Item). took ++ l) (sym (acts_items es)))
+      (sym (append-nil taken) ∙ ap (λ (l : List ℕ). taken ++ l) (sym (quiets_show es))) (quiets_say es)
+      (subst (λ (l : List Item). HasAnswered asked (answers_in l) now) (sym (acts_items es)) all_asked)
+
+  -- and a drain
+  console_is : v.board.console ≡ led.0.board.console
+  console_is = ap (λ (b : Board). b.console) led.2.board_is
+
+  drain_told_too : Reached s (seen_by (took ++ (event_items es ++ drain_items v.board.console)) (taken ++ v.board.console) now)
+      (with_guest m (drained_guest led.0)) talk
+  drain_told_too =
+      let bytes = v.board.console in
+      let last : Seen = seen_by (took ++ (event_items es ++ drain_items bytes)) (taken ++ bytes) now in
+      goes_by s (seen_by (took ++ event_items es) taken now) last after (with_guest m (drained_guest led.0)) talk
+      (drain_acts bytes) (drain_outs bytes) events_told (drain_run m led.0 bytes console_is)
+      (sym (append_assoc took (event_items es) (drain_items bytes))
+      ∙ ap (λ (l : List Item). (took ++ event_items es) ++ l) (sym (drain_told bytes)))
+      (ap (λ (l : List ℕ). taken ++ l) (sym (drain_shows bytes))) (drain_says bytes)
+      (subst (λ (l : List Item). HasAnswered now (answers_in l) now) (sym (drain_told bytes)) (unasked bytes))
+    where
+      unasked : (bytes : List ℕ) → HasAnswered now (answers_in (drain_items bytes)) now
+      unasked [] = record { still = λ tells. tells; are = λ tells. refl }
+      unasked (b ∷ bytes) = record { still = λ tells. tells; are = λ tells. refl }
+
+  drained_runs : (u : WorldValue) → u ≡ drained_world v → IsRunning u (with_guest m (drained_guest led.0))
+  drained_runs u same = (
+    drained_guest led.0,
+    still_runs m is.0 (drained_guest led.0) is.1,
+    subst (λ (x : WorldValue). IsWorld x (drained_guest led.0)) (sym same) (drained_is v led.0 led.2),
+  )
+
+  -- where the trace failed, the events that it has not lead on
+  part_told : (n : ℕ) → Ahead IsRunning s m (seen_by (took ++ event_items (take n es)) taken now) v talk
+  part_told n =
+      let parts = leads_split n es is.0 led.0 led.1 in
+      let answers : answers_in (event_items es) ≡ answers_in (event_items (take n es)) ++ answers_in (event_items (drop n es)) =
+      ap answers_in (items_split n es) ∙ answers_append (event_items (take n es)) (event_items (drop n es)) in
+      let clocks = answered_first asked now (answers_in (event_items (take n es))) (answers_in (event_items (drop n es)))
+      (subst (λ (l : List ℕ). HasAnswered asked l now) answers all_asked) in
+      let front : Seen = seen_by (took ++ event_items (take n es)) taken clocks.0 in record {
+        told = with_guest m parts.0;
+        clock = clocks.0;
+        reached =
+            goes_by s old front m (with_guest m parts.0) talk (event_acts (take n es)) (quiets (take n es)) r
+            (events_run (take n es) m is.0 parts.0 is.1 parts.1) (ap (λ (l : List Item). took ++ l) (sym (acts_items (take n es))))
+            (sym (append-nil taken) ∙ ap (λ (l : List ℕ). taken ++ l) (sym (quiets_show (take n es)))) (quiets_say (take n es))
+            (subst (λ (l : List Item). HasAnswered asked (answers_in l) clocks.0) (sym (acts_items (take n es))) clocks.1);
+        more = event_acts (drop n es);
+        outs = quiets (drop n es);
+        flat = after;
+        ahead = events_run (drop n es) (with_guest m parts.0) parts.0 led.0 (still_runs m is.0 parts.0 is.1) parts.2;
+        unshown = quiets_show (drop n es);
+        unsaid = quiets_say (drop n es);
+        asked = subst (λ (l : List Item). HasAnswered clocks.0 (answers_in l) now) (sym (acts_items (drop n es))) clocks.2;
+        is = (led.0, after_runs, led.2);
+        beside = refl;
+      }
+
+-- ---- what is left of a slice, told to its end or not
+
+abbrev pub Slid : List Entry → WorldValue → WorldValue → ClockKnown → ClockKnown → Type 0
+Slid es w v asked now = IsSerial w es v × ClockWasAsked asked es now
+
+pub slice_told : (took took' : List Item) (taken taken' : List ℕ) (asked mid now : ClockKnown) (w v u : WorldValue) (es : List Entry)
+    → Slid es w v asked mid → HasDrained v took (event_items es) u took' → taken' ≡ taken ++ v.board.console → Lasts mid now
+    → Keeps IsRunning (seen_by took taken asked) w (seen_by took' taken' now) u
+slice_told took took' taken taken' asked mid now w v u es slid drained sunk lasts s m talk is r =
+    let all = drain_told_too s m talk took taken asked mid w v es slid.0 slid.1 is r in
+    let h = led s m talk took taken asked mid w v es slid.0 slid.1 is r in
+    let last : Seen = seen_by (took ++ (event_items es ++ drain_items v.board.console)) (taken ++ v.board.console) mid in record {
+      flat = with_guest m (drained_guest h.0);
+      is = drained_runs s m talk took taken asked mid w v es slid.0 slid.1 is r u drained.world;
+      beside = refl;
+      reached = rests s last (seen_by took' taken' now) (with_guest m (drained_guest h.0)) talk all drained.told sunk
+          (record { still = λ tells. lasts.still tells; are = λ tells. lasts.same tells });
+    }
+
+pub slice_ahead : (took took' : List Item) (taken taken' : List ℕ) (asked now : ClockKnown) (w v u : WorldValue) (es : List Entry)
+    → Slid es w v asked now → u ≡ v → TellsPart took es took' → taken' ≡ taken
+    → GetsAhead IsRunning (seen_by took taken asked) w (seen_by took' taken' now) u
+slice_ahead took took' taken taken' asked now w v u es slid same part sunk s m talk is r =
+    rw (same, part.1, sunk) (part_told s m talk took taken asked now w v es slid.0 slid.1 is r part.0)
+
+pub slice_cut : (took took' : List Item) (taken taken' : List ℕ) (asked now : ClockKnown) (w v u : WorldValue) (es : List Entry)
+    → Slid es w v asked now → HasDrained v took (event_items es) u took' → TakesPart taken taken' v.board.console
+    → IsCut IsRunning (seen_by took taken asked) w (seen_by took' taken' now) u
+slice_cut took took' taken taken' asked now w v u es slid drained part s m talk is r =
+    let bytes = v.board.console in
+    let whole : taken' ++ drop part.0 bytes ≡ taken ++ bytes =
+    ap (λ (l : List ℕ). l ++ drop part.0 bytes) part.2 ∙ append_assoc taken (take part.0 bytes) (drop part.0 bytes)
+    ∙ ap (λ (l : List ℕ). taken ++ l) (take-append-drop part.0 bytes) in (
+      drop part.0 bytes,
+      slice_told took took' taken (taken' ++ drop part.0 bytes) asked now now w v u es slid drained whole
+          (record { still = λ tells. tells; same = λ tells. refl }) s m talk is r,
+    )
+
+pub slice_short : (took took' : List Item) (taken taken' : List ℕ) (asked now : ClockKnown) (w v u : WorldValue) (es : List Entry)
+    → Slid es w v asked now → (All (λ e. needs_room e ≡ false) es → ⊥)
+    → Keeps IsRunning (seen_by took taken asked) w (seen_by took' taken' now) u
+slice_short took took' taken taken' asked now w v u es slid short s m talk is r =
+    let h = slid.0 is.0 is.2 in
+    absurd (short (All-from_recursion (λ (e : Entry). needs_room e ≡ false) es (roomy es is.0 h.0 h.1)))
+
+pub slice_stops : (why : Untold) (took took' : List Item) (taken taken' : List ℕ) (asked now : ClockKnown) (w v u : WorldValue)
+    (es : List Entry) → Slid es w v asked now → TellStops why es v took taken u took' taken'
+    → RanOn IsRunning (end_by why) (seen_by took taken asked) w (seen_by took' taken' now) u
+slice_stops untold.Trace took took' taken taken' asked now w v u es slid stops =
+    slice_ahead took took' taken taken' asked now w v u es slid stops.0 stops.1 stops.2
+slice_stops untold.Sink took took' taken taken' asked now w v u es slid stops =
+    slice_cut took took' taken taken' asked now w v u es slid stops.0 stops.1
+slice_stops untold.OutOfMemory took took' taken taken' asked now w v u es slid stops =
+    slice_short took took' taken taken' asked now w v u es slid stops
+
+pub slice_torn : (took : List Item) (taken : List ℕ) (asked now : ClockKnown) (w : WorldValue) (torn : Torn)
+    (journals : List Journal) (histories : List History) → IsTornSlice w torn journals histories
+    → IsTornOff IsRunning (seen_by took taken asked) w (seen_by took taken now) torn journals histories
+slice_torn took taken asked now w torn journals histories is_torn = record {
+  world = w;
+  slice = is_torn;
+  clock = asked;
+  kept = λ s m talk is r. record { flat = m; is = is; beside = refl; reached = r };
+}
+
+pub slice_none : (took : List Item) (taken : List ℕ) (asked now : ClockKnown) (w v : WorldValue) → v ≡ w → now ≡ asked
+    → Keeps IsRunning (seen_by took taken asked) w (seen_by took taken now) v
+slice_none took taken asked now w v same unasked s m talk is r = record {
+  flat = m;
+  is = subst (λ (x : WorldValue). IsRunning x m) (sym same) is;
+  beside = refl;
+  reached = subst (λ (k : ClockKnown). Reached s (seen_by took taken k) m talk) (sym unasked) r;
+}
+
+-- ---- the same, as the ends have it
+
+pub slice_went : (took took' : List Item) (taken taken' : List ℕ) (asked mid now : ClockKnown) (w v u : WorldValue)
+    (es told : List Entry) → told ≡ es → IsSerial w es v → ClockWasAsked asked es mid
+    → HasDrained v took (event_items told) u took' × (taken' ≡ taken ++ v.board.console) → Lasts mid now
+    → Keeps IsRunning (seen_by took taken asked) w (seen_by took' taken' now) u
+slice_went took took' taken taken' asked mid now w v u es told same serial was went lasts =
+    slice_told took took' taken taken' asked mid now w v u es (serial, was)
+    (subst (λ (l : List Entry). HasDrained v took (event_items l) u took') same went.0) went.1 lasts
+
+pub slice_ends : (end : Ran) (why : Untold) (took took' : List Item) (taken taken' : List ℕ) (asked now : ClockKnown)
+    (w v u : WorldValue) (es told : List Entry) → end ≡ end_by why → told ≡ es → IsSerial w es v → ClockWasAsked asked es now
+    → TellStops why told v took taken u took' taken'
+    → RanOn IsRunning end (seen_by took taken asked) w (seen_by took' taken' now) u
+slice_ends end why took took' taken taken' asked now w v u es told is same serial was stops =
+    subst (λ (r : Ran). RanOn IsRunning r (seen_by took taken asked) w (seen_by took' taken' now) u) (sym is)
+    (slice_stops why took took' taken taken' asked now w v u es (serial, was)
+    (subst (λ (l : List Entry). TellStops why l v took taken u took' taken') same stops))
+
+failed_by : {Q : Type 0} (why : SliceError) (took : List Item) (taken : List ℕ) (asked now : ClockKnown) (w v : WorldValue)
+    (begun ended : List Q) → HasFailed w v asked now begun ended why
+    → RanOn IsRunning (slice_end why) (seen_by took taken asked) w (seen_by took taken now) v
+failed_by (error.Torn torn journals histories) took taken asked now w v begun ended failed =
+    slice_torn took taken asked now w torn journals.items histories.items failed.0
+failed_by error.OutOfMemory took taken asked now w v begun ended failed =
+    slice_none took taken asked now w v failed.0 failed.1
+
+pub slice_failed : {Q : Type 0} (end : Ran) (why : SliceError) (took : List Item) (taken : List ℕ) (asked now : ClockKnown)
+    (w v : WorldValue) (begun ended : List Q) → end ≡ slice_end why → HasFailed w v asked now begun ended why
+    → RanOn IsRunning end (seen_by took taken asked) w (seen_by took taken now) v
+slice_failed end why took taken asked now w v begun ended is failed =
+    subst (λ (r : Ran). RanOn IsRunning r (seen_by took taken asked) w (seen_by took taken now) v) (sym is)
+    (failed_by why took taken asked now w v begun ended failed)

@@ -1,0 +1,46 @@
+-- What telling a slice's events, and a drain, leave of the trace and the sink.
+use Rattle.std.specs.Prelude.{ℕ, ◌≡◌, false, List, [], ◌++◌, take, All, Result, MatchResult}
+use Rattle.vm_types.specs.declared.entry.Entry.{Entry}
+use Rattle.vm_outside.specs.Passing.{TakesPart}
+use Rattle.script_text.specs.declared.item.Item.{Item}
+use Rattle.vm_world.specs.Worlds.{WorldValue}
+use Rattle.monitor_running.specs.declared.telling.Untold.{Untold}
+use Rattle.monitor_running.specs.declared.telling.Untold.TheVariants as untold
+use Rattle.flat_trace.specs.Events.{drain_items, event_items, needs_room}
+
+-- the first of the events were told
+abbrev pub TellsPart : List Item → List Entry → List Item → Type 0
+TellsPart old events new = (n : ℕ) × (new ≡ old ++ event_items (take n events))
+
+-- its console holds nothing any more
+abbrev pub drained_world : WorldValue → WorldValue
+drained_world w = record w { board = record w.board { console = [] } }
+
+-- the trace has these items more, and then the item of the drain, if there was anything to drain
+pub record HasDrained (w : WorldValue) (took more : List Item) (v : WorldValue) (now : List Item) : Type 0 where
+  pub world : v ≡ drained_world w
+  pub told : now ≡ took ++ (more ++ drain_items w.board.console)
+
+-- where the trace fails nothing is drained; where the sink does, it took a front of what was
+abbrev pub DrainStops : Untold → WorldValue → List Item → List ℕ → WorldValue → List Item → List ℕ → Type 0
+DrainStops untold.Trace w took taken v now all = (v ≡ w) × (now ≡ took) × (all ≡ taken)
+DrainStops untold.Sink w took taken v now all = HasDrained w took [] v now × TakesPart taken all w.board.console
+DrainStops untold.OutOfMemory w took taken v now all = ⊥
+
+abbrev pub Drains : {T : Type 0} → Result T Untold → WorldValue → List Item → List ℕ → WorldValue → List Item → List ℕ → Type 0
+Drains result w took taken v now all =
+    MatchResult result (λ _. HasDrained w took [] v now × (all ≡ taken ++ w.board.console))
+    (λ why. DrainStops why w took taken v now all)
+
+-- only an event that brings bytes of a connection finds no memory
+abbrev pub TellStops : Untold → List Entry → WorldValue → List Item → List ℕ → WorldValue → List Item → List ℕ → Type 0
+TellStops untold.Trace events w took taken v now all = (v ≡ w) × TellsPart took events now × (all ≡ taken)
+TellStops untold.Sink events w took taken v now all =
+    HasDrained w took (event_items events) v now × TakesPart taken all w.board.console
+TellStops untold.OutOfMemory events w took taken v now all = All (λ e. needs_room e ≡ false) events → ⊥
+
+abbrev pub TellsSlice : {T : Type 0} → Result T Untold → List Entry → WorldValue → List Item → List ℕ → WorldValue
+    → List Item → List ℕ → Type 0
+TellsSlice result events w took taken v now all =
+    MatchResult result (λ _. HasDrained w took (event_items events) v now × (all ≡ taken ++ w.board.console))
+    (λ why. TellStops why events w took taken v now all)

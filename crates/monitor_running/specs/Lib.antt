@@ -1,0 +1,4 @@
+pub mod Items
+pub mod Passes
+pub mod Ran
+pub mod Reached

@@ -1,0 +1,82 @@
+-- Trace fidelity: what a trace took is a run of the flat machine, which leaves the machine and shows what was taken.
+use Rattle.std.specs.Prelude.{ℕ, ◌≡◌, Bool, List, [], ◌++◌}
+use Rattle.script_text.specs.declared.item.Item.{Item}
+use Rattle.serve_host.specs.Tracing.{TraceKnown}
+use Rattle.vm_outside.specs.Known.{SinkKnown}
+use Rattle.vm_host.specs.Telling.{ClockKnown}
+use Rattle.slice_runner.specs.Runs.{HasAnswered}
+use Rattle.flat_machine.specs.Machine.{Machine, is_off}
+use Rattle.flat_machine.specs.Run.{Act}
+use Rattle.flat_trace.specs.Events.{answers_in}
+use Rattle.flat_trace.specs.Showing.{Out, Run, items_of, said, shown}
+
+-- the items that the trace took, the bytes that the sink took, and what is known of the clock
+pub record Seen : Type 0 where
+  pub took : List Item
+  pub taken : List ℕ
+  pub clock : ClockKnown
+
+abbrev pub seen : TraceKnown → SinkKnown → ClockKnown → Seen
+seen trace sink clock = record { took = trace.took; taken = sink.taken; clock = clock }
+
+-- where everything was at some start, what was said on connections among it
+pub record Start : Type 0 where
+  pub seen : Seen
+  pub flat : Machine
+  pub talk : List Out
+
+-- since then the trace took all that happened, and all that this shows was taken; the timer was given the clock's answers
+pub record Reached (s : Start) (now : Seen) (m : Machine) (talk : List Out) : Type 0 where
+  pub acts : List Act
+  pub outs : List Out
+  pub added : now.took ≡ s.seen.took ++ items_of acts
+  pub run : Run acts s.flat outs m
+  pub sink : now.taken ≡ s.seen.taken ++ shown outs
+  pub talks : talk ≡ s.talk ++ said outs
+  pub asked : HasAnswered s.seen.clock (answers_in (items_of acts)) now.clock
+
+-- a body b that is the machine after what happened, which is m but for its guest
+pub record Kept {B : Type 0} (Is : B → Machine → Type 0) (s : Start) (m : Machine) (now : Seen) (b : B) (talk : List Out) :
+    Type 0 where
+  pub flat : Machine
+  pub is : Is b flat
+  pub beside : flat ≡ record m { guest = flat.guest }
+  pub reached : Reached s now flat talk
+
+-- The trace has not all that happened: these further events, which show nothing, lead from where it leads to the body.
+pub record Ahead {B : Type 0} (Is : B → Machine → Type 0) (s : Start) (m : Machine) (now : Seen) (b : B) (talk : List Out) :
+    Type 0 where
+  pub told : Machine
+  pub clock : ClockKnown
+  pub reached : Reached s (record now { clock = clock }) told talk
+  pub more : List Act
+  pub outs : List Out
+  pub flat : Machine
+  pub ahead : Run more told outs flat
+  pub unshown : shown outs ≡ []
+  pub unsaid : said outs ≡ []
+  pub asked : HasAnswered clock (answers_in (items_of more)) now.clock
+  pub is : Is b flat
+  pub beside : flat ≡ record m { guest = flat.guest }
+
+-- However the machine got here, and whatever was said on connections: the trace has all of it
+abbrev pub Keeps : {B : Type 0} → (B → Machine → Type 0) → Seen → B → Seen → B → Type 0
+Keeps Is old b now c =
+    (s : Start) (m : Machine) (talk : List Out) → Is b m → Reached s old m talk → Kept Is s m now c talk
+
+-- and then the guest is on, or off
+abbrev pub KeepsAs : {B : Type 0} → Bool → (B → Machine → Type 0) → Seen → B → Seen → B → Type 0
+KeepsAs off Is old b now c =
+    (s : Start) (m : Machine) (talk : List Out) → Is b m → Reached s old m talk
+    → (kept : Kept Is s m now c talk) × (is_off kept.flat ≡ off)
+
+-- the trace failed, and lacks the last events
+abbrev pub GetsAhead : {B : Type 0} → (B → Machine → Type 0) → Seen → B → Seen → B → Type 0
+GetsAhead Is old b now c =
+    (s : Start) (m : Machine) (talk : List Out) → Is b m → Reached s old m talk → Ahead Is s m now c talk
+
+-- the sink failed: the trace has all that happened, and the sink took a front of what that shows
+abbrev pub IsCut : {B : Type 0} → (B → Machine → Type 0) → Seen → B → Seen → B → Type 0
+IsCut Is old b now c =
+    (s : Start) (m : Machine) (talk : List Out) → Is b m → Reached s old m talk
+    → (rest : List ℕ) × Kept Is s m (record now { taken = now.taken ++ rest }) c talk

@@ -1,0 +1,113 @@
+// Events told to a trace, and the console to a sink.
+ghost use Rattle.std.specs.Prelude.{◌≡◌, ◌≢◌, ℕ, ◌++◌, ◌∷◌, [], false, true, All, IfErr, OnErr, OnOk};
+ghost use Rattle.vm_outside.specs.Known.{Called, Lasts, Tells};
+ghost use Rattle.vm_types.specs.Causes.{Rose};
+ghost use Rattle.monitor_running.specs.declared.telling.Untold.TheVariants as untold;
+ghost use Rattle.flat_trace.specs.Events.{event_items, item_of, needs_room};
+ghost use Rattle.monitor_running.specs.Items.{Drains, TellsPart, TellsSlice};
+
+use flat_trace::event_item;
+use monitor_machine::drain_all;
+use script_text::Item;
+use serve_host::Trace;
+use std::alloc::Global;
+use vm_outside::{Sink, write_all};
+use vm_types::Entry;
+use vm_world::World;
+
+/// What was not told to its end.
+#[derive(Clone, Copy, Debug, PartialEq, Eq, Drop)]
+pub enum Untold {
+    Trace,
+    Sink,
+    OutOfMemory,
+}
+
+// Tells the trace one event.
+fn tell_event<T: Trace>(alloc: Global, event: &Entry, trace: &mut T) -> Result<(), Untold>
+    ensures ok { OnOk result (Tells (T.known trace.old).health →
+        (T.known trace.new).took ≡ (T.known trace.old).took ++ item_of event.now ∷ []) }
+    ensures err { OnErr result (Tells (T.known trace.old).health →
+        (T.known trace.new).took ≡ (T.known trace.old).took) }
+    ensures short { IfErr result (λ why. why ≡ untold.OutOfMemory → needs_room event.now ≡ true) }
+    ensures cause { IfErr result (λ why. why ≡ untold.Trace →
+        Rose (T.known trace.old).health.faults (T.known trace.new).health.faults) }
+    ensures unsunk { IfErr result (λ why. why ≢ untold.Sink) }
+    ensures lasts { Lasts (T.known trace.old).health (T.known trace.new).health }
+{
+    let Ok(item) = event_item(alloc, event) else {
+        return Err(Untold::OutOfMemory);
+    };
+    let Ok(()) = trace.add(&item) else {
+        return Err(Untold::Trace);
+    };
+    Ok(())
+}
+
+// Tells the trace these events, one after another. After an `Err` it has a front of them.
+fn tell_events<T: Trace>(alloc: Global, events: &[Entry], trace: &mut T) -> Result<(), Untold>
+    ensures ok { OnOk result (Tells (T.known trace.old).health →
+        (T.known trace.new).took ≡ (T.known trace.old).took ++ event_items events.now) }
+    ensures err { OnErr result (Tells (T.known trace.old).health →
+        TellsPart (T.known trace.old).took events.now (T.known trace.new).took) }
+    ensures short { IfErr result (λ why. why ≡ untold.OutOfMemory → All (λ e. needs_room e ≡ false) events.now → ⊥) }
+    ensures cause { IfErr result (λ why. why ≡ untold.Trace →
+        Rose (T.known trace.old).health.faults (T.known trace.new).health.faults) }
+    ensures unsunk { IfErr result (λ why. why ≢ untold.Sink) }
+    ensures lasts { Lasts (T.known trace.old).health (T.known trace.new).health }
+{
+    let mut at = 0;
+    while at < events.len() {
+        tell_event(alloc, &events[at], trace)?;
+        at += 1;
+    }
+    Ok(())
+}
+
+// Drains a console that holds something: its item goes to the trace, and then its bytes to the sink, as they are.
+fn drain<T: Trace, K: Sink>(guest: &mut World, trace: &mut T, sink: &mut K) -> Result<(), Untold>
+    ensures drains { Tells (T.known trace.old).health → Tells (K.known sink.old).health →
+        Drains result guest.old (T.known trace.old).took (K.known sink.old).taken
+        guest.new (T.known trace.new).took (K.known sink.new).taken }
+    ensures trace_cause { IfErr result (λ why. why ≡ untold.Trace →
+        Rose (T.known trace.old).health.faults (T.known trace.new).health.faults) }
+    ensures sink_cause { IfErr result (λ why. why ≡ untold.Sink →
+        Rose (K.known sink.old).health.faults (K.known sink.new).health.faults) }
+    ensures trace_lasts { Lasts (T.known trace.old).health (T.known trace.new).health }
+    ensures sink_lasts { Lasts (K.known sink.old).health (K.known sink.new).health }
+{
+    if guest.console().is_empty() {
+        return Ok(());
+    }
+    let Ok(()) = trace.add(&Item::Console) else {
+        return Err(Untold::Trace);
+    };
+    let sent = write_all(sink, guest.console());
+    drain_all(guest);
+    match sent {
+        Ok(()) => Ok(()),
+        Err(_) => Err(Untold::Sink),
+    }
+}
+
+/// Tells the trace the events of a slice, and then drains the console.
+pub fn tell_slice<T: Trace, K: Sink>(
+    alloc: Global,
+    events: &[Entry],
+    guest: &mut World,
+    trace: &mut T,
+    sink: &mut K,
+) -> Result<(), Untold>
+    ensures told { Tells (T.known trace.old).health → Tells (K.known sink.old).health →
+        TellsSlice result events.now guest.old (T.known trace.old).took (K.known sink.old).taken
+        guest.new (T.known trace.new).took (K.known sink.new).taken }
+    ensures trace_cause { IfErr result (λ why. why ≡ untold.Trace →
+        Rose (T.known trace.old).health.faults (T.known trace.new).health.faults) }
+    ensures sink_cause { IfErr result (λ why. why ≡ untold.Sink →
+        Rose (K.known sink.old).health.faults (K.known sink.new).health.faults) }
+    ensures trace_lasts { Lasts (T.known trace.old).health (T.known trace.new).health }
+    ensures sink_lasts { Lasts (K.known sink.old).health (K.known sink.new).health }
+{
+    tell_events(alloc, events, trace)?;
+    drain(guest, trace, sink)
+}
