@@ -134,6 +134,7 @@ pub lives_on : (live : LiveMachine) (m n : Machine) (w : WorldValue) → IsLive 
 lives_on live m n w is beside runs = record {
   id_is = is.id_is ∙ sym (ap (λ (x : Machine). x.id) beside);
   ids_is = is.ids_is ∙ sym (ap (λ (x : Machine). x.ids) beside);
+  metadata_is = is.metadata_is ∙ sym (ap (λ (x : Machine). x.metadata) beside);
   config_is = is.config_is ∙ sym (ap (λ (x : Machine). x.config) beside);
   guest_is = subst (λ (o : Option Guest). IsGuestBy (Some w) o) (sym (guest_is n runs.0 runs.1)) runs.2;
   paused_is = is.paused_is ∙ sym (ap (λ (x : Machine). x.paused) beside);
