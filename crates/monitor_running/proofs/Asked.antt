@@ -18,7 +18,7 @@ use Rattle.hart_trace.specs.Asks.{is_host_op}
 use Rattle.hart_trace.specs.States.{hart_wants}
 use Rattle.hart_trace.proofs.Asks.{never_host}
 use Rattle.hart_trace.proofs.Traces as hart_traces
-use Rattle.timer_trace.specs.States.{timer_wants, wants_by}
+use Rattle.timer_trace.specs.States.{wants_by}
 use Rattle.timer_trace.proofs.Traces as timer_traces
 use Rattle.flat_guest.specs.Guest.{Guest, Wants, WantsFrom, layout_of}
 use Rattle.flat_guest.specs.Places.{place_of}

@@ -1,10 +1,10 @@
 -- Runs one behind another, and what they show.
-use Rattle.std.proofs.Common.{◌≡◌, ℕ, List, [], ◌∷◌, ◌++◌, map, refl, sym, ap, ◌∙◌, subst, append_assoc, append-nil}
+use Rattle.std.proofs.Common.{◌≡◌, ℕ, List, [], ◌∷◌, ◌++◌, refl, sym, ap, ◌∙◌, subst, append_assoc, append-nil}
 use Rattle.vm_types.specs.declared.ids.ActorId.{ActorId}
 use Rattle.script_text.specs.declared.item.HostReply.TheVariants as given
 use Rattle.script_text.specs.declared.item.Item.{Item}
 use Rattle.script_text.specs.declared.item.Item.TheVariants as item
-use Rattle.vm_host.specs.Telling.{AreNext, ClockKnown, Tells, later}
+use Rattle.vm_host.specs.Telling.{AreNext, ClockKnown, later}
 use Rattle.slice_runner.specs.Runs.{HasAnswered}
 use Rattle.flat_machine.specs.Machine.{Machine}
 use Rattle.flat_machine.specs.Run.{Act}

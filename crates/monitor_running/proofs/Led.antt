@@ -1,8 +1,6 @@
 -- A slice's events, and a drain, are a run over the items that tell them.
 use Rattle.std.proofs.Common.{◌≡◌, ℕ, zero, suc, Bool, true, false, refl, sym, ap, ◌∙◌, subst, List, [], ◌∷◌, ◌++◌, map, take, drop, append-nil, take-append-drop, Option, Some, None}
-use Rattle.vm_types.specs.declared.ids.ActorId.{ActorId}
 use Rattle.vm_types.specs.declared.entry.Entry.{Entry}
-use Rattle.vm_types.specs.declared.entry.Event.{Event}
 use Rattle.vm_types.specs.declared.op.Op.{Op}
 use Rattle.vm_types.specs.declared.reply.Reply.{Reply}
 use Rattle.script_text.specs.declared.item.Item.{Item}
@@ -16,7 +14,7 @@ use Rattle.flat_machine.specs.Machine.{Machine, running, running_by}
 use Rattle.flat_machine.specs.Run.{Act}
 use Rattle.vm_world.specs.Worlds.{IsWorld, WorldValue}
 use Rattle.slice_runner.specs.Slices.{Leads, event_of, given_of}
-use Rattle.monitor_running.proofs.Asked.{IsAsking, is_asking}
+use Rattle.monitor_running.proofs.Asked.{is_asking}
 use Rattle.flat_trace.specs.Events.{drain_items, event_acts, event_items, host_reply, item_by, item_of, quiet_act}
 use Rattle.monitor_running.specs.Items.{drained_world}
 use Rattle.flat_trace.specs.Showing.{HasEvent, Out, Run, TraceStep, items_of, said, shown}

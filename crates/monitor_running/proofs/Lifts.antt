@@ -1,28 +1,24 @@
 -- From the world of a machine to the machine, and from one slice to the next.
-use Rattle.std.proofs.Common.{◌≡◌, ℕ, zero, suc, ◌+◌, ◌≤◌, ◌<◌, Bool, true, false, refl, sym, ap, ◌∙◌, subst, List, [], ◌∷◌, ◌++◌, length, slice_get, Option, Some, None, MatchBool, arith}
+use Rattle.std.proofs.Common.{◌≡◌, ℕ, suc, ◌+◌, ◌≤◌, ◌<◌, Bool, true, false, refl, sym, ap, ◌∙◌, subst, List, [], ◌∷◌, ◌++◌, length, slice_get, Option, Some, None, MatchBool, arith}
 use Rattle.vm_types.specs.declared.entry.Entry.{Entry}
-use Rattle.vm_types.specs.declared.torn.Torn.{Torn}
 use Rattle.vm_outside.specs.Known.{FilesKnown, Health}
 use Rattle.vm_outside.specs.Known as known
-use Rattle.vm_host.specs.Telling.{ClockKnown, Lasts}
-use Rattle.stamp_merge.specs.declared.history.History.{History}
-use Rattle.stamp_merge.specs.declared.journal.Journal.{Journal}
+use Rattle.vm_host.specs.Telling.{Lasts}
 use Rattle.flat_guest.specs.Guest.{Guest}
-use Rattle.flat_machine.specs.Machine.{Machine, is_off, running, running_by}
+use Rattle.flat_machine.specs.Machine.{Machine, is_off, running_by}
 use Rattle.vm_world.specs.Worlds.{IsWorld, WorldValue}
-use Rattle.vm_types.specs.Causes.{Rose}
 use Rattle.slice_runner.specs.declared.slice.SliceError.{SliceError}
 use Rattle.slice_runner.specs.declared.slice.SliceError.TheVariants as error
 use Rattle.slice_runner.specs.declared.stop.Stopped.{Stopped}
-use Rattle.slice_runner.specs.Stops.{AreStopped, closings}
+use Rattle.slice_runner.specs.Stops.{AreStopped}
 use Rattle.monitor_machine.specs.declared.machine.LiveMachine.{LiveMachine}
 use Rattle.monitor_machine.specs.Running.{resting_world, running_world}
 use Rattle.monitor_machine.specs.State.{IsGuestBy, IsLive, IsMachine}
 use Rattle.monitor_running.specs.declared.ran.Ran.{Ran}
 use Rattle.monitor_running.specs.declared.ran.Ran.TheVariants as ran
 use Rattle.monitor_running.specs.Passes.{AtFirst, HasAsked, HasRisen, NeverFell}
-use Rattle.monitor_running.specs.Ran.{HasFault, IsEnd, IsRunning, IsTornOff, RanOn, slice_end}
-use Rattle.monitor_running.specs.Reached.{Ahead, GetsAhead, IsCut, Keeps, KeepsAs, Kept, Reached, Seen, Start}
+use Rattle.monitor_running.specs.Ran.{HasFault, IsEnd, IsRunning, RanOn, slice_end}
+use Rattle.monitor_running.specs.Reached.{Keeps, KeepsAs, Kept, Reached, Seen, Start}
 use Rattle.flat_trace.specs.Showing.{Out}
 use Rattle.monitor_running.proofs.Joins.{rests}
 use Rattle.monitor_running.proofs.Led.{guest_is}
@@ -293,21 +289,6 @@ pub failed_is_end : (end : Ran) (why : SliceError) (trace traced sink sunk : ℕ
     → IsEnd end × HasFault end trace traced sink sunk
 failed_is_end end why trace traced sink sunk is =
     subst (λ (r : Ran). IsEnd r × HasFault r trace traced sink sunk) (sym is) (failed_end why trace traced sink sunk)
-
-pub not_closed : (end : Ran) → IsEnd end → end ≡ ran.Closed → ⊥
-not_closed end is closed = subst IsEnd closed is
-
-later_rose : (i mid j : ℕ) → i ≤ mid → Rose mid j → Rose i j
-later_rose i mid j later rose = omega (arith, later, rose)
-
-pub fault_later : (end : Ran) (trace traced sink sunk tracing sinking : ℕ) → trace ≤ tracing → sink ≤ sinking
-    → HasFault end tracing traced sinking sunk → HasFault end trace traced sink sunk
-fault_later ran.TraceFailed trace traced sink sunk tracing sinking a b fault = later_rose trace tracing traced a fault
-fault_later ran.SinkFailed trace traced sink sunk tracing sinking a b fault = later_rose sink sinking sunk b fault
-fault_later ran.Closed trace traced sink sunk tracing sinking a b fault = tt
-fault_later ran.Off trace traced sink sunk tracing sinking a b fault = tt
-fault_later (ran.Torn torn journals histories) trace traced sink sunk tracing sinking a b fault = tt
-fault_later ran.OutOfMemory trace traced sink sunk tracing sinking a b fault = tt
 
 -- ---- what an object told, call after call
 

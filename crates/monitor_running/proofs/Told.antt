@@ -2,7 +2,6 @@
 use Rattle.std.proofs.Common.{◌≡◌, ℕ, false, refl, sym, ap, ◌∙◌, subst, List, [], ◌∷◌, ◌++◌, take, drop, All, append_assoc, append-nil, take-append-drop, length, Some}
 use Rattle.std.specs.Prelude.{Result, Ok, Err}
 use Rattle.std.proofs.lemmas.List.Elements.{All-from_recursion}
-use Rattle.vm_types.specs.declared.ids.ActorId.{ActorId}
 use Rattle.vm_types.specs.declared.entry.Entry.{Entry}
 use Rattle.vm_types.specs.declared.torn.Torn.{Torn}
 use Rattle.vm_outside.specs.Passing.{TakesPart}
@@ -25,8 +24,8 @@ use Rattle.monitor_running.specs.declared.telling.Untold.TheVariants as untold
 use Rattle.flat_trace.specs.Events.{answers_in, drain_items, event_acts, event_items, needs_room}
 use Rattle.monitor_running.specs.Items.{DrainStops, Drains, HasDrained, TellStops, TellsPart, TellsSlice, drained_world}
 use Rattle.monitor_running.specs.Ran.{IsRunning, IsTornOff, RanOn, end_by, slice_end}
-use Rattle.monitor_running.specs.Reached.{Ahead, GetsAhead, IsCut, Keeps, Kept, Reached, Seen, Start}
-use Rattle.flat_trace.specs.Showing.{Out, items_of}
+use Rattle.monitor_running.specs.Reached.{Ahead, GetsAhead, IsCut, Keeps, Reached, Seen, Start}
+use Rattle.flat_trace.specs.Showing.{Out}
 use Rattle.monitor_running.proofs.Asked.{answers_same, roomy}
 use Rattle.monitor_running.proofs.Joins.{answered_first, answers_append, goes_by, rests}
 use Rattle.monitor_running.proofs.Led.{acts_items, drain_acts, drain_outs, drain_run, drain_says, drain_shows, drain_told, drained_guest, drained_is, events_run, items_split, leads_split, quiets, quiets_say, quiets_show, still_runs, with_guest}
