@@ -4,8 +4,8 @@ ghost use Rattle.vm_outside.specs.Known.{FilesKnown};
 ghost use Rattle.flat_machine.specs.Machine.{Machine, is_off, console_of, new_machine};
 
 use api_rules::{Config, Ids};
-use metadata_store::Store;
 pub use lines::drain_all;
+use metadata_store::Store;
 use std::alloc::Global;
 use vm_types::TextList;
 use vm_world::World;
