@@ -1,11 +1,14 @@
 // The monitor's program: the real objects, the call, and the status that it answers.
 #![tactic(auto)]
 
-use monitor_cli::{NoWords, Outside, firecracker_main};
+use firecracker_cli::{ServeOutside, firecracker_main};
+use host_real::{RandomWords, SocketConn, SocketListener, SystemClock, TraceFile};
+use monitor_cli::{NoWords, Outside};
 use outside_real::{Folder, Reading, Writing};
 use std::io::ErrorKind;
 use std::process::ExitCode;
 use std::{env, io};
+use vm_host::Host;
 
 fn main(rt: HostRuntime) -> ExitCode {
     let mut out = Outside {
@@ -13,8 +16,25 @@ fn main(rt: HostRuntime) -> ExitCode {
         sink: Writing::new(rt.stdout()),
         files: Folder::new(&rt),
     };
+    let mut with = ServeOutside {
+        host: Host {
+            disk: (),
+            link: (),
+            vsock: (),
+            clock: SystemClock::new(&rt),
+        },
+        words: RandomWords::new(&rt),
+        listener: SocketListener::new(&rt),
+        trace: TraceFile::new(&rt),
+    };
     let words = words(&rt).map_err(|e| why(&e));
-    let exit = firecracker_main(rt.alloc(), words, &mut out);
+    let exit = firecracker_main::<_, _, _, _, _, SocketConn, _, _, _>(
+        &rt,
+        rt.alloc(),
+        words,
+        &mut out,
+        &mut with,
+    );
     ExitCode::from(exit.status())
 }
 

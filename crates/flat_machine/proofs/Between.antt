@@ -36,6 +36,7 @@ use Rattle.flat_machine.specs.Outcome.{Left, Outcome}
 use Rattle.flat_machine.specs.Outcome.Outcome.{Answered, Failed, NoMemory}
 use Rattle.flat_machine.specs.Machine.{Machine, drained, drained_guest, phase_by, phase_of, running_by}
 use Rattle.flat_machine.specs.Items.{ItemStep, MemoryLine, RegisterLine, RepliesLine, StepsLine, Talks}
+use Rattle.response_form.specs.Responses.{Response}
 use Rattle.flat_machine.specs.Requests.{CreateFails, Creates, Fails, Leaves, LeavesBy, RequestStep, Stores, allowed, by_contents, configured, decided, halted, next_identity}
 use Rattle.flat_machine.specs.Run.{Act, Run}
 
@@ -236,21 +237,21 @@ result_on g m n given (Ok it) there is x =
     leaves_on g it m n there (by_decided m given (decided m given) it (started g m there) refl is) x
 result_on g m n given (Err why) there is x = same g m n there x
 
-request_on : (g : Guest) (how : Outcome) (given : Next) (m : Machine) (t : List ℕ) (n : Machine) → m.guest ≡ Some g → RequestStep how given m t n → GoesOn g m n
+request_on : (g : Guest) (how : Outcome) (given : Next) (m : Machine) (t : List Response) (n : Machine) → m.guest ≡ Some g → RequestStep how given m t n → GoesOn g m n
 request_on g Answered given m t n there x = result_on g m n given (allowed m given) there refl x.1
 request_on g (Failed left) given m t n there (it, asks, fails, is) = fails_on g it m left n there fails
 request_on g NoMemory given m t n there x = same g m n there x.1
 
 -- ---- lines
 
-conversation_on : (outcomes : List Outcome) (c d : Connection) (m n : Machine) (t : List ℕ) (g : Guest) → m.guest ≡ Some g
+conversation_on : (outcomes : List Outcome) (c d : Connection) (m n : Machine) (t : List Response) (g : Guest) → m.guest ≡ Some g
     → Conversation RequestStep outcomes c m t d n → GoesOn g m n
 conversation_on [] c d m n t g there (quiet, stays_so, none, is) = same g m n there is
 conversation_on (how ∷ outcomes) c d m n t g there (given, after, first, mid, rest, takes, step, more, text) =
     let on = request_on g how given m first mid there step in
     joined m mid n g on (conversation_on outcomes after d mid n rest on.guest on.there more)
 
-talks_on : (bytes : List ℕ) (outcomes : List Outcome) (m n : Machine) (t : List ℕ) (g : Guest) → m.guest ≡ Some g → Talks bytes outcomes m t n → GoesOn g m n
+talks_on : (bytes : List ℕ) (outcomes : List Outcome) (m n : Machine) (t : List Response) (g : Guest) → m.guest ≡ Some g → Talks bytes outcomes m t n → GoesOn g m n
 talks_on bytes outcomes m n t g there (after, mid, talk, is) =
     let on = conversation_on outcomes (arrived m.connection bytes) after m mid t g there talk in
     moved g m n (record mid { connection = after }) is
@@ -299,8 +300,8 @@ memory_on g (Some q) at len m n t there x =
     by_either (is_ram (length q.memory.bytes) at len) (λ shows. same g m n there shows.1) (λ none. same g m n there none.1) x
 
 item_on : (it : Item) (outcomes : List Outcome) (m n : Machine) (t : List ℕ) (g : Guest) → m.guest ≡ Some g → ItemStep it outcomes m t n → GoesOn g m n
-item_on (item.Bytes bytes) outcomes m n t g there x = talks_on bytes outcomes m n t g there x
-item_on (item.Api method path body) outcomes m n t g there x = talks_on (sent method path body) outcomes m n t g there x
+item_on (item.Bytes bytes) outcomes m n t g there x = talks_on bytes outcomes m n x.0 g there x.1
+item_on (item.Api method path body) outcomes m n t g there x = talks_on (sent method path body) outcomes m n x.0 g there x.1
 item_on item.Nothing outcomes m n t g there x = same g m n there x.1.1
 item_on (item.File name content) outcomes m n t g there x = moved g m n _ x.1.1 (stays g m _ there refl refl refl)
 item_on (item.Lineage lineage) outcomes m n t g there x = moved g m n _ x.1.1 (stays g m _ there refl refl refl)

@@ -18,6 +18,7 @@ use Rattle.script_text.specs.declared.item.Item.{Item}
 use Rattle.script_text.specs.declared.item.Item.TheVariants as item
 use Rattle.script_text.specs.declared.output.Misfit.TheVariants as misfit
 use Rattle.script_text.specs.Output.{register_line}
+use Rattle.response_form.specs.Responses.{Response}
 use Rattle.flat_guest.specs.Guest.{Guest, is_actor}
 use Rattle.flat_guest.specs.Steps.{is_given}
 use Rattle.flat_guest.proofs.Determined.{same_after, several_made, several_one, wants_one}
@@ -25,7 +26,7 @@ use Rattle.flat_machine.specs.Given.{reply_given}
 use Rattle.flat_machine.specs.Outcome.{AreAnswered, Left, Outcome}
 use Rattle.flat_machine.specs.Outcome.Outcome.{Answered, Failed, NoMemory}
 use Rattle.flat_machine.specs.Machine.{Machine, running}
-use Rattle.flat_machine.specs.Items.{Answers, ItemStep, MemoryLine, Misfits, Moves, RegisterLine, Replies, RepliesLine, ShowsFrom, StepsLine, Talks, steps_text}
+use Rattle.flat_machine.specs.Items.{Answers, ItemStep, MemoryLine, Misfits, Moves, RegisterLine, Replies, RepliesLine, ShowsFrom, StepsLine, TalkLines, Talks, response_lines, steps_text}
 use Rattle.snap_state.specs.declared.copy.StateCopy.{StateCopy}
 use Rattle.api_calls.specs.declared.call.SnapshotCreate.{SnapshotCreate}
 use Rattle.api_calls.specs.declared.call.SnapshotLoad.{SnapshotLoad}
@@ -103,13 +104,19 @@ request_one Answered given m t u n k x y = (x.0 ∙ sym y.0, result_one (allowed
 request_one (Failed left) given m t u n k (it, asks, fails, is) (other, asked, failed, be) =
     let same = same_change other it (sym asked ∙ asks) in
     (is ∙ sym be, fails_one it m left n k fails (subst (λ (c : Change). Fails m c left k) same failed))
-request_one NoMemory given m t u n k x y = both x y
+request_one NoMemory given m t u n k x y = (x.0 ∙ sym y.0, x.1 ∙ sym y.1)
 
-talks_one : (bytes : List ℕ) (outcomes : List Outcome) (m n k : Machine) (t u : List ℕ) → Talks bytes outcomes m t n
-    → Talks bytes outcomes m u k → Same t u n k
+pub talks_one : (bytes : List ℕ) (outcomes : List Outcome) (m n k : Machine) (t u : List Response) → Talks bytes outcomes m t n
+    → Talks bytes outcomes m u k → (t ≡ u) × (n ≡ k)
 talks_one bytes outcomes m n k t u (d, mid, talk, leaves) (e, other, talks, left) =
     let same = one_conversation RequestStep outcomes (arrived m.connection bytes) d e m mid other t u request_one talk talks in
     (same.0, leaves ∙ (λ j. record (same.2 j) { connection = same.1 j }) ∙ sym left)
+
+lines_one : (bytes : List ℕ) (outcomes : List Outcome) (m n k : Machine) (t u : List ℕ) → TalkLines bytes outcomes m t n
+    → TalkLines bytes outcomes m u k → Same t u n k
+lines_one bytes outcomes m n k t u (said, talk, is) (other, talks, be) =
+    let same = talks_one bytes outcomes m n k said other talk talks in
+    (is ∙ ap response_lines same.0 ∙ sym be, same.1)
 
 -- requests that the machine answers went so, one each
 answered_as_long : (outcomes others : List Outcome) → AreAnswered outcomes → AreAnswered others
@@ -124,7 +131,7 @@ answered_as_long (NoMemory ∷ outcomes) (other ∷ others) good fine long = abs
 answered_as_long (Answered ∷ outcomes) (Failed left ∷ others) good fine long = absurd fine
 answered_as_long (Answered ∷ outcomes) (NoMemory ∷ others) good fine long = absurd fine
 
-talks_answered : (bytes : List ℕ) (outcomes others : List Outcome) (m n k : Machine) (t u : List ℕ)
+talks_answered : (bytes : List ℕ) (outcomes others : List Outcome) (m n k : Machine) (t u : List Response)
     → AreAnswered outcomes → AreAnswered others → Talks bytes outcomes m t n → Talks bytes others m u k → outcomes ≡ others
 talks_answered bytes outcomes others m n k t u good fine (d, mid, talk, leaves) (e, other, talks, left) =
     answered_as_long outcomes others good fine
@@ -198,8 +205,8 @@ memory_one (Some g) at len m n k t u x y = one_by (is_ram (length g.memory.bytes
 
 pub item_one : (it : Item) (outcomes : List Outcome) (m n k : Machine) (t u : List ℕ) → ItemStep it outcomes m t n
     → ItemStep it outcomes m u k → Same t u n k
-item_one (item.Bytes bytes) outcomes m n k t u x y = talks_one bytes outcomes m n k t u x y
-item_one (item.Api method path body) outcomes m n k t u x y = talks_one (sent method path body) outcomes m n k t u x y
+item_one (item.Bytes bytes) outcomes m n k t u x y = lines_one bytes outcomes m n k t u x y
+item_one (item.Api method path body) outcomes m n k t u x y = lines_one (sent method path body) outcomes m n k t u x y
 item_one item.Nothing outcomes m n k t u x y = both x.1 y.1
 item_one (item.File name content) outcomes m n k t u x y = both x.1 y.1
 item_one (item.Lineage lineage) outcomes m n k t u x y = both x.1 y.1
@@ -226,9 +233,9 @@ run_after acts m n k t u x y = (run_one acts m n k t u x y).1
 pub item_answered : (it : Item) (outcomes others : List Outcome) (m n k : Machine) (t u : List ℕ) → AreAnswered outcomes
     → AreAnswered others → ItemStep it outcomes m t n → ItemStep it others m u k → outcomes ≡ others
 item_answered (item.Bytes bytes) outcomes others m n k t u good fine x y =
-    talks_answered bytes outcomes others m n k t u good fine x y
+    talks_answered bytes outcomes others m n k x.0 y.0 good fine x.1 y.1
 item_answered (item.Api method path body) outcomes others m n k t u good fine x y =
-    talks_answered (sent method path body) outcomes others m n k t u good fine x y
+    talks_answered (sent method path body) outcomes others m n k x.0 y.0 good fine x.1 y.1
 item_answered item.Nothing outcomes others m n k t u good fine x y = x.0 ∙ sym y.0
 item_answered (item.File name content) outcomes others m n k t u good fine x y = x.0 ∙ sym y.0
 item_answered (item.Lineage lineage) outcomes others m n k t u good fine x y = x.0 ∙ sym y.0

@@ -32,7 +32,8 @@ use Rattle.script_text.specs.declared.item.Item.TheVariants as item
 use Rattle.script_text.specs.declared.output.Misfit.{Misfit}
 use Rattle.script_text.specs.declared.output.Misfit.TheVariants as misfit
 use Rattle.script_text.specs.Output.{memory_line, misfit_line, register_line}
-use Rattle.script_output.specs.Output.{console_line, reply_line}
+use Rattle.script_output.specs.Output.{console_line}
+use Rattle.response_form.specs.Responses.{Response}
 use Rattle.flat_guest.specs.Guest.{Guest, is_actor}
 use Rattle.flat_guest.specs.Sound.{IsSound}
 use Rattle.flat_guest.specs.Steps.{Makes, is_given}
@@ -47,9 +48,9 @@ use Rattle.flat_machine.specs.Given.{reply_given}
 use Rattle.flat_machine.specs.Outcome.{AreAnswered, Outcome}
 use Rattle.flat_machine.specs.Outcome.Outcome.{Answered}
 use Rattle.flat_machine.specs.Machine.{Machine, console_of, drained, drained_guest, is_off, new_machine, running, running_by}
-use Rattle.flat_machine.specs.Items.{Answers, ItemStep, MemoryLine, Misfits, Moves, RegisterLine, Replies, RepliesLine, Shows, ShowsFrom, StepsLine, Talks, steps_text}
+use Rattle.flat_machine.specs.Items.{Answers, ItemStep, MemoryLine, Misfits, Moves, RegisterLine, Replies, RepliesLine, Shows, ShowsFrom, StepsLine, TalkLines, response_lines, steps_text}
 use Rattle.flat_machine.specs.Replay.{IsEnd, IsReplay, closed, closing, judged_script}
-use Rattle.flat_machine.specs.Requests.{Creates, Leaves, LeavesBy, Restores, RequestStep, Stores, allowed, answer_by, carried, configured, created, disk_of, halted, image_of, parent_in, loads_from, started_from}
+use Rattle.flat_machine.specs.Requests.{Creates, Leaves, LeavesBy, Restores, RequestStep, Stores, allowed, answer_by, carried, configured, created, disk_of, halted, image_of, parent_in, loads_from, respond, started_from}
 use Rattle.flat_machine.specs.Run.{Act, AllAnswered, OnBefore, Run, lines_done}
 use Rattle.flat_machine.proofs.Determined.{item_one}
 
@@ -122,10 +123,10 @@ drained_sound (Some g) sound = record { timer_on = sound.timer_on; harts_on = so
 -- ---- what is due is answered
 
 some_request : (given : Next) (m : Machine) → Sound m
-    → (text : List ℕ) × (n : Machine) × RequestStep Answered given m text n × Sound n
+    → (said : List Response) × (n : Machine) × RequestStep Answered given m said n × Sound n
 some_request given m sound =
     let left = some_result (allowed m given) m sound in
-    (reply_line (answer_by m (allowed m given)), left.0, (refl, left.1), left.2)
+    (respond given (answer_by m (allowed m given)), left.0, (refl, left.1), left.2)
 
 each_answered : (count : ℕ) → AreAnswered (each count Answered)
 each_answered zero = tt
@@ -145,7 +146,7 @@ record Said (bytes : List ℕ) (m : Machine) : Type 0 where
   outcomes : List Outcome
   text : List ℕ
   next : Machine
-  talk : Talks bytes outcomes m text next
+  talk : TalkLines bytes outcomes m text next
   good : AreAnswered outcomes
   sound : Sound next
 
@@ -153,9 +154,9 @@ some_talk : (bytes : List ℕ) (m : Machine) → Sound m → Said bytes m
 some_talk bytes m sound =
     let all = some_conversation RequestStep Answered Sound some_request (arrived m.connection bytes) m sound in record {
       outcomes = each all.0 Answered;
-      text = all.1;
+      text = response_lines all.1;
       next = record all.3 { connection = all.2 };
-      talk = (all.2, all.3, all.4, refl);
+      talk = (all.1, (all.2, all.3, all.4, refl), refl);
       good = each_answered all.0;
       sound = all.5;
     }

@@ -21,6 +21,7 @@ use Rattle.flat_machine.specs.Outcome.{Outcome}
 use Rattle.flat_machine.specs.Machine.{Machine, new_machine, running}
 use Rattle.flat_machine.specs.Items.{ItemStep, MemoryLine, PartStep, RegisterLine, RepliesLine, StepsLine, Talks, bytes_of}
 use Rattle.flat_machine.specs.Requests.{RequestStep}
+use Rattle.response_form.specs.Responses.{Response}
 use Rattle.flat_machine.specs.Run.{Act, Run}
 use Rattle.flat_machine.specs.Stops.{IsStopped, StopsBy, StopsInside}
 
@@ -62,14 +63,14 @@ memory_quiet None at len m n t x quiet = keeps x.1 quiet
 memory_quiet (Some g) at len m n t x quiet =
     by_either (is_ram (length g.memory.bytes) at len) (λ there. keeps there.1 quiet) (λ none. keeps none.1 quiet) x
 
-talks_quiet : (bytes : List ℕ) (outcomes : List Outcome) (m n : Machine) (t : List ℕ) → Talks bytes outcomes m t n → Quiet n
+talks_quiet : (bytes : List ℕ) (outcomes : List Outcome) (m n : Machine) (t : List Response) → Talks bytes outcomes m t n → Quiet n
 talks_quiet bytes outcomes m n t (d, mid, talk, leaves) =
     keeps leaves (quiet_after RequestStep outcomes (arrived m.connection bytes) d m mid t talk)
 
 item_quiet : (it : Item) (outcomes : List Outcome) (m n : Machine) (t : List ℕ) → ItemStep it outcomes m t n → Quiet m
     → Quiet n
-item_quiet (item.Bytes bytes) outcomes m n t x quiet = talks_quiet bytes outcomes m n t x
-item_quiet (item.Api method path body) outcomes m n t x quiet = talks_quiet (sent method path body) outcomes m n t x
+item_quiet (item.Bytes bytes) outcomes m n t x quiet = talks_quiet bytes outcomes m n x.0 x.1
+item_quiet (item.Api method path body) outcomes m n t x quiet = talks_quiet (sent method path body) outcomes m n x.0 x.1
 item_quiet item.Nothing outcomes m n t x quiet = keeps x.1.1 quiet
 item_quiet (item.File name content) outcomes m n t x quiet = keeps x.1.1 quiet
 item_quiet (item.Lineage lineage) outcomes m n t x quiet = keeps x.1.1 quiet
@@ -88,14 +89,17 @@ run_quiet (act ∷ acts) m n t quiet x =
 part_none : (it : Item) (part : List Outcome) (m n : Machine) (t : List ℕ) → Quiet m → bytes_of it ≡ [] → PartStep it part m t n
     → part ≡ []
 part_none it part m n t quiet none (inl nothing) = nothing.0
-part_none it part m n t quiet none (inr (d, mid, front, leaves)) =
-    absurd (no_front RequestStep part m.connection d m mid t quiet
-    (subst (λ (bytes : List ℕ). ConversationFront RequestStep part (arrived m.connection bytes) m t d mid) none front))
+part_none it part m n t quiet none (inr (said, (d, mid, front, leaves), is)) =
+    absurd (no_front RequestStep part m.connection d m mid said quiet
+    (subst (λ (bytes : List ℕ). ConversationFront RequestStep part (arrived m.connection bytes) m said d mid) none front))
 
 fault_at : (name : Object) (left : List (Option Item)) (part : List Outcome) (m n : Machine) (t : List ℕ) → Quiet m
     → StopsBy (Exit.Fault name) left part m → StopsInside left part m t n → part ≡ []
 fault_at object.Source left part m n t quiet stops inside = stops.1
 fault_at object.Sink left part m n t quiet stops inside = absurd stops
+fault_at object.Trace left part m n t quiet stops inside = absurd stops
+fault_at object.Listener left part m n t quiet stops inside = absurd stops
+fault_at object.Words left part m n t quiet stops inside = absurd stops
 fault_at object.Files left part m n t quiet (on, (file, content, more, is)) inside =
     part_none (item.File file content) part m n t quiet refl
     (subst (λ (l : List (Option Item)). StopsInside l part m t n) is inside)

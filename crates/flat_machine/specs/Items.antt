@@ -17,6 +17,8 @@ use Rattle.script_text.specs.declared.output.Misfit.{Misfit}
 use Rattle.script_text.specs.declared.output.Misfit.TheVariants as misfit
 use Rattle.script_text.specs.Output.{misfit_line, register_line, memory_line, waits_line}
 use Rattle.script_output.specs.Output.{console_line}
+use Rattle.response_form.specs.declared.form.ResponseForm.TheVariants.{Line}
+use Rattle.response_form.specs.Responses.{Response, all_written}
 use Rattle.guest_memory.specs.Memory.{read_from}
 use Rattle.guest_memory.specs.Ram.{is_ram}
 use Rattle.rv_supervisor.specs.declared.regs.Regs.{Regs}
@@ -38,19 +40,31 @@ bytes_of (item.Bytes bytes) = bytes
 bytes_of (item.Api method path body) = sent method path body
 bytes_of it = []
 
--- everything that the connection gives with these bytes is answered
-abbrev pub Talks : List ℕ → List Outcome → Machine → List ℕ → Machine → Type 0
-Talks bytes outcomes m text n =
+-- everything that the connection gives with these bytes is answered so
+abbrev pub Talks : List ℕ → List Outcome → Machine → List Response → Machine → Type 0
+Talks bytes outcomes m responses n =
     (after : Connection) × (mid : Machine)
-    × Conversation RequestStep outcomes (arrived m.connection bytes) m text after mid
+    × Conversation RequestStep outcomes (arrived m.connection bytes) m responses after mid
     × (n ≡ record mid { connection = after })
 
 -- only the first of it, and something is still due
-abbrev pub TalksFront : List ℕ → List Outcome → Machine → List ℕ → Machine → Type 0
-TalksFront bytes outcomes m text n =
+abbrev pub TalksFront : List ℕ → List Outcome → Machine → List Response → Machine → Type 0
+TalksFront bytes outcomes m responses n =
     (after : Connection) × (mid : Machine)
-    × ConversationFront RequestStep outcomes (arrived m.connection bytes) m text after mid
+    × ConversationFront RequestStep outcomes (arrived m.connection bytes) m responses after mid
     × (n ≡ record mid { connection = after })
+
+-- the lines of what was answered
+abbrev pub response_lines : List Response → List ℕ
+response_lines responses = all_written Line responses
+
+abbrev pub TalkLines : List ℕ → List Outcome → Machine → List ℕ → Machine → Type 0
+TalkLines bytes outcomes m text n =
+    (responses : List Response) × Talks bytes outcomes m responses n × (text ≡ response_lines responses)
+
+abbrev pub FrontLines : List ℕ → List Outcome → Machine → List ℕ → Machine → Type 0
+FrontLines bytes outcomes m text n =
+    (responses : List Response) × TalksFront bytes outcomes m responses n × (text ≡ response_lines responses)
 
 -- ---- events, and what is shown
 
@@ -139,11 +153,11 @@ QuietStep it m text n = ⊥
 
 -- from m the item, whose requests went so, writes the text and leaves n
 abbrev pub ItemStep : Item → List Outcome → Machine → List ℕ → Machine → Type 0
-ItemStep (item.Bytes bytes) outcomes m text n = Talks bytes outcomes m text n
-ItemStep (item.Api method path body) outcomes m text n = Talks (sent method path body) outcomes m text n
+ItemStep (item.Bytes bytes) outcomes m text n = TalkLines bytes outcomes m text n
+ItemStep (item.Api method path body) outcomes m text n = TalkLines (sent method path body) outcomes m text n
 ItemStep it outcomes m text n = (outcomes ≡ []) × QuietStep it m text n
 
 -- As far as an item came that was not done to its end: nothing of it, or the first of its requests.
 abbrev pub PartStep : Item → List Outcome → Machine → List ℕ → Machine → Type 0
 PartStep it outcomes m text n =
-    ((outcomes ≡ []) × (text ≡ []) × (n ≡ m)) ⊎ TalksFront (bytes_of it) outcomes m text n
+    ((outcomes ≡ []) × (text ≡ []) × (n ≡ m)) ⊎ FrontLines (bytes_of it) outcomes m text n

@@ -1,5 +1,5 @@
 -- What the flat machine makes of a request.
-use Rattle.std.specs.Prelude.{ℕ, ◌≡◌, ◌≢◌, ◌+◌, Bool, true, false, not, List, ◌∷◌, ◌++◌, length, Option, Some, None, option_and_then, option_map, Result, Ok, Err}
+use Rattle.std.specs.Prelude.{ℕ, ◌≡◌, ◌≢◌, ◌+◌, Bool, true, false, not, List, [], ◌∷◌, ◌++◌, length, Option, Some, None, option_and_then, option_map, Result, Ok, Err}
 use Rattle.std.specs.FinMap.{get, insert}
 use Rattle.vm_types.specs.declared.identity.Identity.{Identity}
 use Rattle.vm_outside.specs.Calls.{MakesFront}
@@ -31,7 +31,7 @@ use Rattle.api_rules.specs.Table.{boot_refusal, decision, unless}
 use Rattle.guest_memory.specs.Boot.{Loads, initrd_start}
 use Rattle.devtree.specs.declared.machine.InitrdPlace.{InitrdPlace}
 use Rattle.devtree.specs.Machine.{tree_bytes}
-use Rattle.script_output.specs.Output.{reply_line}
+use Rattle.response_form.specs.Responses.{Response}
 use Rattle.flat_guest.specs.Guest.{Guest, unwritten}
 use Rattle.flat_guest.specs.Start.{started, timer_restarted}
 use Rattle.snap_state.specs.declared.copy.StateCopy.{StateCopy}
@@ -244,11 +244,20 @@ Fails m it left n = ⊥
 
 -- ---- what is due
 
--- What is written and left where something is due, by how it went: answered by the machine; 500 where a call on the
+-- the connection ends with the answer to bytes that are no request
+abbrev pub closes : Next → Bool
+closes (next.Bad why) = true
+closes given = false
+
+abbrev pub respond : Next → Answer → List Response
+respond given answer = record { answer = answer; closes = closes given } ∷ []
+
+-- What is answered and left where something is due, by how it went: answered by the machine; 500 where a call on the
 -- files failed; 503 where there was no memory, which changes nothing.
-abbrev pub RequestStep : Outcome → Next → Machine → List ℕ → Machine → Type 0
-RequestStep Answered given m text n =
-    (text ≡ reply_line (answer_by m (allowed m given))) × LeavesBy m (allowed m given) n
-RequestStep (Failed left) given m text n =
-    (it : Change) × (decided m given ≡ Ok it) × Fails m it left n × (text ≡ reply_line (refused refusal.OutsideFailed))
-RequestStep NoMemory given m text n = (text ≡ reply_line (refused refusal.OutOfMemory)) × (n ≡ m)
+abbrev pub RequestStep : Outcome → Next → Machine → List Response → Machine → Type 0
+RequestStep Answered given m responses n =
+    (responses ≡ respond given (answer_by m (allowed m given))) × LeavesBy m (allowed m given) n
+RequestStep (Failed left) given m responses n =
+    (it : Change) × (decided m given ≡ Ok it) × Fails m it left n
+    × (responses ≡ respond given (refused refusal.OutsideFailed))
+RequestStep NoMemory given m responses n = (responses ≡ respond given (refused refusal.OutOfMemory)) × (n ≡ m)

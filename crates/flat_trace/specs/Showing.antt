@@ -5,19 +5,21 @@ use Rattle.vm_types.specs.declared.reply.Reply.{Reply}
 use Rattle.script_text.specs.declared.item.Item.{Item}
 use Rattle.script_text.specs.declared.item.Item.TheVariants as item
 use Rattle.script_output.specs.Output.{console_line}
+use Rattle.response_form.specs.declared.form.ResponseForm.TheVariants.{Http}
+use Rattle.response_form.specs.Responses.{Response, all_written}
 use Rattle.flat_guest.specs.Guest.{Guest}
 use Rattle.flat_machine.specs.Given.{reply_given}
-use Rattle.flat_machine.specs.Items.{Answers, ItemStep}
+use Rattle.flat_machine.specs.Items.{Answers, ItemStep, Talks, response_lines}
 use Rattle.flat_machine.specs.Machine.{Machine, console_of, is_off, running}
 use Rattle.flat_machine.specs.Outcome.{Outcome}
 use Rattle.flat_machine.specs.Run.{Act}
 
--- What an item shows: nothing; a new connection; these bytes of a connection, with the lines of what is answered to them;
--- or these bytes of the console, as they are.
+-- What an item shows: nothing; a new connection; these bytes of a connection, with what is answered to them; or these bytes
+-- of the console, as they are.
 pub data Out : Type 0 where
   Quiet : Out
   Opened : Out
-  Heard : List ℕ → List ℕ → Out
+  Heard : List ℕ → List Response → Out
   Shown : List ℕ → Out
 
 -- the event of an actor of the guest that runs, which may have turned itself off in the slice that the event is of
@@ -29,7 +31,7 @@ HasEvent (Some g) actor given m n = Answers g actor given m [] n
 abbrev pub Hears : Bool → List ℕ → List Outcome → Machine → Out → Machine → Type 0
 Hears true bytes outcomes m out n = (outcomes ≡ []) × (out ≡ Heard bytes []) × (n ≡ m)
 Hears false bytes outcomes m out n =
-    (text : List ℕ) × (out ≡ Heard bytes text) × ItemStep (item.Bytes bytes) outcomes m text n
+    (responses : List Response) × (out ≡ Heard bytes responses) × Talks bytes outcomes m responses n
 
 -- from m the item, whose requests went so, shows this and leaves n; a trace has no other items
 abbrev pub TraceStep : Item → List Outcome → Machine → Out → Machine → Type 0
@@ -67,9 +69,37 @@ shown (out ∷ outs) = shown_by out ++ shown outs
 -- what is said on connections
 abbrev pub said_by : Out → List Out
 said_by Opened = Opened ∷ []
-said_by (Heard bytes text) = Heard bytes text ∷ []
+said_by (Heard bytes responses) = Heard bytes responses ∷ []
 said_by out = []
 
 abbrev pub said : List Out → List Out
 said [] = []
 said (out ∷ outs) = said_by out ++ said outs
+
+-- what a connection gives and takes with these: the bytes, and the bytes of what is answered
+abbrev pub given_by : Out → List ℕ
+given_by (Heard bytes responses) = bytes
+given_by out = []
+
+abbrev pub given : List Out → List ℕ
+given [] = []
+given (out ∷ outs) = given_by out ++ given outs
+
+abbrev pub replied_by : Out → List ℕ
+replied_by (Heard bytes responses) = all_written Http responses
+replied_by out = []
+
+abbrev pub replied : List Out → List ℕ
+replied [] = []
+replied (out ∷ outs) = replied_by out ++ replied outs
+
+-- what a replay writes for it: the lines of what is answered, and of what is shown
+abbrev pub line_by : Out → List ℕ
+line_by Quiet = []
+line_by Opened = []
+line_by (Heard bytes responses) = response_lines responses
+line_by (Shown bytes) = console_line bytes
+
+abbrev pub lines : List Out → List ℕ
+lines [] = []
+lines (out ∷ outs) = line_by out ++ lines outs

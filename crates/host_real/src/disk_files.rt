@@ -22,7 +22,7 @@ struct Named {
 /// A file for each device, under the name that was attached. A call on a device without one is a failure, and so is
 /// one on a device whose name there was no memory for.
 #[derive(Drop)]
-pub struct DiskFiles<'a, R> {
+pub struct DiskFiles<'a, R: rt::Files> {
     rt: &'a R,
     files: Folder<'a, R>,
     names: Vec<Named>,

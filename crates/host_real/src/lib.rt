@@ -14,6 +14,7 @@ mod system_clock;
 #[cfg(test)]
 mod tests;
 mod trace_file;
+mod trace_lines;
 
 pub use disk_files::DiskFiles;
 pub use random_words::RandomWords;

@@ -1,21 +1,21 @@
 // A trace in a file.
 ghost use Rattle.std.specs.Prelude.{◌≡◌};
 
+use crate::trace_lines::TraceLines;
 use outside_real::counted::counted;
-use outside_real::tries;
-use script_text::{Item, write_item};
+use script_text::Item;
 use serve_host::Trace;
 use std::fs::File;
-use std::io::{ErrorKind, Write};
-use std::{io, rt};
+use std::rt;
 use vm_outside::Failed;
 
-/// Writes each item as a line of a script, and hands it to the system before it answers. Opening it takes the place of
-/// a file that was there. An item before that is a failure, and so is one that there is no memory for.
+/// Writes each item as a line of a script, and hands it to the system before anything that it shows is shown (`TraceLines`).
+/// Opening it takes the place of a file that was there. Before that nothing is kept. An item that there is no memory for is
+/// a failure.
 #[derive(Drop)]
 pub struct TraceFile<'a, R: rt::Files> {
     rt: &'a R,
-    file: Option<R::File>,
+    lines: Option<TraceLines<R>>,
     faults: u64,
 }
 
@@ -25,7 +25,7 @@ impl<'a, R: rt::Files + AllocGlobal> TraceFile<'a, R> {
     {
         TraceFile {
             rt,
-            file: None,
+            lines: None,
             faults: 0,
         }
     }
@@ -46,19 +46,14 @@ impl<'a, R: rt::Files + AllocGlobal> Trace for TraceFile<'a, R> {
 
     fn open(&mut self, path: &str) -> Result<(), Failed> {
         let file = counted(&mut self.faults, File::create(self.rt, path))?;
-        self.file = Some(file);
+        self.lines = Some(TraceLines::new(self.rt.alloc(), file));
         Ok(())
     }
 
     fn add(&mut self, item: &Item) -> Result<(), Failed> {
-        counted(&mut self.faults, add_line(self.rt, &mut self.file, item))
+        let Some(lines) = &mut self.lines else {
+            return Ok(());
+        };
+        counted(&mut self.faults, lines.add(self.rt.alloc(), item))
     }
-}
-
-fn add_line<R: AllocGlobal, W: Write>(rt: &R, file: &mut Option<W>, item: &Item) -> io::Result<()> {
-    let Some(file) = file else {
-        return Err(io::Error::from(ErrorKind::NotFound));
-    };
-    let line = write_item(rt.alloc(), item)?;
-    tries::write_whole(file, line.as_slice())
 }

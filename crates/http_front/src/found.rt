@@ -40,7 +40,7 @@ pub fn copy_next(
     requires { Tells stream.now spans.now found }
     ensures quiet { IfOk result (λ next. next ≡ Next.None → IsQuiet (live stream.now)) }
     ensures due { IfOk result (λ next. IsDue next → (d : Connection) × Takes (live stream.now) next d) }
-    ensures short { OnErr result ((given : Next) × (d : Connection) × Takes (live stream.now) given d) }
+    ensures short { OnErr result ((request : Request) × (d : Connection) × Takes (live stream.now) (Next.Request request) d) }
 {
     match found {
         Finding::TooFew(_) => Ok(Next::None),

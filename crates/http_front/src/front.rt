@@ -3,6 +3,7 @@ ghost use Rattle.std.specs.Prelude.{◌≡◌, ◌≤◌, ◌++◌, List, ℕ, t
 ghost use Rattle.http_front.specs.Told.{Holds};
 ghost use Rattle.http_stream.specs.Conversation.{IsDue, IsQuiet, Takes, arrived, new_connection};
 ghost use Rattle.http_stream.specs.Stream.{Connection, Judged};
+ghost use Rattle.http_stream.specs.declared.request.Request.{Request};
 
 use crate::found::{Finding, copy_next};
 use crate::head::make_room;
@@ -87,12 +88,12 @@ impl Front {
     }
 
     /// A copy of what the connection gives next, which stays on it; `None` where it gives nothing before more bytes
-    /// come, or has failed. Only the copy takes memory: an `Err` says that something is due.
+    /// come, or has failed. Only the copy takes memory: an `Err` says that a request is due.
     pub fn peek(&mut self) -> Result<Next, AllocError>
         ensures same { self.new ≡ self.old }
         ensures quiet { IfOk result (λ next. next ≡ Next.None → IsQuiet self.old) }
         ensures due { IfOk result (λ next. IsDue next → (d : Connection) × Takes self.old next d) }
-        ensures short { OnErr result ((given : Next) × (d : Connection) × Takes self.old given d) }
+        ensures short { OnErr result ((request : Request) × (d : Connection) × Takes self.old (Next.Request request) d) }
     {
         if self.failed {
             return Ok(Next::None);

@@ -59,12 +59,12 @@ takes_more c given d more takes =
 -- ---- conversations
 
 -- where each answer is determined, so is a conversation
-pub one_conversation : {W M : Type 0} (step : W → Next → M → List ℕ → M → Type 0) (hows : List W)
-    (c d e : Connection) (m n k : M) (s t : List ℕ)
+pub one_conversation : {W M A : Type 0} (step : W → Next → M → List A → M → Type 0) (hows : List W)
+    (c d e : Connection) (m n k : M) (s t : List A)
     → IsDetermined step → Conversation step hows c m s d n → Conversation step hows c m t e k
     → (s ≡ t) × (d ≡ e) × (n ≡ k)
 one_conversation step [] c d e m n k s t det a b = (a.2 ∙ sym b.2, a.1 ∙ sym b.1, a.3 ∙ sym b.3)
-one_conversation step (how ∷ hows) c d e m n k s t det (g, a, f, mid, r, takes, went, on, is) (h, b, p, other, q, grabs, goes, onward, be) =
+one_conversation {W} {M} {A} step (how ∷ hows) c d e m n k s t det (g, a, f, mid, r, takes, went, on, is) (h, b, p, other, q, grabs, goes, onward, be) =
     let same = takes_once c g h a b takes grabs in
     let goes_g : step how g m p other = subst (λ (x : Next). step how x m p other) (sym same.0) goes in
     let first = det how g m f p mid other went goes_g in
@@ -72,18 +72,18 @@ one_conversation step (how ∷ hows) c d e m n k s t det (g, a, f, mid, r, takes
     subst (λ (x : Connection). Conversation step hows x mid q e k) (sym same.1)
     (subst (λ x. Conversation step hows b x q e k) (sym first.1) onward) in
     let rest = one_conversation step hows a d e mid n k r q det on then_a in
-    (is ∙ (ap (λ (x : List ℕ). x ++ r) first.0 ∙ (ap (λ (x : List ℕ). p ++ x) rest.0 ∙ sym be)), rest.1, rest.2)
+    (is ∙ (ap (λ (x : List A). x ++ r) first.0 ∙ (ap (λ (x : List A). p ++ x) rest.0 ∙ sym be)), rest.1, rest.2)
 
 -- bytes in two pieces are answered as the whole is
-pub conversations_join : {W M : Type 0} (step : W → Next → M → List ℕ → M → Type 0) (hows others : List W)
-    (c d e : Connection) (more : List ℕ) (m n k : M) (s t : List ℕ)
+pub conversations_join : {W M A : Type 0} (step : W → Next → M → List A → M → Type 0) (hows others : List W)
+    (c d e : Connection) (more : List ℕ) (m n k : M) (s t : List A)
     → Conversation step hows c m s d n → Conversation step others (arrived d more) n t e k
     → Conversation step (hows ++ others) (arrived c more) m (s ++ t) e k
-conversations_join step [] others c d e more m n k s t (quiet, dc, se, nm) behind =
+conversations_join {W} {M} {A} step [] others c d e more m n k s t (quiet, dc, se, nm) behind =
     let one = subst (λ (x : Connection). Conversation step others (arrived x more) n t e k) dc behind in
     let two = subst (λ x. Conversation step others (arrived c more) x t e k) nm one in
-    subst (λ (x : List ℕ). Conversation step others (arrived c more) m (x ++ t) e k) (sym se) two
-conversations_join step (how ∷ hows) others c d e more m n k s t (g, a, f, mid, r, takes, went, on, is) behind = (
+    subst (λ (x : List A). Conversation step others (arrived c more) m (x ++ t) e k) (sym se) two
+conversations_join {W} {M} {A} step (how ∷ hows) others c d e more m n k s t (g, a, f, mid, r, takes, went, on, is) behind = (
   g,
   arrived a more,
   f,
@@ -92,12 +92,12 @@ conversations_join step (how ∷ hows) others c d e more m n k s t (g, a, f, mid
   takes_more c g a more takes,
   went,
   conversations_join step hows others a d e more mid n k r t on behind,
-  ap (λ (x : List ℕ). x ++ t) is ∙ append_assoc f r t,
+  ap (λ (x : List A). x ++ t) is ∙ append_assoc f r t,
 )
 
 -- how much is due is for the bytes to say, whoever answers it and how
-pub as_many_due : {W M : Type 0} (step : W → Next → M → List ℕ → M → Type 0) (hows others : List W)
-    (c d e : Connection) (m l n k : M) (s t : List ℕ)
+pub as_many_due : {W M A : Type 0} (step : W → Next → M → List A → M → Type 0) (hows others : List W)
+    (c d e : Connection) (m l n k : M) (s t : List A)
     → Conversation step hows c m s d n → Conversation step others c l t e k → length hows ≡ length others
 as_many_due step [] [] c d e m l n k s t a b = refl
 as_many_due step [] (other ∷ others) c d e m l n k s t a (h, b, p, mid, q, grabs, goes, onward, be) =
@@ -111,8 +111,8 @@ as_many_due step (how ∷ hows) (other ∷ others) c d e m l n k s t (g, a, f, m
     ap (λ (x : ℕ). suc x) (as_many_due step hows others a d e mid mid_b n k r q on then_a)
 
 -- then all is quiet
-pub quiet_after : {W M : Type 0} (step : W → Next → M → List ℕ → M → Type 0) (hows : List W) (c d : Connection) (m n : M)
-    (s : List ℕ) → Conversation step hows c m s d n → IsQuiet d
+pub quiet_after : {W M A : Type 0} (step : W → Next → M → List A → M → Type 0) (hows : List W) (c d : Connection) (m n : M)
+    (s : List A) → Conversation step hows c m s d n → IsQuiet d
 quiet_after step [] c d m n s (quiet, dc, se, nm) = subst IsQuiet (sym dc) quiet
 quiet_after step (how ∷ hows) c d m n s (g, a, f, mid, r, takes, went, on, is) = quiet_after step hows a d mid n r on
 
@@ -125,8 +125,8 @@ nothing_arrives c false is =
     arrived_live c [] is ∙ (λ i. record { pending = append-nil c.pending i; failed = sym is i })
 
 -- and stays so where no bytes come
-pub no_front : {W M : Type 0} (step : W → Next → M → List ℕ → M → Type 0) (hows : List W) (c d : Connection) (m n : M)
-    (s : List ℕ) → IsQuiet c → ConversationFront step hows (arrived c []) m s d n → ⊥
+pub no_front : {W M A : Type 0} (step : W → Next → M → List A → M → Type 0) (hows : List W) (c d : Connection) (m n : M)
+    (s : List A) → IsQuiet c → ConversationFront step hows (arrived c []) m s d n → ⊥
 no_front step [] c d m n s quiet (g, a, takes, dc, se, nm) =
     quiet_takes_none c g a quiet (subst (λ (x : Connection). Takes x g a) (nothing_arrives c c.failed refl) takes)
 no_front step (how ∷ hows) c d m n s quiet (g, a, f, mid, r, takes, went, on, is) =
@@ -138,11 +138,11 @@ each zero how = []
 each (suc count) how = how ∷ each count how
 
 -- where one way answers whatever is due, and keeps P of the machine, everything can be answered in that way
-module _ {W M : Type 0} (step : W → Next → M → List ℕ → M → Type 0) (how : W) (P : M → Type 0)
-    (answers : (given : Next) (m : M) → P m → (text : List ℕ) × (n : M) × step how given m text n × P n) where
+module _ {W M A : Type 0} (step : W → Next → M → List A → M → Type 0) (how : W) (P : M → Type 0)
+    (answers : (given : Next) (m : M) → P m → (text : List A) × (n : M) × step how given m text n × P n) where
   abbrev pub Completes : Connection → M → Type 0
   Completes c m =
-      (count : ℕ) × (text : List ℕ) × (d : Connection) × (n : M) × Conversation step (each count how) c m text d n × P n
+      (count : ℕ) × (text : List A) × (d : Connection) × (n : M) × Conversation step (each count how) c m text d n × P n
 
   nothing_due : (c : Connection) (m : M) → IsQuiet c → P m → Completes c m
   nothing_due c m quiet kept = (zero, [], c, m, (quiet, refl, refl, refl), kept)

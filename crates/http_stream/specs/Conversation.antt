@@ -28,28 +28,28 @@ pub record Takes (c : Connection) (given : Next) (d : Connection) : Type 0 where
 abbrev pub IsQuiet : Connection → Type 0
 IsQuiet c = (c.failed ≡ true) ⊎ ((c.failed ≡ false) × Judged c.pending (record { next = next.None; after = c }))
 
--- How what is due is answered by a machine m: `step how given m text n` writes the text and leaves the machine n. Of what
--- the connection c gives, everything is answered, each in its way, which leaves d and n.
-abbrev pub Conversation : {W M : Type 0} → (W → Next → M → List ℕ → M → Type 0)
-    → List W → Connection → M → List ℕ → Connection → M → Type 0
+-- How what is due is answered by a machine m: `step how given m text n` gives the text, as bytes or as replies, and
+-- leaves the machine n. Of what the connection c gives, everything is answered, each in its way, which leaves d and n.
+abbrev pub Conversation : {W M A : Type 0} → (W → Next → M → List A → M → Type 0)
+    → List W → Connection → M → List A → Connection → M → Type 0
 Conversation step [] c m text d n = IsQuiet c × (d ≡ c) × (text ≡ []) × (n ≡ m)
-Conversation {W} {M} step (how ∷ hows) c m text d n =
-    (given : Next) × (after : Connection) × (first : List ℕ) × (mid : M) × (rest : List ℕ)
+Conversation {W} {M} {A} step (how ∷ hows) c m text d n =
+    (given : Next) × (after : Connection) × (first : List A) × (mid : M) × (rest : List A)
     × Takes c given after × step how given m first mid × Conversation step hows after mid rest d n
     × (text ≡ first ++ rest)
 
 -- only the first of it, and something is still due
-abbrev pub ConversationFront : {W M : Type 0} → (W → Next → M → List ℕ → M → Type 0)
-    → List W → Connection → M → List ℕ → Connection → M → Type 0
+abbrev pub ConversationFront : {W M A : Type 0} → (W → Next → M → List A → M → Type 0)
+    → List W → Connection → M → List A → Connection → M → Type 0
 ConversationFront step [] c m text d n =
     (given : Next) × (after : Connection) × Takes c given after × (d ≡ c) × (text ≡ []) × (n ≡ m)
-ConversationFront {W} {M} step (how ∷ hows) c m text d n =
-    (given : Next) × (after : Connection) × (first : List ℕ) × (mid : M) × (rest : List ℕ)
+ConversationFront {W} {M} {A} step (how ∷ hows) c m text d n =
+    (given : Next) × (after : Connection) × (first : List A) × (mid : M) × (rest : List A)
     × Takes c given after × step how given m first mid × ConversationFront step hows after mid rest d n
     × (text ≡ first ++ rest)
 
 -- a way of answering does one thing
-abbrev pub IsDetermined : {W M : Type 0} → (W → Next → M → List ℕ → M → Type 0) → Type 0
-IsDetermined {W} {M} step =
-    (how : W) (given : Next) (m : M) (s t : List ℕ) (n k : M)
+abbrev pub IsDetermined : {W M A : Type 0} → (W → Next → M → List A → M → Type 0) → Type 0
+IsDetermined {W} {M} {A} step =
+    (how : W) (given : Next) (m : M) (s t : List A) (n k : M)
     → step how given m s n → step how given m t k → (s ≡ t) × (n ≡ k)

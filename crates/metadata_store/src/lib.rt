@@ -29,6 +29,3 @@ pub use error::StoreError;
 pub use store::Store;
 pub use tree::Tree;
 pub use version::MetadataVersion;
-
-#[cfg(test)]
-mod tests;

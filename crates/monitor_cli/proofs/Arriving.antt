@@ -3,12 +3,11 @@ use Rattle.std.proofs.Common.{◌≡◌, ℕ, ◌+◌, ◌-◌, ◌≤◌, nat_l
 use Rattle.std.proofs.Math.Seq.{take-append-add}
 use Rattle.std.proofs.lemmas.List.{append-nil}
 use Rattle.script_text.specs.declared.item.Item.{Item}
-use Rattle.vm_outside.specs.Calls.{FileCall}
 use Rattle.vm_outside.specs.Known.{FilesKnown, SinkKnown, Tells}
 use Rattle.script_text.specs.Lines.{judged}
 use Rattle.flat_machine.specs.Machine.{Machine, is_off}
 use Rattle.flat_machine.specs.Outcome.{failed_in}
-use Rattle.flat_machine.specs.Replay.{Plays, judged_script, longest_script}
+use Rattle.flat_machine.specs.Replay.{Plays, longest_script}
 use Rattle.flat_machine.specs.Run.{Act, OnBefore, Run, failures, lines_done}
 use Rattle.flat_machine.proofs.Pushed.{answered_push, failures_push, length_push, lines_push, on_push, run_push}
 use Rattle.monitor_core.specs.declared.monitor.Monitor.{Monitor}

@@ -1,6 +1,6 @@
 -- From a replay before its last line to what a command owes.
 use Rattle.std.specs.Prelude.{◌↔◌, IfErr, OnOk}
-use Rattle.std.proofs.Common.{◌≡◌, ◌≢◌, is_some, zero, suc, ◌+◌, ◌≤◌, inl, inr, ◌⊎◌, Result, Ok, Err, ℕ, Bool, true, false, refl, sym, ap, subst, ◌∙◌, List, [], ◌∷◌, ◌++◌, map, Option, Some, None, arith}
+use Rattle.std.proofs.Common.{◌≡◌, ◌≢◌, is_some, zero, suc, ◌+◌, inl, inr, ◌⊎◌, Result, Ok, Err, ℕ, Bool, true, false, refl, sym, ap, subst, ◌∙◌, List, [], ◌∷◌, ◌++◌, map, Option, Some, None, arith}
 use Rattle.std.proofs.lemmas.List.{append-nil}
 use Rattle.vm_types.specs.Causes.{Rose, RoseBy}
 use Rattle.vm_types.specs.declared.exit.Exit.{Exit}
@@ -90,6 +90,10 @@ complete Exit.Usage start before now rest sink files command so_far told good no
 complete (Exit.Fault object.Source) start before now rest sink files command so_far told good none = absurd (none.source told.source)
 complete (Exit.Fault object.Sink) start before now rest sink files command so_far told good none = absurd (none.sink told.sink)
 complete (Exit.Fault object.Files) start before now rest sink files command so_far told good none = absurd (none.files told.files)
+complete (Exit.Fault object.Trace) start before now rest sink files command so_far told good none = absurd told.named
+complete (Exit.Fault object.Listener) start before now rest sink files command so_far told good none = absurd told.named
+complete (Exit.Fault object.Words) start before now rest sink files command so_far told good none = absurd told.named
+complete (Exit.Torn at) start before now rest sink files command so_far told good none = absurd told.named
 complete (Exit.Script line) start before now rest sink files command so_far told good none =
     let replay = so_far.went.replay in
     absurd (no_none so_far.acts good.0 replay.ends.2 (sym good.1 ∙ replay.plays.lines ∙ ap (λ (l : List (Option Item)). lines_done so_far.acts ++ l) replay.ends.3))
@@ -104,6 +108,10 @@ sink_still : (exit : Exit) (n : ℕ) → (IsQuiet exit → ⊥) → SinkCause ex
 sink_still (Exit.Fault object.Sink) n never = absurd (never tt)
 sink_still (Exit.Fault object.Source) n never = refl
 sink_still (Exit.Fault object.Files) n never = refl
+sink_still (Exit.Fault object.Trace) n never = refl
+sink_still (Exit.Fault object.Listener) n never = refl
+sink_still (Exit.Fault object.Words) n never = refl
+sink_still (Exit.Torn at) n never = refl
 sink_still Exit.Done n never = refl
 sink_still Exit.Usage n never = refl
 sink_still (Exit.Script line) n never = refl
@@ -147,6 +155,7 @@ module _ (words : List (List ℕ)) (exit : Exit) (before mid : Known) (sink : Si
 
   told : Caused exit before now
   told = record {
+    named = caused.named;
     source = caused.source;
     sink = sink_told exit before.sink.health.faults mid.sink.health.faults sink.health.faults caused.sink called.lasts.later
         (λ is. ap (λ (s : SinkKnown). s.health.faults) (quiet is));

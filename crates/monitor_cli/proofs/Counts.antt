@@ -1,13 +1,13 @@
 -- Counts of faults that rise one after another, and causes by how a replay ended.
-use Rattle.std.proofs.Common.{◌≡◌, ℕ, ◌+◌, ◌≤◌, refl, ◌∙◌, ◌⊎◌, inl, inr, arith}
+use Rattle.std.proofs.Common.{◌≡◌, ℕ, ◌+◌, ◌≤◌, ◌∙◌, arith}
 use Rattle.std.proofs.Math.Nat.{le_refl}
 use Rattle.vm_types.specs.Causes.{Rose, RoseBy}
 use Rattle.vm_types.specs.declared.exit.Exit.{Exit}
 use Rattle.vm_types.specs.declared.exit.Object.TheVariants as object
-use Rattle.vm_outside.specs.Known.{Health, Lasts, Tells}
+use Rattle.vm_outside.specs.Known.{Health, Lasts}
 use Rattle.monitor_cli.specs.Answering.{IsClosing}
-use Rattle.monitor_cli.specs.Known.{FilesCause, SinkCause, SinkTold, SourceCause}
-use Rattle.monitor_cli.specs.Lines.{IsLinesEnd}
+use Rattle.monitor_cli.specs.Known.{FilesCause, IsReplayEnd, SinkCause, SinkTold, SourceCause}
+use Rattle.monitor_cli.specs.Lines.{IsLinesEnd, IsRunsEnd}
 use Rattle.monitor_cli.specs.Taking.{IsQuiet}
 
 pub rose_more : (n k i j l : ℕ) → RoseBy n i j → RoseBy k j l → RoseBy (n + k) i l
@@ -39,6 +39,10 @@ pub source_stays : (exit : Exit) (i j : ℕ) → IsLinesEnd exit → j ≡ i →
 source_stays (Exit.Fault object.Source) i j end same = absurd end
 source_stays (Exit.Fault object.Sink) i j end same = same
 source_stays (Exit.Fault object.Files) i j end same = same
+source_stays (Exit.Fault object.Trace) i j end same = absurd end
+source_stays (Exit.Fault object.Listener) i j end same = absurd end
+source_stays (Exit.Fault object.Words) i j end same = absurd end
+source_stays (Exit.Torn at) i j end same = absurd end
 source_stays Exit.Done i j end same = same
 source_stays Exit.Usage i j end same = same
 source_stays (Exit.Script line) i j end same = same
@@ -50,6 +54,10 @@ sink_told (Exit.Fault object.Sink) i mid j cause later quiet = rose_later i mid 
 sink_told Exit.Done i mid j cause later quiet = quiet tt ∙ cause
 sink_told (Exit.Fault object.Source) i mid j cause later quiet = tt
 sink_told (Exit.Fault object.Files) i mid j cause later quiet = tt
+sink_told (Exit.Fault object.Trace) i mid j cause later quiet = tt
+sink_told (Exit.Fault object.Listener) i mid j cause later quiet = tt
+sink_told (Exit.Fault object.Words) i mid j cause later quiet = tt
+sink_told (Exit.Torn at) i mid j cause later quiet = tt
 sink_told Exit.Usage i mid j cause later quiet = tt
 sink_told (Exit.Script line) i mid j cause later quiet = tt
 sink_told Exit.OutOfMemory i mid j cause later quiet = tt
@@ -61,6 +69,10 @@ closing_source (Exit.Fault object.Sink) i j is same = same
 closing_source Exit.OutOfMemory i j is same = same
 closing_source (Exit.Fault object.Source) i j is same = absurd is
 closing_source (Exit.Fault object.Files) i j is same = absurd is
+closing_source (Exit.Fault object.Trace) i j is same = absurd is
+closing_source (Exit.Fault object.Listener) i j is same = absurd is
+closing_source (Exit.Fault object.Words) i j is same = absurd is
+closing_source (Exit.Torn at) i j is same = absurd is
 closing_source Exit.Usage i j is same = absurd is
 closing_source (Exit.Script line) i j is same = absurd is
 
@@ -70,6 +82,10 @@ closing_sink (Exit.Fault object.Sink) i mid j is same cause = omega (arith, same
 closing_sink Exit.OutOfMemory i mid j is same cause = cause ∙ same
 closing_sink (Exit.Fault object.Source) i mid j is same cause = absurd is
 closing_sink (Exit.Fault object.Files) i mid j is same cause = absurd is
+closing_sink (Exit.Fault object.Trace) i mid j is same cause = absurd is
+closing_sink (Exit.Fault object.Listener) i mid j is same cause = absurd is
+closing_sink (Exit.Fault object.Words) i mid j is same cause = absurd is
+closing_sink (Exit.Torn at) i mid j is same cause = absurd is
 closing_sink Exit.Usage i mid j is same cause = absurd is
 closing_sink (Exit.Script line) i mid j is same cause = absurd is
 
@@ -79,5 +95,36 @@ closing_files (Exit.Fault object.Sink) i j is = tt
 closing_files Exit.OutOfMemory i j is = tt
 closing_files (Exit.Fault object.Source) i j is = absurd is
 closing_files (Exit.Fault object.Files) i j is = absurd is
+closing_files (Exit.Fault object.Trace) i j is = absurd is
+closing_files (Exit.Fault object.Listener) i j is = absurd is
+closing_files (Exit.Fault object.Words) i j is = absurd is
+closing_files (Exit.Torn at) i j is = absurd is
 closing_files Exit.Usage i j is = absurd is
 closing_files (Exit.Script line) i j is = absurd is
+
+-- a replay's ends
+pub runs_named : (exit : Exit) → IsRunsEnd exit → IsReplayEnd exit
+runs_named (Exit.Fault object.Source) end = tt
+runs_named (Exit.Fault object.Sink) end = tt
+runs_named (Exit.Fault object.Files) end = tt
+runs_named (Exit.Fault object.Trace) end = absurd end
+runs_named (Exit.Fault object.Listener) end = absurd end
+runs_named (Exit.Fault object.Words) end = absurd end
+runs_named (Exit.Torn at) end = absurd end
+runs_named Exit.Done end = absurd end
+runs_named Exit.Usage end = absurd end
+runs_named (Exit.Script line) end = tt
+runs_named Exit.OutOfMemory end = tt
+
+pub closing_named : (exit : Exit) → IsClosing exit → IsReplayEnd exit
+closing_named Exit.Done is = tt
+closing_named (Exit.Fault object.Sink) is = tt
+closing_named Exit.OutOfMemory is = tt
+closing_named (Exit.Fault object.Source) is = absurd is
+closing_named (Exit.Fault object.Files) is = absurd is
+closing_named (Exit.Fault object.Trace) is = absurd is
+closing_named (Exit.Fault object.Listener) is = absurd is
+closing_named (Exit.Fault object.Words) is = absurd is
+closing_named (Exit.Torn at) is = absurd is
+closing_named Exit.Usage is = absurd is
+closing_named (Exit.Script line) is = absurd is

@@ -1,5 +1,5 @@
 -- A script that is done, and its closing text.
-use Rattle.std.proofs.Common.{◌≡◌, ℕ, ◌+◌, ◌≤◌, ◌⊎◌, nat_le, Bool, true, cond, List, [], ◌∷◌, ◌++◌, length, take, Option, Some, None, refl, sym, ap, subst, ◌∙◌, inl, inr, append_assoc, arith}
+use Rattle.std.proofs.Common.{◌≡◌, ℕ, ◌+◌, ◌≤◌, ◌⊎◌, Bool, true, cond, List, [], ◌∷◌, ◌++◌, length, take, Option, Some, None, refl, sym, ap, subst, ◌∙◌, inl, inr, append_assoc}
 use Rattle.std.proofs.lemmas.Bool.{le-leb}
 use Rattle.std.proofs.lemmas.List.{append-nil}
 use Rattle.vm_types.specs.declared.exit.Exit.{Exit}
@@ -14,7 +14,7 @@ use Rattle.flat_machine.specs.Run.{lines_done}
 use Rattle.monitor_cli.specs.Answering.{ClosesBy}
 use Rattle.monitor_cli.specs.Known.{Known}
 use Rattle.monitor_cli.specs.Lines.{BeforeLast, Finished, Reached}
-use Rattle.monitor_cli.specs.Reading.{HasRead, ReadsBy}
+use Rattle.monitor_cli.specs.Reading.{HasRead}
 use Rattle.monitor_cli.specs.declared.lines.ScriptRun.{ScriptRun}
 use Rattle.monitor_cli.proofs.Arriving.{spread}
 use Rattle.monitor_cli.proofs.Counts.{none_more}
@@ -151,5 +151,9 @@ module _ (start : Machine) (before : Known) (rest : List ℕ) (run : ScriptRun) 
   }
   closes (Exit.Fault object.Source) now wrote = absurd wrote
   closes (Exit.Fault object.Files) now wrote = absurd wrote
+  closes (Exit.Fault object.Trace) now wrote = absurd wrote
+  closes (Exit.Fault object.Listener) now wrote = absurd wrote
+  closes (Exit.Fault object.Words) now wrote = absurd wrote
+  closes (Exit.Torn at) now wrote = absurd wrote
   closes (Exit.Script line) now wrote = absurd wrote
   closes Exit.Usage now wrote = absurd wrote

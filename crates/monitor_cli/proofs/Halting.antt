@@ -1,5 +1,5 @@
 -- A replay that ends inside its script: at a line that is none, at a host object's failure, or for want of memory.
-use Rattle.std.proofs.Common.{◌≡◌, ℕ, ◌+◌, ◌<◌, ◌≤◌, nat_le, Bool, true, false, cond, List, [], ◌∷◌, ◌++◌, length, take, Option, Some, None, refl, sym, ap, subst, ◌∙◌, inl, inr, append_assoc, arith, length-append}
+use Rattle.std.proofs.Common.{◌≡◌, ℕ, ◌+◌, ◌<◌, nat_le, Bool, false, cond, List, [], ◌∷◌, ◌++◌, length, take, Option, Some, None, refl, sym, ap, subst, ◌∙◌, inl, inr, append_assoc, arith, length-append}
 use Rattle.std.proofs.Math.Seq.{take-append_seam}
 use Rattle.std.proofs.lemmas.Bool.Decides.{nat_tests}
 use Rattle.std.proofs.lemmas.List.{append-nil}
@@ -9,7 +9,6 @@ use Rattle.vm_types.specs.declared.exit.Object.TheVariants as object
 use Rattle.script_text.specs.declared.item.Item.{Item}
 use Rattle.vm_outside.specs.Known.{FilesKnown, SinkKnown, SourceKnown, Tells}
 use Rattle.script_text.specs.Lines.{judged}
-use Rattle.script_output.specs.Output.{last_line}
 use Rattle.flat_machine.specs.Machine.{AreFilesOf, Machine, is_off}
 use Rattle.flat_machine.specs.Outcome.{failed_in}
 use Rattle.flat_machine.specs.Replay.{judged_script, longest_script}
@@ -184,6 +183,10 @@ module _ (start : Machine) (before : Known) (came rest : List ℕ) (run : Script
         subst (λ (l : List ℕ). BeforeLast (Exit.Fault object.Source) start before l sink files) (is ∙ sym (by told)) (source_failed empty on)
     past (Exit.Fault object.Files) by = absurd by
     past (Exit.Fault object.Sink) by = absurd by
+    past (Exit.Fault object.Trace) by = absurd by
+    past (Exit.Fault object.Listener) by = absurd by
+    past (Exit.Fault object.Words) by = absurd by
+    past (Exit.Torn at) by = absurd by
     past Exit.OutOfMemory by = absurd by
     past Exit.Done by = absurd by
     past Exit.Usage by = absurd by
@@ -310,6 +313,10 @@ module _ (start : Machine) (before : Known) (came rest : List ℕ) (run : Script
     item_ends (Exit.Fault object.Files) ends = files_failed ends.0 ends.1
     item_ends (Exit.Fault object.Sink) ends = sink_failed ends
     item_ends (Exit.Fault object.Source) ends = absurd ends
+    item_ends (Exit.Fault object.Trace) ends = absurd ends
+    item_ends (Exit.Fault object.Listener) ends = absurd ends
+    item_ends (Exit.Fault object.Words) ends = absurd ends
+    item_ends (Exit.Torn at) ends = absurd ends
     item_ends Exit.OutOfMemory ends = memory_wanted ends.0 ends.1
     item_ends Exit.Done ends = absurd ends
     item_ends Exit.Usage ends = absurd ends

@@ -5,3 +5,4 @@ mod EndTexts
 mod Finishing
 mod Halting
 mod Parts
+mod TornLines

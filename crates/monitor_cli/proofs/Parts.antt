@@ -1,5 +1,5 @@
 -- A sink that takes a front of a text.
-use Rattle.std.proofs.Common.{◌≡◌, ◌≢◌, ◌≤◌, ◌<◌, ◌+◌, ◌⊎◌, inl, inr, ℕ, List, [], ◌∷◌, ◌++◌, length, take, drop, Result, Ok, Err, take-append-drop, length-drop, refl, sym, ap, subst, ◌∙◌, append_assoc, arith, length-append}
+use Rattle.std.proofs.Common.{◌≡◌, ◌≢◌, ◌≤◌, ◌<◌, ◌+◌, ◌⊎◌, inl, inr, ℕ, List, [], ◌++◌, length, take, drop, Result, Ok, Err, take-append-drop, length-drop, refl, sym, ap, subst, ◌∙◌, append_assoc, arith, length-append}
 use Rattle.std.proofs.Math.Seq.{take-append-add}
 use Rattle.std.proofs.lemmas.List.{append-nil, take-append-le}
 use Rattle.vm_types.specs.Causes.{Rose}
@@ -96,6 +96,18 @@ module _ (before mid now : SinkKnown) (answers : List ℕ) {E : Type 0} (result 
       record { part = t.part; rest = t.rest; took = t.took; parts = t.parts; short = t.short; cause = t.cause }
   told_text (Exit.Fault object.Files) same quiet takes called =
       let t = by_last (Exit.Fault object.Files) same takes called in
+      record { part = t.part; rest = t.rest; took = t.took; parts = t.parts; short = t.short; cause = t.cause }
+  told_text (Exit.Fault object.Trace) same quiet takes called =
+      let t = by_last (Exit.Fault object.Trace) same takes called in
+      record { part = t.part; rest = t.rest; took = t.took; parts = t.parts; short = t.short; cause = t.cause }
+  told_text (Exit.Fault object.Listener) same quiet takes called =
+      let t = by_last (Exit.Fault object.Listener) same takes called in
+      record { part = t.part; rest = t.rest; took = t.took; parts = t.parts; short = t.short; cause = t.cause }
+  told_text (Exit.Fault object.Words) same quiet takes called =
+      let t = by_last (Exit.Fault object.Words) same takes called in
+      record { part = t.part; rest = t.rest; took = t.took; parts = t.parts; short = t.short; cause = t.cause }
+  told_text (Exit.Torn at) same quiet takes called =
+      let t = by_last (Exit.Torn at) same takes called in
       record { part = t.part; rest = t.rest; took = t.took; parts = t.parts; short = t.short; cause = t.cause }
   told_text Exit.Done same quiet takes called =
       let t = by_last Exit.Done same takes called in

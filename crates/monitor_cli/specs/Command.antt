@@ -1,5 +1,5 @@
 -- What the program owes for its words.
-use Rattle.std.specs.Prelude.{◌≡◌, ◌↔◌, ◌⊎◌, ℕ, Bool, true, false, List, [], ◌++◌, is_some, map, Option, Some}
+use Rattle.std.specs.Prelude.{◌≡◌, ◌↔◌, ◌⊎◌, ℕ, Bool, true, false, List, is_some, map, Some}
 use Rattle.vm_types.specs.declared.exit.Exit.{Exit}
 use Rattle.script_text.specs.declared.item.Item.{Item}
 use Rattle.vm_outside.specs.Known.{Tells}
@@ -30,7 +30,7 @@ pub record Unbegun (exit : Exit) (before now : Known) : Type 0 where
 -- usage: Usage exactly where the words are no command, and then its last line is all that is done.
 -- replayed: else the replay equals the flat machine of the id that the words give, where the objects tell their content.
 -- told: a fault is named only where that object's count rose in this call; those of source and sink are all named, but
--- for a sink that failed at the last line.
+-- for a sink that failed at the last line. No other object is named, and no slice.
 -- complete: a command, a script of items and no failure come to the script's end, or to want of memory.
 -- lasts: what told its content still does, and no count has fallen.
 pub record Commanded (words : List (List ℕ)) (exit : Exit) (before now : Known) : Type 0 where

@@ -52,14 +52,24 @@ abbrev pub FilesCause : Exit → ℕ → ℕ → Type 0
 FilesCause (Exit.Fault object.Files) before now = Rose before now
 FilesCause exit before now = Unit {0}
 
+-- a replay asks no other object, and makes no slices
+abbrev pub IsReplayEnd : Exit → Type 0
+IsReplayEnd (Exit.Fault object.Trace) = ⊥
+IsReplayEnd (Exit.Fault object.Listener) = ⊥
+IsReplayEnd (Exit.Fault object.Words) = ⊥
+IsReplayEnd (Exit.Torn at) = ⊥
+IsReplayEnd exit = Unit {0}
+
 -- before the last line: each fault that is named has its cause, and those of source and sink are named
 pub record CausedSoFar (exit : Exit) (before now : Known) : Type 0 where
+  pub named : IsReplayEnd exit
   pub source : SourceCause exit before.source.health.faults now.source.health.faults
   pub sink : SinkCause exit before.sink.health.faults now.sink.health.faults
   pub files : FilesCause exit before.files.health.faults now.files.health.faults
 
 -- and at the end
 pub record Caused (exit : Exit) (before now : Known) : Type 0 where
+  pub named : IsReplayEnd exit
   pub source : SourceCause exit before.source.health.faults now.source.health.faults
   pub sink : SinkTold exit before.sink.health.faults now.sink.health.faults
   pub files : FilesCause exit before.files.health.faults now.files.health.faults

@@ -13,7 +13,7 @@ use Rattle.flat_machine.specs.Run.{Act, AllAnswered, OnBefore, Run, failures, li
 use Rattle.monitor_core.specs.declared.monitor.Monitor.{Monitor}
 use Rattle.monitor_core.specs.State.{IsMonitor}
 use Rattle.monitor_cli.specs.Counting.{Counted}
-use Rattle.monitor_cli.specs.Known.{Known}
+use Rattle.monitor_cli.specs.Known.{IsReplayEnd, Known}
 use Rattle.monitor_cli.specs.Replay.{Went}
 use Rattle.monitor_cli.specs.declared.lines.Paused.{Paused}
 use Rattle.monitor_cli.specs.declared.lines.Paused.TheVariants.{Off, Empty}
@@ -65,7 +65,7 @@ PausedBy Empty held monitor =
 abbrev pub IsRunsEnd : Exit → Type 0
 IsRunsEnd Exit.Done = ⊥
 IsRunsEnd Exit.Usage = ⊥
-IsRunsEnd exit = Unit {0}
+IsRunsEnd exit = IsReplayEnd exit
 
 abbrev pub IsLinesEnd : Exit → Type 0
 IsLinesEnd (Exit.Fault object.Source) = ⊥

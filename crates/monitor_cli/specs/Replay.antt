@@ -9,7 +9,6 @@ use Rattle.gate_file.specs.Runs.{save_calls}
 use Rattle.vm_types.specs.declared.exit.Exit.{Exit}
 use Rattle.vm_types.specs.declared.exit.Object.TheVariants as object
 use Rattle.script_text.specs.declared.item.Item.{Item}
-use Rattle.script_output.specs.Output.{last_line}
 use Rattle.flat_machine.specs.Machine.{AreFilesOf, Machine}
 use Rattle.flat_machine.specs.Outcome.{Outcome}
 use Rattle.flat_machine.specs.Replay.{IsReplay}

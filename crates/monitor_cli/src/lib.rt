@@ -1,9 +1,9 @@
-//! The programs' commands: a script from a source, its answers to a sink, over any files.
+//! The command `replay`: a script from a source, its answers to a sink, over any files.
 //!
-//! `firecracker_main` judges a command's words and does it. `replay_main` is the one command so far: the status, the
-//! bytes that the sink took and what the files hold are those of the flat machine's run over the script's lines,
-//! and where a host object failed or memory was wanted, the answers so far and the reason. Read `top` first, then
-//! `replaying`, which joins a script's run (`script`, `lines`, `items`) and its ending.
+//! `replay_main` judges a command's words and replays: the status, the bytes that the sink took and what the files hold are
+//! those of the flat machine's run over the script's lines, and where a host object failed or memory was wanted, the answers
+//! so far and the reason. Read `top` first, then `replaying`, which joins a script's run (`script`, `lines`, `items`) and its
+//! ending.
 #![tactic(auto)]
 
 mod closing;
@@ -16,6 +16,7 @@ mod script;
 mod top;
 mod words;
 
+pub use last_line::write_last;
 pub use outside::Outside;
-pub use top::{firecracker_main, replay_main};
-pub use words::NoWords;
+pub use top::{refuse, replay_main};
+pub use words::{DEFAULT_ID, NoWords, is_id};

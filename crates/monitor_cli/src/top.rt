@@ -1,7 +1,7 @@
-// The top calls: a command's words, and what it does.
-ghost use Rattle.std.specs.Prelude.{◌≡◌, ◌≢◌, ◌↔◌, ℕ, IfErr, IfOk, List, Some, false, map, string_bytes};
+// The top call of a replay: its words, and what it does.
+ghost use Rattle.std.specs.Prelude.{◌≡◌, ◌≢◌, ◌↔◌, ℕ, List, Some, false, map, string_bytes};
 ghost use Rattle.flat_machine.specs.Machine.{new_machine};
-ghost use Rattle.monitor_cli.specs.Command.{Commanded, Unbegun, Wordless, is_command};
+ghost use Rattle.monitor_cli.specs.Command.{Commanded, Unbegun, is_command};
 ghost use Rattle.monitor_cli.specs.Known.{AllLast, AllTell, CausedSoFar, all_known};
 ghost use Rattle.monitor_cli.specs.Lines.{BeforeLast};
 ghost use Rattle.monitor_cli.specs.Taking.{IsQuiet};
@@ -10,34 +10,13 @@ ghost use Rattle.monitor_cli.specs.Words.{replay_id};
 use crate::last_line::write_last;
 use crate::outside::Outside;
 use crate::replaying::replay;
-use crate::words::{NoWords, replay_id};
+use crate::words::replay_id;
 use std::alloc::Global;
 use vm_outside::{Files, Sink, Source};
 use vm_types::{Exit, TextList};
 
-/// The command of these words, which are those behind the program's name: `replay [--id ID]`, and so far no other. Where the words
-/// can't be had, the last line that says so is all that is written.
-pub fn firecracker_main<I: Source, O: Sink, F: Files>(
-    alloc: Global,
-    words: Result<Vec<String>, NoWords>,
-    out: &mut Outside<I, O, F>,
-) -> Exit
-    ensures command { IfOk words (λ words. Commanded (map string_bytes words.items) result
-        (all_known (I.known out.old.source) (O.known out.old.sink) (F.known out.old.files))
-        (all_known (I.known out.new.source) (O.known out.new.sink) (F.known out.new.files))) }
-    ensures wordless { IfErr words (λ why. Wordless why result
-        (all_known (I.known out.old.source) (O.known out.old.sink) (F.known out.old.files))
-        (all_known (I.known out.new.source) (O.known out.new.sink) (F.known out.new.files))) }
-    ensures unread { result ≡ Exit.Usage → (out.new.source ≡ out.old.source) × (out.new.files ≡ out.old.files) }
-{
-    match words {
-        Ok(words) => replay_main(alloc, &words, out),
-        Err(why) => refuse(why.exit(), out),
-    }
-}
-
-// Ends so before a command is begun.
-fn refuse<I: Source, O: Sink, F: Files>(exit: Exit, out: &mut Outside<I, O, F>) -> Exit
+/// Ends so before a command is begun: the last line that says so is all that is written.
+pub fn refuse<I: Source, O: Sink, F: Files>(exit: Exit, out: &mut Outside<I, O, F>) -> Exit
     ensures ends { result ≡ exit }
     ensures unbegun { (IsQuiet exit → ⊥) → Unbegun exit
         (all_known (I.known out.old.source) (O.known out.old.sink) (F.known out.old.files))
@@ -47,7 +26,8 @@ fn refuse<I: Source, O: Sink, F: Files>(exit: Exit, out: &mut Outside<I, O, F>) 
         (all_known (I.known out.old.source) (O.known out.old.sink) (F.known out.old.files))
         (all_known (I.known out.new.source) (O.known out.new.sink) (F.known out.new.files)) }
 {
-    let _ = write_last(&mut out.sink, exit);
+    let last = exit;
+    let _ = write_last(&mut out.sink, last);
     exit
 }
 
@@ -67,7 +47,8 @@ pub fn replay_main<I: Source, O: Sink, F: Files>(
     ensures unread { result ≡ Exit.Usage → (out.new.source ≡ out.old.source) × (out.new.files ≡ out.old.files) }
 {
     let exit = run_command(alloc, words, out);
-    let _ = write_last(&mut out.sink, exit);
+    let last = exit;
+    let _ = write_last(&mut out.sink, last);
     exit
 }
 

@@ -29,7 +29,7 @@ impl NoWords {
 }
 
 /// The id of a machine that is given none.
-const DEFAULT_ID: &str = "anonymous-instance";
+pub const DEFAULT_ID: &str = "anonymous-instance";
 
 /// The id that the words of the command `replay [--id ID]` give the machine; none where they are no such command.
 pub fn replay_id<'a>(words: &'a [String]) -> Option<&'a str>
@@ -57,8 +57,8 @@ fn id_in<'a>(options: &'a [String]) -> Option<&'a str>
     }
 }
 
-// 1 to 64 letters and digits of ASCII and `-`.
-fn is_id(id: &str) -> bool
+/// Whether this can be a machine's id: 1 to 64 letters and digits of ASCII and `-`.
+pub fn is_id(id: &str) -> bool
     ensures { result ≡ is_id id.now }
 {
     let bytes = id.as_bytes();

@@ -1,5 +1,5 @@
 -- What an item makes of the monitor is what it makes of each machine that it is.
-use Rattle.std.proofs.Common.{◌≡◌, ℕ, ◌+◌, ◌≤◌, arith, refl, sym, ap, subst, ◌∙◌, List, [], ◌++◌, Result, Ok, Err, inl, inr}
+use Rattle.std.proofs.Common.{◌≡◌, ℕ, ◌+◌, arith, refl, sym, ap, subst, ◌∙◌, List, [], ◌++◌, Result, Ok, Err, inl, inr}
 use Rattle.std.proofs.lemmas.Result.{err_from_is_err_and}
 use Rattle.std.specs.Prelude.{IfErr, OnErr}
 use Rattle.std.specs.Result.{IsErrAnd}
@@ -9,7 +9,7 @@ use Rattle.vm_types.specs.Saved.{Saved, SameOthers}
 use Rattle.vm_types.specs.declared.ids.ActorId.{ActorId}
 use Rattle.vm_outside.specs.Calls.{FileCall, MakesFront}
 use Rattle.vm_outside.specs.Filing.{SameFiles}
-use Rattle.vm_outside.specs.Known.{FilesKnown, Lasts, Tells}
+use Rattle.vm_outside.specs.Known.{FilesKnown, Tells}
 use Rattle.gate_file.specs.Runs.{RunsAll, RunsPart, save_calls}
 use Rattle.http_stream.specs.Stream.{Connection}
 use Rattle.http_stream.specs.Sent.{sent}
@@ -20,14 +20,16 @@ use Rattle.script_output.specs.Output.{console_line}
 use Rattle.flat_machine.specs.Outcome as flat
 use Rattle.flat_machine.specs.Machine.{AreFilesOf, Machine, console_of, drained, running}
 use Rattle.flat_machine.specs.Given.{reply_given}
-use Rattle.flat_machine.specs.Items.{ItemStep, RepliesLine, StepsLine, Talks, TalksFront, bytes_of}
+use Rattle.flat_machine.specs.Items.{FrontLines, ItemStep, RepliesLine, StepsLine, TalkLines, Talks, TalksFront, bytes_of}
+use Rattle.response_form.specs.declared.form.ResponseForm.{ResponseForm}
+use Rattle.response_form.specs.declared.form.ResponseForm.TheVariants.{Line}
 use Rattle.flat_machine.specs.Requests.{RequestStep}
 use Rattle.monitor_machine.specs.declared.machine.LiveMachine.{LiveMachine}
-use Rattle.monitor_machine.specs.State.{IsLive, IsMachine}
+use Rattle.monitor_machine.specs.State.{IsMachine}
 use Rattle.monitor_core.specs.declared.item_error.ItemError.{ItemError}
 use Rattle.monitor_core.specs.declared.monitor.Monitor.{Monitor}
 use Rattle.monitor_core.specs.Going.{CallsFiles, CountsFaults, Gave, GaveFront, GivesFiling, IsFile, ItemCause, ItemGoes, ItemStops, Leads, LeavesFiles, error_failures}
-use Rattle.monitor_core.specs.State.{IsBeside, IsMonitor, IsOwn}
+use Rattle.monitor_core.specs.State.{IsBeside, IsMonitor}
 use Rattle.monitor_core.specs.Talking.{HasHalted, HasStopped, HasTalked}
 use Rattle.monitor_core.proofs.Talks.{begins_due, begins_quiet}
 
@@ -40,7 +42,7 @@ pub beside : {monitor : Monitor} {known : FilesKnown} {m : Machine} → IsMonito
 beside is = record { own = is.own.live; files = is.files }
 
 -- and with it
-with_front : (machine : LiveMachine) (monitor : Monitor) (known : FilesKnown) (n : Machine) → IsMachine machine known n
+pub with_front : (machine : LiveMachine) (monitor : Monitor) (known : FilesKnown) (n : Machine) → IsMachine machine known n
     → monitor.front ≡ n.connection → IsMonitor (record monitor { machine = machine }) known n
 with_front machine monitor known n is front = record { own = record { live = is.own; connection_is = front }; files = is.files }
 
@@ -104,37 +106,21 @@ pub nothing_goes : (item : Item) (monitor : Monitor) (known : FilesKnown) (text 
 nothing_goes item monitor known text is quiet =
     shown_goes item Item.Nothing monitor known text is (refl, refl) (λ m here. (refl, (quiet, refl)))
 
-pub lineage_goes : (item : Item) (monitor : Monitor) (machine : LiveMachine) (known : FilesKnown) (lineage : ℕ) (text : List ℕ)
-    → item ≡ Item.Lineage lineage → text ≡ []
-    → ((m : Machine) → IsMachine monitor.machine known m → IsMachine machine known (record m { ids = record m.ids { lineage = lineage } }))
-    → ItemGoes item text monitor (record monitor { machine = machine }) known known
-lineage_goes item monitor machine known lineage text is quiet set =
-    quiet_goes item (Item.Lineage lineage) monitor (record monitor { machine = machine }) known text is (refl, refl) (λ m here.
-    let n : Machine = record m { ids = record m.ids { lineage = lineage } } in
-    (n, (refl, (quiet, refl)), with_front machine monitor known n (set m (beside here)) here.own.connection_is))
+pub lineage_goes : (item : Item) (monitor after : Monitor) (known : FilesKnown) (lineage : ℕ) (text : List ℕ)
+    → item ≡ Item.Lineage lineage → text ≡ [] → after.front ≡ monitor.front
+    → ((m : Machine) → IsMonitor monitor known m → IsMonitor after known (record m { ids = record m.ids { lineage = lineage } }))
+    → ItemGoes item text monitor after known known
+lineage_goes item monitor after known lineage text is quiet front set =
+    quiet_goes item (Item.Lineage lineage) monitor after known text is (refl, front)
+    (λ m here. (record m { ids = record m.ids { lineage = lineage } }, (refl, (quiet, refl)), set m here))
 
-pub connect_goes : (item : Item) (monitor : Monitor) (known : FilesKnown) (d : Connection) (text : List ℕ) → item ≡ Item.Connect → text ≡ [] → d ≡ new_connection
-    → ItemGoes item text monitor (record monitor { front = d }) known known
-connect_goes item monitor known d text is quiet new =
-    quiet_goes item Item.Connect monitor (record monitor { front = d }) known text is (refl, new) (λ m here.
-    let live = here.own.live in (
-      record m { connection = new_connection },
-      (refl, (quiet, refl)),
-      record {
-        own = record {
-          live = record {
-            id_is = live.id_is;
-            ids_is = live.ids_is;
-            config_is = live.config_is;
-            metadata_is = live.metadata_is;
-            guest_is = live.guest_is;
-            paused_is = live.paused_is;
-          };
-          connection_is = new;
-        };
-        files = record { saved_is = here.files.saved_is; calls_is = here.files.calls_is };
-      },
-    ))
+pub connect_goes : (item : Item) (monitor after : Monitor) (known : FilesKnown) (text : List ℕ) → item ≡ Item.Connect
+    → text ≡ [] → after.front ≡ new_connection
+    → ((m : Machine) → IsMonitor monitor known m → IsMonitor after known (record m { connection = new_connection }))
+    → ItemGoes item text monitor after known known
+connect_goes item monitor after known text is quiet front connected =
+    quiet_goes item Item.Connect monitor after known text is (refl, front)
+    (λ m here. (record m { connection = new_connection }, (refl, (quiet, refl)), connected m here))
 
 pub step_goes : (item : Item) (monitor : Monitor) (machine : LiveMachine) (known : FilesKnown) (actor : ActorId) (count : ℕ) (text : List ℕ)
     → item ≡ Item.Step actor count
@@ -186,46 +172,55 @@ taken after known n is = record {
   files = record { saved_is = is.files.saved_is; calls_is = is.files.calls_is };
 }
 
-bytes_went : (monitor after : Monitor) (known left : FilesKnown) (bytes text : List ℕ) (m : Machine) → (talked : HasTalked (on monitor bytes) after text known left)
-    → Tells known.health → IsMonitor monitor known m → (n : Machine) × Talks bytes talked.answered.outcomes m text n × IsMonitor after left n
-bytes_went monitor after known left bytes text m talked told is =
+pub bytes_went : (form : ResponseForm) (monitor after : Monitor) (known left : FilesKnown) (bytes text : List ℕ) (m : Machine) → (talked : HasTalked form (on monitor bytes) after text known left)
+    → Tells known.health → IsMonitor monitor known m
+    → (n : Machine) × Talks bytes talked.answered.outcomes m talked.answered.responses n × IsMonitor after left n
+bytes_went form monitor after known left bytes text m talked told is =
     let p = talked.answered.went told m (beside is) in (
       record p.0 { connection = after.front },
       (
         after.front,
         p.0,
-        subst (λ (c : Connection). Conversation RequestStep talked.answered.outcomes (arrived c bytes) m text after.front p.0) is.own.connection_is
-            (begins_quiet RequestStep talked.answered.outcomes (arrived monitor.front bytes) after.front m p.0 text p.1 talked.quiet),
+        subst (λ (c : Connection). Conversation RequestStep talked.answered.outcomes (arrived c bytes) m talked.answered.responses after.front p.0) is.own.connection_is
+            (begins_quiet RequestStep talked.answered.outcomes (arrived monitor.front bytes) after.front m p.0 talked.answered.responses p.1 talked.quiet),
         refl,
       ),
       taken after left p.0 p.2,
     )
 
-gave : (monitor after : Monitor) (known left : FilesKnown) (bytes text : List ℕ) (talked : HasTalked (on monitor bytes) after text known left)
+-- and the lines of what was answered
+lines_went : (monitor after : Monitor) (known left : FilesKnown) (bytes text : List ℕ) (m : Machine) → (talked : HasTalked Line (on monitor bytes) after text known left)
+    → Tells known.health → IsMonitor monitor known m
+    → (n : Machine) × TalkLines bytes talked.answered.outcomes m text n × IsMonitor after left n
+lines_went monitor after known left bytes text m talked told is =
+    let went = bytes_went Line monitor after known left bytes text m talked told is in
+    (went.0, (talked.answered.responses, went.1, talked.answered.writes), went.2)
+
+pub gave : (form : ResponseForm) (monitor after : Monitor) (known left : FilesKnown) (bytes text : List ℕ) (talked : HasTalked form (on monitor bytes) after text known left)
     → Gave talked.answered.outcomes (arrived monitor.front bytes) after.front
-gave monitor after known left bytes text talked =
-    begins_quiet {W = flat.Outcome} {M = Unit {0}} (λ how given m text n. Unit {0}) talked.answered.outcomes (arrived monitor.front bytes) after.front tt tt [] talked.answered.given talked.quiet
+gave form monitor after known left bytes text talked =
+    begins_quiet {W = flat.Outcome} {M = Unit {0}} {A = Unit {0}} (λ how given m said n. Unit {0}) talked.answered.outcomes (arrived monitor.front bytes) after.front tt tt [] talked.answered.given talked.quiet
 
 pub bytes_goes : (item : Item) (monitor after : Monitor) (known left : FilesKnown) (bytes text : List ℕ) → item ≡ Item.Bytes bytes
-    → HasTalked (on monitor bytes) after text known left → ItemGoes item text monitor after known left
+    → HasTalked Line (on monitor bytes) after text known left → ItemGoes item text monitor after known left
 bytes_goes item monitor after known left bytes text is talked =
     subst (λ (i : Item). ItemGoes i text monitor after known left) (sym is) (record {
       outcomes = talked.answered.outcomes;
-      given = gave monitor after known left bytes text talked;
+      given = gave Line monitor after known left bytes text talked;
       counted = talked.answered.counted;
       uncalled = talked.answered.uncalled;
-      went = λ told m here. bytes_went monitor after known left bytes text m talked told here;
+      went = λ told m here. lines_went monitor after known left bytes text m talked told here;
     })
 
 pub api_goes : (item : Item) (monitor after : Monitor) (known left : FilesKnown) (method path body text : List ℕ) → item ≡ Item.Api method path body
-    → HasTalked (on monitor (sent method path body)) after text known left → ItemGoes item text monitor after known left
+    → HasTalked Line (on monitor (sent method path body)) after text known left → ItemGoes item text monitor after known left
 api_goes item monitor after known left method path body text is talked =
     subst (λ (i : Item). ItemGoes i text monitor after known left) (sym is) (record {
       outcomes = talked.answered.outcomes;
-      given = gave monitor after known left (sent method path body) text talked;
+      given = gave Line monitor after known left (sent method path body) text talked;
       counted = talked.answered.counted;
       uncalled = talked.answered.uncalled;
-      went = λ told m here. bytes_went monitor after known left (sent method path body) text m talked told here;
+      went = λ told m here. lines_went monitor after known left (sent method path body) text m talked told here;
     })
 
 -- ---- an item that is not done to its end
@@ -264,17 +259,17 @@ quiet_stops why item it monitor after known is memory no_file same files =
     (subst (λ (q : Monitor). ItemStops ItemError.OutOfMemory it monitor q known known) (sym same)
     (stops_at_once ItemError.OutOfMemory it monitor known known no_file (omega arith) (λ never. refl) (λ told m. files m))))
 
-part_went : (monitor after : Monitor) (known left : FilesKnown) (bytes : List ℕ) (m : Machine) → (stopped : HasStopped (on monitor bytes) after known left)
+part_went : (monitor after : Monitor) (known left : FilesKnown) (bytes : List ℕ) (m : Machine) → (stopped : HasStopped Line (on monitor bytes) after known left)
     → Tells known.health → IsMonitor monitor known m
-    → (n : Machine) × TalksFront bytes stopped.answered.outcomes m stopped.text n × IsMonitor after stopped.before n
+    → (n : Machine) × TalksFront bytes stopped.answered.outcomes m stopped.answered.responses n × IsMonitor after stopped.before n
 part_went monitor after known left bytes m stopped told is =
     let p = stopped.answered.went told m (beside is) in (
       record p.0 { connection = after.front },
       (
         after.front,
         p.0,
-        subst (λ (c : Connection). ConversationFront RequestStep stopped.answered.outcomes (arrived c bytes) m stopped.text after.front p.0) is.own.connection_is
-            (begins_due RequestStep stopped.answered.outcomes (arrived monitor.front bytes) after.front m p.0 stopped.text p.1 stopped.due),
+        subst (λ (c : Connection). ConversationFront RequestStep stopped.answered.outcomes (arrived c bytes) m stopped.answered.responses after.front p.0) is.own.connection_is
+            (begins_due RequestStep stopped.answered.outcomes (arrived monitor.front bytes) after.front m p.0 stopped.answered.responses p.1 stopped.due),
         refl,
       ),
       taken after stopped.before p.0 p.2,
@@ -287,12 +282,12 @@ still_files before left m same is = record { saved_is = same.saved ∙ is.saved_
 stops_within : (item : Item) (monitor after : Monitor) (known left : FilesKnown) (bytes : List ℕ) → bytes_of item ≡ bytes → (IsFile item → ⊥)
     → ((CallsFiles monitor item → ⊥) → GivesFiling (arrived monitor.front bytes) → ⊥)
     → ((m : Machine) (now : FilesKnown) → AreFilesOf now m → LeavesFiles item m now)
-    → HasStopped (on monitor bytes) after known left → ItemStops ItemError.OutOfMemory item monitor after known left
+    → HasStopped Line (on monitor bytes) after known left → ItemStops ItemError.OutOfMemory item monitor after known left
 stops_within item monitor after known left bytes of no_file never files stopped = record {
   part = stopped.answered.outcomes;
   unwritten = stopped.text;
   given = inr (subst (λ (b : List ℕ). GaveFront stopped.answered.outcomes (arrived monitor.front b) after.front) (sym of)
-      (begins_due {W = flat.Outcome} {M = Unit {0}} (λ how given m text n. Unit {0}) stopped.answered.outcomes (arrived monitor.front bytes) after.front tt tt [] stopped.answered.given stopped.due));
+      (begins_due {W = flat.Outcome} {M = Unit {0}} {A = Unit {0}} (λ how given m said n. Unit {0}) stopped.answered.outcomes (arrived monitor.front bytes) after.front tt tt [] stopped.answered.given stopped.due));
   cause = no_file;
   rose = let k = stopped.answered.counted.rose in let l = stopped.later in omega (arith, k, l);
   uncalled = λ none. stopped.uncalled (never none);
@@ -300,7 +295,8 @@ stops_within item monitor after known left bytes of no_file never files stopped 
   went = λ told m is.
       let p = part_went monitor after known left bytes m stopped told is in (
         p.0,
-        inr (subst (λ (b : List ℕ). TalksFront b stopped.answered.outcomes m stopped.text p.0) (sym of) p.1),
+        inr (subst (λ (b : List ℕ). FrontLines b stopped.answered.outcomes m stopped.text p.0) (sym of)
+            (stopped.answered.responses, p.1, stopped.answered.writes)),
         p.2.own,
         files p.0 left (still_files stopped.before left p.0 (stopped.files (stopped.answered.lasts.still told)) p.2.files),
       );
@@ -309,7 +305,7 @@ stops_within item monitor after known left bytes of no_file never files stopped 
 halts : (item : Item) (monitor after : Monitor) (known left : FilesKnown) (bytes : List ℕ) → bytes_of item ≡ bytes → (IsFile item → ⊥)
     → ((CallsFiles monitor item → ⊥) → GivesFiling (arrived monitor.front bytes) → ⊥)
     → ((m : Machine) (now : FilesKnown) → AreFilesOf now m → LeavesFiles item m now)
-    → HasHalted bytes monitor after known left → ItemStops ItemError.OutOfMemory item monitor after known left
+    → HasHalted Line bytes monitor after known left → ItemStops ItemError.OutOfMemory item monitor after known left
 halts item monitor after known left bytes of no_file never files (inl (same, kept)) =
     subst (λ (k : FilesKnown). ItemStops ItemError.OutOfMemory item monitor after known k) (sym kept)
     (subst (λ (q : Monitor). ItemStops ItemError.OutOfMemory item monitor q known known) (sym same)
@@ -318,14 +314,14 @@ halts item monitor after known left bytes of no_file never files (inr stopped) =
     stops_within item monitor after known left bytes of no_file never files stopped
 
 pub bytes_stops : (why : ItemError) (item : Item) (monitor after : Monitor) (known left : FilesKnown) (bytes : List ℕ) → item ≡ Item.Bytes bytes → why ≡ ItemError.OutOfMemory
-    → HasHalted bytes monitor after known left → ItemStops why item monitor after known left
+    → HasHalted Line bytes monitor after known left → ItemStops why item monitor after known left
 bytes_stops why item monitor after known left bytes is memory halted =
     subst (λ (i : Item). ItemStops why i monitor after known left) (sym is)
     (subst (λ (w : ItemError). ItemStops w (Item.Bytes bytes) monitor after known left) (sym memory)
     (halts (Item.Bytes bytes) monitor after known left bytes refl (λ file. file) (λ none. none) (λ m now files. files) halted))
 
 pub api_stops : (why : ItemError) (item : Item) (monitor after : Monitor) (known left : FilesKnown) (method path body : List ℕ) → item ≡ Item.Api method path body → why ≡ ItemError.OutOfMemory
-    → HasHalted (sent method path body) monitor after known left → ItemStops why item monitor after known left
+    → HasHalted Line (sent method path body) monitor after known left → ItemStops why item monitor after known left
 api_stops why item monitor after known left method path body is memory halted =
     subst (λ (i : Item). ItemStops why i monitor after known left) (sym is)
     (subst (λ (w : ItemError). ItemStops w (Item.Api method path body) monitor after known left) (sym memory)

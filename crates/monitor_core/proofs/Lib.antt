@@ -1,3 +1,4 @@
+pub mod Hears
 pub mod Items
 pub mod Replies
 pub mod Talks

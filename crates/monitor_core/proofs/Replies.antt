@@ -4,6 +4,7 @@ use Rattle.vm_outside.specs.Known.{FilesKnown}
 use Rattle.http_stream.specs.declared.request.Next.{Next}
 use Rattle.http_stream.specs.Stream.{Connection}
 use Rattle.http_stream.specs.Conversation.{Takes}
+use Rattle.response_form.specs.declared.form.ResponseForm.{ResponseForm}
 use Rattle.monitor_machine.specs.declared.machine.LiveMachine.{LiveMachine}
 use Rattle.monitor_machine.specs.declared.outcome.Outcome.{Outcome}
 use Rattle.monitor_machine.specs.Replying.{Replies}
@@ -11,13 +12,13 @@ use Rattle.monitor_core.specs.declared.monitor.Monitor.{Monitor}
 use Rattle.monitor_core.specs.Going.{GivesFiling}
 use Rattle.monitor_core.specs.Replying.{Replied}
 
-pub replied : (monitor : Monitor) (how : Outcome) (looked skipped : Connection) (machine : LiveMachine) (text written : List ℕ)
+pub replied : (form : ResponseForm) (monitor : Monitor) (how : Outcome) (looked skipped : Connection) (machine : LiveMachine) (text written : List ℕ)
     (known left : FilesKnown) (given : Next) (d : Connection) → Takes monitor.front given d → looked ≡ monitor.front
     → ((given : Next) (d : Connection) → Takes looked given d → skipped ≡ d)
-    → Replies given how monitor.machine machine text written known left
+    → Replies form given how monitor.machine machine text written known left
     → ((GivesFiling monitor.front → ⊥) → left.health.faults ≡ known.health.faults)
-    → Replied monitor (record monitor { front = skipped; machine = machine }) text written known left
-replied monitor how looked skipped machine text written known left given d takes same taken replies uncalled =
+    → Replied form monitor (record monitor { front = skipped; machine = machine }) text written known left
+replied form monitor how looked skipped machine text written known left given d takes same taken replies uncalled =
     let looks : Takes looked given d = subst (λ (f : Connection). Takes f given d) (sym same) takes in record {
       given = given;
       takes = subst (λ (f : Connection). Takes monitor.front given f) (sym (taken given d looks)) takes;

@@ -1,9 +1,9 @@
 -- What is answered of what a connection gives, one thing after another.
-use Rattle.std.proofs.Common.{◌≡◌, ◌≢◌, ℕ, suc, ◌+◌, ◌<◌, ◌≤◌, ◌⊎◌, inl, inr, Bool, true, false, if◌then◌else◌, List, [], ◌∷◌, ◌++◌, length, refl, sym, ap, subst, ◌∙◌, append_assoc, arith, Ok}
+use Rattle.std.proofs.Common.{◌≡◌, ℕ, suc, ◌+◌, ◌<◌, inl, inr, Bool, true, false, List, [], ◌∷◌, ◌++◌, length, refl, sym, ap, subst, ◌∙◌, append_assoc, arith}
 use Rattle.std.proofs.lemmas.List.{append-nil}
-use Rattle.vm_types.specs.Causes.{Rose, RoseBy}
+use Rattle.vm_types.specs.Causes.{RoseBy}
 use Rattle.vm_outside.specs.Filing.{SameFiles}
-use Rattle.vm_outside.specs.Known.{FilesKnown, Health, Lasts, Tells}
+use Rattle.vm_outside.specs.Known.{FilesKnown, Lasts, Tells}
 use Rattle.http_stream.specs.declared.request.Request.{Request}
 use Rattle.http_stream.specs.declared.request.Next.{Next}
 use Rattle.http_stream.specs.declared.request.Next.TheVariants as next
@@ -12,24 +12,24 @@ use Rattle.http_stream.specs.Conversation.{IsQuiet, Takes, Conversation, Convers
 use Rattle.http_stream.proofs.CutLemmas.{made, bad_failed, request_falls, request_lives}
 use Rattle.http_stream.proofs.AnswerLemmas.{some_reading}
 use Rattle.flat_machine.specs.Outcome as flat
-use Rattle.flat_machine.specs.Machine.{Machine}
 use Rattle.flat_machine.specs.Requests.{RequestStep}
+use Rattle.response_form.specs.declared.form.ResponseForm.{ResponseForm}
+use Rattle.response_form.specs.Responses.{Response, all_written, written_as}
 use Rattle.monitor_core.specs.declared.monitor.Monitor.{Monitor}
 use Rattle.monitor_machine.specs.declared.outcome.Outcome.{Outcome}
 use Rattle.monitor_machine.specs.declared.outcome.Outcome.TheVariants.{Answered, Failed, NoMemory}
-use Rattle.monitor_machine.specs.Replying.{AsksFiles, OutcomeCause, Replies, outcome_by}
+use Rattle.monitor_machine.specs.Replying.{AsksFiles, OutcomeCause, outcome_by}
 use Rattle.monitor_core.specs.Going.{CountsFaults, GivesFiling}
 use Rattle.monitor_core.specs.Replying.{Replied, Rests}
-use Rattle.monitor_core.specs.State.{IsBeside}
-use Rattle.monitor_core.specs.Talking.{Begins, BeginsAny, HasAnswered, HasStopped, HasTalked, IsStillDue}
+use Rattle.monitor_core.specs.Talking.{Begins, HasAnswered, HasStopped, HasTalked, IsStillDue}
 
 -- ---- conversations
 
-begins_more : {W M : Type 0} (step : W → Next → M → List ℕ → M → Type 0) (hows : List W) (how : W)
-    (c d e : Connection) (m n k : M) (s t : List ℕ) (given : Next)
+begins_more : {W M A : Type 0} (step : W → Next → M → List A → M → Type 0) (hows : List W) (how : W)
+    (c d e : Connection) (m n k : M) (s t : List A) (given : Next)
     → Begins step hows c m s d n → Takes d given e → step how given n t k
     → Begins step (hows ++ how ∷ []) c m (s ++ t) e k
-begins_more {W} {M} step [] how c d e m n k s t given (dc, se, nm) takes went = (
+begins_more {W} {M} {A} step [] how c d e m n k s t given (dc, se, nm) takes went = (
   given,
   e,
   t,
@@ -38,9 +38,9 @@ begins_more {W} {M} step [] how c d e m n k s t given (dc, se, nm) takes went = 
   subst (λ (x : Connection). Takes x given e) dc takes,
   subst (λ (x : M). step how given x t k) nm went,
   (refl, refl, refl),
-  ap (λ (x : List ℕ). x ++ t) se ∙ sym (append-nil t),
+  ap (λ (x : List A). x ++ t) se ∙ sym (append-nil t),
 )
-begins_more step (first ∷ hows) how c d e m n k s t given (g, a, f, mid, r, grabs, goes, on, is) takes went = (
+begins_more {W} {M} {A} step (first ∷ hows) how c d e m n k s t given (g, a, f, mid, r, grabs, goes, on, is) takes went = (
   g,
   a,
   f,
@@ -49,17 +49,17 @@ begins_more step (first ∷ hows) how c d e m n k s t given (g, a, f, mid, r, gr
   grabs,
   goes,
   begins_more step hows how a d e mid n k r t given on takes went,
-  ap (λ (x : List ℕ). x ++ t) is ∙ append_assoc f r t,
+  ap (λ (x : List A). x ++ t) is ∙ append_assoc f r t,
 )
 
-pub begins_quiet : {W M : Type 0} (step : W → Next → M → List ℕ → M → Type 0) (hows : List W)
-    (c d : Connection) (m n : M) (s : List ℕ) → Begins step hows c m s d n → IsQuiet d → Conversation step hows c m s d n
+pub begins_quiet : {W M A : Type 0} (step : W → Next → M → List A → M → Type 0) (hows : List W)
+    (c d : Connection) (m n : M) (s : List A) → Begins step hows c m s d n → IsQuiet d → Conversation step hows c m s d n
 begins_quiet step [] c d m n s (dc, se, nm) quiet = (subst IsQuiet dc quiet, dc, se, nm)
 begins_quiet step (how ∷ hows) c d m n s (g, a, f, mid, r, takes, went, on, is) quiet =
     (g, a, f, mid, r, takes, went, begins_quiet step hows a d mid n r on quiet, is)
 
-pub begins_due : {W M : Type 0} (step : W → Next → M → List ℕ → M → Type 0) (hows : List W)
-    (c d : Connection) (m n : M) (s : List ℕ) → Begins step hows c m s d n → IsStillDue d → ConversationFront step hows c m s d n
+pub begins_due : {W M A : Type 0} (step : W → Next → M → List A → M → Type 0) (hows : List W)
+    (c d : Connection) (m n : M) (s : List A) → Begins step hows c m s d n → IsStillDue d → ConversationFront step hows c m s d n
 begins_due step [] c d m n s (dc, se, nm) (given, after, takes) =
     (given, after, subst (λ (x : Connection). Takes x given after) dc takes, dc, se, nm)
 begins_due step (how ∷ hows) c d m n s (g, a, f, mid, r, takes, went, on, is) due =
@@ -105,8 +105,8 @@ filing_first c r d takes start =
     let rest = some_reading d.pending in
     (takes.live, r ∷ rest.0, rest.1, (d.pending, subst P (request_lives c.pending r d takes.judged) takes.judged, rest.2), inl start)
 
-filing_later : (hows : List flat.Outcome) (c d : Connection) (s : List ℕ)
-    → Begins {W = flat.Outcome} {M = Unit {0}} (λ how given m text n. Unit {0}) hows c tt s d tt → GivesFiling d → GivesFiling c
+filing_later : (hows : List flat.Outcome) (c d : Connection) (s : List (Unit {0}))
+    → Begins {W = flat.Outcome} {M = Unit {0}} {A = Unit {0}} (λ how given m said n. Unit {0}) hows c tt s d tt → GivesFiling d → GivesFiling c
 filing_later [] c d s (dc, se, nm) start = subst GivesFiling dc start
 filing_later (how ∷ hows) c d s (g, a, f, mid, r, takes, went, on, is) start =
     filing_behind c g a takes (filing_later hows a d r on start)
@@ -152,14 +152,32 @@ not_empty : (hows : List flat.Outcome) (how : flat.Outcome) → hows ++ how ∷ 
 not_empty [] how is = cc
 not_empty (first ∷ hows) how is = cc
 
+-- ---- what is written
+
+-- one response more, behind those before it
+written_more : (form : ResponseForm) (responses more : List Response)
+    → all_written form (responses ++ more) ≡ all_written form responses ++ all_written form more
+written_more form [] more = refl
+written_more form (response ∷ responses) more =
+    ap (λ (l : List ℕ). written_as form response ++ l) (written_more form responses more)
+    ∙ sym (append_assoc (written_as form response) (all_written form responses) (all_written form more))
+
+writes_more : (form : ResponseForm) (responses more : List Response) (text written : List ℕ)
+    → text ≡ all_written form responses → written ≡ text ++ all_written form more
+    → written ≡ all_written form (responses ++ more)
+writes_more form responses more text written so_far is =
+    is ∙ ap (λ (l : List ℕ). l ++ all_written form more) so_far ∙ sym (written_more form responses more)
+
 -- ---- one more answer
 
-pub answers_more : (monitor now after : Monitor) (text written : List ℕ) (known mid left : FilesKnown)
-    → HasAnswered monitor now text known mid → Replied now after text written mid left
-    → Lasts mid.health left.health → HasAnswered monitor after written known left
-answers_more monitor now after text written known mid left a r lasts = record {
+pub answers_more : (form : ResponseForm) (monitor now after : Monitor) (text written : List ℕ) (known mid left : FilesKnown)
+    → HasAnswered form monitor now text known mid → Replied form now after text written mid left
+    → Lasts mid.health left.health → HasAnswered form monitor after written known left
+answers_more form monitor now after text written known mid left a r lasts = record {
   outcomes = a.outcomes ++ outcome_by r.how left ∷ [];
-  given = begins_more {W = flat.Outcome} {M = Unit {0}} (λ how given m text n. Unit {0}) a.outcomes (outcome_by r.how left)
+  responses = a.responses ++ r.replies.responses;
+  writes = writes_more form a.responses r.replies.responses text written a.writes r.replies.writes;
+  given = begins_more {W = flat.Outcome} {M = Unit {0}} {A = Unit {0}} (λ how given m said n. Unit {0}) a.outcomes (outcome_by r.how left)
       monitor.front now.front after.front tt tt tt [] [] r.given a.given r.takes tt;
   counted = counts_more a.outcomes r.how left known.health.faults mid.health.faults left.health.faults a.counted r.replies.cause;
   uncalled = λ never. r.uncalled (λ start. never (filing_later a.outcomes monitor.front now.front [] a.given start)) ∙ a.uncalled never;
@@ -168,8 +186,7 @@ answers_more monitor now after text written known mid left a r lasts = record {
       let p = a.went told m is in
       let q = r.replies.went (a.lasts.still told) p.0 p.2 in (
         q.0,
-        subst (λ (t : List ℕ). Begins RequestStep (a.outcomes ++ outcome_by r.how left ∷ []) monitor.front m t after.front q.0) (sym r.replies.writes)
-            (begins_more RequestStep a.outcomes (outcome_by r.how left) monitor.front now.front after.front m p.0 q.0 text r.replies.reply r.given p.1 r.takes q.1),
+        begins_more RequestStep a.outcomes (outcome_by r.how left) monitor.front now.front after.front m p.0 q.0 a.responses r.replies.responses r.given p.1 r.takes q.1,
         q.2,
       );
   lasts = record {
@@ -178,26 +195,29 @@ answers_more monitor now after text written known mid left a r lasts = record {
   };
 }
 
-pub nothing_yet : (monitor : Monitor) (text : List ℕ) (known : FilesKnown) → text ≡ [] → HasAnswered monitor monitor text known known
-nothing_yet monitor text known quiet = record {
+pub nothing_yet : (form : ResponseForm) (monitor : Monitor) (text : List ℕ) (known : FilesKnown) → text ≡ []
+    → HasAnswered form monitor monitor text known known
+nothing_yet form monitor text known quiet = record {
   outcomes = [];
+  responses = [];
+  writes = quiet;
   given = (refl, refl, refl);
   counted = record { rose = omega arith; kept = λ good. refl };
   uncalled = λ never. refl;
   same = λ none. refl;
-  went = λ told m is. (m, (refl, quiet, refl), is);
+  went = λ told m is. (m, (refl, refl, refl), is);
   lasts = record { still = λ told. told; later = omega arith };
 }
 
 -- something is still due, and there was no memory to answer it
-pub answers_stop : (monitor now after : Monitor) (text : List ℕ) (known mid left : FilesKnown)
-    → HasAnswered monitor now text known mid → after ≡ now → IsStillDue now.front
+pub answers_stop : (form : ResponseForm) (monitor now after : Monitor) (text : List ℕ) (known mid left : FilesKnown)
+    → HasAnswered form monitor now text known mid → after ≡ now → IsStillDue now.front
     → ((GivesFiling now.front → ⊥) → left.health.faults ≡ mid.health.faults)
-    → (Tells mid.health → SameFiles mid left) → Lasts mid.health left.health → HasStopped monitor after known left
-answers_stop monitor now after text known mid left a same due uncalled files lasts = record {
+    → (Tells mid.health → SameFiles mid left) → Lasts mid.health left.health → HasStopped form monitor after known left
+answers_stop form monitor now after text known mid left a same due uncalled files lasts = record {
   text = text;
   before = mid;
-  answered = subst (λ (q : Monitor). HasAnswered monitor q text known mid) (sym same) a;
+  answered = subst (λ (q : Monitor). HasAnswered form monitor q text known mid) (sym same) a;
   due = subst (λ (q : Monitor). IsStillDue q.front) (sym same) due;
   uncalled = λ never. uncalled (λ start. never (filing_later a.outcomes monitor.front now.front [] a.given start)) ∙ a.uncalled never;
   files = files;
@@ -205,11 +225,12 @@ answers_stop monitor now after text known mid left a same due uncalled files las
 }
 
 -- nothing is due any more
-pub answers_rest : (monitor now after : Monitor) (text written : List ℕ) (known mid left : FilesKnown)
-    → HasAnswered monitor now text known mid → Rests now after text written mid left → HasTalked monitor after written known left
-answers_rest monitor now after text written known mid left a r = record {
-  answered = subst (λ (t : List ℕ). HasAnswered monitor after t known left) (sym r.writes)
-      (subst (λ (q : Monitor). HasAnswered monitor q text known left) (sym r.same)
-      (subst (λ (k : FilesKnown). HasAnswered monitor now text known k) (sym r.kept) a));
+pub answers_rest : (form : ResponseForm) (monitor now after : Monitor) (text written : List ℕ) (known mid left : FilesKnown)
+    → HasAnswered form monitor now text known mid → Rests now after text written mid left
+    → HasTalked form monitor after written known left
+answers_rest form monitor now after text written known mid left a r = record {
+  answered = subst (λ (t : List ℕ). HasAnswered form monitor after t known left) (sym r.writes)
+      (subst (λ (q : Monitor). HasAnswered form monitor q text known left) (sym r.same)
+      (subst (λ (k : FilesKnown). HasAnswered form monitor now text known k) (sym r.kept) a));
   quiet = subst (λ (q : Monitor). IsQuiet q.front) (sym r.same) r.quiet;
 }

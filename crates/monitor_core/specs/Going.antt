@@ -26,12 +26,12 @@ use Rattle.monitor_core.specs.State.{IsMonitor, IsOwn}
 -- it holds whether or not the files tell what they hold.
 abbrev pub Gave : List Outcome → Connection → Connection → Type 0
 Gave outcomes c d =
-    Conversation {W = Outcome} {M = Unit {0}} (λ how given m text n. Unit {0}) outcomes c tt [] d tt
+    Conversation {W = Outcome} {M = Unit {0}} {A = Unit {0}} (λ how given m said n. Unit {0}) outcomes c tt [] d tt
 
 -- only the first of it, and something is still due
 abbrev pub GaveFront : List Outcome → Connection → Connection → Type 0
 GaveFront outcomes c d =
-    ConversationFront {W = Outcome} {M = Unit {0}} (λ how given m text n. Unit {0}) outcomes c tt [] d tt
+    ConversationFront {W = Outcome} {M = Unit {0}} {A = Unit {0}} (λ how given m said n. Unit {0}) outcomes c tt [] d tt
 
 -- the connection after an item: with its bytes everything that is due was answered; or it is a new one; or as it was
 abbrev pub Leads : Item → List Outcome → Connection → Connection → Type 0

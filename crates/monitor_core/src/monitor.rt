@@ -7,12 +7,14 @@ use crate::item_error::ItemError;
 use gate_file::save_file;
 use http_front::Front;
 use monitor_machine::LiveMachine;
+use response_form::ResponseForm;
 use script_text::Item;
 use std::alloc::{AllocError, Global};
 use vm_outside::{Failed, Files};
 use vm_types::{ByteList, TextList};
 
 mod replying;
+mod serving;
 
 /// A machine, and the connection on which requests come to it.
 #[derive(Drop)]
@@ -62,14 +64,18 @@ impl Monitor {
                 }
             }
             Item::Lineage { lineage } => {
-                self.machine.set_lineage(lineage);
+                self.set_lineage(lineage);
                 Ok(ByteList::new(self.alloc))
             }
             Item::Connect => {
-                self.front.restart();
+                self.connect();
                 Ok(ByteList::new(self.alloc))
             }
-            Item::Bytes { bytes } => Ok(self.take_bytes(bytes.as_slice(), files)?),
+            Item::Bytes { bytes } => Ok(self.take_bytes(
+                ResponseForm::Line,
+                bytes.as_slice(),
+                files,
+            )?),
             Item::Api { method, path, body } => Ok(self.take_request(
                 method.as_slice(),
                 path.as_slice(),

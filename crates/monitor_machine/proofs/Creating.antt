@@ -1,5 +1,6 @@
 -- A create that is due does what the machine does.
-use Rattle.std.proofs.Common.{◌≡◌, ℕ, List, ◌∷◌, ◌++◌, Option, Some, None, Ok, Result, refl, sym, ap, subst, ◌∙◌}
+use Rattle.std.proofs.Common.{◌≡◌, ℕ, List, [], ◌∷◌, ◌++◌, Option, Some, Ok, Result, refl, sym, ap, subst, ◌∙◌}
+use Rattle.std.proofs.lemmas.List.{append-nil}
 use Rattle.std.specs.FinMap.{get, insert}
 use Rattle.vm_types.specs.Causes.{Rose}
 use Rattle.vm_types.specs.declared.identity.Identity.{Identity}
@@ -10,11 +11,14 @@ use Rattle.vm_outside.specs.Known.{FilesKnown, Tells}
 use Rattle.refusals.specs.declared.refusal.Refusal.{Refusal}
 use Rattle.refusals.specs.declared.refusal.Refusal.TheVariants as refusal
 use Rattle.http_stream.specs.declared.request.Next.{Next}
+use Rattle.http_stream.specs.declared.request.Next.TheVariants as next
+use Rattle.http_stream.specs.declared.request.Request.{Request}
 use Rattle.api_calls.specs.Call.{◌>>=◌}
 use Rattle.vm_config.specs.declared.change.Change.{Change}
 use Rattle.vm_config.specs.declared.change.Change.TheVariants as change
 use Rattle.api_rules.specs.Answers.{no_content, refused}
-use Rattle.script_output.specs.Output.{reply_line}
+use Rattle.response_form.specs.declared.form.ResponseForm.{ResponseForm}
+use Rattle.response_form.specs.Responses.{Response, written_as}
 use Rattle.guest_memory.specs.Memory.{Memory}
 use Rattle.guest_pages.specs.Pages.{cleared, flat_of}
 use Rattle.guest_pages.proofs.Marking.{flat_cleared, marks_cleared}
@@ -26,14 +30,14 @@ use Rattle.snap_writer.specs.Selected.{selected}
 use Rattle.monitor_plans.specs.Headings.{numbers_in}
 use Rattle.flat_machine.specs.Machine.{Machine}
 use Rattle.flat_machine.specs.Outcome as flat
-use Rattle.flat_machine.specs.Requests.{CreateFails, Creates, RequestStep, by_contents, created, next_identity, parent_in, spent}
+use Rattle.flat_machine.specs.Requests.{CreateFails, Creates, RequestStep, by_contents, created, next_identity, parent_in, respond, spent}
 use Rattle.vm_world.specs.Worlds.{IsWorld, WorldValue}
 use Rattle.vm_world.proofs.Events.{unwritten_is}
 use Rattle.monitor_plans.specs.declared.creating.Creation.{Creation}
 use Rattle.monitor_machine.specs.declared.machine.LiveMachine.{LiveMachine}
 use Rattle.monitor_machine.specs.declared.outcome.Outcome.{Outcome}
 use Rattle.monitor_machine.specs.Plans.{IsCreate, created_after, failed_after, unmarked_world}
-use Rattle.monitor_machine.specs.Replying.{Replies, left_by}
+use Rattle.monitor_machine.specs.Replying.{Replies, left_by, open_response}
 use Rattle.monitor_machine.specs.State.{IsGuestBy, IsMachine}
 use Rattle.monitor_machine.proofs.Plans.{answered}
 
@@ -76,9 +80,9 @@ module _ (c : Creation) (live : LiveMachine) (w : WorldValue) (known left : File
       (unwritten_is w (cleared w.pages) due.guest here (flat_cleared w.pages) (marks_cleared w.pages))
 
   pub create_does : writes.Creates c.names.mem_file_path c.head (written_of c w) c.names.snapshot_path c.body known left
-      → RequestStep flat.Outcome.Answered given m (reply_line no_content) end × IsMachine (created_after c live) left end
+      → RequestStep flat.Outcome.Answered given m (respond given no_content) end × IsMachine (created_after c live) left end
   create_does wrote = (
-    answered live known m end given (Ok (change.CreateSnapshot due.it)) (reply_line no_content)
+    answered live known m end given (Ok (change.CreateSnapshot due.it)) no_content
         (ap (λ (r : Result Change Refusal). r >>= by_contents m) due.asks) refl
         (subst (λ (o : Option Guest). Creates o m due.it end) (sym due.there) (due.copy, due.copied, refl)),
     record {
@@ -106,7 +110,7 @@ module _ (c : Creation) (live : LiveMachine) (w : WorldValue) (known left : File
   stopped = record m { saved = left.saved; calls = left.calls; ids = spent m }
 
   pub create_fails : writes.CreatesPart c.names.mem_file_path c.head (written_of c w) c.names.snapshot_path c.body known left
-      → RequestStep (flat.Outcome.Failed (left_by left)) given m (reply_line (refused refusal.OutsideFailed)) stopped
+      → RequestStep (flat.Outcome.Failed (left_by left)) given m (respond given (refused refusal.OutsideFailed)) stopped
       × IsMachine (failed_after c live) left stopped
   create_fails part = (
     (
@@ -161,16 +165,23 @@ same_part memory head state body m h s b pages g known left em eh eg es eb part 
 }
 
 -- what is due is answered so
-module _ (c : Creation) (live after : LiveMachine) (w : WorldValue) (text written : List ℕ) (known left : FilesKnown) (given : Next)
-    (there : live.guest ≡ Some w) (due : Tells known.health → (m : Machine) → IsMachine live known m → IsCreate c m given) where
-  pub is_written : after ≡ created_after c live → written ≡ text ++ reply_line no_content → left.health.faults ≡ known.health.faults
+module _ (form : ResponseForm) (c : Creation) (live after : LiveMachine) (w : WorldValue) (text written : List ℕ) (known left : FilesKnown) (request : Request)
+    (there : live.guest ≡ Some w) (due : Tells known.health → (m : Machine) → IsMachine live known m → IsCreate c m (next.Request request)) where
+  abbrev given : Next
+  given = next.Request request
+
+  -- one response, and nothing behind it
+  alone : (response : Response) → written ≡ text ++ written_as form response → written ≡ text ++ (written_as form response ++ [])
+  alone response is = is ∙ ap (λ (l : List ℕ). text ++ l) (sym (append-nil (written_as form response)))
+
+  pub is_written : after ≡ created_after c live → written ≡ text ++ written_as form (open_response no_content) → left.health.faults ≡ known.health.faults
       → (Tells known.health
       → writes.Creates c.names.mem_file_path c.head (written_of c w) c.names.snapshot_path c.body known left)
-      → Replies given Outcome.Answered live after text written known left
+      → Replies form given Outcome.Answered live after text written known left
   is_written leaves writes faults wrote = record {
     cause = faults;
-    reply = reply_line no_content;
-    writes = writes;
+    responses = respond given no_content;
+    writes = alone (open_response no_content) writes;
     went = λ told m is.
         let does = create_does c live w known left m given there is (due told m is) (wrote told) in (
           end c live w known left m given there is (due told m is),
@@ -179,15 +190,15 @@ module _ (c : Creation) (live after : LiveMachine) (w : WorldValue) (text writte
         );
   }
 
-  pub is_unwritten : after ≡ failed_after c live → written ≡ text ++ reply_line (refused refusal.OutsideFailed)
+  pub is_unwritten : after ≡ failed_after c live → written ≡ text ++ written_as form (open_response (refused refusal.OutsideFailed))
       → Rose known.health.faults left.health.faults
       → (Tells known.health
       → writes.CreatesPart c.names.mem_file_path c.head (written_of c w) c.names.snapshot_path c.body known left)
-      → Replies given Outcome.Failed live after text written known left
+      → Replies form given Outcome.Failed live after text written known left
   is_unwritten leaves writes rose part = record {
     cause = rose;
-    reply = reply_line (refused refusal.OutsideFailed);
-    writes = writes;
+    responses = respond given (refused refusal.OutsideFailed);
+    writes = alone (open_response (refused refusal.OutsideFailed)) writes;
     went = λ told m is.
         let does = create_fails c live w known left m given there is (due told m is) (part told) in (
           stopped c live w known left m given there is (due told m is),

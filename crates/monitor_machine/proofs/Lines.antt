@@ -1,5 +1,5 @@
 -- What a line that brings moving request makes of the machine is what it makes of each flat machine that it is.
-use Rattle.std.proofs.Common.{◌≡◌, ℕ, Bool, true, false, cond, if◌then◌else◌, MatchBool, refl, sym, subst, ◌∙◌, List, [], length, Option, Some, None}
+use Rattle.std.proofs.Common.{◌≡◌, ℕ, Bool, true, false, if◌then◌else◌, MatchBool, refl, sym, subst, ◌∙◌, List, [], length, Option, Some, None}
 use Rattle.vm_outside.specs.Known.{FilesKnown}
 use Rattle.vm_types.specs.declared.ids.ActorId.{ActorId}
 use Rattle.vm_types.specs.declared.entry.Entry.{Entry}

@@ -1,6 +1,7 @@
 -- What a plan does is what the machine does.
-use Rattle.std.proofs.Common.{◌≡◌, ℕ, ◌≤◌, ◌⊎◌, inl, inr, Bool, true, false, not, refl, sym, ap, subst, ◌∙◌, List, Option, Some, None, Ok, Err, Result}
+use Rattle.std.proofs.Common.{◌≡◌, ℕ, ◌≤◌, ◌⊎◌, inl, inr, Bool, true, false, not, refl, sym, ap, subst, ◌∙◌, List, ◌++◌, Option, Some, None, Ok, Err, Result}
 use Rattle.std.proofs.Math.Nat.{le_refl}
+use Rattle.std.proofs.lemmas.List.{append-nil}
 use Rattle.vm_types.specs.Saved.{Saved}
 use Rattle.serde_json.specs.Data.{Data}
 use Rattle.refusals.specs.declared.refusal.Refusal.{Refusal}
@@ -21,17 +22,19 @@ use Rattle.vm_config.specs.declared.config.Phase.{Phase}
 use Rattle.vm_config.specs.declared.change.Change.{Change}
 use Rattle.vm_config.specs.declared.change.Change.TheVariants as change
 use Rattle.vm_config.specs.Changes.{changed}
+use Rattle.api_rules.specs.declared.answer.Answer.{Answer}
 use Rattle.api_rules.specs.declared.ids.Ids.{Ids}
-use Rattle.api_rules.specs.Table.{change_of, decision, misplaced, own_refusal, patched, unless, when_allowed}
+use Rattle.api_rules.specs.Table.{change_of, decision, misplaced, own_refusal, unless, when_allowed}
 use Rattle.api_rules.specs.Answers.{accepted, no_content}
-use Rattle.script_output.specs.Output.{reply_line}
 use Rattle.flat_guest.specs.Guest.{Guest}
 use Rattle.flat_guest.specs.Start.{started}
 use Rattle.flat_machine.specs.Outcome as flat
 use Rattle.flat_machine.specs.Machine.{AreFilesOf, Machine}
 use Rattle.flat_machine.specs.Machine as machine
 use Rattle.flat_snapshot.specs.Found.{Snapshot}
-use Rattle.flat_machine.specs.Requests.{Fails, Leaves, LeavesBy, RequestStep, Restores, Stores, allowed, answer_by, by_contents, carried, configured, decided, disk_of, halted, image_of, loads_from, start_refusal, started_from}
+use Rattle.flat_machine.specs.Requests.{Fails, Leaves, LeavesBy, RequestStep, Restores, Stores, allowed, answer_by, by_contents, carried, configured, decided, disk_of, halted, image_of, loads_from, closes, respond, start_refusal, started_from}
+use Rattle.response_form.specs.declared.form.ResponseForm.{ResponseForm}
+use Rattle.response_form.specs.Responses.{written_as}
 use Rattle.vm_world.specs.Worlds.{IsWorld, WorldValue}
 use Rattle.vm_world.proofs.Events.{restarted}
 use Rattle.monitor_plans.specs.declared.plan.Plan.{Plan}
@@ -42,7 +45,7 @@ use Rattle.monitor_plans.specs.Starting.{StartGives, disk_in, image_in}
 use Rattle.monitor_plans.specs.Storing.{StoreGives}
 use Rattle.monitor_machine.specs.declared.machine.LiveMachine.{LiveMachine}
 use Rattle.monitor_machine.specs.declared.outcome.Outcome.{Outcome}
-use Rattle.monitor_machine.specs.Plans.{Answers, HasTwoFiles, IsKept, IsPlan, halted_world, is_plain, needs_files, paused_by, phase_by, phase_of, plan_after, plan_line, plan_outcome, reads_files, world_by}
+use Rattle.monitor_machine.specs.Plans.{Answers, HasTwoFiles, IsKept, IsPlan, answer_of, halted_world, is_plain, needs_files, paused_by, phase_by, phase_of, plan_after, plan_outcome, plan_response, reads_files, world_by}
 use Rattle.monitor_machine.specs.Replying.{OutcomeCause, Replies, calls_files, left_by, outcome_by}
 use Rattle.monitor_machine.specs.State.{IsGuestBy, IsLive, IsMachine}
 
@@ -228,23 +231,25 @@ restore_plan it load live known m given is asks gives =
 
 -- ---- what a plan answers and leaves
 
-line_is : (it : Plan) (live : LiveMachine) (m : Machine) → IsLive live m
-    → plan_line it live ≡ reply_line (plan_answer it m.id (machine.phase_of m) m.config m.metadata)
-line_is it live m own =
-    ap (λ (i : List ℕ). reply_line (plan_answer it i (phase_of live) live.config live.metadata)) own.id_is
-    ∙ ap (λ (p : Phase). reply_line (plan_answer it m.id p live.config live.metadata)) (phase_is live m own)
-    ∙ ap (λ (c : Config). reply_line (plan_answer it m.id (machine.phase_of m) c live.metadata)) own.config_is
-    ∙ ap (λ (d : Data). reply_line (plan_answer it m.id (machine.phase_of m) m.config d)) own.metadata_is
+answer_is : (it : Plan) (live : LiveMachine) (m : Machine) → IsLive live m
+    → answer_of it live ≡ plan_answer it m.id (machine.phase_of m) m.config m.metadata
+answer_is it live m own =
+    ap (λ (i : List ℕ). plan_answer it i (phase_of live) live.config live.metadata) own.id_is
+    ∙ ap (λ (p : Phase). plan_answer it m.id p live.config live.metadata) (phase_is live m own)
+    ∙ ap (λ (c : Config). plan_answer it m.id (machine.phase_of m) c live.metadata) own.config_is
+    ∙ ap (λ (d : Data). plan_answer it m.id (machine.phase_of m) m.config d) own.metadata_is
 
-abbrev pub Does : Plan → Machine → Next → List ℕ → LiveMachine → FilesKnown → Type 0
-Does it m given text after known =
-    (n : Machine) × RequestStep (outcome_by (plan_outcome it) known) given m text n × IsMachine after known n
+abbrev pub Does : Plan → Machine → Next → Answer → LiveMachine → FilesKnown → Type 0
+Does it m given answer after known =
+    (n : Machine) × RequestStep (outcome_by (plan_outcome it) known) given m (respond given answer) n
+    × IsMachine after known n
 
 -- an answer of the machine, whose change leaves n
-pub answered : (live : LiveMachine) (known : FilesKnown) (m n : Machine) (given : Next) (made : Result Change Refusal) (text : List ℕ)
-    → allowed m given ≡ made → text ≡ reply_line (answer_by m made) → LeavesBy m made n → RequestStep flat.Outcome.Answered given m text n
-answered live known m n given made text asks writes leaves = (
-  writes ∙ ap (λ (r : Result Change Refusal). reply_line (answer_by m r)) (sym asks),
+pub answered : (live : LiveMachine) (known : FilesKnown) (m n : Machine) (given : Next) (made : Result Change Refusal) (answer : Answer)
+    → allowed m given ≡ made → answer ≡ answer_by m made → LeavesBy m made n
+    → RequestStep flat.Outcome.Answered given m (respond given answer) n
+answered live known m n given made answer asks is leaves = (
+  ap (respond given) (is ∙ ap (answer_by m) (sym asks)),
   subst (λ (r : Result Change Refusal). LeavesBy m r n) (sym asks) leaves,
 )
 
@@ -322,12 +327,12 @@ fails_alone (change.LoadSnapshot load) m known files reads = (λ i. record { sav
 fails_alone (change.Tell part) m known files reads = cc
 
 pub plan_does : (it : Plan) (live : LiveMachine) (known : FilesKnown) (m : Machine) (given : Next) → IsMachine live known m
-    → IsPlan it m given → Does it m given (plan_line it live) (plan_after it live) known
+    → IsPlan it m given → Does it m given (answer_of it live) (plan_after it live) known
 plan_does (plan.Refused why) live known m given is asks =
-    (m, answered live known m m given (Err why) _ asks (line_is (plan.Refused why) live m is.own) refl, is)
+    (m, answered live known m m given (Err why) _ asks (answer_is (plan.Refused why) live m is.own) refl, is)
 plan_does (plan.Changes it) live known m given is (asks, plain) = (
   plainly m it,
-  answered live known m (plainly m it) given (Ok it) _ asks (line_is (plan.Changes it) live m is.own) (plain_leaves m it plain),
+  answered live known m (plainly m it) given (Ok it) _ asks (answer_is (plan.Changes it) live m is.own) (plain_leaves m it plain),
   record {
     own = record {
       id_is = is.own.id_is;
@@ -345,7 +350,7 @@ plan_does (plan.Changes it) live known m given is (asks, plain) = (
 plan_does (plan.Stores kept) live known m given is (it, asks, stores) =
     let left = keeps it m kept stores in (
       record m { metadata = kept },
-      answered live known m (record m { metadata = kept }) given (Ok it) _ asks (ap reply_line (sym left.1)) left.0,
+      answered live known m (record m { metadata = kept }) given (Ok it) _ asks (sym left.1) left.0,
       record {
         own = record {
           id_is = is.own.id_is;
@@ -361,7 +366,7 @@ plan_does (plan.Stores kept) live known m given is (it, asks, stores) =
 plan_does (plan.Starts w) live known m given is (asks, image, there, world) =
     let n : Machine = configured (started_from (Some image) (disk_of m) m) change.Start in (
       n,
-      answered live known m n given (Ok change.Start) _ asks (line_is (plan.Starts w) live m is.own)
+      answered live known m n given (Ok change.Start) _ asks (answer_is (plan.Starts w) live m is.own)
           (ap (λ (o : Option (List ℕ)). configured (started_from o (disk_of m) m) change.Start) (sym there)),
       record {
         own = record {
@@ -378,7 +383,7 @@ plan_does (plan.Starts w) live known m given is (asks, image, there, world) =
 plan_does (plan.Restores r) live known m given is asks = (
   carried m asks.load asks.it,
   answered live known m (carried m asks.load asks.it) given (Ok (change.LoadSnapshot asks.load)) _ asks.asks
-      (line_is (plan.Restores r) live m is.own)
+      (answer_is (plan.Restores r) live m is.own)
       (subst (λ (f : Result Snapshot Refusal). Restores f m asks.load (carried m asks.load asks.it)) (sym asks.there) refl),
   record {
     own = record {
@@ -398,10 +403,10 @@ plan_does (plan.Restores r) live known m given is asks = (
 )
 plan_does plan.FilesFailed live known m given is (it, asks, reads) = (
   m,
-  (it, asks, fails_alone it m known is.files reads, line_is plan.FilesFailed live m is.own),
+  (it, asks, fails_alone it m known is.files reads, refl),
   is,
 )
-plan_does plan.NoMemory live known m given is asks = (m, (line_is plan.NoMemory live m is.own, refl), is)
+plan_does plan.NoMemory live known m given is asks = (m, (refl, refl), is)
 
 -- ---- which calls call the files
 
@@ -457,18 +462,19 @@ on_same live known left m same is = record {
 }
 
 -- what is due is answered by its plan
-pub replies : (it : Plan) (how : Outcome) (live after : LiveMachine) (text written : List ℕ) (known left : FilesKnown) (given : Next)
-    → Answers it how live after text written → PlanCause it known.health.faults left.health.faults → Lasts known.health left.health
+pub replies : (form : ResponseForm) (it : Plan) (how : Outcome) (live after : LiveMachine) (text written : List ℕ) (known left : FilesKnown) (given : Next)
+    → Answers form it (closes given) how live after text written → PlanCause it known.health.faults left.health.faults → Lasts known.health left.health
     → (Tells known.health → SameFiles known left) → (Tells known.health → (m : Machine) → IsMachine live known m → IsPlan it m given)
-    → Replies given how live after text written known left
-replies it how live after text written known left given a cause lasts same is_plan = record {
+    → Replies form given how live after text written known left
+replies form it how live after text written known left given a cause lasts same is_plan = record {
   cause = cause_by it a.done how known.health.faults left.health.faults a.which a.how_is cause lasts.later;
-  reply = plan_line a.done live;
-  writes = a.writes;
+  responses = respond given (answer_of a.done live);
+  writes = a.writes
+      ∙ ap (λ (l : List ℕ). text ++ l) (sym (append-nil (written_as form (plan_response a.done (closes given) live))));
   went = λ told m here.
       let does = plan_does a.done live known m given here (done_plan it a.done m given a.which (is_plan told m here)) in (
         does.0,
-        subst (λ (h : flat.Outcome). RequestStep h given m (plan_line a.done live) does.0)
+        subst (λ (h : flat.Outcome). RequestStep h given m (respond given (answer_of a.done live)) does.0)
             (ap (λ (h : Outcome). outcome_by h known) (sym a.how_is) ∙ same_left how known left (same told)) does.1,
         subst (λ (q : LiveMachine). IsMachine q left does.0) (sym a.leaves)
             (on_same (plan_after a.done live) known left does.0 (same told) does.2),
@@ -476,9 +482,9 @@ replies it how live after text written known left given a cause lasts same is_pl
 }
 
 -- where no file is asked
-pub replies_alone : (it : Plan) (how : Outcome) (live after : LiveMachine) (text written : List ℕ) (known : FilesKnown) (given : Next)
-    → Answers it how live after text written → PlanCause it known.health.faults known.health.faults
-    → ((m : Machine) → IsPlan it m given) → Replies given how live after text written known known
-replies_alone it how live after text written known given a cause is_plan =
-    replies it how live after text written known known given a cause (record { still = λ told. told; later = le_refl known.health.faults })
+pub replies_alone : (form : ResponseForm) (it : Plan) (how : Outcome) (live after : LiveMachine) (text written : List ℕ) (known : FilesKnown) (given : Next)
+    → Answers form it (closes given) how live after text written → PlanCause it known.health.faults known.health.faults
+    → ((m : Machine) → IsPlan it m given) → Replies form given how live after text written known known
+replies_alone form it how live after text written known given a cause is_plan =
+    replies form it how live after text written known known given a cause (record { still = λ told. told; later = le_refl known.health.faults })
     (λ told. record { saved = refl; calls = refl }) (λ told m here. is_plan m)

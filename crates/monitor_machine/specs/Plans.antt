@@ -1,6 +1,5 @@
 -- What a plan is of the machine, and what it leaves.
-use Rattle.std.specs.Prelude.{◌≡◌, ◌≢◌, ◌⊎◌, ◌+◌, ℕ, List, ◌++◌, Bool, true, false, not, Option, Some, None, Result, Ok, Err}
-use Rattle.vm_types.specs.declared.identity.Identity.{Identity}
+use Rattle.std.specs.Prelude.{◌≡◌, ◌≢◌, ◌⊎◌, ◌+◌, ℕ, List, ◌++◌, length, Bool, true, false, not, Option, Some, None, Ok, Err}
 use Rattle.serde_json.specs.Data.{Data, null}
 use Rattle.vm_outside.specs.Known.{FilesKnown}
 use Rattle.http_stream.specs.declared.request.Next.{Next}
@@ -14,15 +13,17 @@ use Rattle.vm_config.specs.declared.config.Phase.TheVariants as phase
 use Rattle.vm_config.specs.declared.change.Change.{Change}
 use Rattle.vm_config.specs.declared.change.Change.TheVariants as change
 use Rattle.vm_config.specs.Changes.{changed}
-use Rattle.script_output.specs.Output.{reply_line}
+use Rattle.api_rules.specs.declared.answer.Answer.{Answer}
 use Rattle.timer_trace.specs.States.{new_timer}
 use Rattle.flat_guest.specs.Guest.{Guest}
 use Rattle.flat_guest.specs.Start.{started}
 use Rattle.snap_state.specs.declared.copy.StateCopy.{StateCopy}
 use Rattle.flat_snapshot.specs.Copies.{IsCopyOf}
 use Rattle.flat_snapshot.specs.Files.{head_of, saved_pages, state_body}
-use Rattle.snap_writer.specs.Selected.{selected}
+use Rattle.snap_writer.specs.Selected.{can_select, selected}
 use Rattle.flat_snapshot.specs.Found.{Snapshot, found}
+use Rattle.response_form.specs.declared.form.ResponseForm.{ResponseForm}
+use Rattle.response_form.specs.Responses.{Response, written_as}
 use Rattle.flat_machine.specs.Machine.{Machine}
 use Rattle.flat_machine.specs.Requests.{allowed, decided, disk_of, image_of, loads_from, next_identity, parent_in}
 use Rattle.guest_pages.specs.Pages.{cleared}
@@ -121,13 +122,19 @@ IsTask (task.Create c) m given = IsCreate c m given
 abbrev pub HasTwoNames : SnapshotFiles → Type 0
 HasTwoNames names = names.mem_file_path ≢ names.snapshot_path
 
-abbrev pub AreTwoFiles : Task → Type 0
-AreTwoFiles (task.Plan it) = Unit {0}
-AreTwoFiles (task.Create c) = HasTwoNames c.names
-
 abbrev pub HasTwoFiles : Change → Type 0
 HasTwoFiles (change.CreateSnapshot it) = HasTwoNames it.files
 HasTwoFiles it = Unit {0}
+
+-- there is a world, and it has the pages that a create writes
+abbrev pub HasPages : Option WorldValue → Creation → Type 0
+HasPages None c = ⊥
+HasPages (Some w) c = can_select (numbers_in c.numbers) (length w.pages) ≡ true
+
+-- a create that is to be written can be
+abbrev pub IsReady : Task → Option WorldValue → Type 0
+IsReady (task.Plan it) world = Unit {0}
+IsReady (task.Create c) world = HasTwoNames c.names × HasPages world c
 
 -- a plan for which no file was called, or that no call on the files failed
 abbrev pub CallsNone : Task → ℕ → ℕ → Type 0
@@ -139,9 +146,12 @@ abbrev pub CallsLater : Task → FilesKnown → FilesKnown → Type 0
 CallsLater (task.Plan it) before now = Unit {0}
 CallsLater (task.Create c) before now = now ≡ before
 
--- the line of what it answers
-abbrev pub plan_line : Plan → LiveMachine → List ℕ
-plan_line it live = reply_line (plan_answer it live.id (phase_of live) live.config live.metadata)
+-- what it answers, and whether the connection ends with that
+abbrev pub answer_of : Plan → LiveMachine → Answer
+answer_of it live = plan_answer it live.id (phase_of live) live.config live.metadata
+
+abbrev pub plan_response : Plan → Bool → LiveMachine → Response
+plan_response it closes live = record { answer = answer_of it live; closes = closes }
 
 abbrev pub plan_outcome : Plan → Outcome
 plan_outcome (plan.Refused why) = Answered
@@ -204,11 +214,12 @@ created_after c live = record live {
 abbrev pub failed_after : Creation → LiveMachine → LiveMachine
 failed_after c live = record live { ids = record live.ids { next = c.next } }
 
--- The plan's line, or where there was no memory for it the line that says so, came behind the text, and what the line
--- says is done.
-pub record Answers (it : Plan) (how : Outcome) (live after : LiveMachine) (text written : List ℕ) : Type 0 where
+-- The plan's response, or where there was no memory for it the one that says so, came behind the text, and what it says
+-- is done.
+pub record Answers (form : ResponseForm) (it : Plan) (closes : Bool) (how : Outcome) (live after : LiveMachine)
+    (text written : List ℕ) : Type 0 where
   pub done : Plan
   pub which : (done ≡ it) ⊎ (done ≡ plan.NoMemory)
   pub how_is : how ≡ plan_outcome done
-  pub writes : written ≡ text ++ plan_line done live
+  pub writes : written ≡ text ++ written_as form (plan_response done closes live)
   pub leaves : after ≡ plan_after done live

@@ -10,6 +10,9 @@ use Rattle.api_calls.specs.Call.{call_of}
 use Rattle.flat_machine.specs.Outcome as flat
 use Rattle.flat_machine.specs.Machine.{Machine}
 use Rattle.flat_machine.specs.Requests.{RequestStep}
+use Rattle.response_form.specs.declared.form.ResponseForm.{ResponseForm}
+use Rattle.response_form.specs.Responses.{Response, all_written}
+use Rattle.api_rules.specs.declared.answer.Answer.{Answer}
 use Rattle.monitor_machine.specs.declared.machine.LiveMachine.{LiveMachine}
 use Rattle.monitor_machine.specs.declared.outcome.Outcome.{Outcome}
 use Rattle.monitor_machine.specs.declared.outcome.Outcome.TheVariants.{Answered, Failed, NoMemory}
@@ -42,11 +45,16 @@ OutcomeCause Answered before now = now ≡ before
 OutcomeCause Failed before now = Rose before now
 OutcomeCause NoMemory before now = before ≤ now
 
--- what was due was answered so, its text is behind what was written, and each machine that it was is the machine after it
-pub record Replies (given : Next) (how : Outcome) (live after : LiveMachine) (text written : List ℕ)
-    (known left : FilesKnown) : Type 0 where
+-- the response to a request, with which its connection goes on
+abbrev pub open_response : Answer → Response
+open_response answer = record { answer = answer; closes = false }
+
+-- What was due was answered so, its responses are behind what was written, and each machine that it was is the machine
+-- after it.
+pub record Replies (form : ResponseForm) (given : Next) (how : Outcome) (live after : LiveMachine)
+    (text written : List ℕ) (known left : FilesKnown) : Type 0 where
   pub cause : OutcomeCause how known.health.faults left.health.faults
-  pub reply : List ℕ
-  pub writes : written ≡ text ++ reply
+  pub responses : List Response
+  pub writes : written ≡ text ++ all_written form responses
   pub went : Tells known.health → (m : Machine) → IsMachine live known m
-      → (n : Machine) × RequestStep (outcome_by how left) given m reply n × IsMachine after left n
+      → (n : Machine) × RequestStep (outcome_by how left) given m responses n × IsMachine after left n

@@ -1,16 +1,17 @@
 -- What stands before the pages of a diff, and which pages these are.
-use Rattle.std.proofs.Common.{◌≡◌, ℕ, zero, suc, ◌+◌, ◌≤◌, ◌<◌, nat_le, nat_lt, Bool, true, false, cond, ◌&&◌, List, [], ◌∷◌, ◌++◌, Some, length, drop, slice_get, refl, sym, ap, ◌∙◌, arith}
+use Rattle.std.proofs.Common.{◌≡◌, ℕ, suc, ◌+◌, ◌≤◌, nat_le, nat_lt, Bool, true, false, cond, List, [], ◌∷◌, ◌++◌, Some, length, drop, slice_get, refl, ap, ◌∙◌, arith}
+use Rattle.std.specs.List.{list_all}
 use Rattle.std.proofs.lemmas.Bool.{le-leb, lt-ltb}
 use Rattle.std.proofs.lemmas.List.{length-map}
 use Rattle.vm_types.specs.declared.identity.Identity.{Identity}
 use Rattle.guest_pages.specs.Marks.{marked_from}
 use Rattle.guest_pages.specs.Pages.{PageValue, marks_of}
 use Rattle.flat_guest.specs.Guest.{Guest, numbers_written}
-use Rattle.snap_diff.specs.declared.header.DiffHeader.{DiffHeader}
 use Rattle.snap_diff.specs.Copies.{rises}
 use Rattle.snap_diff.specs.Diffs.{table_bytes}
 use Rattle.snap_diff.specs.Headers.{header}
 use Rattle.flat_snapshot.specs.Files.{diff_head, diff_in}
+use Rattle.snap_writer.specs.Selected.{are_there}
 use Rattle.vm_world.specs.Worlds.{IsWorld, WorldValue}
 
 -- the pages that are marked are those that were written
@@ -54,6 +55,31 @@ pub numbers_rise : (pages : List PageValue) (count : ℕ) (numbers : List ℕ) �
 numbers_rise pages count numbers long marked =
     ap (rises count 0) marked
     ∙ rises_marked (marks_of pages) 0 0 count (omega arith) (omega (arith, long, length-map pages (λ (p : PageValue). p.marked)))
+
+-- they are numbers of pages, and no more than there are pages
+marked_few : (marks : List Bool) (i : ℕ) → length (marked_from i marks) ≤ length marks
+marked_few [] i = omega arith
+marked_few (true ∷ marks) i = let few = marked_few marks (suc i) in omega (arith, few)
+marked_few (false ∷ marks) i = let few = marked_few marks (suc i) in omega (arith, few)
+
+marked_below : (marks : List Bool) (i count : ℕ) → i + length marks ≤ count
+    → list_all (λ n. nat_lt n count) (marked_from i marks) ≡ true
+marked_below [] i count to = refl
+marked_below (true ∷ marks) i count to =
+    let first : nat_lt i count ≡ true = lt-ltb i count (omega (arith, to)) in
+    let more = marked_below marks (suc i) count (omega (arith, to)) in
+    rw (first, more) refl
+marked_below (false ∷ marks) i count to = marked_below marks (suc i) count (omega (arith, to))
+
+pub are_pages : (pages : List PageValue) (numbers : List ℕ) → numbers ≡ marked_from 0 (marks_of pages)
+    → are_there numbers (length pages) ≡ true
+are_pages pages numbers marked =
+    let marks = marks_of pages in
+    let long : length marks ≡ length pages = length-map pages (λ (p : PageValue). p.marked) in
+    let few : nat_le (length (marked_from 0 marks)) (length pages) ≡ true =
+    le-leb (length (marked_from 0 marks)) (length pages) (omega (arith, marked_few marks 0, long)) in
+    let below = marked_below marks 0 (length pages) (omega (arith, long)) in
+    ap (λ (ns : List ℕ). are_there ns (length pages)) marked ∙ rw (few, below) refl
 
 -- the header and the table
 pub diff_head_is : (parent identity : Identity) (pages count : ℕ) (numbers file lent head : List ℕ) (g : Guest)

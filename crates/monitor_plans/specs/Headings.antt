@@ -1,10 +1,10 @@
 -- What stands before the pages of a memory file, and which pages follow.
-use Rattle.std.specs.Prelude.{◌≡◌, ℕ, List, Option, Some, None, Vec}
+use Rattle.std.specs.Prelude.{◌≡◌, ℕ, true, List, length, Option, Some, None, Vec}
 use Rattle.std.specs.Global.{Global}
 use Rattle.vm_types.specs.declared.identity.Identity.{Identity}
 use Rattle.flat_guest.specs.Guest.{Guest}
 use Rattle.flat_snapshot.specs.Files.{head_of, saved_pages}
-use Rattle.snap_writer.specs.Selected.{selected}
+use Rattle.snap_writer.specs.Selected.{can_select, selected}
 use Rattle.vm_world.specs.Worlds.{IsWorld, WorldValue}
 use Rattle.monitor_plans.specs.declared.heading.Heading.{Heading}
 
@@ -12,7 +12,8 @@ abbrev pub numbers_in : Option (Vec ℕ Global) → Option (List ℕ)
 numbers_in None = None
 numbers_in (Some numbers) = Some numbers.items
 
--- of each guest that the world is
+-- of each guest that the world is, whose pages are those of these numbers
 pub record IsHeading (it : Heading) (parent : Option Identity) (identity : Identity) (pages : ℕ) (w : WorldValue) : Type 0 where
+  pub there : can_select (numbers_in it.numbers) (length w.pages) ≡ true
   pub head_is : (g : Guest) → IsWorld w g → it.head ≡ head_of parent identity pages g
   pub pages_are : (g : Guest) → IsWorld w g → selected (numbers_in it.numbers) g.memory.bytes ≡ saved_pages parent pages g

@@ -1,9 +1,9 @@
 // What a create comes to.
-ghost use Rattle.std.specs.Prelude.{◌≡◌, ◌≢◌, IfOk, IfSome, IsTrue};
+ghost use Rattle.std.specs.Prelude.{◌≡◌, ◌≢◌, IfOk, IfSome, IsTrue, is_some, length};
 ghost use Rattle.file_format.specs.Identities.{is_numbered};
 ghost use Rattle.flat_snapshot.specs.Files.{state_body};
 ghost use Rattle.guest_pages.specs.Pages.{flat_of};
-ghost use Rattle.snap_writer.specs.Selected.{selected};
+ghost use Rattle.snap_writer.specs.Selected.{can_select, selected};
 ghost use Rattle.snap_state.specs.Valid.{is_valid};
 ghost use Rattle.monitor_plans.specs.Creating.{CreateGives, IsCreation};
 ghost use Rattle.monitor_plans.specs.Headings.{numbers_in};
@@ -105,9 +105,11 @@ fn body_of(alloc: Global, identity: Identity, copy: &StateCopy) -> Result<ByteLi
     Ok(body)
 }
 
-/// The pages of these numbers, or all. `None` where a number is no page's.
+/// The pages of these numbers, or all. `None` where a number is no page's, or there are more of them than pages.
 pub fn pages_of<'a>(guest: &'a World, numbers: &'a Option<Vec<u32>>) -> Option<SavedPages<'a>>
-    ensures { IfSome result (λ pages. pages ≡ selected (numbers_in numbers.now) (flat_of guest.now.pages).bytes) }
+    ensures pages { IfSome result (λ pages.
+        pages ≡ selected (numbers_in numbers.now) (flat_of guest.now.pages).bytes) }
+    ensures there { is_some result ≡ can_select (numbers_in numbers.now) (length guest.now.pages) }
 {
     match numbers {
         None => Some(SavedPages::all(guest.pages())),

@@ -14,7 +14,7 @@ mod starting;
 mod storing;
 
 pub use creating::{Creation, create, pages_of};
-pub use plan::{Plan, Task, done_line};
+pub use plan::{Plan, Task};
 pub use restoring::{Restored, restore};
 pub use starting::start;
 pub use storing::{patch_metadata, put_metadata};

@@ -1,7 +1,5 @@
 // What comes of something that is due on the connection.
 ghost use Rattle.std.specs.Prelude.{◌≡◌, IfOk};
-ghost use Rattle.script_output.specs.Output.{reply_line};
-ghost use Rattle.api_rules.specs.Answers.{no_content};
 ghost use Rattle.monitor_plans.specs.Plans.{plan_answer};
 
 use crate::creating::Creation;
@@ -10,7 +8,6 @@ use api_rules::{Answer, Change, Config, Phase, accepted_answer, done_answer, fau
 use metadata_store::Store;
 use refusals::Refusal;
 use std::alloc::{AllocError, Global};
-use vm_types::ByteList;
 use vm_world::World;
 
 /// What comes of a request, where no file is left to be written: it is refused; it changes this; it stores these
@@ -34,8 +31,8 @@ pub enum Task {
 }
 
 impl Plan {
-    /// What the machine of this id in this phase, with these metadata, answers.
-    fn answer(
+    /// What the machine of this id in this phase, with this configuration and these metadata, answers.
+    pub fn answer(
         &self,
         alloc: Global,
         id: &str,
@@ -54,27 +51,4 @@ impl Plan {
             Plan::NoMemory => fault_answer(alloc, Refusal::OutOfMemory),
         }
     }
-
-    /// The line of that answer.
-    pub fn line(
-        &self,
-        alloc: Global,
-        id: &str,
-        phase: Phase,
-        config: &Config,
-        metadata: &Store,
-    ) -> Result<ByteList, AllocError>
-        ensures { IfOk result (λ line. line
-            ≡ reply_line (plan_answer self.now id.now phase config.now metadata.now)) }
-    {
-        let answer = self.answer(alloc, id, phase, config, metadata)?;
-        Ok(script_output::reply_line(alloc, &answer)?)
-    }
-}
-
-/// The line of a call that is done and tells nothing.
-pub fn done_line(alloc: Global) -> Result<ByteList, AllocError>
-    ensures { IfOk result (λ line. line ≡ reply_line no_content) }
-{
-    script_output::reply_line(alloc, &done_answer())
 }

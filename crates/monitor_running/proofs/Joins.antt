@@ -94,11 +94,11 @@ answered_first start now xs ys all = (
   },
 )
 
--- more acts, which were told, shown and asked for
-pub goes_by : (s : Start) (old now : Seen) (m n : Machine) (talk : List Out) (acts : List Act) (outs : List Out)
+-- more acts, which were told, shown, said and asked for
+pub goes_with : (s : Start) (old now : Seen) (m n : Machine) (talk : List Out) (acts : List Act) (outs : List Out)
     → Reached s old m talk → Run acts m outs n → now.took ≡ old.took ++ items_of acts → now.taken ≡ old.taken ++ shown outs
-    → said outs ≡ [] → HasAnswered old.clock (answers_in (items_of acts)) now.clock → Reached s now n talk
-goes_by s old now m n talk acts outs r run told sunk unsaid asked = record {
+    → HasAnswered old.clock (answers_in (items_of acts)) now.clock → Reached s now n (talk ++ said outs)
+goes_with s old now m n talk acts outs r run told sunk asked = record {
   acts = r.acts ++ acts;
   outs = r.outs ++ outs;
   added =
@@ -109,12 +109,20 @@ goes_by s old now m n talk acts outs r run told sunk unsaid asked = record {
       sunk ∙ ap (λ (l : List ℕ). l ++ shown outs) r.sink ∙ append_assoc s.seen.taken (shown r.outs) (shown outs)
       ∙ ap (λ (l : List ℕ). s.seen.taken ++ l) (sym (shown_append r.outs outs));
   talks =
-      r.talks ∙ ap (λ (l : List Out). s.talk ++ l)
-      (sym (append-nil (said r.outs)) ∙ ap (λ (l : List Out). said r.outs ++ l) (sym unsaid) ∙ sym (said_append r.outs outs));
+      ap (λ (l : List Out). l ++ said outs) r.talks ∙ append_assoc s.talk (said r.outs) (said outs)
+      ∙ ap (λ (l : List Out). s.talk ++ l) (sym (said_append r.outs outs));
   asked = subst (λ (l : List ℕ). HasAnswered s.seen.clock l now.clock)
       (sym (ap answers_in (items_append r.acts acts) ∙ answers_append (items_of r.acts) (items_of acts)))
       (answered_append s.seen.clock old.clock now.clock (answers_in (items_of r.acts)) (answers_in (items_of acts)) r.asked asked);
 }
+
+-- which are said on no connection
+pub goes_by : (s : Start) (old now : Seen) (m n : Machine) (talk : List Out) (acts : List Act) (outs : List Out)
+    → Reached s old m talk → Run acts m outs n → now.took ≡ old.took ++ items_of acts → now.taken ≡ old.taken ++ shown outs
+    → said outs ≡ [] → HasAnswered old.clock (answers_in (items_of acts)) now.clock → Reached s now n talk
+goes_by s old now m n talk acts outs r run told sunk unsaid asked =
+    subst (λ (t : List Out). Reached s now n t) (ap (λ (l : List Out). talk ++ l) unsaid ∙ append-nil talk)
+    (goes_with s old now m n talk acts outs r run told sunk asked)
 
 -- a clock that was asked nothing
 pub rests : (s : Start) (old now : Seen) (m : Machine) (talk : List Out) → Reached s old m talk → now.took ≡ old.took

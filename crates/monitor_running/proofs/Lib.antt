@@ -2,4 +2,5 @@ pub mod Asked
 pub mod Joins
 pub mod Led
 pub mod Lifts
+pub mod Passing
 pub mod Told

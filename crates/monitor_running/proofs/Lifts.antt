@@ -1,27 +1,32 @@
 -- From the world of a machine to the machine, and from one slice to the next.
-use Rattle.std.proofs.Common.{◌≡◌, ℕ, suc, ◌+◌, ◌≤◌, ◌<◌, Bool, true, false, refl, sym, ap, ◌∙◌, subst, List, [], ◌∷◌, ◌++◌, length, slice_get, Option, Some, None, MatchBool, arith}
-use Rattle.vm_types.specs.declared.entry.Entry.{Entry}
-use Rattle.vm_outside.specs.Known.{FilesKnown, Health}
-use Rattle.vm_outside.specs.Known as known
-use Rattle.vm_host.specs.Telling.{Lasts}
+use Rattle.std.proofs.Common.{◌≡◌, ℕ, suc, ◌+◌, ◌≤◌, ◌<◌, Bool, true, false, refl, sym, ap, ◌∙◌, subst, List, [], ◌∷◌, ◌++◌, length, slice_get, Option, Some, None, All, arith}
+use Rattle.vm_types.specs.Causes.{Rose}
+use Rattle.vm_outside.specs.Known.{FilesKnown, Health, SinkKnown}
+use Rattle.vm_outside.specs.Known as objects
+use Rattle.vm_host.specs.Telling.{ClockKnown, Lasts}
+use Rattle.serve_host.specs.Tracing.{TraceKnown}
 use Rattle.flat_guest.specs.Guest.{Guest}
 use Rattle.flat_machine.specs.Machine.{Machine, is_off, running_by}
 use Rattle.vm_world.specs.Worlds.{IsWorld, WorldValue}
-use Rattle.slice_runner.specs.declared.slice.SliceError.{SliceError}
-use Rattle.slice_runner.specs.declared.slice.SliceError.TheVariants as error
-use Rattle.slice_runner.specs.declared.stop.Stopped.{Stopped}
-use Rattle.slice_runner.specs.Stops.{AreStopped}
 use Rattle.monitor_machine.specs.declared.machine.LiveMachine.{LiveMachine}
 use Rattle.monitor_machine.specs.Running.{resting_world, running_world}
 use Rattle.monitor_machine.specs.State.{IsGuestBy, IsLive, IsMachine}
 use Rattle.monitor_running.specs.declared.ran.Ran.{Ran}
 use Rattle.monitor_running.specs.declared.ran.Ran.TheVariants as ran
-use Rattle.monitor_running.specs.Passes.{AtFirst, HasAsked, HasRisen, NeverFell}
-use Rattle.monitor_running.specs.Ran.{HasFault, IsEnd, IsRunning, RanOn, slice_end}
-use Rattle.monitor_running.specs.Reached.{Keeps, KeepsAs, Kept, Reached, Seen, Start}
+use Rattle.monitor_running.specs.Ran.{HasFault, IsRunning, RanOn, Went}
+use Rattle.monitor_running.specs.Reached.{Keeps, KeepsAs, Kept, Known, Reached, Seen, Start, known, seen}
 use Rattle.flat_trace.specs.Showing.{Out}
 use Rattle.monitor_running.proofs.Joins.{rests}
 use Rattle.monitor_running.proofs.Led.{guest_is}
+
+-- ---- what an object told, call after call
+
+pub lasts_same : (told : Health) → objects.Lasts told told
+lasts_same told = record { still = λ tells. tells; later = omega arith }
+
+lasts_more : (before mid now : Health) → objects.Lasts before mid → objects.Lasts mid now → objects.Lasts before now
+lasts_more before mid now first second =
+    record { still = λ tells. second.still (first.still tells); later = omega (arith, first.later, second.later) }
 
 -- ---- a body that keeps what was, and then ends so
 
@@ -34,19 +39,20 @@ module _ {B : Type 0} (Is : B → Machine → Type 0) (old mid now : Seen) (b c 
   kept_after s m talk k last e n =
       record { flat = n.flat; is = n.is; beside = joined m k.flat n.flat k.beside n.beside; reached = n.reached }
 
-  pub keeps_on : Keeps Is mid c now d → Keeps Is old b now d
+  keeps_on : Keeps Is mid c now d → Keeps Is old b now d
   keeps_on more s m talk is r =
       let k = keeps s m talk is r in
       kept_after s m talk k now d (more s k.flat talk k.is k.reached)
 
-  pub ran_on : (end : Ran) → RanOn Is end mid c now d → RanOn Is end old b now d
-  ran_on ran.Closed on = λ s m talk is r.
+  ran_on : (end : Option Ran) → RanOn Is end mid c now d → RanOn Is end old b now d
+  ran_on None on = keeps_on on
+  ran_on (Some ran.Closed) on = λ s m talk is r.
       let k = keeps s m talk is r in
       let n = on s k.flat talk k.is k.reached in (kept_after s m talk k now d n.0, n.1)
-  ran_on ran.Off on = λ s m talk is r.
+  ran_on (Some ran.Off) on = λ s m talk is r.
       let k = keeps s m talk is r in
       let n = on s k.flat talk k.is k.reached in (kept_after s m talk k now d n.0, n.1)
-  ran_on ran.TraceFailed on = λ s m talk is r.
+  ran_on (Some ran.TraceFailed) on = λ s m talk is r.
       let k = keeps s m talk is r in
       let n = on s k.flat talk k.is k.reached in record {
         told = n.told;
@@ -62,11 +68,11 @@ module _ {B : Type 0} (Is : B → Machine → Type 0) (old mid now : Seen) (b c 
         is = n.is;
         beside = joined m k.flat n.flat k.beside n.beside;
       }
-  ran_on ran.SinkFailed on = λ s m talk is r.
+  ran_on (Some ran.SinkFailed) on = λ s m talk is r.
       let k = keeps s m talk is r in
       let n = on s k.flat talk k.is k.reached in
       (n.0, kept_after s m talk k (record now { taken = now.taken ++ n.0 }) d n.1)
-  ran_on (ran.Torn torn journals histories) on = record {
+  ran_on (Some (ran.Torn torn journals histories)) on = record {
     world = on.world;
     slice = on.slice;
     clock = on.clock;
@@ -75,7 +81,7 @@ module _ {B : Type 0} (Is : B → Machine → Type 0) (old mid now : Seen) (b c 
         let n = on.kept s k.flat talk k.is k.reached in
         record { flat = n.flat; is = n.is; beside = joined m k.flat n.flat k.beside n.beside; reached = n.reached };
   }
-  ran_on ran.OutOfMemory on = keeps_on on
+  ran_on (Some ran.OutOfMemory) on = keeps_on on
 
 -- nothing happened
 pub keeps_same : {B : Type 0} (Is : B → Machine → Type 0) (old now : Seen) (b : B) → now ≡ old → Keeps Is old b now b
@@ -147,15 +153,16 @@ module _ (live after : LiveMachine) (old now : Seen) (w v : WorldValue) (some : 
     reached = k.reached;
   }
 
-  pub lift_keeps : Keeps IsRunning old w now v → Keeps IsLive old live now after
+  lift_keeps : Keeps IsRunning old w now v → Keeps IsLive old live now after
   lift_keeps keeps s m talk is r = lifted s m talk now is (keeps s m talk (runs_as live m w some moving is) r)
 
-  pub lift : (end : Ran) → RanOn IsRunning end old w now v → RanOn IsLive end old live now after
-  lift ran.Closed on = λ s m talk is r.
+  lift : (end : Option Ran) → RanOn IsRunning end old w now v → RanOn IsLive end old live now after
+  lift None on = lift_keeps on
+  lift (Some ran.Closed) on = λ s m talk is r.
       let n = on s m talk (runs_as live m w some moving is) r in (lifted s m talk now is n.0, n.1)
-  lift ran.Off on = λ s m talk is r.
+  lift (Some ran.Off) on = λ s m talk is r.
       let n = on s m talk (runs_as live m w some moving is) r in (lifted s m talk now is n.0, n.1)
-  lift ran.TraceFailed on = λ s m talk is r.
+  lift (Some ran.TraceFailed) on = λ s m talk is r.
       let n = on s m talk (runs_as live m w some moving is) r in record {
         told = n.told;
         clock = n.clock;
@@ -170,16 +177,16 @@ module _ (live after : LiveMachine) (old now : Seen) (w v : WorldValue) (some : 
         is = subst (λ (x : LiveMachine). IsLive x n.flat) (sym back) (lives_on live m n.flat v is n.beside n.is);
         beside = n.beside;
       }
-  lift ran.SinkFailed on = λ s m talk is r.
+  lift (Some ran.SinkFailed) on = λ s m talk is r.
       let n = on s m talk (runs_as live m w some moving is) r in
       (n.0, lifted s m talk (record now { taken = now.taken ++ n.0 }) is n.1)
-  lift (ran.Torn torn journals histories) on = record {
+  lift (Some (ran.Torn torn journals histories)) on = record {
     world = on.world;
     slice = on.slice;
     clock = on.clock;
     kept = λ s m talk is r. on.kept s m talk (runs_as live m w some moving is) r;
   }
-  lift ran.OutOfMemory on = lift_keeps on
+  lift (Some ran.OutOfMemory) on = lift_keeps on
 
 -- ---- the guest is on, or off
 
@@ -188,52 +195,31 @@ pub keeps_as : (off : Bool) (old now : Seen) (live after : LiveMachine) → Keep
 keeps_as off old now live after keeps is_so s m talk is r =
     let k = keeps s m talk is r in (k, sym (is_so k.flat k.is))
 
--- ---- passes
-
-first_of : {A : Type 0} (xs : List A) (n : ℕ) → length xs ≡ suc n → (x : A) × (slice_get xs 0 ≡ Some x)
-first_of [] n is = absurd (omega (arith, is))
-first_of (x ∷ xs) n is = (x, refl)
-
-pub first_there : {A : Type 0} (xs : List A) → 0 < length xs → (x : A) × (slice_get xs 0 ≡ Some x)
-first_there [] is = absurd (omega (arith, is))
-first_there (x ∷ xs) is = (x, refl)
-
-pub slice_never_fell : {Q : Type 0} (closed : Q → ℕ) (n : ℕ) (events : List Entry) (now : WorldValue) (stops : List Stopped)
-    (before after : List Q) → AreStopped closed n events now stops before after → AtFirst (NeverFell closed) before after
-slice_never_fell closed n events now stops before after are p q is later =
-    let s = first_of stops (length now.harts) are.count in
-    let stopped = are.each 0 s.0 p q s.1 is later in
-    let gate = stopped.cause.gate in
-    omega (arith, gate)
-
 -- ---- a machine, of which a slice is made or none
 
-pub rested : (live after : LiveMachine) (old now : Seen) → after ≡ live → now.took ≡ old.took → now.taken ≡ old.taken
-    → Lasts old.clock now.clock → Keeps IsLive old live now after
-rested live after old now same told sunk lasts =
-    subst (λ (x : LiveMachine). Keeps IsLive old live now x) (sym same) (keeps_resting IsLive old now live told sunk lasts)
+-- nothing happened but that a clock rested
+pub went_resting : {B : Type 0} (Is : B → Machine → Type 0) (trace : TraceKnown) (sink : SinkKnown) (asked now : ClockKnown)
+    (b c : B) → c ≡ b → Lasts asked now → Went Is None (known trace sink asked) b (known trace sink now) c
+went_resting Is trace sink asked now b c same lasts = record {
+  ran = λ t k. rw same (keeps_resting Is (seen (known trace sink asked)) (seen (known trace sink now)) b refl refl lasts);
+  fault = tt;
+  trace_lasts = lasts_same trace.health;
+  sink_lasts = lasts_same sink.health;
+}
 
--- its world was taken out, and came back as it was
-pub put_back : (live taken after : LiveMachine) (w : WorldValue) → running_world live.guest live.paused ≡ Some w
-    → taken ≡ record live { guest = resting_world live.guest live.paused } → after ≡ record taken { guest = Some w } → after ≡ live
-put_back live taken after w some left back =
-    back ∙ ap (λ (x : LiveMachine). record x { guest = Some w }) left
-    ∙ ap (λ (o : Option WorldValue). record live { guest = o }) (sym (some_taken live.guest live.paused w some).0)
-
-module _ (live taken after : LiveMachine) (old now : Seen) (w v : WorldValue) (some : running_world live.guest live.paused ≡ Some w)
+module _ (live taken after : LiveMachine) (old now : Known) (w v : WorldValue) (some : running_world live.guest live.paused ≡ Some w)
     (left : taken ≡ record live { guest = resting_world live.guest live.paused }) (back : after ≡ record taken { guest = Some v }) where
   whole : after ≡ record live { guest = Some v }
   whole = back ∙ ap (λ (x : LiveMachine). record x { guest = Some v }) left
 
-  pub slice_kept : Keeps IsRunning old w now v → Keeps IsLive old live now after
-  slice_kept keeps =
-      let parts = some_taken live.guest live.paused w some in
-      lift_keeps live after old now w v parts.0 parts.1 whole keeps
-
-  pub slice_ended : (end : Ran) → RanOn IsRunning end old w now v → RanOn IsLive end old live now after
-  slice_ended end on =
-      let parts = some_taken live.guest live.paused w some in
-      lift live after old now w v parts.0 parts.1 whole end on
+  pub slice_lifted : (end : Option Ran) → Went IsRunning end old w now v → Went IsLive end old live now after
+  slice_lifted end h =
+      let parts = some_taken live.guest live.paused w some in record {
+        ran = λ t k. lift live after (seen old) (seen now) w v parts.0 parts.1 whole end (h.ran t k);
+        fault = h.fault;
+        trace_lasts = h.trace_lasts;
+        sink_lasts = h.sink_lasts;
+      }
 
 -- ---- what the machine tells of its guest
 
@@ -246,55 +232,60 @@ pub off_is : (live : LiveMachine) (off answer : Bool) → answer ≡ off
 off_is live off answer same says m is =
     sym same ∙ says (files_of m) m (record { own = is; files = record { saved_is = refl; calls_is = refl } })
 
--- ---- the first pass, asked once more
+-- the guest is off, or on, and nothing is done
+pub went_off : (known_by : Known) (live : LiveMachine) (answer : Bool) → answer ≡ true
+    → ((known : FilesKnown) (m : Machine) → IsMachine live known m → answer ≡ is_off m)
+    → Went IsLive (Some ran.Off) known_by live known_by live
+went_off k live answer is says = record {
+  ran = λ t s. keeps_as true (seen k) (seen k) live live (keeps_same IsLive (seen k) (seen k) live refl)
+      (off_is live true answer is says);
+  fault = tt;
+  trace_lasts = lasts_same k.trace.health;
+  sink_lasts = lasts_same k.sink.health;
+}
 
-pub risen : {Q : Type 0} (closed : Q → ℕ) (before mid after : List Q) (answer : Bool) → 0 < length mid → answer ≡ false
-    → AtFirst (NeverFell closed) before mid → AtFirst (HasAsked closed answer) mid after → AtFirst (HasRisen closed) before after
-risen closed before mid after answer some is fell asked p q first last =
-    let r = first_there mid some in
-    let a = fell p r.0 first r.1 in
-    let b : closed q ≡ closed r.0 + 1 =
-    subst (λ (x : Bool). MatchBool x (closed q ≡ closed r.0) (closed q ≡ closed r.0 + 1)) is (asked r.0 q r.1 last) in
-    omega (arith, a, b)
+pub went_closed : (known_by : Known) (live : LiveMachine) (answer : Bool) → answer ≡ false
+    → ((known : FilesKnown) (m : Machine) → IsMachine live known m → answer ≡ is_off m)
+    → Went IsLive (Some ran.Closed) known_by live known_by live
+went_closed k live answer is says = record {
+  ran = λ t s. keeps_as false (seen k) (seen k) live live (keeps_same IsLive (seen k) (seen k) live refl)
+      (off_is live false answer is says);
+  fault = tt;
+  trace_lasts = lasts_same k.trace.health;
+  sink_lasts = lasts_same k.sink.health;
+}
 
-once_more : (answer : Bool) (p q : ℕ) → MatchBool answer (q ≡ p) (q ≡ p + 1) → p ≤ q
-once_more true p q is = omega (arith, is)
-once_more false p q is = omega (arith, is)
+-- ---- one slice behind others
 
-pub never_on : {Q : Type 0} (closed : Q → ℕ) (first mid last now : List Q) (answer : Bool) → 0 < length mid → 0 < length last
-    → AtFirst (NeverFell closed) first mid → AtFirst (HasAsked closed answer) mid last → AtFirst (NeverFell closed) last now
-    → AtFirst (NeverFell closed) first now
-never_on closed first mid last now answer some more fell asked fell_too p q at_first at_now =
-    let r = first_there mid some in
-    let t = first_there last more in
-    let a = fell p r.0 at_first r.1 in
-    let b = once_more answer (closed r.0) (closed t.0) (asked r.0 t.0 r.1 t.1) in
-    let c = fell_too t.0 q t.1 at_now in
-    omega (arith, a, b, c)
+rose_later : (before mid now : ℕ) → before ≤ mid → Rose mid now → Rose before now
+rose_later before mid now later rose = omega (arith, later, rose)
 
-some_same : {A : Type 0} (o : Option A) (x y : A) → o ≡ Some x → o ≡ Some y → x ≡ y
-some_same o x y first last = cc
+fault_on : (end : Option Ran) (old mid now : Known) → objects.Lasts old.trace.health mid.trace.health
+    → objects.Lasts old.sink.health mid.sink.health → HasFault end mid now → HasFault end old now
+fault_on None old mid now trace sink fault = tt
+fault_on (Some ran.Closed) old mid now trace sink fault = tt
+fault_on (Some ran.Off) old mid now trace sink fault = tt
+fault_on (Some ran.TraceFailed) old mid now trace sink fault =
+    rose_later old.trace.health.faults mid.trace.health.faults now.trace.health.faults trace.later fault
+fault_on (Some ran.SinkFailed) old mid now trace sink fault =
+    rose_later old.sink.health.faults mid.sink.health.faults now.sink.health.faults sink.later fault
+fault_on (Some (ran.Torn torn journals histories)) old mid now trace sink fault = tt
+fault_on (Some ran.OutOfMemory) old mid now trace sink fault = tt
 
-pub never_fell_same : {Q : Type 0} (closed : Q → ℕ) (passes : List Q) → AtFirst (NeverFell closed) passes passes
-never_fell_same closed passes p q first last =
-    let same = ap closed (some_same (slice_get passes 0) p q first last) in omega (arith, same)
+pub went_on : {B : Type 0} (Is : B → Machine → Type 0) (end : Option Ran) (old mid now : Known) (b c d : B)
+    → Went Is None old b mid c → Went Is end mid c now d → Went Is end old b now d
+went_on Is end old mid now b c d first last = record {
+  ran = λ t k. ran_on Is (seen old) (seen mid) (seen now) b c d (first.ran t k) end
+      (last.ran (first.trace_lasts.still t) (first.sink_lasts.still k));
+  fault = fault_on end old mid now first.trace_lasts first.sink_lasts last.fault;
+  trace_lasts = lasts_more old.trace.health mid.trace.health now.trace.health first.trace_lasts last.trace_lasts;
+  sink_lasts = lasts_more old.sink.health mid.sink.health now.sink.health first.sink_lasts last.sink_lasts;
+}
 
--- ---- ends and their faults
-
-failed_end : (why : SliceError) (trace traced sink sunk : ℕ) → IsEnd (slice_end why) × HasFault (slice_end why) trace traced sink sunk
-failed_end (error.Torn torn journals histories) trace traced sink sunk = (tt, tt)
-failed_end error.OutOfMemory trace traced sink sunk = (tt, tt)
-
-pub failed_is_end : (end : Ran) (why : SliceError) (trace traced sink sunk : ℕ) → end ≡ slice_end why
-    → IsEnd end × HasFault end trace traced sink sunk
-failed_is_end end why trace traced sink sunk is =
-    subst (λ (r : Ran). IsEnd r × HasFault r trace traced sink sunk) (sym is) (failed_end why trace traced sink sunk)
-
--- ---- what an object told, call after call
-
-pub lasts_same : (told : Health) → known.Lasts told told
-lasts_same told = record { still = λ tells. tells; later = omega arith }
-
-pub lasts_more : (before mid now : Health) → known.Lasts before mid → known.Lasts mid now → known.Lasts before now
-lasts_more before mid now first second =
-    record { still = λ tells. second.still (first.still tells); later = omega (arith, first.later, second.later) }
+pub went_nowhere : {B : Type 0} (Is : B → Machine → Type 0) (k : Known) (b : B) → Went Is None k b k b
+went_nowhere Is k b = record {
+  ran = λ t s. keeps_same Is (seen k) (seen k) b refl;
+  fault = tt;
+  trace_lasts = lasts_same k.trace.health;
+  sink_lasts = lasts_same k.sink.health;
+}

@@ -1,10 +1,14 @@
 -- What a slice leaves, told to its end or not.
-use Rattle.std.proofs.Common.{◌≡◌, ℕ, false, refl, sym, ap, ◌∙◌, subst, List, [], ◌∷◌, ◌++◌, take, drop, All, append_assoc, append-nil, take-append-drop, length, Some}
+use Rattle.std.proofs.Common.{◌≡◌, ℕ, false, refl, sym, ap, ◌∙◌, subst, List, [], ◌∷◌, ◌++◌, take, drop, All, append_assoc, append-nil, take-append-drop, length, Option, Some, None, arith}
 use Rattle.std.specs.Prelude.{Result, Ok, Err}
 use Rattle.std.proofs.lemmas.List.Elements.{All-from_recursion}
 use Rattle.vm_types.specs.declared.entry.Entry.{Entry}
 use Rattle.vm_types.specs.declared.torn.Torn.{Torn}
+use Rattle.vm_types.specs.Causes.{Rose}
+use Rattle.vm_outside.specs.Known.{Health, SinkKnown}
+use Rattle.vm_outside.specs.Known as objects
 use Rattle.vm_outside.specs.Passing.{TakesPart}
+use Rattle.serve_host.specs.Tracing.{TraceKnown}
 use Rattle.script_text.specs.declared.item.Item.{Item}
 use Rattle.vm_host.specs.Telling.{ClockKnown, Lasts}
 use Rattle.board_table.specs.Board.{Board}
@@ -19,12 +23,13 @@ use Rattle.slice_runner.specs.declared.slice.SliceError.TheVariants as error
 use Rattle.slice_runner.specs.Ended.{HasFailed}
 use Rattle.slice_runner.specs.Slices.{ClockWasAsked, IsSerial, IsTornSlice, Leads}
 use Rattle.monitor_running.specs.declared.ran.Ran.{Ran}
+use Rattle.monitor_running.specs.declared.ran.Ran.TheVariants as ran
 use Rattle.monitor_running.specs.declared.telling.Untold.{Untold}
 use Rattle.monitor_running.specs.declared.telling.Untold.TheVariants as untold
 use Rattle.flat_trace.specs.Events.{answers_in, drain_items, event_acts, event_items, needs_room}
 use Rattle.monitor_running.specs.Items.{DrainStops, Drains, HasDrained, TellStops, TellsPart, TellsSlice, drained_world}
-use Rattle.monitor_running.specs.Ran.{IsRunning, IsTornOff, RanOn, end_by, slice_end}
-use Rattle.monitor_running.specs.Reached.{Ahead, GetsAhead, IsCut, Keeps, Reached, Seen, Start}
+use Rattle.monitor_running.specs.Ran.{HasFault, IsRunning, IsTornOff, RanOn, Went, end_by, slice_end}
+use Rattle.monitor_running.specs.Reached.{Ahead, GetsAhead, IsCut, Keeps, Known, Reached, Seen, Start, known}
 use Rattle.flat_trace.specs.Showing.{Out}
 use Rattle.monitor_running.proofs.Asked.{answers_same, roomy}
 use Rattle.monitor_running.proofs.Joins.{answered_first, answers_append, goes_by, rests}
@@ -200,7 +205,7 @@ slice_short took took' taken taken' asked now w v u es slid short s m talk is r 
 
 pub slice_stops : (why : Untold) (took took' : List Item) (taken taken' : List ℕ) (asked now : ClockKnown) (w v u : WorldValue)
     (es : List Entry) → Slid es w v asked now → TellStops why es v took taken u took' taken'
-    → RanOn IsRunning (end_by why) (seen_by took taken asked) w (seen_by took' taken' now) u
+    → RanOn IsRunning (Some (end_by why)) (seen_by took taken asked) w (seen_by took' taken' now) u
 slice_stops untold.Trace took took' taken taken' asked now w v u es slid stops =
     slice_ahead took took' taken taken' asked now w v u es slid stops.0 stops.1 stops.2
 slice_stops untold.Sink took took' taken taken' asked now w v u es slid stops =
@@ -229,34 +234,79 @@ slice_none took taken asked now w v same unasked s m talk is r = record {
 
 -- ---- the same, as the ends have it
 
-pub slice_went : (took took' : List Item) (taken taken' : List ℕ) (asked mid now : ClockKnown) (w v u : WorldValue)
+lasts_same : (told : Health) → objects.Lasts told told
+lasts_same told = record { still = λ tells. tells; later = omega arith }
+
+pub went_told : (trace traced : TraceKnown) (sink sunk : SinkKnown) (asked mid now : ClockKnown) (w v u : WorldValue)
     (es told : List Entry) → told ≡ es → IsSerial w es v → ClockWasAsked asked es mid
-    → HasDrained v took (event_items told) u took' × (taken' ≡ taken ++ v.board.console) → Lasts mid now
-    → Keeps IsRunning (seen_by took taken asked) w (seen_by took' taken' now) u
-slice_went took took' taken taken' asked mid now w v u es told same serial was went lasts =
-    slice_told took took' taken taken' asked mid now w v u es (serial, was)
-    (subst (λ (l : List Entry). HasDrained v took (event_items l) u took') same went.0) went.1 lasts
+    → (objects.Tells trace.health → objects.Tells sink.health
+    → HasDrained v trace.took (event_items told) u traced.took × (sunk.taken ≡ sink.taken ++ v.board.console))
+    → objects.Lasts trace.health traced.health → objects.Lasts sink.health sunk.health → Lasts mid now
+    → Went IsRunning None (known trace sink asked) w (known traced sunk now) u
+went_told trace traced sink sunk asked mid now w v u es told same serial was went trace_lasts sink_lasts rests = record {
+  ran = λ t k.
+      slice_told trace.took traced.took sink.taken sunk.taken asked mid now w v u es (serial, was)
+      (subst (λ (l : List Entry). HasDrained v trace.took (event_items l) u traced.took) same (went t k).0) (went t k).1 rests;
+  fault = tt;
+  trace_lasts = trace_lasts;
+  sink_lasts = sink_lasts;
+}
 
-pub slice_ends : (end : Ran) (why : Untold) (took took' : List Item) (taken taken' : List ℕ) (asked now : ClockKnown)
+-- what was not told to its end
+fault_of : (why : Untold) (before now : Known) → (why ≡ untold.Trace → Rose before.trace.health.faults now.trace.health.faults)
+    → (why ≡ untold.Sink → Rose before.sink.health.faults now.sink.health.faults) → HasFault (Some (end_by why)) before now
+fault_of untold.Trace before now trace sink = trace refl
+fault_of untold.Sink before now trace sink = sink refl
+fault_of untold.OutOfMemory before now trace sink = tt
+
+pub went_untold : (end : Ran) (why : Untold) (trace traced : TraceKnown) (sink sunk : SinkKnown) (asked now : ClockKnown)
     (w v u : WorldValue) (es told : List Entry) → end ≡ end_by why → told ≡ es → IsSerial w es v → ClockWasAsked asked es now
-    → TellStops why told v took taken u took' taken'
-    → RanOn IsRunning end (seen_by took taken asked) w (seen_by took' taken' now) u
-slice_ends end why took took' taken taken' asked now w v u es told is same serial was stops =
-    subst (λ (r : Ran). RanOn IsRunning r (seen_by took taken asked) w (seen_by took' taken' now) u) (sym is)
-    (slice_stops why took took' taken taken' asked now w v u es (serial, was)
-    (subst (λ (l : List Entry). TellStops why l v took taken u took' taken') same stops))
+    → (objects.Tells trace.health → objects.Tells sink.health → TellStops why told v trace.took sink.taken u traced.took sunk.taken)
+    → (why ≡ untold.Trace → Rose trace.health.faults traced.health.faults)
+    → (why ≡ untold.Sink → Rose sink.health.faults sunk.health.faults)
+    → objects.Lasts trace.health traced.health → objects.Lasts sink.health sunk.health
+    → Went IsRunning (Some end) (known trace sink asked) w (known traced sunk now) u
+went_untold end why trace traced sink sunk asked now w v u es told is same serial was stops trace_rose sink_rose trace_lasts sink_lasts = record {
+  ran = λ t k.
+      subst (λ (r : Ran). RanOn IsRunning (Some r) (seen_by trace.took sink.taken asked) w (seen_by traced.took sunk.taken now) u) (sym is)
+      (slice_stops why trace.took traced.took sink.taken sunk.taken asked now w v u es (serial, was)
+      (subst (λ (l : List Entry). TellStops why l v trace.took sink.taken u traced.took sunk.taken) same (stops t k)));
+  fault = subst (λ (r : Ran). HasFault (Some r) (known trace sink asked) (known traced sunk now)) (sym is)
+      (fault_of why (known trace sink asked) (known traced sunk now) trace_rose sink_rose);
+  trace_lasts = trace_lasts;
+  sink_lasts = sink_lasts;
+}
 
-failed_by : {Q : Type 0} (why : SliceError) (took : List Item) (taken : List ℕ) (asked now : ClockKnown) (w v : WorldValue)
+-- no slice
+failed_by : {Q : Type 0} (why : SliceError) (trace : TraceKnown) (sink : SinkKnown) (asked now : ClockKnown) (w v : WorldValue)
     (begun ended : List Q) → HasFailed w v asked now begun ended why
-    → RanOn IsRunning (slice_end why) (seen_by took taken asked) w (seen_by took taken now) v
-failed_by (error.Torn torn journals histories) took taken asked now w v begun ended failed =
-    slice_torn took taken asked now w torn journals.items histories.items failed.0
-failed_by error.OutOfMemory took taken asked now w v begun ended failed =
-    slice_none took taken asked now w v failed.0 failed.1
+    → Went IsRunning (Some (slice_end why)) (known trace sink asked) w (known trace sink now) v
+failed_by (error.Torn torn journals histories) trace sink asked now w v begun ended failed = record {
+  ran = λ t k. slice_torn trace.took sink.taken asked now w torn journals.items histories.items failed.0;
+  fault = tt;
+  trace_lasts = lasts_same trace.health;
+  sink_lasts = lasts_same sink.health;
+}
+failed_by error.OutOfMemory trace sink asked now w v begun ended failed = record {
+  ran = λ t k. slice_none trace.took sink.taken asked now w v failed.0 failed.1;
+  fault = tt;
+  trace_lasts = lasts_same trace.health;
+  sink_lasts = lasts_same sink.health;
+}
 
-pub slice_failed : {Q : Type 0} (end : Ran) (why : SliceError) (took : List Item) (taken : List ℕ) (asked now : ClockKnown)
+pub went_failed : {Q : Type 0} (end : Ran) (why : SliceError) (trace : TraceKnown) (sink : SinkKnown) (asked now : ClockKnown)
     (w v : WorldValue) (begun ended : List Q) → end ≡ slice_end why → HasFailed w v asked now begun ended why
-    → RanOn IsRunning end (seen_by took taken asked) w (seen_by took taken now) v
-slice_failed end why took taken asked now w v begun ended is failed =
-    subst (λ (r : Ran). RanOn IsRunning r (seen_by took taken asked) w (seen_by took taken now) v) (sym is)
-    (failed_by why took taken asked now w v begun ended failed)
+    → Went IsRunning (Some end) (known trace sink asked) w (known trace sink now) v
+went_failed end why trace sink asked now w v begun ended is failed =
+    subst (λ (r : Ran). Went IsRunning (Some r) (known trace sink asked) w (known trace sink now) v) (sym is)
+    (failed_by why trace sink asked now w v begun ended failed)
+
+-- neither is an end by the gate
+pub unclosed_failed : (end : Ran) (why : SliceError) → end ≡ slice_end why → Some end ≡ Some ran.Closed → ⊥
+unclosed_failed end (error.Torn torn journals histories) is closed = cc
+unclosed_failed end error.OutOfMemory is closed = cc
+
+pub unclosed_untold : (end : Ran) (why : Untold) → end ≡ end_by why → Some end ≡ Some ran.Closed → ⊥
+unclosed_untold end untold.Trace is closed = cc
+unclosed_untold end untold.Sink is closed = cc
+unclosed_untold end untold.OutOfMemory is closed = cc

@@ -1,7 +1,8 @@
 -- How slices end, and what they leave.
-use Rattle.std.specs.Prelude.{ℕ, ◌≡◌, true, false, List, Some}
+use Rattle.std.specs.Prelude.{◌≡◌, true, false, List, Option, Some, None}
 use Rattle.vm_types.specs.Causes.{Rose}
 use Rattle.vm_types.specs.declared.torn.Torn.{Torn}
+use Rattle.vm_outside.specs.Known.{Lasts, Tells}
 use Rattle.vm_host.specs.Telling.{ClockKnown}
 use Rattle.stamp_merge.specs.declared.history.History.{History}
 use Rattle.stamp_merge.specs.declared.journal.Journal.{Journal}
@@ -15,7 +16,7 @@ use Rattle.monitor_running.specs.declared.ran.Ran.{Ran}
 use Rattle.monitor_running.specs.declared.ran.Ran.TheVariants as ran
 use Rattle.monitor_running.specs.declared.telling.Untold.{Untold}
 use Rattle.monitor_running.specs.declared.telling.Untold.TheVariants as untold
-use Rattle.monitor_running.specs.Reached.{GetsAhead, IsCut, Keeps, KeepsAs, Kept, Reached, Seen, Start}
+use Rattle.monitor_running.specs.Reached.{GetsAhead, IsCut, Keeps, KeepsAs, Kept, Known, Reached, Seen, Start, seen}
 use Rattle.flat_trace.specs.Showing.{Out}
 
 -- the guest of the machine runs, and the world is it
@@ -31,13 +32,29 @@ pub record IsTornOff {B : Type 0} (Is : B → Machine → Type 0) (old : Seen) (
   pub kept : (s : Start) (m : Machine) (talk : List Out) → Is b m → Reached s old m talk
       → Kept IsRunning s m (record now { clock = clock }) world talk
 
-abbrev pub RanOn : {B : Type 0} → (B → Machine → Type 0) → Ran → Seen → B → Seen → B → Type 0
-RanOn Is ran.Closed old b now c = KeepsAs false Is old b now c
-RanOn Is ran.Off old b now c = KeepsAs true Is old b now c
-RanOn Is ran.TraceFailed old b now c = GetsAhead Is old b now c
-RanOn Is ran.SinkFailed old b now c = IsCut Is old b now c
-RanOn Is (ran.Torn torn journals histories) old b now c = IsTornOff Is old b now torn journals.items histories.items
-RanOn Is ran.OutOfMemory old b now c = Keeps Is old b now c
+-- by how slices ended, if they did
+abbrev pub RanOn : {B : Type 0} → (B → Machine → Type 0) → Option Ran → Seen → B → Seen → B → Type 0
+RanOn Is None old b now c = Keeps Is old b now c
+RanOn Is (Some ran.Closed) old b now c = KeepsAs false Is old b now c
+RanOn Is (Some ran.Off) old b now c = KeepsAs true Is old b now c
+RanOn Is (Some ran.TraceFailed) old b now c = GetsAhead Is old b now c
+RanOn Is (Some ran.SinkFailed) old b now c = IsCut Is old b now c
+RanOn Is (Some (ran.Torn torn journals histories)) old b now c = IsTornOff Is old b now torn journals.items histories.items
+RanOn Is (Some ran.OutOfMemory) old b now c = Keeps Is old b now c
+
+-- an end that names the trace or the sink has its fault
+abbrev pub HasFault : Option Ran → Known → Known → Type 0
+HasFault (Some ran.TraceFailed) old now = Rose old.trace.health.faults now.trace.health.faults
+HasFault (Some ran.SinkFailed) old now = Rose old.sink.health.faults now.sink.health.faults
+HasFault end old now = Unit {0}
+
+-- how a slice went, or several, and what they left of the machine and the host objects
+pub record Went {B : Type 0} (Is : B → Machine → Type 0) (end : Option Ran) (old : Known) (b : B) (now : Known) (c : B) :
+    Type 0 where
+  pub ran : Tells old.trace.health → Tells old.sink.health → RanOn Is end (seen old) b (seen now) c
+  pub fault : HasFault end old now
+  pub trace_lasts : Lasts old.trace.health now.trace.health
+  pub sink_lasts : Lasts old.sink.health now.sink.health
 
 -- the end for which there was no slice
 abbrev pub slice_end : SliceError → Ran
@@ -49,14 +66,3 @@ abbrev pub end_by : Untold → Ran
 end_by untold.Trace = ran.TraceFailed
 end_by untold.Sink = ran.SinkFailed
 end_by untold.OutOfMemory = ran.OutOfMemory
-
--- an end that names the trace or the sink has its fault; and a slice is no end by itself
-abbrev pub HasFault : Ran → ℕ → ℕ → ℕ → ℕ → Type 0
-HasFault ran.TraceFailed trace traced sink sunk = Rose trace traced
-HasFault ran.SinkFailed trace traced sink sunk = Rose sink sunk
-HasFault end trace traced sink sunk = Unit {0}
-
-abbrev pub IsEnd : Ran → Type 0
-IsEnd ran.Closed = ⊥
-IsEnd ran.Off = ⊥
-IsEnd end = Unit {0}

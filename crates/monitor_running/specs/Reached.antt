@@ -10,14 +10,23 @@ use Rattle.flat_machine.specs.Run.{Act}
 use Rattle.flat_trace.specs.Events.{answers_in}
 use Rattle.flat_trace.specs.Showing.{Out, Run, items_of, said, shown}
 
+-- what is known of the trace, the sink and the clock
+pub record Known : Type 0 where
+  pub trace : TraceKnown
+  pub sink : SinkKnown
+  pub clock : ClockKnown
+
+abbrev pub known : TraceKnown → SinkKnown → ClockKnown → Known
+known trace sink clock = record { trace = trace; sink = sink; clock = clock }
+
 -- the items that the trace took, the bytes that the sink took, and what is known of the clock
 pub record Seen : Type 0 where
   pub took : List Item
   pub taken : List ℕ
   pub clock : ClockKnown
 
-abbrev pub seen : TraceKnown → SinkKnown → ClockKnown → Seen
-seen trace sink clock = record { took = trace.took; taken = sink.taken; clock = clock }
+abbrev pub seen : Known → Seen
+seen k = record { took = k.trace.took; taken = k.sink.taken; clock = k.clock }
 
 -- where everything was at some start, what was said on connections among it
 pub record Start : Type 0 where

@@ -1,12 +1,11 @@
 // Slices of a machine until a gate is closed.
-ghost use Rattle.std.specs.Prelude.{◌≡◌, ◌≤◌, ◌<◌, ◌+◌, ℕ, true, length, All, IfErr, IfOk, OnOk, OnErr};
-ghost use Rattle.vm_outside.specs.Known.{Lasts, Tells};
+ghost use Rattle.std.specs.Prelude.{◌≡◌, ◌≢◌, ◌≤◌, ◌<◌, ◌+◌, true, length, All, MatchBool};
 ghost use Rattle.vm_host.specs.Telling as clocks;
 ghost use Rattle.monitor_machine.specs.State.{IsLive};
 ghost use Rattle.monitor_running.specs.declared.ran.Ran.TheVariants as ran;
-ghost use Rattle.monitor_running.specs.Passes.{AtFirst, HasAsked, HasRisen, NeverFell};
-ghost use Rattle.monitor_running.specs.Ran.{HasFault, IsEnd, IsRunning, RanOn, end_by, slice_end};
-ghost use Rattle.monitor_running.specs.Reached.{Keeps, seen};
+ghost use Rattle.monitor_running.specs.Passes.{ArePassed};
+ghost use Rattle.monitor_running.specs.Ran.{IsRunning, Went, end_by, slice_end};
+ghost use Rattle.monitor_running.specs.Reached.{Known, known};
 
 use crate::ran::Ran;
 use crate::telling::{Untold, tell_slice};
@@ -37,9 +36,9 @@ fn has_passes(world: &World, passes: usize) -> bool
 fn is_open<Q, G: Gate<Pass = Q>>(gate: &G, passes: &mut Vec<Q>) -> bool
     requires some { 0 < length passes.old.items }
     requires serve { All (G.serves gate.now) passes.old.items }
-    ensures asked { AtFirst (HasAsked G.closed result) passes.old.items passes.new.items }
-    ensures serve { All (G.serves gate.now) passes.new.items }
-    ensures same { length passes.new.items ≡ length passes.old.items }
+    ensures { MatchBool result
+        (ArePassed (G.serves gate.now) G.tally None passes.old.items passes.new.items)
+        (ArePassed (G.serves gate.now) G.tally (Some ran.Closed) passes.old.items passes.new.items) }
 {
     gate.ask(&mut passes[0])
 }
@@ -61,57 +60,6 @@ fn rest_where_idle<C: Clock>(stops: &[Stopped], clock: &mut C)
     if are_idle(stops) {
         clock.rest();
     }
-}
-
-// One slice, its events and a drain.
-fn run_one<
-    Q: Send + Drop,
-    D,
-    L,
-    V,
-    C: Clock,
-    G: Gate<Pass = Q> + Sync,
-    T: Trace,
-    K: Sink,
-    R: Threads + Wait + Sync,
->(
-    rt: &R,
-    alloc: Global,
-    world: &mut World,
-    host: &mut Host<D, L, V, C>,
-    gate: &G,
-    passes: &mut Vec<Q>,
-    steps: u32,
-    trace: &mut T,
-    sink: &mut K,
-) -> Result<(), Ran>
-    requires harts { length world.old.harts ≤ 32 }
-    requires passes { length world.old.harts + 1 ≤ length passes.old.items }
-    requires serve { All (G.serves gate.now) passes.old.items }
-    ensures ok { OnOk result (Tells (T.known trace.old).health → Tells (K.known sink.old).health →
-        Keeps IsRunning (seen (T.known trace.old) (K.known sink.old) (C.known host.old.clock)) world.old
-        (seen (T.known trace.new) (K.known sink.new) (C.known host.new.clock)) world.new) }
-    ensures err { IfErr result (λ end. Tells (T.known trace.old).health → Tells (K.known sink.old).health →
-        RanOn IsRunning end (seen (T.known trace.old) (K.known sink.old) (C.known host.old.clock)) world.old
-        (seen (T.known trace.new) (K.known sink.new) (C.known host.new.clock)) world.new) }
-    ensures cause { IfErr result (λ end. IsEnd end
-        × HasFault end (T.known trace.old).health.faults (T.known trace.new).health.faults
-        (K.known sink.old).health.faults (K.known sink.new).health.faults) }
-    ensures trace_lasts { Lasts (T.known trace.old).health (T.known trace.new).health }
-    ensures sink_lasts { Lasts (K.known sink.old).health (K.known sink.new).health }
-    ensures first { OnOk result (AtFirst (NeverFell G.closed) passes.old.items passes.new.items) }
-    ensures serve { All (G.serves gate.now) passes.new.items }
-    ensures same { length passes.new.items ≡ length passes.old.items }
-{
-    let slice = match run_slice(rt, alloc, world, host, gate, passes, steps) {
-        Ok(slice) => slice,
-        Err(why) => return Err(slice_end(why)),
-    };
-    if let Err(why) = tell_slice(alloc, slice.events.as_slice(), world, trace, sink) {
-        return Err(end_by(why));
-    }
-    rest_where_idle(slice.stops.as_slice(), &mut host.clock);
-    Ok(())
 }
 
 // The end for which there was no slice.
@@ -143,6 +91,48 @@ fn end_by(why: Untold) -> Ran
     }
 }
 
+// One slice of a guest, its events and a drain.
+fn run_guest<
+    Q: Send + Drop,
+    D,
+    L,
+    V,
+    C: Clock,
+    G: Gate<Pass = Q> + Sync,
+    T: Trace,
+    K: Sink,
+    R: Threads + Wait + Sync,
+>(
+    rt: &R,
+    alloc: Global,
+    world: &mut World,
+    host: &mut Host<D, L, V, C>,
+    gate: &G,
+    passes: &mut Vec<Q>,
+    steps: u32,
+    trace: &mut T,
+    sink: &mut K,
+) -> Option<Ran>
+    requires harts { length world.old.harts ≤ 32 }
+    requires passes { length world.old.harts + 1 ≤ length passes.old.items }
+    requires serve { All (G.serves gate.now) passes.old.items }
+    ensures went { Went IsRunning result
+        (known (T.known trace.old) (K.known sink.old) (C.known host.old.clock)) world.old
+        (known (T.known trace.new) (K.known sink.new) (C.known host.new.clock)) world.new }
+    ensures passes { ArePassed (G.serves gate.now) G.tally result passes.old.items passes.new.items }
+    ensures unclosed { result ≢ Some ran.Closed }
+{
+    let slice = match run_slice(rt, alloc, world, host, gate, passes, steps) {
+        Ok(slice) => slice,
+        Err(why) => return Some(slice_end(why)),
+    };
+    if let Err(why) = tell_slice(alloc, slice.events.as_slice(), world, trace, sink) {
+        return Some(end_by(why));
+    }
+    rest_where_idle(slice.stops.as_slice(), &mut host.clock);
+    None
+}
+
 // One slice, where each actor has a pass; else time passes.
 fn run_where_passes<
     Q: Send + Drop,
@@ -164,35 +154,30 @@ fn run_where_passes<
     steps: u32,
     trace: &mut T,
     sink: &mut K,
-) -> Result<(), Ran>
-    requires serve { All (G.serves gate.now) passes.old.items }
-    ensures ok { OnOk result (Tells (T.known trace.old).health → Tells (K.known sink.old).health →
-        Keeps IsRunning (seen (T.known trace.old) (K.known sink.old) (C.known host.old.clock)) world.old
-        (seen (T.known trace.new) (K.known sink.new) (C.known host.new.clock)) world.new) }
-    ensures err { IfErr result (λ end. Tells (T.known trace.old).health → Tells (K.known sink.old).health →
-        RanOn IsRunning end (seen (T.known trace.old) (K.known sink.old) (C.known host.old.clock)) world.old
-        (seen (T.known trace.new) (K.known sink.new) (C.known host.new.clock)) world.new) }
-    ensures cause { IfErr result (λ end. IsEnd end
-        × HasFault end (T.known trace.old).health.faults (T.known trace.new).health.faults
-        (K.known sink.old).health.faults (K.known sink.new).health.faults) }
-    ensures trace_lasts { Lasts (T.known trace.old).health (T.known trace.new).health }
-    ensures sink_lasts { Lasts (K.known sink.old).health (K.known sink.new).health }
-    ensures first { OnOk result (AtFirst (NeverFell G.closed) passes.old.items passes.new.items) }
-    ensures serve { All (G.serves gate.now) passes.new.items }
-    ensures same { length passes.new.items ≡ length passes.old.items }
+) -> Option<Ran>
+    requires { All (G.serves gate.now) passes.old.items }
+    ensures went { Went IsRunning result
+        (known (T.known trace.old) (K.known sink.old) (C.known host.old.clock)) world.old
+        (known (T.known trace.new) (K.known sink.new) (C.known host.new.clock)) world.new }
+    ensures passes { ArePassed (G.serves gate.now) G.tally result passes.old.items passes.new.items }
+    ensures unclosed { result ≢ Some ran.Closed }
 {
     if !has_passes(world, passes.len()) {
         host.clock.rest();
-        return Ok(());
+        return None;
     }
-    match run_one(rt, alloc, world, host, gate, passes, steps, trace, sink) {
-        Ok(()) => Ok(()),
-        Err(end) => Err(end),
-    }
+    run_guest(rt, alloc, world, host, gate, passes, steps, trace, sink)
 }
 
-// One slice, where a guest runs; else time passes.
-fn go_on<
+/// One slice of a machine, of `steps` steps at most of each actor, which asks the gate with a pass of its own before each
+/// step. Answers why slices end, or `None` where they may go on; it is `Off` where the guest is off, of which no slice is
+/// made. That the gate is closed is no end here.
+///
+/// Each event goes to the trace, as `step ACTOR 1`, or `reply ACTOR R` with the answer of a host object; then, where the
+/// console holds anything, `console` goes there too, and then what it held goes to the sink, as it is. Where no guest runs,
+/// where every hart waits, and where there are fewer passes than actors or more harts than a slice has (no start and no load
+/// makes so many), the clock rests. Nothing is said of time.
+pub fn run_once<
     Q: Send + Drop,
     D,
     L,
@@ -212,47 +197,41 @@ fn go_on<
     steps: u32,
     trace: &mut T,
     sink: &mut K,
-) -> Result<(), Ran>
-    requires serve { All (G.serves gate.now) passes.old.items }
-    ensures ok { OnOk result (Tells (T.known trace.old).health → Tells (K.known sink.old).health →
-        Keeps IsLive (seen (T.known trace.old) (K.known sink.old) (C.known host.old.clock)) machine.old
-        (seen (T.known trace.new) (K.known sink.new) (C.known host.new.clock)) machine.new) }
-    ensures err { IfErr result (λ end. Tells (T.known trace.old).health → Tells (K.known sink.old).health →
-        RanOn IsLive end (seen (T.known trace.old) (K.known sink.old) (C.known host.old.clock)) machine.old
-        (seen (T.known trace.new) (K.known sink.new) (C.known host.new.clock)) machine.new) }
-    ensures cause { IfErr result (λ end. IsEnd end
-        × HasFault end (T.known trace.old).health.faults (T.known trace.new).health.faults
-        (K.known sink.old).health.faults (K.known sink.new).health.faults) }
-    ensures trace_lasts { Lasts (T.known trace.old).health (T.known trace.new).health }
-    ensures sink_lasts { Lasts (K.known sink.old).health (K.known sink.new).health }
-    ensures first { OnOk result (AtFirst (NeverFell G.closed) passes.old.items passes.new.items) }
-    ensures serve { All (G.serves gate.now) passes.new.items }
-    ensures same { length passes.new.items ≡ length passes.old.items }
+) -> Option<Ran>
+    requires { All (G.serves gate.now) passes.old.items }
+    ensures went { Went IsLive result
+        (known (T.known trace.old) (K.known sink.old) (C.known host.old.clock)) machine.old
+        (known (T.known trace.new) (K.known sink.new) (C.known host.new.clock)) machine.new }
+    ensures passes { ArePassed (G.serves gate.now) G.tally result passes.old.items passes.new.items }
+    ensures unclosed { result ≢ Some ran.Closed }
 {
-    let mut world = match machine.take_running() {
-        Some(world) => world,
-        None => {
-            host.clock.rest();
-            return Ok(());
-        }
+    if machine.is_off() {
+        return Some(Ran::Off);
+    }
+    let Some(mut world) = machine.take_running() else {
+        host.clock.rest();
+        return None;
     };
-    let ended = run_where_passes(
+    let end = run_where_passes(
         rt, alloc, &mut world, host, gate, passes, steps, trace, sink,
     );
     machine.put_guest(world);
-    match ended {
-        Ok(()) => Ok(()),
-        Err(end) => Err(end),
+    end
+}
+
+// Why slices end at a closed gate.
+fn end_of_closed(machine: &LiveMachine) -> Ran
+    ensures { (k : Known) → Went IsLive (Some result) k machine.now k machine.now }
+{
+    if machine.is_off() {
+        Ran::Off
+    } else {
+        Ran::Closed
     }
 }
 
-/// Slices of a machine, of `steps` steps at most of each actor, until the gate is closed. The gate is asked with the first
-/// pass before each slice, and by each actor with a pass of its own before each step.
-///
-/// Each event goes to the trace, as `step ACTOR 1`, or `reply ACTOR R` with the answer of a host object; after a slice,
-/// where the console holds anything, `console` goes there too, and then what it held goes to the sink, as it is. Where no
-/// guest runs, where every hart waits, and where there are fewer passes than actors or more harts than a slice has (no start
-/// and no load makes so many), the clock rests between two looks at the gate. Nothing is said of time.
+/// Slices of a machine, each by `run_once`, until the gate is closed, which is asked with the first pass before each.
+/// `Closed` is answered where the guest is on, and `Off` where it is off.
 pub fn run_while<
     Q: Send + Drop,
     D,
@@ -276,25 +255,16 @@ pub fn run_while<
 ) -> Ran
     requires some { 0 < length passes.old.items }
     requires serve { All (G.serves gate.now) passes.old.items }
-    ensures went { Tells (T.known trace.old).health → Tells (K.known sink.old).health →
-        RanOn IsLive result (seen (T.known trace.old) (K.known sink.old) (C.known host.old.clock)) machine.old
-        (seen (T.known trace.new) (K.known sink.new) (C.known host.new.clock)) machine.new }
-    ensures closed { result ≡ ran.Closed → AtFirst (HasRisen G.closed) passes.old.items passes.new.items }
-    ensures fault { HasFault result (T.known trace.old).health.faults (T.known trace.new).health.faults
-        (K.known sink.old).health.faults (K.known sink.new).health.faults }
-    ensures trace_lasts { Lasts (T.known trace.old).health (T.known trace.new).health }
-    ensures sink_lasts { Lasts (K.known sink.old).health (K.known sink.new).health }
-    ensures serve { All (G.serves gate.now) passes.new.items }
-    ensures same { length passes.new.items ≡ length passes.old.items }
+    ensures went { Went IsLive (Some result)
+        (known (T.known trace.old) (K.known sink.old) (C.known host.old.clock)) machine.old
+        (known (T.known trace.new) (K.known sink.new) (C.known host.new.clock)) machine.new }
+    ensures passes { ArePassed (G.serves gate.now) G.tally (Some result) passes.old.items passes.new.items }
 {
     for _ in rt.forever() {
-        if machine.is_off() {
-            return Ran::Off;
-        }
         if !is_open(gate, passes) {
-            return Ran::Closed;
+            return end_of_closed(machine);
         }
-        if let Err(end) = go_on(rt, alloc, machine, host, gate, passes, steps, trace, sink) {
+        if let Some(end) = run_once(rt, alloc, machine, host, gate, passes, steps, trace, sink) {
             return end;
         }
     }

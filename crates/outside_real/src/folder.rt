@@ -6,6 +6,7 @@ ghost use Rattle.outside_real.specs.Counting.{CountsFailure};
 use crate::counted::counted;
 use crate::entered::Entered;
 use crate::named_file;
+use crate::open_files::{self, OpenFiles};
 use std::{io, rt};
 use vm_outside::{Failed, Files};
 
@@ -16,19 +17,34 @@ use vm_outside::{Failed, Files};
 /// A folder is synced where a file is made, and when a file that was there before is first synced: from then on its
 /// name is known to be on disk, and a sync is of the file alone.
 #[derive(Drop)]
-pub struct Folder<'a, R> {
+pub struct Folder<'a, R: rt::Files> {
     rt: &'a R,
     entered: Entered,
+    open: OpenFiles<R::File>,
     faults: u64,
 }
 
 impl<'a, R: rt::Files + AllocGlobal> Folder<'a, R> {
+    /// Each call opens its file, and sees what another program has put under the name.
     pub fn new(rt: &'a R) -> Folder<'a, R>
         ensures { (⟦<Folder<'a, R> as Files>⟧.known result).health.faults ≡ 0 }
     {
         Folder {
             rt,
             entered: Entered::new(rt.alloc()),
+            open: OpenFiles::new(false),
+            faults: 0,
+        }
+    }
+
+    /// The file that was read last and the one that was written last stay open, until a size, a sync or a make.
+    pub fn keeping_open(rt: &'a R) -> Folder<'a, R>
+        ensures { (⟦<Folder<'a, R> as Files>⟧.known result).health.faults ≡ 0 }
+    {
+        Folder {
+            rt,
+            entered: Entered::new(rt.alloc()),
+            open: OpenFiles::new(true),
             faults: 0,
         }
     }
@@ -54,6 +70,7 @@ impl<'a, R: rt::Files + AllocGlobal> Files for Folder<'a, R> {
         ensures called { Called (⟦<Folder<'a, R> as Files>⟧.known self.old).health
             (⟦<Folder<'a, R> as Files>⟧.known self.new).health result }
     {
+        self.open.close();
         counted(&mut self.faults, named_file::length(self.rt, name))
     }
 
@@ -65,7 +82,7 @@ impl<'a, R: rt::Files + AllocGlobal> Files for Folder<'a, R> {
     {
         counted(
             &mut self.faults,
-            named_file::read_at(self.rt, name, at, buf),
+            open_files::read_at(self.rt, &mut self.open, name, at, buf),
         )
     }
 
@@ -77,7 +94,7 @@ impl<'a, R: rt::Files + AllocGlobal> Files for Folder<'a, R> {
     {
         counted(
             &mut self.faults,
-            named_file::write_at(self.rt, name, at, bytes),
+            open_files::write_at(self.rt, &mut self.open, name, at, bytes),
         )
     }
 
@@ -89,6 +106,7 @@ impl<'a, R: rt::Files + AllocGlobal> Files for Folder<'a, R> {
         ensures called { Called (⟦<Folder<'a, R> as Files>⟧.known self.old).health
             (⟦<Folder<'a, R> as Files>⟧.known self.new).health result }
     {
+        self.open.close();
         counted(&mut self.faults, sync(self.rt, &mut self.entered, name))
     }
 
@@ -99,6 +117,7 @@ impl<'a, R: rt::Files + AllocGlobal> Files for Folder<'a, R> {
         ensures called { Called (⟦<Folder<'a, R> as Files>⟧.known self.old).health
             (⟦<Folder<'a, R> as Files>⟧.known self.new).health result }
     {
+        self.open.close();
         counted(&mut self.faults, make(self.rt, &mut self.entered, name))
     }
 }

@@ -5,7 +5,7 @@
 //! is, and that a sink takes at least one byte of a piece that isn't empty. That the right bytes come
 //! in and go out is tested, over real files.
 //!
-//! Read `reading`, `writing` and `folder`, one for each trait, then `named_file` with the calls on one
+//! Read `reading`, `writing` and `folder`, one for each trait, then `named_file` and `open_files` with the calls on one
 //! file, `entered` with the names that are on disk, and `tries` with the calls that a signal may cut off.
 //! `counted` and `tries` serve the adapters of other crates too.
 #![tactic(auto)]
@@ -14,6 +14,7 @@ pub mod counted;
 mod entered;
 mod folder;
 mod named_file;
+mod open_files;
 mod reading;
 #[cfg(test)]
 mod tests;

@@ -1,11 +1,10 @@
-// Calls on one file under its name. Each opens the file anew.
+// Calls on one file under its name.
 //
 // What stands under the name is looked at before it is opened: opening a FIFO would wait for its other
 // end, and a device may act on being opened. Another program that puts one there between the two calls
 // isn't seen, since a file can't be opened without waiting.
-use crate::tries;
 use std::fs::{File, OpenFile, OpenOptions};
-use std::io::{ErrorKind, Seek, SeekFrom};
+use std::io::ErrorKind;
 use std::path::{AsPath, Path};
 use std::{fs, io, rt};
 
@@ -27,26 +26,16 @@ fn present<R: rt::Files>(rt: &R, name: &str) -> io::Result<u64> {
     }
 }
 
-/// Fills the buffer from this offset.
-pub(crate) fn read_at<R: rt::Files>(rt: &R, name: &str, at: u64, buf: &mut [u8]) -> io::Result<()> {
+/// The file, open to be read, and its length.
+pub(crate) fn to_read<R: rt::Files>(rt: &R, name: &str) -> io::Result<(R::File, u64)> {
     let length = present(rt, name)?;
-    // Some files of the system's own have no length, and reading them waits.
-    match at.checked_add(buf.len() as u64) {
-        Some(end) if end <= length => {}
-        _ => return Err(io::Error::from(ErrorKind::UnexpectedEof)),
-    }
-    let mut file = File::open(rt, name)?;
-    file.seek(SeekFrom::Start(at))?;
-    tries::fill(&mut file, buf)
+    Ok((File::open(rt, name)?, length))
 }
 
-/// Writes all of the bytes at this offset. The system fills what lies between the old end and the
-/// offset with zeros.
-pub(crate) fn write_at<R: rt::Files>(rt: &R, name: &str, at: u64, bytes: &[u8]) -> io::Result<()> {
-    present(rt, name)?;
-    let mut file = OpenOptions::new().write(true).open(rt, name)?;
-    file.seek(SeekFrom::Start(at))?;
-    tries::write_whole(&mut file, bytes)
+/// The file, open to be written over, and its length.
+pub(crate) fn to_write<R: rt::Files>(rt: &R, name: &str) -> io::Result<(R::File, u64)> {
+    let length = present(rt, name)?;
+    Ok((OpenOptions::new().write(true).open(rt, name)?, length))
 }
 
 /// Has the file on its disk.

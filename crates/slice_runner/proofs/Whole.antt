@@ -20,6 +20,7 @@ use Rattle.timer_trace.specs.declared.timer.Timer.{Timer}
 use Rattle.timer_trace.specs.States.{timer_next, timer_wants}
 use Rattle.flat_guest.specs.Body.{want_of}
 use Rattle.flat_guest.specs.Guest.{Guest}
+use Rattle.pause_gate.specs.Tally.{Tally}
 use Rattle.stamp_merge.specs.declared.history.History.{History}
 use Rattle.stamp_merge.specs.declared.journal.Journal.{Journal}
 use Rattle.stamp_merge.specs.Journals.{all_of, journal_at}
@@ -45,17 +46,17 @@ use Rattle.slice_runner.proofs.Leading.{Reaches, reaches, same_world}
 use Rattle.slice_runner.proofs.Returned.{Homes, homes, replayed, rising}
 use Rattle.slice_runner.proofs.Stepping.{IsThere}
 
-module _ {Q : Type 0} (serves : Q → Type 0) (closed : Q → ℕ) (count n : ℕ) where
+module _ {Q : Type 0} (serves : Q → Type 0) (tally : Q → Tally) (count n : ℕ) where
   -- each hart, by its number
   crew_by : (k : ℕ) (ws vs : List (HartWorker Q)) → length vs ≡ length ws → AreNumbered k ws
-      → ((i : ℕ) (d : HartWorker Q) → i < length ws → HartEnds serves closed count n (slice_index_or ws i d) (slice_index_or vs i d))
+      → ((i : ℕ) (d : HartWorker Q) → i < length ws → HartEnds serves tally count n (slice_index_or ws i d) (slice_index_or vs i d))
       → Crew count k vs (harts_of ws)
   crew_by k [] [] long ids each = tt
   crew_by k [] (v ∷ vs) long ids each = absurd (omega (arith, long))
   crew_by k (w ∷ ws) [] long ids each = absurd (omega (arith, long))
   crew_by k (w ∷ ws) (v ∷ vs) long ids each =
       let one : 0 < length (w ∷ ws) = omega arith in
-      let first : HartEnds serves closed count n w v = each 0 w one in (
+      let first : HartEnds serves tally count n w v = each 0 w one in (
         first.worked.same ∙ ids.0,
         subst (λ (a : ActorId). HasRun hart_wants hart_next count a w.hart v.track.journal.items v.hart v.track.clock) ids.0 first.worked.ran,
         crew_by (suc k) ws vs (omega (arith, long)) ids.1
@@ -67,10 +68,10 @@ module _ {Q : Type 0} (serves : Q → Type 0) (closed : Q → ℕ) (count n : �
     pub worker : HartWorker Q
     pub is_there : slice_get vs j ≡ Some worker
     pub actor_is : s.actor ≡ ActorId.Hart (k + j)
-    pub cause : HasCause n s.stop worker.track.journal.items (hart_wants worker.hart) (closed p) (closed q)
+    pub cause : HasCause n s.stop worker.track.journal.items (hart_wants worker.hart) (tally p) (tally q)
 
   stop_by : (left : List Q) (k : ℕ) (ws vs : List (HartWorker Q)) → length vs ≡ length ws → AreNumbered k ws
-      → ((i : ℕ) (d : HartWorker Q) → i < length ws → HartEnds serves closed count n (slice_index_or ws i d) (slice_index_or vs i d))
+      → ((i : ℕ) (d : HartWorker Q) → i < length ws → HartEnds serves tally count n (slice_index_or ws i d) (slice_index_or vs i d))
       → (j : ℕ) (s : Stopped) (p q : Q) → slice_get (map (λ (v : HartWorker Q). stop_of v.track) vs) j ≡ Some s
       → slice_get (passes_of ws ++ left) j ≡ Some p → slice_get (passes_of vs ++ left) j ≡ Some q → HartStop k j vs s p q
   stop_by left k [] [] long ids each j s p q stop before after = cc
@@ -78,7 +79,7 @@ module _ {Q : Type 0} (serves : Q → Type 0) (closed : Q → ℕ) (count n : �
   stop_by left k (w ∷ ws) [] long ids each j s p q stop before after = absurd (omega (arith, long))
   stop_by left k (w ∷ ws) (v ∷ vs) long ids each zero s p q stop before after =
       let one : 0 < length (w ∷ ws) = omega arith in
-      let first : HartEnds serves closed count n w v = each 0 w one in
+      let first : HartEnds serves tally count n w v = each 0 w one in
       let s_is : stop_of v.track ≡ s = cc in
       let p_is : w.track.pass ≡ p = cc in
       let q_is : v.track.pass ≡ q = cc in
@@ -86,9 +87,9 @@ module _ {Q : Type 0} (serves : Q → Type 0) (closed : Q → ℕ) (count n : �
         worker = v;
         is_there = refl;
         actor_is = sym (ap (λ (x : Stopped). x.actor) s_is) ∙ first.worked.same ∙ ids.0 ∙ ap (λ (m : ℕ). ActorId.Hart m) e;
-        cause = subst (λ (x : Stopped). HasCause n x.stop v.track.journal.items (hart_wants v.hart) (closed p) (closed q)) s_is
-            (subst (λ (x : Q). HasCause n v.track.stop v.track.journal.items (hart_wants v.hart) (closed x) (closed q)) p_is
-            (subst (λ (x : Q). HasCause n v.track.stop v.track.journal.items (hart_wants v.hart) (closed w.track.pass) (closed x)) q_is first.worked.cause));
+        cause = subst (λ (x : Stopped). HasCause n x.stop v.track.journal.items (hart_wants v.hart) (tally p) (tally q)) s_is
+            (subst (λ (x : Q). HasCause n v.track.stop v.track.journal.items (hart_wants v.hart) (tally x) (tally q)) p_is
+            (subst (λ (x : Q). HasCause n v.track.stop v.track.journal.items (hart_wants v.hart) (tally w.track.pass) (tally x)) q_is first.worked.cause));
       }
   stop_by left k (w ∷ ws) (v ∷ vs) long ids each (suc j) s p q stop before after =
       let rest : HartStop (suc k) j vs s p q =
@@ -106,14 +107,14 @@ length_map : {A B : Type 0} (f : A → B) (xs : List A) → length (map f xs) �
 length_map f [] = refl
 length_map f (x ∷ xs) = let e = length_map f xs in omega (arith, e)
 
-module _ {Q : Type 0} (serves : Q → Type 0) (closed : Q → ℕ) (n : ℕ) (asked now : ClockKnown) (old : WorldValue)
+module _ {Q : Type 0} (serves : Q → Type 0) (tally : Q → Tally) (n : ℕ) (asked now : ClockKnown) (old : WorldValue)
     (opening : PlaceId → PageValue) (board_opening : PlaceId → Board) (t u : TimerWorker Q) (ws vs : List (HartWorker Q))
     (left passes later : List Q) (pages : List PageValue) (b : Board) (harts : List Hart) (hs : List History) (hb : History)
     (journals : List Journal) (stops : List Stopped) (events : List Entry) (are : ArePages 0 old.pages)
     (begun : AreOpen opening old.pages) (board_same : (p : PlaceId) → board_opening p ≡ old.board)
     (staffed : AreStaffed n old.timer old.harts passes t ws left)
-    (timer_ends : TimerEnds serves closed (length old.pages) n asked now t u)
-    (worked : HartsWorked serves closed (length old.pages) n ws vs) (back : AreBack u vs left harts later journals stops)
+    (timer_ends : TimerEnds serves tally (length old.pages) n asked now t u)
+    (worked : HartsWorked serves tally (length old.pages) n ws vs) (back : AreBack u vs left harts later journals stops)
     (home : AreHome opening (length old.pages) pages hs) (board_home : IsBoardHome board_opening b hb)
     (order : IsOrder (all_of (journals_of journals)) events) where
   abbrev size : ℕ
@@ -126,7 +127,7 @@ module _ {Q : Type 0} (serves : Q → Type 0) (closed : Q → ℕ) (n : ℕ) (as
   new = world_with pages b u.timer harts
 
   crew : Crew size 0 vs old.harts
-  crew = subst (λ (l : List Hart). Crew size 0 vs l) staffed.harts_are (crew_by serves closed size n 0 ws vs worked.same staffed.numbered worked.each)
+  crew = subst (λ (l : List Hart). Crew size 0 vs l) staffed.harts_are (crew_by serves tally size n 0 ws vs worked.same staffed.numbered worked.each)
 
   first : u.track.id ≡ ActorId.Timer
   first = timer_ends.worked.same ∙ staffed.first
@@ -223,7 +224,7 @@ module _ {Q : Type 0} (serves : Q → Type 0) (closed : Q → ℕ) (n : ℕ) (as
 
     stopped : (i : ℕ) (s : Stopped) (p q : Q) → slice_get (stops_from u vs) i ≡ Some s
         → slice_get (t.track.pass ∷ (passes_of ws ++ left)) i ≡ Some p → slice_get (u.track.pass ∷ (passes_of vs ++ left)) i ≡ Some q
-        → IsStopped closed n events new i s p q
+        → IsStopped tally n events new i s p q
     stopped zero s p q stop before after =
         let s_is : stop_of u.track ≡ s = cc in
         let p_is : t.track.pass ≡ p = cc in
@@ -233,12 +234,12 @@ module _ {Q : Type 0} (serves : Q → Type 0) (closed : Q → ℕ) (n : ℕ) (as
           want = timer_wants u.timer;
           wants = ap (λ (a : ActorId). want_in new a) actor;
           cause = rw (ap (λ (a : ActorId). of_actor a events) actor ∙ timers)
-              (subst (λ (x : Stopped). HasCause n x.stop u.track.journal.items (timer_wants u.timer) (closed p) (closed q)) s_is
-              (subst (λ (x : Q). HasCause n u.track.stop u.track.journal.items (timer_wants u.timer) (closed x) (closed q)) p_is
-              (subst (λ (x : Q). HasCause n u.track.stop u.track.journal.items (timer_wants u.timer) (closed t.track.pass) (closed x)) q_is timer_ends.worked.cause)));
+              (subst (λ (x : Stopped). HasCause n x.stop u.track.journal.items (timer_wants u.timer) (tally p) (tally q)) s_is
+              (subst (λ (x : Q). HasCause n u.track.stop u.track.journal.items (timer_wants u.timer) (tally x) (tally q)) p_is
+              (subst (λ (x : Q). HasCause n u.track.stop u.track.journal.items (timer_wants u.timer) (tally t.track.pass) (tally x)) q_is timer_ends.worked.cause)));
         }
     stopped (suc j) s p q stop before after =
-        let h = stop_by serves closed size n left 0 ws vs worked.same staffed.numbered worked.each j s p q stop before after in
+        let h = stop_by serves tally size n left 0 ws vs worked.same staffed.numbered worked.each j s p q stop before after in
         let e : 0 + j ≡ j = omega arith in
         let actor : s.actor ≡ ActorId.Hart j = h.actor_is ∙ ap (λ (k : ℕ). ActorId.Hart k) e in record {
           actor_is = actor;
@@ -249,7 +250,7 @@ module _ {Q : Type 0} (serves : Q → Type 0) (closed : Q → ℕ) (n : ℕ) (as
           cause = rw (ap (λ (a : ActorId). of_actor a events) actor ∙ harts_own j h.worker h.is_there) h.cause;
         }
 
-    pub whole : IsSlice closed n asked now old events new stops passes later
+    pub whole : IsSlice tally n asked now old events new stops passes later
     whole = record {
       serial = subst (λ (w : WorldValue). IsSerial old events w) arrived reached.serial;
       stamps =

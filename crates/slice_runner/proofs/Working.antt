@@ -11,11 +11,12 @@ use Rattle.vm_types.specs.Serial.{Follows, IsPlaced, OutFits}
 use Rattle.hart_trace.specs.Traces.{is_full}
 use Rattle.hart_trace.specs.Asks.{is_host_op}
 use Rattle.flat_guest.specs.Steps.{is_given}
+use Rattle.pause_gate.specs.Tally.{Tally}
 use Rattle.stamp_merge.specs.Stamps.{OutIsZero, Stamped}
 use Rattle.slice_runner.specs.declared.stop.Stop.{Stop}
 use Rattle.slice_runner.specs.declared.worker.Track.{Track}
 use Rattle.slice_runner.specs.Runs.{GoesOn, HasEnded, HasRun, IsActOf, IsSameBut, IsUnderWay, StopsFor, WritesDown}
-use Rattle.slice_runner.specs.Stops.{closings, is_last_full}
+use Rattle.slice_runner.specs.Stops.{closings, is_last_full, last_asks}
 use Rattle.slice_runner.specs.Values.{route_among}
 
 follows_more : {S : Type 0} (want : S → Op) (next : S → Reply → S) (s : S) (es : List Entry) (t u : S) (e : Entry)
@@ -40,8 +41,8 @@ full_more : (b : Bool) (es : List Entry) (e : Entry) → is_last_full b (es ++ e
 full_more b [] e = refl
 full_more b (d ∷ es) e = full_more (is_full d.reply) es e
 
-module _ {S Q : Type 0} (want : S → Op) (next : S → Reply → S) (closed : Q → ℕ) (count : ℕ) (id : ActorId) (s : S)
-    (c : ℕ) (t : S) (old mid : Track Q) (op : Op) (way : IsUnderWay want next closed count id s c t old)
+module _ {S Q : Type 0} (want : S → Op) (next : S → Reply → S) (tally : Q → Tally) (count : ℕ) (id : ActorId) (s : S)
+    (c : Tally) (t : S) (old mid : Track Q) (op : Op) (way : IsUnderWay want next tally count id s c t old)
     (same : IsSameBut old mid) (is_want : op ≡ want t) where
   mid_id : mid.id ≡ id
   mid_id = same.id ∙ way.same
@@ -53,14 +54,16 @@ module _ {S Q : Type 0} (want : S → Op) (next : S → Reply → S) (closed : Q
   mid_run = rw (mid_items, same.clock) way.ran
 
   -- one more entry
-  pub went : (now new : Track Q) (e : Entry) (given : Option Reply) (u : S) → closed mid.pass ≡ closed old.pass
+  pub went : (now new : Track Q) (e : Entry) (given : Option Reply) (u : S) → GoesOn tally op old mid
       → now.id ≡ mid.id → now.pass ≡ mid.pass → now.journal.items ≡ mid.journal.items → now.clock ≡ e.stamp
       → IsActOf e mid.id op given count mid.clock → WritesDown e now new → u ≡ next t e.reply
-      → IsUnderWay want next closed count id s c u new
-  went now new e given u kept now_id now_pass now_items now_clock act down is =
+      → IsUnderWay want next tally count id s c u new
+  went now new e given u on now_id now_pass now_items now_clock act down is =
       let run = mid_run in
       let items : new.journal.items ≡ mid.journal.items ++ e ∷ [] =
       down.items ∙ ap (λ (xs : List Entry). xs ++ e ∷ []) now_items in
+      let more : length new.journal.items ≡ length mid.journal.items + 1 =
+      ap (λ (xs : List Entry). length xs) items ∙ length-append mid.journal.items (e ∷ []) in
       let stamp : e.stamp ≡ 1 + max (last_stamp 0 mid.journal.items) e.before =
       act.stamp_is ∙ ap (λ (n : ℕ). 1 + max n e.before) run.last in
       record {
@@ -74,12 +77,14 @@ module _ {S Q : Type 0} (want : S → Op) (next : S → Reply → S) (closed : Q
           out = all_more OutIsZero mid.journal.items e run.out act.out;
         });
         full_is = down.full ∙ sym (full_more false mid.journal.items e) ∙ ap (is_last_full false) (sym items);
-        unclosed = ap closed (down.pass ∙ now_pass) ∙ kept ∙ way.unclosed;
+        asked = ap (λ (q : Q). (tally q).asks) (down.pass ∙ now_pass) ∙ on.asked ∙ ap (λ (k : ℕ). k + 1) way.asked
+            ∙ omega (arith, more, ap (λ (xs : List Entry). length xs) mid_items);
+        unclosed = ap (λ (q : Q). (tally q).closed) (down.pass ∙ now_pass) ∙ on.unclosed ∙ way.unclosed;
       }
 
   -- a stop
-  pub ended : (n : ℕ) (stop : Stop) → StopsFor closed op old mid stop → length old.journal.items < n
-      → HasEnded want next closed count id s c n t mid stop
+  pub ended : (n : ℕ) (stop : Stop) → StopsFor tally op old mid stop → length old.journal.items < n
+      → HasEnded want next tally count id s c n t mid stop
   ended n stop why less =
       let few : length mid.journal.items < n = subst (λ (xs : List Entry). length xs < n) (sym mid_items) less in
       record {
@@ -88,6 +93,8 @@ module _ {S Q : Type 0} (want : S → Op) (next : S → Reply → S) (closed : Q
         cause = record {
           most = omega (arith, few);
           steps = (λ is. absurd (why.not_steps is), λ is. absurd (omega (arith, few, is)));
+          asked = why.asked ∙ ap (λ (k : ℕ). k + last_asks stop) way.asked
+              ∙ omega (arith, ap (λ (xs : List Entry). length xs) mid_items);
           gate = why.gate ∙ ap (λ (k : ℕ). k + closings stop) way.unclosed;
           idle = (
             λ is. (
@@ -104,9 +111,9 @@ module _ {S Q : Type 0} (want : S → Op) (next : S → Reply → S) (closed : Q
       }
 
   -- no memory
-  pub wanting : (n : ℕ) (now : Track Q) → GoesOn closed op old mid → length old.journal.items < n → now.id ≡ mid.id
+  pub wanting : (n : ℕ) (now : Track Q) → GoesOn tally op old mid → length old.journal.items < n → now.id ≡ mid.id
       → now.pass ≡ mid.pass → now.journal.items ≡ mid.journal.items → now.clock ≡ mid.clock
-      → HasEnded want next closed count id s c n t now Stop.Memory
+      → HasEnded want next tally count id s c n t now Stop.Memory
   wanting n now on less now_id now_pass now_items now_clock =
       let items : now.journal.items ≡ old.journal.items = now_items ∙ mid_items in
       let few : length now.journal.items < n = subst (λ (xs : List Entry). length xs < n) (sym items) less in
@@ -116,7 +123,9 @@ module _ {S Q : Type 0} (want : S → Op) (next : S → Reply → S) (closed : Q
         cause = record {
           most = omega (arith, few);
           steps = (λ is. cc, λ is. absurd (omega (arith, few, is)));
-          gate = ap closed now_pass ∙ on.unclosed ∙ way.unclosed ∙ omega arith;
+          asked = ap (λ (q : Q). (tally q).asks) now_pass ∙ on.asked ∙ ap (λ (k : ℕ). k + 1) way.asked
+              ∙ omega (arith, ap (λ (xs : List Entry). length xs) items);
+          gate = ap (λ (q : Q). (tally q).closed) now_pass ∙ on.unclosed ∙ way.unclosed ∙ omega arith;
           idle = (
             λ is. cc,
             λ waits. absurd (on.awake (subst (λ (xs : List Entry). 1 ≤ length xs) items waits.0) (is_want ∙ waits.2)),

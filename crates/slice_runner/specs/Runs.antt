@@ -14,6 +14,7 @@ use Rattle.hart_trace.specs.States.{Hart, hart_next, hart_wants}
 use Rattle.hart_trace.specs.Traces.{is_full}
 use Rattle.timer_trace.specs.States.{timer_next, timer_wants}
 use Rattle.flat_guest.specs.Body.{out_reply}
+use Rattle.pause_gate.specs.Tally.{Tally}
 use Rattle.stamp_merge.specs.Stamps.{OutIsZero, Stamped}
 use Rattle.vm_host.specs.Telling.{AreNext, ClockKnown, Gives, Tells}
 use Rattle.slice_runner.specs.declared.stop.Stop.{Stop}
@@ -21,7 +22,7 @@ use Rattle.slice_runner.specs.declared.worker.HartWorker.{HartWorker}
 use Rattle.slice_runner.specs.declared.worker.TimerWorker.{TimerWorker}
 use Rattle.slice_runner.specs.declared.worker.Track.{Track}
 use Rattle.slice_runner.specs.Slices.{answers_of}
-use Rattle.slice_runner.specs.Stops.{HasCause, closings, is_last_full}
+use Rattle.slice_runner.specs.Stops.{HasCause, closings, is_last_full, last_asks}
 use Rattle.slice_runner.specs.Values.{route_among}
 
 -- the entry is of this actor and op, at the op's place among so many pages, with the next stamp after the actor's clock
@@ -51,32 +52,35 @@ pub record Begins {Q : Type 0} (n : ℕ) (track : Track Q) : Type 0 where
   pub full : track.full ≡ false
   pub room : n ≤ vec_capacity track.journal
 
--- the actor came from the state s to the state t, and its pass was never answered "closed" but the c times before
-pub record IsUnderWay {S Q : Type 0} (want : S → Op) (next : S → Reply → S) (closed : Q → ℕ) (count : ℕ) (id : ActorId)
-    (s : S) (c : ℕ) (t : S) (track : Track Q) : Type 0 where
+-- the actor came from the state s to the state t; since it had the tally c, its pass asked once for each entry, and was
+-- never answered "closed"
+pub record IsUnderWay {S Q : Type 0} (want : S → Op) (next : S → Reply → S) (tally : Q → Tally) (count : ℕ)
+    (id : ActorId) (s : S) (c : Tally) (t : S) (track : Track Q) : Type 0 where
   pub same : track.id ≡ id
   pub ran : HasRun want next count id s track.journal.items t track.clock
   pub full_is : track.full ≡ is_last_full false track.journal.items
-  pub unclosed : closed track.pass ≡ c
+  pub asked : (tally track.pass).asks ≡ c.asks + length track.journal.items
+  pub unclosed : (tally track.pass).closed ≡ c.closed
 
 -- the actor came from the state s to the state t, and stopped for a cause
-pub record HasEnded {S Q : Type 0} (want : S → Op) (next : S → Reply → S) (closed : Q → ℕ) (count : ℕ) (id : ActorId)
-    (s : S) (c n : ℕ) (t : S) (track : Track Q) (stop : Stop) : Type 0 where
+pub record HasEnded {S Q : Type 0} (want : S → Op) (next : S → Reply → S) (tally : Q → Tally) (count : ℕ) (id : ActorId)
+    (s : S) (c : Tally) (n : ℕ) (t : S) (track : Track Q) (stop : Stop) : Type 0 where
   pub same : track.id ≡ id
   pub ran : HasRun want next count id s track.journal.items t track.clock
-  pub cause : HasCause n stop track.journal.items (want t) c (closed track.pass)
+  pub cause : HasCause n stop track.journal.items (want t) c (tally track.pass)
 
-abbrev pub HasWorked : {S Q : Type 0} → (S → Op) → (S → Reply → S) → (Q → ℕ) → ℕ → ℕ → S → S → Track Q → Track Q → Type 0
-HasWorked want next closed count n s t before after =
-    HasEnded want next closed count before.id s (closed before.pass) n t after after.stop
+abbrev pub HasWorked : {S Q : Type 0} → (S → Op) → (S → Reply → S) → (Q → Tally) → ℕ → ℕ → S → S → Track Q → Track Q
+    → Type 0
+HasWorked want next tally count n s t before after =
+    HasEnded want next tally count before.id s (tally before.pass) n t after after.stop
 
-abbrev pub HartWorked : {Q : Type 0} → (Q → ℕ) → ℕ → ℕ → HartWorker Q → HartWorker Q → Type 0
-HartWorked closed count n before after =
-    HasWorked hart_wants hart_next closed count n before.hart after.hart before.track after.track
+abbrev pub HartWorked : {Q : Type 0} → (Q → Tally) → ℕ → ℕ → HartWorker Q → HartWorker Q → Type 0
+HartWorked tally count n before after =
+    HasWorked hart_wants hart_next tally count n before.hart after.hart before.track after.track
 
-abbrev pub TimerWorked : {Q : Type 0} → (Q → ℕ) → ℕ → ℕ → TimerWorker Q → TimerWorker Q → Type 0
-TimerWorked closed count n before after =
-    HasWorked timer_wants timer_next closed count n before.timer after.timer before.track after.track
+abbrev pub TimerWorked : {Q : Type 0} → (Q → Tally) → ℕ → ℕ → TimerWorker Q → TimerWorker Q → Type 0
+TimerWorked tally count n before after =
+    HasWorked timer_wants timer_next tally count n before.timer after.timer before.track after.track
 
 -- nothing but the pass may have changed
 pub record IsSameBut {Q : Type 0} (old new : Track Q) : Type 0 where
@@ -86,16 +90,18 @@ pub record IsSameBut {Q : Type 0} (old new : Track Q) : Type 0 where
   pub journal : new.journal ≡ old.journal
 
 -- why it makes no further step, with this want
-pub record StopsFor {Q : Type 0} (closed : Q → ℕ) (want : Op) (old new : Track Q) (stop : Stop) : Type 0 where
+pub record StopsFor {Q : Type 0} (tally : Q → Tally) (want : Op) (old new : Track Q) (stop : Stop) : Type 0 where
   pub not_steps : stop ≡ Stop.Steps → ⊥
-  pub gate : closed new.pass ≡ closed old.pass + closings stop
+  pub asked : (tally new.pass).asks ≡ (tally old.pass).asks + last_asks stop
+  pub gate : (tally new.pass).closed ≡ (tally old.pass).closed + closings stop
   pub idle : (stop ≡ Stop.Idle) ↔ ((1 ≤ length old.journal.items) × (want ≡ Op.Idle))
   pub full : stop ≡ Stop.Full → old.full ≡ true
   pub stamp : stop ≡ Stop.Stamp → 2 ^ 63 ≤ old.clock
 
 -- or it makes one
-pub record GoesOn {Q : Type 0} (closed : Q → ℕ) (want : Op) (old new : Track Q) : Type 0 where
-  pub unclosed : closed new.pass ≡ closed old.pass
+pub record GoesOn {Q : Type 0} (tally : Q → Tally) (want : Op) (old new : Track Q) : Type 0 where
+  pub asked : (tally new.pass).asks ≡ (tally old.pass).asks + 1
+  pub unclosed : (tally new.pass).closed ≡ (tally old.pass).closed
   pub awake : 1 ≤ length old.journal.items → want ≡ Op.Idle → ⊥
   pub low : old.clock < 2 ^ 63
 
@@ -124,19 +130,20 @@ pub record IsReady {Q : Type 0} (serves : Q → Type 0) (n : ℕ) (track : Track
   pub begins : Begins n track
 
 -- and ends it
-pub record HartEnds {Q : Type 0} (serves : Q → Type 0) (closed : Q → ℕ) (count n : ℕ) (before after : HartWorker Q) : Type 0 where
+pub record HartEnds {Q : Type 0} (serves : Q → Type 0) (tally : Q → Tally) (count n : ℕ) (before after : HartWorker Q) :
+    Type 0 where
   pub pass : serves after.track.pass
-  pub worked : HartWorked closed count n before after
+  pub worked : HartWorked tally count n before after
 
-pub record TimerEnds {Q : Type 0} (serves : Q → Type 0) (closed : Q → ℕ) (count n : ℕ) (asked now : ClockKnown)
+pub record TimerEnds {Q : Type 0} (serves : Q → Type 0) (tally : Q → Tally) (count n : ℕ) (asked now : ClockKnown)
     (before after : TimerWorker Q) : Type 0 where
   pub pass : serves after.track.pass
-  pub worked : TimerWorked closed count n before after
+  pub worked : TimerWorked tally count n before after
   pub answers : HasAnswered asked (answers_of after.track.journal.items) now
 
 -- each hart of the list does
-pub record HartsWorked {Q : Type 0} (serves : Q → Type 0) (closed : Q → ℕ) (count n : ℕ) (before after : List (HartWorker Q)) :
-    Type 0 where
+pub record HartsWorked {Q : Type 0} (serves : Q → Type 0) (tally : Q → Tally) (count n : ℕ)
+    (before after : List (HartWorker Q)) : Type 0 where
   pub same : length after ≡ length before
   pub each : (i : ℕ) (d : HartWorker Q) → i < length before
-      → HartEnds serves closed count n (slice_index_or before i d) (slice_index_or after i d)
+      → HartEnds serves tally count n (slice_index_or before i d) (slice_index_or after i d)

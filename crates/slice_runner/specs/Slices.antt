@@ -18,6 +18,7 @@ use Rattle.flat_guest.specs.Steps.{FlatStep, written_after}
 use Rattle.guest_pages.specs.Marks.{AreMarks}
 use Rattle.guest_pages.specs.Flat.{ArePages}
 use Rattle.guest_pages.specs.Pages.{PageValue, marks_of, page_touch}
+use Rattle.pause_gate.specs.Tally.{Tally}
 use Rattle.place_locks.specs.Held.{IsHistory}
 use Rattle.stamp_merge.specs.declared.history.History.{History}
 use Rattle.stamp_merge.specs.declared.journal.Journal.{Journal}
@@ -93,12 +94,12 @@ pub record IsTornSlice (old : WorldValue) (torn : Torn) (journals : List Journal
   pub differ : IsTorn order histories torn
 
 -- the events of a slice lead from the world before to the world after, which has pages still
-pub record IsSlice {Q : Type 0} (closed : Q → ℕ) (n : ℕ) (asked now : ClockKnown) (old : WorldValue) (events : List Entry)
-    (new : WorldValue) (stops : List Stopped) (before after : List Q) : Type 0 where
+pub record IsSlice {Q : Type 0} (tally : Q → Tally) (n : ℕ) (asked now : ClockKnown) (old : WorldValue)
+    (events : List Entry) (new : WorldValue) (stops : List Stopped) (before after : List Q) : Type 0 where
   pub serial : IsSerial old events new
   pub stamps : AreStamps events
   pub marks : MarksFollow old.pages events new.pages
-  pub stopped : AreStopped closed n events new stops before after
+  pub stopped : AreStopped tally n events new stops before after
   pub clock : ClockWasAsked asked events now
   pub pages : ArePages 0 new.pages
   pub count : length new.pages ≡ length old.pages

@@ -7,6 +7,7 @@ use Rattle.vm_types.specs.declared.op.Op.{Op}
 use Rattle.vm_types.specs.Histories.{last_stamp}
 use Rattle.vm_types.specs.Ids.{of_actor}
 use Rattle.hart_trace.specs.Traces.{is_full}
+use Rattle.pause_gate.specs.Tally.{Tally}
 use Rattle.vm_world.specs.Worlds.{WorldValue, want_in}
 use Rattle.slice_runner.specs.declared.stop.Stop.{Stop}
 use Rattle.slice_runner.specs.declared.stop.Stop.TheVariants.{Steps, Gate, Idle, Full, Stamp, Memory}
@@ -22,16 +23,23 @@ abbrev pub closings : Stop → ℕ
 closings Gate = 1
 closings stop = 0
 
+-- how often it was asked and no step made: once by an actor that stops for it or finds no memory, and by no other
+abbrev pub last_asks : Stop → ℕ
+last_asks Gate = 1
+last_asks Memory = 1
+last_asks stop = 0
+
 -- after 1 to n - 1 steps the actor wants to wait
 abbrev pub Waits : ℕ → List Entry → Op → Type 0
 Waits n entries want = (1 ≤ length entries) × (length entries < n) × (want ≡ Op.Idle)
 
--- the cause of a stop, after these entries of at most n, with this want, and with a pass that was answered "closed" so often
--- before and now; want of memory is free
-pub record HasCause (n : ℕ) (stop : Stop) (entries : List Entry) (want : Op) (before now : ℕ) : Type 0 where
+-- the cause of a stop, after these entries of at most n, with this want, and with the tally of its pass before and now: it
+-- asked once for each entry; want of memory is free
+pub record HasCause (n : ℕ) (stop : Stop) (entries : List Entry) (want : Op) (before now : Tally) : Type 0 where
   pub most : length entries ≤ n
   pub steps : (stop ≡ Steps) ↔ (length entries ≡ n)
-  pub gate : now ≡ before + closings stop
+  pub asked : now.asks ≡ before.asks + (length entries + last_asks stop)
+  pub gate : now.closed ≡ before.closed + closings stop
   pub idle : (stop ≡ Idle) ↔ Waits n entries want
   pub full : stop ≡ Full → is_last_full false entries ≡ true
   pub stamp : stop ≡ Stamp → 2 ^ 63 ≤ last_stamp 0 entries
@@ -42,16 +50,16 @@ actor_of zero = ActorId.Timer
 actor_of (suc k) = ActorId.Hart k
 
 -- one actor's stop, with the pass at its place before and after
-pub record IsStopped {Q : Type 0} (closed : Q → ℕ) (n : ℕ) (events : List Entry) (now : WorldValue) (i : ℕ)
+pub record IsStopped {Q : Type 0} (tally : Q → Tally) (n : ℕ) (events : List Entry) (now : WorldValue) (i : ℕ)
     (s : Stopped) (p q : Q) : Type 0 where
   pub actor_is : s.actor ≡ actor_of i
   pub want : Op
   pub wants : want_in now s.actor ≡ Some want
-  pub cause : HasCause n s.stop (of_actor s.actor events) want (closed p) (closed q)
+  pub cause : HasCause n s.stop (of_actor s.actor events) want (tally p) (tally q)
 
 -- each actor has one stop, with its cause
-pub record AreStopped {Q : Type 0} (closed : Q → ℕ) (n : ℕ) (events : List Entry) (now : WorldValue) (stops : List Stopped)
-    (before after : List Q) : Type 0 where
+pub record AreStopped {Q : Type 0} (tally : Q → Tally) (n : ℕ) (events : List Entry) (now : WorldValue)
+    (stops : List Stopped) (before after : List Q) : Type 0 where
   pub count : length stops ≡ suc (length now.harts)
   pub each : (i : ℕ) (s : Stopped) (p q : Q) → slice_get stops i ≡ Some s → slice_get before i ≡ Some p
-      → slice_get after i ≡ Some q → IsStopped closed n events now i s p q
+      → slice_get after i ≡ Some q → IsStopped tally n events now i s p q

@@ -35,7 +35,7 @@ fn run_harts<
     requires board { board.now ≡ PlaceId.Board }
     requires ready { All (λ worker. IsReady (G.serves gate.now) n worker.track) harts.old }
     ensures { (i : ℕ) (d : _) → i < length harts.old →
-        HartEnds (G.serves gate.now) G.closed (length pages.now) n (slice_index_or harts.old i d) (slice_index_or harts.new i d) }
+        HartEnds (G.serves gate.now) G.tally (length pages.now) n (slice_index_or harts.old i d) (slice_index_or harts.new i d) }
 {
     let threads = harts.len().max(1);
     for_each_mut(
@@ -45,7 +45,7 @@ fn run_harts<
         &|_, worker: &mut HartWorker<Q>|
             requires { ArePageLocks pages.now × (length pages.now ≤ 2 ^ 28) × (board.now ≡ PlaceId.Board)
                 × IsReady (G.serves gate.now) n worker.now.track }
-            ensures { HartEnds (G.serves gate.entry.now) G.closed (length pages.entry.now) n worker.entry.now worker.exit.now }
+            ensures { HartEnds (G.serves gate.entry.now) G.tally (length pages.entry.now) n worker.entry.now worker.exit.now }
         { run_hart(rt, gate, pages, board, n, worker) },
     );
 }
@@ -62,7 +62,7 @@ fn run_hart<Q, K: Openings<Page>, L: Openings<Board>, G: Gate<Pass = Q>, R: Wait
     requires few { length pages.now ≤ 2 ^ 28 }
     requires board { board.now ≡ PlaceId.Board }
     requires ready { IsReady (G.serves gate.now) n worker.old.track }
-    ensures { HartEnds (G.serves gate.now) G.closed (length pages.now) n worker.old worker.new }
+    ensures { HartEnds (G.serves gate.now) G.tally (length pages.now) n worker.old worker.new }
 {
     worker.run(rt, gate, pages, board, n);
 }
@@ -85,7 +85,7 @@ fn run_vec<
     requires few { length pages.now ≤ 2 ^ 28 }
     requires board { board.now ≡ PlaceId.Board }
     requires ready { All (λ worker. IsReady (G.serves gate.now) n worker.track) harts.old.items }
-    ensures { HartsWorked (G.serves gate.now) G.closed (length pages.now) n harts.old.items harts.new.items }
+    ensures { HartsWorked (G.serves gate.now) G.tally (length pages.now) n harts.old.items harts.new.items }
 {
     run_harts(rt, gate, pages, board, n, harts.as_mut_slice());
 }
@@ -103,7 +103,7 @@ fn run_timer<Q, K: Openings<Page>, L: Openings<Board>, C: Clock, G: Gate<Pass = 
     requires few { length pages.now ≤ 2 ^ 28 }
     requires board { board.now ≡ PlaceId.Board }
     requires ready { IsReady (G.serves gate.now) n timer.old.track }
-    ensures { TimerEnds (G.serves gate.now) G.closed (length pages.now) n (C.known clock.old) (C.known clock.new) timer.old timer.new }
+    ensures { TimerEnds (G.serves gate.now) G.tally (length pages.now) n (C.known clock.old) (C.known clock.new) timer.old timer.new }
 {
     timer.run(rt, gate, pages, board, n, clock);
 }
@@ -131,13 +131,13 @@ pub fn run_all<
     requires board { board.now ≡ PlaceId.Board }
     requires timer { IsReady (G.serves gate.now) n timer.old.track }
     requires harts { All (λ worker. IsReady (G.serves gate.now) n worker.track) harts.old.items }
-    ensures timer { TimerEnds (G.serves gate.now) G.closed (length pages.now) n (C.known clock.old) (C.known clock.new) timer.old timer.new }
-    ensures harts { HartsWorked (G.serves gate.now) G.closed (length pages.now) n harts.old.items harts.new.items }
+    ensures timer { TimerEnds (G.serves gate.now) G.tally (length pages.now) n (C.known clock.old) (C.known clock.new) timer.old timer.new }
+    ensures harts { HartsWorked (G.serves gate.now) G.tally (length pages.now) n harts.old.items harts.new.items }
 {
     let mut beside = ||
         requires { ArePageLocks pages.now × (length pages.now ≤ 2 ^ 28) × (board.now ≡ PlaceId.Board)
             × All (λ worker. IsReady (G.serves gate.now) n worker.track) harts.now.items }
-        ensures { HartsWorked (G.serves gate.entry.now) G.closed (length pages.entry.now) n harts.entry.now.items harts.exit.now.items }
+        ensures { HartsWorked (G.serves gate.entry.now) G.tally (length pages.entry.now) n harts.entry.now.items harts.exit.now.items }
     { run_vec(rt, gate, pages, board, n, harts) };
     let also_rt = rt;
     let also_gate = gate;
@@ -146,7 +146,7 @@ pub fn run_all<
     let mut here = ||
         requires { ArePageLocks also_pages.now × (length also_pages.now ≤ 2 ^ 28) × (also_board.now ≡ PlaceId.Board)
             × IsReady (G.serves also_gate.now) n timer.now.track }
-        ensures { TimerEnds (G.serves also_gate.entry.now) G.closed (length also_pages.entry.now) n
+        ensures { TimerEnds (G.serves also_gate.entry.now) G.tally (length also_pages.entry.now) n
             (C.known clock.entry.now) (C.known clock.exit.now) timer.entry.now timer.exit.now }
     { run_timer(also_rt, also_gate, also_pages, also_board, n, clock, timer) };
     join_mut(rt, &mut beside, &mut here);

@@ -101,7 +101,7 @@ pub fn share<
     requires room { HasRoom (length parts.pages.items) (length parts.harts.items) (length passes.old.items) n room }
     requires opening { (p : PlaceId) → K.opening p ≡ page_at parts.pages.items p }
     requires board { (p : PlaceId) → L.opening p ≡ parts.board }
-    ensures shared { IfOk result (λ shared. IsSlice G.closed n (C.known clock.old) (C.known clock.new)
+    ensures shared { IfOk result (λ shared. IsSlice G.tally n (C.known clock.old) (C.known clock.new)
         (world_with parts.pages.items parts.board parts.timer parts.harts.items) shared.events.items
         (world_with shared.parts.pages.items shared.parts.board shared.parts.timer shared.parts.harts.items)
         shared.stops.items passes.old.items passes.new.items) }

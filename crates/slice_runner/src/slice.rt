@@ -74,7 +74,7 @@ pub fn run_slice<
     ensures stamps { IfOk result (λ slice. AreStamps slice.events.items) }
     ensures marks { IfOk result (λ slice. MarksFollow world.old.pages slice.events.items world.new.pages) }
     ensures stops { IfOk result (λ slice.
-        AreStopped G.closed n slice.events.items world.new slice.stops.items passes.old.items passes.new.items) }
+        AreStopped G.tally n slice.events.items world.new slice.stops.items passes.old.items passes.new.items) }
     ensures clock { IfOk result (λ slice.
         ClockWasAsked (C.known host.old.clock) slice.events.items (C.known host.new.clock)) }
     ensures failed { IfErr result (λ why. HasFailed world.old world.new

@@ -5,6 +5,7 @@ ghost use Rattle.vm_types.specs.declared.ids.PlaceId.{PlaceId};
 ghost use Rattle.hart_trace.specs.States.{Hart as HartValue, hart_next, hart_wants};
 ghost use Rattle.timer_trace.specs.States.{timer_next, timer_wants};
 ghost use Rattle.timer_trace.specs.declared.timer.Timer.{Timer as TimerValue};
+ghost use Rattle.pause_gate.specs.Tally.{Tally};
 ghost use Rattle.vm_host.specs.Telling.{ClockKnown};
 ghost use Rattle.slice_runner.specs.Locks.{ArePageLocks};
 ghost use Rattle.slice_runner.specs.Runs.{Begins, GoesOn, HartWorked, HasAnswered, HasEnded, IsAsked, IsSameBut};
@@ -56,8 +57,8 @@ impl<Q> Track<Q> {
         ensures pass { G.serves gate.now self.new.pass }
         ensures same { IsSameBut self.old self.new }
         ensures why { MatchOption result
-            (GoesOn G.closed want.now self.old self.new)
-            (StopsFor G.closed want.now self.old self.new) }
+            (GoesOn G.tally want.now self.old self.new)
+            (StopsFor G.tally want.now self.old self.new) }
     {
         if !self.journal.is_empty() && matches!(want, Op::Idle) {
             return Some(Stop::Idle);
@@ -102,13 +103,13 @@ impl<Q> HartWorker<Q> {
         ensures pass { G.serves gate.now self.new.track.pass }
         ensures room { vec_capacity self.new.track.journal ≡ vec_capacity self.old.track.journal }
         ensures one { OnOk result (vec_len self.new.track.journal ≡ vec_len self.old.track.journal + 1) }
-        ensures went { OnOk result ((id : ActorId) (s : HartValue) (c : ℕ) →
-            IsUnderWay hart_wants hart_next G.closed (length pages.now) id s c self.old.hart self.old.track →
-            IsUnderWay hart_wants hart_next G.closed (length pages.now) id s c self.new.hart self.new.track) }
-        ensures ended { IfErr result (λ stop. (id : ActorId) (s : HartValue) (c n : ℕ) →
-            IsUnderWay hart_wants hart_next G.closed (length pages.now) id s c self.old.hart self.old.track →
+        ensures went { OnOk result ((id : ActorId) (s : HartValue) (c : Tally) →
+            IsUnderWay hart_wants hart_next G.tally (length pages.now) id s c self.old.hart self.old.track →
+            IsUnderWay hart_wants hart_next G.tally (length pages.now) id s c self.new.hart self.new.track) }
+        ensures ended { IfErr result (λ stop. (id : ActorId) (s : HartValue) (c : Tally) (n : ℕ) →
+            IsUnderWay hart_wants hart_next G.tally (length pages.now) id s c self.old.hart self.old.track →
             vec_len self.old.track.journal < n →
-            HasEnded hart_wants hart_next G.closed (length pages.now) id s c n self.new.hart self.new.track stop) }
+            HasEnded hart_wants hart_next G.tally (length pages.now) id s c n self.new.hart self.new.track stop) }
     {
         let op = self.hart.want();
         if let Some(stop) = self.track.stops(gate, &op) {
@@ -139,7 +140,7 @@ impl<Q> HartWorker<Q> {
         requires pass { G.serves gate.now self.old.track.pass }
         requires begins { Begins n self.old.track }
         ensures pass { G.serves gate.now self.new.track.pass }
-        ensures worked { HartWorked G.closed (length pages.now) n self.old self.new }
+        ensures worked { HartWorked G.tally (length pages.now) n self.old self.new }
     {
         for _step in 0..n {
             if let Err(stop) = self.step(rt, gate, pages, board) {
@@ -179,13 +180,13 @@ impl<Q> TimerWorker<Q> {
         ensures pass { G.serves gate.now self.new.track.pass }
         ensures room { vec_capacity self.new.track.journal ≡ vec_capacity self.old.track.journal }
         ensures one { OnOk result (vec_len self.new.track.journal ≡ vec_len self.old.track.journal + 1) }
-        ensures went { OnOk result ((id : ActorId) (s : TimerValue) (c : ℕ) →
-            IsUnderWay timer_wants timer_next G.closed (length pages.now) id s c self.old.timer self.old.track →
-            IsUnderWay timer_wants timer_next G.closed (length pages.now) id s c self.new.timer self.new.track) }
-        ensures ended { IfErr result (λ stop. (id : ActorId) (s : TimerValue) (c n : ℕ) →
-            IsUnderWay timer_wants timer_next G.closed (length pages.now) id s c self.old.timer self.old.track →
+        ensures went { OnOk result ((id : ActorId) (s : TimerValue) (c : Tally) →
+            IsUnderWay timer_wants timer_next G.tally (length pages.now) id s c self.old.timer self.old.track →
+            IsUnderWay timer_wants timer_next G.tally (length pages.now) id s c self.new.timer self.new.track) }
+        ensures ended { IfErr result (λ stop. (id : ActorId) (s : TimerValue) (c : Tally) (n : ℕ) →
+            IsUnderWay timer_wants timer_next G.tally (length pages.now) id s c self.old.timer self.old.track →
             vec_len self.old.track.journal < n →
-            HasEnded timer_wants timer_next G.closed (length pages.now) id s c n self.new.timer self.new.track stop) }
+            HasEnded timer_wants timer_next G.tally (length pages.now) id s c n self.new.timer self.new.track stop) }
         ensures answers { (start : ClockKnown) →
             HasAnswered start (answers_of self.old.track.journal.items) (C.known clock.old) →
             HasAnswered start (answers_of self.new.track.journal.items) (C.known clock.new) }
@@ -221,7 +222,7 @@ impl<Q> TimerWorker<Q> {
         requires pass { G.serves gate.now self.old.track.pass }
         requires begins { Begins n self.old.track }
         ensures pass { G.serves gate.now self.new.track.pass }
-        ensures worked { TimerWorked G.closed (length pages.now) n self.old self.new }
+        ensures worked { TimerWorked G.tally (length pages.now) n self.old self.new }
         ensures answers { HasAnswered (C.known clock.old) (answers_of self.new.track.journal.items) (C.known clock.new) }
     {
         for _step in 0..n {

@@ -8,7 +8,7 @@ use std::process::ExitCode;
 use std::{env, io};
 
 fn main(rt: HostRuntime) -> ExitCode {
-    let mut files = Folder::new(&rt);
+    let mut files = Folder::keeping_open(&rt);
     let mut out = Writing::new(rt.stdout());
     let end = match words(&rt) {
         Ok(words) => rebase_main(rt.alloc(), &words, &mut files, &mut out),

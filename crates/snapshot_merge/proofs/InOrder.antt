@@ -11,7 +11,7 @@ use Rattle.snapshot_merge.specs.Merges.{open_slots}
 use Rattle.snapshot_merge.specs.Plans.{Plan}
 use Rattle.snapshot_merge.proofs.Overlaid.{from_start_as, is_begun, one_more}
 
-same_plan : (p q : Plan) → ◌≡◌ {A = Result Plan Refusal} (Ok p) (Ok q) → p ≡ q
+pub same_plan : (p q : Plan) → ◌≡◌ {A = Result Plan Refusal} (Ok p) (Ok q) → p ≡ q
 same_plan p q is = cc
 
 pub some_merged : (files : List (List ℕ)) (diffs : List DiffCopy) (given : List ℕ) (m : MemoryCopy) (is : IsMemoryFile given m) → AreDiffFiles files diffs

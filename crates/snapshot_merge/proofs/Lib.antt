@@ -6,3 +6,6 @@ pub mod Whole
 pub mod Texts
 pub mod Overlaid
 pub mod InOrder
+pub mod Relaid
+pub mod NextSlot
+pub mod Resumed

@@ -127,11 +127,11 @@ module _ (t : Slot) (opens : is_open t ≡ true) (numbered : is_numbered t.ident
 
 -- ---- headers that fit
 
-slots_fit : (h : MemHeader) → memory.header.Fits h → (length h.slots ≡ 100) × AllByRecursion slot.Fits h.slots
+pub slots_fit : (h : MemHeader) → memory.header.Fits h → (length h.slots ≡ 100) × AllByRecursion slot.Fits h.slots
 unfolding memory.header times
 slots_fit h fits = fits.1.1.1.1.1.1.0
 
-slot_fits : (i : Identity) (gate : ℕ) → identity.Fits i → gate < 256 → slot.Fits (record { identity = i; gate = gate })
+pub slot_fits : (i : Identity) (gate : ℕ) → identity.Fits i → gate < 256 → slot.Fits (record { identity = i; gate = gate })
 unfolding slot byte zeros
 slot_fits i gate fits small = (fits, (small, tt))
 
@@ -140,16 +140,16 @@ all_set [] j s all fits = tt
 all_set (t ∷ ts) zero s all fits = (fits, all.1)
 all_set (t ∷ ts) (suc j) s all fits = (all.0, all_set ts j s all.1 fits)
 
-with_slot : (h : MemHeader) (j : ℕ) (s : Slot) → memory.header.Fits h → slot.Fits s → memory.header.Fits (record h { slots = set h.slots j s })
+pub with_slot : (h : MemHeader) (j : ℕ) (s : Slot) → memory.header.Fits h → slot.Fits s → memory.header.Fits (record h { slots = set h.slots j s })
 unfolding memory.header times
 with_slot h j s fits fit =
     (fits.0, (fits.1.0, (fits.1.1.0, (fits.1.1.1.0, (fits.1.1.1.1.0, (fits.1.1.1.1.1.0, ((length-set h.slots j s ∙ fits.1.1.1.1.1.1.0.0, all_set h.slots j s fits.1.1.1.1.1.1.0.1 fit), fits.1.1.1.1.1.1.1)))))))
 
-with_mark : (h : MemHeader) (v : ℕ) → memory.header.Fits h → v < 256 → memory.header.Fits (record h { merging = v })
+pub with_mark : (h : MemHeader) (v : ℕ) → memory.header.Fits h → v < 256 → memory.header.Fits (record h { merging = v })
 unfolding memory.header byte
 with_mark h v fits small = (fits.0, (fits.1.0, (fits.1.1.0, (fits.1.1.1.0, (small, fits.1.1.1.1.1)))))
 
-gate_fits : (slots : List Slot) (j : ℕ) (s : Slot) → AllByRecursion slot.Fits slots → slot.Fits s → (get_or slots j s).gate < 256
+pub gate_fits : (slots : List Slot) (j : ℕ) (s : Slot) → AllByRecursion slot.Fits slots → slot.Fits s → (get_or slots j s).gate < 256
 unfolding slot byte
 gate_fits [] j s all fits = fits.1.0
 gate_fits (t ∷ ts) zero s all fits = all.0.1.0
@@ -159,18 +159,18 @@ identity_fits : (h : DiffHeader) → diffs.header.Fits h → identity.Fits h.ide
 unfolding diffs.header
 identity_fits h fits = fits.1.1.1.1.0
 
-in_range : (slots : List Slot) (j : ℕ) (s : Slot) → slice_get slots j ≡ Some s → j < length slots
+pub in_range : (slots : List Slot) (j : ℕ) (s : Slot) → slice_get slots j ≡ Some s → j < length slots
 in_range [] j s there = absurd cc
 in_range (t ∷ ts) zero s there = omega arith
 in_range (t ∷ ts) (suc j) s there = let rest = in_range ts j s there in omega (arith, rest)
 
-got : (slots : List Slot) (j : ℕ) (s t : Slot) → slice_get slots j ≡ Some s → get_or slots j t ≡ s
+pub got : (slots : List Slot) (j : ℕ) (s t : Slot) → slice_get slots j ≡ Some s → get_or slots j t ≡ s
 got [] j s t there = absurd cc
 got (u ∷ us) zero s t there = cc
 got (u ∷ us) (suc j) s t there = got us j s t there
 
 -- a slot that is there is found whatever stands in for one that isn't
-same_get : (slots : List Slot) (j : ℕ) (s t : Slot) → j < length slots → get_or slots j s ≡ get_or slots j t
+pub same_get : (slots : List Slot) (j : ℕ) (s t : Slot) → j < length slots → get_or slots j s ≡ get_or slots j t
 same_get [] j s t lt = absurd (omega (arith, lt))
 same_get (u ∷ us) zero s t lt = refl
 same_get (u ∷ us) (suc j) s t lt = same_get us j s t (omega (arith, lt))
@@ -184,22 +184,22 @@ module _ (given file : List ℕ) (head : MemHeader) (m : MemoryCopy) (d : DiffCo
   tests : (is_numbered head.made_as ≡ true) × (memory.are_slots head.slots ≡ true)
   tests = and_parts (is_numbered head.made_as) (memory.are_slots head.slots) holds.valid
 
-  diff_header : (diffs.is_header (diffs.header_of d) ≡ true) × (rises d.pages 0 d.numbers ≡ true)
+  pub diff_header : (diffs.is_header (diffs.header_of d) ≡ true) × (rises d.pages 0 d.numbers ≡ true)
   diff_header = and_parts (diffs.is_header (diffs.header_of d)) (rises d.pages 0 d.numbers) is.valid
 
-  numbered : is_numbered d.identity ≡ true
+  pub numbered : is_numbered d.identity ≡ true
   numbered = (and_parts (is_numbered d.parent) (is_numbered d.identity) (and_parts (is_numbered d.parent && is_numbered d.identity) (not (is_same d.parent d.identity)) diff_header.0).0).1
 
-  of_identity : identity.Fits d.identity
+  pub of_identity : identity.Fits d.identity
   of_identity = identity_fits (diffs.header_of d) (files.parts_fit d is.fits).0
 
-  size : length head.slots ≡ 100
+  pub size : length head.slots ≡ 100
   size = (slots_fit head holds.fits).0
 
-  fit : slot.Fits (record { identity = d.identity; gate = 1 })
+  pub fit : slot.Fits (record { identity = d.identity; gate = 1 })
   fit = slot_fits d.identity 1 of_identity (omega arith)
 
-  rise : rises m.pages 0 d.numbers ≡ true
+  pub rise : rises m.pages 0 d.numbers ≡ true
   rise = subst (λ (n : ℕ). rises n 0 d.numbers ≡ true) pages diff_header.1
 
   -- the last stages, from a header whose next slot has the diff's identity
@@ -212,7 +212,7 @@ module _ (given file : List ℕ) (head : MemHeader) (m : MemoryCopy) (d : DiffCo
       let laid : List ℕ = with_pages d.numbers d.bytes m.bytes in
       let open_h : MemHeader = record h { slots = slots } in
       ap (λ (t : List ℕ). written (written t (64 + 32 * open_slots head.slots + 16) (1 ∷ [])) 32 (0 ∷ []))
-      (paged h m.bytes fits d.numbers m.pages 0 d.bytes m.bytes rise holds.whole (files.whole file d is).size)
+      (paged h m.bytes fits d.numbers m.pages 0 d.bytes m.bytes rise holds.whole (let all = (files.whole file d is).size in omega (arith, all)))
       ∙ ap (λ (t : List ℕ). written t 32 (0 ∷ []))
       (opened h laid fits (open_slots head.slots) d.identity s ((slots_fit h fits).0) left there same)
       ∙ marked open_h laid (with_slot h (open_slots head.slots) (record { identity = d.identity; gate = 1 }) fits fit) 0
@@ -220,7 +220,7 @@ module _ (given file : List ℕ) (head : MemHeader) (m : MemoryCopy) (d : DiffCo
       (λ i. (same_pages i, same_made i, same_slots i))
 
   -- it is a file of the overlaid copy, with this header
-  is_overlaid : (text : List ℕ) → open_slots head.slots < 100 → text ≡ memory.header.bytes merged_head ++ with_pages d.numbers d.bytes m.bytes
+  pub is_overlaid : (text : List ℕ) → open_slots head.slots < 100 → text ≡ memory.header.bytes merged_head ++ with_pages d.numbers d.bytes m.bytes
       → (file : IsMemoryFile text (overlaid m d)) × (file.head ≡ merged_head)
   is_overlaid text left text_is = (
     record {
@@ -272,7 +272,7 @@ module _ (given file : List ℕ) (head : MemHeader) (m : MemoryCopy) (d : DiffCo
 
 -- ---- the plan
 
-same_identity : (i : Identity) → is_same i i ≡ true
+pub same_identity : (i : Identity) → is_same i i ≡ true
 same_identity i = ap (λ (b : Bool). b && (i.number == i.number)) (eq-eqb i.lineage i.lineage refl) ∙ eq-eqb i.number i.number refl
 
 same_when : (a b : Identity) → is_same a b ≡ true → a ≡ b
@@ -280,34 +280,46 @@ same_when a b e =
     let both = and_parts (a.lineage == b.lineage) (a.number == b.number) e in
     λ i. record { lineage = eqb-true a.lineage b.lineage both.0 i; number = eqb-true a.number b.number both.1 i }
 
-module _ (given file : List ℕ) (m : MemoryCopy) (d : DiffCopy) (is : IsMemoryFile given m) (diff : IsDiffFile file d) (pages : d.pages ≡ m.pages) where
-  front_is : take 4096 given ≡ memory.header.bytes is.head
-  front_is = ap (take 4096) is.holds.bytes ∙ take_at (memory.header.bytes is.head) m.bytes 4096 (length-header is.head is.holds.fits)
+module _ (given file : List ℕ) (head : MemHeader) (m : MemoryCopy) (d : DiffCopy) (holds : Holds given head m) (diff : IsDiffFile file d) (pages : d.pages ≡ m.pages) where
+  front_is : take 4096 given ≡ memory.header.bytes head
+  front_is = ap (take 4096) holds.bytes ∙ take_at (memory.header.bytes head) m.bytes 4096 (length-header head holds.fits)
 
-  base_is : base_found (Some given) ≡ Ok is.head
+  base_is : base_found (Some given) ≡ Ok head
   base_is =
-      base_good (length given) (take 4096 given) is.head
-      (record { fits = is.holds.fits; valid = is.holds.valid; pages = []; bytes = front_is ∙ sym (append-nil (memory.header.bytes is.head)) })
-      ∙ ap (λ (b : Bool). cond b (Ok is.head) (Err refusal.SizesDiffer))
-      (eq-eqb (length given) (4096 + 4096 * is.head.pages) (omega (arith, ap length is.holds.bytes, length-append (memory.header.bytes is.head) m.bytes, length-header is.head is.holds.fits, is.holds.whole, is.holds.pages)))
+      base_good (length given) (take 4096 given) head
+      (record { fits = holds.fits; valid = holds.valid; pages = []; bytes = front_is ∙ sym (append-nil (memory.header.bytes head)) })
+      ∙ ap (λ (b : Bool). cond b (Ok head) (Err refusal.SizesDiffer))
+      (eq-eqb (length given) (4096 + 4096 * head.pages) (omega (arith, ap length holds.bytes, length-append (memory.header.bytes head) m.bytes, length-header head holds.fits, holds.whole, holds.pages)))
 
-  planned_is : planned (Some given) (Some file) ≡ plan_with d (new_merge is.head (diffs.header_of d))
-  planned_is =
+  -- by the merging byte
+  pub planned_by : planned (Some given) (Some file) ≡ plan_with d (cond (head.merging == 0) (new_merge head (diffs.header_of d)) (unfinished_merge head (diffs.header_of d) (slice_get head.slots (open_slots head.slots))))
+  planned_by =
       ap (λ (r : Result MemHeader Refusal). plan_by r (diff_found (Some file))) base_is
-      ∙ ap (plan_by (Ok is.head)) (files.found_again file d diff)
-      ∙ ap (λ (b : Bool). plan_with d (cond (not b) (Err refusal.SizesDiffer) (cond (is.head.merging == 0) (new_merge is.head (diffs.header_of d)) (unfinished_merge is.head (diffs.header_of d) (slice_get is.head.slots (open_slots is.head.slots))))))
-      (eq-eqb d.pages is.head.pages (pages ∙ sym is.holds.pages))
-      ∙ ap (λ (n : ℕ). plan_with d (cond (n == 0) (new_merge is.head (diffs.header_of d)) (unfinished_merge is.head (diffs.header_of d) (slice_get is.head.slots (open_slots is.head.slots))))) is.settled
+      ∙ ap (plan_by (Ok head)) (files.found_again file d diff)
+      ∙ ap (λ (b : Bool). plan_with d (cond (not b) (Err refusal.SizesDiffer) (cond (head.merging == 0) (new_merge head (diffs.header_of d)) (unfinished_merge head (diffs.header_of d) (slice_get head.slots (open_slots head.slots))))))
+      (eq-eqb d.pages head.pages (pages ∙ sym holds.pages))
 
+  planned_new : head.merging ≡ 0 → planned (Some given) (Some file) ≡ plan_with d (new_merge head (diffs.header_of d))
+  planned_new settled =
+      planned_by
+      ∙ ap (λ (n : ℕ). plan_with d (cond (n == 0) (new_merge head (diffs.header_of d)) (unfinished_merge head (diffs.header_of d) (slice_get head.slots (open_slots head.slots))))) settled
+
+  pub is_begun_by : head.merging ≡ 0 → d.parent ≡ m.identity → open_slots head.slots < 100 → planned (Some given) (Some file) ≡ Ok (record { diff = d; merge = Begin (open_slots head.slots) })
+  is_begun_by settled parent left =
+      let same : is_same d.parent (memory.identity_of head) ≡ true = ap (λ (i : Identity). is_same d.parent i) (holds.identity ∙ sym parent) ∙ same_identity d.parent in
+      planned_new settled
+      ∙ ap (λ (b : Bool). plan_with d (cond (not b) (Err refusal.ParentDiffers) (cond (open_slots head.slots == 100) (Err refusal.NoSlotLeft) (Ok (Begin (open_slots head.slots)))))) same
+      ∙ ap (λ (b : Bool). plan_with d (cond b (Err refusal.NoSlotLeft) (Ok (Begin (open_slots head.slots))))) (ne_eqb (open_slots head.slots) 100 (λ full. omega (arith, full, left)))
+
+  pub is_foreign_by : head.merging ≡ 0 → d.parent ≢ m.identity → planned (Some given) (Some file) ≡ Err refusal.ParentDiffers
+  is_foreign_by settled other =
+      let differs : is_same d.parent (memory.identity_of head) ≡ false = false_from_ne_true _ (λ e. other (same_when d.parent (memory.identity_of head) e ∙ holds.identity)) in
+      planned_new settled
+      ∙ ap (λ (b : Bool). plan_with d (cond (not b) (Err refusal.ParentDiffers) (cond (open_slots head.slots == 100) (Err refusal.NoSlotLeft) (Ok (Begin (open_slots head.slots)))))) differs
+
+module _ (given file : List ℕ) (m : MemoryCopy) (d : DiffCopy) (is : IsMemoryFile given m) (diff : IsDiffFile file d) (pages : d.pages ≡ m.pages) where
   pub is_begun : d.parent ≡ m.identity → open_slots is.head.slots < 100 → planned (Some given) (Some file) ≡ Ok (record { diff = d; merge = Begin (open_slots is.head.slots) })
-  is_begun parent left =
-      let same : is_same d.parent (memory.identity_of is.head) ≡ true = ap (λ (i : Identity). is_same d.parent i) (is.holds.identity ∙ sym parent) ∙ same_identity d.parent in
-      planned_is
-      ∙ ap (λ (b : Bool). plan_with d (cond (not b) (Err refusal.ParentDiffers) (cond (open_slots is.head.slots == 100) (Err refusal.NoSlotLeft) (Ok (Begin (open_slots is.head.slots)))))) same
-      ∙ ap (λ (b : Bool). plan_with d (cond b (Err refusal.NoSlotLeft) (Ok (Begin (open_slots is.head.slots))))) (ne_eqb (open_slots is.head.slots) 100 (λ full. omega (arith, full, left)))
+  is_begun = is_begun_by given file is.head m d is.holds diff pages is.settled
 
   pub is_foreign : d.parent ≢ m.identity → planned (Some given) (Some file) ≡ Err refusal.ParentDiffers
-  is_foreign other =
-      let differs : is_same d.parent (memory.identity_of is.head) ≡ false = false_from_ne_true _ (λ e. other (same_when d.parent (memory.identity_of is.head) e ∙ is.holds.identity)) in
-      planned_is
-      ∙ ap (λ (b : Bool). plan_with d (cond (not b) (Err refusal.ParentDiffers) (cond (open_slots is.head.slots == 100) (Err refusal.NoSlotLeft) (Ok (Begin (open_slots is.head.slots)))))) differs
+  is_foreign = is_foreign_by given file is.head m d is.holds diff pages is.settled

@@ -149,7 +149,7 @@ module _ (h : MemHeader) (bytes : List ℕ) (fits : header.Fits h) where
       (put_header h j 16 (1 ∷ []) t (omega (arith, lt, size)) (omega arith)
       (ap (λ (u : Slot). put_at (slot.bytes u) 16 (1 ∷ [])) is ∙ put_gate s ∙ ap (λ (k : Identity). slot.bytes (record { identity = k; gate = 1 })) same))
 
-  pub paged : (numbers : List ℕ) (count low : ℕ) (pages bs : List ℕ) → rises count low numbers ≡ true → length bs ≡ 4096 * count → length pages ≡ 4096 * length numbers
+  pub paged : (numbers : List ℕ) (count low : ℕ) (pages bs : List ℕ) → rises count low numbers ≡ true → length bs ≡ 4096 * count → 4096 * length numbers ≤ length pages
       → written_all (page_writes numbers pages) (header.bytes h ++ bs) ≡ header.bytes h ++ with_pages numbers pages bs
   paged [] count low pages bs rise whole size = refl
   paged (n ∷ ns) count low pages bs rise whole size =

@@ -6,3 +6,4 @@ pub mod Rebasing
 pub mod Answering
 pub mod Memories
 pub mod InOrder
+pub mod CutOff

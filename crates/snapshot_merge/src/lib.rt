@@ -16,6 +16,6 @@ mod room;
 mod stages;
 
 pub use error::RebaseError;
-pub use law::{merged, merged_in_order};
+pub use law::{cut_off_and_resumed, merged, merged_in_order};
 pub use merge::{Merge, merge_of};
 pub use rebasing::rebase;

@@ -12,12 +12,14 @@ mod journal;
 mod law;
 mod layout;
 mod merging;
+mod ranking;
 #[cfg(test)]
 mod tests;
+mod weaving;
 
 pub use comparing::compare;
 pub use history::History;
 pub use journal::Journal;
 pub use law::{agreed_order, one_clock, one_order};
 pub use layout::Layout;
-pub use merging::{copy_all, merge, sort_all};
+pub use merging::{merge, sort_all};

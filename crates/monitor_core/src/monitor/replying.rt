@@ -8,6 +8,7 @@ ghost use Rattle.http_stream.specs.Sent.{sent};
 use crate::monitor::Monitor;
 use http_front::write_request;
 use http_stream::Next;
+use response_form::ResponseForm;
 use std::alloc::AllocError;
 use vm_outside::Files;
 use vm_types::ByteList;
@@ -21,10 +22,11 @@ impl Monitor {
     // files hold what they held.
     fn reply_next<F: Files>(
         &mut self,
+        form: ResponseForm,
         files: &mut F,
         text: &mut ByteList,
     ) -> Result<bool, AllocError>
-        ensures ok { IfOk result (λ more. RepliedOrRests more self.old self.new text.old text.new
+        ensures ok { IfOk result (λ more. RepliedOrRests form more self.old self.new text.old text.new
             (F.known files.old) (F.known files.new)) }
         ensures due { OnErr result (IsStillDue self.old.front) }
         ensures err { OnErr result (self.new ≡ self.old) }
@@ -37,17 +39,17 @@ impl Monitor {
         match self.front.peek() {
             Ok(Next::None) => Ok(false),
             Ok(Next::Request(request)) => {
-                self.machine.answer_request(&request, files, text)?;
+                self.machine.answer_request(form, &request, files, text)?;
                 self.front.skip();
                 Ok(true)
             }
             Ok(Next::Bad(why)) => {
-                self.machine.refuse(why, text)?;
+                self.machine.refuse(form, why, text)?;
                 self.front.skip();
                 Ok(true)
             }
             Err(_) => {
-                self.machine.fall_short(text)?;
+                self.machine.fall_short(form, text)?;
                 self.front.skip();
                 Ok(true)
             }
@@ -55,34 +57,36 @@ impl Monitor {
     }
 
     // Answers everything that is due.
-    fn talk<F: Files>(&mut self, files: &mut F) -> Result<ByteList, AllocError>
+    fn talk<F: Files>(&mut self, form: ResponseForm, files: &mut F) -> Result<ByteList, AllocError>
         ensures ok { IfOk result (λ text.
-            HasTalked self.old self.new text (F.known files.old) (F.known files.new)) }
-        ensures err { OnErr result (HasStopped self.old self.new (F.known files.old) (F.known files.new)) }
+            HasTalked form self.old self.new text (F.known files.old) (F.known files.new)) }
+        ensures err { OnErr result (HasStopped form self.old self.new (F.known files.old) (F.known files.new)) }
         ensures lasts { Lasts (F.known files.old).health (F.known files.new).health }
     {
         let mut text = ByteList::new(self.alloc);
-        'replies: while self.reply_next(files, &mut text)? {}
+        'replies: while self.reply_next(form, files, &mut text)? {}
         Ok(text)
     }
 
     // Bytes come on the connection.
     pub(super) fn take_bytes<F: Files>(
         &mut self,
+        form: ResponseForm,
         bytes: &[u8],
         files: &mut F,
     ) -> Result<ByteList, AllocError>
-        ensures ok { IfOk result (λ text. HasTalked (record self.old { front = arrived self.old.front bytes.now })
+        ensures ok { IfOk result (λ text.
+            HasTalked form (record self.old { front = arrived self.old.front bytes.now })
             self.new text (F.known files.old) (F.known files.new)) }
         ensures err { OnErr result
-            (HasHalted bytes.now self.old self.new (F.known files.old) (F.known files.new)) }
+            (HasHalted form bytes.now self.old self.new (F.known files.old) (F.known files.new)) }
         ensures lasts { Lasts (F.known files.old).health (F.known files.new).health }
     {
         self.front.feed(bytes)?;
-        self.talk(files)
+        self.talk(form, files)
     }
 
-    // A request comes on the connection.
+    // A request comes on the connection, whose response is a line.
     pub(super) fn take_request<F: Files>(
         &mut self,
         method: &[u8],
@@ -91,13 +95,13 @@ impl Monitor {
         files: &mut F,
     ) -> Result<ByteList, AllocError>
         ensures ok { IfOk result (λ text.
-            HasTalked (record self.old { front = arrived self.old.front (sent method.now path.now body.now) })
+            HasTalked ResponseForm.Line (record self.old { front = arrived self.old.front (sent method.now path.now body.now) })
             self.new text (F.known files.old) (F.known files.new)) }
-        ensures err { OnErr result (HasHalted (sent method.now path.now body.now) self.old self.new
+        ensures err { OnErr result (HasHalted ResponseForm.Line (sent method.now path.now body.now) self.old self.new
             (F.known files.old) (F.known files.new)) }
         ensures lasts { Lasts (F.known files.old).health (F.known files.new).health }
     {
         let bytes = write_request(self.alloc, method, path, body)?;
-        self.take_bytes(bytes.as_slice(), files)
+        self.take_bytes(ResponseForm::Line, bytes.as_slice(), files)
     }
 }

@@ -3,20 +3,23 @@ ghost use Rattle.std.specs.Prelude.{◌≡◌, ◌++◌, IfOk, OnErr};
 ghost use Rattle.refusals.specs.declared.refusal.Refusal.TheVariants as refusal;
 ghost use Rattle.api_rules.specs.Answers.{no_content, refused};
 ghost use Rattle.http_stream.specs.declared.request.Next.{Next};
+ghost use Rattle.http_stream.specs.declared.request.Request.{Request};
 ghost use Rattle.flat_machine.specs.Machine.{Machine};
-ghost use Rattle.script_output.specs.Output.{reply_line};
+ghost use Rattle.response_form.specs.Responses.{written_as};
 ghost use Rattle.vm_outside.specs.Filing.{SameFiles};
 ghost use Rattle.vm_outside.specs.Known.{Lasts, Tells};
 
 use crate::machine::LiveMachine;
 use crate::outcome::Outcome;
-use monitor_plans::{Creation, Plan, done_line, pages_of};
+use api_rules::done_answer;
+use monitor_plans::{Creation, Plan, pages_of};
+use response_form::{ResponseForm, write_response};
 use snap_writer::create;
 use std::alloc::AllocError;
 use vm_outside::{Failed, Files};
 use vm_types::ByteList;
 
-/// The two texts behind which the run goes on: where the create is done, and where a call on the files failed.
+/// The two texts with which the run goes on: where the create is done, and where a call on the files failed.
 #[derive(Drop)]
 struct Texts {
     done: ByteList,
@@ -24,20 +27,22 @@ struct Texts {
 }
 
 impl LiveMachine {
-    ghost use Rattle.monitor_machine.specs.Plans.{HasTwoNames, IsCreate, unmarked_world};
-    ghost use Rattle.monitor_machine.specs.Replying.{Replies};
+    ghost use Rattle.monitor_machine.specs.Plans.{HasPages, HasTwoNames, IsCreate, unmarked_world};
+    ghost use Rattle.monitor_machine.specs.Replying.{Replies, open_response};
     ghost use Rattle.monitor_machine.specs.State.{IsMachine};
 
-    // The text with either line behind it.
-    fn texts(&self, text: &ByteList) -> Result<Texts, AllocError>
-        ensures done { IfOk result (λ texts. texts.done ≡ text.now ++ reply_line no_content) }
-        ensures failed { IfOk result (λ texts. texts.failed ≡ text.now ++ reply_line (refused refusal.OutsideFailed)) }
+    // The text with either response behind it.
+    fn texts(&self, form: ResponseForm, text: &ByteList) -> Result<Texts, AllocError>
+        ensures done { IfOk result (λ texts.
+            texts.done ≡ text.now ++ written_as form (open_response no_content)) }
+        ensures failed { IfOk result (λ texts.
+            texts.failed ≡ text.now ++ written_as form (open_response (refused refusal.OutsideFailed))) }
     {
         let mut done = ByteList::copy_of(self.alloc, text.as_slice())?;
-        let line = done_line(self.alloc)?;
-        done.append(line.as_slice())?;
+        let bytes = write_response(self.alloc, form, &done_answer(), false)?;
+        done.append(bytes.as_slice())?;
         let mut failed = ByteList::copy_of(self.alloc, text.as_slice())?;
-        self.write_line(&Plan::FilesFailed, &mut failed)?;
+        self.write_response(form, &Plan::FilesFailed, false, &mut failed)?;
         Ok(Texts { done, failed })
     }
 
@@ -54,28 +59,31 @@ impl LiveMachine {
     // Answers a create, whose files are written by calls that take no memory. An `Err` changes nothing.
     pub(super) fn answer_create<F: Files>(
         &mut self,
+        form: ResponseForm,
         creation: Creation,
         files: &mut F,
         text: &mut ByteList,
     ) -> Result<Outcome, AllocError>
-        requires { HasTwoNames creation.names }
-        ensures ok { IfOk result (λ how. (given : Next) → (Tells (F.known files.old).health → (m : Machine) →
-            IsMachine self.old (F.known files.old) m → IsCreate creation m given) →
-            Replies given how self.old self.new text.old text.new (F.known files.old) (F.known files.new)) }
+        requires names { HasTwoNames creation.names }
+        requires pages { HasPages self.old.guest creation }
+        ensures ok { IfOk result (λ how. (request : Request) → (Tells (F.known files.old).health → (m : Machine) →
+            IsMachine self.old (F.known files.old) m → IsCreate creation m (Next.Request request)) →
+            Replies form (Next.Request request) how self.old self.new text.old text.new
+            (F.known files.old) (F.known files.new)) }
         ensures err { OnErr result (self.new ≡ self.old) }
         ensures same { OnErr result (Tells (F.known files.old).health →
             SameFiles (F.known files.old) (F.known files.new)) }
         ensures lasts { Lasts (F.known files.old).health (F.known files.new).health }
     {
         let Some(guest) = &self.guest else {
-            return self.fall_short(text);
+            unreachable!()
         };
         let mut room = creation.room;
         let Some(pages) = pages_of(guest, &creation.numbers) else {
-            return self.fall_short(text);
+            unreachable!()
         };
-        let Ok(texts) = self.texts(text) else {
-            return self.fall_short(text);
+        let Ok(texts) = self.texts(form, text) else {
+            return self.fall_short(form, text);
         };
         let written = create(
             files,

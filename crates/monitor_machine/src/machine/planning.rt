@@ -22,7 +22,7 @@ use vm_outside::Files;
 use vm_types::Identity;
 
 impl LiveMachine {
-    ghost use Rattle.monitor_machine.specs.Plans.{AreTwoFiles, CallsLater, CallsNone, HasTwoFiles, HasTwoNames, IsTask};
+    ghost use Rattle.monitor_machine.specs.Plans.{CallsLater, CallsNone, HasTwoFiles, HasTwoNames, IsReady, IsTask};
     ghost use Rattle.monitor_machine.specs.Plans.{needs_files, phase_of};
     ghost use Rattle.monitor_machine.specs.State.{IsMachine};
 
@@ -48,7 +48,7 @@ impl LiveMachine {
         ensures task { Tells (F.known files.old).health → (m : Machine) →
             IsMachine self.now (F.known files.old) m → (request : Request) → call_of request ≡ Ok call →
             IsTask result m (Next.Request request) }
-        ensures files { AreTwoFiles result }
+        ensures ready { IsReady result self.now.guest }
         ensures later { CallsLater result (F.known files.old) (F.known files.new) }
         ensures cause { TaskCause result (F.known files.old).health.faults (F.known files.new).health.faults }
         ensures uncalled { (calls_files call ≡ true → ⊥) → CallsNone result
@@ -68,7 +68,7 @@ impl LiveMachine {
         ensures task { Tells (F.known files.old).health → (m : Machine) →
             IsMachine self.now (F.known files.old) m → (given : Next) → decided m given ≡ Ok change →
             IsTask result m given }
-        ensures files { AreTwoFiles result }
+        ensures ready { IsReady result self.now.guest }
         ensures later { CallsLater result (F.known files.old) (F.known files.new) }
         ensures cause { TaskCause result (F.known files.old).health.faults (F.known files.new).health.faults }
         ensures uncalled { needs_files change ≡ false → CallsNone result
@@ -91,7 +91,7 @@ impl LiveMachine {
         requires { HasTwoNames it.files }
         ensures task { (known : FilesKnown) (m : Machine) → IsMachine self.now known m → (given : Next) →
             decided m given ≡ Ok (change.CreateSnapshot it) → IsTask result m given }
-        ensures files { AreTwoFiles result }
+        ensures ready { IsReady result self.now.guest }
         ensures cause { (n : ℕ) → TaskCause result n n }
     {
         let identity = Identity {
@@ -119,7 +119,7 @@ impl LiveMachine {
     pub(super) fn task<F: Files>(&self, request: &Request, files: &mut F) -> Task
         ensures task { Tells (F.known files.old).health → (m : Machine) →
             IsMachine self.now (F.known files.old) m → IsTask result m (Next.Request request.now) }
-        ensures files { AreTwoFiles result }
+        ensures ready { IsReady result self.now.guest }
         ensures later { CallsLater result (F.known files.old) (F.known files.new) }
         ensures cause { TaskCause result (F.known files.old).health.faults (F.known files.new).health.faults }
         ensures uncalled { (AsksFiles request.now → ⊥) → CallsNone result

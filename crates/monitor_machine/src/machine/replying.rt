@@ -3,6 +3,8 @@ ghost use Rattle.std.specs.Prelude.{◌≡◌, ◌⊎◌, ◌++◌, false, IfOk,
 ghost use Rattle.vm_outside.specs.Filing.{SameFiles};
 ghost use Rattle.vm_outside.specs.Known.{FilesKnown, Lasts, Tells};
 ghost use Rattle.http_stream.specs.declared.request.Next.{Next};
+ghost use Rattle.http_stream.specs.declared.request.Request.{Request};
+ghost use Rattle.response_form.specs.Responses.{written_as};
 ghost use Rattle.monitor_machine.specs.Plans.{halted_world, paused_by, world_by};
 
 use crate::machine::LiveMachine;
@@ -13,37 +15,54 @@ use http_stream::Request;
 use metadata_store::Store;
 use monitor_plans::{Plan, Task};
 use refusals::Refusal;
+use response_form::{ResponseForm, write_response};
 use std::alloc::AllocError;
 use vm_outside::Files;
 use vm_types::ByteList;
 
 impl LiveMachine {
-    ghost use Rattle.monitor_machine.specs.Plans.{Answers, plan_after, plan_line, plan_outcome};
+    ghost use Rattle.monitor_machine.specs.Plans.{Answers, plan_after, plan_outcome, plan_response};
     ghost use Rattle.monitor_machine.specs.Replying.{AsksFiles, Replies};
 
-    pub(super) fn write_line(&self, plan: &Plan, text: &mut ByteList) -> Result<(), AllocError>
-        ensures ok { OnOk result (text.new ≡ text.old ++ plan_line plan.now self.now) }
+    // Puts the plan's response behind the text.
+    pub(super) fn write_response(
+        &self,
+        form: ResponseForm,
+        plan: &Plan,
+        closes: bool,
+        text: &mut ByteList,
+    ) -> Result<(), AllocError>
+        ensures ok { OnOk result
+            (text.new ≡ text.old ++ written_as form (plan_response plan.now closes self.now)) }
         ensures err { OnErr result (text.new ≡ text.old) }
     {
-        let line = plan.line(
+        let answer = plan.answer(
             self.alloc,
             self.id.as_str(),
             self.phase(),
             &self.config,
             &self.metadata,
         )?;
-        text.append(line.as_slice())
+        let bytes = write_response(self.alloc, form, &answer, closes)?;
+        text.append(bytes.as_slice())
     }
 
-    // Puts the plan's line behind the text, or that there was no memory for it, and answers which.
-    fn written(&self, plan: Plan, text: &mut ByteList) -> Result<Plan, AllocError>
+    // Puts the plan's response behind the text, or that there was no memory for it, and answers which.
+    fn written(
+        &self,
+        form: ResponseForm,
+        plan: Plan,
+        closes: bool,
+        text: &mut ByteList,
+    ) -> Result<Plan, AllocError>
         ensures which { IfOk result (λ done. (done ≡ plan) ⊎ (done ≡ Plan.NoMemory)) }
-        ensures line { IfOk result (λ done. text.new ≡ text.old ++ plan_line done self.now) }
+        ensures response { IfOk result (λ done.
+            text.new ≡ text.old ++ written_as form (plan_response done closes self.now)) }
     {
-        match self.write_line(&plan, text) {
+        match self.write_response(form, &plan, closes, text) {
             Ok(()) => Ok(plan),
             Err(_) => {
-                self.write_line(&Plan::NoMemory, text)?;
+                self.write_response(form, &Plan::NoMemory, closes, text)?;
                 Ok(Plan::NoMemory)
             }
         }
@@ -114,24 +133,31 @@ impl LiveMachine {
     }
 
     // Answers what is due by its plan. An `Err` changes nothing.
-    fn answer(&mut self, plan: Plan, text: &mut ByteList) -> Result<Outcome, AllocError>
-        ensures ok { IfOk result (λ how. Answers plan how self.old self.new text.old text.new) }
+    fn answer(
+        &mut self,
+        form: ResponseForm,
+        plan: Plan,
+        closes: bool,
+        text: &mut ByteList,
+    ) -> Result<Outcome, AllocError>
+        ensures ok { IfOk result (λ how. Answers form plan closes how self.old self.new text.old text.new) }
         ensures err { OnErr result (self.new ≡ self.old) }
     {
-        let plan = self.written(plan, text)?;
+        let plan = self.written(form, plan, closes, text)?;
         Ok(self.perform(plan))
     }
 
-    /// Answers a request, with its line behind the text: by the machine, 500 where a call on the files failed, or 503
-    /// where there was no memory. An `Err` changes nothing: there was no memory, not even for a 503.
+    /// Answers a request, with its response in this form behind the text: by the machine, 500 where a call on the files
+    /// failed, or 503 where there was no memory. An `Err` changes nothing: there was no memory, not even for a 503.
     pub fn answer_request<F: Files>(
         &mut self,
+        form: ResponseForm,
         request: &Request,
         files: &mut F,
         text: &mut ByteList,
     ) -> Result<Outcome, AllocError>
-        ensures ok { IfOk result (λ how. Replies (Next.Request request.now) how self.old self.new text.old text.new
-            (F.known files.old) (F.known files.new)) }
+        ensures ok { IfOk result (λ how. Replies form (Next.Request request.now) how self.old self.new
+            text.old text.new (F.known files.old) (F.known files.new)) }
         ensures err { OnErr result (self.new ≡ self.old) }
         ensures uncalled { (AsksFiles request.now → ⊥) →
             (F.known files.new).health.faults ≡ (F.known files.old).health.faults }
@@ -141,34 +167,43 @@ impl LiveMachine {
     {
         match self.task(request, files) {
             Task::Plan(plan) => {
-                let how = self.answer(plan, text)?;
+                let how = self.answer(form, plan, false, text)?;
                 Ok(how)
             }
             Task::Create(creation) => {
-                let done = self.answer_create(creation, files, text)?;
+                let done = self.answer_create(form, creation, files, text)?;
                 Ok(done)
             }
         }
     }
 
-    /// Answers bytes that are no request, by why they are none, or 503 where there was no memory. An `Err` changes
-    /// nothing.
-    pub fn refuse(&mut self, why: Refusal, text: &mut ByteList) -> Result<Outcome, AllocError>
+    /// Answers bytes that are no request, by why they are none, or 503 where there was no memory. The connection ends
+    /// with that. An `Err` changes nothing.
+    pub fn refuse(
+        &mut self,
+        form: ResponseForm,
+        why: Refusal,
+        text: &mut ByteList,
+    ) -> Result<Outcome, AllocError>
         ensures ok { IfOk result (λ how. (known : FilesKnown) →
-            Replies (Next.Bad why) how self.old self.new text.old text.new known known) }
+            Replies form (Next.Bad why) how self.old self.new text.old text.new known known) }
         ensures err { OnErr result (self.new ≡ self.old) }
     {
-        let how = self.answer(Plan::Refused(why), text)?;
+        let how = self.answer(form, Plan::Refused(why), true, text)?;
         Ok(how)
     }
 
-    /// Answers 503 to what there is no memory to look at. An `Err` changes nothing.
-    pub fn fall_short(&mut self, text: &mut ByteList) -> Result<Outcome, AllocError>
-        ensures ok { IfOk result (λ how. (given : Next) (known : FilesKnown) →
-            Replies given how self.old self.new text.old text.new known known) }
+    /// Answers 503 to a request that there is no memory to look at. An `Err` changes nothing.
+    pub fn fall_short(
+        &mut self,
+        form: ResponseForm,
+        text: &mut ByteList,
+    ) -> Result<Outcome, AllocError>
+        ensures ok { IfOk result (λ how. (request : Request) (known : FilesKnown) →
+            Replies form (Next.Request request) how self.old self.new text.old text.new known known) }
         ensures err { OnErr result (self.new ≡ self.old) }
     {
-        let how = self.answer(Plan::NoMemory, text)?;
+        let how = self.answer(form, Plan::NoMemory, false, text)?;
         Ok(how)
     }
 }

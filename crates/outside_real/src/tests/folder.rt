@@ -145,12 +145,17 @@ const CASES: [Case<'_>; 4] = [
     },
 ];
 
-// Whether the file answers as the case says.
-fn is_met<R: rt::Files + AllocGlobal>(rt: &R, name: &str, case: &Case<'_>) -> io::Result<bool> {
+// Whether the file answers as the case says, where there was none.
+fn is_met<R: rt::Files + AllocGlobal>(
+    rt: &R,
+    mut files: Folder<'_, R>,
+    name: &str,
+    case: &Case<'_>,
+) -> io::Result<bool> {
+    fs::remove_file(rt, name)?;
     if let Some(before) = case.before {
         fs::write(rt, name, before)?;
     }
-    let mut files = Folder::new(rt);
     let seen = answers(Vec::new(rt.alloc()), &mut files, name, case.calls)?;
     let is_met = seen.as_slice() == case.answers && files.faults() == case.faults;
     Ok(is_met && holds(rt, name, case.after)?)
@@ -164,8 +169,8 @@ fn holds<R: rt::Files + AllocGlobal>(rt: &R, name: &str, bytes: &[u8]) -> io::Re
 fn a_real_file_answers_as_files_do(rt: HostRuntime) -> Result<(), Fail> {
     let name = file_for(&rt, "files")?;
     for case in &CASES {
-        fs::remove_file(&rt, name.as_str())?;
-        assert!(rt; is_met(&rt, name.as_str(), case)?);
+        assert!(rt; is_met(&rt, Folder::new(&rt), name.as_str(), case)?);
+        assert!(rt; is_met(&rt, Folder::keeping_open(&rt), name.as_str(), case)?);
     }
     fs::remove_file(&rt, name.as_str())?;
     Ok(())

@@ -1,5 +1,4 @@
 use Rattle.std.proofs.Common.{ap, ◌∙◌, List, ℕ, ◌++◌}
-use Rattle.monitor_cli.proofs.Counts.{one_of_more}
 use Rattle.monitor_cli.proofs.Parts.{took_front}
 use Rattle.monitor_cli.proofs.items.run_item.Goals as goal
 

@@ -1,7 +1,7 @@
 use Rattle.std.proofs.Common.{refl}
 use Rattle.monitor_cli.proofs.Arriving.{begun}
 use Rattle.monitor_cli.proofs.Commanding.{closing_not_usage, not_usage, nothing_begun}
-use Rattle.monitor_cli.proofs.Counts.{closing_files, closing_sink, closing_source, lasts_more}
+use Rattle.monitor_cli.proofs.Counts.{closing_files, closing_named, closing_sink, closing_source, lasts_more, runs_named}
 use Rattle.monitor_cli.proofs.Finishing.{closes}
 use Rattle.monitor_cli.proofs.replaying.replay.Goals as goal
 
@@ -11,6 +11,14 @@ returns-in_default-clause-so_far g c = λ told. nothing_begun _ _ (record { save
 pub returns-in-Err-clause-so_far : goal.returns-in-Err-clause-so_far
 returns-in-Err-clause-so_far g c = λ told.
     c.in-Err.ensures.ended told.source told.files told.sink _ _ (begun _ _ _ c.in-Ok.ensures.reader c.in-Ok.ensures.line (c.in-Ok.ensures.monitor _))
+
+pub returns-in-Err-clause-caused : goal.returns-in-Err-clause-caused
+returns-in-Err-clause-caused g c = record {
+  named = runs_named c.in-Err.exit c.in-Err.ensures.some;
+  source = c.in-Err.ensures.source;
+  sink = c.in-Err.ensures.sink;
+  files = c.in-Err.ensures.files;
+}
 
 pub returns-in-Err-clause-no_usage : goal.returns-in-Err-clause-no_usage
 returns-in-Err-clause-no_usage g c = not_usage c.in-Err.exit c.in-Err.ensures.some
@@ -24,6 +32,7 @@ pub returns-clause-caused : goal.returns-clause-caused
 returns-clause-caused g c =
     let end = c.write_closing.ensures.some in
     record {
+      named = closing_named c.write_closing.result end;
       source = closing_source c.write_closing.result _ _ end c.in_default-run_script.ensures.source;
       sink = closing_sink c.write_closing.result _ _ _ end c.in_default-run_script.ensures.sink c.write_closing.ensures.cause;
       files = closing_files c.write_closing.result _ _ end;

@@ -1,4 +1,4 @@
-use Rattle.std.proofs.Common.{arith, refl, ap, sym, ◌+◌, subst, ◌∙◌, ◌≡◌, ◌++◌, ◌≤◌, [], inl, inr, length, take, length-append, append_assoc, List, ℕ}
+use Rattle.std.proofs.Common.{arith, refl, ap, sym, ◌+◌, subst, ◌∙◌, ◌≡◌, ◌++◌, ◌≤◌, inl, inr, length, take, length-append, append_assoc, List, ℕ}
 use Rattle.std.proofs.lemmas.List.{length-take, take-append-le}
 use Rattle.vm_types.specs.declared.exit.Exit.{Exit}
 use Rattle.vm_types.specs.declared.exit.Object.TheVariants as object

@@ -7,6 +7,7 @@ returns c = record {
   identity_is = refl;
   next_is = refl;
   differ = c.requires;
+  there = c.in-Some.ensures.there;
   copy = c.in-Ok.copy;
   copied = c.in-Ok.ensures.copied;
   head_is = c.in-Some.ensures.head_is;

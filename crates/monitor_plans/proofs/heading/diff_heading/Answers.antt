@@ -1,8 +1,8 @@
-use Rattle.std.proofs.Common.{◌≡◌, List, ℕ, length, sym, ap, ◌∙◌, arith}
+use Rattle.std.proofs.Common.{◌≡◌, List, ℕ, length, ap, ◌∙◌, arith}
 use Rattle.guest_pages.specs.Marks.{marked_from}
 use Rattle.guest_pages.specs.Pages.{PageValue, marks_of}
 use Rattle.snap_diff.specs.Copies.{pages_at}
-use Rattle.monitor_plans.proofs.Headings.{diff_head_is, numbers_are, numbers_rise}
+use Rattle.monitor_plans.proofs.Headings.{are_pages, diff_head_is, numbers_are, numbers_rise}
 use Rattle.monitor_plans.proofs.heading.diff_heading.Goals as goal
 
 pub encode-requires-clause-rise : goal.encode-requires-clause-rise
@@ -20,6 +20,7 @@ returns c =
     let marked : c.in-Ok.numbers.items ≡ marked_from 0 (marks_of c.args.guest.now.pages) =
     c.in-Ok.ensures ∙ ap (λ (ps : List PageValue). marked_from 0 (marks_of ps)) c.pages-2.ensures.pages in
     record {
+      there = are_pages c.args.guest.now.pages c.in-Ok.numbers.items marked;
       head_is = λ g is.
           diff_head_is c.args.parent c.args.identity c.args.pages c.in-Ok-try_from.count c.deref.result.now
           c.in-Ok-encode.file.items c.deref-2.result.now c.in-Ok-behind_gate.head g

@@ -1,55 +1,38 @@
-use Rattle.std.proofs.Common.{refl, ◌∙◌, arith, rules, true, false}
+use Rattle.std.proofs.Common.{None, Some, rules}
 use Rattle.monitor_machine.specs.State.{IsLive}
-use Rattle.monitor_running.proofs.Lifts.{keeps_as, keeps_on, keeps_same, lasts_more, lasts_same, never_fell_same, never_on, off_is, ran_on, risen}
+use Rattle.monitor_running.specs.declared.ran.Ran.TheVariants as ran
+use Rattle.monitor_running.proofs.Lifts.{went_nowhere, went_on}
+use Rattle.monitor_running.proofs.Passing.{passed_closed, passed_none, passed_on}
 use Rattle.monitor_running.proofs.running.run_while.Goals as goal
 
 pub loop-init : goal.loop-init
 loop-init g c = record {
   can = search rules;
   finite = search rules;
-  trace_lasts = lasts_same _;
-  sink_lasts = lasts_same _;
-  kept = λ t k. keeps_same IsLive _ _ _ refl;
-  first = never_fell_same g.G.Gate.closed c.args.passes.now.items;
-  serve = c.requires.serve;
-  same = refl;
+  went = went_nowhere IsLive _ _;
+  passes = passed_none _ _ _ c.requires.serve;
 }
 
-pub loop-preserved : goal.loop-preserved
-loop-preserved g c =
-    let was = c.loop.invariant in
-    let turned = c.in_default.ensures in
-    record {
-      can = search rules;
-      finite = search rules;
-      trace_lasts = lasts_more _ _ _ was.trace_lasts turned.trace_lasts;
-      sink_lasts = lasts_more _ _ _ was.sink_lasts turned.sink_lasts;
-      kept = λ t k.
-          keeps_on IsLive _ _ _ _ _ _ (was.kept t k) (turned.ok (was.trace_lasts.still t) (was.sink_lasts.still k));
-      first =
-          never_on g.G.Gate.closed c.args.passes.now.items c.loop.passes.items c.is_open.new.passes.items c.go_on.new.passes.items
-          c.is_open.result (omega (arith, was.same, c.requires.some))
-          (omega (arith, c.is_open.ensures.same, was.same, c.requires.some)) was.first c.is_open.ensures.asked turned.first;
-      serve = turned.serve;
-      same = turned.same ∙ c.is_open.ensures.same ∙ was.same;
-    }
-
-pub returns-then-is_off-clause-went : goal.returns-then-is_off-clause-went
-returns-then-is_off-clause-went g c = λ t k.
-    keeps_as true _ _ _ _ (c.loop.invariant.kept t k) (off_is c.loop.machine true c.is_off.result c.if-is_off.true c.is_off.ensures)
-
 pub returns-then-not-is_open-clause-went : goal.returns-then-not-is_open-clause-went
-returns-then-not-is_open-clause-went g c = λ t k.
-    keeps_as false _ _ _ _ (c.loop.invariant.kept t k) (off_is c.loop.machine false c.is_off.result c.if-is_off.false c.is_off.ensures)
+returns-then-not-is_open-clause-went g c =
+    went_on IsLive (Some c.end_of_closed.result) _ _ _ _ _ _ c.loop.invariant.went (c.end_of_closed.ensures _)
 
-pub returns-then-not-is_open-clause-closed : goal.returns-then-not-is_open-clause-closed
-returns-then-not-is_open-clause-closed g c = λ same.
-    let was = c.loop.invariant in
-    risen g.G.Gate.closed c.args.passes.now.items c.loop.passes.items c.is_open.new.passes.items c.is_open.result
-    (omega (arith, was.same, c.requires.some)) c.if-not-is_open.true was.first c.is_open.ensures.asked
+pub returns-then-not-is_open-clause-passes : goal.returns-then-not-is_open-clause-passes
+returns-then-not-is_open-clause-passes g c =
+    passed_closed _ _ c.end_of_closed.result _ _
+    (passed_on _ _ (Some ran.Closed) _ c.loop.passes.items _ c.requires.some c.loop.invariant.passes c.if-not-is_open.ensures)
 
-pub returns-in-Err-clause-went : goal.returns-in-Err-clause-went
-returns-in-Err-clause-went g c = λ t k.
-    let was = c.loop.invariant in
-    ran_on IsLive _ _ _ _ _ _ (was.kept t k) c.in-Err.end
-    (c.in-Err.ensures.err (was.trace_lasts.still t) (was.sink_lasts.still k))
+pub returns-in-Some-run_once-clause-went : goal.returns-in-Some-run_once-clause-went
+returns-in-Some-run_once-clause-went g c =
+    went_on IsLive (Some c.in-Some-run_once.end) _ _ _ _ _ _ c.loop.invariant.went c.in-Some-run_once.ensures.went
+
+pub loop-preserved : goal.loop-preserved
+loop-preserved g c = record {
+  can = search rules;
+  finite = search rules;
+  went = went_on IsLive None _ _ _ _ _ _ c.loop.invariant.went c.in_default.ensures.went;
+  passes =
+      passed_on _ _ None _ c.is_open.new.passes.items _ c.requires.some
+      (passed_on _ _ None _ c.loop.passes.items _ c.requires.some c.loop.invariant.passes c.if-not-is_open.ensures)
+      c.in_default.ensures.passes;
+}

@@ -1,8 +1,8 @@
-use Rattle.std.proofs.Common.{◌≡◌, All, length}
-use Rattle.vm_outside.specs.Known.{Lasts, Tells}
+use Rattle.std.proofs.Common.{None}
 use Rattle.monitor_machine.specs.State.{IsLive}
-use Rattle.monitor_running.specs.Passes.{AtFirst, NeverFell}
-use Rattle.monitor_running.specs.Reached.{Keeps, seen}
+use Rattle.monitor_running.specs.Passes.{ArePassed}
+use Rattle.monitor_running.specs.Ran.{Went}
+use Rattle.monitor_running.specs.Reached.{known}
 use Rattle.monitor_running.proofs.running.run_while.Given as goal
 
 abbrev pub invariant-loop : goal.invariant-loop
@@ -14,12 +14,7 @@ invariant-loop g l =
     record {
       can : (goal.iterator-loop g).can_next l.iterator';
       finite : (goal.iterator-loop g).is_finite l.iterator';
-      trace_lasts : Lasts (T.known l.fn.trace).health (T.known l.trace).health;
-      sink_lasts : Lasts (K.known l.fn.sink).health (K.known l.sink).health;
-      kept : Tells (T.known l.fn.trace).health → Tells (K.known l.fn.sink).health
-          → Keeps IsLive (seen (T.known l.fn.trace) (K.known l.fn.sink) (C.known l.fn.host.clock)) l.fn.machine
-          (seen (T.known l.trace) (K.known l.sink) (C.known l.host.clock)) l.machine;
-      first : AtFirst (NeverFell G.closed) l.fn.passes.items l.passes.items;
-      serve : All (G.serves l.gate) l.passes.items;
-      same : length l.passes.items ≡ length l.fn.passes.items;
+      went : Went IsLive None (known (T.known l.fn.trace) (K.known l.fn.sink) (C.known l.fn.host.clock)) l.fn.machine
+          (known (T.known l.trace) (K.known l.sink) (C.known l.host.clock)) l.machine;
+      passes : ArePassed (G.serves l.gate) G.tally None l.fn.passes.items l.passes.items;
     }

@@ -44,7 +44,7 @@ dismiss-timer-requires-clause-passes g c =
 
 pub agree-agreed-requires-clause-room : goal.agree-agreed-requires-clause-room
 agree-agreed-requires-clause-room g c =
-    let bound = journals_bound (g.G.Gate.serves c.args.gate.now) g.G.Gate.closed (length c.as_slice.result.now) c.args.n _ _ c.staff-timer.result c.run_all.new.timer c.staff-timer.new.workers.items c.run_all.new.harts.items c.staff-timer.new.left.items c.dismiss-timer.new.harts.items c.dismiss-timer.new.passes.items c.dismiss-timer.new.journals.items c.dismiss-timer.new.stops.items c.run_all.ensures.timer c.run_all.ensures.harts c.dismiss-timer.ensures.back in
+    let bound = journals_bound (g.G.Gate.serves c.args.gate.now) g.G.Gate.tally (length c.as_slice.result.now) c.args.n _ _ c.staff-timer.result c.run_all.new.timer c.staff-timer.new.workers.items c.run_all.new.harts.items c.staff-timer.new.left.items c.dismiss-timer.new.harts.items c.dismiss-timer.new.passes.items c.dismiss-timer.new.journals.items c.dismiss-timer.new.stops.items c.run_all.ensures.timer c.run_all.ensures.harts c.dismiss-timer.ensures.back in
     let harts : length c.staff-timer.new.workers.items ≡ length c.args.parts.harts.items = sym (long_map (λ w. w.hart) c.staff-timer.new.workers.items) ∙ ap length c.staff-timer.ensures.harts_are in
     let less = subst (λ (k : ℕ). length (all_of (journals_of c.dismiss-timer.new.journals.items)) ≤ (k + 1) * c.args.n) harts bound in
     let whole = subst (λ (js : List Journal). length (all_of (journals_of js)) ≤ (length c.args.parts.harts.items + 1) * c.args.n) (sym c.as_slice-2.ensures.value) less in
@@ -63,7 +63,7 @@ pub returns-in-Err-clause-unshared : goal.returns-in-Err-clause-unshared
 returns-in-Err-clause-unshared g c =
     let size : length c.as_slice.result.now ≡ length c.args.parts.pages.items = ap length c.as_slice.ensures.value ∙ c.lock_pages.ensures.count in
     let serves = g.G.Gate.serves c.args.gate.now in
-    let closed = g.G.Gate.closed in
+    let tally = g.G.Gate.tally in
     let n = c.args.n in
     let t = c.staff-timer.result in
     let ws = c.staff-timer.new.workers.items in
@@ -72,8 +72,8 @@ returns-in-Err-clause-unshared g c =
     let staffed = subst (λ v. AreStaffed n c.args.parts.timer c.args.parts.harts.items v.items t ws left) c.replace-given.ensures.value c.staff-timer.ensures in
     let asked = g.C.Clock.known c.args.clock.now in
     let now = g.C.Clock.known c.run_all.new.clock in
-    let ends = subst (λ (k : ℕ). TimerEnds serves closed k n asked now t c.run_all.new.timer) size c.run_all.ensures.timer in
-    let worked = subst (λ (k : ℕ). HartsWorked serves closed k n ws c.run_all.new.harts.items) size c.run_all.ensures.harts in
+    let ends = subst (λ (k : ℕ). TimerEnds serves tally k n asked now t c.run_all.new.timer) size c.run_all.ensures.timer in
+    let worked = subst (λ (k : ℕ). HartsWorked serves tally k n ws c.run_all.new.harts.items) size c.run_all.ensures.harts in
     let home = subst (λ (k : ℕ). AreHome g.K.Openings.opening k c.unlock_pages.new.pages.items c.unlock_pages.new.histories.items) c.lock_pages.ensures.count c.unlock_pages.ensures.home in
     let board = c.unlock_board-board.ensures in
     let old = world_with c.args.parts.pages.items c.args.parts.board c.args.parts.timer c.args.parts.harts.items in
@@ -82,16 +82,16 @@ returns-in-Err-clause-unshared g c =
     let order = subst (λ (js : List Journal). IsOrder (all_of (journals_of js)) c.agree-agreed.new.events.items) c.as_slice-2.ensures.value c.in-Err.ensures.order in
     let torn = subst (λ (hs : List History). IsTorn c.agree-agreed.new.events.items hs c.in-Err.torn) histories c.in-Err.ensures.agrees in
     subst (λ (hs : List History). IsTornSlice old c.in-Err.torn c.dismiss-timer.new.journals.items hs) (sym board.1)
-    (parted serves closed n asked now old g.K.Openings.opening g.L.Openings.opening t c.run_all.new.timer ws c.run_all.new.harts.items left passes c.dismiss-timer.new.passes.items c.unlock_pages.new.pages.items c.unlock_board-board.result c.dismiss-timer.new.harts.items c.unlock_pages.new.histories.items board.0 c.dismiss-timer.new.journals.items c.dismiss-timer.new.stops.items c.agree-agreed.new.events.items c.requires.pages begun c.requires.board staffed ends worked c.dismiss-timer.ensures.back home board.2 order c.requires.opening c.in-Err.torn torn)
+    (parted serves tally n asked now old g.K.Openings.opening g.L.Openings.opening t c.run_all.new.timer ws c.run_all.new.harts.items left passes c.dismiss-timer.new.passes.items c.unlock_pages.new.pages.items c.unlock_board-board.result c.dismiss-timer.new.harts.items c.unlock_pages.new.histories.items board.0 c.dismiss-timer.new.journals.items c.dismiss-timer.new.stops.items c.agree-agreed.new.events.items c.requires.pages begun c.requires.board staffed ends worked c.dismiss-timer.ensures.back home board.2 order c.requires.opening c.in-Err.torn torn)
 
 pub returns-in-Err-clause-serve : goal.returns-in-Err-clause-serve
 returns-in-Err-clause-serve g c =
-    back_served (g.G.Gate.serves c.args.gate.now) g.G.Gate.closed (length c.as_slice.result.now) c.args.n _ _ c.staff-timer.result c.run_all.new.timer c.staff-timer.new.workers.items c.run_all.new.harts.items c.staff-timer.new.left.items c.dismiss-timer.new.harts.items c.dismiss-timer.new.passes.items c.dismiss-timer.new.journals.items c.dismiss-timer.new.stops.items c.run_all.ensures.timer c.run_all.ensures.harts c.dismiss-timer.ensures.back
+    back_served (g.G.Gate.serves c.args.gate.now) g.G.Gate.tally (length c.as_slice.result.now) c.args.n _ _ c.staff-timer.result c.run_all.new.timer c.staff-timer.new.workers.items c.run_all.new.harts.items c.staff-timer.new.left.items c.dismiss-timer.new.harts.items c.dismiss-timer.new.passes.items c.dismiss-timer.new.journals.items c.dismiss-timer.new.stops.items c.run_all.ensures.timer c.run_all.ensures.harts c.dismiss-timer.ensures.back
     (left_served (g.G.Gate.serves c.args.gate.now) c.args.n c.args.parts.timer c.args.parts.harts.items c.replace-given.result.items c.staff-timer.result c.staff-timer.new.workers.items c.staff-timer.new.left.items c.staff-timer.ensures (subst (λ v. All (g.G.Gate.serves c.args.gate.now) v.items) (sym c.replace-given.ensures.value) c.requires.serve))
 
 pub returns-in-Err-clause-same : goal.returns-in-Err-clause-same
 returns-in-Err-clause-same g c =
-    let many = back_many (g.G.Gate.serves c.args.gate.now) g.G.Gate.closed (length c.as_slice.result.now) c.args.n _ _ c.staff-timer.result c.run_all.new.timer c.staff-timer.new.workers.items c.run_all.new.harts.items c.staff-timer.new.left.items c.dismiss-timer.new.harts.items c.dismiss-timer.new.passes.items c.dismiss-timer.new.journals.items c.dismiss-timer.new.stops.items c.run_all.ensures.timer c.run_all.ensures.harts c.dismiss-timer.ensures.back in
+    let many = back_many (g.G.Gate.serves c.args.gate.now) g.G.Gate.tally (length c.as_slice.result.now) c.args.n _ _ c.staff-timer.result c.run_all.new.timer c.staff-timer.new.workers.items c.run_all.new.harts.items c.staff-timer.new.left.items c.dismiss-timer.new.harts.items c.dismiss-timer.new.passes.items c.dismiss-timer.new.journals.items c.dismiss-timer.new.stops.items c.run_all.ensures.timer c.run_all.ensures.harts c.dismiss-timer.ensures.back in
     let before = as_many (g.G.Gate.serves c.args.gate.now) c.args.n c.args.parts.timer c.args.parts.harts.items c.replace-given.result.items c.staff-timer.result c.staff-timer.new.workers.items c.staff-timer.new.left.items c.staff-timer.ensures (subst (λ v. All (g.G.Gate.serves c.args.gate.now) v.items) (sym c.replace-given.ensures.value) c.requires.serve) in
     many ∙ before ∙ ap (λ v. length v.items) c.replace-given.ensures.value
 
@@ -99,7 +99,7 @@ pub returns-clause-shared : goal.returns-clause-shared
 returns-clause-shared g c =
     let size : length c.as_slice.result.now ≡ length c.args.parts.pages.items = ap length c.as_slice.ensures.value ∙ c.lock_pages.ensures.count in
     let serves = g.G.Gate.serves c.args.gate.now in
-    let closed = g.G.Gate.closed in
+    let tally = g.G.Gate.tally in
     let n = c.args.n in
     let t = c.staff-timer.result in
     let ws = c.staff-timer.new.workers.items in
@@ -108,8 +108,8 @@ returns-clause-shared g c =
     let staffed = subst (λ v. AreStaffed n c.args.parts.timer c.args.parts.harts.items v.items t ws left) c.replace-given.ensures.value c.staff-timer.ensures in
     let asked = g.C.Clock.known c.args.clock.now in
     let now = g.C.Clock.known c.run_all.new.clock in
-    let ends = subst (λ (k : ℕ). TimerEnds serves closed k n asked now t c.run_all.new.timer) size c.run_all.ensures.timer in
-    let worked = subst (λ (k : ℕ). HartsWorked serves closed k n ws c.run_all.new.harts.items) size c.run_all.ensures.harts in
+    let ends = subst (λ (k : ℕ). TimerEnds serves tally k n asked now t c.run_all.new.timer) size c.run_all.ensures.timer in
+    let worked = subst (λ (k : ℕ). HartsWorked serves tally k n ws c.run_all.new.harts.items) size c.run_all.ensures.harts in
     let home = subst (λ (k : ℕ). AreHome g.K.Openings.opening k c.unlock_pages.new.pages.items c.unlock_pages.new.histories.items) c.lock_pages.ensures.count c.unlock_pages.ensures.home in
     let board = c.unlock_board-board.ensures in
     let old = world_with c.args.parts.pages.items c.args.parts.board c.args.parts.timer c.args.parts.harts.items in
@@ -117,16 +117,16 @@ returns-clause-shared g c =
     let histories : c.as_slice-3.result.now ≡ c.unlock_pages.new.histories.items ++ board.0 ∷ [] = c.as_slice-3.ensures.value ∙ board.1 in
     let order = subst (λ (js : List Journal). IsOrder (all_of (journals_of js)) c.agree-agreed.new.events.items) c.as_slice-2.ensures.value c.in_default-agreed.ensures.order in
     let agreed = subst (λ (hs : List History). Agree c.agree-agreed.new.events.items hs) histories c.in_default-agreed.ensures.agrees in
-    subst (λ (u : TimerValue). IsSlice closed n asked now old c.agree-agreed.new.events.items (world_with c.unlock_pages.new.pages.items c.unlock_board-board.result u c.dismiss-timer.new.harts.items) c.dismiss-timer.new.stops.items passes c.dismiss-timer.new.passes.items) (sym c.dismiss-timer.ensures.timer)
-    (whole serves closed n asked now old g.K.Openings.opening g.L.Openings.opening t c.run_all.new.timer ws c.run_all.new.harts.items left passes c.dismiss-timer.new.passes.items c.unlock_pages.new.pages.items c.unlock_board-board.result c.dismiss-timer.new.harts.items c.unlock_pages.new.histories.items board.0 c.dismiss-timer.new.journals.items c.dismiss-timer.new.stops.items c.agree-agreed.new.events.items c.requires.pages begun c.requires.board staffed ends worked c.dismiss-timer.ensures.back home board.2 order agreed)
+    subst (λ (u : TimerValue). IsSlice tally n asked now old c.agree-agreed.new.events.items (world_with c.unlock_pages.new.pages.items c.unlock_board-board.result u c.dismiss-timer.new.harts.items) c.dismiss-timer.new.stops.items passes c.dismiss-timer.new.passes.items) (sym c.dismiss-timer.ensures.timer)
+    (whole serves tally n asked now old g.K.Openings.opening g.L.Openings.opening t c.run_all.new.timer ws c.run_all.new.harts.items left passes c.dismiss-timer.new.passes.items c.unlock_pages.new.pages.items c.unlock_board-board.result c.dismiss-timer.new.harts.items c.unlock_pages.new.histories.items board.0 c.dismiss-timer.new.journals.items c.dismiss-timer.new.stops.items c.agree-agreed.new.events.items c.requires.pages begun c.requires.board staffed ends worked c.dismiss-timer.ensures.back home board.2 order agreed)
 
 pub returns-clause-serve : goal.returns-clause-serve
 returns-clause-serve g c =
-    back_served (g.G.Gate.serves c.args.gate.now) g.G.Gate.closed (length c.as_slice.result.now) c.args.n _ _ c.staff-timer.result c.run_all.new.timer c.staff-timer.new.workers.items c.run_all.new.harts.items c.staff-timer.new.left.items c.dismiss-timer.new.harts.items c.dismiss-timer.new.passes.items c.dismiss-timer.new.journals.items c.dismiss-timer.new.stops.items c.run_all.ensures.timer c.run_all.ensures.harts c.dismiss-timer.ensures.back
+    back_served (g.G.Gate.serves c.args.gate.now) g.G.Gate.tally (length c.as_slice.result.now) c.args.n _ _ c.staff-timer.result c.run_all.new.timer c.staff-timer.new.workers.items c.run_all.new.harts.items c.staff-timer.new.left.items c.dismiss-timer.new.harts.items c.dismiss-timer.new.passes.items c.dismiss-timer.new.journals.items c.dismiss-timer.new.stops.items c.run_all.ensures.timer c.run_all.ensures.harts c.dismiss-timer.ensures.back
     (left_served (g.G.Gate.serves c.args.gate.now) c.args.n c.args.parts.timer c.args.parts.harts.items c.replace-given.result.items c.staff-timer.result c.staff-timer.new.workers.items c.staff-timer.new.left.items c.staff-timer.ensures (subst (λ v. All (g.G.Gate.serves c.args.gate.now) v.items) (sym c.replace-given.ensures.value) c.requires.serve))
 
 pub returns-clause-same : goal.returns-clause-same
 returns-clause-same g c =
-    let many = back_many (g.G.Gate.serves c.args.gate.now) g.G.Gate.closed (length c.as_slice.result.now) c.args.n _ _ c.staff-timer.result c.run_all.new.timer c.staff-timer.new.workers.items c.run_all.new.harts.items c.staff-timer.new.left.items c.dismiss-timer.new.harts.items c.dismiss-timer.new.passes.items c.dismiss-timer.new.journals.items c.dismiss-timer.new.stops.items c.run_all.ensures.timer c.run_all.ensures.harts c.dismiss-timer.ensures.back in
+    let many = back_many (g.G.Gate.serves c.args.gate.now) g.G.Gate.tally (length c.as_slice.result.now) c.args.n _ _ c.staff-timer.result c.run_all.new.timer c.staff-timer.new.workers.items c.run_all.new.harts.items c.staff-timer.new.left.items c.dismiss-timer.new.harts.items c.dismiss-timer.new.passes.items c.dismiss-timer.new.journals.items c.dismiss-timer.new.stops.items c.run_all.ensures.timer c.run_all.ensures.harts c.dismiss-timer.ensures.back in
     let before = as_many (g.G.Gate.serves c.args.gate.now) c.args.n c.args.parts.timer c.args.parts.harts.items c.replace-given.result.items c.staff-timer.result c.staff-timer.new.workers.items c.staff-timer.new.left.items c.staff-timer.ensures (subst (λ v. All (g.G.Gate.serves c.args.gate.now) v.items) (sym c.replace-given.ensures.value) c.requires.serve) in
     many ∙ before ∙ ap (λ v. length v.items) c.replace-given.ensures.value

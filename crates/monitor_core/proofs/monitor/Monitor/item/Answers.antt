@@ -1,7 +1,8 @@
-use Rattle.std.proofs.Common.{◌≡◌, refl, sym, ap, subst, ◌∙◌, List, ℕ}
+use Rattle.std.proofs.Common.{◌≡◌, refl, ap, subst, ◌∙◌, List, ℕ}
 use Rattle.http_stream.specs.Sent.{sent}
 use Rattle.script_text.specs.declared.item.Item.{Item}
 use Rattle.monitor_core.specs.declared.item_error.ItemError.{ItemError}
+use Rattle.response_form.specs.declared.form.ResponseForm.TheVariants.{Line}
 use Rattle.gate_file.specs.Runs.{RunsAll, RunsPart, save_calls}
 use Rattle.monitor_machine.specs.declared.machine.LiveMachine.{LiveMachine}
 use Rattle.monitor_core.specs.declared.monitor.Monitor.{Monitor}
@@ -25,24 +26,27 @@ returns-in-File-clause-stops g c =
     (subst (λ (content : List ℕ). RunsPart c.as_str.result.now (save_calls c.as_str.result.now content) (g.F.Files.known c.args.files.now) (g.F.Files.known c.save_file.new.files)) c.as_slice.ensures (c.in-Err.ensures.begun told)))
 
 pub returns-in-Lineage-clause-goes : goal.returns-in-Lineage-clause-goes
-returns-in-Lineage-clause-goes g c = lineage_goes _ c.args.self.now c.set_lineage.new.self (g.F.Files.known c.args.files.now) c.in-Lineage.lineage _ c.in-Lineage.is c.new-in-Lineage.ensures
-    (c.set_lineage.ensures (g.F.Files.known c.args.files.now))
+returns-in-Lineage-clause-goes g c =
+    lineage_goes _ c.args.self.now c.set_lineage.new.self (g.F.Files.known c.args.files.now) c.in-Lineage.lineage _ c.in-Lineage.is c.new-in-Lineage.ensures
+    c.set_lineage.ensures.front (c.set_lineage.ensures.goes (g.F.Files.known c.args.files.now))
 
 pub returns-in-Connect-clause-goes : goal.returns-in-Connect-clause-goes
-returns-in-Connect-clause-goes g c = connect_goes _ _ _ c.restart.new.self _ c.in-Connect.is c.new-in-Connect.ensures c.restart.ensures
+returns-in-Connect-clause-goes g c =
+    connect_goes _ c.args.self.now c.connect.new.self (g.F.Files.known c.args.files.now) _ c.in-Connect.is c.new-in-Connect.ensures
+    (ap (λ (q : Monitor). q.front) c.connect.ensures.front) (c.connect.ensures.goes (g.F.Files.known c.args.files.now))
 
 pub returns-in-Bytes-clause-goes : goal.returns-in-Bytes-clause-goes
 returns-in-Bytes-clause-goes g c =
     let known = g.F.Files.known in
     bytes_goes c.args.item c.args.self.now c.take_bytes.new.self (known c.args.files.now) (known c.take_bytes.new.files) c.in-Bytes.bytes c.in_ok-take_bytes-in-Bytes.field-0 c.in-Bytes.is
-    (subst (λ (b : List ℕ). HasTalked (on c.args.self.now b) c.take_bytes.new.self c.in_ok-take_bytes-in-Bytes.field-0 (known c.args.files.now) (known c.take_bytes.new.files)) c.as_slice-in-Bytes.ensures c.in_ok-take_bytes-in-Bytes.ensures.ok)
+    (subst (λ (b : List ℕ). HasTalked Line (on c.args.self.now b) c.take_bytes.new.self c.in_ok-take_bytes-in-Bytes.field-0 (known c.args.files.now) (known c.take_bytes.new.files)) c.as_slice-in-Bytes.ensures c.in_ok-take_bytes-in-Bytes.ensures.ok)
 
 pub returns-in_err-take_bytes-in-Bytes-clause-stops : goal.returns-in_err-take_bytes-in-Bytes-clause-stops
 returns-in_err-take_bytes-in-Bytes-clause-stops g c =
     let known = g.F.Files.known in
     on_memory _ _ c.from_residual.ensures.1
     (bytes_stops ItemError.OutOfMemory c.args.item c.args.self.now c.take_bytes.new.self (known c.args.files.now) (known c.take_bytes.new.files) c.in-Bytes.bytes c.in-Bytes.is refl
-    (subst (λ (b : List ℕ). HasHalted b c.args.self.now c.take_bytes.new.self (known c.args.files.now) (known c.take_bytes.new.files)) c.as_slice-in-Bytes.ensures c.in_err-take_bytes-in-Bytes.ensures.err))
+    (subst (λ (b : List ℕ). HasHalted Line b c.args.self.now c.take_bytes.new.self (known c.args.files.now) (known c.take_bytes.new.files)) c.as_slice-in-Bytes.ensures c.in_err-take_bytes-in-Bytes.ensures.err))
 
 pub returns-in-Step-clause-goes : goal.returns-in-Step-clause-goes
 returns-in-Step-clause-goes g c =
@@ -63,7 +67,7 @@ returns-in-Api-clause-goes g c =
     ∙ (ap (λ (b : List ℕ). sent c.in-Api.method b c.as_slice-in-Api-3.result.now) c.as_slice-in-Api-2.ensures
     ∙ ap (λ (b : List ℕ). sent c.in-Api.method c.in-Api.path b) c.as_slice-in-Api-3.ensures) in
     api_goes c.args.item c.args.self.now c.take_request.new.self (known c.args.files.now) (known c.take_request.new.files) c.in-Api.method c.in-Api.path c.in-Api.body c.in_ok-take_request-in-Api.field-0 c.in-Api.is
-    (subst (λ (b : List ℕ). HasTalked (on c.args.self.now b) c.take_request.new.self c.in_ok-take_request-in-Api.field-0 (known c.args.files.now) (known c.take_request.new.files)) same c.in_ok-take_request-in-Api.ensures.ok)
+    (subst (λ (b : List ℕ). HasTalked Line (on c.args.self.now b) c.take_request.new.self c.in_ok-take_request-in-Api.field-0 (known c.args.files.now) (known c.take_request.new.files)) same c.in_ok-take_request-in-Api.ensures.ok)
 
 pub returns-in_err-take_request-in-Api-clause-stops : goal.returns-in_err-take_request-in-Api-clause-stops
 returns-in_err-take_request-in-Api-clause-stops g c =
@@ -74,7 +78,7 @@ returns-in_err-take_request-in-Api-clause-stops g c =
     ∙ ap (λ (b : List ℕ). sent c.in-Api.method c.in-Api.path b) c.as_slice-in-Api-3.ensures) in
     on_memory _ _ c.from_residual-in_err-take_request-in-Api.ensures.1
     (api_stops ItemError.OutOfMemory c.args.item c.args.self.now c.take_request.new.self (known c.args.files.now) (known c.take_request.new.files) c.in-Api.method c.in-Api.path c.in-Api.body c.in-Api.is refl
-    (subst (λ (b : List ℕ). HasHalted b c.args.self.now c.take_request.new.self (known c.args.files.now) (known c.take_request.new.files)) same c.in_err-take_request-in-Api.ensures.err))
+    (subst (λ (b : List ℕ). HasHalted Line b c.args.self.now c.take_request.new.self (known c.args.files.now) (known c.take_request.new.files)) same c.in_err-take_request-in-Api.ensures.err))
 
 pub returns-in-Reply-clause-goes : goal.returns-in-Reply-clause-goes
 returns-in-Reply-clause-goes g c =

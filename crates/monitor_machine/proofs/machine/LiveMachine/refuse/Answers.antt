@@ -6,5 +6,5 @@ use Rattle.monitor_machine.proofs.machine.LiveMachine.refuse.Goals as goal
 
 pub returns-clause-ok : goal.returns-clause-ok
 returns-clause-ok c = λ known.
-    replies_alone (plan.Refused c.args.why) c.in_ok-how.how c.args.self.now c.answer.new.self c.args.text.now c.answer.new.text
+    replies_alone c.args.form (plan.Refused c.args.why) c.in_ok-how.how c.args.self.now c.answer.new.self c.args.text.now c.answer.new.text
     known (next.Bad c.args.why) c.in_ok-how.ensures.ok refl (λ m. refl)

@@ -6,7 +6,7 @@ use Rattle.slice_runner.proofs.worker.TimerWorker.step.Goals as goal
 
 pub returns-clause-went : goal.returns-clause-went
 returns-clause-went g c = λ id s found way.
-    went timer_wants timer_next g.G.Gate.closed (length c.args.pages.now) id s found c.args.self.now.timer c.args.self.now.track c.stops.new.self c.want-op.result way c.in_default.ensures.same c.want-op.ensures _ c.write_down.new.self c.in-Ok.entry _ c.give.new.self c.in_default.ensures.why.unclosed refl refl refl c.in-Ok.ensures.clock c.in-Ok.ensures.entry c.write_down.ensures c.give.ensures
+    went timer_wants timer_next g.G.Gate.tally (length c.args.pages.now) id s found c.args.self.now.timer c.args.self.now.track c.stops.new.self c.want-op.result way c.in_default.ensures.same c.want-op.ensures _ c.write_down.new.self c.in-Ok.entry _ c.give.new.self c.in_default.ensures.why refl refl refl c.in-Ok.ensures.clock c.in-Ok.ensures.entry c.write_down.ensures c.give.ensures
 
 pub returns-clause-answers : goal.returns-clause-answers
 returns-clause-answers g c = λ start had.

@@ -1,0 +1,5 @@
+pub mod Beginnings
+pub mod Causes
+pub mod Endings
+pub mod Rising
+pub mod Serves

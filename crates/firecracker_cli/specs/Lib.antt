@@ -1,0 +1,4 @@
+pub mod Said
+pub mod ServeWords
+pub mod Serving
+pub mod SoFar

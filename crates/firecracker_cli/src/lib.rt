@@ -1,0 +1,14 @@
+//! The program's commands: `replay`, which `monitor_cli` has, and `serve`.
+//!
+//! `firecracker_main` judges the words and does the command. Of `serve` its contract is trace fidelity: what the trace
+//! took is a run of the flat machine, which shows what the connections and the sink took (`specs/Serving.antt`). Read
+//! `top` first, then `serving`.
+#![tactic(auto)]
+
+mod outside;
+mod serve_words;
+mod serving;
+mod top;
+
+pub use outside::ServeOutside;
+pub use top::firecracker_main;

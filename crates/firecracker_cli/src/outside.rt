@@ -1,0 +1,11 @@
+// What serving is handed.
+use vm_host::Host;
+
+/// The host objects that serving is handed besides the sink and the files.
+#[derive(Drop)]
+pub struct ServeOutside<C, W, M, T> {
+    pub host: Host<(), (), (), C>,
+    pub words: W,
+    pub listener: M,
+    pub trace: T,
+}

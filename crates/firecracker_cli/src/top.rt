@@ -1,0 +1,69 @@
+// The top call: a command's words, and what it does.
+ghost use Rattle.std.specs.Prelude.{◌≡◌, IfErr, IfOk, None, Some, map, string_bytes};
+ghost use Rattle.monitor_cli.specs.Command.{Commanded, Wordless};
+ghost use Rattle.monitor_cli.specs.Known.{all_known};
+ghost use Rattle.monitor_running.specs.Reached.{known};
+ghost use Rattle.monitor_serving.specs.Views.{hosts};
+ghost use Rattle.firecracker_cli.specs.ServeWords.{ServeWords, serve_words};
+ghost use Rattle.firecracker_cli.specs.Serving.{Serves, serve_known};
+
+use crate::outside::ServeOutside;
+use crate::serve_words::serve_words;
+use crate::serving::serve_main;
+use monitor_cli::{NoWords, Outside, refuse, replay_main};
+use serve_host::{Conn, Listener, Trace, Words};
+use std::alloc::Global;
+use std::sync::Wait;
+use std::thread::Threads;
+use vm_host::Clock;
+use vm_outside::{Files, Sink, Source};
+use vm_types::Exit;
+
+/// The command of these words, which are those behind the program's name: `replay [--id ID]`, or
+/// `serve --api-sock PATH [--id ID] [--trace FILE]`. Where the words can't be had, or are no command, the last line
+/// that says so is all that is written.
+pub fn firecracker_main<
+    I: Source,
+    O: Sink,
+    F: Files,
+    C: Clock,
+    W: Words,
+    N: Conn + Send,
+    M: Listener<N>,
+    T: Trace,
+    R: Threads + Wait + Sync,
+>(
+    rt: &R,
+    alloc: Global,
+    words: Result<Vec<String>, NoWords>,
+    out: &mut Outside<I, O, F>,
+    with: &mut ServeOutside<C, W, M, T>,
+) -> Exit
+    ensures replay { IfOk words (λ words. serve_words (map string_bytes words.items) ≡ None →
+        Commanded (map string_bytes words.items) result
+        (all_known (I.known out.old.source) (O.known out.old.sink) (F.known out.old.files))
+        (all_known (I.known out.new.source) (O.known out.new.sink) (F.known out.new.files))) }
+    ensures serve { IfOk words (λ words. (it : ServeWords) → serve_words (map string_bytes words.items) ≡ Some it →
+        Serves result it.id
+        (serve_known (hosts (known (T.known with.old.trace) (O.known out.old.sink) (C.known with.old.host.clock))
+        (F.known out.old.files)) (W.known with.old.words) (M.known with.old.listener))
+        (serve_known (hosts (known (T.known with.new.trace) (O.known out.new.sink) (C.known with.new.host.clock))
+        (F.known out.new.files)) (W.known with.new.words) (M.known with.new.listener))) }
+    ensures wordless { IfErr words (λ why. Wordless why result
+        (all_known (I.known out.old.source) (O.known out.old.sink) (F.known out.old.files))
+        (all_known (I.known out.new.source) (O.known out.new.sink) (F.known out.new.files))) }
+    ensures beside { IfOk words (λ words. serve_words (map string_bytes words.items) ≡ None → with.new ≡ with.old) }
+    ensures unasked { IfOk words (λ words. (it : ServeWords) → serve_words (map string_bytes words.items) ≡ Some it →
+        out.new.source ≡ out.old.source) }
+    ensures idle { IfErr words (λ why. with.new ≡ with.old) }
+    ensures unread { result ≡ Exit.Usage → (out.new.source ≡ out.old.source) × (out.new.files ≡ out.old.files) }
+{
+    let words = match words {
+        Ok(words) => words,
+        Err(why) => return refuse(why.exit(), out),
+    };
+    match serve_words(&words) {
+        Some(it) => serve_main(rt, alloc, it, &mut out.files, &mut out.sink, with),
+        None => replay_main(alloc, &words, out),
+    }
+}

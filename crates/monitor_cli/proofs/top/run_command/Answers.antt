@@ -1,2 +1,0 @@
-use Rattle.std.proofs.Common.{sym, ◌∙◌}
-use Rattle.monitor_cli.proofs.top.run_command.Goals as goal

@@ -1,0 +1,18 @@
+use Rattle.std.proofs.Common.{sym}
+use Rattle.monitor_machine.specs.State.{IsLive}
+use Rattle.monitor_running.proofs.Lifts.{nothing_taken, slice_lifted, went_off, went_resting}
+use Rattle.monitor_running.proofs.running.run_once.Goals as goal
+
+pub returns-then-is_off-clause-went : goal.returns-then-is_off-clause-went
+returns-then-is_off-clause-went g c = went_off _ c.args.machine.now c.is_off.result c.if-is_off.true c.is_off.ensures
+
+pub returns-in_default-clause-went : goal.returns-in_default-clause-went
+returns-in_default-clause-went g c =
+    went_resting IsLive _ _ _ _ _ _
+    (nothing_taken c.args.machine.now c.take_running.new.self (sym c.in_default.ensures.running) c.in_default.ensures.left)
+    c.rest.ensures
+
+pub returns-clause-went : goal.returns-clause-went
+returns-clause-went g c =
+    slice_lifted c.args.machine.now c.take_running.new.self c.put_guest.new.self _ _ _ _ (sym c.in-Some.ensures.running)
+    c.in-Some.ensures.left c.put_guest.ensures c.run_where_passes-end.result c.run_where_passes-end.ensures.went

@@ -1,0 +1,190 @@
+-- Slices while nobody is connected, and one end behind another.
+use Rattle.std.proofs.Common.{◌≡◌, ℕ, refl, sym, ap, subst, ◌≤◌, List, [], ◌++◌, append-nil, Option, Some, None, arith}
+use Rattle.vm_types.specs.Causes.{Rose}
+use Rattle.vm_types.specs.declared.exit.Object.{Object}
+use Rattle.vm_types.specs.declared.exit.Object.TheVariants as object
+use Rattle.vm_host.specs.Telling.{ClockKnown}
+use Rattle.vm_outside.specs.Known.{FilesKnown, Health, Lasts, SinkKnown}
+use Rattle.serve_host.specs.Passing.{ConnKnown}
+use Rattle.serve_host.specs.declared.listener.Accepted.{Accepted}
+use Rattle.serve_host.specs.declared.listener.Accepted.TheVariants as accepted
+use Rattle.serve_host.specs.Listening.{ComesFresh, Ended, IsFresh, ListenerKnown}
+use Rattle.serve_host.specs.Tracing.{TraceKnown}
+use Rattle.script_text.specs.declared.item.Item.{Item}
+use Rattle.flat_machine.specs.Machine.{Machine}
+use Rattle.monitor_machine.specs.declared.machine.LiveMachine.{LiveMachine}
+use Rattle.monitor_machine.specs.State.{IsLive}
+use Rattle.monitor_core.specs.declared.monitor.Monitor.{Monitor}
+use Rattle.monitor_core.specs.State.{IsMonitor}
+use Rattle.monitor_running.specs.declared.ran.Ran.{Ran}
+use Rattle.monitor_running.specs.declared.ran.Ran.TheVariants as ran
+use Rattle.monitor_running.specs.Ran.{HasFault, RanOn}
+use Rattle.monitor_running.specs.Reached.{Kept, Known, Reached, Start, known, seen}
+use Rattle.monitor_serving.specs.declared.served.Served.{Served as End}
+use Rattle.monitor_serving.specs.declared.served.Served.TheVariants as served
+use Rattle.monitor_serving.specs.Connections.{BrokeOff, EndCause, GoCause, Goes, HasServed, Place, Serves, going, place}
+use Rattle.monitor_serving.specs.Ends.{alone_end}
+use Rattle.monitor_serving.specs.Views.{AllLast, Hosts, hosts}
+use Rattle.monitor_serving.proofs.Connections.{in_part}
+use Rattle.monitor_serving.proofs.Slices.{monitor_kept}
+use Rattle.monitor_serving.proofs.Turns.{rose_after}
+
+module _ (monitor now_monitor : Monitor) (machine : LiveMachine) (k now : Known) (files : FilesKnown) (listener : ListenerKnown)
+    (lent : now_monitor ≡ record monitor { machine = machine }) where
+  abbrev old_place : Place
+  old_place = place monitor (hosts k files) listener
+
+  abbrev new_place : Place
+  new_place = place now_monitor (hosts now files) listener
+
+  abbrev kept : (s : Start) (first : List Ended) (old : HasServed s first old_place)
+      → Kept IsLive s old.flat (seen now) machine old.talk → HasServed s first new_place
+  kept s first old it = record {
+    flat = it.flat;
+    talk = old.talk;
+    since = old.since;
+    stands = record {
+      is = subst (λ (m : Monitor). IsMonitor m files it.flat) (sym lent)
+          (monitor_kept monitor machine (hosts k files) old.flat it.flat old.stands.is it.is it.beside);
+      reached = it.reached;
+    };
+    ended = old.ended;
+    told = old.told;
+  }
+
+  broke : (s : Start) (first : List Ended) (old : HasServed s first old_place) (at : Machine) (clock : ClockKnown) (unshown : List ℕ)
+      → Reached s (record (seen now) { taken = now.sink.taken ++ unshown; clock = clock }) at old.talk → BrokeOff s first new_place
+  broke s first old at clock unshown reached = record {
+    at = at;
+    talk = old.talk;
+    since = old.since;
+    clock = clock;
+    unshown = unshown;
+    reached = reached;
+    ended = old.ended;
+    told = in_part old.talk old.since old.told;
+  }
+
+  all_shown : (s : Start) (first : List Ended) (old : HasServed s first old_place) (at : Machine) (clock : ClockKnown)
+      → Reached s (record (seen now) { clock = clock }) at old.talk → BrokeOff s first new_place
+  all_shown s first old at clock reached =
+      broke s first old at clock []
+      (subst (λ (l : List ℕ). Reached s (record (seen now) { taken = l; clock = clock }) at old.talk) (sym (append-nil now.sink.taken)) reached)
+
+  pub ran_alone : (it : Option Ran) → RanOn IsLive it (seen k) monitor.machine (seen now) machine → (it ≡ Some ran.Closed → ⊥)
+      → Goes (alone_end it) old_place new_place
+  ran_alone None on never = λ s first old. kept s first old (on s old.flat old.talk old.stands.is.own.live old.stands.reached)
+  ran_alone (Some ran.Closed) on never = absurd (never refl)
+  ran_alone (Some ran.Off) on never = λ s first old.
+      let it = on s old.flat old.talk old.stands.is.own.live old.stands.reached in (kept s first old it.0, it.1)
+  ran_alone (Some ran.TraceFailed) on never = λ s first old.
+      let it = on s old.flat old.talk old.stands.is.own.live old.stands.reached in all_shown s first old it.told it.clock it.reached
+  ran_alone (Some ran.SinkFailed) on never = λ s first old.
+      let it = on s old.flat old.talk old.stands.is.own.live old.stands.reached in broke s first old it.1.flat now.clock it.0 it.1.reached
+  ran_alone (Some (ran.Torn torn journals histories)) on never = (
+    (on.world, on.slice),
+    λ s first old.
+        let it = on.kept s old.flat old.talk old.stands.is.own.live old.stands.reached in all_shown s first old it.flat on.clock it.reached,
+  )
+  ran_alone (Some ran.OutOfMemory) on never = λ s first old.
+      let it = on s old.flat old.talk old.stands.is.own.live old.stands.reached in all_shown s first old it.flat now.clock it.reached
+
+pub alone_cause : (it : Option Ran) (old new : Hosts) (listener : Health) → HasFault it old.slices new.slices
+    → GoCause (alone_end it) old new listener listener
+alone_cause None old new listener fault = tt
+alone_cause (Some ran.Closed) old new listener fault = tt
+alone_cause (Some ran.Off) old new listener fault = tt
+alone_cause (Some ran.TraceFailed) old new listener fault = fault
+alone_cause (Some ran.SinkFailed) old new listener fault = fault
+alone_cause (Some (ran.Torn torn journals histories)) old new listener fault = tt
+alone_cause (Some ran.OutOfMemory) old new listener fault = tt
+
+-- the trace failed, or there was no memory, before anything happened
+pub breaks_idle : (s : Start) (first : List Ended) (monitor : Monitor) (trace told : TraceKnown) (sink : SinkKnown) (clock : ClockKnown)
+    (files : FilesKnown) (listener : ListenerKnown) → told.took ≡ trace.took
+    → HasServed s first (place monitor (hosts (known trace sink clock) files) listener)
+    → BrokeOff s first (place monitor (hosts (known told sink clock) files) listener)
+breaks_idle s first monitor trace told sink clock files listener same old = record {
+  at = old.flat;
+  talk = old.talk;
+  since = old.since;
+  clock = clock;
+  unshown = [];
+  reached = subst (λ (l : List ℕ). Reached s (record { took = told.took; taken = l; clock = clock }) old.flat old.talk) (sym (append-nil sink.taken))
+      (subst (λ (i : List Item). Reached s (record { took = i; taken = sink.taken; clock = clock }) old.flat old.talk) (sym same) old.stands.reached);
+  ended = old.ended;
+  told = in_part old.talk old.since old.told;
+}
+
+-- ---- one behind another
+
+module _ (a b c : Place) (first : Serves served.Ended a b) where
+  by_fault : (name : Object) → Serves (served.Fault name) b c → Serves (served.Fault name) a c
+  by_fault name more = λ s before old. more s before (first s before old)
+
+  pub serves_on : (end : End) → Serves end b c → Serves end a c
+  serves_on served.Ended more = λ s before old. more s before (first s before old)
+  serves_on served.Off more = λ s before old. more s before (first s before old)
+  serves_on (served.Fault name) more = λ s before old. more s before (first s before old)
+  serves_on (served.Torn torn journals histories) more = (more.0, λ s before old. more.1 s before (first s before old))
+  serves_on served.OutOfMemory more = λ s before old. more s before (first s before old)
+
+module _ (a b c : Hosts) (x y z : Health) (hosts : AllLast a b) (listener : Lasts x y) where
+  pub end_cause_on : (end : End) → EndCause end b c y z → EndCause end a c x z
+  end_cause_on served.Ended cause = tt
+  end_cause_on served.Off cause = tt
+  end_cause_on (served.Fault object.Trace) cause =
+      rose_after a.slices.trace.health.faults b.slices.trace.health.faults c.slices.trace.health.faults hosts.trace.later cause
+  end_cause_on (served.Fault object.Sink) cause =
+      rose_after a.slices.sink.health.faults b.slices.sink.health.faults c.slices.sink.health.faults hosts.sink.later cause
+  end_cause_on (served.Fault object.Listener) cause = rose_after x.faults y.faults z.faults listener.later cause
+  end_cause_on (served.Fault object.Source) cause = absurd cause
+  end_cause_on (served.Fault object.Files) cause = absurd cause
+  end_cause_on (served.Fault object.Words) cause = absurd cause
+  end_cause_on (served.Torn torn journals histories) cause = tt
+  end_cause_on served.OutOfMemory cause = tt
+
+-- ---- a listener that gave nothing
+
+pub same_place : (monitor : Monitor) (hosts : Hosts) (a b : ListenerKnown) → b.ended ≡ a.ended → place monitor hosts a ≡ place monitor hosts b
+same_place monitor hosts a b same =
+    ap (λ (l : List Ended). record { monitor = monitor; hosts = hosts; ended = l }) (sym same)
+
+pub breaks_on_accept : (monitor : Monitor) (trace : TraceKnown) (sink : SinkKnown) (clock : ClockKnown) (files : FilesKnown)
+    (a b : ListenerKnown) → b.ended ≡ a.ended → (s : Start) (first : List Ended)
+    → HasServed s first (place monitor (hosts (known trace sink clock) files) a)
+    → BrokeOff s first (place monitor (hosts (known trace sink clock) files) b)
+breaks_on_accept monitor trace sink clock files a b same s first old =
+    subst (λ (p : Place). BrokeOff s first p) (same_place monitor (hosts (known trace sink clock) files) a b same)
+    (breaks_idle s first monitor trace trace sink clock files a refl old)
+
+rose_still : (i j : ℕ) → i ≤ j → Rose i i → Rose i j
+rose_still i j later rose = omega (arith, later, rose)
+
+pub cause_unheard : (it : Option End) (a b : Hosts) (x y : Health) → Lasts x y → GoCause it a b x x → GoCause it a b x y
+cause_unheard None a b x y lasts cause = tt
+cause_unheard (Some served.Ended) a b x y lasts cause = tt
+cause_unheard (Some served.Off) a b x y lasts cause = tt
+cause_unheard (Some (served.Fault object.Trace)) a b x y lasts cause = cause
+cause_unheard (Some (served.Fault object.Sink)) a b x y lasts cause = cause
+cause_unheard (Some (served.Fault object.Listener)) a b x y lasts cause = rose_still x.faults y.faults lasts.later cause
+cause_unheard (Some (served.Fault object.Source)) a b x y lasts cause = absurd cause
+cause_unheard (Some (served.Fault object.Files)) a b x y lasts cause = absurd cause
+cause_unheard (Some (served.Fault object.Words)) a b x y lasts cause = absurd cause
+cause_unheard (Some (served.Torn torn journals histories)) a b x y lasts cause = tt
+cause_unheard (Some served.OutOfMemory) a b x y lasts cause = tt
+
+-- ---- the end of one connection
+
+pub goes_by : (end : End) (a b : Place) → Serves end a b → Goes (going end) a b
+goes_by served.Ended a b serves = serves
+goes_by served.Off a b serves = serves
+goes_by (served.Fault name) a b serves = serves
+goes_by (served.Torn torn journals histories) a b serves = serves
+goes_by served.OutOfMemory a b serves = serves
+
+-- ---- what was accepted is fresh
+
+pub fresh_of : {C : Type 0} → (known : C → ConnKnown) (it : Accepted C) (conn : C) → it ≡ accepted.Conn conn → ComesFresh known it
+    → IsFresh (known conn)
+fresh_of known it conn is fresh = subst (λ a. ComesFresh known a) is fresh

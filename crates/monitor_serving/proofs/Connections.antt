@@ -1,0 +1,166 @@
+-- A connection that is over, behind those before it.
+use Rattle.std.proofs.Common.{◌≡◌, ℕ, ◌⊎◌, inl, inr, ◌<◌, true, refl, sym, ap, ◌∙◌, List, [], ◌∷◌, ◌++◌, append-nil, append_assoc, arith}
+use Rattle.vm_types.specs.Causes.{Rose}
+use Rattle.vm_types.specs.declared.exit.Object.TheVariants as object
+use Rattle.vm_types.specs.declared.exit.Object.{Object}
+use Rattle.serve_host.specs.Passing.{ConnKnown}
+use Rattle.serve_host.specs.Tracing.{TraceKnown}
+use Rattle.serve_host.specs.Listening.{Ended, IsFresh, ListenerKnown, ended_of}
+use Rattle.vm_host.specs.Telling.{ClockKnown}
+use Rattle.vm_outside.specs.Known.{FilesKnown, SinkKnown}
+use Rattle.http_stream.specs.Conversation.{new_connection}
+use Rattle.script_text.specs.declared.item.Item.TheVariants as item
+use Rattle.flat_machine.specs.Machine.{Machine, is_off}
+use Rattle.flat_trace.specs.Showing.{Out, given, replied}
+use Rattle.flat_trace.specs.Showing.Out.{Opened}
+use Rattle.monitor_core.specs.declared.monitor.Monitor.{Monitor}
+use Rattle.monitor_core.specs.State.{IsMonitor}
+use Rattle.monitor_running.specs.Reached.{Start, known, seen}
+use Rattle.monitor_running.proofs.Joins.{goes_with}
+use Rattle.monitor_serving.specs.declared.served.Served.{Served as End}
+use Rattle.monitor_serving.specs.declared.served.Served.TheVariants as served
+use Rattle.monitor_serving.specs.Connections.{AreTold, AreToldInPart, BrokeOff, HasServed, Place, Serves, WasSaid, place}
+use Rattle.monitor_serving.specs.Turns.{Broke, BreaksOff, Continues, EndsConnection, GoesOff, ServedAs}
+use Rattle.monitor_serving.specs.Views.{Hosts, Stands, Talked, View, hosts, view}
+use Rattle.monitor_serving.proofs.Pieces.{unasked}
+
+-- the connection is as it was accepted, and then as it is given back
+pub was_said : (talk : List Out) (fresh conn : ConnKnown) (heard : List Out) (unsent unsaid : List ℕ) → IsFresh fresh
+    → Talked fresh conn heard unsent unsaid
+    → WasSaid ((talk ++ Opened ∷ []) ++ heard) talk (ended_of conn) unsent unsaid
+was_said talk fresh conn heard unsent unsaid is talked = record {
+  heard = heard;
+  only = talked.only;
+  is = append_assoc talk (Opened ∷ []) heard;
+  gave = talked.gave ∙ ap (λ (l : List ℕ). l ++ (given heard ++ unsaid)) is.gave;
+  took = talked.took ∙ ap (λ (l : List ℕ). l ++ replied heard) is.took;
+}
+
+pub rose_once : (i j : ℕ) → i ≡ 0 → Rose i j → 0 < j
+rose_once i j none rose = omega (arith, none, rose)
+
+pub failed_once : (unsent : List ℕ) (fresh conn : ConnKnown) → IsFresh fresh
+    → (unsent ≡ []) ⊎ Rose fresh.health.faults conn.health.faults → (unsent ≡ []) ⊎ (0 < conn.health.faults)
+failed_once unsent fresh conn is (inl none) = inl none
+failed_once unsent fresh conn is (inr rose) = inr (rose_once fresh.health.faults conn.health.faults is.faults rose)
+
+-- ---- a new connection
+
+module _ (s : Start) (first : List Ended) (monitor opened : Monitor) (trace told : TraceKnown) (sink : SinkKnown) (clock : ClockKnown)
+    (files : FilesKnown) (listener : ListenerKnown)
+    (is_told : told.took ≡ trace.took ++ item.Connect ∷ [])
+    (opens : (m : Machine) → IsMonitor monitor files m → IsMonitor opened files (record m { connection = new_connection }))
+    (old : HasServed s first (place monitor (hosts (known trace sink clock) files) listener)) where
+  abbrev pub stands_opened : Stands s opened (hosts (known told sink clock) files) (record old.flat { connection = new_connection })
+      (old.talk ++ Opened ∷ [])
+  stands_opened = record {
+    is = opens old.flat old.stands.is;
+    reached = goes_with s (seen (known trace sink clock)) (seen (known told sink clock)) old.flat
+        (record old.flat { connection = new_connection }) old.talk (record { item = item.Connect; outcomes = [] } ∷ []) (Opened ∷ [])
+        old.stands.reached (Opened, record old.flat { connection = new_connection }, [], refl, (refl, (refl, (refl, refl))), (refl, refl))
+        is_told (sym (append-nil sink.taken)) (unasked clock);
+  }
+
+  module _ (fresh conn : ConnKnown) (is_fresh : IsFresh fresh) (monitor_now : Monitor) (now : Hosts) (left : ListenerKnown)
+      (given_back : left.ended ≡ ended_of conn ∷ listener.ended) where
+    abbrev pub before : View
+    before = view opened (hosts (known told sink clock) files) fresh
+
+    abbrev pub after : View
+    after = view monitor_now now conn
+
+    abbrev pub end_place : Place
+    end_place = place monitor_now now left
+
+    pub ended_since : left.ended ≡ (ended_of conn ∷ old.since) ++ first
+    ended_since = given_back ∙ ap (λ (l : List Ended). ended_of conn ∷ l) old.ended
+
+    abbrev pub is_over : (unsent : List ℕ) → Continues s before after (old.talk ++ Opened ∷ []) unsent
+        → (unsent ≡ []) ⊎ Rose fresh.health.faults conn.health.faults → HasServed s first end_place
+    is_over unsent on cut = record {
+      flat = on.flat;
+      talk = (old.talk ++ Opened ∷ []) ++ on.heard;
+      since = ended_of conn ∷ old.since;
+      stands = on.stands;
+      ended = ended_since;
+      told = (
+        old.talk,
+        unsent,
+        was_said old.talk fresh conn on.heard unsent [] is_fresh on.talked,
+        failed_once unsent fresh conn is_fresh cut,
+        old.told,
+      );
+    }
+
+    is_broken : Broke s before after (old.talk ++ Opened ∷ []) → BrokeOff s first end_place
+    is_broken broke = record {
+      at = broke.at;
+      talk = (old.talk ++ Opened ∷ []) ++ broke.heard;
+      since = ended_of conn ∷ old.since;
+      clock = broke.clock;
+      unshown = broke.unshown;
+      reached = broke.reached;
+      ended = ended_since;
+      told = (
+        old.talk,
+        broke.unsent,
+        broke.unsaid,
+        was_said old.talk fresh conn broke.heard broke.unsent broke.unsaid is_fresh broke.talked,
+        old.told,
+      );
+    }
+
+    pub ended_well : EndsConnection before after → HasServed s first end_place
+    ended_well ends =
+        let e = ends s (record old.flat { connection = new_connection }) (old.talk ++ Opened ∷ []) stands_opened in
+        is_over e.0 e.1 e.2
+
+    pub ended_off : GoesOff before after → (it : HasServed s first end_place) × (is_off it.flat ≡ true)
+    ended_off ends =
+        let e = ends s (record old.flat { connection = new_connection }) (old.talk ++ Opened ∷ []) stands_opened in
+        (is_over [] e.0 (inl refl), e.1)
+
+    pub ended_broken : BreaksOff before after → BrokeOff s first end_place
+    ended_broken ends =
+        is_broken (ends s (record old.flat { connection = new_connection }) (old.talk ++ Opened ∷ []) stands_opened)
+
+-- by which end
+pub one_served : (monitor opened : Monitor) (trace told : TraceKnown) (sink : SinkKnown) (clock : ClockKnown) (files : FilesKnown)
+    (listener : ListenerKnown) → told.took ≡ trace.took ++ item.Connect ∷ []
+    → ((m : Machine) → IsMonitor monitor files m → IsMonitor opened files (record m { connection = new_connection }))
+    → (fresh conn : ConnKnown) → IsFresh fresh → (now_monitor : Monitor) (now : Hosts) (left : ListenerKnown)
+    → left.ended ≡ ended_of conn ∷ listener.ended → (end : End)
+    → ServedAs end (view opened (hosts (known told sink clock) files) fresh) (view now_monitor now conn)
+    → Serves end (place monitor (hosts (known trace sink clock) files) listener) (place now_monitor now left)
+one_served monitor opened trace told sink clock files listener is_told opens fresh conn is_fresh now_monitor now left back end ends =
+    by_end end ends
+  where
+    broken : BreaksOff (view opened (hosts (known told sink clock) files) fresh) (view now_monitor now conn)
+        → (s : Start) (first : List Ended) → HasServed s first (place monitor (hosts (known trace sink clock) files) listener)
+        → BrokeOff s first (place now_monitor now left)
+    broken breaks s first old =
+        ended_broken s first monitor opened trace told sink clock files listener is_told opens old fresh conn is_fresh now_monitor now left back breaks
+
+    by_fault : (name : Object) → ServedAs (served.Fault name) (view opened (hosts (known told sink clock) files) fresh) (view now_monitor now conn)
+        → Serves (served.Fault name) (place monitor (hosts (known trace sink clock) files) listener) (place now_monitor now left)
+    by_fault object.Trace ends = broken ends
+    by_fault object.Sink ends = broken ends
+    by_fault object.Source ends = absurd ends
+    by_fault object.Files ends = absurd ends
+    by_fault object.Listener ends = absurd ends
+    by_fault object.Words ends = absurd ends
+
+    by_end : (e : End) → ServedAs e (view opened (hosts (known told sink clock) files) fresh) (view now_monitor now conn)
+        → Serves e (place monitor (hosts (known trace sink clock) files) listener) (place now_monitor now left)
+    by_end served.Ended ends = λ s first old.
+        ended_well s first monitor opened trace told sink clock files listener is_told opens old fresh conn is_fresh now_monitor now left back ends
+    by_end served.Off ends = λ s first old.
+        ended_off s first monitor opened trace told sink clock files listener is_told opens old fresh conn is_fresh now_monitor now left back ends
+    by_end (served.Fault name) ends = by_fault name ends
+    by_end (served.Torn torn journals histories) ends = (ends.0, broken ends.1)
+    by_end served.OutOfMemory ends = broken ends
+
+-- what was told whole was told in part
+pub in_part : (talk : List Out) (since : List Ended) → AreTold talk since → AreToldInPart talk since
+in_part talk [] told = told
+in_part talk (ended ∷ others) (before, unsent, said, cut, told) = (before, unsent, [], said, told)

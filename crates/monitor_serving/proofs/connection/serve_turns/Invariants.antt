@@ -1,0 +1,24 @@
+use Rattle.std.proofs.Common.{◌≡◌}
+use Rattle.vm_outside.specs.Known.{Lasts, Tells}
+use Rattle.monitor_running.specs.Reached.{known}
+use Rattle.monitor_serving.specs.Passes.{ArePasses}
+use Rattle.monitor_serving.specs.Turns.{GoesOn}
+use Rattle.monitor_serving.specs.Views.{AllLast, AllTell, Hosts, hosts, view}
+use Rattle.monitor_serving.proofs.connection.serve_turns.Given as goal
+
+abbrev pub invariant-loop : goal.invariant-loop
+invariant-loop g l =
+    let before : Hosts =
+    hosts (known (g.T.Trace.known l.fn.trace) (g.K.Sink.known l.fn.sink) (g.C.Clock.known l.fn.host.clock)) (g.F.Files.known l.fn.files) in
+    let now : Hosts = hosts (known (g.T.Trace.known l.trace) (g.K.Sink.known l.sink) (g.C.Clock.known l.host.clock)) (g.F.Files.known l.files) in
+    let N = g.N.Conn in
+    record {
+      can : (goal.iterator-loop g).can_next l.iterator';
+      finite : (goal.iterator-loop g).is_finite l.iterator';
+      on : AllTell before → Tells (N.known l.fn.conn).health
+          → GoesOn (view l.fn.monitor before (N.known l.fn.conn)) (view l.monitor now (N.known l.conn));
+      last : AllLast before now;
+      conn : Lasts (N.known l.fn.conn).health (N.known l.conn).health;
+      reader : l.reader.0 ≡ l.gate;
+      passes : ArePasses l.gate l.passes.items;
+    }

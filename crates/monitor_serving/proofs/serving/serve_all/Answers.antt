@@ -1,0 +1,65 @@
+use Rattle.monitor_running.specs.Reached.{known}
+use Rattle.monitor_serving.specs.Connections.{place}
+use Rattle.monitor_serving.specs.Views.{Hosts, hosts}
+use Rattle.monitor_serving.proofs.Alone.{serves_on}
+use Rattle.monitor_serving.proofs.Turns.{all_last_on, all_last_self, lasts_on, lasts_self}
+use Rattle.monitor_serving.proofs.serving.serve_all.Goals as goal
+
+pub loop-init : goal.loop-init
+loop-init g c = record {
+  can = tt;
+  finite = tt;
+  on = λ tell tells s first old. old;
+  last = all_last_self (hosts (known (g.T.Trace.known c.args.trace.now) (g.K.Sink.known c.args.sink.now) (g.C.Clock.known c.args.host.now.clock))
+      (g.F.Files.known c.args.files.now));
+  listener = lasts_self (g.M.Listener.known c.args.listener.now).health;
+  passes = c.requires;
+}
+
+pub loop-preserved : goal.loop-preserved
+loop-preserved g c =
+    let M = g.M.Listener in
+    let next = c.serve_next-end in
+    let start : Hosts = hosts (known (g.T.Trace.known c.args.trace.now) (g.K.Sink.known c.args.sink.now) (g.C.Clock.known c.args.host.now.clock))
+    (g.F.Files.known c.args.files.now) in
+    let before : Hosts = hosts (known (g.T.Trace.known c.loop.trace) (g.K.Sink.known c.loop.sink) (g.C.Clock.known c.loop.host.clock))
+    (g.F.Files.known c.loop.files) in
+    let after : Hosts = hosts (known (g.T.Trace.known next.new.trace) (g.K.Sink.known next.new.sink) (g.C.Clock.known next.new.host.clock))
+    (g.F.Files.known next.new.files) in
+    record {
+      can = tt;
+      finite = tt;
+      on = λ tell tells s first old.
+          c.in_default.ensures.goes
+          (record {
+            trace = c.loop.invariant.last.trace.still tell.trace;
+            sink = c.loop.invariant.last.sink.still tell.sink;
+            files = c.loop.invariant.last.files.still tell.files;
+          })
+          (c.loop.invariant.listener.still tells) s first (c.loop.invariant.on tell tells s first old);
+      last = all_last_on start before after c.loop.invariant.last next.ensures.lasts;
+      listener = lasts_on (M.known c.args.listener.now).health (M.known c.loop.listener).health (M.known next.new.listener).health
+          c.loop.invariant.listener next.ensures.listener_lasts;
+      passes = next.ensures.passes;
+    }
+
+pub returns-in-Some-end-clause-serves : goal.returns-in-Some-end-clause-serves
+returns-in-Some-end-clause-serves g c =
+    let M = g.M.Listener in
+    let next = c.serve_next-end in
+    let start : Hosts = hosts (known (g.T.Trace.known c.args.trace.now) (g.K.Sink.known c.args.sink.now) (g.C.Clock.known c.args.host.now.clock))
+    (g.F.Files.known c.args.files.now) in
+    let before : Hosts = hosts (known (g.T.Trace.known c.loop.trace) (g.K.Sink.known c.loop.sink) (g.C.Clock.known c.loop.host.clock))
+    (g.F.Files.known c.loop.files) in
+    let after : Hosts = hosts (known (g.T.Trace.known next.new.trace) (g.K.Sink.known next.new.sink) (g.C.Clock.known next.new.host.clock))
+    (g.F.Files.known next.new.files) in
+    λ tell tells.
+    serves_on (place c.args.monitor.now start (M.known c.args.listener.now)) (place c.loop.monitor before (M.known c.loop.listener))
+    (place next.new.monitor after (M.known next.new.listener)) (c.loop.invariant.on tell tells) c.in-Some-end.end
+    (c.in-Some-end.ensures.goes
+    (record {
+      trace = c.loop.invariant.last.trace.still tell.trace;
+      sink = c.loop.invariant.last.sink.still tell.sink;
+      files = c.loop.invariant.last.files.still tell.files;
+    })
+    (c.loop.invariant.listener.still tells))

@@ -1,0 +1,38 @@
+use Rattle.std.proofs.Common.{Option, subst, sym}
+use Rattle.monitor_running.specs.Reached.{known}
+use Rattle.monitor_serving.specs.declared.served.Served.{Served}
+use Rattle.monitor_serving.specs.Connections.{Goes, Place, Serves, place}
+use Rattle.monitor_serving.specs.Views.{Hosts, hosts}
+use Rattle.monitor_serving.proofs.Alone.{breaks_on_accept, cause_unheard, fresh_of, goes_by, same_place}
+use Rattle.monitor_serving.proofs.serving.serve_next.Goals as goal
+
+pub returns-in-Err-clause-goes : goal.returns-in-Err-clause-goes
+returns-in-Err-clause-goes g c = λ tell tells.
+    breaks_on_accept c.args.monitor.now (g.T.Trace.known c.args.trace.now) (g.K.Sink.known c.args.sink.now) (g.C.Clock.known c.args.host.now.clock)
+    (g.F.Files.known c.args.files.now) (g.M.Listener.known c.args.listener.now) (g.M.Listener.known c.accept.new.self) (c.accept.ensures.same tells)
+
+pub returns-in-Ok-NotYet-clause-cause : goal.returns-in-Ok-NotYet-clause-cause
+returns-in-Ok-NotYet-clause-cause g c =
+    cause_unheard c.run_alone.result
+    (hosts (known (g.T.Trace.known c.args.trace.now) (g.K.Sink.known c.args.sink.now) (g.C.Clock.known c.args.host.now.clock))
+    (g.F.Files.known c.args.files.now))
+    (hosts (known (g.T.Trace.known c.run_alone.new.trace) (g.K.Sink.known c.run_alone.new.sink) (g.C.Clock.known c.run_alone.new.host.clock))
+    (g.F.Files.known c.args.files.now))
+    (g.M.Listener.known c.args.listener.now).health (g.M.Listener.known c.accept.new.self).health c.accept.ensures.called.lasts
+    (c.run_alone.ensures.cause (g.F.Files.known c.args.files.now) (g.M.Listener.known c.args.listener.now).health)
+
+pub returns-in-Ok-Conn-clause-goes : goal.returns-in-Ok-Conn-clause-goes
+returns-in-Ok-Conn-clause-goes g c =
+    let M = g.M.Listener in
+    let one = c.serve_one in
+    let start : Hosts = hosts (known (g.T.Trace.known c.args.trace.now) (g.K.Sink.known c.args.sink.now) (g.C.Clock.known c.args.host.now.clock))
+    (g.F.Files.known c.args.files.now) in
+    let after : Place = place one.new.monitor (hosts (known (g.T.Trace.known one.new.trace) (g.K.Sink.known one.new.sink) (g.C.Clock.known one.new.host.clock))
+    (g.F.Files.known one.new.files)) (M.known one.new.listener) in
+    λ tell tells.
+    subst (λ (end : Option Served). Goes end (place c.args.monitor.now start (M.known c.args.listener.now)) after) (sym c.going.ensures)
+    (goes_by one.result (place c.args.monitor.now start (M.known c.args.listener.now)) after
+    (subst (λ (p : Place). Serves one.result p after)
+    (sym (same_place c.args.monitor.now start (M.known c.args.listener.now) (M.known c.accept.new.self) (c.accept.ensures.same tells)))
+    (one.ensures.serves tell (c.accept.ensures.called.lasts.still tells)
+    (fresh_of g.N.Conn.known c.in-Ok-Conn.field-0 c.in-Ok-Conn.conn c.in-Ok-Conn.field-0-is (c.in-Ok-Conn.ensures.fresh tells)))))

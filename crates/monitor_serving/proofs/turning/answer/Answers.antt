@@ -1,0 +1,12 @@
+use Rattle.monitor_serving.proofs.Answering.{untold}
+use Rattle.monitor_serving.proofs.turning.answer.Goals as goal
+
+pub returns-in_default-clause-answered : goal.returns-in_default-clause-answered
+returns-in_default-clause-answered g c =
+    let T = g.T.Trace.known in
+    let F = g.F.Files.known in
+    let N = g.N.Conn.known in
+    λ sink clock before tell tells gave.
+    untold c.args.monitor.now c.args.monitor.now (T c.args.trace.now) (T c.tell_bytes.new.trace) sink clock (F c.args.files.now)
+    (F c.args.files.now) before (N c.args.conn.now) (N c.args.conn.now) c.args.piece.items gave.came gave.untaken
+    (c.in_default.ensures.untold tell.trace)

@@ -1,0 +1,100 @@
+-- Connections one after another: what each gave and took is what was said on it.
+use Rattle.std.specs.Prelude.{ℕ, ◌≡◌, ◌⊎◌, ◌<◌, true, List, [], ◌∷◌, ◌++◌, Option, Some, None}
+use Rattle.vm_host.specs.Telling.{ClockKnown}
+use Rattle.vm_outside.specs.Known.{Health}
+use Rattle.vm_types.specs.Causes.{Rose}
+use Rattle.vm_types.specs.declared.exit.Object.TheVariants as object
+use Rattle.serve_host.specs.Listening.{Ended, ListenerKnown}
+use Rattle.flat_machine.specs.Machine.{Machine, is_off}
+use Rattle.flat_trace.specs.Showing.{Out, given, replied}
+use Rattle.flat_trace.specs.Showing.Out.{Opened}
+use Rattle.monitor_core.specs.declared.monitor.Monitor.{Monitor}
+use Rattle.monitor_running.specs.Reached.{Reached, Start, seen}
+use Rattle.monitor_serving.specs.declared.served.Served.{Served as End}
+use Rattle.monitor_serving.specs.declared.served.Served.TheVariants as served
+use Rattle.monitor_serving.specs.Turns.{IsTorn}
+use Rattle.monitor_serving.specs.Views.{AreHeard, Hosts, Stands}
+
+-- A connection that is over, as the last of what was said: it gave the bytes that were heard, and behind them the unsaid
+-- ones, and took the replies but for the unsent ones.
+pub record WasSaid (talk before : List Out) (ended : Ended) (unsent unsaid : List ℕ) : Type 0 where
+  pub heard : List Out
+  pub only : AreHeard heard
+  pub is : talk ≡ before ++ (Opened ∷ heard)
+  pub gave : ended.gave ≡ given heard ++ unsaid
+  pub took : ended.took ++ unsent ≡ replied heard
+
+-- All that was said is what these connections, the newest first, gave and took. One on which a call failed may lack an end
+-- of its replies.
+abbrev pub AreTold : List Out → List Ended → Type 0
+AreTold talk [] = talk ≡ []
+AreTold talk (ended ∷ others) =
+    (before : List Out) × (unsent : List ℕ) × WasSaid talk before ended unsent []
+    × ((unsent ≡ []) ⊎ (0 < ended.faults)) × AreTold before others
+
+-- the last of them may lack more: serving broke off in it
+abbrev pub AreToldInPart : List Out → List Ended → Type 0
+AreToldInPart talk [] = talk ≡ []
+AreToldInPart talk (ended ∷ others) =
+    (before : List Out) × (unsent : List ℕ) × (unsaid : List ℕ) × WasSaid talk before ended unsent unsaid
+    × AreTold before others
+
+-- the monitor between two connections, what is known of the host objects, and the connections that are over
+pub record Place : Type 0 where
+  pub monitor : Monitor
+  pub hosts : Hosts
+  pub ended : List Ended
+
+abbrev pub place : Monitor → Hosts → ListenerKnown → Place
+place monitor hosts listener = record { monitor = monitor; hosts = hosts; ended = listener.ended }
+
+-- all that happened since a start, at which these connections were over, is in the trace, and all that it shows was taken
+pub record HasServed (s : Start) (first : List Ended) (now : Place) : Type 0 where
+  pub flat : Machine
+  pub talk : List Out
+  pub since : List Ended
+  pub stands : Stands s now.monitor now.hosts flat talk
+  pub ended : now.ended ≡ since ++ first
+  pub told : AreTold talk since
+
+-- Serving broke off. What the trace took leads to some machine; of what that shows, the sink and the last connection took a
+-- front.
+pub record BrokeOff (s : Start) (first : List Ended) (now : Place) : Type 0 where
+  pub at : Machine
+  pub talk : List Out
+  pub since : List Ended
+  pub clock : ClockKnown
+  pub unshown : List ℕ
+  pub reached : Reached s (record (seen now.hosts.slices) { taken = now.hosts.slices.sink.taken ++ unshown; clock = clock }) at talk
+  pub ended : now.ended ≡ since ++ first
+  pub told : AreToldInPart talk since
+
+abbrev pub Serves : End → Place → Place → Type 0
+Serves served.Ended old new = (s : Start) (first : List Ended) → HasServed s first old → HasServed s first new
+Serves served.Off old new =
+    (s : Start) (first : List Ended) → HasServed s first old → (it : HasServed s first new) × (is_off it.flat ≡ true)
+Serves (served.Torn torn journals histories) old new =
+    IsTorn torn journals.items histories.items
+    × ((s : Start) (first : List Ended) → HasServed s first old → BrokeOff s first new)
+Serves end old new = (s : Start) (first : List Ended) → HasServed s first old → BrokeOff s first new
+
+-- why serving ends: no connection comes any more, the guest is off, or the named object's count rose
+abbrev pub EndCause : End → Hosts → Hosts → Health → Health → Type 0
+EndCause (served.Fault object.Trace) old new before now = Rose old.slices.trace.health.faults new.slices.trace.health.faults
+EndCause (served.Fault object.Sink) old new before now = Rose old.slices.sink.health.faults new.slices.sink.health.faults
+EndCause (served.Fault object.Listener) old new before now = Rose before.faults now.faults
+EndCause (served.Fault other) old new before now = ⊥
+EndCause end old new before now = Unit {0}
+
+-- serving goes on, or has come to an end: that of one connection is none
+abbrev pub going : End → Option End
+going served.Ended = None
+going end = Some end
+
+abbrev pub Goes : Option End → Place → Place → Type 0
+Goes None old new = Serves served.Ended old new
+Goes (Some end) old new = Serves end old new
+
+abbrev pub GoCause : Option End → Hosts → Hosts → Health → Health → Type 0
+GoCause None old new before now = Unit {0}
+GoCause (Some end) old new before now = EndCause end old new before now

@@ -1,0 +1,77 @@
+-- Trace fidelity while a connection is served: what the trace took is a run of the flat machine, which leaves the machine
+-- and shows what the sink and the connection took.
+use Rattle.std.specs.Prelude.{ℕ, ◌≡◌, ◌⊎◌, true, List, [], ◌++◌, Option, Some, None}
+use Rattle.vm_types.specs.Causes.{Rose}
+use Rattle.vm_types.specs.declared.exit.Object.TheVariants as object
+use Rattle.vm_types.specs.declared.torn.Torn.{Torn}
+use Rattle.vm_host.specs.Telling.{ClockKnown}
+use Rattle.stamp_merge.specs.declared.history.History.{History}
+use Rattle.stamp_merge.specs.declared.journal.Journal.{Journal}
+use Rattle.vm_world.specs.Worlds.{WorldValue}
+use Rattle.slice_runner.specs.Slices.{IsTornSlice}
+use Rattle.flat_machine.specs.Machine.{Machine, is_off}
+use Rattle.flat_trace.specs.Showing.{Out}
+use Rattle.monitor_running.specs.Reached.{Reached, Start, seen}
+use Rattle.monitor_serving.specs.declared.served.Served.{Served}
+use Rattle.monitor_serving.specs.declared.served.Served.TheVariants as served
+use Rattle.monitor_serving.specs.Views.{Stands, Talked, View}
+
+-- All that happened since is in the trace, and all that this shows was taken, but for these bytes of replies.
+pub record Continues (s : Start) (old new : View) (talk : List Out) (unsent : List ℕ) : Type 0 where
+  pub flat : Machine
+  pub heard : List Out
+  pub talked : Talked old.conn new.conn heard unsent []
+  pub stands : Stands s new.monitor new.hosts flat (talk ++ heard)
+
+-- Serving broke off. What the trace took leads to some machine, and the clock's answers in it to some clock. Of what that
+-- shows the sink and the connection took a front, and of the bytes that came the trace has a front.
+pub record Broke (s : Start) (old new : View) (talk : List Out) : Type 0 where
+  pub at : Machine
+  pub clock : ClockKnown
+  pub unshown : List ℕ
+  pub heard : List Out
+  pub unsent : List ℕ
+  pub unsaid : List ℕ
+  pub talked : Talked old.conn new.conn heard unsent unsaid
+  pub reached : Reached s (record (seen new.hosts.slices) { taken = new.hosts.slices.sink.taken ++ unshown; clock = clock }) at (talk ++ heard)
+
+-- However the machine got here, and whatever was said before: nothing is missing
+abbrev pub GoesOn : View → View → Type 0
+GoesOn old new =
+    (s : Start) (m : Machine) (talk : List Out) → Stands s old.monitor old.hosts m talk → Continues s old new talk []
+
+-- the connection is over: where a call on it failed, it may lack an end of its replies
+abbrev pub EndsConnection : View → View → Type 0
+EndsConnection old new =
+    (s : Start) (m : Machine) (talk : List Out) → Stands s old.monitor old.hosts m talk
+    → (unsent : List ℕ) × Continues s old new talk unsent
+    × ((unsent ≡ []) ⊎ Rose old.conn.health.faults new.conn.health.faults)
+
+-- the guest turned itself off
+abbrev pub GoesOff : View → View → Type 0
+GoesOff old new =
+    (s : Start) (m : Machine) (talk : List Out) → Stands s old.monitor old.hosts m talk
+    → (on : Continues s old new talk []) × (is_off on.flat ≡ true)
+
+abbrev pub BreaksOff : View → View → Type 0
+BreaksOff old new =
+    (s : Start) (m : Machine) (talk : List Out) → Stands s old.monitor old.hosts m talk → Broke s old new talk
+
+-- the slice whose journals and histories part
+abbrev pub IsTorn : Torn → List Journal → List History → Type 0
+IsTorn torn journals histories = (world : WorldValue) × IsTornSlice world torn journals histories
+
+-- what an end leaves; serving a connection ends by no fault of another object
+abbrev pub ServedAs : Served → View → View → Type 0
+ServedAs served.Ended old new = EndsConnection old new
+ServedAs served.Off old new = GoesOff old new
+ServedAs (served.Fault object.Trace) old new = BreaksOff old new
+ServedAs (served.Fault object.Sink) old new = BreaksOff old new
+ServedAs (served.Fault other) old new = ⊥
+ServedAs (served.Torn torn journals histories) old new = IsTorn torn journals.items histories.items × BreaksOff old new
+ServedAs served.OutOfMemory old new = BreaksOff old new
+
+-- a turn: it goes on, or has come to an end
+abbrev pub TurnedAs : Option Served → View → View → Type 0
+TurnedAs None old new = GoesOn old new
+TurnedAs (Some end) old new = ServedAs end old new

@@ -1,0 +1,57 @@
+-- Where everything is while connections are served.
+use Rattle.std.specs.Prelude.{ℕ, ◌≡◌, List, [], ◌∷◌, ◌++◌}
+use Rattle.vm_outside.specs.Known.{FilesKnown, Lasts, Tells}
+use Rattle.serve_host.specs.Passing.{ConnKnown}
+use Rattle.flat_machine.specs.Machine.{Machine}
+use Rattle.flat_trace.specs.Showing.{Out, given, replied}
+use Rattle.flat_trace.specs.Showing.Out.{Heard}
+use Rattle.monitor_core.specs.declared.monitor.Monitor.{Monitor}
+use Rattle.monitor_core.specs.State.{IsMonitor}
+use Rattle.monitor_running.specs.Reached.{Known, Reached, Start, seen}
+
+-- what is known of the host objects: those of slices, and the files
+pub record Hosts : Type 0 where
+  pub slices : Known
+  pub files : FilesKnown
+
+abbrev pub hosts : Known → FilesKnown → Hosts
+hosts slices files = record { slices = slices; files = files }
+
+-- those that can fail tell their content
+pub record AllTell (hosts : Hosts) : Type 0 where
+  pub trace : Tells hosts.slices.trace.health
+  pub sink : Tells hosts.slices.sink.health
+  pub files : Tells hosts.files.health
+
+-- and last: what told its content still does, and no count has fallen
+pub record AllLast (before now : Hosts) : Type 0 where
+  pub trace : Lasts before.slices.trace.health now.slices.trace.health
+  pub sink : Lasts before.slices.sink.health now.slices.sink.health
+  pub files : Lasts before.files.health now.files.health
+
+-- the monitor, what is known of the host objects, and of the connection that is served
+pub record View : Type 0 where
+  pub monitor : Monitor
+  pub hosts : Hosts
+  pub conn : ConnKnown
+
+abbrev pub view : Monitor → Hosts → ConnKnown → View
+view monitor hosts conn = record { monitor = monitor; hosts = hosts; conn = conn }
+
+-- the monitor is the machine after all that happened since the start, which the trace has
+pub record Stands (s : Start) (monitor : Monitor) (hosts : Hosts) (m : Machine) (talk : List Out) : Type 0 where
+  pub is : IsMonitor monitor hosts.files m
+  pub reached : Reached s (seen hosts.slices) m talk
+
+-- all of it was heard of the connection that is open
+abbrev pub AreHeard : List Out → Type 0
+AreHeard [] = Unit {0}
+AreHeard (Heard bytes responses ∷ outs) = AreHeard outs
+AreHeard (out ∷ outs) = ⊥
+
+-- This was heard of a connection. It gave the bytes, and behind them the unsaid ones; it took the replies, but for the
+-- unsent ones at their end.
+pub record Talked (old new : ConnKnown) (heard : List Out) (unsent unsaid : List ℕ) : Type 0 where
+  pub only : AreHeard heard
+  pub gave : new.gave ≡ old.gave ++ (given heard ++ unsaid)
+  pub took : new.took ++ unsent ≡ old.took ++ replied heard

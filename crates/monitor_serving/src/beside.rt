@@ -1,0 +1,84 @@
+// The reader in a thread of its own, and slices in this one.
+ghost use Rattle.std.specs.Prelude.{◌≡◌, Some, length};
+ghost use Rattle.vm_outside.specs.Known.{Lasts, Tells};
+ghost use Rattle.monitor_machine.specs.State.{IsLive};
+ghost use Rattle.monitor_running.specs.Ran.{Went};
+ghost use Rattle.monitor_running.specs.Reached.{known};
+ghost use Rattle.monitor_serving.specs.Hearing.{HeardCause, HearsBy, IsWithin};
+ghost use Rattle.monitor_serving.specs.Passes.{ArePasses};
+
+use crate::listening::{Heard, listen};
+use monitor_machine::LiveMachine;
+use monitor_running::{Ran, run_while};
+use pause_gate::{FlagGate, Pass};
+use serve_host::{Conn, Trace};
+use std::alloc::Global;
+use std::sync::Wait;
+use std::thread::{Threads, join_mut};
+use vm_host::{Clock, Host};
+use vm_outside::Sink;
+
+/// Slices until something is heard of the connection, or they end by themselves. Whichever ends first closes the gate.
+pub fn run_beside<C: Clock, N: Conn + Send, T: Trace, K: Sink, R: Threads + Wait + Sync>(
+    rt: &R,
+    alloc: Global,
+    gate: &FlagGate,
+    passes: &mut Vec<Pass>,
+    reader: &mut Pass,
+    steps: u32,
+    machine: &mut LiveMachine,
+    host: &mut Host<(), (), (), C>,
+    trace: &mut T,
+    sink: &mut K,
+    conn: &mut N,
+    buf: &mut Vec<u8>,
+) -> (Heard, Ran)
+    requires reader { reader.old.0 ≡ gate.now }
+    requires passes { ArePasses gate.now passes.old.items }
+    ensures heard { Tells (N.known conn.old).health →
+        HearsBy result.0 (N.known conn.old) (N.known conn.new) buf.new.items }
+    ensures within { IsWithin result.0 (length buf.new.items) }
+    ensures took { Tells (N.known conn.old).health → (N.known conn.new).took ≡ (N.known conn.old).took }
+    ensures conn_cause { HeardCause result.0 (N.known conn.old).health.faults (N.known conn.new).health.faults }
+    ensures conn_lasts { Lasts (N.known conn.old).health (N.known conn.new).health }
+    ensures room { length buf.new.items ≡ length buf.old.items }
+    ensures went { Went IsLive (Some result.1)
+        (known (T.known trace.old) (K.known sink.old) (C.known host.old.clock)) machine.old
+        (known (T.known trace.new) (K.known sink.new) (C.known host.new.clock)) machine.new }
+    ensures reader { reader.new.0 ≡ gate.now }
+    ensures passes { ArePasses gate.now passes.new.items }
+{
+    let mut read = || -> Heard
+        requires { reader.now.0 ≡ gate.now }
+        ensures heard { Tells (N.known conn.entry.now).health →
+            HearsBy result (N.known conn.entry.now) (N.known conn.exit.now) buf.exit.now.items }
+        ensures within { IsWithin result (length buf.exit.now.items) }
+        ensures took { Tells (N.known conn.entry.now).health →
+            (N.known conn.exit.now).took ≡ (N.known conn.entry.now).took }
+        ensures cause { HeardCause result
+            (N.known conn.entry.now).health.faults (N.known conn.exit.now).health.faults }
+        ensures lasts { Lasts (N.known conn.entry.now).health (N.known conn.exit.now).health }
+        ensures room { length buf.exit.now.items ≡ length buf.entry.now.items }
+        ensures reader { reader.exit.now.0 ≡ gate.entry.now }
+    {
+        let heard = listen(rt, gate, reader, conn, buf);
+        gate.close(reader);
+        heard
+    };
+    let also_rt = rt;
+    let also_gate = gate;
+    let mut run = || -> Ran
+        requires { ArePasses also_gate.now passes.now.items }
+        ensures went { Went IsLive (Some result)
+            (known (T.known trace.entry.now) (K.known sink.entry.now) (C.known host.entry.now.clock)) machine.entry.now
+            (known (T.known trace.exit.now) (K.known sink.exit.now) (C.known host.exit.now.clock)) machine.exit.now }
+        ensures passes { ArePasses also_gate.entry.now passes.exit.now.items }
+    {
+        let ran = run_while(
+            also_rt, alloc, machine, host, also_gate, passes, steps, trace, sink,
+        );
+        also_gate.close(&mut passes[0]);
+        ran
+    };
+    join_mut(rt, &mut read, &mut run)
+}

@@ -1,0 +1,129 @@
+// One connection, from its first byte to its end.
+ghost use Rattle.std.specs.Prelude.{◌≡◌};
+ghost use Rattle.vm_outside.specs.Known.{Lasts, Tells};
+ghost use Rattle.monitor_serving.specs.Causes.{ServedCause};
+ghost use Rattle.monitor_serving.specs.Passes.{ArePasses};
+ghost use Rattle.monitor_serving.specs.Turns.{ServedAs};
+ghost use Rattle.monitor_running.specs.Reached.{known};
+ghost use Rattle.monitor_serving.specs.Views.{AllLast, AllTell, hosts, view};
+
+use crate::served::Served;
+use crate::turning::turn;
+use monitor_core::Monitor;
+use pause_gate::{FlagGate, Pass};
+use serve_host::{Conn, Trace};
+use std::alloc::Global;
+use std::sync::Wait;
+use std::thread::Threads;
+use vm_host::{Clock, Host};
+use vm_outside::{Files, Sink};
+
+/// A pass for each of 32 harts and the timer, one for who asks before each slice, and one for the reader.
+pub(crate) const PASSES: usize = 35;
+
+// Turns until the connection is over.
+fn serve_turns<C: Clock, N: Conn + Send, F: Files, T: Trace, K: Sink, R: Threads + Wait + Sync>(
+    rt: &R,
+    alloc: Global,
+    gate: &FlagGate,
+    passes: &mut Vec<Pass>,
+    reader: &mut Pass,
+    steps: u32,
+    monitor: &mut Monitor,
+    files: &mut F,
+    host: &mut Host<(), (), (), C>,
+    conn: &mut N,
+    trace: &mut T,
+    sink: &mut K,
+) -> Served
+    requires reader { reader.old.0 ≡ gate.now }
+    requires passes { ArePasses gate.now passes.old.items }
+    ensures served { AllTell (hosts (known (T.known trace.old) (K.known sink.old) (C.known host.old.clock)) (F.known files.old)) →
+        Tells (N.known conn.old).health →
+        ServedAs result
+        (view monitor.old (hosts (known (T.known trace.old) (K.known sink.old) (C.known host.old.clock)) (F.known files.old))
+        (N.known conn.old))
+        (view monitor.new (hosts (known (T.known trace.new) (K.known sink.new) (C.known host.new.clock)) (F.known files.new))
+        (N.known conn.new)) }
+    ensures cause { ServedCause result
+        (view monitor.old (hosts (known (T.known trace.old) (K.known sink.old) (C.known host.old.clock)) (F.known files.old))
+        (N.known conn.old))
+        (view monitor.new (hosts (known (T.known trace.new) (K.known sink.new) (C.known host.new.clock)) (F.known files.new))
+        (N.known conn.new)) }
+    ensures lasts { AllLast
+        (hosts (known (T.known trace.old) (K.known sink.old) (C.known host.old.clock)) (F.known files.old))
+        (hosts (known (T.known trace.new) (K.known sink.new) (C.known host.new.clock)) (F.known files.new)) }
+    ensures conn_lasts { Lasts (N.known conn.old).health (N.known conn.new).health }
+{
+    for _ in rt.forever() {
+        let end = turn(
+            rt, alloc, gate, passes, reader, steps, monitor, files, host, conn, trace, sink,
+        );
+        if let Some(end) = end {
+            return end;
+        }
+    }
+    unreachable!()
+}
+
+/// Serves a connection until it is over or the guest is off, with slices of `steps` steps at most of each actor meanwhile.
+///
+/// What comes goes to the trace before it is answered; all replies to the requests in it are written then. The connection
+/// is over where it was read to its end, where its bytes are no request, which is answered and closes it, and where a call
+/// on it fails. No fault of the files ends it: that is answered 500.
+pub fn serve_connection<
+    C: Clock,
+    N: Conn + Send,
+    F: Files,
+    T: Trace,
+    K: Sink,
+    R: Threads + Wait + Sync,
+>(
+    rt: &R,
+    alloc: Global,
+    steps: u32,
+    monitor: &mut Monitor,
+    files: &mut F,
+    host: &mut Host<(), (), (), C>,
+    conn: &mut N,
+    trace: &mut T,
+    sink: &mut K,
+) -> Served
+    ensures served { AllTell (hosts (known (T.known trace.old) (K.known sink.old) (C.known host.old.clock)) (F.known files.old)) →
+        Tells (N.known conn.old).health →
+        ServedAs result
+        (view monitor.old (hosts (known (T.known trace.old) (K.known sink.old) (C.known host.old.clock)) (F.known files.old))
+        (N.known conn.old))
+        (view monitor.new (hosts (known (T.known trace.new) (K.known sink.new) (C.known host.new.clock)) (F.known files.new))
+        (N.known conn.new)) }
+    ensures cause { ServedCause result
+        (view monitor.old (hosts (known (T.known trace.old) (K.known sink.old) (C.known host.old.clock)) (F.known files.old))
+        (N.known conn.old))
+        (view monitor.new (hosts (known (T.known trace.new) (K.known sink.new) (C.known host.new.clock)) (F.known files.new))
+        (N.known conn.new)) }
+    ensures lasts { AllLast
+        (hosts (known (T.known trace.old) (K.known sink.old) (C.known host.old.clock)) (F.known files.old))
+        (hosts (known (T.known trace.new) (K.known sink.new) (C.known host.new.clock)) (F.known files.new)) }
+    ensures conn_lasts { Lasts (N.known conn.old).health (N.known conn.new).health }
+{
+    let Ok((gate, mut passes)) = FlagGate::new(alloc, PASSES) else {
+        return Served::OutOfMemory;
+    };
+    let Some(mut reader) = passes.pop() else {
+        return Served::OutOfMemory;
+    };
+    serve_turns(
+        rt,
+        alloc,
+        &gate,
+        &mut passes,
+        &mut reader,
+        steps,
+        monitor,
+        files,
+        host,
+        conn,
+        trace,
+        sink,
+    )
+}
