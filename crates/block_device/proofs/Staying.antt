@@ -216,17 +216,17 @@ begins_of : (pages : ℕ) (d : BlockData) → pages < 2 ^ 32 → d.queue.pages �
 begins_of pages d few is =
     subst (λ n. BlockStays n (begins d)) is (begins_stay d.due d (subst (λ n. n < 2 ^ 32) (sym is) few))
 
-wants_inside : (pages : ℕ) (t : Script BlockData) → pages < 2 ^ 32 → BlockStays pages t
+pub wants_inside : (pages : ℕ) (t : Script BlockData) → pages < 2 ^ 32 → BlockStays pages t
     → IsInside pages (wants block_rules t)
 wants_inside pages (Ends d) few s = root_inside pages (begins d) (begins_of pages d few s)
 wants_inside pages (Asks d op on) few s = s.0
 
-step_stays : (pages : ℕ) (t : Script BlockData) (reply : Reply) → pages < 2 ^ 32 → BlockStays pages t
+pub step_stays : (pages : ℕ) (t : Script BlockData) (reply : Reply) → pages < 2 ^ 32 → BlockStays pages t
     → Fits (wants block_rules t) reply → BlockStays pages (stepped block_rules t reply)
 step_stays pages (Ends d) reply few s fit = root_stays pages (begins d) reply (begins_of pages d few s) fit
 step_stays pages (Asks d op on) reply few s fit = s.1 d reply refl fit
 
-change_stays : (pages : ℕ) (t : Script BlockData) (c : Change) → BlockStays pages t
+pub change_stays : (pages : ℕ) (t : Script BlockData) (c : Change) → BlockStays pages t
     → BlockStays pages (changed_at block_rules c t)
 change_stays pages (Ends d) (Sectors n) s = s
 change_stays pages (Asks d op on) (Sectors n) s = s
