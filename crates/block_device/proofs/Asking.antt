@@ -26,31 +26,31 @@ use Rattle.dev_core.proofs.Asking.{walk_asks, collect_all_asks, put_all_asks, re
 use Rattle.block_device.specs.declared.data.BlockData.{BlockData}
 use Rattle.block_device.specs.declared.data.Due.{Due}
 use Rattle.block_device.specs.declared.data.Due.TheVariants as due
-use Rattle.block_device.specs.Service.{Request, service, served_as, status_written, used_of, done_status, io_error, unsupported, ok, units_in, units_out, read_by, done_by, behind_header, behind_unit, is_range, kind_in, kind_out, kind_flush, kind_get_id}
+use Rattle.block_device.specs.Service.{Request, service, served_as, status_written, used_of, done_status, io_error, unsupported, ok, units_in, units_out, unit_written, read_by, done_by, behind_header, behind_unit, is_range, kind_in, kind_out, kind_flush, kind_get_id}
 use Rattle.block_device.specs.Block.{Change, block_rules, begins, begins_at, walk_begun, walked, chain_served, request_served, request_of, chain_returned, given_back, round_broken, round_ended, round_begun, kicked_by, looked, was_reset}
 use Rattle.block_device.specs.Block.Change.{Sectors}
 use Rattle.block_device.specs.Asks.{BlockAsks, IsBlockAct, IsAtPort, LeavesPort}
 
 module _ (port : ℕ) where
   -- a tree of acts that asks for the device's alone, whatever it comes to
-  abbrev Acts : {A : Type 0} → Doing A → Type 0
+  abbrev pub Acts : {A : Type 0} → Doing A → Type 0
   Acts {A = A} t = Keeps (IsBlockAct port) (Any {A = A}) t
 
-  reads : (at len : ℕ) → IsBlockAct port (Read at len)
+  pub reads : (at len : ℕ) → IsBlockAct port (Read at len)
   reads at len = (tt, tt)
 
-  writes : (at : ℕ) (piece : List ℕ) → IsBlockAct port (Write at piece)
+  pub writes : (at : ℕ) (piece : List ℕ) → IsBlockAct port (Write at piece)
   writes at piece = (tt, tt)
 
   acts_if : (test : Bool) (x w : Doing ℕ) → Acts x → Acts w → Acts (if test then x else w)
   acts_if test x w on off = keeps_if (IsBlockAct port) (Any {A = ℕ}) test _ x w refl (λ is. on) (λ is. off)
 
-  acts_then : {A : Type 0} (t : Doing A) (more : A → Doing ℕ) → Acts t → ((a : A) → Acts (more a))
+  pub acts_then : {A : Type 0} (t : Doing A) (more : A → Doing ℕ) → Acts t → ((a : A) → Acts (more a))
       → Acts (and_then t more)
   acts_then {A = A} t more first on =
       keeps_then (IsBlockAct port) (Any {A = A}) (Any {A = ℕ}) t more first (λ a any. on a)
 
-  status_acts : (at status used : ℕ) → Acts (status_written at status used)
+  pub status_acts : (at status used : ℕ) → Acts (status_written at status used)
   status_acts at status used = ((tt, tt), λ reply fit. tt)
 
   read_acts : (reply : Reply) (good : List ℕ → Doing ℕ) (bad : Doing ℕ) → ((piece : List ℕ) → Acts (good piece))
@@ -62,7 +62,7 @@ module _ (port : ℕ) where
   done_acts Done good bad on off = on
   done_acts reply good bad on off = off
 
-  in_acts : (units unit sector : ℕ) (parts : List Part) (at : ℕ) → Acts (units_in units unit sector parts at)
+  pub in_acts : (units unit sector : ℕ) (parts : List Part) (at : ℕ) → Acts (units_in units unit sector parts at)
   in_acts zero unit sector parts at = status_acts at ok (used_of unit)
   in_acts (suc more) unit sector parts at = (
     (refl, refl),
@@ -72,16 +72,17 @@ module _ (port : ℕ) where
         (status_acts at io_error (used_of unit)),
   )
 
-  out_acts : (units unit sector at : ℕ) (got : Got) → Acts (units_out units unit sector at got)
+  pub unit_acts : (unit sector at : ℕ) (on : Got → Doing ℕ) (got : Got) → Acts (on (behind_unit got))
+      → Acts (unit_written unit sector at on got)
+  unit_acts unit sector at on got acts =
+      ((refl, refl), λ reply fit. done_acts reply _ _ acts (status_acts at io_error 1))
+
+  pub out_acts : (units unit sector at : ℕ) (got : Got) → Acts (units_out units unit sector at got)
   out_acts zero unit sector at got = status_acts at ok 1
   out_acts (suc more) unit sector at got =
       acts_then (collect_all (64 - length got.bytes) got.bytes got.parts) _
       (collect_all_asks (IsBlockAct port) reads (64 - length got.bytes) got.bytes got.parts)
-      (λ whole. (
-        (refl, refl),
-        λ reply fit. done_acts reply _ _ (out_acts more (unit + 1) sector at (behind_unit whole))
-            (status_acts at io_error 1),
-      ))
+      (λ whole. unit_acts unit sector at (units_out more (unit + 1) sector at) whole (out_acts more (unit + 1) sector at (behind_unit whole)))
 
   served_acts : (kind sector : ℕ) (r : Request) → Acts (served_as kind sector r)
   served_acts kind sector r =
@@ -109,7 +110,7 @@ module _ (port : ℕ) where
   port_on : (d e f : BlockData) → LeavesPort d e → LeavesPort e f → LeavesPort d f
   port_on d e f first again = again ∙ first
 
-  performs : {A : Type 0} (t : Doing A) (d : BlockData) (more : BlockData → A → Script BlockData) → d.port ≡ port
+  pub performs : {A : Type 0} (t : Doing A) (d : BlockData) (more : BlockData → A → Script BlockData) → d.port ≡ port
       → Acts t → ((e : BlockData) (a : A) → e.port ≡ port → BlockAsks port (more e a))
       → BlockAsks port (perform t d more)
   performs {A = A} t d more is acts on =
@@ -126,12 +127,12 @@ module _ (port : ℕ) where
       performs (broken d.port) d (λ e done. Ends (round_ended e)) is
       (broken_asks (IsBlockAct port) (refl, tt) d.port (is, tt)) (λ e a at. at)
 
-  returned_asks_own : (head : ℕ) (d : BlockData) (len : ℕ) → d.port ≡ port → BlockAsks port (chain_returned head d len)
+  pub returned_asks_own : (head : ℕ) (d : BlockData) (len : ℕ) → d.port ≡ port → BlockAsks port (chain_returned head d len)
   returned_asks_own head d len is =
       performs (returned d.port d.queue d.used head len) d (λ e done. given_back e) is
       (returned_asks (IsBlockAct port) (refl, tt) writes d.port (is, tt) d.queue d.used head len) (λ e a at. at)
 
-  request_asks : (head : ℕ) (parts : List Part) (len : ℕ) (d : BlockData) (got : Got) → d.port ≡ port
+  pub request_asks : (head : ℕ) (parts : List Part) (len : ℕ) (d : BlockData) (got : Got) → d.port ≡ port
       → BlockAsks port (request_served head parts len d got)
   unfolding request_served
   request_asks head parts len d got is =
@@ -149,7 +150,7 @@ module _ (port : ℕ) where
       (collect_all_asks (IsBlockAct port) reads 16 [] (readable parts))
       (λ e got at. request_asks head (writable parts) (total (readable parts)) e got at))
 
-  walked_asks : (d : BlockData) (w : Walk) → d.port ≡ port → BlockAsks port (walked d w)
+  pub walked_asks : (d : BlockData) (w : Walk) → d.port ≡ port → BlockAsks port (walked d w)
   walked_asks d (walk.Chain head parts) is = served_asks head parts (record d { next = (d.next + 1) % 2 ^ 16 }) is
   walked_asks d walk.Empty is = is
   walked_asks d (walk.Broken w) is = broken_asks_own d is

@@ -9,10 +9,13 @@ use Rattle.device_trace.specs.Script.{Script}
 use Rattle.device_trace.specs.States.{stepped}
 use Rattle.vq_split.specs.Inside.{IsInside}
 use Rattle.block_device.specs.declared.data.BlockData.{BlockData}
+use Rattle.block_device.specs.declared.phase.BlockState.{BlockState}
 use Rattle.block_device.specs.Block.{block_rules}
+use Rattle.block_device.specs.States.{block_left}
 use Rattle.block_device.specs.Asks.{BlockAsks}
 use Rattle.block_device.specs.Stays.{BlockStays}
 use Rattle.block_device.proofs.Asking.{wants_own, step_asks, change_asks}
+use Rattle.block_device.proofs.AskingLeft.{kept_asks}
 use Rattle.block_device.proofs.Staying.{wants_inside, step_stays, change_stays}
 use Rattle.guest_devices.specs.Devices.{DeviceLeft, BlockLeft, DeviceChange, BlockChanged, FlatDevice, BlockIs, DeviceLeads, DeviceWants, device_at, device_calls, device_changed, device_did, device_next, device_told, device_wants, new_block_device}
 use Rattle.guest_devices.specs.Sound.{IsSoundDevice, KeepsToItsOwn}
@@ -21,6 +24,10 @@ use Rattle.guest_devices.proofs.Follows.{at_start, did_leads, one_left, told_lea
 pub new_sound : (port pages : ℕ) (id : List ℕ) (sectors : ℕ) (read_only : Bool) → pages < 2 ^ 32
     → IsSoundDevice port pages (new_block_device port pages id sectors read_only)
 new_sound port pages id sectors read_only few = (few, BlockLeft _, refl, (refl, refl))
+
+pub kept_sound : (b : BlockState) → b.facts.queue.pages < 2 ^ 32 → BlockStays b.facts.queue.pages (block_left b)
+    → IsSoundDevice b.facts.port b.facts.queue.pages (device_at (BlockLeft (block_left b)))
+kept_sound b few stays = (few, BlockLeft (block_left b), refl, (kept_asks b, stays))
 
 module _ (port pages : ℕ) (few : pages < 2 ^ 32) where
   step_keeps : (left : DeviceLeft) (reply : Reply) → KeepsToItsOwn port pages left → Fits (device_wants left) reply

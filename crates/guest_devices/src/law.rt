@@ -9,8 +9,11 @@ ghost use Rattle.device_trace.specs.States.{LeadsTo};
 ghost use Rattle.device_trace.specs.Traces.{Continues, Item};
 ghost use Rattle.vq_split.specs.Inside.{IsInside};
 ghost use Rattle.block_device.specs.declared.data.BlockData.{BlockData};
+ghost use Rattle.block_device.specs.declared.phase.BlockState.{BlockState};
 ghost use Rattle.block_device.specs.Block.{Change, block_rules};
-ghost use Rattle.guest_devices.specs.Devices.{BlockIs, DeviceChange, DeviceLeads, DeviceLeft, DeviceWants, FlatDevice};
+ghost use Rattle.block_device.specs.States.{block_left};
+ghost use Rattle.block_device.specs.Stays.{BlockStays};
+ghost use Rattle.guest_devices.specs.Devices.{BlockIs, BlockLeft, DeviceChange, DeviceLeads, DeviceLeft, DeviceWants, FlatDevice};
 ghost use Rattle.guest_devices.specs.Devices.{device_at, device_calls, device_changed, device_did, device_next};
 ghost use Rattle.guest_devices.specs.Devices.{device_told, device_wants, new_block_device};
 ghost use Rattle.guest_devices.specs.Sound.{IsSoundDevice};
@@ -38,7 +41,8 @@ pub fn devices_follow()
 {}
 
 /// A sound device always wants something: an act of its own, inside RAM, and of host objects a call of its own. It is
-/// sound from its start on, with each fitting reply and each change, and where it goes on from what was left of another.
+/// sound from its start on, with each fitting reply and each change, where it goes on from what was left of another, and
+/// where what is kept of it stays inside RAM.
 pub fn sound_devices()
     ensures begins { (port pages : ℕ) (id : List ℕ) (sectors : ℕ) (read_only : Bool) →
         pages < 2 ^ 32 → IsSoundDevice port pages (new_block_device port pages id sectors read_only) }
@@ -49,6 +53,9 @@ pub fn sound_devices()
         IsSoundDevice port pages d → IsSoundDevice port pages (device_told d c) }
     ensures again { (port pages : ℕ) (d : FlatDevice) (left : DeviceLeft) →
         IsSoundDevice port pages d → DeviceLeads d left → IsSoundDevice port pages (device_at left) }
+    ensures kept { (b : BlockState) → b.facts.queue.pages < 2 ^ 32 →
+        BlockStays b.facts.queue.pages (block_left b) →
+        IsSoundDevice b.facts.port b.facts.queue.pages (device_at (BlockLeft (block_left b))) }
     ensures some { (port pages : ℕ) (d : FlatDevice) →
         IsSoundDevice port pages d → (op : Op) × DeviceWants d op }
     ensures own { (port pages : ℕ) (d : FlatDevice) (op : Op) →
