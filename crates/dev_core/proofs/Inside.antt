@@ -4,7 +4,6 @@ use Rattle.std.specs.List.{filter}
 use Rattle.std.proofs.lemmas.List.{length-take-le}
 use Rattle.vm_types.specs.declared.reply.Reply.{Reply}
 use Rattle.vm_types.specs.declared.reply.Reply.TheVariants.{Word}
-use Rattle.device_trace.specs.Doing.{Doing}
 use Rattle.device_trace.specs.Keeps.{Keeps}
 use Rattle.device_trace.proofs.Keeping.{keeps_if}
 use Rattle.vq_split.specs.declared.queue.Queue.{Queue}
@@ -40,7 +39,7 @@ past_if pages n part parts false is few inside short =
       inside.2,
     )
 
-past_inside : (pages n : ℕ) (parts : List Part) → pages < 2 ^ 32 → AreInside pages parts → n ≤ room parts
+pub past_inside : (pages n : ℕ) (parts : List Part) → pages < 2 ^ 32 → AreInside pages parts → n ≤ room parts
     → AreInside pages (past n parts)
 past_inside pages n [] few inside short = tt
 past_inside pages n (part ∷ parts) few inside short = past_if pages n part parts (part.len == n) refl few inside
