@@ -1,5 +1,5 @@
 -- The test of a walk, and what it tests.
-use Rattle.std.proofs.Common.{◌≡◌, ℕ, ◌-◌, ◌+◌, ◌*◌, ◌%◌, ◌^◌, ◌==◌, ◌<◌, ◌≤◌, ◌&&◌, nat_le, nat_lt, refl, Bool, true, false, List, [], ◌∷◌, length, arith}
+use Rattle.std.proofs.Common.{◌≡◌, ℕ, ◌-◌, ◌+◌, ◌*◌, ◌^◌, ◌==◌, ◌<◌, ◌&&◌, nat_le, nat_lt, refl, Bool, true, false, List, [], ◌∷◌, length, arith}
 use Rattle.vq_split.specs.declared.queue.Queue.{Queue}
 use Rattle.vq_split.specs.declared.queue.Part.{Part}
 use Rattle.vq_split.specs.declared.walk.Stage.{Stage}
@@ -8,14 +8,14 @@ use Rattle.vq_split.specs.Chain.{are_tables, is_inside}
 use Rattle.device_trace.specs.Keeps.{Keeps}
 use Rattle.vq_split.specs.Inside.{AreInside, IsInside, WalkInside}
 use Rattle.vq_split.specs.Kept.{IsWalking, are_inside, is_part, is_sound, is_stage, is_walking}
-use Rattle.vq_split.specs.Walking.{AreTables, IsSound, IsStage, Walking, left_at, walk_left}
+use Rattle.vq_split.specs.Walking.{IsSound, IsStage, Walking, left_at, walk_left}
 use Rattle.vq_split.proofs.Inside.{both, descriptors_keep, in_ram, ring_keeps, tables_of, walk_keeps}
 
 pub all : (a b : Bool) → a ≡ true → b ≡ true → (a && b) ≡ true
 all true b one two = two
 all false b one two = cc
 
-is_eq : (n m : ℕ) → n ≡ m → (n == m) ≡ true
+pub is_eq : (n m : ℕ) → n ≡ m → (n == m) ≡ true
 is_eq n m same = grind arith
 
 -- ---- parts

@@ -6,14 +6,14 @@ ghost use Rattle.le_fields.specs.Fields.{field_at};
 ghost use Rattle.vq_split.specs.Chain.{queue_flaw, read_bytes, indexed_by, headed_by, described_by};
 ghost use Rattle.vq_split.specs.declared.walk.Stage.TheVariants.{Index, Ring, Link};
 ghost use Rattle.vq_split.specs.Inside.{WalkInside};
-ghost use Rattle.vq_split.specs.Kept.{IsWalking, walking_from};
+ghost use Rattle.vq_split.specs.Kept.{IsWalking, is_walking, walking_from};
 ghost use Rattle.vq_split.specs.Walking.{IsSound, Told, walk_left, walk_of, walk_wants};
 
 use crate::descriptor::{Descriptor, descriptor_flaw};
 use crate::fields::{read_bytes, value16};
 use crate::flaw::queue_flaw;
-use crate::valid::{are_inside, is_sound, is_stage};
 use crate::queue::{Part, PartList, Queue, Why};
+use crate::valid::{are_inside, is_sound, is_stage};
 use std::marker::Model;
 use std::mem::replace;
 use vm_types::{Op, Reply};
@@ -150,8 +150,10 @@ impl ChainWalk {
     }
 
     /// A walk is one that there is, and always has something left to want.
+    #[tactic(auto, using(crate::proofs::Kept::test_of_walking))]
     pub fn wanting(&self)
         ensures is { IsWalking self.now }
+        ensures test { is_walking self.now ≡ true }
         ensures asked { asked (walk_left self.now) ≡ Some (walk_wants self.now) }
     {
         match self.stage {

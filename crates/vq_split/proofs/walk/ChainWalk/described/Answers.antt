@@ -1,5 +1,5 @@
 -- The part of a descriptor without a flaw is inside RAM, and one that leads on leaves room.
-use Rattle.std.proofs.Common.{◌≡◌, ◌∙◌, ◌<◌, ◌+◌, ◌++◌, ◌∷◌, [], sym, subst, arith, List, None, length, length-append}
+use Rattle.std.proofs.Common.{◌≡◌, ◌∙◌, ◌<◌, ◌∷◌, [], sym, subst, arith, List, None, length, length-append}
 use Rattle.vq_split.specs.declared.queue.Part.{Part}
 use Rattle.vq_split.specs.Chain.{descriptor_flaw}
 use Rattle.vq_split.specs.Inside.{AreInside}
@@ -13,13 +13,12 @@ invariant_of-self-then-has_next c =
     (sym c.descriptor_flaw.ensures ∙ c.in_default.is) in
     let fits = next_fits w.queue w.parts c.args.d none (sym c.has_next.ensures ∙ c.if-has_next.true) in
     let new : Part = record { at = c.args.d.at; len = c.args.d.len; writable = c.is_writable.result } in
-    let longer = length-append w.parts (new ∷ []) in
-    (
+    let longer = length-append w.parts (new ∷ []) in (
       c.self.invariant.0,
       (
         fits.0,
         subst (λ (parts : List Part). length parts < w.queue.size) (sym c.push.ensures) (omega (arith, longer, fits.1)),
       ),
       subst (λ (parts : List Part). AreInside w.queue.pages parts) (sym c.push.ensures)
-      (part_inside w.queue w.parts c.args.d c.is_writable.result none c.self.invariant.2),
+          (part_inside w.queue w.parts c.args.d c.is_writable.result none c.self.invariant.2),
     )
