@@ -1,6 +1,5 @@
 -- What a block device's script touches.
 use Rattle.std.proofs.Common.{◌≡◌, ℕ, zero, suc, ◌+◌, ◌-◌, ◌/◌, ◌%◌, ◌^◌, ◌==◌, ◌<◌, ◌&&◌, ◌||◌, not, nat_lt, refl, sym, ap, ◌∙◌, subst, Bool, true, false, if◌then◌else◌, List, [], ◌∷◌, length, Option, Some, None}
-use Rattle.vm_types.specs.declared.op.Op.{Op}
 use Rattle.vm_types.specs.declared.port_look.PortLook.{PortLook}
 use Rattle.vm_types.specs.declared.reply.Reply.{Reply}
 use Rattle.vm_types.specs.declared.reply.Reply.TheVariants.{Bytes, Done, Port}
@@ -23,18 +22,18 @@ use Rattle.vq_split.specs.Walking.{IsSound}
 use Rattle.vq_split.proofs.Inside.{sound, walk_keeps}
 use Rattle.dev_core.specs.Inside.{Any}
 use Rattle.dev_core.specs.Looks.{is_workable}
-use Rattle.dev_core.specs.Pieces.{Got, total, last_byte, readable, writable, collect_all, put_all}
+use Rattle.dev_core.specs.Pieces.{Got, total, readable, writable, collect_all, put_all}
 use Rattle.dev_core.specs.Returns.{returned, broken}
 use Rattle.dev_core.proofs.Inside.{collect_all_keeps, put_all_keeps, returned_keeps, broken_keeps, filter_inside, status_place}
 use Rattle.block_device.specs.declared.data.BlockData.{BlockData}
 use Rattle.block_device.specs.declared.data.Due.{Due}
 use Rattle.block_device.specs.declared.data.Due.TheVariants as due
 use Rattle.block_device.specs.Service.{Request, service, served_as, status_written, units_in, units_out, read_by, done_by, used_of, done_status, io_error, unsupported, ok, behind_header, behind_unit, is_range, kind_in, kind_out, kind_flush, kind_get_id}
-use Rattle.block_device.specs.Block.{Change, block_rules, begins, begins_at, walk_begun, walked, chain_served, request_served, request_of, chain_returned, given_back, round_broken, round_ended, round_begun, kicked_by, looked, looked_on, was_reset}
+use Rattle.block_device.specs.Block.{Change, block_rules, begins, begins_at, walk_begun, walked, chain_served, request_served, request_of, chain_returned, given_back, round_broken, round_ended, round_begun, kicked_by, looked, was_reset}
 use Rattle.block_device.specs.Block.Change.{Sectors}
 use Rattle.block_device.specs.Stays.{BlockStays, IsOfPages, LeavesQueue}
 
-status_keeps : (pages at status used : ℕ) → is_inside pages at 1 ≡ true
+pub status_keeps : (pages at status used : ℕ) → is_inside pages at 1 ≡ true
     → Keeps (IsInside pages) (Any {A = ℕ}) (status_written at status used)
 status_keeps pages at status used inside = (inside, λ reply fit. tt)
 
@@ -44,13 +43,13 @@ read_keeps : (pages : ℕ) (reply : Reply) (good : List ℕ → Doing ℕ) (bad 
 read_keeps pages (Bytes piece) good bad on off = on piece
 read_keeps pages reply good bad on off = off
 
-done_keeps : (pages : ℕ) (reply : Reply) (good bad : Doing ℕ) → Keeps (IsInside pages) (Any {A = ℕ}) good
+pub done_keeps : (pages : ℕ) (reply : Reply) (good bad : Doing ℕ) → Keeps (IsInside pages) (Any {A = ℕ}) good
     → Keeps (IsInside pages) (Any {A = ℕ}) bad → Keeps (IsInside pages) (Any {A = ℕ}) (done_by reply good bad)
 done_keeps pages Done good bad on off = on
 done_keeps pages reply good bad on off = off
 
 module _ (pages : ℕ) (few : pages < 2 ^ 32) where
-  in_keeps : (units unit sector : ℕ) (parts : List Part) (at : ℕ) → AreInside pages parts
+  pub in_keeps : (units unit sector : ℕ) (parts : List Part) (at : ℕ) → AreInside pages parts
       → is_inside pages at 1 ≡ true → Keeps (IsInside pages) (Any {A = ℕ}) (units_in units unit sector parts at)
   in_keeps zero unit sector parts at inside place = status_keeps pages at ok (used_of unit) place
   in_keeps (suc more) unit sector parts at inside place = (
@@ -63,7 +62,7 @@ module _ (pages : ℕ) (few : pages < 2 ^ 32) where
         (status_keeps pages at io_error (used_of unit) place),
   )
 
-  out_keeps : (units unit sector at : ℕ) (got : Got) → AreInside pages got.parts → is_inside pages at 1 ≡ true
+  pub out_keeps : (units unit sector at : ℕ) (got : Got) → AreInside pages got.parts → is_inside pages at 1 ≡ true
       → Keeps (IsInside pages) (Any {A = ℕ}) (units_out units unit sector at got)
   out_keeps zero unit sector at got inside place = status_keeps pages at ok 1 place
   out_keeps (suc more) unit sector at got inside place =
@@ -110,7 +109,7 @@ same_queue d = refl
 queue_on : (d e f : BlockData) → LeavesQueue d e → LeavesQueue e f → LeavesQueue d f
 queue_on d e f first again = again ∙ first
 
-performs : {A : Type 0} (pages : ℕ) (Q : A → Type 0) (t : Doing A) (d : BlockData) (more : BlockData → A
+pub performs : {A : Type 0} (pages : ℕ) (Q : A → Type 0) (t : Doing A) (d : BlockData) (more : BlockData → A
     → Script BlockData) → Keeps (IsInside pages) Q t
     → ((e : BlockData) (a : A) → e.queue ≡ d.queue → Q a → BlockStays pages (more e a))
     → BlockStays pages (perform t d more)
@@ -130,7 +129,7 @@ broken_stays pages d is =
     performs pages (Any {A = Unit {0}}) (broken d.port) d (λ e done. Ends (round_ended e)) (broken_keeps pages d.port)
     (λ e a same any. pages_of pages d e is same)
 
-chain_returned_stays : (q : Queue) (head : ℕ) (d : BlockData) (len : ℕ) → IsSound q → d.queue ≡ q
+pub chain_returned_stays : (q : Queue) (head : ℕ) (d : BlockData) (len : ℕ) → IsSound q → d.queue ≡ q
     → BlockStays q.pages (chain_returned head d len)
 chain_returned_stays q head d len sound is =
     performs q.pages (Any {A = Unit {0}}) (returned d.port d.queue d.used head len) d (λ e done. given_back e)
@@ -138,7 +137,7 @@ chain_returned_stays q head d len sound is =
     (returned_keeps d.port q d.used head len sound))
     (λ e a same any. ap (λ (z : Queue). z.pages) (same ∙ is))
 
-request_stays : (q : Queue) (head : ℕ) (parts : List Part) (len : ℕ) (d : BlockData) (got : Got) → IsSound q
+pub request_stays : (q : Queue) (head : ℕ) (parts : List Part) (len : ℕ) (d : BlockData) (got : Got) → IsSound q
     → d.queue ≡ q → AreInside q.pages parts → (length parts == 0) ≡ false → AreInside q.pages got.parts
     → BlockStays q.pages (request_served head parts len d got)
 unfolding request_served
@@ -166,7 +165,7 @@ served_stays q head parts d sound is inside =
     (λ e got same from. request_stays q head (writable parts) (total (readable parts)) e got sound (same ∙ is)
     (filter_inside q.pages _ parts inside) (off_right _ _ a) from))
 
-walked_stays : (q : Queue) (d : BlockData) (w : Walk) → IsSound q → d.queue ≡ q → WalkInside q.pages w
+pub walked_stays : (q : Queue) (d : BlockData) (w : Walk) → IsSound q → d.queue ≡ q → WalkInside q.pages w
     → BlockStays q.pages (walked d w)
 walked_stays q d (walk.Chain head parts) sound is inside =
     served_stays q head parts (record d { next = (d.next + 1) % 2 ^ 16 }) sound is inside
@@ -216,22 +215,22 @@ begins_of : (pages : ℕ) (d : BlockData) → pages < 2 ^ 32 → d.queue.pages �
 begins_of pages d few is =
     subst (λ n. BlockStays n (begins d)) is (begins_stay d.due d (subst (λ n. n < 2 ^ 32) (sym is) few))
 
-wants_inside : (pages : ℕ) (t : Script BlockData) → pages < 2 ^ 32 → BlockStays pages t
+pub wants_inside : (pages : ℕ) (t : Script BlockData) → pages < 2 ^ 32 → BlockStays pages t
     → IsInside pages (wants block_rules t)
 wants_inside pages (Ends d) few s = root_inside pages (begins d) (begins_of pages d few s)
 wants_inside pages (Asks d op on) few s = s.0
 
-step_stays : (pages : ℕ) (t : Script BlockData) (reply : Reply) → pages < 2 ^ 32 → BlockStays pages t
+pub step_stays : (pages : ℕ) (t : Script BlockData) (reply : Reply) → pages < 2 ^ 32 → BlockStays pages t
     → Fits (wants block_rules t) reply → BlockStays pages (stepped block_rules t reply)
 step_stays pages (Ends d) reply few s fit = root_stays pages (begins d) reply (begins_of pages d few s) fit
 step_stays pages (Asks d op on) reply few s fit = s.1 d reply refl fit
 
-change_stays : (pages : ℕ) (t : Script BlockData) (c : Change) → BlockStays pages t
+pub change_stays : (pages : ℕ) (t : Script BlockData) (c : Change) → BlockStays pages t
     → BlockStays pages (changed_at block_rules c t)
 change_stays pages (Ends d) (Sectors n) s = s
 change_stays pages (Asks d op on) (Sectors n) s = s
 
-leads_stay : (pages : ℕ) (t : Script BlockData) (items : List (Item Change)) (left : Script BlockData)
+pub leads_stay : (pages : ℕ) (t : Script BlockData) (items : List (Item Change)) (left : Script BlockData)
     → pages < 2 ^ 32 → BlockStays pages t → Leads block_rules t items left → BlockStays pages left
 leads_stay pages t [] left few s leads = subst (λ (x : Script BlockData). BlockStays pages x) leads s
 leads_stay pages t (Did a ∷ items) left few s leads =

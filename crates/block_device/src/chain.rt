@@ -4,11 +4,13 @@ ghost use Rattle.vm_types.specs.Fits.{fits};
 ghost use Rattle.vm_types.specs.declared.op.Op.TheVariants.{Read};
 ghost use Rattle.device_trace.specs.Doing.{led};
 ghost use Rattle.device_trace.specs.Script.{perform};
+ghost use Rattle.vq_split.specs.Chain.{is_inside};
+ghost use Rattle.vq_split.specs.Inside.{AreInside, WalkInside};
 ghost use Rattle.vq_split.specs.Walking.{IsSound};
 ghost use Rattle.dev_core.specs.Collecting.{collect_left};
 ghost use Rattle.dev_core.specs.Pieces.{room, place};
 ghost use Rattle.block_device.specs.Block.{chain_returned, chain_served, request_served, walked};
-ghost use Rattle.block_device.specs.Serving.{IsStage, got_of, serving_left, serving_op};
+ghost use Rattle.block_device.specs.Serving.{ArePlaced, IsStage, got_of, serving_left, serving_op};
 ghost use Rattle.block_device.specs.States.{IsClear, IsPhase, left_at};
 
 use crate::data::BlockData;
@@ -31,6 +33,8 @@ const BROKEN: Phase = Phase::Break {
 fn request(facts: &BlockData, from: &mut Collect, to: &mut Scatter, head: u16, len: u64) -> Phase
     requires sound { IsSound facts.now.queue }
     requires len { len ≤ 2 ^ 40 }
+    requires some { 0 < length to.old }
+    requires placed { ArePlaced facts.now.queue.pages from.old to.old }
     ensures left { left_at result facts.now from.new to.new ≡
         request_served head to.old len facts.now (got_of from.old) }
     ensures phase { IsPhase result facts.now from.new to.new }
@@ -55,6 +59,7 @@ fn served(
 ) -> Phase
     requires sound { IsSound facts.now.queue }
     requires clear { IsClear from.old to.old }
+    requires inside { AreInside facts.now.queue.pages parts.now }
     ensures left { left_at result facts.now from.new to.new ≡ chain_served head parts.now facts.now }
     ensures phase { IsPhase result facts.now from.new to.new }
 {
@@ -78,6 +83,7 @@ fn served(
 pub fn walk_came(facts: &mut BlockData, from: &mut Collect, to: &mut Scatter, came: Walk) -> Phase
     requires sound { IsSound facts.old.queue }
     requires clear { IsClear from.old to.old }
+    requires inside { WalkInside facts.old.queue.pages came }
     ensures left { left_at result facts.new from.new to.new ≡ walked facts.old came }
     ensures phase { IsPhase result facts.new from.new to.new }
 {
@@ -109,6 +115,8 @@ pub fn header_given(
     requires len { len ≤ 2 ^ 40 }
     requires held { length from.old.held < 16 }
     requires room { 0 < room from.old.from }
+    requires some { 0 < length to.old }
+    requires placed { ArePlaced facts.now.queue.pages from.old to.old }
     requires fit { fits (Read (place from.old.from) (room from.old.from)) reply.now ≡ true }
     ensures left { left_at result facts.now from.new to.new ≡
         perform (led (collect_left 16 from.old) reply.now) facts.now (λ e got. request_served head to.old len e got) }
@@ -134,6 +142,8 @@ pub fn service_given(
 ) -> Phase
     requires sound { IsSound facts.now.queue }
     requires stage { IsStage stage from.old to.old }
+    requires place { is_inside facts.now.queue.pages at 1 ≡ true }
+    requires placed { ArePlaced facts.now.queue.pages from.old to.old }
     requires fit { fits (serving_op stage from.old to.old at) reply.now ≡ true }
     ensures left { left_at result facts.now from.new to.new ≡
         perform (led (serving_left stage from.old to.old at) reply.now) facts.now

@@ -4,7 +4,7 @@ ghost use Rattle.device_trace.specs.Doing.{and_then};
 ghost use Rattle.dev_core.specs.Collecting.{nothing};
 ghost use Rattle.dev_core.specs.Pieces.{put_all, share};
 ghost use Rattle.block_device.specs.Service.{id_put, is_range, status_written, units_in, units_out, used_of};
-ghost use Rattle.block_device.specs.Serving.{IsStage, IsWithin, got_of, serving_left};
+ghost use Rattle.block_device.specs.Serving.{IsStage, IsWithin, StayPlaced, got_of, serving_left};
 
 use dev_core::{Collect, Held, Scatter};
 
@@ -52,6 +52,7 @@ pub fn share(held: &Held, to: &Scatter) -> usize
 pub fn ended(from: &mut Collect, to: &mut Scatter, status: u8, used: u32) -> ServiceStage
     ensures left { (at : ℕ) → serving_left result from.new to.new at ≡ status_written at status used }
     ensures stage { IsStage result from.new to.new }
+    ensures placed { StayPlaced from.old to.old from.new to.new }
 {
     from.clear();
     to.clear();
@@ -71,6 +72,7 @@ pub fn read_stage(
     requires clear { from.old ≡ nothing }
     ensures left { (at : ℕ) → serving_left result from.new to.new at ≡ units_in units unit sector to.old at }
     ensures stage { IsStage result from.new to.new }
+    ensures placed { StayPlaced from.old to.old from.new to.new }
 {
     if units == 0 {
         ended(from, to, OK, used_of(unit))
@@ -96,6 +98,7 @@ pub fn put_stage(
     ensures left { (at : ℕ) → serving_left result from.new to.new at ≡
         and_then (put_all from.old.held to.old) (λ left. units_in more (unit + 1) sector left at) }
     ensures stage { IsStage result from.new to.new }
+    ensures placed { StayPlaced from.old to.old from.new to.new }
 {
     if share(&from.held, to) == 0 {
         from.held.clear();
@@ -110,6 +113,7 @@ pub fn id_stage(from: &mut Collect, to: &mut Scatter) -> ServiceStage
     requires { from.old.from ≡ [] }
     ensures left { (at : ℕ) → serving_left result from.new to.new at ≡ id_put from.old.held to.old at }
     ensures stage { IsStage result from.new to.new }
+    ensures placed { StayPlaced from.old to.old from.new to.new }
 {
     if share(&from.held, to) == 0 {
         ended(from, to, OK, 21)
@@ -132,6 +136,7 @@ pub fn collect_stage(
     ensures left { (at : ℕ) → serving_left result from.new to.new at ≡
         units_out units unit sector at (got_of from.old) }
     ensures stage { IsStage result from.new to.new }
+    ensures placed { StayPlaced from.old to.old from.new to.new }
 {
     if units == 0 {
         ended(from, to, OK, 1)

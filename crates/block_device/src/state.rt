@@ -69,7 +69,8 @@ pub fn state_wants(b: &BlockState) -> Op
 
 // The next chain's walk, and a reply to its first act.
 fn walk_begun(b: &mut BlockState, walk: ChainWalk, reply: Reply)
-    requires sound { IsSound b.old.facts.queue }
+    requires queue { walk.queue ≡ b.old.facts.queue }
+    requires number { walk.next ≡ b.old.facts.next }
     requires phase { b.old.phase ≡ Between }
     requires clear { IsClear b.old.from b.old.to }
     requires fit { fits (walk_wants walk) reply ≡ true }
@@ -77,8 +78,12 @@ fn walk_begun(b: &mut BlockState, walk: ChainWalk, reply: Reply)
     ensures state { IsState b.new }
 {
     let mut walk = walk;
+    walk.wanting();
     match walk.give(reply) {
-        Walk::More => b.walk = Some(walk),
+        Walk::More => {
+            walk.wanting();
+            b.walk = Some(walk);
+        }
         came => {
             b.walk = None;
             b.phase = walk_came(&mut b.facts, &mut b.from, &mut b.to, came);
@@ -139,7 +144,7 @@ pub fn state_given(b: &mut BlockState, reply: Reply)
         Some(walk) => {
             walk.wanting();
             match walk.give(reply) {
-                Walk::More => {}
+                Walk::More => walk.wanting(),
                 came => {
                     b.walk = None;
                     b.phase = walk_came(&mut b.facts, &mut b.from, &mut b.to, came);

@@ -4,7 +4,6 @@ use Rattle.std.specs.List.{filter}
 use Rattle.std.proofs.lemmas.List.{length-take-le}
 use Rattle.vm_types.specs.declared.reply.Reply.{Reply}
 use Rattle.vm_types.specs.declared.reply.Reply.TheVariants.{Word}
-use Rattle.device_trace.specs.Doing.{Doing}
 use Rattle.device_trace.specs.Keeps.{Keeps}
 use Rattle.device_trace.proofs.Keeping.{keeps_if}
 use Rattle.vq_split.specs.declared.queue.Queue.{Queue}
@@ -14,7 +13,7 @@ use Rattle.vq_split.specs.Inside.{IsInside, AreInside}
 use Rattle.vq_split.specs.Walking.{IsSound}
 use Rattle.vq_split.proofs.Inside.{in_ram, of_ram}
 use Rattle.dev_core.specs.Pieces.{Got, room, place, past, share, last_byte, collect, collect_all, put, put_all}
-use Rattle.dev_core.specs.Returns.{returned, pair_place, broke, broken}
+use Rattle.dev_core.specs.Returns.{broke, broken, index_written, length_written, pair_place, returned}
 use Rattle.dev_core.specs.Inside.{Any}
 
 -- a piece of the first part is inside
@@ -40,7 +39,7 @@ past_if pages n part parts false is few inside short =
       inside.2,
     )
 
-past_inside : (pages n : ℕ) (parts : List Part) → pages < 2 ^ 32 → AreInside pages parts → n ≤ room parts
+pub past_inside : (pages n : ℕ) (parts : List Part) → pages < 2 ^ 32 → AreInside pages parts → n ≤ room parts
     → AreInside pages (past n parts)
 past_inside pages n [] few inside short = tt
 past_inside pages n (part ∷ parts) few inside short = past_if pages n part parts (part.len == n) refl few inside
@@ -117,24 +116,38 @@ filter_inside pages test (part ∷ parts) inside = kept_if pages (test part) par
     (filter_inside pages test parts inside.2)
 
 -- giving a chain back
+pub index_keeps : (port : ℕ) (q : Queue) (used : ℕ) → IsSound q
+    → Keeps (IsInside q.pages) (Any {A = Unit {0}}) (index_written port q used)
+index_keeps port q used sound =
+    let index = in_ram q.pages (q.used + 2) 2 (omega (arith, sound.tables.used_in))
+    (omega (arith, sound.tables.used_in)) in
+    (index, λ e f. (tt, λ g h. (tt, λ i j. tt)))
+
+pair_low : (q : Queue) (used : ℕ) → IsSound q → 0x80000000 ≤ pair_place q used
+pair_low q used sound = omega (arith, sound.tables.used_in)
+
+pair_high : (q : Queue) (used : ℕ) → IsSound q → pair_place q used + 8 ≤ 0x80000000 + 4096 * q.pages
+pair_high q used sound = omega (arith, sound.tables.used_in, sound.some)
+
+pub length_keeps : (port : ℕ) (q : Queue) (used len : ℕ) → IsSound q
+    → Keeps (IsInside q.pages) (Any {A = Unit {0}}) (length_written port q used len)
+length_keeps port q used len sound = (
+  in_ram q.pages (pair_place q used + 4) 4 (omega (arith, pair_low q used sound))
+      (omega (arith, pair_high q used sound)),
+  λ c d. index_keeps port q used sound,
+)
+
 pub returned_keeps : (port : ℕ) (q : Queue) (used head len : ℕ) → IsSound q
     → Keeps (IsInside q.pages) (Any {A = Unit {0}}) (returned port q used head len)
 returned_keeps port q used head len sound =
-    let low : 0x80000000 ≤ pair_place q used = omega (arith, sound.tables.used_in) in
-    let high : pair_place q used + 8 ≤ 0x80000000 + 4096 * q.pages = omega
-    (arith, sound.tables.used_in, sound.some) in
-    let index = in_ram q.pages (q.used + 2) 2 (omega (arith, sound.tables.used_in))
-    (omega (arith, sound.tables.used_in)) in
+    let low = pair_low q used sound in
+    let high = pair_high q used sound in
     keeps_if (IsInside q.pages) (Any {A = Unit {0}}) (pair_place q used % 4096 == 4092) _ _ _ refl
     (λ cut. (
       in_ram q.pages (pair_place q used) 4 low (omega (arith, high)),
-      λ a b. (
-        in_ram q.pages (pair_place q used + 4) 4 (omega (arith, low)) (omega (arith, high)),
-        λ c d.
-            (index, λ e f. (tt, λ g h. (tt, λ i j. tt))),
-      ),
+      λ a b. length_keeps port q used len sound,
     ))
-    (λ whole. (in_ram q.pages (pair_place q used) 8 low high, λ c d. (index, λ e f. (tt, λ g h. (tt, λ i j. tt)))))
+    (λ whole. (in_ram q.pages (pair_place q used) 8 low high, λ c d. index_keeps port q used sound))
 
 broke_keeps : (pages : ℕ) (reply : Reply) → Keeps (IsInside pages) (Any {A = Unit {0}}) (broke reply)
 broke_keeps pages (Word raised) =

@@ -24,6 +24,8 @@ pub fn pieces_follow()
 /// What is read of parts inside RAM, and written to them, is inside RAM, and so is what is left of them; and giving a
 /// chain of a sound queue back.
 pub fn pieces_stay()
+    ensures past { (pages n : ℕ) (parts : List Part) → pages < 2 ^ 32 → AreInside pages parts → n ≤ room parts →
+        AreInside pages (past n parts) }
     ensures collect { (pages missing : ℕ) (bytes : List ℕ) (parts : List Part) → pages < 2 ^ 32 →
         AreInside pages parts →
         Keeps (IsInside pages) (λ (got : Got). AreInside pages got.parts) (collect_all missing bytes parts) }

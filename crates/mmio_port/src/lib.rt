@@ -8,6 +8,7 @@ mod config;
 mod port;
 mod queues;
 mod registers;
+mod valid;
 mod window;
 
 pub use port::Port;

@@ -1,6 +1,7 @@
 // A port, as a place and as what the machine sets up.
-ghost use Rattle.std.specs.Prelude.{◌≡◌};
+ghost use Rattle.std.specs.Prelude.{◌≡◌, true, if◌then◌else◌, Some, None};
 ghost use Rattle.port_table.specs.Acts as acts;
+ghost use Rattle.port_table.specs.Kept as kept;
 ghost use Rattle.port_table.specs.Ports as ports;
 ghost use Rattle.port_table.specs.Window as window;
 ghost use Rattle.vm_types.specs.declared.ids.ActorId.{ActorId};
@@ -10,6 +11,7 @@ ghost use Rattle.vm_types.specs.declared.reply.Reply.{Reply};
 use crate::config::put_config;
 use crate::queues::{queue_shown, take_kicks};
 use crate::registers::{DRIVER_OK, NEEDS_RESET, as_new, has_bits, port_of};
+use crate::valid::is_state;
 use crate::window::{read_bytes, write_bytes};
 use port_table::{DeviceKind, PORT_SIZE, PortState};
 use std::marker::Model;
@@ -25,11 +27,15 @@ pub struct Port {
 }
 
 impl Model for Port {
+    ghost use Rattle.std.specs.Prelude.{◌≡◌, true};
+    ghost use Rattle.port_table.specs.Kept.{is_state};
     ghost use Rattle.port_table.specs.declared.state.PortState.{PortState};
 
     ghost Value = { PortState };
 
     ghost view = { λ p. p.state };
+
+    ghost invariant = { λ p. is_state p.state ≡ true };
 }
 
 fn is_in_one(at: GuestAddr, len: usize) -> bool
@@ -92,10 +98,25 @@ fn configure(state: &mut PortState, bytes: &[u8])
     state.config_generation = state.config_generation.wrapping_add(1);
 }
 
+fn acted(state: &mut PortState, act: &PortOp) -> Reply
+    ensures reply { result ≡ (acts.port_act state.old act.now).0 }
+    ensures value { state.new ≡ (acts.port_act state.old act.now).1 }
+{
+    match act {
+        PortOp::Look => Reply::Port(look(state)),
+        PortOp::Interrupt { causes } => {
+            interrupt(state, *causes);
+            Reply::Done
+        }
+        PortOp::Break => break_down(state),
+    }
+}
+
 impl Port {
     /// The port of a device as a machine starts with it: it offers these features, with VIRTIO_F_VERSION_1 among them,
     /// and these bytes are the first of its configuration, the others 0. Of more bytes than such a device has the first
     /// ones count.
+    #[tactic(auto, using(port_table::proofs::Kept::new_kept))]
     pub fn new(kind: DeviceKind, offered: u64, config: &[u8]) -> Port
         ensures { result ≡ ports.new_port kind offered config.now }
     {
@@ -106,41 +127,41 @@ impl Port {
         }
     }
 
-    /// The port that has this state.
-    pub fn from_state(state: PortState) -> Port
-        ensures { result ≡ state }
+    /// The port that is in this state, where one may be in it.
+    pub fn from_state(state: PortState) -> Option<Port>
+        ensures { result ≡ (if kept.is_state state then Some state else None) }
     {
-        Port { state }
+        if is_state(&state) {
+            Some(Port { state })
+        } else {
+            None
+        }
     }
 
-    /// What it keeps.
-    pub fn state(&self) -> PortState
-        ensures { result ≡ self.now }
+    /// What it keeps, which is a state that it may be in.
+    pub fn state(&self) -> &PortState
+        ensures state { result.now ≡ self.now }
+        ensures is { kept.is_state self.now ≡ true }
     {
-        self.state
+        &self.state
     }
 
     /// These bytes become the first of the configuration, and the driver is told: InterruptStatus has a configuration
     /// change, and ConfigGeneration is one higher, modulo 2^32. Of more bytes than such a device has the first ones
     /// count.
+    #[tactic(auto, using(port_table::proofs::Kept::configured_kept))]
     pub fn configure(&mut self, config: &[u8])
         ensures { self.new ≡ acts.configured self.old config.now }
     {
         configure(&mut self.state, config);
     }
 
+    #[tactic(auto, using(port_table::proofs::Kept::act_kept))]
     fn port_act(&mut self, act: &PortOp) -> Reply
         ensures reply { result ≡ (acts.port_act self.old act.now).0 }
         ensures value { self.new ≡ (acts.port_act self.old act.now).1 }
     {
-        match act {
-            PortOp::Look => Reply::Port(look(&mut self.state)),
-            PortOp::Interrupt { causes } => {
-                interrupt(&mut self.state, *causes);
-                Reply::Done
-            }
-            PortOp::Break => break_down(&mut self.state),
-        }
+        acted(&mut self.state, act)
     }
 
     fn read(&self, at: GuestAddr, len: usize) -> Reply
@@ -153,6 +174,7 @@ impl Port {
         }
     }
 
+    #[tactic(auto, using(port_table::proofs::Kept::bytes_kept))]
     fn write(&mut self, at: GuestAddr, piece: &Piece) -> Reply
         ensures reply { result ≡ (acts.touch self.old ActorId.Timer (ops.Write at piece.now)).0 }
         ensures value { self.new ≡ (acts.touch self.old ActorId.Timer (ops.Write at piece.now)).1 }

@@ -1,6 +1,7 @@
 pub mod Access
 pub mod Acts
 pub mod Fitting
+pub mod Kept
 pub mod Kinds
 pub mod Ports
 pub mod Registers

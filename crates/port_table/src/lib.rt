@@ -5,11 +5,13 @@
 #![tactic(auto)]
 
 mod kind;
+mod law;
 mod register;
 mod state;
 mod window;
 
 pub use kind::{DeviceKind, Feature};
+pub use law::port_kept;
 pub use register::{Register, register_at};
 pub use state::{PortQueue, PortState};
 pub use window::{PORT_SIZE, PORTS_START, port_at};

@@ -1,3 +1,4 @@
 pub mod Chain
 pub mod Inside
+pub mod Kept
 pub mod Walking

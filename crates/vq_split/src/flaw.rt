@@ -20,7 +20,8 @@ fn is_size(size: u16) -> bool
         || size == 256
 }
 
-fn are_tables(queue: &Queue) -> bool
+/// Whether the three tables are aligned and inside RAM.
+pub fn are_tables(queue: &Queue) -> bool
     requires { queue.now.size ≤ 256 }
     ensures test { result ≡ are_tables queue.now }
     ensures tables { result ≡ true → AreTables queue.now }

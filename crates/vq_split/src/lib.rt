@@ -9,11 +9,13 @@ mod fields;
 mod flaw;
 mod law;
 mod queue;
+mod valid;
 mod walk;
 
 pub use descriptor::Descriptor;
 pub use fields::{is_inside, read_bytes, value16, value32, value64};
 pub use flaw::queue_flaw;
-pub use law::walk_stays;
+pub use law::{walk_kept, walk_stays};
 pub use queue::{Part, PartList, Queue, Why};
-pub use walk::{ChainWalk, Walk};
+pub use valid::{are_inside, is_sound};
+pub use walk::{ChainWalk, Stage, Walk};

@@ -1,5 +1,5 @@
 // A queue, and the parts of a chain.
-ghost use Rattle.std.specs.Prelude.{◌≡◌, ◌≤◌, ◌<◌, ◌++◌, ◌∷◌, length, [], slice_set};
+ghost use Rattle.std.specs.Prelude.{◌≡◌, ◌≤◌, ◌<◌, ◌++◌, ◌∷◌, length, [], slice_set, nat_le, if◌then◌else◌, Some, None};
 
 use std::marker::Model;
 
@@ -77,6 +77,26 @@ impl PartList {
             parts: [none; 256],
             len: 0,
         }
+    }
+
+    /// These parts. None where there are more than 256.
+    pub fn copy_of(parts: &[Part]) -> Option<PartList>
+        ensures { result ≡ (if nat_le (length parts.now) 256 then Some parts.now else None) }
+    {
+        if parts.len() > 256 {
+            return None;
+        }
+        let none = Part {
+            at: 0,
+            len: 0,
+            writable: false,
+        };
+        let mut list = [none; 256];
+        list[..parts.len()].copy_from_slice(parts);
+        Some(PartList {
+            parts: list,
+            len: parts.len(),
+        })
     }
 
     /// No part any more.

@@ -1,6 +1,9 @@
 -- Each is a lemma on the tree.
-use Rattle.dev_core.proofs.Inside.{collect_all_keeps, put_all_keeps, returned_keeps, broken_keeps}
+use Rattle.dev_core.proofs.Inside.{broken_keeps, collect_all_keeps, past_inside, put_all_keeps, returned_keeps}
 use Rattle.dev_core.proofs.law.pieces_stay.Goals as goal
+
+pub returns-clause-past : goal.returns-clause-past
+returns-clause-past c = past_inside
 
 pub returns-clause-collect : goal.returns-clause-collect
 returns-clause-collect c = collect_all_keeps

@@ -1,0 +1,67 @@
+-- The devices of a guest, by kind: what each has still to do, and the device in the flat machine.
+use Rattle.std.specs.Prelude.{ℕ, ◌≡◌, Bool, false, List, [], ◌∷◌, ◌++◌}
+use Rattle.std.proofs.Common.{ap}
+use Rattle.vm_types.specs.declared.op.Op.{Op}
+use Rattle.vm_types.specs.declared.op.OutOp.{OutOp}
+use Rattle.vm_types.specs.declared.reply.Reply.{Reply}
+use Rattle.vm_types.specs.declared.entry.Step.{Step}
+use Rattle.vm_types.specs.Fits.{fits}
+use Rattle.device_trace.specs.Acts.{is_disk_call}
+use Rattle.device_trace.specs.Script.{Script, Ends}
+use Rattle.device_trace.specs.Traces.{Item, Did, Changed}
+use Rattle.device_trace.specs.States.{wants, next, leaves, changed_at, Leads}
+use Rattle.block_device.specs.declared.data.BlockData.{BlockData}
+use Rattle.block_device.specs.Block.{Change, block_rules, new_block}
+
+-- what a device has still to do
+pub data DeviceLeft : Type 0 where
+  BlockLeft : Script BlockData → DeviceLeft
+
+-- what the API changes of a device
+pub data DeviceChange : Type 0 where
+  BlockChanged : Change → DeviceChange
+
+abbrev pub device_wants : DeviceLeft → Op
+device_wants (BlockLeft t) = wants block_rules t
+
+-- a reply that doesn't fit leaves it
+abbrev pub device_next : DeviceLeft → Reply → DeviceLeft
+device_next (BlockLeft t) reply = BlockLeft (next block_rules t reply)
+
+pub device_leaves : (left : DeviceLeft) (reply : Reply) → fits (device_wants left) reply ≡ false
+    → device_next left reply ≡ left
+device_leaves (BlockLeft t) reply unfit = ap BlockLeft (leaves block_rules t reply unfit)
+
+abbrev pub device_changed : DeviceChange → DeviceLeft → DeviceLeft
+device_changed (BlockChanged c) (BlockLeft t) = BlockLeft (changed_at block_rules c t)
+
+-- a device in the flat machine: what it had still to do where its items begin, and its items since
+pub data FlatDevice : Type 0 where
+  BlockIs : Script BlockData → List (Item Change) → FlatDevice
+
+-- its items lead to this
+abbrev pub DeviceLeads : FlatDevice → DeviceLeft → Type 0
+DeviceLeads (BlockIs start items) (BlockLeft t) = Leads block_rules start items t
+
+-- one act more, one change more
+abbrev pub device_did : FlatDevice → Step → FlatDevice
+device_did (BlockIs start items) s = BlockIs start (items ++ Did s ∷ [])
+
+abbrev pub device_told : FlatDevice → DeviceChange → FlatDevice
+device_told (BlockIs start items) (BlockChanged c) = BlockIs start (items ++ Changed c ∷ [])
+
+-- a device wants the act of what is left where its items lead
+abbrev pub DeviceWants : FlatDevice → Op → Type 0
+DeviceWants d op = (left : DeviceLeft) × DeviceLeads d left × (op ≡ device_wants left)
+
+-- a device whose items begin where this is still to be done
+abbrev pub device_at : DeviceLeft → FlatDevice
+device_at (BlockLeft t) = BlockIs t []
+
+-- the block device of this port that has done nothing, in a guest of so many pages
+abbrev pub new_block_device : ℕ → ℕ → List ℕ → ℕ → Bool → FlatDevice
+new_block_device port pages id sectors read_only = device_at (BlockLeft (Ends (new_block port pages id sectors read_only)))
+
+-- the calls of a device's host object
+abbrev pub device_calls : FlatDevice → OutOp → Bool
+device_calls (BlockIs start items) = is_disk_call

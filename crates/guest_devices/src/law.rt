@@ -1,0 +1,67 @@
+// What holds of every device of a guest.
+ghost use Rattle.std.specs.Prelude.{◌≡◌, ◌<◌, ◌^◌, ◌++◌, ℕ, Bool, List};
+ghost use Rattle.vm_types.specs.declared.entry.Step.{Step};
+ghost use Rattle.vm_types.specs.declared.op.Op.{Op};
+ghost use Rattle.vm_types.specs.Fits.{Fits};
+ghost use Rattle.device_trace.specs.Acts.{AsksOnly, IsOwnAct};
+ghost use Rattle.device_trace.specs.Script.{Script};
+ghost use Rattle.device_trace.specs.States.{LeadsTo};
+ghost use Rattle.device_trace.specs.Traces.{Continues, Item};
+ghost use Rattle.vq_split.specs.Inside.{IsInside};
+ghost use Rattle.block_device.specs.declared.data.BlockData.{BlockData};
+ghost use Rattle.block_device.specs.declared.phase.BlockState.{BlockState};
+ghost use Rattle.block_device.specs.Block.{Change, block_rules};
+ghost use Rattle.block_device.specs.States.{block_left};
+ghost use Rattle.block_device.specs.Stays.{BlockStays};
+ghost use Rattle.guest_devices.specs.Devices.{BlockIs, BlockLeft, DeviceChange, DeviceLeads, DeviceLeft, DeviceWants, FlatDevice};
+ghost use Rattle.guest_devices.specs.Devices.{device_at, device_calls, device_changed, device_did, device_next};
+ghost use Rattle.guest_devices.specs.Devices.{device_told, device_wants, new_block_device};
+ghost use Rattle.guest_devices.specs.Sound.{IsSoundDevice};
+
+/// The items of a device lead to one thing that is still to be done. With a step of the act that it wants, or with a
+/// change, they lead to what comes next. Where a block device begins where a trace led, it wants the one act that
+/// continues this trace with its items.
+pub fn devices_follow()
+    ensures begins { (left : DeviceLeft) → DeviceLeads (device_at left) left }
+    ensures one { (d : FlatDevice) (left other : DeviceLeft) →
+        DeviceLeads d left → DeviceLeads d other → left ≡ other }
+    ensures only { (d : FlatDevice) (left : DeviceLeft) (op : Op) →
+        DeviceLeads d left → DeviceWants d op → op ≡ device_wants left }
+    ensures goes_on { (d : FlatDevice) (left : DeviceLeft) (s : Step) →
+        DeviceLeads d left → s.op ≡ device_wants left → Fits s.op s.reply →
+        DeviceLeads (device_did d s) (device_next left s.reply) }
+    ensures change { (d : FlatDevice) (left : DeviceLeft) (c : DeviceChange) →
+        DeviceLeads d left → DeviceLeads (device_told d c) (device_changed c left) }
+    ensures continues { (first : BlockData) (before items : List (Item Change)) (start : Script BlockData) (op : Op) →
+        LeadsTo block_rules first before start → DeviceWants (BlockIs start items) op →
+        Continues block_rules first (before ++ items) op }
+    ensures wanted { (first : BlockData) (before items : List (Item Change)) (start : Script BlockData) (op : Op) →
+        LeadsTo block_rules first before start → Continues block_rules first (before ++ items) op →
+        DeviceWants (BlockIs start items) op }
+{}
+
+/// A sound device always wants something: an act of its own, inside RAM, and of host objects a call of its own. It is
+/// sound from its start on, with each fitting reply and each change, where it goes on from what was left of another, and
+/// where what is kept of it stays inside RAM.
+pub fn sound_devices()
+    ensures begins { (port pages : ℕ) (id : List ℕ) (sectors : ℕ) (read_only : Bool) →
+        pages < 2 ^ 32 → IsSoundDevice port pages (new_block_device port pages id sectors read_only) }
+    ensures stays { (port pages : ℕ) (d : FlatDevice) (s : Step) →
+        IsSoundDevice port pages d → DeviceWants d s.op → Fits s.op s.reply →
+        IsSoundDevice port pages (device_did d s) }
+    ensures told { (port pages : ℕ) (d : FlatDevice) (c : DeviceChange) →
+        IsSoundDevice port pages d → IsSoundDevice port pages (device_told d c) }
+    ensures again { (port pages : ℕ) (d : FlatDevice) (left : DeviceLeft) →
+        IsSoundDevice port pages d → DeviceLeads d left → IsSoundDevice port pages (device_at left) }
+    ensures kept { (b : BlockState) → b.facts.queue.pages < 2 ^ 32 →
+        BlockStays b.facts.queue.pages (block_left b) →
+        IsSoundDevice b.facts.port b.facts.queue.pages (device_at (BlockLeft (block_left b))) }
+    ensures some { (port pages : ℕ) (d : FlatDevice) →
+        IsSoundDevice port pages d → (op : Op) × DeviceWants d op }
+    ensures own { (port pages : ℕ) (d : FlatDevice) (op : Op) →
+        IsSoundDevice port pages d → DeviceWants d op → IsOwnAct port op }
+    ensures inside { (port pages : ℕ) (d : FlatDevice) (op : Op) →
+        IsSoundDevice port pages d → DeviceWants d op → IsInside pages op }
+    ensures host { (port pages : ℕ) (d : FlatDevice) (op : Op) →
+        IsSoundDevice port pages d → DeviceWants d op → AsksOnly (device_calls d) op }
+{}

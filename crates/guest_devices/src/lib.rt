@@ -1,0 +1,14 @@
+//! The devices of a guest, by kind.
+//!
+//! `specs/Devices.antt` says what a device of any kind has still to do, and what it is in the flat machine:
+//! `devices_follow` and `sound_devices` have what holds of it. `Device` is the actor, and `want_of_device` and
+//! `give_device` are what is asked of one of several.
+#![tactic(auto)]
+
+mod device;
+mod law;
+mod several;
+
+pub use device::Device;
+pub use law::{devices_follow, sound_devices};
+pub use several::{give_device, want_of_device};
