@@ -15,9 +15,11 @@ use Rattle.guest_pages.proofs.Here.{here, size_of_pages, page_at, pages_set}
 use Rattle.guest_pages.proofs.Staying.{page_stays}
 use Rattle.guest_pages.proofs.Touching.{Touches, touches}
 
-pub page_made : (number : ℕ) (bytes : List ℕ) → bytes ≡ replicate 4096 0 → ◌≡◌ {A = PageValue} (record { number = number; bytes = bytes; reserved = replicate 32 None; marked = false }) (new_page number)
+pub page_made : (number : ℕ) (bytes : List ℕ) (reserved : List (Option ℕ)) → bytes ≡ replicate 4096 0
+    → reserved ≡ replicate 32 None
+    → ◌≡◌ {A = PageValue} (record { number = number; bytes = bytes; reserved = reserved; marked = false }) (new_page number)
 unfolding unreserved
-page_made number bytes e = λ i. record { number = number; bytes = e i; reserved = replicate 32 None; marked = false }
+page_made number bytes reserved e r = λ i. record { number = number; bytes = e i; reserved = r i; marked = false }
 
 one_more : (n : ℕ) → suc (n + 1) ≡ suc n + 1
 one_more n = omega arith

@@ -19,15 +19,22 @@ use std::alloc::{AllocError, Global};
 use std::marker::Model;
 use vm_types::{ActorId, AmoKind, GuestAddr, Op, Piece, Place, Reply};
 
+// The bytes, and for each hart what it has reserved of them.
+#[derive(Drop)]
+struct Held {
+    bytes: [u8; 4096],
+    reserved: [Option<u16>; 32],
+}
+
 /// 4,096 bytes, for each hart what it has reserved of them, and a mark that a write sets.
 ///
-/// `holders` is how many harts have reserved something here, mostly none: a write tests it before it looks at harts.
+/// A page is moved under a lock and back for each slice, so what is large of it lies in a box. `holders` is how many harts
+/// have reserved something here, mostly none: a write tests it before it looks at harts.
 #[derive(Drop)]
 pub struct Page {
-    bytes: Box<[u8; 4096]>,
+    held: Box<Held>,
     number: u32,
-    holders: usize,
-    reserved: [Option<u16>; 32],
+    holders: u32,
     marked: bool,
 }
 
@@ -38,10 +45,16 @@ impl Model for Page {
 
     ghost Value = { PageValue };
 
-    ghost view = { λ p. record { number = p.number; bytes = p.bytes.value; reserved = p.reserved; marked = p.marked } };
+    ghost view = { λ p. record {
+      number = p.number;
+      bytes = p.held.value.bytes;
+      reserved = p.held.value.reserved;
+      marked = p.marked;
+    } };
 
     ghost invariant = { λ p.
-        (length p.bytes.value ≡ 4096) × (length p.reserved ≡ 32) × (p.holders ≡ count_by is_some p.reserved) };
+        (length p.held.value.bytes ≡ 4096) × (length p.held.value.reserved ≡ 32)
+        × (p.holders ≡ count_by is_some p.held.value.reserved) };
 }
 
 impl Page {
@@ -49,12 +62,11 @@ impl Page {
     pub fn new(alloc: Global, number: u32) -> Result<Page, AllocError>
         ensures { IfOk result (λ page. page ≡ new_page number) }
     {
-        let bytes = zeros(alloc)?;
+        let held = nothing_held(alloc)?;
         Ok(Page {
-            bytes,
+            held,
             number,
             holders: 0,
-            reserved: [None; 32],
             marked: false,
         })
     }
@@ -70,7 +82,7 @@ impl Page {
         ensures bytes { result.now ≡ self.now.bytes }
         ensures size { length result.now ≡ 4096 }
     {
-        let bytes: &[u8; 4096] = &self.bytes;
+        let bytes: &[u8; 4096] = &self.held.bytes;
         bytes
     }
 
@@ -92,7 +104,7 @@ impl Page {
         requires { length bytes.now ≡ 4096 }
         ensures { self.new ≡ filled bytes.now self.old }
     {
-        let held: &mut [u8; 4096] = &mut self.bytes;
+        let held: &mut [u8; 4096] = &mut self.held.bytes;
         held.copy_from_slice(bytes);
     }
 
@@ -101,7 +113,7 @@ impl Page {
         requires { offset + length piece.now ≤ 4096 }
         ensures { self.new ≡ patched offset piece.now self.old }
     {
-        let bytes: &mut [u8; 4096] = &mut self.bytes;
+        let bytes: &mut [u8; 4096] = &mut self.held.bytes;
         put(bytes, offset, piece);
     }
 
@@ -110,7 +122,7 @@ impl Page {
         ensures slots { result.now ≡ self.now.reserved }
         ensures harts { length result.now ≡ 32 }
     {
-        &self.reserved
+        &self.held.reserved
     }
 
     /// The hart has the granule at this offset reserved, and what it had here before is gone. This marks nothing.
@@ -120,24 +132,30 @@ impl Page {
         requires granule { offset % 8 ≡ 0 }
         ensures { self.new ≡ page_holding hart offset self.old }
     {
-        self.reserved[hart as usize] = Some(offset);
-        self.holders = count_holders(&self.reserved);
+        self.held.reserved[hart as usize] = Some(offset);
+        self.holders = count_holders(&self.held.reserved);
     }
 }
 
-fn zeros(alloc: Global) -> Result<Box<[u8; 4096]>, AllocError>
-    ensures { IfOk result (λ bytes. bytes.value ≡ replicate 4096 0) }
+fn nothing_held(alloc: Global) -> Result<Box<Held>, AllocError>
+    ensures bytes { IfOk result (λ held. held.value.bytes ≡ replicate 4096 0) }
+    ensures reserved { IfOk result (λ held. held.value.reserved ≡ replicate 32 None) }
 {
-    let Ok(bytes) = Box::new(alloc, [0; 4096]) else {
+    let held = Held {
+        bytes: [0; 4096],
+        reserved: [None; 32],
+    };
+    let Ok(held) = Box::new(alloc, held) else {
         return Err(AllocError);
     };
-    Ok(bytes)
+    Ok(held)
 }
 
-fn count_holders(reserved: &[Option<u16>]) -> usize
+fn count_holders(reserved: &[Option<u16>]) -> u32
+    requires { length reserved.now ≡ 32 }
     ensures { result ≡ count_by is_some reserved.now }
 {
-    reserved.iter().filter(|held| held.is_some()).count()
+    reserved.iter().filter(|held| held.is_some()).count() as u32
 }
 
 // Ends what the write of another reaches, and answers how many harts have something reserved then. It is rare.
@@ -148,7 +166,7 @@ fn end_reserved(
     writer: ActorId,
     at: GuestAddr,
     len: usize,
-) -> usize
+) -> u32
     requires slots { length reserved.old ≡ 32 }
     ensures ended { reserved.new ≡ slots_after writer at len (32 * number) reserved.old }
     ensures count { result ≡ count_by is_some reserved.new }
@@ -181,14 +199,14 @@ impl Page {
         ensures { result ≡ page_read self.now at len }
     {
         let offset = (at - page_start(self.number)) as usize;
-        Piece::from_slice(&self.bytes[offset..offset + len])
+        Piece::from_slice(&self.held.bytes[offset..offset + len])
     }
 
     fn word(&self, at: GuestAddr, wide: bool) -> u64
         requires { is_within self.now.number 4096 at (width_of wide) ≡ true }
         ensures { result ≡ page_word self.now at wide }
     {
-        let bytes: &[u8; 4096] = &self.bytes;
+        let bytes: &[u8; 4096] = &self.held.bytes;
         word_at(bytes, (at - page_start(self.number)) as usize, wide)
     }
 
@@ -204,7 +222,7 @@ impl Page {
         if self.holders == 0 {
             return;
         }
-        self.holders = end_reserved(&mut self.reserved, self.number, writer, at, len);
+        self.holders = end_reserved(&mut self.held.reserved, self.number, writer, at, len);
     }
 
     // Writes these bytes, which are the page's, and marks it.
@@ -214,7 +232,7 @@ impl Page {
     {
         self.begin_write(writer, at, piece.len());
         let offset = (at - page_start(self.number)) as usize;
-        let bytes: &mut [u8; 4096] = &mut self.bytes;
+        let bytes: &mut [u8; 4096] = &mut self.held.bytes;
         put(bytes, offset, piece);
     }
 
@@ -224,7 +242,7 @@ impl Page {
         requires { is_within self.now.number 4096 at (width_bytes width) ≡ true }
         ensures { bytes_of (width_bytes width) result ≡ page_read self.now at (width_bytes width) }
     {
-        let bytes: &[u8; 4096] = &self.bytes;
+        let bytes: &[u8; 4096] = &self.held.bytes;
         word_in(bytes, (at - page_start(self.number)) as usize, width)
     }
 
@@ -236,15 +254,15 @@ impl Page {
     {
         self.begin_write(writer, at, width.bytes());
         let offset = (at - page_start(self.number)) as usize;
-        let bytes: &mut [u8; 4096] = &mut self.bytes;
+        let bytes: &mut [u8; 4096] = &mut self.held.bytes;
         put_word(bytes, offset, word, width);
     }
 
     fn reserve(&mut self, actor: ActorId, held: Option<u16>)
         ensures { self.new ≡ page_reserving self.old actor held }
     {
-        hold(&mut self.reserved, 0, actor, held);
-        self.holders = count_holders(&self.reserved);
+        hold(&mut self.held.reserved, 0, actor, held);
+        self.holders = count_holders(&self.held.reserved);
     }
 
     fn atomic_operation(
@@ -286,7 +304,7 @@ impl Page {
         if !is_within(self.number, at, width_of(wide)) {
             return Reply::AccessFault;
         }
-        if !is_granule(granule_of(at), held_by(&self.reserved, 0, actor)) {
+        if !is_granule(granule_of(at), held_by(&self.held.reserved, 0, actor)) {
             self.reserve(actor, None);
             return Reply::Word(1);
         }

@@ -9,7 +9,7 @@ use Rattle.timer_trace.specs.States.{timer_wants, wants_by}
 use Rattle.timer_trace.specs.Traces.{advance, ask}
 use Rattle.timer_trace.specs.declared.timer.Timer.{Timer}
 use Rattle.flat_guest.specs.Body.{out_reply}
-use Rattle.vm_host.specs.Telling.{AreNext, ClockKnown, Gives, Tells, later}
+use Rattle.vm_host.specs.Telling.{AreNext, ClockKnown, Gives, later}
 use Rattle.slice_runner.specs.Runs.{HasAnswered, IsAsked}
 use Rattle.slice_runner.specs.Slices.{answer_in, answers_of}
 use Rattle.slice_runner.specs.Values.{route_among}
@@ -23,11 +23,11 @@ answers_more [] e = refl
 answers_more (d ∷ es) e =
     ap (answer_in d.op d.reply) (answers_more es e) ∙ in_more d.op d.reply (answers_of es) (answer_in e.op e.reply [])
 
-nil_more : (xs : List ℕ) → xs ++ [] ≡ xs
+pub nil_more : (xs : List ℕ) → xs ++ [] ≡ xs
 nil_more [] = refl
 nil_more (x ∷ xs) = ap (λ (ys : List ℕ). x ∷ ys) (nil_more xs)
 
-next_more : (left mid now : ℕ → ℕ) (answers : List ℕ) (answer : ℕ) → AreNext left answers mid → answer ≡ mid 0
+pub next_more : (left mid now : ℕ → ℕ) (answers : List ℕ) (answer : ℕ) → AreNext left answers mid → answer ≡ mid 0
     → now ≡ later mid → AreNext left (answers ++ answer ∷ []) now
 next_more left mid now [] answer are is rest =
     (is ∙ ap (λ (f : ℕ → ℕ). f 0) are, rest ∙ ap later are)

@@ -1,14 +1,12 @@
 -- The journals of a slice: each is its actor's, follows its wants, and is stamped.
 use Rattle.std.proofs.Common.{◌≡◌, ℕ, zero, suc, ◌+◌, ◌<◌, ◌==◌, Bool, true, false, cond, refl, sym, ap, ◌∙◌, subst, arith}
-use Rattle.std.proofs.Common.{List, [], ◌∷◌, ◌++◌, length, map, get_or, slice_get, Option, Some, None}
+use Rattle.std.proofs.Common.{List, [], ◌∷◌, ◌++◌, length, map, slice_get, Some}
 use Rattle.std.proofs.lemmas.Bool.{eq-eqb, ne_eqb}
 use Rattle.std.specs.List.{AllByRecursion}
 use Rattle.vm_types.specs.declared.entry.Entry.{Entry}
 use Rattle.vm_types.specs.declared.ids.ActorId.{ActorId}
-use Rattle.vm_types.specs.declared.op.Op.{Op}
-use Rattle.vm_types.specs.declared.reply.Reply.{Reply}
 use Rattle.vm_types.specs.Ids.{same_actor}
-use Rattle.vm_types.specs.Serial.{Follows, IsPlaced, OutFits, Placed}
+use Rattle.vm_types.specs.Serial.{Follows, IsPlaced, OutFits}
 use Rattle.hart_trace.specs.States.{Hart, fresh, hart_next, hart_wants}
 use Rattle.hart_trace.specs.Stopped.{stopped_regs}
 use Rattle.timer_trace.specs.declared.timer.Timer.{Timer}
@@ -22,7 +20,7 @@ use Rattle.slice_runner.specs.declared.worker.HartWorker.{HartWorker}
 use Rattle.slice_runner.specs.declared.worker.TimerWorker.{TimerWorker}
 use Rattle.slice_runner.specs.Runs.{HasRun}
 use Rattle.slice_runner.specs.Staff.{harts_of, journals_from}
-use Rattle.slice_runner.specs.Values.{ActorState, HartIs, TimerIs, actor_among, actor_next, actor_wants, hart_or_none, route_among}
+use Rattle.slice_runner.specs.Values.{HartIs, TimerIs, actor_among, actor_next, actor_wants, hart_or_none, route_among}
 use Rattle.slice_runner.proofs.Stepping.{IsThere}
 
 abbrev pub Journals : Type 0

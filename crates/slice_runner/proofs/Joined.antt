@@ -1,6 +1,6 @@
 -- Actors that go to work are ready, and what they leave has room.
-use Rattle.std.proofs.Common.{◌≡◌, ℕ, zero, suc, ◌+◌, ◌*◌, ◌<◌, ◌≤◌, refl, sym, ap, ◌∙◌, subst, arith, All}
-use Rattle.std.proofs.Common.{List, [], ◌∷◌, ◌++◌, length, map, get_or, slice_index_or, length-append}
+use Rattle.std.proofs.Common.{◌≡◌, ℕ, suc, ◌+◌, ◌*◌, ◌<◌, ◌≤◌, refl, sym, ap, ◌∙◌, subst, arith, All, le_trans}
+use Rattle.std.proofs.Common.{List, [], ◌∷◌, ◌++◌, length, map, slice_index_or, length-append}
 use Rattle.std.specs.List.{AllByRecursion}
 use Rattle.std.proofs.lemmas.List.Elements.{All-from_recursion, recursion_from_All}
 use Rattle.vm_types.specs.declared.entry.Entry.{Entry}
@@ -17,7 +17,9 @@ use Rattle.slice_runner.specs.declared.worker.HartWorker.{HartWorker}
 use Rattle.slice_runner.specs.declared.worker.TimerWorker.{TimerWorker}
 use Rattle.slice_runner.specs.Runs.{Begins, HartEnds, HartsWorked, IsReady, TimerEnds}
 use Rattle.slice_runner.specs.Staff.{AreBack, AreStaffed, passes_of}
-use Rattle.slice_runner.proofs.Crew.{harts_journals, journals_are, slice_journals}
+use Rattle.slice_runner.specs.Stops.{timer_most}
+use Rattle.std.proofs.Math.Nat.{min-le_left}
+use Rattle.slice_runner.proofs.Crew.{harts_journals, journals_are}
 
 parts_of : {A : Type 0} (P : A → Type 0) (xs ys : List A) → AllByRecursion P (xs ++ ys) → AllByRecursion P xs × AllByRecursion P ys
 parts_of P [] ys h = (tt, h)
@@ -93,7 +95,7 @@ module _ {Q : Type 0} (serves : Q → Type 0) (tally : Q → Tally) (count n : �
       omega (arith, most, rest, whole, product)
 
   module _ (asked now : ClockKnown) (t u : TimerWorker Q) (ws vs : List (HartWorker Q)) (left : List Q) (harts : List Hart)
-      (later : List Q) (journals : List Journal) (stops : List Stopped) (timer_ends : TimerEnds serves tally count n asked now t u)
+      (later : List Q) (journals : List Journal) (stops : List Stopped) (timer_ends : TimerEnds serves tally count (timer_most n) asked now t u)
       (worked : HartsWorked serves tally count n ws vs) (back : AreBack u vs left harts later journals stops) where
     pub back_served : AllByRecursion serves left → All serves later
     back_served served =
@@ -114,7 +116,7 @@ module _ {Q : Type 0} (serves : Q → Type 0) (tally : Q → Tally) (count n : �
         let is = ap (λ (l : List Journal). length (all_of (journals_of l))) back.journals_are
         ∙ ap (λ (l : List (ActorId × List Entry)). length (all_of l)) (journals_are u vs) in
         let whole = length-append u.track.journal.items (all_of (harts_journals vs)) in
-        let most = timer_ends.worked.cause.most in
+        let most : length u.track.journal.items ≤ n = le_trans timer_ends.worked.cause.most (min-le_left n 2) in
         let rest = bound_by ws vs worked.same worked.each in
         let product : (length ws + 1) * n ≡ n + length ws * n = one_more_of (length ws) in
         omega (arith, is, whole, most, rest, product)

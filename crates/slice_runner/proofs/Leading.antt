@@ -1,11 +1,10 @@
 -- Entries that are fresh lead from a world to another.
-use Rattle.std.proofs.Common.{◌≡◌, ℕ, zero, suc, ◌+◌, ◌<◌, ◌≤◌, true, false, refl, sym, ap, ◌∙◌, subst, arith}
-use Rattle.std.proofs.Common.{List, [], ◌∷◌, ◌++◌, length, get_or}
+use Rattle.std.proofs.Common.{◌≡◌, ℕ, suc, false, refl, sym, ap, ◌∙◌, subst, arith}
+use Rattle.std.proofs.Common.{List, [], ◌∷◌, length, get_or}
 use Rattle.std.specs.List.{AllByRecursion}
 use Rattle.vm_types.specs.declared.entry.Entry.{Entry}
 use Rattle.vm_types.specs.declared.ids.ActorId.{ActorId}
 use Rattle.vm_types.specs.declared.ids.PlaceId.{PlaceId}
-use Rattle.vm_types.specs.declared.op.Op.{Op}
 use Rattle.vm_types.specs.Ids.{is_out}
 use Rattle.vm_types.specs.Serial.{IsFresh, OutFits, put_actor, states_end, vals_end}
 use Rattle.board_table.specs.Board.{Board}
@@ -14,11 +13,10 @@ use Rattle.guest_pages.specs.Pages.{PageValue, new_page}
 use Rattle.hart_trace.specs.States.{Hart, fresh}
 use Rattle.hart_trace.specs.Stopped.{stopped_regs}
 use Rattle.timer_trace.specs.declared.timer.Timer.{Timer}
-use Rattle.flat_guest.specs.Guest.{Guest}
 use Rattle.flat_guest.specs.Steps.{guest_after, written_after}
-use Rattle.vm_world.specs.Worlds.{IsWorld, WorldValue, world_with}
+use Rattle.vm_world.specs.Worlds.{WorldValue}
 use Rattle.slice_runner.specs.Slices.{IsSerial, MarksFollow}
-use Rattle.slice_runner.specs.Values.{ActorState, BoardHolds, HartIs, PageHolds, PlaceValue, TimerIs, actor_next, actor_wants, actors_of, hart_or_none, page_or_none, place_touch, places_of, route_among}
+use Rattle.slice_runner.specs.Values.{ActorState, BoardHolds, HartIs, PageHolds, PlaceValue, TimerIs, actor_next, actor_wants, actors_of, place_touch, places_of, route_among}
 use Rattle.slice_runner.proofs.Stepping.{IsThere, StepsOn, steps_on, world_after}
 
 -- the entries lead from the world to one that has these values and states

@@ -1,28 +1,22 @@
 -- What came back from under the locks: the histories replay from how the places stood.
-use Rattle.std.proofs.Common.{◌≡◌, ◌≢◌, ℕ, zero, suc, ◌+◌, ◌<◌, ◌≤◌, ◌==◌, nat_lt, Bool, true, false, cond, refl, sym, ap, ◌∙◌, subst, arith, All}
-use Rattle.std.proofs.Common.{List, [], ◌∷◌, ◌++◌, length, get_or, slice_index_or, length-append}
-use Rattle.std.proofs.lemmas.Bool.{eq-eqb, ne_eqb, eqb-true}
-use Rattle.std.proofs.lemmas.List.Elements.{recursion_from_All}
+use Rattle.std.proofs.Common.{◌≡◌, ℕ, zero, suc, ◌+◌, ◌<◌, Bool, true, false, cond, refl, sym, ap, ◌∙◌, subst, arith}
+use Rattle.std.proofs.Common.{List, [], ◌∷◌, ◌++◌, length, get_or, slice_index_or}
+use Rattle.std.proofs.lemmas.Bool.{eq-eqb, ne_eqb}
 use Rattle.std.specs.List.{AllByRecursion}
 use Rattle.vm_types.specs.declared.entry.Entry.{Entry}
-use Rattle.vm_types.specs.declared.ids.ActorId.{ActorId}
 use Rattle.vm_types.specs.declared.ids.PlaceId.{PlaceId}
-use Rattle.vm_types.specs.declared.op.Op.{Op}
-use Rattle.vm_types.specs.declared.reply.Reply.{Reply}
 use Rattle.vm_types.specs.Histories.{Replays, Rises}
 use Rattle.vm_types.specs.Ids.{is_out, same_place}
 use Rattle.board_table.specs.Acts as board
 use Rattle.board_table.specs.Board.{Board}
-use Rattle.guest_pages.specs.Flat.{ArePages, IsPage}
 use Rattle.guest_pages.specs.Pages.{PageValue, new_page, page_touch}
 use Rattle.place_locks.specs.Held.{IsHistory}
 use Rattle.stamp_merge.specs.declared.history.History.{History}
-use Rattle.stamp_merge.specs.declared.layout.Layout.{Layout}
 use Rattle.stamp_merge.specs.Legal.{AreReplayed}
-use Rattle.stamp_merge.specs.Parts.{Agree, AllOwn, AreLaid, history_at, place_index}
+use Rattle.stamp_merge.specs.Parts.{AreLaid, history_at, place_index}
 use Rattle.stamp_merge.specs.Stamps.{AreRising}
 use Rattle.slice_runner.specs.Locks.{AreHome, AreOpen, IsBoardHome, IsHome}
-use Rattle.slice_runner.specs.Values.{BoardHolds, PageHolds, PlaceValue, page_or_none, place_among, place_touch}
+use Rattle.slice_runner.specs.Values.{BoardHolds, PageHolds, page_or_none, place_among, place_touch}
 
 -- pages and their histories, from this number on
 abbrev pub Homes : (PlaceId → PageValue) → ℕ → List PageValue → List History → Type 0

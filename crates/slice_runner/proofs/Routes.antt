@@ -1,5 +1,5 @@
 -- Where ops act, among so many pages.
-use Rattle.std.proofs.Common.{◌≡◌, ℕ, ◌+◌, ◌*◌, ◌-◌, ◌/◌, ◌%◌, ◌<◌, ◌≤◌, nat_le, max, Bool, true, false, cond, ◌&&◌, refl, sym, ap, ◌∙◌, subst, arith, length}
+use Rattle.std.proofs.Common.{◌≡◌, ℕ, ◌+◌, ◌*◌, ◌-◌, ◌/◌, ◌%◌, ◌<◌, nat_le, max, Bool, true, false, cond, ◌&&◌, refl, sym, ap, ◌∙◌, subst, arith, length}
 use Rattle.std.proofs.Common.{◌⊎◌, inl, inr, Option, Some, None, IfOk, Result, Ok, Err}
 use Rattle.std.specs.declared.alloc.AllocError.{AllocError}
 use Rattle.vm_types.specs.declared.entry.Entry.{Entry}
@@ -18,7 +18,7 @@ use Rattle.guest_memory.specs.Route.{access_place, page_of}
 use Rattle.guest_memory.specs.Words.{width_of}
 use Rattle.guest_pages.proofs.Here.{here}
 use Rattle.hart_trace.specs.Asks.{is_port_op}
-use Rattle.flat_guest.specs.Places.{are_registers, is_register_access, place_of, without_devices}
+use Rattle.flat_guest.specs.Places.{are_registers}
 use Rattle.vm_world.proofs.Events.{place_access}
 use Rattle.slice_runner.specs.Values.{route_among}
 

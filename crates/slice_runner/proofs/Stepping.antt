@@ -1,19 +1,16 @@
 -- One entry is one step of the flat machine.
-use Rattle.std.proofs.Common.{◌≡◌, ℕ, zero, suc, ◌+◌, ◌*◌, ◌<◌, ◌==◌, nat_lt, Bool, true, false, cond, ◌||◌, MatchBool, refl, sym, ap, ◌∙◌, subst, arith}
-use Rattle.std.proofs.Common.{List, [], ◌∷◌, ◌++◌, length, get_or, set, slice_get, slice_set, Option, Some, None}
+use Rattle.std.proofs.Common.{◌≡◌, ℕ, zero, suc, ◌<◌, ◌==◌, Bool, true, false, cond, MatchBool, refl, sym, ap, ◌∙◌, subst, arith}
+use Rattle.std.proofs.Common.{List, [], ◌∷◌, length, get_or, set, slice_get, Option, Some, None}
 use Rattle.std.proofs.lemmas.List.{get_or_default, length-set}
-use Rattle.std.proofs.lemmas.Bool.{eqb-true, eqb-false, eq-eqb, ne_eqb}
+use Rattle.std.proofs.lemmas.Bool.{eqb-true, eqb-false}
 use Rattle.vm_types.specs.declared.entry.Entry.{Entry}
 use Rattle.vm_types.specs.declared.ids.ActorId.{ActorId}
 use Rattle.vm_types.specs.declared.ids.PlaceId.{PlaceId}
 use Rattle.vm_types.specs.declared.op.Op.{Op}
-use Rattle.vm_types.specs.declared.op.OutOp.{OutOp}
 use Rattle.vm_types.specs.declared.reply.Reply.{Reply}
-use Rattle.vm_types.specs.Ids.{is_out, same_actor, same_place}
-use Rattle.vm_types.specs.Serial.{IsReplied, OutFits, put_actor, put_place, vals_after}
+use Rattle.vm_types.specs.Ids.{is_out}
+use Rattle.vm_types.specs.Serial.{IsReplied, OutFits, put_actor, vals_after}
 use Rattle.board_table.specs.Acts as board
-use Rattle.board_table.specs.Board.{Board}
-use Rattle.guest_memory.specs.Memory as memory
 use Rattle.guest_pages.specs.Flat.{ArePages}
 use Rattle.guest_pages.specs.Marks.{AreMarks, marks_after}
 use Rattle.guest_pages.specs.Pages.{PageValue, flat_of, marks_of, new_page, page_touch}
@@ -21,22 +18,19 @@ use Rattle.guest_pages.proofs.Here.{size_of_pages}
 use Rattle.guest_pages.proofs.Marking.{acted_marks}
 use Rattle.guest_pages.proofs.Sets.{act_memory, act_reply, act_stays}
 use Rattle.hart_trace.specs.Asks.{is_port_op}
-use Rattle.hart_trace.specs.States.{Hart, fresh, hart_next, hart_wants}
-use Rattle.timer_trace.specs.declared.timer.Timer.{Timer}
-use Rattle.timer_trace.specs.States.{timer_next, timer_wants}
-use Rattle.flat_guest.specs.Body.{harts_after, out_reply, reply_at, timer_after, want_of, with_reply}
-use Rattle.rv_supervisor.specs.declared.regs.Regs.{Regs}
+use Rattle.hart_trace.specs.States.{Hart, fresh, hart_next}
+use Rattle.flat_guest.specs.Body.{harts_after, out_reply, timer_after, want_of, with_reply}
 use Rattle.hart_trace.specs.Stopped.{stopped_regs}
 use Rattle.flat_guest.specs.Guest.{Guest}
 use Rattle.flat_guest.specs.Places.{place_of, without_devices}
-use Rattle.flat_guest.specs.Steps.{FlatStep, board_after, guest_after, is_given, memory_after, written_after}
+use Rattle.flat_guest.specs.Steps.{FlatStep, board_after, guest_after, is_given, written_after}
 use Rattle.flat_guest.proofs.Acting as acting
 use Rattle.flat_guest.proofs.Marked.{marks_on}
 use Rattle.flat_guest.proofs.Stepping.{entry_of}
 use Rattle.vm_world.specs.Worlds.{IsWorld, MakesEvent, WorldValue, place_in, want_in}
 use Rattle.vm_world.proofs.Events.{event_made, place_access}
 use Rattle.slice_runner.specs.Slices.{event_of, given_of}
-use Rattle.slice_runner.specs.Values.{ActorState, BoardHolds, HartIs, PageHolds, PlaceValue, TimerIs, actor_next, actor_wants, actors_of, hart_or_none, page_at, page_or_none, place_touch, places_of, route_among}
+use Rattle.slice_runner.specs.Values.{HartIs, PageHolds, actor_next, actor_wants, actors_of, hart_or_none, page_or_none, place_touch, places_of, route_among}
 use Rattle.slice_runner.proofs.Routes.{never_port, page_there}
 
 -- the pages after an act at a place

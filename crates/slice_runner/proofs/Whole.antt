@@ -1,14 +1,14 @@
 -- A slice, from what its actors did and what came back from under the locks.
-use Rattle.std.proofs.Common.{◌≡◌, ℕ, zero, suc, ◌+◌, ◌<◌, ◌≤◌, true, false, refl, sym, ap, ◌∙◌, subst, arith, All}
-use Rattle.std.proofs.Common.{List, [], ◌∷◌, ◌++◌, length, map, get_or, slice_get, slice_index_or, Option, Some, None}
+use Rattle.std.proofs.Common.{◌≡◌, ℕ, zero, suc, ◌+◌, ◌<◌, refl, sym, ap, ◌∙◌, subst, arith}
+use Rattle.std.proofs.Common.{List, [], ◌∷◌, ◌++◌, length, map, slice_get, slice_index_or, Some}
 use Rattle.std.specs.List.{AllByRecursion}
-use Rattle.std.proofs.lemmas.List.Elements.{All-append, All-from_recursion, recursion_from_All}
+use Rattle.std.proofs.lemmas.List.Elements.{All-from_recursion, recursion_from_All}
 use Rattle.std.proofs.lemmas.List.Sorted.{All-permutation}
 use Rattle.vm_types.specs.declared.entry.Entry.{Entry}
 use Rattle.vm_types.specs.declared.ids.ActorId.{ActorId}
 use Rattle.vm_types.specs.declared.ids.PlaceId.{PlaceId}
 use Rattle.vm_types.specs.declared.torn.Torn.{Torn}
-use Rattle.vm_types.specs.Ids.{is_out, of_actor}
+use Rattle.vm_types.specs.Ids.{of_actor}
 use Rattle.vm_types.specs.Serial.{OutFits}
 use Rattle.board_table.specs.Acts as board
 use Rattle.board_table.specs.Board.{Board}
@@ -19,7 +19,6 @@ use Rattle.hart_trace.specs.States.{Hart, hart_next, hart_wants}
 use Rattle.timer_trace.specs.declared.timer.Timer.{Timer}
 use Rattle.timer_trace.specs.States.{timer_next, timer_wants}
 use Rattle.flat_guest.specs.Body.{want_of}
-use Rattle.flat_guest.specs.Guest.{Guest}
 use Rattle.pause_gate.specs.Tally.{Tally}
 use Rattle.stamp_merge.specs.declared.history.History.{History}
 use Rattle.stamp_merge.specs.declared.journal.Journal.{Journal}
@@ -30,18 +29,18 @@ use Rattle.stamp_merge.specs.Order.{IsOrder}
 use Rattle.stamp_merge.specs.Parts.{Agree, IsTorn}
 use Rattle.stamp_merge.proofs.Legal.{parts_run, to_journal}
 use Rattle.stamp_merge.proofs.Stamps.{stamps_run}
-use Rattle.vm_host.specs.Telling.{AreNext, ClockKnown, Tells}
-use Rattle.vm_world.specs.Worlds.{IsWorld, WorldValue, want_in, world_with}
+use Rattle.vm_host.specs.Telling.{AreNext, ClockKnown}
+use Rattle.vm_world.specs.Worlds.{WorldValue, want_in, world_with}
 use Rattle.slice_runner.specs.declared.stop.Stopped.{Stopped}
 use Rattle.slice_runner.specs.declared.worker.HartWorker.{HartWorker}
 use Rattle.slice_runner.specs.declared.worker.TimerWorker.{TimerWorker}
 use Rattle.slice_runner.specs.Locks.{AreHome, AreOpen, IsBoardHome}
 use Rattle.slice_runner.specs.Runs.{HartEnds, HartsWorked, HasRun, TimerEnds}
 use Rattle.slice_runner.specs.Slices.{IsSerial, IsSlice, IsTornSlice, MarksFollow, ReplaysFrom, answers_of}
-use Rattle.slice_runner.specs.Staff.{AreBack, AreNumbered, AreStaffed, harts_of, journals_from, passes_of, stop_of, stops_from}
-use Rattle.slice_runner.specs.Stops.{AreStopped, HasCause, IsStopped}
+use Rattle.slice_runner.specs.Staff.{AreBack, AreNumbered, AreStaffed, harts_of, passes_of, stop_of, stops_from}
+use Rattle.slice_runner.specs.Stops.{HasCause, IsStopped, timer_most}
 use Rattle.slice_runner.specs.Values.{actor_next, actor_wants, actors_of, page_at, place_touch, places_of, route_among}
-use Rattle.slice_runner.proofs.Crew.{Crew, are_followed, are_stamped, are_there, at_other, at_timer, climbs_from, harts_journals, journal_there, journals_are, slice_journals}
+use Rattle.slice_runner.proofs.Crew.{Crew, are_followed, are_stamped, are_there, at_other, at_timer, harts_journals, journal_there, journals_are, slice_journals}
 use Rattle.slice_runner.proofs.Leading.{Reaches, reaches, same_world}
 use Rattle.slice_runner.proofs.Returned.{Homes, homes, replayed, rising}
 use Rattle.slice_runner.proofs.Stepping.{IsThere}
@@ -113,7 +112,7 @@ module _ {Q : Type 0} (serves : Q → Type 0) (tally : Q → Tally) (n : ℕ) (a
     (journals : List Journal) (stops : List Stopped) (events : List Entry) (are : ArePages 0 old.pages)
     (begun : AreOpen opening old.pages) (board_same : (p : PlaceId) → board_opening p ≡ old.board)
     (staffed : AreStaffed n old.timer old.harts passes t ws left)
-    (timer_ends : TimerEnds serves tally (length old.pages) n asked now t u)
+    (timer_ends : TimerEnds serves tally (length old.pages) (timer_most n) asked now t u)
     (worked : HartsWorked serves tally (length old.pages) n ws vs) (back : AreBack u vs left harts later journals stops)
     (home : AreHome opening (length old.pages) pages hs) (board_home : IsBoardHome board_opening b hb)
     (order : IsOrder (all_of (journals_of journals)) events) where
@@ -234,9 +233,9 @@ module _ {Q : Type 0} (serves : Q → Type 0) (tally : Q → Tally) (n : ℕ) (a
           want = timer_wants u.timer;
           wants = ap (λ (a : ActorId). want_in new a) actor;
           cause = rw (ap (λ (a : ActorId). of_actor a events) actor ∙ timers)
-              (subst (λ (x : Stopped). HasCause n x.stop u.track.journal.items (timer_wants u.timer) (tally p) (tally q)) s_is
-              (subst (λ (x : Q). HasCause n u.track.stop u.track.journal.items (timer_wants u.timer) (tally x) (tally q)) p_is
-              (subst (λ (x : Q). HasCause n u.track.stop u.track.journal.items (timer_wants u.timer) (tally t.track.pass) (tally x)) q_is timer_ends.worked.cause)));
+              (subst (λ (x : Stopped). HasCause (timer_most n) x.stop u.track.journal.items (timer_wants u.timer) (tally p) (tally q)) s_is
+              (subst (λ (x : Q). HasCause (timer_most n) u.track.stop u.track.journal.items (timer_wants u.timer) (tally x) (tally q)) p_is
+              (subst (λ (x : Q). HasCause (timer_most n) u.track.stop u.track.journal.items (timer_wants u.timer) (tally t.track.pass) (tally x)) q_is timer_ends.worked.cause)));
         }
     stopped (suc j) s p q stop before after =
         let h = stop_by serves tally size n left 0 ws vs worked.same staffed.numbered worked.each j s p q stop before after in

@@ -1,6 +1,6 @@
 -- An actor at work goes on by one entry, or stops.
 use Rattle.std.proofs.Common.{◌≡◌, ℕ, ◌+◌, ◌<◌, ◌≤◌, ◌^◌, max, Bool, true, false, refl, sym, ap, ◌∙◌, subst, arith}
-use Rattle.std.proofs.Common.{List, [], ◌∷◌, ◌++◌, length, Option, Some, None, length-append}
+use Rattle.std.proofs.Common.{List, [], ◌∷◌, ◌++◌, length, Option, None, length-append}
 use Rattle.std.specs.List.{AllByRecursion}
 use Rattle.vm_types.specs.declared.entry.Entry.{Entry}
 use Rattle.vm_types.specs.declared.ids.ActorId.{ActorId}
@@ -16,7 +16,7 @@ use Rattle.stamp_merge.specs.Stamps.{OutIsZero, Stamped}
 use Rattle.slice_runner.specs.declared.stop.Stop.{Stop}
 use Rattle.slice_runner.specs.declared.worker.Track.{Track}
 use Rattle.slice_runner.specs.Runs.{GoesOn, HasEnded, HasRun, IsActOf, IsSameBut, IsUnderWay, StopsFor, WritesDown}
-use Rattle.slice_runner.specs.Stops.{closings, is_last_full, last_asks}
+use Rattle.slice_runner.specs.Stops.{IsUnfull, closings, is_last_full, last_asks}
 use Rattle.slice_runner.specs.Values.{route_among}
 
 follows_more : {S : Type 0} (want : S → Op) (next : S → Reply → S) (s : S) (es : List Entry) (t u : S) (e : Entry)
@@ -41,6 +41,10 @@ full_more : (b : Bool) (es : List Entry) (e : Entry) → is_last_full b (es ++ e
 full_more b [] e = refl
 full_more b (d ∷ es) e = full_more (is_full d.reply) es e
 
+unfull_more : (b : Bool) (es : List Entry) (e : Entry) → IsUnfull b es → is_last_full b es ≡ false → IsUnfull b (es ++ e ∷ [])
+unfull_more b [] e h last = (last, tt)
+unfull_more b (d ∷ es) e h last = (h.0, unfull_more (is_full d.reply) es e h.1 last)
+
 module _ {S Q : Type 0} (want : S → Op) (next : S → Reply → S) (tally : Q → Tally) (count : ℕ) (id : ActorId) (s : S)
     (c : Tally) (t : S) (old mid : Track Q) (op : Op) (way : IsUnderWay want next tally count id s c t old)
     (same : IsSameBut old mid) (is_want : op ≡ want t) where
@@ -49,6 +53,9 @@ module _ {S Q : Type 0} (want : S → Op) (next : S → Reply → S) (tally : Q 
 
   mid_items : mid.journal.items ≡ old.journal.items
   mid_items = ap (λ j. j.items) same.journal
+
+  mid_unfull : IsUnfull false mid.journal.items
+  mid_unfull = rw mid_items way.unfull
 
   mid_run : HasRun want next count id s mid.journal.items t mid.clock
   mid_run = rw (mid_items, same.clock) way.ran
@@ -77,6 +84,8 @@ module _ {S Q : Type 0} (want : S → Op) (next : S → Reply → S) (tally : Q 
           out = all_more OutIsZero mid.journal.items e run.out act.out;
         });
         full_is = down.full ∙ sym (full_more false mid.journal.items e) ∙ ap (is_last_full false) (sym items);
+        unfull = rw items (unfull_more false mid.journal.items e mid_unfull
+            (ap (is_last_full false) mid_items ∙ sym way.full_is ∙ on.unfull));
         asked = ap (λ (q : Q). (tally q).asks) (down.pass ∙ now_pass) ∙ on.asked ∙ ap (λ (k : ℕ). k + 1) way.asked
             ∙ omega (arith, more, ap (λ (xs : List Entry). length xs) mid_items);
         unclosed = ap (λ (q : Q). (tally q).closed) (down.pass ∙ now_pass) ∙ on.unclosed ∙ way.unclosed;
@@ -106,6 +115,7 @@ module _ {S Q : Type 0} (want : S → Op) (next : S → Reply → S) (tally : Q 
                 (subst (λ (xs : List Entry). 1 ≤ length xs) mid_items waits.0, is_want ∙ waits.2),
           );
           full = λ is. ap (is_last_full false) mid_items ∙ sym way.full_is ∙ why.full is;
+          unfull = mid_unfull;
           stamp = λ is. subst (λ (k : ℕ). 2 ^ 63 ≤ k) (sym same.clock ∙ mid_run.last) (why.stamp is);
         };
       }
@@ -131,6 +141,7 @@ module _ {S Q : Type 0} (want : S → Op) (next : S → Reply → S) (tally : Q 
             λ waits. absurd (on.awake (subst (λ (xs : List Entry). 1 ≤ length xs) items waits.0) (is_want ∙ waits.2)),
           );
           full = λ is. cc;
+          unfull = rw items way.unfull;
           stamp = λ is. cc;
         };
       }

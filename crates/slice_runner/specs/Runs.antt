@@ -10,7 +10,7 @@ use Rattle.vm_types.specs.declared.reply.Reply.{Reply}
 use Rattle.vm_types.specs.Histories.{last_stamp}
 use Rattle.vm_types.specs.Ids.{is_out}
 use Rattle.vm_types.specs.Serial.{Follows, IsPlaced, OutFits, Placed}
-use Rattle.hart_trace.specs.States.{Hart, hart_next, hart_wants}
+use Rattle.hart_trace.specs.States.{hart_next, hart_wants}
 use Rattle.hart_trace.specs.Traces.{is_full}
 use Rattle.timer_trace.specs.States.{timer_next, timer_wants}
 use Rattle.flat_guest.specs.Body.{out_reply}
@@ -22,7 +22,7 @@ use Rattle.slice_runner.specs.declared.worker.HartWorker.{HartWorker}
 use Rattle.slice_runner.specs.declared.worker.TimerWorker.{TimerWorker}
 use Rattle.slice_runner.specs.declared.worker.Track.{Track}
 use Rattle.slice_runner.specs.Slices.{answers_of}
-use Rattle.slice_runner.specs.Stops.{HasCause, closings, is_last_full, last_asks}
+use Rattle.slice_runner.specs.Stops.{HasCause, IsUnfull, closings, is_last_full, last_asks}
 use Rattle.slice_runner.specs.Values.{route_among}
 
 -- the entry is of this actor and op, at the op's place among so many pages, with the next stamp after the actor's clock
@@ -59,6 +59,7 @@ pub record IsUnderWay {S Q : Type 0} (want : S → Op) (next : S → Reply → S
   pub same : track.id ≡ id
   pub ran : HasRun want next count id s track.journal.items t track.clock
   pub full_is : track.full ≡ is_last_full false track.journal.items
+  pub unfull : IsUnfull false track.journal.items
   pub asked : (tally track.pass).asks ≡ c.asks + length track.journal.items
   pub unclosed : (tally track.pass).closed ≡ c.closed
 
@@ -103,6 +104,7 @@ pub record GoesOn {Q : Type 0} (tally : Q → Tally) (want : Op) (old new : Trac
   pub asked : (tally new.pass).asks ≡ (tally old.pass).asks + 1
   pub unclosed : (tally new.pass).closed ≡ (tally old.pass).closed
   pub awake : 1 ≤ length old.journal.items → want ≡ Op.Idle → ⊥
+  pub unfull : old.full ≡ false
   pub low : old.clock < 2 ^ 63
 
 -- the entry is written down

@@ -1,6 +1,5 @@
 -- Actors that go to work, and come back.
-use Rattle.std.specs.Prelude.{ℕ, suc, ◌≡◌, ◌≤◌, All, List, [], ◌∷◌, ◌++◌, map, vec_capacity}
-use Rattle.vm_types.specs.declared.entry.Entry.{Entry}
+use Rattle.std.specs.Prelude.{ℕ, suc, ◌≡◌, All, List, [], ◌∷◌, ◌++◌, map}
 use Rattle.vm_types.specs.declared.ids.ActorId.{ActorId}
 use Rattle.hart_trace.specs.States.{Hart}
 use Rattle.timer_trace.specs.declared.timer.Timer.{Timer}

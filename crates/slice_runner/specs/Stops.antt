@@ -1,6 +1,6 @@
 -- Why an actor makes no further step in a slice.
-use Rattle.std.specs.Prelude.{ℕ, zero, suc, ◌≡◌, ◌+◌, ◌<◌, ◌≤◌, ◌^◌, ◌↔◌, Bool, true, false, List, [], ◌∷◌}
-use Rattle.std.specs.Prelude.{Option, Some, length, slice_get}
+use Rattle.std.specs.Prelude.{ℕ, zero, suc, ◌≡◌, ◌+◌, ◌<◌, ◌≤◌, ◌^◌, ◌↔◌, min, Bool, true, false, List, [], ◌∷◌}
+use Rattle.std.specs.Prelude.{Some, length, slice_get}
 use Rattle.vm_types.specs.declared.entry.Entry.{Entry}
 use Rattle.vm_types.specs.declared.ids.ActorId.{ActorId}
 use Rattle.vm_types.specs.declared.op.Op.{Op}
@@ -17,6 +17,11 @@ use Rattle.slice_runner.specs.declared.stop.Stopped.{Stopped}
 abbrev pub is_last_full : Bool → List Entry → Bool
 is_last_full full [] = full
 is_last_full full (e ∷ es) = is_last_full (is_full e.reply) es
+
+-- nothing was done behind a reply that the ring was full
+abbrev pub IsUnfull : Bool → List Entry → Type 0
+IsUnfull full [] = Unit {0}
+IsUnfull full (e ∷ es) = (full ≡ false) × IsUnfull (is_full e.reply) es
 
 -- how often the gate was found closed: once by an actor that stops for it, and by no other
 abbrev pub closings : Stop → ℕ
@@ -42,6 +47,7 @@ pub record HasCause (n : ℕ) (stop : Stop) (entries : List Entry) (want : Op) (
   pub gate : now.closed ≡ before.closed + closings stop
   pub idle : (stop ≡ Idle) ↔ Waits n entries want
   pub full : stop ≡ Full → is_last_full false entries ≡ true
+  pub unfull : IsUnfull false entries
   pub stamp : stop ≡ Stamp → 2 ^ 63 ≤ last_stamp 0 entries
 
 -- the timer comes first, and then the harts by their numbers
@@ -49,13 +55,22 @@ abbrev pub actor_of : ℕ → ActorId
 actor_of zero = ActorId.Timer
 actor_of (suc k) = ActorId.Hart k
 
+-- How many steps of n an actor makes at most. The timer makes one round, a question and an advance: guest time goes on from
+-- slice to slice.
+abbrev pub timer_most : ℕ → ℕ
+timer_most n = min n 2
+
+abbrev pub most_of : ℕ → ℕ → ℕ
+most_of zero n = timer_most n
+most_of (suc k) n = n
+
 -- one actor's stop, with the pass at its place before and after
 pub record IsStopped {Q : Type 0} (tally : Q → Tally) (n : ℕ) (events : List Entry) (now : WorldValue) (i : ℕ)
     (s : Stopped) (p q : Q) : Type 0 where
   pub actor_is : s.actor ≡ actor_of i
   pub want : Op
   pub wants : want_in now s.actor ≡ Some want
-  pub cause : HasCause n s.stop (of_actor s.actor events) want (tally p) (tally q)
+  pub cause : HasCause (most_of i n) s.stop (of_actor s.actor events) want (tally p) (tally q)
 
 -- each actor has one stop, with its cause
 pub record AreStopped {Q : Type 0} (tally : Q → Tally) (n : ℕ) (events : List Entry) (now : WorldValue)

@@ -1,5 +1,5 @@
 -- Pages and the board as places of one kind, the timer and the harts as actors of one kind; and those of a world.
-use Rattle.std.specs.Prelude.{ℕ, ◌*◌, List, length, slice_index_or}
+use Rattle.std.specs.Prelude.{ℕ, ◌*◌, List, slice_index_or}
 use Rattle.vm_types.specs.declared.ids.ActorId.{ActorId}
 use Rattle.vm_types.specs.declared.ids.PlaceId.{PlaceId}
 use Rattle.vm_types.specs.declared.op.Op.{Op}
@@ -8,7 +8,6 @@ use Rattle.board_table.specs.Acts as board
 use Rattle.board_table.specs.Board.{Board}
 use Rattle.guest_memory.specs.Ram.{page_size}
 use Rattle.guest_pages.specs.Pages.{PageValue, new_page, page_touch}
-use Rattle.rv_supervisor.specs.declared.regs.Regs.{Regs}
 use Rattle.hart_trace.specs.States.{Hart, fresh, hart_next, hart_wants}
 use Rattle.hart_trace.specs.Stopped.{stopped_regs}
 use Rattle.timer_trace.specs.States.{timer_next, timer_wants}

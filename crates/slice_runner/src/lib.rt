@@ -22,3 +22,4 @@ mod worker;
 
 pub use slice::{Slice, SliceError, run_slice};
 pub use stop::{Stop, Stopped};
+pub use worker::ask_clock;

@@ -4,6 +4,7 @@ ghost use Rattle.vm_types.specs.declared.ids.PlaceId.{PlaceId};
 ghost use Rattle.slice_runner.specs.Locks.{ArePageLocks};
 ghost use Rattle.slice_runner.specs.Runs.{HartEnds, HartsWorked, TimerEnds};
 ghost use Rattle.slice_runner.specs.Runs.{IsReady};
+ghost use Rattle.slice_runner.specs.Stops.{timer_most};
 
 use crate::worker::{HartWorker, TimerWorker};
 use guest_pages::Page;
@@ -14,6 +15,9 @@ use std::sync::Wait;
 use std::thread::{Threads, for_each_mut, join_mut};
 use vm_host::Clock;
 use vm_types::Openings;
+
+/// The steps of a round of the timer: it asks the clock, and advances guest time.
+const ROUND: u32 = 2;
 
 // All harts, each in a thread of its own.
 fn run_harts<
@@ -103,12 +107,14 @@ fn run_timer<Q, K: Openings<Page>, L: Openings<Board>, C: Clock, G: Gate<Pass = 
     requires few { length pages.now ≤ 2 ^ 28 }
     requires board { board.now ≡ PlaceId.Board }
     requires ready { IsReady (G.serves gate.now) n timer.old.track }
-    ensures { TimerEnds (G.serves gate.now) G.tally (length pages.now) n (C.known clock.old) (C.known clock.new) timer.old timer.new }
+    ensures { TimerEnds (G.serves gate.now) G.tally (length pages.now) (timer_most n)
+        (C.known clock.old) (C.known clock.new) timer.old timer.new }
 {
-    timer.run(rt, gate, pages, board, n, clock);
+    timer.run(rt, gate, pages, board, n.min(ROUND), clock);
 }
 
-/// All actors at once, each until it stops: the harts in threads of their own, the timer in this one.
+/// All actors at once, each until it stops: the harts in threads of their own, the timer, which makes one round at most, in
+/// this one.
 pub fn run_all<
     Q: Send + Drop,
     K: Openings<Page> + Send + Sync,
@@ -131,7 +137,8 @@ pub fn run_all<
     requires board { board.now ≡ PlaceId.Board }
     requires timer { IsReady (G.serves gate.now) n timer.old.track }
     requires harts { All (λ worker. IsReady (G.serves gate.now) n worker.track) harts.old.items }
-    ensures timer { TimerEnds (G.serves gate.now) G.tally (length pages.now) n (C.known clock.old) (C.known clock.new) timer.old timer.new }
+    ensures timer { TimerEnds (G.serves gate.now) G.tally (length pages.now) (timer_most n)
+        (C.known clock.old) (C.known clock.new) timer.old timer.new }
     ensures harts { HartsWorked (G.serves gate.now) G.tally (length pages.now) n harts.old.items harts.new.items }
 {
     let mut beside = ||
@@ -146,7 +153,7 @@ pub fn run_all<
     let mut here = ||
         requires { ArePageLocks also_pages.now × (length also_pages.now ≤ 2 ^ 28) × (also_board.now ≡ PlaceId.Board)
             × IsReady (G.serves also_gate.now) n timer.now.track }
-        ensures { TimerEnds (G.serves also_gate.entry.now) G.tally (length also_pages.entry.now) n
+        ensures { TimerEnds (G.serves also_gate.entry.now) G.tally (length also_pages.entry.now) (timer_most n)
             (C.known clock.entry.now) (C.known clock.exit.now) timer.entry.now timer.exit.now }
     { run_timer(also_rt, also_gate, also_pages, also_board, n, clock, timer) };
     join_mut(rt, &mut beside, &mut here);

@@ -40,8 +40,8 @@ pub enum SliceError {
     OutOfMemory,
 }
 
-/// So many steps at most of each actor, all of them side by side: each hart in a thread of its own, the timer in this one.
-/// Before each step the actor asks the gate with its pass, the one at its place, where the timer comes first and then the
+/// So many steps at most of each hart, all of them side by side, each in a thread of its own; and of the timer in this one, but
+/// no more than a round of it, so that guest time goes on from slice to slice. Before each step the actor asks the gate with its pass, the one at its place, where the timer comes first and then the
 /// harts by their numbers; an actor stops as `Stop` says. At most 32 harts.
 ///
 /// The events lead from the world before to the world after, each as the flat machine's step, with the reply that it got.

@@ -152,8 +152,8 @@ impl<Q> HartWorker<Q> {
     }
 }
 
-// What the clock answers an op that asks it.
-fn ask_clock<C: Clock>(clock: &mut C, op: &Op) -> Option<Reply>
+/// What the clock answers an op that asks it.
+pub fn ask_clock<C: Clock>(clock: &mut C, op: &Op) -> Option<Reply>
     ensures { IsAsked op.now (C.known clock.old) result (C.known clock.new) }
 {
     match op {

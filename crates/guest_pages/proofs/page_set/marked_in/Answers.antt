@@ -1,7 +1,7 @@
-use Rattle.std.proofs.Common.{◌≡◌, ℕ, true, false, List, ◌+◌, ◌++◌, ◌∷◌, [], drop, sym, ap, subst, ◌∙◌}
+use Rattle.std.proofs.Common.{◌≡◌, ℕ, List, ◌+◌, ◌++◌, drop, sym, ap, subst, ◌∙◌}
 use Rattle.guest_pages.specs.Marks.{marked_from}
 use Rattle.guest_pages.specs.Pages.{PageValue, marks_of}
-use Rattle.guest_pages.proofs.Marking.{all_marked, none_marked, one_marked}
+use Rattle.guest_pages.proofs.Marking.{none_marked, one_marked}
 use Rattle.guest_pages.proofs.page_set.marked_in.Goals.{then-is_marked+in_ok-push, else-is_marked}
 use Rattle.guest_pages.proofs.page_set.marked_in.Goals as goal
 

@@ -1,4 +1,4 @@
-use Rattle.std.proofs.Common.{refl, sym, ap, ◌∙◌, length}
+use Rattle.std.proofs.Common.{refl, sym, ◌∙◌, length}
 use Rattle.slice_runner.proofs.Routes.{at_none, at_place, page_there}
 use Rattle.slice_runner.proofs.acting.act_once.Goals as goal
 

@@ -1,4 +1,4 @@
-use Rattle.std.proofs.Common.{sym, ap, ◌∙◌, subst, arith, ◌+◌, ◌≡◌, length, vec_len, ◌<◌, ℕ}
+use Rattle.std.proofs.Common.{sym, ap, ◌∙◌, subst, arith, ◌+◌, ◌≡◌, length, vec_len, ◌<◌}
 use Rattle.vm_types.specs.declared.ids.PlaceId.{PlaceId}
 use Rattle.stamp_merge.specs.declared.history.History.{History}
 use Rattle.std.specs.Vec.Iter.{into_iter_items}

@@ -1,4 +1,4 @@
-use Rattle.std.proofs.Common.{◌≡◌, ℕ, ◌+◌, ◌*◌, ◌≤◌, ◌<◌, ◌++◌, ◌∷◌, [], List, length, sym, ap, ◌∙◌, subst, arith, All, le_trans}
+use Rattle.std.proofs.Common.{◌≡◌, ℕ, ◌+◌, ◌*◌, ◌≤◌, ◌++◌, ◌∷◌, [], List, length, sym, ap, ◌∙◌, subst, arith, All, le_trans}
 use Rattle.std.proofs.lemmas.List.{get_or_default}
 use Rattle.vm_types.specs.declared.ids.PlaceId.{PlaceId}
 use Rattle.guest_pages.specs.Pages.{new_page}
@@ -13,6 +13,7 @@ use Rattle.slice_runner.specs.Locks.{AreHome, AreOpen, ArePageLocks}
 use Rattle.slice_runner.specs.Runs.{HartsWorked, TimerEnds}
 use Rattle.slice_runner.specs.Slices.{IsSlice, IsTornSlice}
 use Rattle.slice_runner.specs.Staff.{AreStaffed}
+use Rattle.slice_runner.specs.Stops.{timer_most}
 use Rattle.timer_trace.specs.declared.timer.Timer.{Timer as TimerValue}
 use Rattle.slice_runner.proofs.Joined.{as_many, back_many, back_served, harts_ready, journals_bound, left_served, long_map, timer_ready}
 use Rattle.slice_runner.proofs.Returned.{laid}
@@ -72,7 +73,7 @@ returns-in-Err-clause-unshared g c =
     let staffed = subst (λ v. AreStaffed n c.args.parts.timer c.args.parts.harts.items v.items t ws left) c.replace-given.ensures.value c.staff-timer.ensures in
     let asked = g.C.Clock.known c.args.clock.now in
     let now = g.C.Clock.known c.run_all.new.clock in
-    let ends = subst (λ (k : ℕ). TimerEnds serves tally k n asked now t c.run_all.new.timer) size c.run_all.ensures.timer in
+    let ends = subst (λ (k : ℕ). TimerEnds serves tally k (timer_most n) asked now t c.run_all.new.timer) size c.run_all.ensures.timer in
     let worked = subst (λ (k : ℕ). HartsWorked serves tally k n ws c.run_all.new.harts.items) size c.run_all.ensures.harts in
     let home = subst (λ (k : ℕ). AreHome g.K.Openings.opening k c.unlock_pages.new.pages.items c.unlock_pages.new.histories.items) c.lock_pages.ensures.count c.unlock_pages.ensures.home in
     let board = c.unlock_board-board.ensures in
@@ -108,7 +109,7 @@ returns-clause-shared g c =
     let staffed = subst (λ v. AreStaffed n c.args.parts.timer c.args.parts.harts.items v.items t ws left) c.replace-given.ensures.value c.staff-timer.ensures in
     let asked = g.C.Clock.known c.args.clock.now in
     let now = g.C.Clock.known c.run_all.new.clock in
-    let ends = subst (λ (k : ℕ). TimerEnds serves tally k n asked now t c.run_all.new.timer) size c.run_all.ensures.timer in
+    let ends = subst (λ (k : ℕ). TimerEnds serves tally k (timer_most n) asked now t c.run_all.new.timer) size c.run_all.ensures.timer in
     let worked = subst (λ (k : ℕ). HartsWorked serves tally k n ws c.run_all.new.harts.items) size c.run_all.ensures.harts in
     let home = subst (λ (k : ℕ). AreHome g.K.Openings.opening k c.unlock_pages.new.pages.items c.unlock_pages.new.histories.items) c.lock_pages.ensures.count c.unlock_pages.ensures.home in
     let board = c.unlock_board-board.ensures in

@@ -1,4 +1,4 @@
-use Rattle.std.proofs.Common.{sym, ◌∙◌, ◌≤◌, ◌<◌, subst, arith, ap, ℕ, ◌+◌}
+use Rattle.std.proofs.Common.{sym, ◌∙◌, ◌≤◌, ◌<◌, subst, ap, ℕ, ◌+◌}
 use Rattle.slice_runner.proofs.worker.HartWorker.run.Goals as goal
 
 pub returns-in-Err-clause-worked : goal.returns-in-Err-clause-worked
