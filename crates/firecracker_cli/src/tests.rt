@@ -28,7 +28,8 @@ const ADD_AND_WAIT: [u8; 140] = [
     0x73, 0x00, 0x00, 0x00, 0x73, 0x00, 0x50, 0x10, 0x6f, 0xf0, 0xdf, 0xff,
 ];
 
-const REQUESTS: &[u8] = b"PUT /boot-source HTTP/1.1\r\nContent-Length: 25\r\n\r\n{\"kernel_image_path\":\"k\"}\
+const REQUESTS: &[u8] =
+    b"PUT /boot-source HTTP/1.1\r\nContent-Length: 25\r\n\r\n{\"kernel_image_path\":\"k\"}\
 PUT /machine-config HTTP/1.1\r\nContent-Length: 33\r\n\r\n{\"vcpu_count\":2,\"mem_size_mib\":4}\
 PUT /actions HTTP/1.1\r\nContent-Length: 31\r\n\r\n{\"action_type\":\"InstanceStart\"}";
 
@@ -151,6 +152,9 @@ fn two_harts_are_served_and_replayed(rt: HostRuntime) -> Result<(), Fail> {
     assert!(rt; word.as_slice() == b"= d007000000000000\n".as_slice());
     let (exit, shown) = replayed(alloc, script_of(alloc, trace.took())?)?;
     assert_eq!(rt; exit, Exit::Done);
-    assert_eq!(rt; shown.taken(), b"< 204\n< 204\n< 204\n! D\n. off\n".as_slice());
+    assert_eq!(rt;
+        shown.taken(),
+        b"< 204\n< 204\n< 204\n! D\n. off\n".as_slice()
+    );
     Ok(())
 }
