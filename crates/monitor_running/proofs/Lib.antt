@@ -1,4 +1,5 @@
 pub mod Asked
+pub mod Going
 pub mod Joins
 pub mod Led
 pub mod Lifts

@@ -1,5 +1,5 @@
 -- From the world of a machine to the machine, and from one slice to the next.
-use Rattle.std.proofs.Common.{◌≡◌, ℕ, suc, ◌+◌, ◌≤◌, ◌<◌, Bool, true, false, refl, sym, ap, ◌∙◌, subst, List, [], ◌∷◌, ◌++◌, length, slice_get, Option, Some, None, All, arith}
+use Rattle.std.proofs.Common.{◌≡◌, ℕ, ◌≤◌, Bool, true, false, refl, sym, ap, ◌∙◌, subst, List, ◌++◌, Option, Some, None, arith}
 use Rattle.vm_types.specs.Causes.{Rose}
 use Rattle.vm_outside.specs.Known.{FilesKnown, Health, SinkKnown}
 use Rattle.vm_outside.specs.Known as objects

@@ -1,5 +1,5 @@
 -- What the first pass knows of its gate, slice after slice.
-use Rattle.std.proofs.Common.{◌≡◌, ℕ, suc, ◌+◌, ◌<◌, ◌≤◌, refl, ap, ◌∙◌, arith, List, [], ◌∷◌, length, slice_get, Option, Some, None, All}
+use Rattle.std.proofs.Common.{◌≡◌, ℕ, suc, ◌<◌, refl, ap, ◌∙◌, arith, List, [], ◌∷◌, length, slice_get, Option, Some, None, All}
 use Rattle.pause_gate.specs.Tally.{Tally}
 use Rattle.vm_types.specs.declared.entry.Entry.{Entry}
 use Rattle.vm_world.specs.Worlds.{WorldValue}

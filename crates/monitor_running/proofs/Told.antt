@@ -1,5 +1,5 @@
 -- What a slice leaves, told to its end or not.
-use Rattle.std.proofs.Common.{◌≡◌, ℕ, false, refl, sym, ap, ◌∙◌, subst, List, [], ◌∷◌, ◌++◌, take, drop, All, append_assoc, append-nil, take-append-drop, length, Option, Some, None, arith}
+use Rattle.std.proofs.Common.{◌≡◌, ℕ, false, refl, sym, ap, ◌∙◌, subst, List, [], ◌∷◌, ◌++◌, take, drop, All, append_assoc, append-nil, take-append-drop, length, Some, None, arith}
 use Rattle.std.specs.Prelude.{Result, Ok, Err}
 use Rattle.std.proofs.lemmas.List.Elements.{All-from_recursion}
 use Rattle.vm_types.specs.declared.entry.Entry.{Entry}
@@ -29,6 +29,7 @@ use Rattle.monitor_running.specs.declared.telling.Untold.TheVariants as untold
 use Rattle.flat_trace.specs.Events.{answers_in, drain_items, event_acts, event_items, needs_room}
 use Rattle.monitor_running.specs.Items.{DrainStops, Drains, HasDrained, TellStops, TellsPart, TellsSlice, drained_world}
 use Rattle.monitor_running.specs.Ran.{HasFault, IsRunning, IsTornOff, RanOn, Went, end_by, slice_end}
+use Rattle.monitor_running.specs.Waiting.{HasGone}
 use Rattle.monitor_running.specs.Reached.{Ahead, GetsAhead, IsCut, Keeps, Known, Reached, Seen, Start, known}
 use Rattle.flat_trace.specs.Showing.{Out}
 use Rattle.monitor_running.proofs.Asked.{answers_same, roomy}
@@ -79,13 +80,13 @@ told_then (Err why) es w v took mid now taken all told drains = stops_then why e
 -- ---- a slice whose events lead from the guest of each machine that the world was
 
 module _ (s : Start) (m : Machine) (talk : List Out) (took : List Item) (taken : List ℕ) (asked now : ClockKnown)
-    (w v : WorldValue) (es : List Entry) (serial : IsSerial w es v) (was : ClockWasAsked asked es now) (is : IsRunning w m)
+    (w v : WorldValue) (es : List Entry) (gone : HasGone es w v asked now) (is : IsRunning w m)
     (r : Reached s (seen_by took taken asked) m talk) where
   abbrev old : Seen
   old = seen_by took taken asked
 
   led : (h : Guest) × Leads is.0 es h × IsWorld v h
-  led = serial is.0 is.2
+  led = (gone is.0 is.2).0
 
   abbrev after : Machine
   after = with_guest m led.0
@@ -94,7 +95,7 @@ module _ (s : Start) (m : Machine) (talk : List Out) (took : List Item) (taken :
   after_runs = still_runs m is.0 led.0 is.1
 
   all_asked : HasAnswered asked (answers_in (event_items es)) now
-  all_asked = was_asked asked now es is.0 led.0 was led.1
+  all_asked = was_asked asked now es is.0 led.0 (gone is.0 is.2).1 led.1
 
   -- all events are told
   events_told : Reached s (seen_by (took ++ event_items es) taken now) after talk
@@ -160,58 +161,60 @@ module _ (s : Start) (m : Machine) (talk : List Out) (took : List Item) (taken :
 
 -- ---- what is left of a slice, told to its end or not
 
-abbrev pub Slid : List Entry → WorldValue → WorldValue → ClockKnown → ClockKnown → Type 0
-Slid es w v asked now = IsSerial w es v × ClockWasAsked asked es now
+-- what a slice says of its events
+pub slice_gone : (es : List Entry) (w v : WorldValue) (asked now : ClockKnown) → IsSerial w es v → ClockWasAsked asked es now
+    → HasGone es w v asked now
+slice_gone es w v asked now serial was g is = (serial g is, was)
 
 pub slice_told : (took took' : List Item) (taken taken' : List ℕ) (asked mid now : ClockKnown) (w v u : WorldValue) (es : List Entry)
-    → Slid es w v asked mid → HasDrained v took (event_items es) u took' → taken' ≡ taken ++ v.board.console → Lasts mid now
+    → HasGone es w v asked mid → HasDrained v took (event_items es) u took' → taken' ≡ taken ++ v.board.console → Lasts mid now
     → Keeps IsRunning (seen_by took taken asked) w (seen_by took' taken' now) u
-slice_told took took' taken taken' asked mid now w v u es slid drained sunk lasts s m talk is r =
-    let all = drain_told_too s m talk took taken asked mid w v es slid.0 slid.1 is r in
-    let h = led s m talk took taken asked mid w v es slid.0 slid.1 is r in
+slice_told took took' taken taken' asked mid now w v u es gone drained sunk lasts s m talk is r =
+    let all = drain_told_too s m talk took taken asked mid w v es gone is r in
+    let h = led s m talk took taken asked mid w v es gone is r in
     let last : Seen = seen_by (took ++ (event_items es ++ drain_items v.board.console)) (taken ++ v.board.console) mid in record {
       flat = with_guest m (drained_guest h.0);
-      is = drained_runs s m talk took taken asked mid w v es slid.0 slid.1 is r u drained.world;
+      is = drained_runs s m talk took taken asked mid w v es gone is r u drained.world;
       beside = refl;
       reached = rests s last (seen_by took' taken' now) (with_guest m (drained_guest h.0)) talk all drained.told sunk
           (record { still = λ tells. lasts.still tells; are = λ tells. lasts.same tells });
     }
 
 pub slice_ahead : (took took' : List Item) (taken taken' : List ℕ) (asked now : ClockKnown) (w v u : WorldValue) (es : List Entry)
-    → Slid es w v asked now → u ≡ v → TellsPart took es took' → taken' ≡ taken
+    → HasGone es w v asked now → u ≡ v → TellsPart took es took' → taken' ≡ taken
     → GetsAhead IsRunning (seen_by took taken asked) w (seen_by took' taken' now) u
-slice_ahead took took' taken taken' asked now w v u es slid same part sunk s m talk is r =
-    rw (same, part.1, sunk) (part_told s m talk took taken asked now w v es slid.0 slid.1 is r part.0)
+slice_ahead took took' taken taken' asked now w v u es gone same part sunk s m talk is r =
+    rw (same, part.1, sunk) (part_told s m talk took taken asked now w v es gone is r part.0)
 
 pub slice_cut : (took took' : List Item) (taken taken' : List ℕ) (asked now : ClockKnown) (w v u : WorldValue) (es : List Entry)
-    → Slid es w v asked now → HasDrained v took (event_items es) u took' → TakesPart taken taken' v.board.console
+    → HasGone es w v asked now → HasDrained v took (event_items es) u took' → TakesPart taken taken' v.board.console
     → IsCut IsRunning (seen_by took taken asked) w (seen_by took' taken' now) u
-slice_cut took took' taken taken' asked now w v u es slid drained part s m talk is r =
+slice_cut took took' taken taken' asked now w v u es gone drained part s m talk is r =
     let bytes = v.board.console in
     let whole : taken' ++ drop part.0 bytes ≡ taken ++ bytes =
     ap (λ (l : List ℕ). l ++ drop part.0 bytes) part.2 ∙ append_assoc taken (take part.0 bytes) (drop part.0 bytes)
     ∙ ap (λ (l : List ℕ). taken ++ l) (take-append-drop part.0 bytes) in (
       drop part.0 bytes,
-      slice_told took took' taken (taken' ++ drop part.0 bytes) asked now now w v u es slid drained whole
+      slice_told took took' taken (taken' ++ drop part.0 bytes) asked now now w v u es gone drained whole
           (record { still = λ tells. tells; same = λ tells. refl }) s m talk is r,
     )
 
 pub slice_short : (took took' : List Item) (taken taken' : List ℕ) (asked now : ClockKnown) (w v u : WorldValue) (es : List Entry)
-    → Slid es w v asked now → (All (λ e. needs_room e ≡ false) es → ⊥)
+    → HasGone es w v asked now → (All (λ e. needs_room e ≡ false) es → ⊥)
     → Keeps IsRunning (seen_by took taken asked) w (seen_by took' taken' now) u
-slice_short took took' taken taken' asked now w v u es slid short s m talk is r =
-    let h = slid.0 is.0 is.2 in
+slice_short took took' taken taken' asked now w v u es gone short s m talk is r =
+    let h = (gone is.0 is.2).0 in
     absurd (short (All-from_recursion (λ (e : Entry). needs_room e ≡ false) es (roomy es is.0 h.0 h.1)))
 
 pub slice_stops : (why : Untold) (took took' : List Item) (taken taken' : List ℕ) (asked now : ClockKnown) (w v u : WorldValue)
-    (es : List Entry) → Slid es w v asked now → TellStops why es v took taken u took' taken'
+    (es : List Entry) → HasGone es w v asked now → TellStops why es v took taken u took' taken'
     → RanOn IsRunning (Some (end_by why)) (seen_by took taken asked) w (seen_by took' taken' now) u
-slice_stops untold.Trace took took' taken taken' asked now w v u es slid stops =
-    slice_ahead took took' taken taken' asked now w v u es slid stops.0 stops.1 stops.2
-slice_stops untold.Sink took took' taken taken' asked now w v u es slid stops =
-    slice_cut took took' taken taken' asked now w v u es slid stops.0 stops.1
-slice_stops untold.OutOfMemory took took' taken taken' asked now w v u es slid stops =
-    slice_short took took' taken taken' asked now w v u es slid stops
+slice_stops untold.Trace took took' taken taken' asked now w v u es gone stops =
+    slice_ahead took took' taken taken' asked now w v u es gone stops.0 stops.1 stops.2
+slice_stops untold.Sink took took' taken taken' asked now w v u es gone stops =
+    slice_cut took took' taken taken' asked now w v u es gone stops.0 stops.1
+slice_stops untold.OutOfMemory took took' taken taken' asked now w v u es gone stops =
+    slice_short took took' taken taken' asked now w v u es gone stops
 
 pub slice_torn : (took : List Item) (taken : List ℕ) (asked now : ClockKnown) (w : WorldValue) (torn : Torn)
     (journals : List Journal) (histories : List History) → IsTornSlice w torn journals histories
@@ -234,18 +237,21 @@ slice_none took taken asked now w v same unasked s m talk is r = record {
 
 -- ---- the same, as the ends have it
 
+pub clock_same : (clock : ClockKnown) → Lasts clock clock
+clock_same clock = record { still = λ tells. tells; same = λ tells. refl }
+
 lasts_same : (told : Health) → objects.Lasts told told
 lasts_same told = record { still = λ tells. tells; later = omega arith }
 
 pub went_told : (trace traced : TraceKnown) (sink sunk : SinkKnown) (asked mid now : ClockKnown) (w v u : WorldValue)
-    (es told : List Entry) → told ≡ es → IsSerial w es v → ClockWasAsked asked es mid
+    (es told : List Entry) → told ≡ es → HasGone es w v asked mid
     → (objects.Tells trace.health → objects.Tells sink.health
     → HasDrained v trace.took (event_items told) u traced.took × (sunk.taken ≡ sink.taken ++ v.board.console))
     → objects.Lasts trace.health traced.health → objects.Lasts sink.health sunk.health → Lasts mid now
     → Went IsRunning None (known trace sink asked) w (known traced sunk now) u
-went_told trace traced sink sunk asked mid now w v u es told same serial was went trace_lasts sink_lasts rests = record {
+went_told trace traced sink sunk asked mid now w v u es told same gone went trace_lasts sink_lasts rests = record {
   ran = λ t k.
-      slice_told trace.took traced.took sink.taken sunk.taken asked mid now w v u es (serial, was)
+      slice_told trace.took traced.took sink.taken sunk.taken asked mid now w v u es gone
       (subst (λ (l : List Entry). HasDrained v trace.took (event_items l) u traced.took) same (went t k).0) (went t k).1 rests;
   fault = tt;
   trace_lasts = trace_lasts;
@@ -260,16 +266,16 @@ fault_of untold.Sink before now trace sink = sink refl
 fault_of untold.OutOfMemory before now trace sink = tt
 
 pub went_untold : (end : Ran) (why : Untold) (trace traced : TraceKnown) (sink sunk : SinkKnown) (asked now : ClockKnown)
-    (w v u : WorldValue) (es told : List Entry) → end ≡ end_by why → told ≡ es → IsSerial w es v → ClockWasAsked asked es now
+    (w v u : WorldValue) (es told : List Entry) → end ≡ end_by why → told ≡ es → HasGone es w v asked now
     → (objects.Tells trace.health → objects.Tells sink.health → TellStops why told v trace.took sink.taken u traced.took sunk.taken)
     → (why ≡ untold.Trace → Rose trace.health.faults traced.health.faults)
     → (why ≡ untold.Sink → Rose sink.health.faults sunk.health.faults)
     → objects.Lasts trace.health traced.health → objects.Lasts sink.health sunk.health
     → Went IsRunning (Some end) (known trace sink asked) w (known traced sunk now) u
-went_untold end why trace traced sink sunk asked now w v u es told is same serial was stops trace_rose sink_rose trace_lasts sink_lasts = record {
+went_untold end why trace traced sink sunk asked now w v u es told is same gone stops trace_rose sink_rose trace_lasts sink_lasts = record {
   ran = λ t k.
       subst (λ (r : Ran). RanOn IsRunning (Some r) (seen_by trace.took sink.taken asked) w (seen_by traced.took sunk.taken now) u) (sym is)
-      (slice_stops why trace.took traced.took sink.taken sunk.taken asked now w v u es (serial, was)
+      (slice_stops why trace.took traced.took sink.taken sunk.taken asked now w v u es gone
       (subst (λ (l : List Entry). TellStops why l v trace.took sink.taken u traced.took sunk.taken) same (stops t k)));
   fault = subst (λ (r : Ran). HasFault (Some r) (known trace sink asked) (known traced sunk now)) (sym is)
       (fault_of why (known trace sink asked) (known traced sunk now) trace_rose sink_rose);

@@ -2,3 +2,4 @@ pub mod Items
 pub mod Passes
 pub mod Ran
 pub mod Reached
+pub mod Waiting

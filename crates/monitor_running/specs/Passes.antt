@@ -1,5 +1,5 @@
 -- What the passes know of the gate.
-use Rattle.std.specs.Prelude.{ℕ, ◌≡◌, ◌≤◌, ◌<◌, All, List, Option, Some, None, length, slice_get}
+use Rattle.std.specs.Prelude.{◌≡◌, ◌≤◌, ◌<◌, All, List, Option, Some, None, length, slice_get}
 use Rattle.pause_gate.specs.Tally.{Tally}
 use Rattle.monitor_running.specs.declared.ran.Ran.{Ran}
 use Rattle.monitor_running.specs.declared.ran.Ran.TheVariants as ran

@@ -9,16 +9,16 @@ ghost use Rattle.monitor_running.specs.Reached.{Known, known};
 
 use crate::ran::Ran;
 use crate::telling::{Untold, tell_slice};
+use crate::waiting::{all_wait, pass_time};
 use monitor_machine::LiveMachine;
 use pause_gate::Gate;
 use serve_host::Trace;
-use slice_runner::{SliceError, Stop, Stopped, run_slice};
+use slice_runner::{SliceError, run_slice};
 use std::alloc::Global;
 use std::sync::Wait;
 use std::thread::Threads;
 use vm_host::{Clock, Host};
 use vm_outside::Sink;
-use vm_types::ActorId;
 use vm_world::World;
 
 /// A slice has at most so many harts, and so has every guest that a start or a load makes.
@@ -41,25 +41,6 @@ fn is_open<Q, G: Gate<Pass = Q>>(gate: &G, passes: &mut Vec<Q>) -> bool
         (ArePassed (G.serves gate.now) G.tally (Some ran.Closed) passes.old.items passes.new.items) }
 {
     gate.ask(&mut passes[0])
-}
-
-// Whether every hart waits, so that only time is to pass.
-fn are_idle(stops: &[Stopped]) -> bool {
-    for stopped in stops {
-        if matches!(stopped.actor, ActorId::Hart(_)) && !matches!(stopped.stop, Stop::Idle) {
-            return false;
-        }
-    }
-    true
-}
-
-// The clock rests where every hart waits.
-fn rest_where_idle<C: Clock>(stops: &[Stopped], clock: &mut C)
-    ensures { clocks.Lasts (C.known clock.old) (C.known clock.new) }
-{
-    if are_idle(stops) {
-        clock.rest();
-    }
 }
 
 // The end for which there was no slice.
@@ -129,12 +110,35 @@ fn run_guest<
     if let Err(why) = tell_slice(alloc, slice.events.as_slice(), world, trace, sink) {
         return Some(end_by(why));
     }
-    rest_where_idle(slice.stops.as_slice(), &mut host.clock);
     None
 }
 
-// One slice, where each actor has a pass; else time passes.
-fn run_where_passes<
+// Time passes, and the clock rests.
+fn wait<C: Clock, T: Trace, K: Sink>(
+    alloc: Global,
+    world: &mut World,
+    clock: &mut C,
+    trace: &mut T,
+    sink: &mut K,
+) -> Option<Ran>
+    requires { length world.old.harts ≤ 32 }
+    ensures went { Went IsRunning result
+        (known (T.known trace.old) (K.known sink.old) (C.known clock.old)) world.old
+        (known (T.known trace.new) (K.known sink.new) (C.known clock.new)) world.new }
+    ensures unclosed { result ≢ Some ran.Closed }
+{
+    let Ok(events) = pass_time(alloc, world, clock) else {
+        return Some(Ran::OutOfMemory);
+    };
+    if let Err(why) = tell_slice(alloc, events.as_slice(), world, trace, sink) {
+        return Some(end_by(why));
+    }
+    clock.rest();
+    None
+}
+
+// One slice, where each actor has a pass and a hart has something to do; else time passes.
+fn run_or_wait<
     Q: Send + Drop,
     D,
     L,
@@ -166,6 +170,9 @@ fn run_where_passes<
         host.clock.rest();
         return None;
     }
+    if all_wait(world) {
+        return wait(alloc, world, &mut host.clock, trace, sink);
+    }
     run_guest(rt, alloc, world, host, gate, passes, steps, trace, sink)
 }
 
@@ -174,9 +181,10 @@ fn run_where_passes<
 /// made. That the gate is closed is no end here.
 ///
 /// Each event goes to the trace, as `step ACTOR 1`, or `reply ACTOR R` with the answer of a host object; then, where the
-/// console holds anything, `console` goes there too, and then what it held goes to the sink, as it is. Where no guest runs,
-/// where every hart waits, and where there are fewer passes than actors or more harts than a slice has (no start and no load
-/// makes so many), the clock rests. Nothing is said of time.
+/// console holds anything, `console` goes there too, and then what it held goes to the sink, as it is. Where every hart waits,
+/// two events of the timer and of each hart are made in place of a slice, without the gate, and the clock rests. It rests too
+/// where no guest runs, and where there are fewer passes than actors or more harts than a slice has (no start and no load
+/// makes so many). Nothing is said of time.
 pub fn run_once<
     Q: Send + Drop,
     D,
@@ -212,7 +220,7 @@ pub fn run_once<
         host.clock.rest();
         return None;
     };
-    let end = run_where_passes(
+    let end = run_or_wait(
         rt, alloc, &mut world, host, gate, passes, steps, trace, sink,
     );
     machine.put_guest(world);

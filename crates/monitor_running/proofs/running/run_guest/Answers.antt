@@ -1,5 +1,5 @@
 use Rattle.monitor_running.proofs.Passing.{passed_slice}
-use Rattle.monitor_running.proofs.Told.{went_failed, went_told, went_untold}
+use Rattle.monitor_running.proofs.Told.{clock_same, slice_gone, went_failed, went_told, went_untold}
 use Rattle.monitor_running.proofs.running.run_guest.Goals as goal
 
 pub returns-in-Err-clause-went : goal.returns-in-Err-clause-went
@@ -10,14 +10,15 @@ pub returns-in-Err-tell_slice-clause-went : goal.returns-in-Err-tell_slice-claus
 returns-in-Err-tell_slice-clause-went g c =
     let told = c.in-Err-tell_slice.ensures in
     went_untold c.end_by.result c.in-Err-tell_slice.why _ _ _ _ _ _ _ _ _ c.in-Ok.slice.events.items _ c.end_by.ensures
-    c.as_slice.ensures.value c.in-Ok.ensures.serial c.in-Ok.ensures.clock told.told told.trace_cause told.sink_cause
+    c.as_slice.ensures.value (slice_gone _ _ _ _ _ c.in-Ok.ensures.serial c.in-Ok.ensures.clock) told.told told.trace_cause told.sink_cause
     told.trace_lasts told.sink_lasts
 
 pub returns-clause-went : goal.returns-clause-went
 returns-clause-went g c =
     let told = c.in_default.ensures in
-    went_told _ _ _ _ _ _ _ _ _ _ c.in-Ok.slice.events.items _ c.as_slice.ensures.value c.in-Ok.ensures.serial
-    c.in-Ok.ensures.clock told.told told.trace_lasts told.sink_lasts c.rest_where_idle.ensures
+    went_told _ _ _ _ _ _ _ _ _ _ c.in-Ok.slice.events.items _ c.as_slice.ensures.value
+    (slice_gone _ _ _ _ _ c.in-Ok.ensures.serial c.in-Ok.ensures.clock) told.told told.trace_lasts told.sink_lasts
+    (clock_same _)
 
 pub returns-clause-passes : goal.returns-clause-passes
 returns-clause-passes g c = passed_slice _ _ _ _ _ _ _ _ c.in-Ok.ensures.stops c.run_slice.ensures.serve c.run_slice.ensures.same

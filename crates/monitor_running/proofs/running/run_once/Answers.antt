@@ -15,4 +15,4 @@ returns-in_default-clause-went g c =
 pub returns-clause-went : goal.returns-clause-went
 returns-clause-went g c =
     slice_lifted c.args.machine.now c.take_running.new.self c.put_guest.new.self _ _ _ _ (sym c.in-Some.ensures.running)
-    c.in-Some.ensures.left c.put_guest.ensures c.run_where_passes-end.result c.run_where_passes-end.ensures.went
+    c.in-Some.ensures.left c.put_guest.ensures c.run_or_wait-end.result c.run_or_wait-end.ensures.went
