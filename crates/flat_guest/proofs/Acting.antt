@@ -202,10 +202,10 @@ module _ (b : Body) (g : Guest) (is : IsGuest b g) (op : Op) (place : PlaceId) (
       let l = left_there (slice_get b.devices k) op want in
       let d = device_leads b g is k l.0 l.1 in
       let before : device.with_reply (slice_get b.devices k) b.devices k reply
-          ≡ slice_set b.devices k (device_next l.0 reply) =
-          ap (λ (o : Option DeviceLeft). device.with_reply o b.devices k reply) l.1 in
+      ≡ slice_set b.devices k (device_next l.0 reply) =
+      ap (λ (o : Option DeviceLeft). device.with_reply o b.devices k reply) l.1 in
       let there : device_after (slice_get g.devices k) g.devices k made ≡ slice_set g.devices k (device_did d.0 made) =
-          ap (λ (o : Option FlatDevice). device_after o g.devices k made) d.1 in
+      ap (λ (o : Option FlatDevice). device_after o g.devices k made) d.1 in
       record {
         count = ap length before ∙ count_on k l.0 l.1 l.2 d.0 d.1 ∙ sym (ap length there);
         each = λ j e m e_is m_is. leads_by k l.0 l.1 l.2 d.0 d.1 (j == k) j e m refl
