@@ -83,7 +83,7 @@ some_create : (guest : Option Guest) (m : Machine) (it : SnapshotCreate) → Sou
 some_create None m it own sound = (m, refl, sound)
 some_create (Some g) m it own sound =
     let copy = some_copy m.config g own in
-    (created m g it.files (parent_in m it) copy.0, (copy.0, copy.1, refl), record { timer_on = own.timer_on; harts_on = own.harts_on })
+    (created m g it.files (parent_in m it) copy.0, (copy.0, copy.1, refl), record { timer_on = own.timer_on; harts_on = own.harts_on; devices_on = own.devices_on })
 
 some_load : (it : Result Snapshot Refusal) (m : Machine) (load : SnapshotLoad) → Sound m → (n : Machine) × Restores it m load n × Sound n
 some_load (Ok it) m load sound = (carried m load it, refl, carried_sound it.copy it.bytes)
@@ -118,7 +118,7 @@ running_sound guest false sound = sound
 
 drained_sound : (guest : Option Guest) → SoundBy guest → SoundBy (drained_guest guest)
 drained_sound None sound = sound
-drained_sound (Some g) sound = record { timer_on = sound.timer_on; harts_on = sound.harts_on }
+drained_sound (Some g) sound = record { timer_on = sound.timer_on; harts_on = sound.harts_on; devices_on = sound.devices_on }
 
 -- ---- what is due is answered
 

@@ -56,4 +56,5 @@ pub carried_sound : (copy : StateCopy) (bytes : List ℕ) → IsSound (carried_g
 carried_sound copy bytes = record {
   timer_on = timer_traces.timer_prefix [] new_timer timer_traces.leads_start;
   harts_on = λ k start is. harts_on copy.harts k start is;
+  devices_on = record { as_many = refl; each = λ k d is. cc };
 }

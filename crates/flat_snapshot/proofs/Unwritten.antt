@@ -24,7 +24,7 @@ use Rattle.snap_diff.specs.Copies.{page_at}
 use Rattle.snap_diff.proofs.Laying.{cell_of_page, length-put, put_before, put_behind}
 use Rattle.flat_guest.specs.declared.places.Layout.{Layout}
 use Rattle.flat_guest.specs.Guest.{Guest, layout_of}
-use Rattle.flat_guest.specs.Places.{are_registers, place_of}
+use Rattle.flat_guest.specs.Places.{is_register_access, place_by, place_of, port_accessed}
 use Rattle.flat_guest.specs.Steps.{Answers, FlatStep, Makes, StepsBy, memory_after}
 use Rattle.flat_snapshot.specs.Unwritten.{KeepsUnwritten}
 
@@ -125,20 +125,32 @@ module _ (m : Memory) (actor : ActorId) (k i : ℕ) where
 -- ---- an event
 
 -- what acts on a page is an access of it
-by_registers : (registers : Bool) (place : PlaceId) (k : ℕ) → cond registers PlaceId.Board place ≡ PlaceId.Page k → place ≡ PlaceId.Page k
-by_registers true place k is = cc
-by_registers false place k is = is
-
 no_page_of_port : (there : Bool) (port k : ℕ) → cond there (PlaceId.Port port) PlaceId.Out ≡ PlaceId.Page k → ⊥
 no_page_of_port true port k is = cc
 no_page_of_port false port k is = cc
 
+by_place : (ports : ℕ) (registers : Bool) (port : Option ℕ) (place : PlaceId) (k : ℕ)
+    → place_by ports registers port place ≡ PlaceId.Page k → place ≡ PlaceId.Page k
+by_place ports true port place k is = cc
+by_place ports false (Some port) place k is = absurd (no_page_of_port (nat_lt port ports) port k is)
+by_place ports false None place k is = is
+
 routed : (there : Layout) (op : Op) (k : ℕ) → place_of there op ≡ PlaceId.Page k → access_place there.memory_size op ≡ PlaceId.Page k
-routed there (Op.Read at len) k is = by_registers (are_registers at len) (page_of there.memory_size at len) k is
-routed there (Op.Write at piece) k is = by_registers (are_registers at (length piece)) (page_of there.memory_size at (length piece)) k is
-routed there (Op.Amo at value kind wide) k is = by_registers (are_registers at (width_of wide)) (page_of there.memory_size at (width_of wide)) k is
-routed there (Op.Lr at wide) k is = by_registers (are_registers at (width_of wide)) (page_of there.memory_size at (width_of wide)) k is
-routed there (Op.Sc at value wide) k is = by_registers (are_registers at (width_of wide)) (page_of there.memory_size at (width_of wide)) k is
+routed there (Op.Read at len) k is =
+    let op : Op = Op.Read at len in
+    by_place there.ports (is_register_access op) (port_accessed op) (access_place there.memory_size op) k is
+routed there (Op.Write at piece) k is =
+    let op : Op = Op.Write at piece in
+    by_place there.ports (is_register_access op) (port_accessed op) (access_place there.memory_size op) k is
+routed there (Op.Amo at value kind wide) k is =
+    let op : Op = Op.Amo at value kind wide in
+    by_place there.ports (is_register_access op) (port_accessed op) (access_place there.memory_size op) k is
+routed there (Op.Lr at wide) k is =
+    let op : Op = Op.Lr at wide in
+    by_place there.ports (is_register_access op) (port_accessed op) (access_place there.memory_size op) k is
+routed there (Op.Sc at value wide) k is =
+    let op : Op = Op.Sc at value wide in
+    by_place there.ports (is_register_access op) (port_accessed op) (access_place there.memory_size op) k is
 routed there (Op.Port port act) k is = absurd (no_page_of_port (nat_lt port there.ports) port k is)
 routed there op k is = cc
 

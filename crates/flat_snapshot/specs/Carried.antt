@@ -36,12 +36,15 @@ abbrev pub slots_with : List Reservation → List (Option ℕ) → List (Option 
 slots_with [] slots = slots
 slots_with (r ∷ others) slots = slots_with others (slice_set slots (hart_limit * r.page + r.hart) (Some r.offset))
 
+-- a copy has no devices yet, and no start makes any
 abbrev pub carried_guest : StateCopy → List ℕ → Guest
 carried_guest copy bytes = record {
   memory = record { bytes = bytes; reserved = slots_with copy.reservations (unreserved copy.pages) };
   board = board_of copy;
+  ports = [];
   starts = map regs_of copy.harts;
   steps = steps_from copy.harts;
+  devices = [];
   written = none_written;
 }
 

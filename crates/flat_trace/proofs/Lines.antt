@@ -12,7 +12,9 @@ use Rattle.script_text.specs.declared.item.Item.TheVariants as item
 use Rattle.script_text.specs.declared.output.Misfit.TheVariants as misfit
 use Rattle.rv_supervisor.specs.declared.regs.Regs.{Regs}
 use Rattle.hart_trace.specs.Asks.{is_host_op}
-use Rattle.flat_guest.specs.Guest.{Guest, Wants, WantsFrom, is_actor}
+use Rattle.guest_devices.specs.Devices.{FlatDevice}
+use Rattle.flat_guest.specs.Guest.{Guest, Wants, WantsFrom, WantsOf, is_actor}
+use Rattle.flat_guest.proofs.Lists.{get_lt}
 use Rattle.flat_guest.specs.Steps.{Answers as AnswersAt, AnswersOut, is_given}
 use Rattle.flat_machine.specs.Items.{Answers, ItemStep, Misfits, Moves, Replies, RepliesLine, StepsLine}
 use Rattle.flat_machine.specs.Machine.{Machine, is_off, off_by, running, running_by}
@@ -26,20 +28,20 @@ own_guest guest false g is = is
 guest_is : (m : Machine) (g : Guest) → running m ≡ Some g → m.guest ≡ Some g
 guest_is m g is = own_guest m.guest m.paused g is
 
-below : (xs : List Regs) (k : ℕ) (r : Regs) → slice_get xs k ≡ Some r → k < length xs
-below [] k r is = cc
-below (x ∷ xs) zero r is = omega arith
-below (x ∷ xs) (suc k) r is = let rest = below xs k r is in omega (arith, rest)
-
 there_from : (starts : List Regs) (k : ℕ) (o : Option Regs) (steps : List Step) (op : Op) → slice_get starts k ≡ o
     → WantsFrom o steps op → nat_lt k (length starts) ≡ true
 there_from starts k None steps op is wants = absurd wants
-there_from starts k (Some r) steps op is wants = lt-ltb k (length starts) (below starts k r is)
+there_from starts k (Some r) steps op is wants = get_lt starts k r is
+
+device_there : (devices : List FlatDevice) (k : ℕ) (o : Option FlatDevice) (op : Op) → slice_get devices k ≡ o
+    → WantsOf o op → nat_lt k (length devices) ≡ true
+device_there devices k None op is wants = absurd wants
+device_there devices k (Some d) op is wants = get_lt devices k d is
 
 there : (g : Guest) (actor : ActorId) (op : Op) → Wants g actor op → is_actor g actor ≡ true
 there g ActorId.Timer op wants = refl
 there g (ActorId.Hart k) op wants = there_from g.starts k (slice_get g.starts k) (g.steps (ActorId.Hart k)) op refl wants
-there g (ActorId.Device k) op wants = absurd wants
+there g (ActorId.Device k) op wants = device_there g.devices k (slice_get g.devices k) op refl wants
 
 there_at : (g : Guest) (actor : ActorId) (given : Option Reply) (m n : Machine) → Answers g actor given m [] n → is_actor g actor ≡ true
 there_at g actor given m n a =
@@ -87,7 +89,7 @@ given_at : (place : PlaceId) (g : Guest) (actor : ActorId) (op : Op) (given repl
     → AnswersAt place g actor op (Some given) reply → (is_host_op op ≡ true) × (is_given op (Some given) ≡ true)
 given_at (PlaceId.Page i) g actor op given reply answer = cc
 given_at PlaceId.Board g actor op given reply answer = cc
-given_at (PlaceId.Port k) g actor op given reply answer = absurd answer
+given_at (PlaceId.Port k) g actor op given reply answer = cc
 given_at PlaceId.Out g actor op given reply answer = given_out op given reply answer
 
 reply_line : (o : Option Guest) (actor : ActorId) (given : Reply) (m n : Machine) → HasEvent o actor (Some given) m n

@@ -51,8 +51,10 @@ copied config w g copy made is = (
   made ∙ (λ i. copy_of config (record {
     memory = is.memory_is i;
     board = is.board_is i;
+    ports = [];
     starts = [];
     steps = λ actor. [];
+    devices = [];
     written = none_written;
   }) w.harts),
 )

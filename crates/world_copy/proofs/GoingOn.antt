@@ -89,7 +89,7 @@ pub goes_on : (copy : StateCopy) (before pages : List PageValue) (board : Board)
     → (flat_of pages).reserved ≡ slots_with copy.reservations (flat_of before).reserved
     → (flat_of before).reserved ≡ unreserved copy.pages → marks_of pages ≡ marks_of before
     → marks_of before ≡ replicate copy.pages false → board ≡ board_at copy.guest_time copy.board → GoOn copy.harts harts
-    → IsWorld (world_with pages board new_timer harts) (carried_guest copy (flat_of before).bytes)
+    → IsWorld (world_with pages board [] new_timer harts []) (carried_guest copy (flat_of before).bytes)
 goes_on copy before pages board harts bytes reserved free marks unmarked board_is on = record {
   memory_is = λ i. record {
     bytes = bytes i;
@@ -97,6 +97,12 @@ goes_on copy before pages board harts bytes reserved free marks unmarked board_i
   };
   marks_are = subst (λ (l : List Bool). AreMarks l none_written) (sym (marks ∙ unmarked)) (none_marked copy.pages);
   board_is = board_is;
+  ports_are = refl;
   timer_is = timer_traces.leads_start;
   harts_are = record { count = as_many copy.harts harts on; each = λ k start hart begins is. each copy.harts harts on k start hart begins is };
+  devices_are = record {
+    count = refl;
+    each = λ k d left is here. cc;
+    sound = record { as_many = refl; each = λ k d is. cc };
+  };
 }

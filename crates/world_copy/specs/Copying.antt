@@ -10,8 +10,15 @@ use Rattle.vm_world.specs.Worlds.{WorldValue}
 
 -- a guest with its memory and its board, which is all that a copy looks at besides the harts
 abbrev pub guest_of : WorldValue → Guest
-guest_of w =
-    record { memory = flat_of w.pages; board = w.board; starts = []; steps = λ actor. []; written = none_written }
+guest_of w = record {
+  memory = flat_of w.pages;
+  board = w.board;
+  ports = [];
+  starts = [];
+  steps = λ actor. [];
+  devices = [];
+  written = none_written;
+}
 
 abbrev pub copy_in : Config → WorldValue → StateCopy
 copy_in config w = copy_of config (guest_of w) w.harts

@@ -92,5 +92,5 @@ pub fn world_of(alloc: Global, copy: &StateCopy, pages: PageSet) -> Result<World
     let board = board_of(alloc, count, copy.guest_time, &copy.board)?;
     let harts = harts_of(alloc, copy.pages, copy.harts.as_slice())?;
     reserve(&mut pages, count, copy.reservations.as_slice());
-    Ok(World::from_parts(pages, board, harts))
+    Ok(World::from_parts(alloc, pages, board, harts))
 }
