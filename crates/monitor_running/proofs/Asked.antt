@@ -49,7 +49,7 @@ no_hart (Some start) steps act wants =
     differ : true ≡ false → ⊥
     differ is = cc
 
-who_asks : (g : Guest) (actor : ActorId) (act : OutOp) → Wants g actor (Op.Out act) → (actor ≡ ActorId.Timer) × (act ≡ Clock)
+pub who_asks : (g : Guest) (actor : ActorId) (act : OutOp) → Wants g actor (Op.Out act) → (actor ≡ ActorId.Timer) × (act ≡ Clock)
 who_asks g ActorId.Timer act wants =
     let steps = g.steps ActorId.Timer in
     let t = timer_traces.some_timer steps (record { op = Op.Out act; reply = wants.0 } ∷ wants.1, wants.2) in

@@ -1,9 +1,11 @@
--- Events that lead from a world to another, whoever made them.
-use Rattle.std.specs.Prelude.{List}
+-- Where every hart waits, and the events that are made there.
+use Rattle.std.specs.Prelude.{ℕ, zero, suc, ◌≡◌, ◌<◌, List, [], ◌∷◌, ◌++◌, Some, length, map}
 use Rattle.vm_types.specs.declared.entry.Entry.{Entry}
+use Rattle.vm_types.specs.declared.ids.ActorId.{ActorId}
+use Rattle.vm_types.specs.declared.op.Op.{Op}
 use Rattle.vm_host.specs.Telling.{ClockKnown}
 use Rattle.flat_guest.specs.Guest.{Guest}
-use Rattle.vm_world.specs.Worlds.{IsWorld, WorldValue}
+use Rattle.vm_world.specs.Worlds.{IsWorld, WorldValue, want_in}
 use Rattle.slice_runner.specs.Slices.{ClockWasAsked, Leads}
 
 -- from each guest that the world was they lead to one that it is, and the timer got the clock's next answers
@@ -11,3 +13,26 @@ abbrev pub HasGone : List Entry → WorldValue → WorldValue → ClockKnown →
 HasGone events old new asked now =
     (g : Guest) → IsWorld old g
     → ((h : Guest) × Leads g events h × IsWorld new h) × ClockWasAsked asked events now
+
+-- each hart wants to wait
+abbrev pub AllIdle : WorldValue → Type 0
+AllIdle w = (k : ℕ) → k < length w.harts → want_in w (ActorId.Hart k) ≡ Some Op.Idle
+
+-- who made these events, one after another
+abbrev pub makers : List Entry → List ActorId
+makers events = map (λ (e : Entry). e.actor) events
+
+-- two events of each of so many harts, in order
+abbrev pub hart_turns : ℕ → List ActorId
+hart_turns zero = []
+hart_turns (suc k) = hart_turns k ++ ActorId.Hart k ∷ ActorId.Hart k ∷ []
+
+-- two of the timer, and then of each hart
+abbrev pub turns : ℕ → List ActorId
+turns harts = ActorId.Timer ∷ ActorId.Timer ∷ hart_turns harts
+
+-- the world was a guest, and is one with as many harts; and these actors made the events
+abbrev pub HasMade : List ActorId → List Entry → WorldValue → WorldValue → Type 0
+HasMade actors events old new =
+    (g : Guest) → IsWorld old g
+    → (h : Guest) × IsWorld new h × (length h.starts ≡ length g.starts) × (makers events ≡ actors)

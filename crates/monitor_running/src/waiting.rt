@@ -1,8 +1,25 @@
 // Where every hart waits: a round of the timer and a look of each hart, one after another, and no slice.
-ghost use Rattle.std.specs.Prelude.{◌≡◌, ◌+◌, ◌≤◌, [], IfOk, OnErr, length, vec_capacity, vec_len};
+ghost use Rattle.std.specs.Prelude.{
+  ℕ,
+  ◌≡◌,
+  ◌+◌,
+  ◌≤◌,
+  ◌↔◌,
+  true,
+  List,
+  [],
+  ◌∷◌,
+  ◌++◌,
+  IfOk,
+  OnErr,
+  length,
+  vec_capacity,
+  vec_len,
+};
 ghost use Rattle.vm_host.specs.Telling.{ClockKnown};
-ghost use Rattle.vm_world.specs.Worlds.{WorldValue};
-ghost use Rattle.monitor_running.specs.Waiting.{HasGone};
+ghost use Rattle.flat_guest.specs.Guest.{Guest, is_actor};
+ghost use Rattle.vm_world.specs.Worlds.{IsWorld, WorldValue};
+ghost use Rattle.monitor_running.specs.Waiting.{AllIdle, HasGone, HasMade, makers, turns};
 
 use slice_runner::ask_clock;
 use std::alloc::{AllocError, Global};
@@ -13,6 +30,7 @@ use vm_world::World;
 /// Whether every hart waits, so that only time is to pass.
 pub fn all_wait(world: &World) -> bool
     requires { length world.now.harts ≤ 32 }
+    ensures { (result ≡ true) ↔ AllIdle world.now }
 {
     for number in 0..world.hart_count() {
         if !matches!(world.want(ActorId::Hart(number as u8)), Some(Op::Idle)) {
@@ -28,6 +46,10 @@ fn step_once<C: Clock>(world: &mut World, actor: ActorId, clock: &mut C, events:
     ensures gone { (first : WorldValue) (asked : ClockKnown) →
         HasGone events.old.items first world.old asked (C.known clock.old) →
         HasGone events.new.items first world.new asked (C.known clock.new) }
+    ensures made { (first : WorldValue) (actors : List ActorId) →
+        ((g : Guest) → IsWorld first g → is_actor g actor ≡ true) →
+        HasMade actors events.old.items first world.old →
+        HasMade (actors ++ actor ∷ []) events.new.items first world.new }
     ensures room { vec_capacity events.new ≡ vec_capacity events.old }
     ensures most { vec_len events.new ≤ vec_len events.old + 1 }
 {
@@ -47,6 +69,10 @@ fn step_twice<C: Clock>(world: &mut World, actor: ActorId, clock: &mut C, events
     ensures gone { (first : WorldValue) (asked : ClockKnown) →
         HasGone events.old.items first world.old asked (C.known clock.old) →
         HasGone events.new.items first world.new asked (C.known clock.new) }
+    ensures made { (first : WorldValue) (actors : List ActorId) →
+        ((g : Guest) → IsWorld first g → is_actor g actor ≡ true) →
+        HasMade actors events.old.items first world.old →
+        HasMade (actors ++ actor ∷ actor ∷ []) events.new.items first world.new }
     ensures room { vec_capacity events.new ≡ vec_capacity events.old }
     ensures most { vec_len events.new ≤ vec_len events.old + 2 }
 {
@@ -54,7 +80,7 @@ fn step_twice<C: Clock>(world: &mut World, actor: ActorId, clock: &mut C, events
     step_once(world, actor, clock, events);
 }
 
-/// Two events of the timer, and then of each hart, in order. An `Err` leaves everything as it was.
+/// Two events of the timer, and then of each hart, in order, whatever they want. An `Err` leaves everything as it was.
 pub fn pass_time<C: Clock>(
     alloc: Global,
     world: &mut World,
@@ -63,6 +89,8 @@ pub fn pass_time<C: Clock>(
     requires { length world.old.harts ≤ 32 }
     ensures gone { IfOk result (λ events.
         HasGone events.items world.old world.new (C.known clock.old) (C.known clock.new)) }
+    ensures made { IfOk result (λ events. (g : Guest) → IsWorld world.old g →
+        makers events.items ≡ turns (length world.old.harts)) }
     ensures world { OnErr result (world.new ≡ world.old) }
     ensures clock { OnErr result (C.known clock.new ≡ C.known clock.old) }
 {

@@ -1,7 +1,8 @@
-use Rattle.std.proofs.Common.{sym, subst, List}
+use Rattle.std.proofs.Common.{sym, subst, List, ◌∷◌, ◌++◌, []}
 use Rattle.vm_types.specs.declared.entry.Entry.{Entry}
-use Rattle.monitor_running.specs.Waiting.{HasGone}
+use Rattle.monitor_running.specs.Waiting.{HasGone, HasMade}
 use Rattle.monitor_running.proofs.Going.{gone_more}
+use Rattle.monitor_running.proofs.Making.{made_more, never_refused}
 use Rattle.monitor_running.proofs.waiting.step_once.Goals as goal
 
 pub returns-in-Ok-clause-gone : goal.returns-in-Ok-clause-gone
@@ -11,3 +12,16 @@ returns-in-Ok-clause-gone g c = λ first asked gone.
     (gone_more first c.args.world.now asked (g.C.Clock.known c.args.clock.now) (g.C.Clock.known c.ask_clock-given.new.clock)
     c.args.events.now.items c.args.actor c.in-Some.op c.ask_clock-given.result c.in-Some.ensures.wants c.ask_clock-given.ensures
     gone c.step.new.self c.in-Ok.entry c.in-Ok.ensures.made)
+
+pub returns-in-Ok-clause-made : goal.returns-in-Ok-clause-made
+returns-in-Ok-clause-made g c = λ first actors there made.
+    subst (λ (es : List Entry). HasMade (actors ++ c.args.actor ∷ []) es first c.step.new.self) (sym c.push_reserved.ensures.items)
+    (made_more first c.args.world.now actors c.args.actor c.args.events.now.items there made c.ask_clock-given.result
+    c.step.new.self c.in-Ok.entry c.in-Ok.ensures.made)
+
+pub returns-in-Err-clause-made : goal.returns-in-Err-clause-made
+returns-in-Err-clause-made g c = λ first actors there made.
+    never_refused first c.args.world.now actors c.args.actor c.args.events.now.items there made c.in-Some.op
+    c.ask_clock-given.result (g.C.Clock.known c.args.clock.now) (g.C.Clock.known c.ask_clock-given.new.clock)
+    c.in-Some.ensures.wants c.ask_clock-given.ensures
+    (λ h is wants none. let no = c.in-Err.ensures.promised h c.in-Some.op is wants none in cc) _ _

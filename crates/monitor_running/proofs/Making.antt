@@ -1,0 +1,100 @@
+-- Who made the events of a wait.
+use Rattle.std.proofs.Common.{◌≡◌, ◌<◌, ◌+◌, ℕ, suc, nat_lt, ltb-false, Bool, true, false, arith, refl, sym, ap, ◌∙◌, subst, List, [], ◌∷◌, ◌++◌, length, Option, None, append_assoc}
+use Rattle.std.proofs.lemmas.List.{map-append}
+use Rattle.vm_types.specs.declared.ids.ActorId.{ActorId}
+use Rattle.vm_types.specs.declared.entry.Entry.{Entry}
+use Rattle.vm_types.specs.declared.op.Op.{Op}
+use Rattle.vm_types.specs.declared.op.OutOp.{OutOp}
+use Rattle.vm_types.specs.declared.op.OutOp.TheVariants.{Clock}
+use Rattle.vm_types.specs.declared.reply.Reply.{Reply}
+use Rattle.vm_host.specs.Telling.{ClockKnown}
+use Rattle.flat_guest.specs.Guest.{Guest, Wants, is_actor}
+use Rattle.flat_guest.specs.Steps.{guest_after}
+use Rattle.vm_world.specs.Refusing.{refusal_of}
+use Rattle.vm_world.specs.Worlds.{IsWorld, MakesEvent, WorldValue}
+use Rattle.slice_runner.specs.Runs.{IsAsked}
+use Rattle.monitor_running.specs.Waiting.{HasMade, turns}
+use Rattle.monitor_running.proofs.Asked.{who_asks}
+
+-- an actor stays among as many harts
+still_there : (actor : ActorId) (g h : Guest) → length h.starts ≡ length g.starts → is_actor g actor ≡ true → is_actor h actor ≡ true
+still_there ActorId.Timer g h same is = refl
+still_there (ActorId.Hart k) g h same is = ap (nat_lt k) same ∙ is
+still_there (ActorId.Device k) g h same is = is
+
+asked_of : (act : OutOp) (given : Option Reply) (old now : ClockKnown) → act ≡ Clock → IsAsked (Op.Out act) old given now
+    → refusal_of (Op.Out act) given ≡ None
+asked_of act given old now is asked =
+    let it : IsAsked (Op.Out Clock) old given now = subst (λ (a : OutOp). IsAsked (Op.Out a) old given now) is asked in
+    ap (λ (a : OutOp). refusal_of (Op.Out a) given) is ∙ ap (refusal_of (Op.Out Clock)) it.1
+
+-- what an actor wants is given what it is to be given
+unrefused : (g : Guest) (actor : ActorId) (op : Op) (given : Option Reply) (old now : ClockKnown) → Wants g actor op
+    → IsAsked op old given now → refusal_of op given ≡ None
+unrefused g actor (Op.Out act) given old now wants asked = asked_of act given old now (who_asks g actor act wants).1 asked
+unrefused g actor (Op.Read at len) given old now wants asked = ap (refusal_of (Op.Read at len)) asked.0
+unrefused g actor (Op.Write at piece) given old now wants asked = ap (refusal_of (Op.Write at piece)) asked.0
+unrefused g actor (Op.Amo at value kind wide) given old now wants asked = ap (refusal_of (Op.Amo at value kind wide)) asked.0
+unrefused g actor (Op.Lr at wide) given old now wants asked = ap (refusal_of (Op.Lr at wide)) asked.0
+unrefused g actor (Op.Sc at value wide) given old now wants asked = ap (refusal_of (Op.Sc at value wide)) asked.0
+unrefused g actor (Op.Port port act) given old now wants asked = ap (refusal_of (Op.Port port act)) asked.0
+unrefused g actor (Op.Board act) given old now wants asked = ap (refusal_of (Op.Board act)) asked.0
+unrefused g actor Op.Idle given old now wants asked = ap (refusal_of Op.Idle) asked.0
+
+-- ---- one event more
+
+module _ (first w : WorldValue) (actors : List ActorId) (actor : ActorId) (es : List Entry)
+    (there : (g : Guest) → IsWorld first g → is_actor g actor ≡ true) (has : HasMade actors es first w) where
+  pub made_more : (given : Option Reply) (v : WorldValue) (e : Entry)
+      → MakesEvent w (record { actor = actor; reply = given }) e v → HasMade (actors ++ actor ∷ []) (es ++ e ∷ []) first v
+  made_more given v e made g is =
+      let before = has g is in
+      let step = made.step before.0 before.1 in (
+        guest_after before.0 e,
+        made.stays before.0 before.1,
+        before.2,
+        map-append (λ (d : Entry). d.actor) es (e ∷ [])
+            ∙ ap (λ (l : List ActorId). l ++ e.actor ∷ []) before.3
+            ∙ ap (λ (a : ActorId). actors ++ a ∷ []) step.actor,
+      )
+
+  -- it is there
+  pub never_absent : ((g : Guest) → IsWorld w g → is_actor g actor ≡ false) → (to : WorldValue) (new : List Entry)
+      → HasMade (actors ++ actor ∷ []) new first to
+  never_absent absent to new g is =
+      let before = has g is in
+      let both : true ≡ false =
+      sym (still_there actor g before.0 before.2 (there g is)) ∙ absent before.0 before.1 in cc
+
+  -- and what it wants is not refused
+  pub never_refused : (op : Op) (given : Option Reply) (old now : ClockKnown) → ((g : Guest) → IsWorld w g → Wants g actor op)
+      → IsAsked op old given now
+      → ((g : Guest) → IsWorld w g → Wants g actor op → refusal_of op given ≡ None → ⊥) → (to : WorldValue) (new : List Entry)
+      → HasMade (actors ++ actor ∷ []) new first to
+  never_refused op given old now wants asked never to new g is =
+      let before = has g is in
+      let want = wants before.0 before.1 in
+      absurd (never before.0 before.1 want (unrefused before.0 actor op given old now want asked))
+
+-- nothing was done so far
+pub made_none : (w : WorldValue) → HasMade [] [] w w
+made_none w g is = (g, is, refl, refl)
+
+less_by : (k n : ℕ) (b : Bool) → nat_lt k n ≡ b → k < n → nat_lt k n ≡ true
+less_by k n true is less = is
+less_by k n false is less = let past = ltb-false k n is in absurd (omega (arith, past, less))
+
+-- a hart is there by its number
+pub hart_there : (w : WorldValue) (k : ℕ) → k < length w.harts → (g : Guest) → IsWorld w g → is_actor g (ActorId.Hart k) ≡ true
+hart_there w k less g is =
+    ap (nat_lt k) (sym is.harts_are.count) ∙ less_by k (length w.harts) (nat_lt k (length w.harts)) refl less
+
+-- twice the same is two more
+pub made_twice : (actors : List ActorId) (actor : ActorId) (es : List Entry) (first w : WorldValue)
+    → HasMade ((actors ++ actor ∷ []) ++ actor ∷ []) es first w → HasMade (actors ++ actor ∷ actor ∷ []) es first w
+made_twice actors actor es first w made =
+    subst (λ (l : List ActorId). HasMade l es first w) (append_assoc actors (actor ∷ []) (actor ∷ [])) made
+
+pub turns_more : (k : ℕ) → turns k ++ ActorId.Hart k ∷ ActorId.Hart k ∷ [] ≡ turns (k + 1)
+turns_more k =
+    let next : suc k ≡ k + 1 = omega arith in ap turns next
