@@ -5,6 +5,7 @@
 #![tactic(auto)]
 
 mod config;
+mod openings;
 mod port;
 mod queues;
 mod registers;

@@ -21,6 +21,7 @@ use Rattle.timer_trace.specs.States.{timer_next, timer_wants}
 use Rattle.flat_guest.specs.Body.{want_of}
 use Rattle.pause_gate.specs.Tally.{Tally}
 use Rattle.stamp_merge.specs.declared.history.History.{History}
+use Rattle.stamp_merge.specs.declared.layout.Layout.{Layout}
 use Rattle.stamp_merge.specs.declared.journal.Journal.{Journal}
 use Rattle.stamp_merge.specs.Journals.{all_of, journal_at}
 use Rattle.stamp_merge.specs.Legal.{AreFollowed, IsRun}
@@ -45,19 +46,19 @@ use Rattle.slice_runner.proofs.Leading.{Reaches, reaches, same_world}
 use Rattle.slice_runner.proofs.Returned.{Homes, homes, replayed, rising}
 use Rattle.slice_runner.proofs.Stepping.{IsThere}
 
-module _ {Q : Type 0} (serves : Q → Type 0) (tally : Q → Tally) (count n : ℕ) where
+module _ {Q : Type 0} (serves : Q → Type 0) (tally : Q → Tally) (layout : Layout) (n : ℕ) where
   -- each hart, by its number
   crew_by : (k : ℕ) (ws vs : List (HartWorker Q)) → length vs ≡ length ws → AreNumbered k ws
-      → ((i : ℕ) (d : HartWorker Q) → i < length ws → HartEnds serves tally count n (slice_index_or ws i d) (slice_index_or vs i d))
-      → Crew count k vs (harts_of ws)
+      → ((i : ℕ) (d : HartWorker Q) → i < length ws → HartEnds serves tally layout n (slice_index_or ws i d) (slice_index_or vs i d))
+      → Crew layout k vs (harts_of ws)
   crew_by k [] [] long ids each = tt
   crew_by k [] (v ∷ vs) long ids each = absurd (omega (arith, long))
   crew_by k (w ∷ ws) [] long ids each = absurd (omega (arith, long))
   crew_by k (w ∷ ws) (v ∷ vs) long ids each =
       let one : 0 < length (w ∷ ws) = omega arith in
-      let first : HartEnds serves tally count n w v = each 0 w one in (
+      let first : HartEnds serves tally layout n w v = each 0 w one in (
         first.worked.same ∙ ids.0,
-        subst (λ (a : ActorId). HasRun hart_wants hart_next count a w.hart v.track.journal.items v.hart v.track.clock) ids.0 first.worked.ran,
+        subst (λ (a : ActorId). HasRun hart_wants hart_next layout a w.hart v.track.journal.items v.hart v.track.clock) ids.0 first.worked.ran,
         crew_by (suc k) ws vs (omega (arith, long)) ids.1
             (λ i d below. let more : suc i < length (w ∷ ws) = omega (arith, below) in each (suc i) d more),
       )
@@ -70,7 +71,7 @@ module _ {Q : Type 0} (serves : Q → Type 0) (tally : Q → Tally) (count n : �
     pub cause : HasCause n s.stop worker.track.journal.items (hart_wants worker.hart) (tally p) (tally q)
 
   stop_by : (left : List Q) (k : ℕ) (ws vs : List (HartWorker Q)) → length vs ≡ length ws → AreNumbered k ws
-      → ((i : ℕ) (d : HartWorker Q) → i < length ws → HartEnds serves tally count n (slice_index_or ws i d) (slice_index_or vs i d))
+      → ((i : ℕ) (d : HartWorker Q) → i < length ws → HartEnds serves tally layout n (slice_index_or ws i d) (slice_index_or vs i d))
       → (j : ℕ) (s : Stopped) (p q : Q) → slice_get (map (λ (v : HartWorker Q). stop_of v.track) vs) j ≡ Some s
       → slice_get (passes_of ws ++ left) j ≡ Some p → slice_get (passes_of vs ++ left) j ≡ Some q → HartStop k j vs s p q
   stop_by left k [] [] long ids each j s p q stop before after = cc
@@ -78,7 +79,7 @@ module _ {Q : Type 0} (serves : Q → Type 0) (tally : Q → Tally) (count n : �
   stop_by left k (w ∷ ws) [] long ids each j s p q stop before after = absurd (omega (arith, long))
   stop_by left k (w ∷ ws) (v ∷ vs) long ids each zero s p q stop before after =
       let one : 0 < length (w ∷ ws) = omega arith in
-      let first : HartEnds serves tally count n w v = each 0 w one in
+      let first : HartEnds serves tally layout n w v = each 0 w one in
       let s_is : stop_of v.track ≡ s = cc in
       let p_is : w.track.pass ≡ p = cc in
       let q_is : v.track.pass ≡ q = cc in

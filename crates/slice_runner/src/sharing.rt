@@ -10,15 +10,16 @@ ghost use Rattle.vm_world.specs.Worlds.{world_with};
 ghost use Rattle.slice_runner.specs.Room.{HasRoom};
 ghost use Rattle.slice_runner.specs.Slices.{IsSlice};
 ghost use Rattle.slice_runner.specs.Unshared.{IsUnshared};
-ghost use Rattle.slice_runner.specs.Values.{page_at};
+ghost use Rattle.slice_runner.specs.Values.{page_at, port_at};
 
-use crate::locking::{lock_pages, unlock_board, unlock_pages};
+use crate::locks::Locks;
 use crate::room::{ActorRoom, EventRoom, PlaceRoom, Room};
 use crate::running::run_all;
 use crate::staffing::{dismiss, staff};
 use crate::stop::Stopped;
 use guest_pages::Page;
 use line_board::Board;
+use mmio_port::Port;
 use pause_gate::Gate;
 use place_locks::Locked;
 use stamp_merge::{History, Journal, Layout, compare, merge};
@@ -27,7 +28,7 @@ use std::mem::replace;
 use std::sync::Wait;
 use std::thread::Threads;
 use vm_host::Clock;
-use vm_types::{Entry, Openings, PlaceId, Torn};
+use vm_types::{Entry, Openings, Torn};
 use vm_world::WorldParts;
 
 /// What a slice leaves: the parts of the world, the events in order, and each actor's stop.
@@ -75,10 +76,11 @@ fn agree(
     compare(events.as_slice(), histories, layout, met)
 }
 
-/// One slice. `K` and `L` say how the places stood before, which are those of the parts.
+/// One slice. `K`, `M` and `L` say how the places stood before, which are those of the parts.
 pub fn share<
     Q: Send + Drop,
     K: Openings<Page> + Send + Sync,
+    M: Openings<Port> + Send + Sync,
     L: Openings<Board> + Send + Sync,
     C: Clock,
     G: Gate<Pass = Q> + Sync,
@@ -98,8 +100,9 @@ pub fn share<
     requires harts { length parts.harts.items ≤ 32 }
     requires passes { length parts.harts.items + 1 ≤ length passes.old.items }
     requires serve { All (G.serves gate.now) passes.old.items }
-    requires room { HasRoom (length parts.pages.items) (length parts.harts.items) (length passes.old.items) n room }
+    requires room { HasRoom (length parts.pages.items) 0 (length parts.harts.items) (length passes.old.items) n room }
     requires opening { (p : PlaceId) → K.opening p ≡ page_at parts.pages.items p }
+    requires ports { (p : PlaceId) → M.opening p ≡ port_at [] p }
     requires board { (p : PlaceId) → L.opening p ≡ parts.board }
     ensures shared { IfOk result (λ shared. IsSlice G.tally n (C.known clock.old) (C.known clock.new)
         (world_with parts.pages.items parts.board parts.timer parts.harts.items) shared.events.items
@@ -111,7 +114,11 @@ pub fn share<
     ensures serve { All (G.serves gate.now) passes.new.items }
     ensures same { length passes.new.items ≡ length passes.old.items }
 {
-    let Ok(mut locks) = Vec::<Locked<Page, K>>::with_capacity(alloc, parts.pages.len()) else {
+    let Ok(for_pages) = Vec::<Locked<Page, K>>::with_capacity(alloc, parts.pages.len()) else {
+        return Err(Unshared::OutOfMemory(parts));
+    };
+    let given_ports = Vec::<Port>::new(alloc);
+    let Ok(for_ports) = Vec::<Locked<Port, M>>::with_capacity(alloc, given_ports.len()) else {
         return Err(Unshared::OutOfMemory(parts));
     };
     let Room {
@@ -121,6 +128,7 @@ pub fn share<
     } = room;
     let PlaceRoom {
         mut pages,
+        mut ports,
         mut histories,
         mut met,
     } = places;
@@ -136,12 +144,15 @@ pub fn share<
         mut stops,
         mut events,
     } = events;
-    let layout = Layout {
-        pages: parts.pages.len() as u32,
-        ports: 0,
-    };
-    lock_pages(alloc, parts.pages, &mut locks);
-    let board = Locked::<Board, L>::new(alloc, PlaceId::Board, parts.board);
+    let locks = Locks::<K, M, L>::new(
+        alloc,
+        parts.pages,
+        given_ports,
+        parts.board,
+        for_pages,
+        for_ports,
+    );
+    let layout = locks.layout();
     let given = replace(passes, none);
     let mut timer = staff(
         parts.timer,
@@ -155,8 +166,7 @@ pub fn share<
     run_all(
         rt,
         gate,
-        locks.as_slice(),
-        &board,
+        &locks,
         n,
         clock,
         &mut timer,
@@ -171,8 +181,7 @@ pub fn share<
         &mut journals,
         &mut stops,
     );
-    unlock_pages(locks, &mut pages, &mut histories);
-    let board = unlock_board(board, &mut histories);
+    let board = locks.into_places(&mut pages, &mut ports, &mut histories);
     let agreed = agree(
         journals.as_slice(),
         histories.as_slice(),

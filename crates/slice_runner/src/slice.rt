@@ -84,14 +84,14 @@ pub fn run_slice<
 {
     let pages = world.pages().len();
     let harts = world.hart_count();
-    let Ok(room) = Room::<Q>::new(alloc, pages, harts, passes.len(), n) else {
+    let Ok(room) = Room::<Q>::new(alloc, pages, 0, harts, passes.len(), n) else {
         return Err(SliceError::OutOfMemory);
     };
     let Ok(board) = Board::new(alloc, 0) else {
         return Err(SliceError::OutOfMemory);
     };
     let parts = world.take(alloc, board);
-    match share::<Q, Brand, Brand, C, G, R>(
+    match share::<Q, Brand, Brand, Brand, C, G, R>(
         rt,
         alloc,
         gate,
