@@ -34,7 +34,7 @@ use Rattle.vm_host.specs.Telling.{AreNext, ClockKnown, Tells}
 use Rattle.vm_world.specs.Worlds.{IsWorld, WorldValue}
 use Rattle.slice_runner.specs.declared.stop.Stopped.{Stopped}
 use Rattle.slice_runner.specs.Stops.{AreStopped}
-use Rattle.slice_runner.specs.Values.{ActorState, actor_next, actor_wants, actors_of, layout_in, page_at, port_at, ports_in, route_among}
+use Rattle.slice_runner.specs.Values.{ActorState, actor_next, actor_wants, actors_of, layout_in, page_at, port_at, route_among}
 
 -- the event that an entry tells: who acted, and what a host object answered
 abbrev pub given_of : Op → Reply → Option Reply
@@ -85,7 +85,7 @@ ClockWasAsked old events new =
 abbrev pub ReplaysFrom : WorldValue → PlaceId → History → Type 0
 ReplaysFrom old PlaceId.Board h = (end : Board) × IsHistory board.touch h.kept old.board h.entries.items end
 ReplaysFrom old (PlaceId.Port k) h =
-    (end : PortState) × IsHistory port.touch h.kept (port_at (ports_in old) h.kept) h.entries.items end
+    (end : PortState) × IsHistory port.touch h.kept (port_at old.ports h.kept) h.entries.items end
 ReplaysFrom old lock h = (end : PageValue) × IsHistory page_touch h.kept (page_at old.pages h.kept) h.entries.items end
 
 -- journals that follow their actors' wants, and histories that replay from how the places stood, which don't agree
@@ -97,7 +97,7 @@ pub record IsTornSlice (old : WorldValue) (torn : Torn) (journals : List Journal
   pub in_order : IsOrder (all_of (journals_of journals)) order
   pub differ : IsTorn order histories torn
 
--- the events of a slice lead from the world before to the world after, which has pages still
+-- the events of a slice lead from the world before to the world after, which has its pages and its ports still
 pub record IsSlice {Q : Type 0} (tally : Q → Tally) (n : ℕ) (asked now : ClockKnown) (old : WorldValue)
     (events : List Entry) (new : WorldValue) (stops : List Stopped) (before after : List Q) : Type 0 where
   pub serial : IsSerial old events new
@@ -107,3 +107,4 @@ pub record IsSlice {Q : Type 0} (tally : Q → Tally) (n : ℕ) (asked now : Clo
   pub clock : ClockWasAsked asked events now
   pub pages : ArePages 0 new.pages
   pub count : length new.pages ≡ length old.pages
+  pub ports : length new.ports ≡ length old.ports

@@ -90,15 +90,11 @@ actor_among t harts ActorId.Timer = TimerIs t
 actor_among t harts (ActorId.Hart k) = HartIs (hart_or_none harts k)
 actor_among t harts (ActorId.Device k) = HartIs (fresh stopped_regs)
 
--- the ports of a world: there are none yet
-abbrev pub ports_in : WorldValue → List PortState
-ports_in w = []
-
 abbrev pub layout_in : WorldValue → Layout
-layout_in w = record { pages = length w.pages; ports = length (ports_in w) }
+layout_in w = record { pages = length w.pages; ports = length w.ports }
 
 abbrev pub places_of : WorldValue → PlaceId → PlaceValue
-places_of w = place_among w.pages (ports_in w) w.board
+places_of w = place_among w.pages w.ports w.board
 
 abbrev pub actors_of : WorldValue → ActorId → ActorState
 actors_of w = actor_among w.timer w.harts

@@ -6,10 +6,9 @@ ghost use Rattle.stamp_merge.specs.Journals.{all_of};
 ghost use Rattle.stamp_merge.specs.Merged.{journals_of};
 ghost use Rattle.stamp_merge.specs.Order.{IsOrder};
 ghost use Rattle.stamp_merge.specs.Parts.{Agree, AreLaid, IsTorn};
-ghost use Rattle.vm_world.specs.Worlds.{world_with};
 ghost use Rattle.slice_runner.specs.Room.{HasRoom};
 ghost use Rattle.slice_runner.specs.Slices.{IsSlice};
-ghost use Rattle.slice_runner.specs.Unshared.{IsUnshared};
+ghost use Rattle.slice_runner.specs.Unshared.{IsUnshared, world_of};
 ghost use Rattle.slice_runner.specs.Values.{page_at, port_at};
 
 use crate::locks::Locks;
@@ -97,19 +96,18 @@ pub fn share<
 ) -> Result<Shared, Unshared>
     requires pages { ArePages 0 parts.pages.items }
     requires few { length parts.pages.items ≤ 2 ^ 28 }
+    requires few_ports { length parts.ports.items ≤ 16 }
     requires harts { length parts.harts.items ≤ 32 }
     requires passes { length parts.harts.items + 1 ≤ length passes.old.items }
     requires serve { All (G.serves gate.now) passes.old.items }
-    requires room { HasRoom (length parts.pages.items) 0 (length parts.harts.items) (length passes.old.items) n room }
+    requires room { HasRoom (length parts.pages.items) (length parts.ports.items) (length parts.harts.items) (length passes.old.items) n room }
     requires opening { (p : PlaceId) → K.opening p ≡ page_at parts.pages.items p }
-    requires ports { (p : PlaceId) → M.opening p ≡ port_at [] p }
+    requires ports { (p : PlaceId) → M.opening p ≡ port_at parts.ports.items p }
     requires board { (p : PlaceId) → L.opening p ≡ parts.board }
     ensures shared { IfOk result (λ shared. IsSlice G.tally n (C.known clock.old) (C.known clock.new)
-        (world_with parts.pages.items parts.board parts.timer parts.harts.items) shared.events.items
-        (world_with shared.parts.pages.items shared.parts.board shared.parts.timer shared.parts.harts.items)
+        (world_of parts) shared.events.items (world_of shared.parts)
         shared.stops.items passes.old.items passes.new.items) }
-    ensures unshared { IfErr result (λ why. IsUnshared
-        (world_with parts.pages.items parts.board parts.timer parts.harts.items)
+    ensures unshared { IfErr result (λ why. IsUnshared (world_of parts)
         (C.known clock.old) (C.known clock.new) passes.old.items passes.new.items why) }
     ensures serve { All (G.serves gate.now) passes.new.items }
     ensures same { length passes.new.items ≡ length passes.old.items }
@@ -117,8 +115,7 @@ pub fn share<
     let Ok(for_pages) = Vec::<Locked<Page, K>>::with_capacity(alloc, parts.pages.len()) else {
         return Err(Unshared::OutOfMemory(parts));
     };
-    let given_ports = Vec::<Port>::new(alloc);
-    let Ok(for_ports) = Vec::<Locked<Port, M>>::with_capacity(alloc, given_ports.len()) else {
+    let Ok(for_ports) = Vec::<Locked<Port, M>>::with_capacity(alloc, parts.ports.len()) else {
         return Err(Unshared::OutOfMemory(parts));
     };
     let Room {
@@ -147,12 +144,13 @@ pub fn share<
     let locks = Locks::<K, M, L>::new(
         alloc,
         parts.pages,
-        given_ports,
+        parts.ports,
         parts.board,
         for_pages,
         for_ports,
     );
     let layout = locks.layout();
+    let devices = parts.devices;
     let given = replace(passes, none);
     let mut timer = staff(
         parts.timer,
@@ -199,8 +197,10 @@ pub fn share<
     let parts = WorldParts {
         pages,
         board,
+        ports,
         timer,
         harts,
+        devices,
     };
     Ok(Shared {
         parts,

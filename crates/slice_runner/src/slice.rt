@@ -83,8 +83,9 @@ pub fn run_slice<
     ensures same { length passes.new.items ≡ length passes.old.items }
 {
     let pages = world.pages().len();
+    let ports = world.ports().len();
     let harts = world.hart_count();
-    let Ok(room) = Room::<Q>::new(alloc, pages, 0, harts, passes.len(), n) else {
+    let Ok(room) = Room::<Q>::new(alloc, pages, ports, harts, passes.len(), n) else {
         return Err(SliceError::OutOfMemory);
     };
     let Ok(board) = Board::new(alloc, 0) else {

@@ -1,4 +1,4 @@
-use Rattle.std.proofs.Common.{sym, ap, ◌∙◌, ◌++◌}
+use Rattle.std.proofs.Common.{ap, ◌∙◌, ◌++◌}
 use Rattle.stamp_merge.specs.declared.layout.Layout.{Layout}
 use Rattle.slice_runner.proofs.Home.{one_more}
 use Rattle.slice_runner.proofs.locks.Locks.into_places.Goals as goal
@@ -15,8 +15,8 @@ returns g c =
       of_board = board.history;
       are = one_more pages.histories ports.histories c.unlock_board.new.histories.items c.unlock_all-2.new.histories.items board.history (ports.are ∙ ap (λ l. l ++ ports.histories) first) board.are;
       pages_home = pages.home;
-      pages_count = pages.count_is ∙ ap (λ (l : Layout). l.pages) (sym c.self.view_is);
+      pages_count = pages.count_is ∙ ap (λ (l : Layout). l.pages) c.self.view_is;
       ports_home = ports.home;
-      ports_count = ports.count_is ∙ ap (λ (l : Layout). l.ports) (sym c.self.view_is);
+      ports_count = ports.count_is ∙ ap (λ (l : Layout). l.ports) c.self.view_is;
       board_home = board.home;
     }
