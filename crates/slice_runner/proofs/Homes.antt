@@ -141,6 +141,12 @@ module _ {P V : Type 0} (touch : V → ActorId → Op → Reply × V) (value : P
       subst (λ n. AreLaid layout n (hs ++ rest)) e
       (laid_from layout first 0 ps hs home index (subst (λ n. AreLaid layout n rest) f more))
 
+  long_from : (i : ℕ) (ps : List P) (hs : List History) → AreHome touch value opening listed i ps hs → length hs ≡ length ps
+  long_from i [] [] home = refl
+  long_from i [] (h ∷ hs) home = absurd home
+  long_from i (p ∷ ps) [] home = absurd home
+  long_from i (p ∷ ps) (h ∷ hs) home = let e = long_from (suc i) ps hs home.1 in omega (arith, e)
+
   -- what holds of each, and of the rest
   each_from : (Of : History → Type 0) (i : ℕ) (ps : List P) (hs : List History) → AreHome touch value opening listed i ps hs
       → ((k : ℕ) (p : P) (h : History) → IsHome touch opened (name_of listed k) (value p) h → Of h) → AllByRecursion Of rest
@@ -154,6 +160,10 @@ module _ {P V : Type 0} (touch : V → ActorId → Op → Reply × V) (value : P
       → ((k : ℕ) (p : P) (h : History) → IsHome touch opened (name_of listed k) (value p) h → Of h) → AllByRecursion Of rest
       → AllByRecursion Of (hs ++ rest)
   each_of Of ps hs home one more = each_from Of 0 ps hs home one more
+
+pub long : {P V : Type 0} (touch : V → ActorId → Op → Reply × V) (value : P → V) (opening : PlaceId → P) (listed : Listed)
+    (ps : List P) (hs : List History) → AreHome touch value opening listed 0 ps hs → length hs ≡ length ps
+long touch value opening listed ps hs home = long_from touch value opening listed [] 0 ps hs home
 
 pub split_all : (Of : History → Type 0) (xs ys : List History) → AllByRecursion Of (xs ++ ys) → AllByRecursion Of xs × AllByRecursion Of ys
 split_all Of [] ys h = (tt, h)

@@ -1,6 +1,6 @@
 -- What came back from under the locks: the histories replay from how the places stood.
 use Rattle.std.proofs.Common.{◌≡◌, ℕ, zero, suc, ◌+◌, ◌<◌, nat_lt, Bool, true, false, cond, refl, sym, ap, ◌∙◌, subst, arith}
-use Rattle.std.proofs.Common.{List, [], ◌∷◌, ◌++◌, length, get_or}
+use Rattle.std.proofs.Common.{List, [], ◌∷◌, ◌++◌, length, get_or, length-append}
 use Rattle.std.proofs.lemmas.Bool.{ltb-true, ltb-false}
 use Rattle.std.specs.List.{AllByRecursion}
 use Rattle.vm_types.specs.declared.entry.Entry.{Entry}
@@ -20,7 +20,7 @@ use Rattle.stamp_merge.specs.Stamps.{AreRising}
 use Rattle.slice_runner.specs.declared.listed.Listed.TheVariants.{Pages, Ports}
 use Rattle.slice_runner.specs.Locks.{AllHome, IsHome}
 use Rattle.slice_runner.specs.Values.{BoardHolds, PageHolds, PlaceValue, PortHolds, no_port, page_or_none, place_among, place_touch, port_or_none}
-use Rattle.slice_runner.proofs.Homes.{IsLed, IsOwn, each_of, found_at, laid_on, led_behind, led_replays, led_rises, not_here, past, split_all}
+use Rattle.slice_runner.proofs.Homes.{IsLed, IsOwn, each_of, found_at, laid_on, led_behind, led_replays, led_rises, long, not_here, past, split_all}
 
 -- a list's item past its end is the other one
 pub none_there : {A : Type 0} (xs : List A) (k : ℕ) (d : A) → length xs < k + 1 → get_or xs k d ≡ d
@@ -53,7 +53,7 @@ stays v w es none same = record {
 }
 
 module _ (page_opening : PlaceId → PageValue) (port_opening : PlaceId → PortState) (board_opening : PlaceId → Board) (layout : Layout)
-    (ps qs : List PageValue) (ms ns : List PortState) (b c : Board) (all : List History)
+    (qs : List PageValue) (ns : List PortState) (c : Board) (all : List History)
     (home : AllHome page_opening port_opening board_opening layout qs ns c all) where
   -- in the order of the layout
   pub laid : AreLaid layout 0 all
@@ -68,6 +68,15 @@ module _ (page_opening : PlaceId → PageValue) (port_opening : PlaceId → Port
         tt,
       )))
 
+  -- one for each place
+  pub as_many : length all ≡ layout.pages + (layout.ports + 1)
+  as_many =
+      let pages = long page_touch (λ (p : PageValue). p) page_opening Pages qs home.of_pages home.pages_home in
+      let ports = long port.touch (λ (p : PortState). p) port_opening Ports ns home.of_ports home.ports_home in
+      let whole = length-append home.of_pages (home.of_ports ++ home.of_board ∷ []) in
+      let behind = length-append home.of_ports (home.of_board ∷ []) in
+      omega (arith, ap length home.are, pages, ports, whole, behind, home.pages_count, home.ports_count)
+
   -- what holds of each history
   pub each_history : (Of : History → Type 0)
       → ((k : ℕ) (p : PageValue) (h : History) → IsHome page_touch page_opening (PlaceId.Page k) p h → Of h)
@@ -79,12 +88,9 @@ module _ (page_opening : PlaceId → PageValue) (port_opening : PlaceId → Port
       (each_of port.touch (λ (p : PortState). p) port_opening Ports (home.of_board ∷ []) Of ns home.of_ports home.ports_home port_of
       (board_of home.board_home, tt)))
 
-  module _ (own : AllByRecursion IsOwn all) (pages_same : (i : ℕ) → page_opening (PlaceId.Page i) ≡ page_or_none ps i)
+  module _ (ps : List PageValue) (ms : List PortState) (b : Board) (own : AllByRecursion IsOwn all) (pages_same : (i : ℕ) → page_opening (PlaceId.Page i) ≡ page_or_none ps i)
       (ports_same : (k : ℕ) → port_opening (PlaceId.Port k) ≡ port_or_none ms k) (board_same : board_opening PlaceId.Board ≡ b)
       (pages_count : length ps ≡ layout.pages) (ports_count : length ms ≡ layout.ports) where
-    behind_pages : List History
-    behind_pages = home.of_ports ++ home.of_board ∷ []
-
     owns : AllByRecursion IsOwn (home.of_pages ++ (home.of_ports ++ home.of_board ∷ []))
     owns = subst (λ hs. AllByRecursion IsOwn hs) home.are own
 

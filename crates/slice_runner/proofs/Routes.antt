@@ -1,7 +1,7 @@
 -- Where ops act, among so many pages and ports.
 use Rattle.std.proofs.Common.{◌≡◌, ℕ, ◌+◌, ◌*◌, ◌-◌, ◌/◌, ◌%◌, ◌<◌, nat_le, nat_lt, max, Bool, true, false, cond, ◌&&◌, refl, sym, ap, ◌∙◌, subst, arith, length}
 use Rattle.std.proofs.lemmas.Bool.{ltb-true}
-use Rattle.std.proofs.Common.{Option, Some, None, IfOk, Result, Ok, Err}
+use Rattle.std.proofs.Common.{Option, Some, None, IfOk, OnErr, Result, Ok, Err}
 use Rattle.std.specs.declared.alloc.AllocError.{AllocError}
 use Rattle.vm_types.specs.declared.entry.Entry.{Entry}
 use Rattle.vm_types.specs.declared.ids.ActorId.{ActorId}
@@ -174,3 +174,13 @@ module _ (layout : Layout) (clock : ℕ) (actor : ActorId) (op : Op) (given : Op
 
   pub not_out : (place : PlaceId) → place ≡ route_among layout op → is_out place ≡ false → is_out (route_among layout op) ≡ false
   not_out place here inner = ap is_out (sym here) ∙ inner
+
+pub inside_of : (place : PlaceId) → (place ≡ PlaceId.Out → ⊥) → is_out place ≡ false
+inside_of (PlaceId.Page i) not = refl
+inside_of (PlaceId.Port k) not = refl
+inside_of PlaceId.Board not = refl
+inside_of PlaceId.Out not = absurd (not refl)
+
+pub also : (A B : Type 0) (r : Result Entry AllocError) → OnErr r A → B → OnErr r (A × B)
+also A B (Ok e) a b = tt
+also A B (Err why) a b = (a, b)

@@ -20,6 +20,7 @@ use Rattle.guest_pages.proofs.Sets.{act_memory, act_reply, act_stays}
 use Rattle.hart_trace.specs.States.{Hart, fresh, hart_next}
 use Rattle.flat_guest.specs.Body.{harts_after, lefts_after, out_reply, timer_after, want_of, with_reply}
 use Rattle.guest_devices.specs.Devices.{DeviceLeft}
+use Rattle.guest_devices.specs.Kept.{devices_left}
 use Rattle.port_table.specs.Acts as port
 use Rattle.port_table.specs.declared.state.PortState.{PortState}
 use Rattle.stamp_merge.specs.declared.layout.Layout.{Layout}
@@ -47,7 +48,7 @@ world_after w e = record {
   ports = ports_after e.place w.ports e.actor e.op;
   timer = timer_after e.actor w.timer e.reply;
   harts = harts_after e.actor w.harts e.reply;
-  devices = lefts_after e.actor w.devices e.reply;
+  devices = w.devices;
 }
 
 -- the actor is one of the timer and so many harts
@@ -146,7 +147,7 @@ pub record Steps (w : WorldValue) (e : Entry) : Type 0 where
   pub places : vals_after place_touch (places_of w) e ≡ places_of (world_after w e)
 
 module _ (w : WorldValue) (are : ArePages 0 w.pages) (actor : ActorId) (op : Op) (reply : Reply) (stamp before : ℕ)
-    (want : want_in w actor ≡ Some op) where
+    (want : want_in w actor ≡ Some op) (idle : lefts_after actor (devices_left w.devices) reply ≡ devices_left w.devices) where
   abbrev at : PlaceId → Entry
   at place = record { stamp = stamp; before = before; actor = actor; place = place; op = op; reply = reply }
 
@@ -178,7 +179,7 @@ module _ (w : WorldValue) (are : ArePages 0 w.pages) (actor : ActorId) (op : Op)
       let made = event_made w (world_after w (at (PlaceId.Page i))) actor op (given_of op reply) (PlaceId.Page i) reply want
       (given_none (layout_in w) op reply inner) (sym here)
       (act_reply w.pages w.pages i actor op old new refl are there same refl reply access answer)
-      (act_memory w.pages w.pages i actor op old new refl are there same refl access) (marks_here same answer) refl refl refl refl refl in
+      (act_memory w.pages w.pages i actor op old new refl are there same refl access) (marks_here same answer) refl refl refl refl (sym idle) in
       record {
         made = made;
         pages = act_stays w.pages w.pages i actor op old new refl are there same refl;
@@ -210,7 +211,7 @@ module _ (w : WorldValue) (are : ArePages 0 w.pages) (actor : ActorId) (op : Op)
       let none = given_in (layout_in w) op reply inner in
       record {
         made = event_made w (world_after w (at PlaceId.Board)) actor op (given_of op reply) PlaceId.Board reply want
-            (given_none (layout_in w) op reply inner) (routed PlaceId.Board is) answer refl refl refl refl refl refl refl;
+            (given_none (layout_in w) op reply inner) (routed PlaceId.Board is) answer refl refl refl refl refl refl (sym idle);
         pages = are;
         layout = refl;
         marks = follows PlaceId.Board refl;
@@ -233,7 +234,7 @@ module _ (w : WorldValue) (are : ArePages 0 w.pages) (actor : ActorId) (op : Op)
       record {
         made = event_made w (world_after w (at (PlaceId.Port k))) actor op (given_of op reply) (PlaceId.Port k) reply want
             (given_none (layout_in w) op reply inner) (routed (PlaceId.Port k) is)
-            (answer ∙ ap (λ (o : Option PortState). port_reply o actor op) (sym some)) refl refl refl refl refl refl refl;
+            (answer ∙ ap (λ (o : Option PortState). port_reply o actor op) (sym some)) refl refl refl refl refl refl (sym idle);
         pages = are;
         layout = λ j. record { pages = length w.pages; ports = ports_kept (slice_get w.ports k) w.ports k actor op j };
         marks = follows (PlaceId.Port k) refl;
@@ -252,7 +253,7 @@ module _ (w : WorldValue) (are : ArePages 0 w.pages) (actor : ActorId) (op : Op)
   nowhere : PlaceId.Out ≡ route_among (layout_in w) op → OutFits op reply → Steps w (at PlaceId.Out)
   nowhere is fit = record {
     made = event_made w (world_after w (at PlaceId.Out)) actor op (given_of op reply) PlaceId.Out reply want
-        (given_out op reply fit) (routed PlaceId.Out is) (reply_out op reply fit) refl refl refl refl refl refl refl;
+        (given_out op reply fit) (routed PlaceId.Out is) (reply_out op reply fit) refl refl refl refl refl refl (sym idle);
     pages = are;
     layout = refl;
     marks = follows PlaceId.Out refl;
@@ -289,12 +290,12 @@ harts_kept (ActorId.Hart k) harts reply = by_hart (slice_get harts k)
     by_hart None = refl
     by_hart (Some h) = length-set harts k (hart_next h reply)
 
--- no device acts
-devices_kept : (n : ℕ) (actor : ActorId) (devices : List DeviceLeft) (reply : Reply) → IsThere n actor
+-- none of these actors is a device
+no_device : (n : ℕ) (actor : ActorId) (devices : List DeviceLeft) (reply : Reply) → IsThere n actor
     → lefts_after actor devices reply ≡ devices
-devices_kept n ActorId.Timer devices reply there = refl
-devices_kept n (ActorId.Hart k) devices reply there = refl
-devices_kept n (ActorId.Device k) devices reply there = absurd there
+no_device n ActorId.Timer devices reply there = refl
+no_device n (ActorId.Hart k) devices reply there = refl
+no_device n (ActorId.Device k) devices reply there = absurd there
 
 -- one step, with what the next ones need
 pub record StepsOn (w : WorldValue) (e : Entry) : Type 0 where
@@ -315,13 +316,13 @@ pub steps_on : (w : WorldValue) (e : Entry) → ArePages 0 w.pages → IsThere (
     → IsReplied place_touch OutFits (places_of w) e → StepsOn w e
 steps_on w e are there want place answer =
     let wants : want_in w e.actor ≡ Some e.op = wants_there w e.actor there ∙ ap Some (sym want) in
-    let s : Steps w e = steps_at w are e.actor e.op e.reply e.stamp e.before wants e.place place answer in
+    let s : Steps w e = steps_at w are e.actor e.op e.reply e.stamp e.before wants (no_device (length w.harts) e.actor (devices_left w.devices) e.reply there) e.place place answer in
     record {
       step = λ g is. let flat = s.made.step g is in record { actor = refl; want = flat.want; place = flat.place; answer = flat.answer; after = refl };
       stays = λ g is. s.made.stays g is;
       pages = s.pages;
       layout = s.layout;
-      devices = devices_kept (length w.harts) e.actor w.devices e.reply there;
+      devices = refl;
       harts = harts_kept e.actor w.harts e.reply;
       marks = s.marks;
       places = s.places;

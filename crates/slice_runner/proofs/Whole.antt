@@ -187,7 +187,7 @@ module _ {Q : Type 0} (serves : Q → Type 0) (tally : Q → Tally) (n : ℕ) (a
     run =
         parts_run place_touch actor_wants actor_next (route_among size) OutFits (places_of old) (places_of new) (actors_of old) (actors_of new) js _
         followed
-        (replayed page_opening port_opening board_opening size old.pages pages old.ports ports old.board b all home own_all at_page at_port (board_same PlaceId.Board) refl refl)
+        (replayed page_opening port_opening board_opening size pages ports b all home old.pages old.ports old.board own_all at_page at_port (board_same PlaceId.Board) refl refl)
         events ordered agree.parts
 
     there : AllByRecursion (λ (e : Entry). IsThere (length old.harts) e.actor) events
@@ -258,7 +258,7 @@ module _ {Q : Type 0} (serves : Q → Type 0) (tally : Q → Tally) (n : ℕ) (a
       serial = subst (λ (w : WorldValue). IsSerial old events w) arrived reached.serial;
       stamps =
           stamps_run js _ events (are_stamped size old.timer old.harts u vs first ran crew)
-          (rising page_opening port_opening board_opening size old.pages pages old.ports ports old.board b all home own_all at_page at_port (board_same PlaceId.Board) refl refl)
+          (rising page_opening port_opening board_opening size pages ports b all home old.pages old.ports old.board own_all at_page at_port (board_same PlaceId.Board) refl refl)
           ordered agree.parts;
       marks = subst (λ (w : WorldValue). MarksFollow old.pages events w.pages) arrived reached.marks;
       stopped = record {

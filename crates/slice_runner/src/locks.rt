@@ -135,7 +135,8 @@ impl<K: Openings<Page>, M: Openings<Port>, L: Openings<Board>> Locks<K, M, L> {
         requires empty { (pages.old.items ≡ []) × (ports.old.items ≡ []) × (histories.old.items ≡ []) }
         requires room { (self.pages ≤ vec_capacity pages.old) × (self.ports ≤ vec_capacity ports.old)
             × (self.pages + (self.ports + 1) ≤ vec_capacity histories.old) }
-        ensures { AllHome K.opening M.opening L.opening self pages.new.items ports.new.items result histories.new.items }
+        ensures home { AllHome K.opening M.opening L.opening self pages.new.items ports.new.items result histories.new.items }
+        ensures count { length histories.new.items ≡ self.pages + (self.ports + 1) }
     {
         let Locks {
             pages: page_locks,

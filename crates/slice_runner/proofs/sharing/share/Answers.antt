@@ -23,12 +23,12 @@ use Rattle.slice_runner.proofs.Returned.{laid}
 use Rattle.slice_runner.proofs.Whole.{parted, whole}
 use Rattle.slice_runner.proofs.sharing.share.Goals as goal
 
-pub new-requires-clause-pages : goal.new-requires-clause-pages
-new-requires-clause-pages g c i d below =
+pub new-locks-requires-clause-pages : goal.new-locks-requires-clause-pages
+new-locks-requires-clause-pages g c i d below =
     get_or_default c.args.parts.pages.items i d (new_page 0) below ∙ sym (c.requires.opening (PlaceId.Page i))
 
-pub new-requires-clause-ports : goal.new-requires-clause-ports
-new-requires-clause-ports g c i d below =
+pub new-locks-requires-clause-ports : goal.new-locks-requires-clause-ports
+new-locks-requires-clause-ports g c i d below =
     get_or_default c.args.parts.ports.items i d no_port below ∙ sym (c.requires.ports (PlaceId.Port i))
 
 pub run_all-requires-clause-timer : goal.run_all-requires-clause-timer
@@ -55,11 +55,16 @@ agree-agreed-requires-clause-room g c =
     let whole = subst (λ (js : List Journal). length (all_of (journals_of js)) ≤ (length c.args.parts.harts.items + 1) * c.args.n) (sym c.as_slice.ensures.value) less in
     le_trans whole c.requires.room.events.for_events
 
+pub agree-agreed-requires-clause-met : goal.agree-agreed-requires-clause-met
+agree-agreed-requires-clause-met g c =
+    let many = ap (λ (l : Layout). l.pages + (l.ports + 1)) c.new-locks.ensures in
+    ap length c.as_mut_slice.ensures.value ∙ c.requires.room.places.for_met ∙ sym many ∙ sym c.into_places-board.ensures.count ∙ sym (ap length c.as_slice-2.ensures.value)
+
 pub agree-agreed-requires-clause-laid : goal.agree-agreed-requires-clause-laid
 agree-agreed-requires-clause-laid g c =
     subst (λ (hs : List History). AreLaid c.layout-layout.result 0 hs) (sym c.as_slice-2.ensures.value)
     (subst (λ (l : Layout). AreLaid l 0 c.into_places-board.new.histories.items) (sym c.layout-layout.ensures.layout)
-    (laid g.K.Openings.opening g.M.Openings.opening g.L.Openings.opening c.new-locks.result c.into_places-board.new.pages.items c.into_places-board.new.ports.items c.into_places-board.result c.into_places-board.new.histories.items c.into_places-board.ensures))
+    (laid g.K.Openings.opening g.M.Openings.opening g.L.Openings.opening c.new-locks.result c.into_places-board.new.pages.items c.into_places-board.new.ports.items c.into_places-board.result c.into_places-board.new.histories.items c.into_places-board.ensures.home))
 
 pub returns-in-Err-clause-unshared : goal.returns-in-Err-clause-unshared
 returns-in-Err-clause-unshared g c =
@@ -76,7 +81,7 @@ returns-in-Err-clause-unshared g c =
     let ends = subst (λ (l : Layout). TimerEnds serves tally l (timer_most n) asked now t c.run_all.new.timer) c.new-locks.ensures c.run_all.ensures.timer in
     let worked = subst (λ (l : Layout). HartsWorked serves tally l n ws c.run_all.new.harts.items) c.new-locks.ensures c.run_all.ensures.harts in
     let all = c.into_places-board.new.histories.items in
-    let home = subst (λ (l : Layout). AllHome g.K.Openings.opening g.M.Openings.opening g.L.Openings.opening l c.into_places-board.new.pages.items c.into_places-board.new.ports.items c.into_places-board.result all) c.new-locks.ensures c.into_places-board.ensures in
+    let home = subst (λ (l : Layout). AllHome g.K.Openings.opening g.M.Openings.opening g.L.Openings.opening l c.into_places-board.new.pages.items c.into_places-board.new.ports.items c.into_places-board.result all) c.new-locks.ensures c.into_places-board.ensures.home in
     let old = world_of c.args.parts in
     let order = subst (λ (js : List Journal). IsOrder (all_of (journals_of js)) c.agree-agreed.new.events.items) c.as_slice.ensures.value c.in-Err.ensures.order in
     let torn = subst (λ (hs : List History). IsTorn c.agree-agreed.new.events.items hs c.in-Err.torn) c.as_slice-2.ensures.value c.in-Err.ensures.agrees in
@@ -108,7 +113,7 @@ returns-clause-shared g c =
     let ends = subst (λ (l : Layout). TimerEnds serves tally l (timer_most n) asked now t c.run_all.new.timer) c.new-locks.ensures c.run_all.ensures.timer in
     let worked = subst (λ (l : Layout). HartsWorked serves tally l n ws c.run_all.new.harts.items) c.new-locks.ensures c.run_all.ensures.harts in
     let all = c.into_places-board.new.histories.items in
-    let home = subst (λ (l : Layout). AllHome g.K.Openings.opening g.M.Openings.opening g.L.Openings.opening l c.into_places-board.new.pages.items c.into_places-board.new.ports.items c.into_places-board.result all) c.new-locks.ensures c.into_places-board.ensures in
+    let home = subst (λ (l : Layout). AllHome g.K.Openings.opening g.M.Openings.opening g.L.Openings.opening l c.into_places-board.new.pages.items c.into_places-board.new.ports.items c.into_places-board.result all) c.new-locks.ensures c.into_places-board.ensures.home in
     let old = world_of c.args.parts in
     let order = subst (λ (js : List Journal). IsOrder (all_of (journals_of js)) c.agree-agreed.new.events.items) c.as_slice.ensures.value c.in_default-agreed.ensures.order in
     let agreed = subst (λ (hs : List History). Agree c.agree-agreed.new.events.items hs) c.as_slice-2.ensures.value c.in_default-agreed.ensures.agrees in
