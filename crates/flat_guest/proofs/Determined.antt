@@ -13,7 +13,9 @@ use Rattle.hart_trace.proofs.Traces.{one_op}
 use Rattle.hart_trace.specs.Asks.{is_host_op}
 use Rattle.timer_trace.proofs.Traces as timer_traces
 use Rattle.flat_guest.specs.declared.places.Layout.{Layout}
-use Rattle.flat_guest.specs.Guest.{Guest, Wants, WantsFrom, layout_of}
+use Rattle.guest_devices.specs.Devices.{FlatDevice}
+use Rattle.guest_devices.proofs.Follows.{wants_only}
+use Rattle.flat_guest.specs.Guest.{Guest, Wants, WantsFrom, WantsOf, layout_of}
 use Rattle.flat_guest.specs.Places.{place_of}
 use Rattle.flat_guest.specs.Steps.{Answers, AnswersOut, FlatStep, IsOnBefore, Makes, StepsBy, Stops, Waits, guest_after}
 
@@ -31,7 +33,7 @@ answers_one : (p : PlaceId) (g : Guest) (actor : ActorId) (op : Op) (given : Opt
     → Answers p g actor op given r → Answers p g actor op given s → r ≡ s
 answers_one (PlaceId.Page i) g actor op given r s a b = a.1 ∙ sym b.1
 answers_one PlaceId.Board g actor op given r s a b = a.1 ∙ sym b.1
-answers_one (PlaceId.Port k) g actor op given r s a b = absurd a
+answers_one (PlaceId.Port k) g actor op given r s a b = a.1 ∙ sym b.1
 answers_one PlaceId.Out g actor op given r s a b = out_one op given r s a b
 
 from_one : (start : Option Regs) (steps : List Step) (a b : Op) → WantsFrom start steps a → WantsFrom start steps b
@@ -39,10 +41,14 @@ from_one : (start : Option Regs) (steps : List Step) (a b : Op) → WantsFrom st
 from_one None steps a b x y = absurd x
 from_one (Some start) steps a b x y = one_op start steps a b x y
 
+device_one : (d : Option FlatDevice) (a b : Op) → WantsOf d a → WantsOf d b → a ≡ b
+device_one None a b x y = absurd x
+device_one (Some d) a b x y = x.2 ∙ sym (wants_only d x.0 b x.1 y)
+
 pub wants_one : (g : Guest) (actor : ActorId) (a b : Op) → Wants g actor a → Wants g actor b → a ≡ b
 wants_one g ActorId.Timer a b x y = timer_traces.one_op (g.steps ActorId.Timer) a b x y
 wants_one g (ActorId.Hart k) a b x y = from_one (slice_get g.starts k) (g.steps (ActorId.Hart k)) a b x y
-wants_one g actor a b x y = absurd x
+wants_one g (ActorId.Device k) a b x y = device_one (slice_get g.devices k) a b x y
 
 -- the guest after an entry, by what of it matters
 abbrev after_by : Guest → PlaceId → ActorId → Op → Reply → Guest

@@ -7,7 +7,7 @@ use Rattle.vm_types.specs.declared.reply.Reply.{Reply}
 use Rattle.vm_types.specs.Ids.{same_place}
 use Rattle.guest_pages.specs.Marks.{AreMarks, is_written, marks_after}
 use Rattle.flat_guest.specs.Guest.{none_written}
-use Rattle.flat_guest.proofs.Acting.{get_set_other}
+use Rattle.flat_guest.proofs.Lists.{get_set_other}
 
 set_is_true : (marks : List Bool) (k : ℕ) (m : Bool) → slice_get (slice_set marks k true) k ≡ Some m → m ≡ true
 set_is_true [] k m is = cc

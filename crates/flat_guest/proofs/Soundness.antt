@@ -23,14 +23,18 @@ use Rattle.timer_trace.specs.States.{new_timer, wants_by}
 use Rattle.timer_trace.specs.Traces as timer
 use Rattle.timer_trace.proofs.Traces as timer_traces
 use Rattle.guest_memory.specs.Boot.{Loads}
-use Rattle.flat_guest.specs.Guest.{Guest, Wants, WantsFrom, is_actor, layout_of}
+use Rattle.guest_devices.specs.Devices.{FlatDevice}
+use Rattle.guest_devices.proofs.Soundness.{some_want as device_want, want_own}
+use Rattle.flat_guest.specs.Guest.{Guest, Wants, WantsFrom, WantsOf, is_actor, layout_of}
 use Rattle.flat_guest.specs.Places.{place_of}
 use Rattle.flat_guest.specs.declared.places.Layout.{Layout}
 use Rattle.flat_guest.specs.Sound.{IsSound}
 use Rattle.flat_guest.specs.Start.{started, timer_restarted}
 use Rattle.flat_guest.specs.Steps.{IsOnBefore, IsUnstamped, StepsBy, Stops, Answers, AnswersOut, FlatStep, guest_after, is_given}
 use Rattle.flat_guest.specs.Body.{reply_at, out_reply}
-use Rattle.flat_guest.proofs.Answering.{answers_at, answer_fits}
+use Rattle.flat_guest.proofs.Answering.{IsPortThere, answers_at, answer_fits, no_port_there, own_there}
+use Rattle.flat_guest.proofs.Devices as devices
+use Rattle.flat_guest.proofs.Lists.{get_lt, lt_get}
 
 no_steps : timer.IsPrefix []
 no_steps = timer_traces.timer_prefix [] new_timer timer_traces.leads_start
@@ -39,12 +43,17 @@ pub sound_start : (harts mib : ℕ) (loads : Loads) → IsSound (started harts m
 sound_start harts mib loads = record {
   timer_on = no_steps;
   harts_on = λ k start is. hart_prefix start [] (fresh start) (leads_start start);
+  devices_on = record { as_many = refl; each = λ k d is. cc };
 }
 
 pub sound_restart : (g : Guest) → IsSound g → IsSound (timer_restarted g)
-sound_restart g sound = record { timer_on = no_steps; harts_on = λ k start is. sound.harts_on k start is }
+sound_restart g sound = record {
+  timer_on = no_steps;
+  harts_on = λ k start is. sound.harts_on k start is;
+  devices_on = sound.devices_on;
+}
 
--- what an actor wants is no act on a port, and a hart wants none on a host object
+-- what an actor wants on a port is on one that is there, and a hart wants nothing of a host object
 timer_port : (due : Option ℕ) → is_port_op (wants_by due) ≡ false
 timer_port None = refl
 timer_port (Some due) = refl
@@ -66,29 +75,40 @@ hart_port_by g k op (Some start) is sound wants =
     let same = wants_only start steps hart.0 op hart.1 (wants_from (slice_get g.starts k) start steps op is wants) in
     (ap is_port_op same ∙ never_port hart.0, ap is_host_op same ∙ never_host hart.0)
 
-no_port : (g : Guest) (actor : ActorId) (op : Op) → IsSound g → Wants g actor op → is_port_op op ≡ false
-no_port g ActorId.Timer op sound wants =
+device_port : (g : Guest) (k : ℕ) (op : Op) (o : Option FlatDevice) → slice_get g.devices k ≡ o → IsSound g
+    → WantsOf o op → IsPortThere (length g.ports) op
+device_port g k op None is sound wants = absurd wants
+device_port g k op (Some d) is sound wants =
+    let own = sound.devices_on.each k d is in
+    own_there (length g.ports) k op
+    (ap (λ (n : ℕ). nat_lt k n) sound.devices_on.as_many ∙ get_lt g.devices k d is)
+    (want_own k own.0 d op own.1 wants)
+
+port_there : (g : Guest) (actor : ActorId) (op : Op) → IsSound g → Wants g actor op → IsPortThere (length g.ports) op
+port_there g ActorId.Timer op sound wants =
     let t = timer_traces.some_timer (g.steps ActorId.Timer) sound.timer_on in
-    ap is_port_op (timer_traces.wants_only (g.steps ActorId.Timer) t.0 op t.1 wants) ∙ timer_port t.0.due
-no_port g (ActorId.Hart k) op sound wants = (hart_port_by g k op (slice_get g.starts k) refl sound wants).0
-no_port g actor op sound wants = absurd wants
+    no_port_there (length g.ports) op
+    (ap is_port_op (timer_traces.wants_only (g.steps ActorId.Timer) t.0 op t.1 wants) ∙ timer_port t.0.due)
+port_there g (ActorId.Hart k) op sound wants =
+    no_port_there (length g.ports) op (hart_port_by g k op (slice_get g.starts k) refl sound wants).0
+port_there g (ActorId.Device k) op sound wants = device_port g k op (slice_get g.devices k) refl sound wants
 
 -- and its answer fits
-out_replied : (op : Op) (given : Option Reply) (reply : Reply) → is_host_op op ≡ false → is_port_op op ≡ false
+out_replied : (op : Op) (given : Option Reply) (reply : Reply) → is_host_op op ≡ false
     → AnswersOut op given reply → reply ≡ out_reply op None
-out_replied (Op.Out act) given reply host port answer = cc
-out_replied (Op.Port device act) given reply host port answer = cc
-out_replied (Op.Board act) given reply host port answer = absurd answer.1
-out_replied Op.Idle given reply host port answer = answer.1
-out_replied op given reply host port answer = answer.1
+out_replied (Op.Out act) given reply host answer = cc
+out_replied (Op.Port device act) given reply host answer = absurd answer.1
+out_replied (Op.Board act) given reply host answer = absurd answer.1
+out_replied Op.Idle given reply host answer = answer.1
+out_replied op given reply host answer = answer.1
 
 replied : (p : PlaceId) (g : Guest) (actor : ActorId) (op : Op) (given : Option Reply) (reply : Reply)
-    → is_host_op op ≡ false → is_port_op op ≡ false → Answers p g actor op given reply
-    → reply ≡ reply_at p g.memory g.board actor op None
-replied (PlaceId.Page i) g actor op given reply host port answer = answer.1
-replied PlaceId.Board g actor op given reply host port answer = answer.1
-replied (PlaceId.Port k) g actor op given reply host port answer = absurd answer
-replied PlaceId.Out g actor op given reply host port answer = out_replied op given reply host port answer
+    → is_host_op op ≡ false → Answers p g actor op given reply
+    → reply ≡ reply_at p g.memory g.board g.ports actor op None
+replied (PlaceId.Page i) g actor op given reply host answer = answer.1
+replied PlaceId.Board g actor op given reply host answer = answer.1
+replied (PlaceId.Port k) g actor op given reply host answer = answer.1
+replied PlaceId.Out g actor op given reply host answer = out_replied op given reply host answer
 
 pub none_given : (op : Op) → is_host_op op ≡ false → is_given op None ≡ true
 none_given (Op.Out act) host = cc
@@ -103,13 +123,13 @@ host_fits there g actor (Op.Out act) given reply host answer = answer.1
 host_fits there g actor op given reply host answer = cc
 
 fits_by : (g : Guest) (actor : ActorId) (op : Op) (given : Option Reply) (reply : Reply) (host : Bool)
-    → is_host_op op ≡ host → is_port_op op ≡ false → Answers (place_of (layout_of g) op) g actor op given reply
+    → is_host_op op ≡ host → IsPortThere (length g.ports) op → Answers (place_of (layout_of g) op) g actor op given reply
     → fits op reply ≡ true
 fits_by g actor op given reply true host port answer = host_fits (layout_of g) g actor op given reply host answer
 fits_by g actor op given reply false host port answer =
     subst (λ (r : Reply). fits op r ≡ true)
-    (sym (replied (place_of (layout_of g) op) g actor op given reply host port answer))
-    (answer_fits g.memory g.board actor (layout_of g) op None port (none_given op host))
+    (sym (replied (place_of (layout_of g) op) g actor op given reply host answer))
+    (answer_fits (length g.memory.bytes) g.memory g.board g.ports actor op None port (none_given op host))
 
 same_hart : (k : ℕ) (actor : ActorId) → same_actor (ActorId.Hart k) actor ≡ true → actor ≡ ActorId.Hart k
 same_hart k (ActorId.Hart j) same = ap (λ (n : ℕ). ActorId.Hart n) (sym (eqb-true k j same))
@@ -124,7 +144,7 @@ same_timer (ActorId.Device j) same = cc
 module _ (g : Guest) (event : Event) (e : Entry) (h : Guest) (sound : IsSound g) (step : FlatStep g event e h) where
   fit : fits e.op e.reply ≡ true
   fit =
-      fits_by g e.actor e.op event.reply e.reply (is_host_op e.op) refl (no_port g e.actor e.op sound step.want)
+      fits_by g e.actor e.op event.reply e.reply (is_host_op e.op) refl (port_there g e.actor e.op sound step.want)
       (subst (λ (p : PlaceId). Answers p g e.actor e.op event.reply e.reply) step.place step.answer)
 
   own : (k : ℕ) (start : Regs) → slice_get g.starts k ≡ Some start → e.actor ≡ ActorId.Hart k
@@ -154,6 +174,7 @@ module _ (g : Guest) (event : Event) (e : Entry) (h : Guest) (sound : IsSound g)
     timer_on = by_timer (same_actor ActorId.Timer e.actor) refl;
     harts_on =
         λ k start is. by_actor k start is (same_actor (ActorId.Hart k) e.actor) refl;
+    devices_on = devices.sound_after g sound.devices_on e.place e.actor e.op e.reply step.want fit;
   }
 
   pub sound_next : IsSound h
@@ -176,10 +197,19 @@ hart_want_by g k (Some start) is sound there =
     let some = some_op start (g.steps (ActorId.Hart k)) (sound.harts_on k start is) in
     (some.0, subst (λ (s : Option Regs). WantsFrom s (g.steps (ActorId.Hart k)) some.0) (sym is) some.1)
 
+device_want_by : (g : Guest) (k : ℕ) (d : FlatDevice) → slice_get g.devices k ≡ Some d → IsSound g
+    → (op : Op) × Wants g (ActorId.Device k) op
+device_want_by g k d is sound =
+    let own = sound.devices_on.each k d is in
+    let want = device_want k own.0 d own.1 in
+    (want.0, subst (λ (o : Option FlatDevice). WantsOf o want.0) (sym is) want.1)
+
 some_want : (g : Guest) (actor : ActorId) → IsSound g → is_actor g actor ≡ true → (op : Op) × Wants g actor op
 some_want g ActorId.Timer sound there = timer_traces.some_op (g.steps ActorId.Timer) sound.timer_on
 some_want g (ActorId.Hart k) sound there = hart_want_by g k (slice_get g.starts k) refl sound there
-some_want g actor sound there = cc
+some_want g (ActorId.Device k) sound there =
+    let d = lt_get g.devices k there in
+    device_want_by g k d.0 d.1 sound
 
 done : (g : Guest) (actor : ActorId) (op : Op) (given : Option Reply) → IsSound g → Wants g actor op
     → is_given op given ≡ true
@@ -193,7 +223,7 @@ done g actor op given sound wants fit =
       place = place;
       op = op;
       reply =
-          reply_at place g.memory g.board actor op given;
+          reply_at place g.memory g.board g.ports actor op given;
     } in (
       e,
       guest_after g e,
@@ -202,7 +232,7 @@ done g actor op given sound wants fit =
         actor = refl;
         want = wants;
         place = refl;
-        answer = answers_at g actor (layout_of g) op given (no_port g actor op sound wants) fit;
+        answer = answers_at g actor op given (port_there g actor op sound wants) fit;
         after = refl;
       },
     )
@@ -225,7 +255,8 @@ hart_step g k sound there =
 kept : (g : Guest) (e : Entry) (actor : ActorId) → is_actor g actor ≡ true → is_actor (guest_after g e) actor ≡ true
 kept g e (ActorId.Hart k) there = there
 kept g e ActorId.Timer there = there
-kept g e (ActorId.Device k) there = there
+kept g e (ActorId.Device k) there =
+    ap (λ (n : ℕ). nat_lt k n) (devices.devices_many e.actor g.devices (record { op = e.op; reply = e.reply })) ∙ there
 
 actor_after : (g : Guest) (event : Event) (e : Entry) (h : Guest) (actor : ActorId) → FlatStep g event e h
     → is_actor g actor ≡ true → is_actor h actor ≡ true

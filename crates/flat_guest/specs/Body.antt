@@ -1,4 +1,5 @@
--- The guests that a body's data are: its memory, the marks of its pages, its board, its timer and its harts.
+-- The guests that a body's data are: its memory, the marks of its pages, its board and ports, its timer, its harts and its
+-- devices.
 use Rattle.std.specs.Prelude.{ℕ, ◌≡◌, Bool, List, Option, Some, None, length, slice_get, slice_set}
 use Rattle.vm_types.specs.declared.ids.ActorId.{ActorId}
 use Rattle.vm_types.specs.declared.ids.ActorId.TheVariants as actors
@@ -6,14 +7,29 @@ use Rattle.vm_types.specs.declared.ids.PlaceId.{PlaceId}
 use Rattle.vm_types.specs.declared.op.Op.{Op}
 use Rattle.vm_types.specs.declared.reply.Reply.{Reply}
 use Rattle.guest_memory.specs.Memory as memory
-use Rattle.guest_pages.specs.Marks.{AreMarks}
+use Rattle.guest_pages.specs.Marks.{AreMarks, marks_after}
 use Rattle.board_table.specs.Board.{Board}
 use Rattle.board_table.specs.Acts as board
+use Rattle.port_table.specs.declared.state.PortState.{PortState}
 use Rattle.rv_supervisor.specs.declared.regs.Regs.{Regs}
 use Rattle.hart_trace.specs.States.{Hart, LeadsTo, hart_next, hart_wants}
 use Rattle.timer_trace.specs.declared.timer.Timer.{Timer}
 use Rattle.timer_trace.specs.States as timer
+use Rattle.guest_devices.specs.Devices.{DeviceLeads, DeviceLeft, FlatDevice}
+use Rattle.guest_devices.specs.Kept as device
+use Rattle.flat_guest.specs.declared.places.Layout.{Layout}
 use Rattle.flat_guest.specs.Guest.{Guest}
+use Rattle.flat_guest.specs.Sound.{AreSoundDevices}
+use Rattle.flat_guest.specs.Steps.{board_after, memory_after, port_reply, ports_after}
+
+pub record Body : Type 0 where
+  pub memory : memory.Memory
+  pub marks : List Bool
+  pub board : Board
+  pub ports : List PortState
+  pub timer : Timer
+  pub harts : List Hart
+  pub devices : List DeviceLeft
 
 -- the harts are where the steps of each lead
 pub record AreHarts (harts : List Hart) (g : Guest) : Type 0 where
@@ -21,24 +37,37 @@ pub record AreHarts (harts : List Hart) (g : Guest) : Type 0 where
   pub each : (k : ℕ) (start : Regs) (hart : Hart) → slice_get g.starts k ≡ Some start → slice_get harts k ≡ Some hart
       → LeadsTo start (g.steps (actors.Hart k)) hart
 
--- memory and board are the guest's, the pages are marked that were written, and its timer and its harts are where the
--- steps lead
-pub record IsGuest (m : memory.Memory) (marks : List Bool) (b : Board) (t : Timer) (harts : List Hart) (g : Guest) : Type 0 where
-  pub memory_is : m ≡ g.memory
-  pub marks_are : AreMarks marks g.written
-  pub board_is : b ≡ g.board
-  pub timer_is : timer.LeadsTo (g.steps actors.Timer) t
-  pub harts_are : AreHarts harts g
+-- each device has still to do what its items lead to, and keeps to its own port
+pub record AreDevices (lefts : List DeviceLeft) (g : Guest) : Type 0 where
+  pub count : length lefts ≡ length g.devices
+  pub each : (k : ℕ) (d : FlatDevice) (left : DeviceLeft) → slice_get g.devices k ≡ Some d → slice_get lefts k ≡ Some left
+      → DeviceLeads d left
+  pub sound : AreSoundDevices g.ports g.devices
+
+-- memory, board and ports are the guest's, the pages are marked that were written, and its timer, its harts and its devices
+-- are where the steps lead
+pub record IsGuest (b : Body) (g : Guest) : Type 0 where
+  pub memory_is : b.memory ≡ g.memory
+  pub marks_are : AreMarks b.marks g.written
+  pub board_is : b.board ≡ g.board
+  pub ports_are : b.ports ≡ g.ports
+  pub timer_is : timer.LeadsTo (g.steps actors.Timer) b.timer
+  pub harts_are : AreHarts b.harts g
+  pub devices_are : AreDevices b.devices g
+
+-- what there is to act on
+abbrev pub body_layout : Body → Layout
+body_layout b = record { memory_size = length b.memory.bytes; ports = length b.ports }
 
 -- what an actor wants, if it is there
 abbrev pub want_of : Option Hart → Option Op
 want_of None = None
 want_of (Some hart) = Some (hart_wants hart)
 
-abbrev pub wants : Timer → List Hart → ActorId → Option Op
-wants t harts actors.Timer = Some (timer.timer_wants t)
-wants t harts (actors.Hart k) = want_of (slice_get harts k)
-wants t harts actor = None
+abbrev pub wants : Timer → List Hart → List DeviceLeft → ActorId → Option Op
+wants t harts devices actors.Timer = Some (timer.timer_wants t)
+wants t harts devices (actors.Hart k) = want_of (slice_get harts k)
+wants t harts devices (actors.Device k) = device.want_of (slice_get devices k)
 
 -- and what its reply makes of it; the others stay
 abbrev pub timer_after : ActorId → Timer → Reply → Timer
@@ -53,6 +82,10 @@ abbrev pub harts_after : ActorId → List Hart → Reply → List Hart
 harts_after (actors.Hart k) harts reply = with_reply (slice_get harts k) harts k reply
 harts_after actor harts reply = harts
 
+abbrev pub lefts_after : ActorId → List DeviceLeft → Reply → List DeviceLeft
+lefts_after (actors.Device k) devices reply = device.with_reply (slice_get devices k) devices k reply
+lefts_after actor devices reply = devices
+
 -- the reply of an act with no place: what is given, where a host object is asked
 abbrev pub out_reply : Op → Option Reply → Reply
 out_reply op (Some reply) = reply
@@ -60,7 +93,20 @@ out_reply Op.Idle None = Reply.Done
 out_reply op None = Reply.AccessFault
 
 -- the reply of an act by its place
-abbrev pub reply_at : PlaceId → memory.Memory → Board → ActorId → Op → Option Reply → Reply
-reply_at (PlaceId.Page i) m b actor op given = (memory.touch m actor op).0
-reply_at PlaceId.Board m b actor op given = (board.touch b actor op).0
-reply_at place m b actor op given = out_reply op given
+abbrev pub reply_at : PlaceId → memory.Memory → Board → List PortState → ActorId → Op → Option Reply → Reply
+reply_at (PlaceId.Page i) m b ports actor op given = (memory.touch m actor op).0
+reply_at PlaceId.Board m b ports actor op given = (board.touch b actor op).0
+reply_at (PlaceId.Port k) m b ports actor op given = port_reply (slice_get ports k) actor op
+reply_at PlaceId.Out m b ports actor op given = out_reply op given
+
+-- the body behind an act
+abbrev pub body_after : PlaceId → ActorId → Op → Reply → Body → Body
+body_after place actor op reply b = record {
+  memory = memory_after place b.memory actor op;
+  marks = marks_after place b.marks op reply;
+  board = board_after place b.board actor op;
+  ports = ports_after place b.ports actor op;
+  timer = timer_after actor b.timer reply;
+  harts = harts_after actor b.harts reply;
+  devices = lefts_after actor b.devices reply;
+}

@@ -1,25 +1,28 @@
--- A guest: memory, the board, for each hart its registers at the start, for each actor its steps since, and which pages
--- were written.
+-- A guest: memory, the board, the ports of its devices, for each hart its registers at the start, for each actor its steps
+-- since, its devices, and which pages were written.
 use Rattle.std.specs.Prelude.{ℕ, zero, suc, nat_lt, Bool, true, false, if◌then◌else◌, List, [], ◌∷◌, Option, Some, None, length, slice_get}
 use Rattle.vm_types.specs.declared.ids.ActorId.{ActorId}
-use Rattle.vm_types.specs.declared.ids.ActorId.TheVariants.{Timer, Hart}
+use Rattle.vm_types.specs.declared.ids.ActorId.TheVariants.{Timer, Hart, Device}
 use Rattle.vm_types.specs.declared.op.Op.{Op}
 use Rattle.vm_types.specs.declared.entry.Step.{Step}
 use Rattle.guest_memory.specs.Memory.{Memory}
 use Rattle.board_table.specs.Board.{Board}
+use Rattle.port_table.specs.declared.state.PortState.{PortState}
 use Rattle.rv_supervisor.specs.declared.regs.Regs.{Regs}
 use Rattle.hart_trace.specs.Traces.{Continues}
 use Rattle.timer_trace.specs.Traces as timer
+use Rattle.guest_devices.specs.Devices.{DeviceWants, FlatDevice}
 use Rattle.flat_guest.specs.declared.places.Layout.{Layout}
-use Rattle.flat_guest.specs.Places.{without_devices}
 
--- `written` says of each page by its number whether an event wrote it since the guest started, goes on from a snapshot,
+-- The device of a number has the port of that number. `written` says of each page by its number whether an event wrote it since the guest started, goes on from a snapshot,
 -- or was last saved in one
 pub record Guest : Type 0 where
   pub memory : Memory
   pub board : Board
+  pub ports : List PortState
   pub starts : List Regs
   pub steps : ActorId → List Step
+  pub devices : List FlatDevice
   pub written : ℕ → Bool
 
 -- no page was written
@@ -36,22 +39,26 @@ numbers_written written i (suc count) =
 abbrev pub unwritten : Guest → Guest
 unwritten g = record g { written = none_written }
 
--- the actors that there are: the timer, and the harts by their numbers
+-- the actors that there are: the timer, and the harts and devices by their numbers
 abbrev pub is_actor : Guest → ActorId → Bool
 is_actor g Timer = true
 is_actor g (Hart k) = nat_lt k (length g.starts)
-is_actor g actor = false
+is_actor g (Device k) = nat_lt k (length g.devices)
 
 -- an actor's want is the op that continues its steps to a trace
 abbrev pub WantsFrom : Option Regs → List Step → Op → Type 0
 WantsFrom None steps op = ⊥
 WantsFrom (Some start) steps op = Continues start steps op
 
+abbrev pub WantsOf : Option FlatDevice → Op → Type 0
+WantsOf None op = ⊥
+WantsOf (Some d) op = DeviceWants d op
+
 abbrev pub Wants : Guest → ActorId → Op → Type 0
 Wants g Timer op = timer.Continues (g.steps Timer) op
 Wants g (Hart k) op = WantsFrom (slice_get g.starts k) (g.steps (Hart k)) op
-Wants g actor op = ⊥
+Wants g (Device k) op = WantsOf (slice_get g.devices k) op
 
--- what there is to act on: its memory, and no device yet
+-- what there is to act on: its memory, and its ports
 abbrev pub layout_of : Guest → Layout
-layout_of g = without_devices (length g.memory.bytes)
+layout_of g = record { memory_size = length g.memory.bytes; ports = length g.ports }

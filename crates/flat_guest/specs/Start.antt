@@ -14,13 +14,15 @@ use Rattle.flat_guest.specs.Guest.{Guest, none_written}
 abbrev pub start_of_harts : ℕ → ℕ → List Regs
 start_of_harts harts mib = slice_set (replicate harts stopped_regs) 0 (start_regs image_start 0 (tree_start mib))
 
--- so many harts, with this much memory and this loaded into it
+-- so many harts, with this much memory and this loaded into it, and no device
 abbrev pub started : ℕ → ℕ → Loads → Guest
 started harts mib loads = record {
   memory = boot_memory mib loads;
   board = new_board harts;
+  ports = [];
   starts = start_of_harts harts mib;
   steps = λ actor. [];
+  devices = [];
   written = none_written;
 }
 

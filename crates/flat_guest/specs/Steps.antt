@@ -1,6 +1,6 @@
 -- The flat step: an actor's want is done where it belongs. And several of them.
 use Rattle.std.specs.Prelude.{ℕ, ◌≡◌, ◌<◌, ◌⊎◌, true, false, ◌||◌, if◌then◌else◌, Bool, Option, Some, None}
-use Rattle.std.specs.Prelude.{List, [], ◌∷◌, ◌++◌, length}
+use Rattle.std.specs.Prelude.{List, [], ◌∷◌, ◌++◌, length, slice_get, slice_set}
 use Rattle.vm_types.specs.declared.ids.ActorId.{ActorId}
 use Rattle.vm_types.specs.declared.ids.PlaceId.{PlaceId}
 use Rattle.vm_types.specs.declared.op.Op.{Op}
@@ -15,6 +15,9 @@ use Rattle.guest_memory.specs.Memory as memory
 use Rattle.guest_pages.specs.Marks.{writes_page}
 use Rattle.board_table.specs.Board.{Board}
 use Rattle.board_table.specs.Acts as board
+use Rattle.port_table.specs.Acts as port
+use Rattle.port_table.specs.declared.state.PortState.{PortState}
+use Rattle.guest_devices.specs.Devices.{FlatDevice, device_did}
 use Rattle.hart_trace.specs.Asks.{is_host_op}
 use Rattle.flat_guest.specs.Guest.{Guest, Wants, layout_of}
 use Rattle.flat_guest.specs.Places.{place_of}
@@ -35,14 +38,20 @@ is_given op (Some reply) = false
 abbrev pub AnswersOut : Op → Option Reply → Reply → Type 0
 AnswersOut op given reply = IsGiven op given reply × OutFits op reply
 
+-- what a port answers; one that isn't there does as nothing in the machine does
+abbrev pub port_reply : Option PortState → ActorId → Op → Reply
+port_reply None actor op = Reply.AccessFault
+port_reply (Some p) actor op = (port.touch p actor op).0
+
 -- what an act is answered, by its place
 abbrev pub Answers : PlaceId → Guest → ActorId → Op → Option Reply → Reply → Type 0
 Answers (PlaceId.Page i) g actor op given reply = (given ≡ None) × (reply ≡ (memory.touch g.memory actor op).0)
 Answers PlaceId.Board g actor op given reply = (given ≡ None) × (reply ≡ (board.touch g.board actor op).0)
-Answers (PlaceId.Port k) g actor op given reply = ⊥
+Answers (PlaceId.Port k) g actor op given reply =
+    (given ≡ None) × (reply ≡ port_reply (slice_get g.ports k) actor op)
 Answers PlaceId.Out g actor op given reply = AnswersOut op given reply
 
--- what it leaves of memory and of the board
+-- what it leaves of memory, of the board and of the ports
 abbrev pub memory_after : PlaceId → memory.Memory → ActorId → Op → memory.Memory
 memory_after (PlaceId.Page i) m actor op = (memory.touch m actor op).1
 memory_after place m actor op = m
@@ -51,9 +60,26 @@ abbrev pub board_after : PlaceId → Board → ActorId → Op → Board
 board_after PlaceId.Board b actor op = (board.touch b actor op).1
 board_after place b actor op = b
 
+abbrev pub port_after : Option PortState → List PortState → ℕ → ActorId → Op → List PortState
+port_after None ports k actor op = ports
+port_after (Some p) ports k actor op = slice_set ports k (port.touch p actor op).1
+
+abbrev pub ports_after : PlaceId → List PortState → ActorId → Op → List PortState
+ports_after (PlaceId.Port k) ports actor op = port_after (slice_get ports k) ports k actor op
+ports_after place ports actor op = ports
+
 -- a step joins those of its actor
 abbrev pub steps_after : (ActorId → List Step) → ActorId → Step → ActorId → List Step
 steps_after steps actor s a = if same_actor a actor then steps a ++ s ∷ [] else steps a
+
+-- and is the next act of a device
+abbrev pub device_after : Option FlatDevice → List FlatDevice → ℕ → Step → List FlatDevice
+device_after None devices k s = devices
+device_after (Some d) devices k s = slice_set devices k (device_did d s)
+
+abbrev pub devices_after : ActorId → List FlatDevice → Step → List FlatDevice
+devices_after (ActorId.Device k) devices s = device_after (slice_get devices k) devices k s
+devices_after actor devices s = devices
 
 -- the page that an event wrote is one that was written
 abbrev pub written_after : (ℕ → Bool) → Entry → ℕ → Bool
@@ -63,7 +89,9 @@ abbrev pub guest_after : Guest → Entry → Guest
 guest_after g e = record g {
   memory = memory_after e.place g.memory e.actor e.op;
   board = board_after e.place g.board e.actor e.op;
+  ports = ports_after e.place g.ports e.actor e.op;
   steps = steps_after g.steps e.actor (record { op = e.op; reply = e.reply });
+  devices = devices_after e.actor g.devices (record { op = e.op; reply = e.reply });
   written = written_after g.written e;
 }
 

@@ -4,6 +4,7 @@ ghost use Rattle.flat_guest.specs.Places as places;
 
 use board_table::is_window;
 use guest_memory::{access_place, width_of};
+use port_table::port_at;
 use vm_types::{GuestAddr, Op, PlaceId};
 
 /// What there is to act on, beside the board: so many bytes of RAM, and the ports of so many devices, by their
@@ -20,6 +21,30 @@ fn are_registers(at: GuestAddr, len: usize) -> bool
     1 <= len && is_window(at, len)
 }
 
+// The port that has all bytes of an access, whether it is there or not.
+fn port_accessed(op: &Op) -> Option<u8>
+    ensures { result ≡ places.port_accessed op.now }
+{
+    match op {
+        Op::Read { at, len } => port_at(*at, *len),
+        Op::Write { at, piece } => port_at(*at, piece.len()),
+        Op::Amo { at, wide, .. } | Op::Lr { at, wide } | Op::Sc { at, wide, .. } => {
+            port_at(*at, width_of(*wide))
+        }
+        _ => None,
+    }
+}
+
+fn port_of(ports: u8, port: u8) -> PlaceId
+    ensures { result ≡ places.port_of ports port }
+{
+    if port < ports {
+        PlaceId::Port(port)
+    } else {
+        PlaceId::Out
+    }
+}
+
 fn is_register_access(op: &Op) -> bool
     ensures { result ≡ places.is_register_access op.now }
 {
@@ -34,20 +59,19 @@ fn is_register_access(op: &Op) -> bool
 }
 
 /// The place of an op, where there is so much; the memory has at most 2^40 bytes. An access that isn't inside one page
-/// of RAM or the board's registers, an act on a port that isn't there, an act on a host object and a wait have none: they are at `Out`.
+/// of RAM, the board's registers or a port that is there, an act on a port that isn't, an act on a host object and a wait
+/// have none: they are at `Out`.
 pub fn place(layout: Layout, op: &Op) -> PlaceId
     requires { layout.memory_size ≤ 2 ^ 40 }
     ensures { result ≡ places.place_of layout op.now }
 {
     match op {
-        Op::Port { port, act: _ } => if *port < layout.ports {
-            PlaceId::Port(*port)
-        } else {
-            PlaceId::Out
-        },
+        Op::Port { port, act: _ } => port_of(layout.ports, *port),
         Op::Board(_) => PlaceId::Board,
         _ => if is_register_access(op) {
             PlaceId::Board
+        } else if let Some(port) = port_accessed(op) {
+            port_of(layout.ports, port)
         } else {
             access_place(layout.memory_size, op)
         },

@@ -1,5 +1,5 @@
 -- A world's events are the flat machine's.
-use Rattle.std.proofs.Common.{◌≡◌, ℕ, zero, suc, ◌+◌, ◌<◌, true, false, Bool, nat_lt, refl, sym, ap, subst, ◌∙◌, List, [], ◌∷◌, length, replicate, slice_get, if◌then◌else◌, MatchOption, Option, Some, None, ◌⊎◌, arith}
+use Rattle.std.proofs.Common.{◌≡◌, ℕ, zero, suc, ◌+◌, ◌<◌, true, false, Bool, nat_lt, refl, sym, ap, subst, ◌∙◌, List, [], ◌∷◌, length, replicate, slice_get, if◌then◌else◌, MatchOption, is_some, Option, Some, None, ◌⊎◌, arith}
 use Rattle.std.proofs.lemmas.Bool.{lt-ltb, ltb-false, ltb-true}
 use Rattle.vm_types.specs.declared.ids.ActorId.{ActorId}
 use Rattle.vm_types.specs.Fits.{out_fits}
@@ -15,86 +15,119 @@ use Rattle.hart_trace.specs.States.{Hart, hart_wants, hart_next}
 use Rattle.timer_trace.specs.declared.timer.Timer.{Timer}
 use Rattle.timer_trace.specs.States.{new_timer}
 use Rattle.timer_trace.proofs.Traces as timer_traces
-use Rattle.flat_guest.specs.Guest.{Guest, Wants, WantsFrom, is_actor, none_written, unwritten}
-use Rattle.flat_guest.specs.Places.{is_register_access, place_of, without_devices}
-use Rattle.flat_guest.specs.Body.{harts_after, reply_at, timer_after, want_of, wants, with_reply}
+use Rattle.flat_guest.specs.Guest.{Guest, Wants, WantsFrom, WantsOf, is_actor, none_written, unwritten}
+use Rattle.guest_devices.specs.Devices.{DeviceLeft, FlatDevice, device_next, device_wants}
+use Rattle.guest_devices.specs.Kept as device
+use Rattle.guest_devices.specs.Kept.{devices_left}
+use Rattle.flat_guest.specs.declared.places.Layout.{Layout}
+use Rattle.flat_guest.specs.Places.{is_register_access, place_by, place_of, port_accessed}
+use Rattle.flat_guest.specs.Body.{body_after, harts_after, lefts_after, reply_at, timer_after, want_of, wants, with_reply}
 use Rattle.flat_guest.specs.Start.{timer_restarted}
-use Rattle.flat_guest.specs.Steps.{board_after, is_given, memory_after}
+use Rattle.flat_guest.specs.Steps.{board_after, is_given, memory_after, ports_after}
 use Rattle.flat_guest.proofs.Acting as acting
+use Rattle.flat_guest.proofs.Lists as lists
 use Rattle.flat_guest.proofs.Determined.{wants_one}
 use Rattle.flat_guest.proofs.Marked.{none_marked}
 use Rattle.flat_guest.proofs.Stepping.{HasMade, HasStopped, entry_of, has_made_more, ran, step_is, stays}
 use Rattle.vm_world.specs.declared.step_error.StepError.{StepError}
 use Rattle.vm_world.specs.Refusing.{refusal_of}
-use Rattle.vm_world.specs.Worlds.{IsWorld, MakesEvent, Runs, WorldValue, place_in, want_in}
+use Rattle.vm_world.specs.Worlds.{IsWorld, MakesEvent, Runs, WorldValue, body_of, place_in, want_in}
 
 -- an op that acts on a page is an access
 port_page : (b : Bool) (port i : ℕ) → (let place : PlaceId = if b then PlaceId.Port port else PlaceId.Out in place) ≡ PlaceId.Page i → ⊥
 port_page true port i is = cc
 port_page false port i is = cc
 
-on_page : (b : Bool) (i : ℕ) (place : PlaceId) → (let here : PlaceId = if b then PlaceId.Board else place in here) ≡ PlaceId.Page i → place ≡ PlaceId.Page i
-on_page true i place is = cc
-on_page false i place is = is
+on_page : (ports i : ℕ) (b : Bool) (o : Option ℕ) (place : PlaceId) → place_by ports b o place ≡ PlaceId.Page i
+    → place ≡ PlaceId.Page i
+on_page ports i true o place is = cc
+on_page ports i false (Some k) place is = absurd (port_page (nat_lt k ports) k i is)
+on_page ports i false None place is = is
 
-pub place_access : (size i : ℕ) (op : Op) → place_of (without_devices size) op ≡ PlaceId.Page i → access_place size op ≡ PlaceId.Page i
-place_access size i (Op.Port port act) is = absurd (port_page (nat_lt port 0) port i is)
-place_access size i (Op.Board act) is = cc
-place_access size i (Op.Read at len) is = on_page (is_register_access (Op.Read at len)) i (access_place size (Op.Read at len)) is
-place_access size i (Op.Write at piece) is = on_page (is_register_access (Op.Write at piece)) i (access_place size (Op.Write at piece)) is
-place_access size i (Op.Amo at value kind wide) is =
-    on_page (is_register_access (Op.Amo at value kind wide)) i (access_place size (Op.Amo at value kind wide)) is
-place_access size i (Op.Lr at wide) is = on_page (is_register_access (Op.Lr at wide)) i (access_place size (Op.Lr at wide)) is
-place_access size i (Op.Sc at value wide) is =
-    on_page (is_register_access (Op.Sc at value wide)) i (access_place size (Op.Sc at value wide)) is
-place_access size i (Op.Out act) is = is
-place_access size i Op.Idle is = is
+pub place_access : (there : Layout) (i : ℕ) (op : Op) → place_of there op ≡ PlaceId.Page i
+    → access_place there.memory_size op ≡ PlaceId.Page i
+place_access there i (Op.Port port act) is = absurd (port_page (nat_lt port there.ports) port i is)
+place_access there i (Op.Board act) is = cc
+place_access there i (Op.Read at len) is =
+    let op : Op = Op.Read at len in
+    on_page there.ports i (is_register_access op) (port_accessed op) (access_place there.memory_size op) is
+place_access there i (Op.Write at piece) is =
+    let op : Op = Op.Write at piece in
+    on_page there.ports i (is_register_access op) (port_accessed op) (access_place there.memory_size op) is
+place_access there i (Op.Amo at value kind wide) is =
+    let op : Op = Op.Amo at value kind wide in
+    on_page there.ports i (is_register_access op) (port_accessed op) (access_place there.memory_size op) is
+place_access there i (Op.Lr at wide) is =
+    let op : Op = Op.Lr at wide in
+    on_page there.ports i (is_register_access op) (port_accessed op) (access_place there.memory_size op) is
+place_access there i (Op.Sc at value wide) is =
+    let op : Op = Op.Sc at value wide in
+    on_page there.ports i (is_register_access op) (port_accessed op) (access_place there.memory_size op) is
+place_access there i (Op.Out act) is = is
+place_access there i Op.Idle is = is
 
 -- an actor's event
 pub event_made : (old new : WorldValue) (actor : ActorId) (op : Op) (given : Option Reply) (place : PlaceId) (reply : Reply)
     → want_in old actor ≡ Some op → is_given op given ≡ true → place ≡ place_in old op
-    → reply ≡ reply_at place (flat_of old.pages) old.board actor op given
+    → reply ≡ reply_at place (flat_of old.pages) old.board old.ports actor op given
     → flat_of new.pages ≡ memory_after place (flat_of old.pages) actor op
     → marks_of new.pages ≡ marks_after place (marks_of old.pages) op reply → new.board ≡ board_after place old.board actor op
-    → new.timer ≡ timer_after actor old.timer reply → new.harts ≡ harts_after actor old.harts reply
+    → new.ports ≡ ports_after place old.ports actor op → new.timer ≡ timer_after actor old.timer reply
+    → new.harts ≡ harts_after actor old.harts reply → devices_left new.devices ≡ lefts_after actor (devices_left old.devices) reply
     → MakesEvent old (record { actor = actor; reply = given }) (entry_of place actor op reply) new
-event_made old new actor op given place reply want fit at answer memory marks board timer harts = record {
-  unstamped = (refl, refl);
-  step =
-      λ g is. step_is (flat_of old.pages) (marks_of old.pages) old.board old.timer old.harts g actor op given place reply is want fit at answer;
-  stays =
-      λ g is. stays (flat_of old.pages) (flat_of new.pages) (marks_of old.pages) (marks_of new.pages) old.board new.board
-      old.timer new.timer old.harts new.harts g actor op given place reply is want fit at answer memory marks board timer harts;
-}
+event_made old new actor op given place reply want fit at answer memory marks board ports timer harts devices =
+    let after : body_of new ≡ body_after place actor op reply (body_of old) = λ i. record {
+      memory = memory i;
+      marks = marks i;
+      board = board i;
+      ports = ports i;
+      timer = timer i;
+      harts = harts i;
+      devices = devices i;
+    } in record {
+      unstamped = (refl, refl);
+      step = λ g is. step_is (body_of old) g actor op given place reply is want fit at answer;
+      stays = λ g is. stays (body_of old) (body_of new) g actor op given place reply is want fit at answer after;
+    }
 
 -- an actor that wanted something still wants something
 next_by : (o : Option Hart) (harts : List Hart) (k : ℕ) (op : Op) (reply : Reply) → slice_get harts k ≡ o
     → want_of o ≡ Some op → (next : Op) × (want_of (slice_get (with_reply o harts k reply) k) ≡ Some next)
 next_by None harts k op reply is want = cc
 next_by (Some hart) harts k op reply is want =
-    (hart_wants (hart_next hart reply), ap want_of (acting.get_set_same harts k hart (hart_next hart reply) is))
+    (hart_wants (hart_next hart reply), ap want_of (lists.get_set_same harts k hart (hart_next hart reply) is))
 
-pub still_there : (t : Timer) (harts : List Hart) (actor : ActorId) (op : Op) (reply : Reply)
-    → wants t harts actor ≡ Some op
-    → (next : Op) × (wants (timer_after actor t reply) (harts_after actor harts reply) actor ≡ Some next)
-still_there t harts ActorId.Timer op reply want = (_, refl)
-still_there t harts (ActorId.Hart k) op reply want = next_by (slice_get harts k) harts k op reply refl want
-still_there t harts (ActorId.Device k) op reply want = cc
+left_by : (o : Option DeviceLeft) (lefts : List DeviceLeft) (k : ℕ) (op : Op) (reply : Reply) → slice_get lefts k ≡ o
+    → device.want_of o ≡ Some op
+    → (next : Op) × (device.want_of (slice_get (device.with_reply o lefts k reply) k) ≡ Some next)
+left_by None lefts k op reply is want = cc
+left_by (Some left) lefts k op reply is want =
+    (device_wants (device_next left reply), ap device.want_of (lists.get_set_same lefts k left (device_next left reply) is))
 
-pub there_now : (w : WorldValue) (t : Timer) (harts : List Hart) (actor : ActorId) (op : Op) (reply : Reply)
-    → wants t harts actor ≡ Some op → w.timer ≡ timer_after actor t reply → w.harts ≡ harts_after actor harts reply
+pub still_there : (t : Timer) (harts : List Hart) (lefts : List DeviceLeft) (actor : ActorId) (op : Op) (reply : Reply)
+    → wants t harts lefts actor ≡ Some op
+    → (next : Op) × (wants (timer_after actor t reply) (harts_after actor harts reply) (lefts_after actor lefts reply) actor
+    ≡ Some next)
+still_there t harts lefts ActorId.Timer op reply want = (_, refl)
+still_there t harts lefts (ActorId.Hart k) op reply want = next_by (slice_get harts k) harts k op reply refl want
+still_there t harts lefts (ActorId.Device k) op reply want = left_by (slice_get lefts k) lefts k op reply refl want
+
+pub there_now : (w : WorldValue) (t : Timer) (harts : List Hart) (lefts : List DeviceLeft) (actor : ActorId) (op : Op)
+    (reply : Reply) → wants t harts lefts actor ≡ Some op → w.timer ≡ timer_after actor t reply
+    → w.harts ≡ harts_after actor harts reply → devices_left w.devices ≡ lefts_after actor lefts reply
     → (next : Op) × (want_in w actor ≡ Some next)
-there_now w t harts actor op reply want timer_is harts_is =
-    let next = still_there t harts actor op reply want in (
-      next.0,
-      ap (λ (x : Timer). wants x w.harts actor) timer_is
-          ∙ ap (λ (x : List Hart). wants (timer_after actor t reply) x actor) harts_is ∙ next.1,
-    )
+there_now w t harts lefts actor op reply want timer_is harts_are devices_are =
+    let next = still_there t harts lefts actor op reply want in
+    (next.0, (λ i. wants (timer_is i) (harts_are i) (devices_are i) actor) ∙ next.1)
 
 -- who wants nothing isn't there
 none_there : (o : Option Hart) → want_of o ≡ None → o ≡ None
 none_there None is = refl
 none_there (Some hart) is = cc
+
+no_left : (o : Option DeviceLeft) → device.want_of o ≡ None → o ≡ None
+no_left None is = refl
+no_left (Some left) is = cc
 
 by_lt : (k n : ℕ) (b : Bool) → nat_lt k n ≡ b → (k < n → ⊥) → nat_lt k n ≡ false
 by_lt k n true is not = absurd (not (ltb-true k n is))
@@ -109,7 +142,7 @@ later k n is = never (suc k) (suc n) (λ lt. omega (arith, lt, ltb-false k n is)
 next_lt : (k n : ℕ) → k < n → suc k < suc n
 next_lt k n lt = omega (arith, lt)
 
-past : (harts : List Hart) (starts : List Regs) (k : ℕ) → length harts ≡ length starts → slice_get harts k ≡ None
+past : {A B : Type 0} (harts : List A) (starts : List B) (k : ℕ) → length harts ≡ length starts → slice_get harts k ≡ None
     → (nat_lt k (length starts) ≡ false) × (slice_get starts k ≡ None)
 past [] [] k same is = (never k 0 (λ lt. omega (arith, lt)), refl)
 past [] (s ∷ starts) k same is = absurd (omega (arith, same))
@@ -124,7 +157,8 @@ pub not_there : (w : WorldValue) (g : Guest) (actor : ActorId) → IsWorld w g �
 not_there w g ActorId.Timer is none = cc
 not_there w g (ActorId.Hart k) is none =
     (past w.harts g.starts k is.harts_are.count (none_there (slice_get w.harts k) none)).0
-not_there w g (ActorId.Device k) is none = refl
+not_there w g (ActorId.Device k) is none =
+    (past (devices_left w.devices) g.devices k is.devices_are.count (no_left (slice_get (devices_left w.devices) k) none)).0
 
 pub no_want : (w : WorldValue) (g : Guest) (actor : ActorId) (op : Op) → IsWorld w g → want_in w actor ≡ None
     → Wants g actor op → ⊥
@@ -132,11 +166,13 @@ no_want w g ActorId.Timer op is none want = cc
 no_want w g (ActorId.Hart k) op is none want =
     let missing = (past w.harts g.starts k is.harts_are.count (none_there (slice_get w.harts k) none)).1 in
     subst (λ (s : Option Regs). WantsFrom s (g.steps (ActorId.Hart k)) op) missing want
-no_want w g (ActorId.Device k) op is none want = want
+no_want w g (ActorId.Device k) op is none want =
+    let missing = (past (devices_left w.devices) g.devices k is.devices_are.count (no_left (slice_get (devices_left w.devices) k) none)).1 in
+    subst (λ (d : Option FlatDevice). WantsOf d op) missing want
 
 pub wanted : (w : WorldValue) (g : Guest) (actor : ActorId) (op : Op) → IsWorld w g → want_in w actor ≡ Some op
     → Wants g actor op
-wanted w g actor op is want = acting.want_in g w.timer w.harts is.timer_is is.harts_are actor op want
+wanted w g actor op is want = acting.want_in (body_of w) g is actor op want
 
 pub wants_by : (w : WorldValue) (actor : ActorId) (o : Option Op) → o ≡ want_in w actor → (g : Guest) → IsWorld w g
     → MatchOption o (is_actor g actor ≡ false) (λ op. Wants g actor op)
@@ -147,10 +183,14 @@ here_by : (o : Option Hart) (op : Op) → want_of o ≡ Some op → (hart : Hart
 here_by None op is = cc
 here_by (Some hart) op is = (hart, refl)
 
+left_here : (o : Option DeviceLeft) (op : Op) → device.want_of o ≡ Some op → (left : DeviceLeft) × (o ≡ Some left)
+left_here None op is = cc
+left_here (Some left) op is = (left, refl)
+
 sooner : (k n : ℕ) → nat_lt k n ≡ true → nat_lt (suc k) (suc n) ≡ true
 sooner k n is = lt-ltb (suc k) (suc n) (next_lt k n (ltb-true k n is))
 
-within : (harts : List Hart) (starts : List Regs) (k : ℕ) (hart : Hart) → length harts ≡ length starts
+within : {A B : Type 0} (harts : List A) (starts : List B) (k : ℕ) (hart : A) → length harts ≡ length starts
     → slice_get harts k ≡ Some hart → nat_lt k (length starts) ≡ true
 within [] starts k hart same is = cc
 within (h ∷ harts) [] k hart same is = absurd (omega (arith, same))
@@ -164,7 +204,9 @@ is_there w g ActorId.Timer op is want = refl
 is_there w g (ActorId.Hart k) op is want =
     let hart = here_by (slice_get w.harts k) op want in
     within w.harts g.starts k hart.0 is.harts_are.count hart.1
-is_there w g (ActorId.Device k) op is want = cc
+is_there w g (ActorId.Device k) op is want =
+    let left = left_here (slice_get (devices_left w.devices) k) op want in
+    within (devices_left w.devices) g.devices k left.0 is.devices_are.count left.1
 
 -- an act that isn't refused has what it is to be given
 by_fit : (fit : Bool) → (if fit then None else Some StepError.Unfit) ≡ None → fit ≡ true
@@ -191,8 +233,10 @@ restarted w g is = record {
   memory_is = is.memory_is;
   marks_are = is.marks_are;
   board_is = is.board_is;
+  ports_are = is.ports_are;
   timer_is = timer_traces.leads_start;
   harts_are = record { count = is.harts_are.count; each = is.harts_are.each };
+  devices_are = record { count = is.devices_are.count; each = is.devices_are.each; sound = is.devices_are.sound };
 }
 
 -- and with no mark set
@@ -202,31 +246,32 @@ unwritten_is w pages g is memory marks = record {
   memory_is = memory ∙ is.memory_is;
   marks_are = subst (λ (l : List Bool). AreMarks l none_written) (sym marks) (none_marked (length w.pages));
   board_is = is.board_is;
+  ports_are = is.ports_are;
   timer_is = is.timer_is;
   harts_are = record { count = is.harts_are.count; each = is.harts_are.each };
+  devices_are = record { count = is.devices_are.count; each = is.devices_are.each; sound = is.devices_are.sound };
 }
 
 -- events of an actor, one after another
 abbrev pub HasRun : ActorId → WorldValue → ℕ → WorldValue → Type 0
-HasRun actor old made new =
-    HasMade actor (flat_of old.pages) (marks_of old.pages) old.board old.timer old.harts made (flat_of new.pages)
-    (marks_of new.pages) new.board new.timer new.harts
+HasRun actor old made new = HasMade actor (body_of old) made (body_of new)
 
 pub run_more : (actor : ActorId) (old mid new : WorldValue) (made : ℕ) → HasRun actor old made mid
     → mid.board.off ≡ false → ((e : Entry) × MakesEvent mid (record { actor = actor; reply = None }) e new)
     → HasRun actor old (made + 1) new
 run_more actor old mid new made has on event =
-    has_made_more actor (flat_of old.pages) (flat_of mid.pages) (flat_of new.pages) (marks_of old.pages)
-    (marks_of mid.pages) (marks_of new.pages) old.board mid.board new.board
-    old.timer mid.timer new.timer old.harts mid.harts new.harts made event.0 has on event.1.unstamped event.1.step
+    has_made_more actor (body_of old) (body_of mid) (body_of new) made event.0 has on event.1.unstamped event.1.step
     event.1.stays
 
 -- all were made, or no further one is
 abbrev pub HasEnded : ActorId → WorldValue → Type 0
-HasEnded actor w = HasStopped actor w.board w.timer w.harts
+HasEnded actor w = HasStopped actor (body_of w)
 
 pub runs : (actor : ActorId) (old new : WorldValue) (count made : ℕ) → HasRun actor old made new
     → (made ≡ count) ⊎ ((made < count) × HasEnded actor new) → Runs old actor count made new
-runs actor old new count made has all g is =
-    ran actor (flat_of old.pages) (flat_of new.pages) (marks_of old.pages) (marks_of new.pages) old.board new.board old.timer new.timer old.harts new.harts made
-    count has all g is
+runs actor old new count made has all g is = ran actor (body_of old) (body_of new) made count has all g is
+
+-- who wants something
+pub something : (o : Option Op) → is_some o ≡ true → (op : Op) × (o ≡ Some op)
+something None is = cc
+something (Some op) is = (op, refl)

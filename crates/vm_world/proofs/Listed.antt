@@ -1,5 +1,5 @@
 -- Harts in a list: how they start, and one that is given its reply.
-use Rattle.std.proofs.Common.{◌≡◌, ℕ, Bool, false, zero, suc, ◌+◌, ◌<◌, ◌≤◌, refl, sym, ap, subst, ◌∙◌, List, [], ◌∷◌, ◌++◌, Option, Some, None, length, replicate, slice_get, slice_set, slice_index_or, arith}
+use Rattle.std.proofs.Common.{◌≡◌, ℕ, false, zero, suc, ◌+◌, ◌<◌, ◌≤◌, refl, sym, ap, subst, ◌∙◌, List, [], ◌∷◌, ◌++◌, Option, Some, None, length, replicate, slice_get, slice_set, slice_index_or, arith}
 use Rattle.std.proofs.lemmas.List.{length-set, length-replicate}
 use Rattle.vm_types.specs.declared.reply.Reply.{Reply}
 use Rattle.rv_supervisor.specs.declared.regs.Regs.{Regs}
@@ -7,17 +7,13 @@ use Rattle.hart_trace.specs.States.{Hart, LeadsTo, fresh, hart_next}
 use Rattle.hart_trace.specs.Stopped.{stopped_regs}
 use Rattle.hart_trace.proofs.Traces.{leads_start}
 use Rattle.timer_trace.proofs.Traces as timer_traces
-use Rattle.guest_memory.specs.Memory.{Memory}
-use Rattle.guest_pages.specs.Marks.{AreMarks}
 use Rattle.guest_memory.specs.Boot.{Loads, boot_memory, image_start, tree_start}
 use Rattle.boot_loader.specs.declared.loading.Start.{Start}
-use Rattle.board_table.specs.Board.{Board, new_board}
+use Rattle.board_table.specs.Board.{new_board}
 use Rattle.rv_supervisor.specs.Start.{start_regs}
-use Rattle.timer_trace.specs.declared.timer.Timer.{Timer}
 use Rattle.timer_trace.specs.States.{new_timer}
-use Rattle.flat_guest.specs.Guest.{none_written}
 use Rattle.flat_guest.proofs.Marked.{none_marked}
-use Rattle.flat_guest.specs.Body.{AreHarts, IsGuest, with_reply}
+use Rattle.flat_guest.specs.Body.{Body, IsGuest, with_reply}
 use Rattle.flat_guest.specs.Start.{started, start_of_harts}
 use Rattle.vm_world.specs.Starting.{harts_at_start}
 
@@ -76,24 +72,52 @@ module _ (mib : ℕ) where
       length-set (replicate n (fresh stopped_regs)) 0 (fresh first) ∙ length-replicate n (fresh stopped_regs)
       ∙ sym (length-set (replicate n stopped_regs) 0 first ∙ length-replicate n stopped_regs)
 
-  at_start : (n : ℕ) (loads : Loads) (m : Memory) (marks : List Bool) (count : ℕ) (b : Board) (harts : List Hart)
-      → m ≡ boot_memory mib loads → marks ≡ replicate count false → b ≡ new_board n → harts ≡ harts_at_start n image_start (tree_start mib)
-      → IsGuest m marks b new_timer harts (started n mib loads)
-  at_start n loads m marks count b harts memory unmarked board is = record {
-    memory_is = memory;
-    marks_are = subst (λ (l : List Bool). AreMarks l none_written) (sym unmarked) (none_marked count);
-    board_is = board;
+  at_start : (n : ℕ) (loads : Loads) (count : ℕ)
+      → IsGuest (record {
+        memory = boot_memory mib loads;
+        marks = replicate count false;
+        board = new_board n;
+        ports = [];
+        timer = new_timer;
+        harts = harts_at_start n image_start (tree_start mib);
+        devices = [];
+      }) (started n mib loads)
+  at_start n loads count = record {
+    memory_is = refl;
+    marks_are = none_marked count;
+    board_is = refl;
+    ports_are = refl;
     timer_is = timer_traces.leads_start;
-    harts_are = subst (λ (hs : List Hart). AreHarts hs (started n mib loads)) (sym is)
-        (record { count = as_many n; each = λ k start hart start_is hart_is. each_from n k start hart start_is hart_is });
+    harts_are = record { count = as_many n; each = λ k start hart start_is hart_is. each_from n k start hart start_is hart_is };
+    devices_are = record {
+      count = refl;
+      each = λ k d left is here. cc;
+      sound = record { as_many = refl; each = λ k d is. cc };
+    };
   }
 
-  pub started_is : (n : ℕ) (loads : Loads) (m : Memory) (marks : List Bool) (count : ℕ) (b : Board) (t : Timer) (harts : List Hart) (start : Start)
-      → m ≡ boot_memory mib loads → marks ≡ replicate count false → b ≡ new_board n → t ≡ new_timer
-      → start ≡ record { pc = image_start; tree = tree_start mib } → harts ≡ harts_at_start n start.pc start.tree
-      → IsGuest m marks b t harts (started n mib loads)
-  started_is n loads m marks count b t harts start memory unmarked board timer begins is =
-      let here : harts ≡ harts_at_start n image_start (tree_start mib) =
-      is ∙ ap (λ (s : Start). harts_at_start n s.pc s.tree) begins in
-      subst (λ (u : Timer). IsGuest m marks b u harts (started n mib loads)) (sym timer)
-      (at_start n loads m marks count b harts memory unmarked board here)
+  pub started_is : (n : ℕ) (loads : Loads) (count : ℕ) (b : Body) (start : Start)
+      → b.memory ≡ boot_memory mib loads → b.marks ≡ replicate count false → b.board ≡ new_board n → b.ports ≡ []
+      → b.timer ≡ new_timer → start ≡ record { pc = image_start; tree = tree_start mib }
+      → b.harts ≡ harts_at_start n start.pc start.tree → b.devices ≡ [] → IsGuest b (started n mib loads)
+  started_is n loads count b start memory unmarked board ports timer begins harts devices =
+      let here : b.harts ≡ harts_at_start n image_start (tree_start mib) =
+      harts ∙ ap (λ (s : Start). harts_at_start n s.pc s.tree) begins in
+      let is : record {
+        memory = boot_memory mib loads;
+        marks = replicate count false;
+        board = new_board n;
+        ports = [];
+        timer = new_timer;
+        harts = harts_at_start n image_start (tree_start mib);
+        devices = [];
+      } ≡ b = sym (λ i. record {
+        memory = memory i;
+        marks = unmarked i;
+        board = board i;
+        ports = ports i;
+        timer = timer i;
+        harts = here i;
+        devices = devices i;
+      }) in
+      subst (λ (c : Body). IsGuest c (started n mib loads)) is (at_start n loads count)

@@ -1,6 +1,6 @@
 -- What the hart's small ops are answered is what its ops are answered.
-use Rattle.std.proofs.Common.{◌≡◌, ℕ, zero, suc, ◌+◌, ◌-◌, ◌≤◌, nat_le, nat_lt, Bool, true, false, cond, ◌&&◌, List, [], ◌∷◌, Option, Some, None, length, slice_get, slice_set, refl, sym, ap, subst, ◌∙◌, inl, inr, arith}
-use Rattle.std.proofs.lemmas.Bool.{leb-true, ltb-false}
+use Rattle.std.proofs.Common.{◌≡◌, ℕ, zero, suc, ◌+◌, ◌-◌, ◌≤◌, nat_le, nat_lt, Bool, true, false, cond, ◌&&◌, List, [], ◌∷◌, Option, Some, None, length, slice_get, slice_set, refl, sym, ap, subst, ◌∙◌, inl, inr, arith, ◌<◌, if◌then◌else◌}
+use Rattle.std.proofs.lemmas.Bool.{leb-true, ltb-false, ltb-true}
 use Rattle.vm_types.specs.declared.ids.ActorId.{ActorId}
 use Rattle.vm_types.specs.declared.ids.PlaceId.{PlaceId}
 use Rattle.vm_types.specs.declared.op.Op.{Op}
@@ -11,6 +11,10 @@ use Rattle.vm_types.specs.Fits.{fits}
 use Rattle.guest_memory.specs.Memory.{Memory, read_from}
 use Rattle.guest_memory.specs.Ram.{ram_start, is_ram, page_number, page_offset, page_size}
 use Rattle.board_table.specs.Board.{Board}
+use Rattle.port_table.specs.declared.state.PortState.{PortState}
+use Rattle.port_table.specs.Window.{is_in_one, most_ports, port_at, port_number, ports_start}
+use Rattle.guest_devices.specs.declared.device.Device.{Device}
+use Rattle.guest_devices.specs.Kept.{devices_left}
 use Rattle.guest_pages.specs.Pages.{PageValue, flat_of, marks_of}
 use Rattle.guest_pages.specs.Marks.{marks_after}
 use Rattle.guest_pages.specs.Words.{at_place, place_among, read_of, read_reply, served, write_of, write_reply}
@@ -23,35 +27,35 @@ use Rattle.hart_trace.specs.Asks.{is_hart_op}
 use Rattle.hart_trace.specs.States.{Hart, hart_next, hart_wants}
 use Rattle.hart_trace.proofs.Asks.{hart_asks, never_host, no_host, no_port}
 use Rattle.flat_guest.specs.Body.{out_reply, reply_at, want_of, with_reply}
-use Rattle.flat_guest.specs.Places.{are_registers, without_devices}
+use Rattle.flat_guest.specs.Places.{are_registers, place_by}
 use Rattle.board_table.specs.Window.{is_window}
 use Rattle.le_fields.specs.Fields.{bytes_of}
 use Rattle.timer_trace.specs.declared.timer.Timer.{Timer}
-use Rattle.flat_guest.specs.Steps.{board_after, memory_after}
-use Rattle.flat_guest.proofs.Answering.{answer_fits}
-use Rattle.flat_guest.proofs.Acting.{get_set_same}
+use Rattle.flat_guest.specs.Steps.{board_after, memory_after, ports_after}
+use Rattle.flat_guest.proofs.Answering.{answer_fits, no_port_there}
+use Rattle.flat_guest.proofs.Lists.{get_set_same}
 use Rattle.flat_guest.proofs.Soundness.{none_given}
 use Rattle.flat_guest.proofs.Stepping.{entry_of, has_made_none}
 use Rattle.vm_world.specs.Answering.{Advances, Goes, IsAnswered, place_with}
-use Rattle.vm_world.specs.Worlds.{MakesEvent, WorldValue, place_in, world_with}
+use Rattle.vm_world.specs.Worlds.{MakesEvent, WorldValue, body_of, place_in, world_with}
 use Rattle.vm_world.proofs.Events.{HasRun, event_made, run_more}
 
 -- each reply that a place gives fits the op, so it has few bytes
-pub none_unfit : (pages : List PageValue) (board : Board) (actor : ActorId) (op : HartOp) (whole : Op) (reply : Reply) → whole ≡ op_of op → is_hart_op (op_of op) ≡ true
-    → reply ≡ reply_at (place_with pages whole) (flat_of pages) board actor whole None → fits (op_of op) reply ≡ false → ⊥
-none_unfit pages board actor op whole reply same own is unfit =
-    let gives : reply ≡ reply_at (place_with pages (op_of op)) (flat_of pages) board actor (op_of op) None = is ∙ ap (λ (o : Op). reply_at (place_with pages o) (flat_of pages) board actor o None) same in
-    let fit : fits (op_of op) reply ≡ true = ap (fits (op_of op)) gives ∙ answer_fits (flat_of pages) board actor (without_devices (length (flat_of pages).bytes)) (op_of op) None (no_port (op_of op) own) (none_given (op_of op) (no_host (op_of op) own)) in
+pub none_unfit : (pages : List PageValue) (board : Board) (ports : List PortState) (actor : ActorId) (op : HartOp) (whole : Op) (reply : Reply) → whole ≡ op_of op → is_hart_op (op_of op) ≡ true
+    → reply ≡ reply_at (place_with pages ports whole) (flat_of pages) board ports actor whole None → fits (op_of op) reply ≡ false → ⊥
+none_unfit pages board ports actor op whole reply same own is unfit =
+    let gives : reply ≡ reply_at (place_with pages ports (op_of op)) (flat_of pages) board ports actor (op_of op) None = is ∙ ap (λ (o : Op). reply_at (place_with pages ports o) (flat_of pages) board ports actor o None) same in
+    let fit : fits (op_of op) reply ≡ true = ap (fits (op_of op)) gives ∙ answer_fits (length (flat_of pages).bytes) (flat_of pages) board ports actor (op_of op) None (no_port_there (length ports) (op_of op) (no_port (op_of op) own)) (none_given (op_of op) (no_host (op_of op) own)) in
     let both : true ≡ false = sym fit ∙ unfit in
     cc
 
 -- so does each reply to what the hart wants
-pub answer_fits_want : (pages : List PageValue) (board : Board) (actor : ActorId) (hart : Hart) (op : Op) (reply : Reply) → op ≡ hart_wants hart
-    → reply ≡ reply_at (place_with pages op) (flat_of pages) board actor op None → fits (hart_wants hart) reply ≡ true
-answer_fits_want pages board actor hart op reply want is =
+pub answer_fits_want : (pages : List PageValue) (board : Board) (ports : List PortState) (actor : ActorId) (hart : Hart) (op : Op) (reply : Reply) → op ≡ hart_wants hart
+    → reply ≡ reply_at (place_with pages ports op) (flat_of pages) board ports actor op None → fits (hart_wants hart) reply ≡ true
+answer_fits_want pages board ports actor hart op reply want is =
     let own : is_hart_op (hart_wants hart) ≡ true = hart_asks hart in
-    let gives : reply ≡ reply_at (place_with pages (hart_wants hart)) (flat_of pages) board actor (hart_wants hart) None = is ∙ ap (λ (o : Op). reply_at (place_with pages o) (flat_of pages) board actor o None) want in
-    ap (fits (hart_wants hart)) gives ∙ answer_fits (flat_of pages) board actor (without_devices (length (flat_of pages).bytes)) (hart_wants hart) None (no_port (hart_wants hart) own) (none_given (hart_wants hart) (no_host (hart_wants hart) own))
+    let gives : reply ≡ reply_at (place_with pages ports (hart_wants hart)) (flat_of pages) board ports actor (hart_wants hart) None = is ∙ ap (λ (o : Op). reply_at (place_with pages ports o) (flat_of pages) board ports actor o None) want in
+    ap (fits (hart_wants hart)) gives ∙ answer_fits (length (flat_of pages).bytes) (flat_of pages) board ports actor (hart_wants hart) None (no_port_there (length ports) (hart_wants hart) (no_port (hart_wants hart) own)) (none_given (hart_wants hart) (no_host (hart_wants hart) own))
 
 -- a read leaves everything
 read_leaves : (m : Memory) (at len : ℕ) (b : Bool) → m ≡ (let answer : Reply × Memory = cond b (Bytes (read_from m at len), m) (AccessFault, m) in answer.1)
@@ -79,43 +83,77 @@ not_registers at len high =
 pub not_low : (at : ℕ) → nat_lt at ram_start ≡ false → ram_start ≤ at
 not_low at is = ltb-false at ram_start is
 
-module _ (pages : List PageValue) (board : Board) (actor : ActorId) where
-  abbrev place : ℕ → Bool → Bool → PlaceId
-  place at registers b = cond registers PlaceId.Board (cond b (PlaceId.Page (page_number at)) PlaceId.Out)
+-- and none to a port
+far : (at : ℕ) → ram_start ≤ at → port_number at < most_ports → ⊥
+far at high near = omega (arith, high, near)
+
+none_by : (b : Bool) (k : ℕ) → b ≡ false → (let found : Option ℕ = if b then Some k else None in found) ≡ None
+none_by true k is = cc
+none_by false k is = refl
+
+left_holds : (a b : Bool) → (a && b) ≡ true → a ≡ true
+left_holds true b both = refl
+left_holds false b both = cc
+
+not_port : (at len : ℕ) → ram_start ≤ at → port_at at len ≡ None
+not_port at len high =
+    let near : Bool = nat_lt (port_number at) most_ports in
+    let begun : Bool = nat_le 1 len && nat_le ports_start at in
+    let all : Bool = nat_le 1 len && nat_le ports_start at && near && is_in_one at len in
+    none_by all (port_number at)
+    (is_false all (λ is. far at high (ltb-true (port_number at) most_ports
+    (right_holds begun near (left_holds (begun && near) (is_in_one at len) is)))))
+
+module _ (pages : List PageValue) (board : Board) (ports : List PortState) (actor : ActorId) where
+  abbrev paged : ℕ → Bool → PlaceId
+  paged at b = cond b (PlaceId.Page (page_number at)) PlaceId.Out
+
+  abbrev place : ℕ → Bool → Option ℕ → Bool → PlaceId
+  place at registers port b = place_by (length ports) registers port (paged at b)
 
   abbrev in_page : ℕ → ℕ → Bool
   in_page at len =
       nat_le 1 len && is_ram (length (flat_of pages).bytes) at len && nat_le (page_offset at + len) page_size
 
-  abbrev paged : ℕ → Bool → PlaceId
-  paged at b = cond b (PlaceId.Page (page_number at)) PlaceId.Out
+  replied : (op : Op) (at : ℕ) (r : Bool) (o : Option ℕ) (b : Bool) → r ≡ false → o ≡ None → out_reply op None ≡ AccessFault
+      → (at_place (paged at b) (flat_of pages) actor op).0
+      ≡ reply_at (place at r o b) (flat_of pages) board ports actor op None
+  replied op at true o b none away out = cc
+  replied op at false (Some k) b none away out = cc
+  replied op at false None true none away out = refl
+  replied op at false None false none away out = sym out
 
-  replied : (op : Op) (at : ℕ) (r b : Bool) → r ≡ false → out_reply op None ≡ AccessFault
-      → (at_place (paged at b) (flat_of pages) actor op).0 ≡ reply_at (place at r b) (flat_of pages) board actor op None
-  replied op at true b none out = cc
-  replied op at false true none out = refl
-  replied op at false false none out = sym out
+  left : (op : Op) (at : ℕ) (r : Bool) (o : Option ℕ) (b : Bool) → r ≡ false → o ≡ None
+      → (at_place (paged at b) (flat_of pages) actor op).1 ≡ memory_after (place at r o b) (flat_of pages) actor op
+  left op at true o b none away = cc
+  left op at false (Some k) b none away = cc
+  left op at false None true none away = refl
+  left op at false None false none away = refl
 
-  left : (op : Op) (at : ℕ) (r b : Bool) → r ≡ false
-      → (at_place (paged at b) (flat_of pages) actor op).1 ≡ memory_after (place at r b) (flat_of pages) actor op
-  left op at true b none = cc
-  left op at false true none = refl
-  left op at false false none = refl
-
-  marked : (op : Op) (at : ℕ) (reply : Reply) (r b : Bool) → r ≡ false
-      → marks_after (paged at b) (marks_of pages) op reply ≡ marks_after (place at r b) (marks_of pages) op reply
-  marked op at reply true b none = cc
-  marked op at reply false b none = refl
+  marked : (op : Op) (at : ℕ) (reply : Reply) (r : Bool) (o : Option ℕ) (b : Bool) → r ≡ false → o ≡ None
+      → marks_after (paged at b) (marks_of pages) op reply ≡ marks_after (place at r o b) (marks_of pages) op reply
+  marked op at reply true o b none away = cc
+  marked op at reply false (Some k) b none away = cc
+  marked op at reply false None b none away = refl
 
   read_marked : (at : ℕ) (width : Width) (reply : Reply) (b : Bool)
       → marks_of pages ≡ marks_after (paged at b) (marks_of pages) (read_of width at) reply
   read_marked at width reply true = refl
   read_marked at width reply false = refl
 
-  kept : (op : Op) (at : ℕ) (r b : Bool) → r ≡ false → board ≡ board_after (place at r b) board actor op
-  kept op at true b none = cc
-  kept op at false true none = refl
-  kept op at false false none = refl
+  kept : (op : Op) (at : ℕ) (r : Bool) (o : Option ℕ) (b : Bool) → r ≡ false → o ≡ None
+      → board ≡ board_after (place at r o b) board actor op
+  kept op at true o b none away = cc
+  kept op at false (Some k) b none away = cc
+  kept op at false None true none away = refl
+  kept op at false None false none away = refl
+
+  still : (op : Op) (at : ℕ) (r : Bool) (o : Option ℕ) (b : Bool) → r ≡ false → o ≡ None
+      → ports ≡ ports_after (place at r o b) ports actor op
+  still op at true o b none away = cc
+  still op at false (Some k) b none away = cc
+  still op at false None true none away = refl
+  still op at false None false none away = refl
 
   read_kept : (at : ℕ) (width : Width) (b : Bool)
       → flat_of pages ≡ (at_place (paged at b) (flat_of pages) actor (read_of width at)).1
@@ -126,34 +164,41 @@ module _ (pages : List PageValue) (board : Board) (actor : ActorId) where
 
   pub read_answered : (at : ℕ) (width : Width) (reply : Reply) → ram_start ≤ at
       → reply ≡ (served pages actor (read_of width at)).0
-      → IsAnswered pages board actor (read_of width at) reply pages board
+      → IsAnswered pages board ports actor (read_of width at) reply pages board ports
   read_answered at width reply high is =
       let op : Op = read_of width at in
       let len : ℕ = width_bytes width in
       let none = not_registers at len high in
+      let away = not_port at len high in
       let b : Bool = in_page at len in
+      let o : Option ℕ = port_at at len in
       let r : Bool = are_registers at len in record {
-        reply_is = is ∙ replied op at r b none refl;
-        memory_is = read_kept at width b ∙ left op at r b none;
-        marks_is = read_marked at width reply b ∙ marked op at reply r b none;
-        board_is = kept op at r b none;
+        reply_is = is ∙ replied op at r o b none away refl;
+        memory_is = read_kept at width b ∙ left op at r o b none away;
+        marks_is = read_marked at width reply b ∙ marked op at reply r o b none away;
+        board_is = kept op at r o b none away;
+        ports_are = still op at r o b none away;
         count_is = refl;
       }
 
   pub write_answered : (at word : ℕ) (width : Width) (reply : Reply) (later : List PageValue) → ram_start ≤ at
       → reply ≡ (served pages actor (write_of width at word)).0 → flat_of later ≡ (served pages actor (write_of width at word)).1
       → marks_of later ≡ marks_after (place_among pages (write_of width at word)) (marks_of pages) (write_of width at word) reply
-      → length later ≡ length pages → IsAnswered pages board actor (write_of width at word) reply later board
+      → length later ≡ length pages
+      → IsAnswered pages board ports actor (write_of width at word) reply later board ports
   write_answered at word width reply later high is memory marks count =
       let op : Op = write_of width at word in
       let len : ℕ = length (bytes_of (width_bytes width) word) in
       let none = not_registers at len high in
+      let away = not_port at len high in
       let b : Bool = in_page at len in
+      let o : Option ℕ = port_at at len in
       let r : Bool = are_registers at len in record {
-        reply_is = is ∙ replied op at r b none refl;
-        memory_is = memory ∙ left op at r b none;
-        marks_is = marks ∙ marked op at reply r b none;
-        board_is = kept op at r b none;
+        reply_is = is ∙ replied op at r o b none away refl;
+        memory_is = memory ∙ left op at r o b none away;
+        marks_is = marks ∙ marked op at reply r o b none away;
+        board_is = kept op at r o b none away;
+        ports_are = still op at r o b none away;
         count_is = count;
       }
 
@@ -170,49 +215,54 @@ set_twice (z ∷ xs) (suc k) x y = ap (λ l. z ∷ l) (set_twice xs k x y)
 
 -- so the hart's event is the world's
 pub advanced : (old new : WorldValue) (k : ℕ) (hart next : Hart) → slice_get old.harts k ≡ Some hart
-    → Advances old.pages old.board hart (ActorId.Hart k) new.pages new.board next → new.timer ≡ old.timer
-    → new.harts ≡ slice_set old.harts k next
+    → Advances old.pages old.board old.ports hart (ActorId.Hart k) new.pages new.board new.ports next
+    → new.timer ≡ old.timer → new.harts ≡ slice_set old.harts k next → new.devices ≡ old.devices
     → (e : Entry) × MakesEvent old (record { actor = ActorId.Hart k; reply = None }) e new
-advanced old new k hart next there by timer harts =
+advanced old new k hart next there by timer harts devices =
     let op : Op = hart_wants hart in
     let given = ap (λ (o : Option Hart). with_reply o old.harts k by.0) (sym there) in (
       entry_of (place_in old op) (ActorId.Hart k) op by.0,
       event_made old new (ActorId.Hart k) op None (place_in old op) by.0 (ap want_of there)
-          (none_given op (never_host hart)) refl by.1.reply_is by.1.memory_is by.1.marks_is by.1.board_is timer
-          (harts ∙ ap (λ (h : Hart). slice_set old.harts k h) by.2 ∙ given),
+          (none_given op (never_host hart)) refl by.1.reply_is by.1.memory_is by.1.marks_is by.1.board_is by.1.ports_are timer
+          (harts ∙ ap (λ (h : Hart). slice_set old.harts k h) by.2 ∙ given) (ap devices_left devices),
     )
 
 -- several
-module _ (k : ℕ) (pages mid later : List PageValue) (board between after : Board) (first hart next : Hart) (made : ℕ)
-    (timer : Timer) (harts : List Hart) (there : slice_get harts k ≡ Some first) where
+module _ (k : ℕ) (pages mid later : List PageValue) (board between after : Board) (ports among behind : List PortState)
+    (first hart next : Hart) (made : ℕ) (timer : Timer) (harts : List Hart) (devices : List Device)
+    (there : slice_get harts k ≡ Some first) where
   abbrev start : WorldValue
-  start = world_with pages board timer harts
+  start = world_with pages board ports timer harts devices
 
   abbrev here : WorldValue
-  here = world_with mid between timer (slice_set harts k hart)
+  here = world_with mid between among timer (slice_set harts k hart) devices
 
-  pub none_run : HasRun (ActorId.Hart k) start 0 (world_with pages board timer (slice_set harts k first))
+  abbrev moved : WorldValue
+  moved = world_with later after behind timer (slice_set harts k next) devices
+
+  pub none_run : HasRun (ActorId.Hart k) start 0 (world_with pages board ports timer (slice_set harts k first) devices)
   none_run =
-      subst (λ (hs : List Hart). HasRun (ActorId.Hart k) start 0 (world_with pages board timer hs))
-      (sym (set_own harts k first there)) (has_made_none (ActorId.Hart k) (flat_of pages) (marks_of pages) board timer harts)
+      subst (λ (hs : List Hart). HasRun (ActorId.Hart k) start 0 (world_with pages board ports timer hs devices))
+      (sym (set_own harts k first there)) (has_made_none (ActorId.Hart k) (body_of start))
 
   pub one_more : HasRun (ActorId.Hart k) start made here → between.off ≡ false
-      → Advances mid between hart (ActorId.Hart k) later after next
-      → HasRun (ActorId.Hart k) start (made + 1) (world_with later after timer (slice_set harts k next))
+      → Advances mid between among hart (ActorId.Hart k) later after behind next
+      → HasRun (ActorId.Hart k) start (made + 1) moved
   one_more has on by =
-      run_more (ActorId.Hart k) start here (world_with later after timer (slice_set harts k next)) made has on
-      (advanced here (world_with later after timer (slice_set harts k next)) k hart next (get_set_same harts k first hart there)
-      by refl (sym (set_twice harts k hart next)))
+      run_more (ActorId.Hart k) start here moved made has on
+      (advanced here moved k hart next (get_set_same harts k first hart there)
+      by refl (sym (set_twice harts k hart next)) refl)
 
 -- a hart's event that is the read or write of a word
-pub read_advances : (pages : List PageValue) (board : Board) (actor : ActorId) (hart next : Hart) (width : Width) (at word : ℕ)
-    → hart_wants hart ≡ read_of width at → nat_lt at ram_start ≡ false
+pub read_advances : (pages : List PageValue) (board : Board) (ports : List PortState) (actor : ActorId) (hart next : Hart)
+    (width : Width) (at word : ℕ) → hart_wants hart ≡ read_of width at → nat_lt at ram_start ≡ false
     → read_reply width (Some word) ≡ (served pages actor (read_of width at)).0
-    → next ≡ hart_next hart (read_reply width (Some word)) → Advances pages board hart actor pages board next
-read_advances pages board actor hart next width at word wants high is on = (
+    → next ≡ hart_next hart (read_reply width (Some word))
+    → Advances pages board ports hart actor pages board ports next
+read_advances pages board ports actor hart next width at word wants high is on = (
   read_reply width (Some word),
-  subst (λ (op : Op). IsAnswered pages board actor op (read_reply width (Some word)) pages board) (sym wants)
-      (read_answered pages board actor at width (read_reply width (Some word)) (not_low at high) is),
+  subst (λ (op : Op). IsAnswered pages board ports actor op (read_reply width (Some word)) pages board ports) (sym wants)
+      (read_answered pages board ports actor at width (read_reply width (Some word)) (not_low at high) is),
   on,
 )
 
@@ -220,33 +270,39 @@ made_as : (is_made : Bool) → made_reply is_made ≡ write_reply is_made
 made_as true = refl
 made_as false = refl
 
-pub write_advances : (pages later : List PageValue) (board : Board) (actor : ActorId) (hart next : Hart) (width : Width) (at word : ℕ)
+pub write_advances : (pages later : List PageValue) (board : Board) (ports : List PortState) (actor : ActorId)
+    (hart next : Hart) (width : Width) (at word : ℕ)
     (is_made : Bool) → hart_wants hart ≡ write_of width at word → ram_start ≤ at
     → write_reply is_made ≡ (served pages actor (write_of width at word)).0
     → flat_of later ≡ (served pages actor (write_of width at word)).1
     → marks_of later ≡ marks_after (place_among pages (write_of width at word)) (marks_of pages) (write_of width at word) (write_reply is_made)
-    → length later ≡ length pages → next ≡ hart_next hart (made_reply is_made) → Advances pages board hart actor later board next
-write_advances pages later board actor hart next width at word is_made wants high is memory marks count on = (
+    → length later ≡ length pages → next ≡ hart_next hart (made_reply is_made)
+    → Advances pages board ports hart actor later board ports next
+write_advances pages later board ports actor hart next width at word is_made wants high is memory marks count on = (
   write_reply is_made,
-  subst (λ (op : Op). IsAnswered pages board actor op (write_reply is_made) later board) (sym wants)
-      (write_answered pages board actor at word width (write_reply is_made) later high is memory marks count),
+  subst (λ (op : Op). IsAnswered pages board ports actor op (write_reply is_made) later board ports) (sym wants)
+      (write_answered pages board ports actor at word width (write_reply is_made) later high is memory marks count),
   on ∙ ap (hart_next hart) (made_as is_made),
 )
 
 -- one or two more
-pub some_more : (k : ℕ) (pages mid later : List PageValue) (board between after : Board) (first hart next : Hart) (made n : ℕ)
-    (timer : Timer) (harts : List Hart) → slice_get harts k ≡ Some first
-    → HasRun (ActorId.Hart k) (world_with pages board timer harts) made (world_with mid between timer (slice_set harts k hart))
-    → between.off ≡ false → Goes mid between hart (ActorId.Hart k) n later after next
-    → HasRun (ActorId.Hart k) (world_with pages board timer harts) (made + n)
-    (world_with later after timer (slice_set harts k next))
-some_more k pages mid later board between after first hart next made n timer harts there has on (inl by) =
-    subst (λ (m : ℕ). HasRun (ActorId.Hart k) (world_with pages board timer harts) (made + m)
-    (world_with later after timer (slice_set harts k next))) (sym by.0)
-    (one_more k pages mid later board between after first hart next made timer harts there has on by.1)
-some_more k pages mid later board between after first hart next made n timer harts there has on (inr by) =
-    let one = one_more k pages mid mid board between between first hart by.1 made timer harts there has on by.2 in
-    let two = one_more k pages mid later board between after first by.1 next (made + 1) timer harts there one on by.3 in
+pub some_more : (k : ℕ) (pages mid later : List PageValue) (board between after : Board) (ports among behind : List PortState)
+    (first hart next : Hart) (made n : ℕ) (timer : Timer) (harts : List Hart) (devices : List Device)
+    → slice_get harts k ≡ Some first
+    → HasRun (ActorId.Hart k) (world_with pages board ports timer harts devices) made
+    (world_with mid between among timer (slice_set harts k hart) devices)
+    → between.off ≡ false → Goes mid between among hart (ActorId.Hart k) n later after behind next
+    → HasRun (ActorId.Hart k) (world_with pages board ports timer harts devices) (made + n)
+    (world_with later after behind timer (slice_set harts k next) devices)
+some_more k pages mid later board between after ports among behind first hart next made n timer harts devices there has on (inl by) =
+    subst (λ (m : ℕ). HasRun (ActorId.Hart k) (world_with pages board ports timer harts devices) (made + m)
+    (world_with later after behind timer (slice_set harts k next) devices)) (sym by.0)
+    (one_more k pages mid later board between after ports among behind first hart next made timer harts devices there has on by.1)
+some_more k pages mid later board between after ports among behind first hart next made n timer harts devices there has on (inr by) =
+    let one = one_more k pages mid mid board between between ports among among first hart by.1 made timer harts devices there
+    has on by.2 in
+    let two = one_more k pages mid later board between after ports among behind first by.1 next (made + 1) timer harts devices
+    there one on by.3 in
     let count : made + 1 + 1 ≡ made + n = omega (arith, by.0) in
-    subst (λ (m : ℕ). HasRun (ActorId.Hart k) (world_with pages board timer harts) m
-    (world_with later after timer (slice_set harts k next))) count two
+    subst (λ (m : ℕ). HasRun (ActorId.Hart k) (world_with pages board ports timer harts devices) m
+    (world_with later after behind timer (slice_set harts k next) devices)) count two

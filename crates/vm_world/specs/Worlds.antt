@@ -6,36 +6,54 @@ use Rattle.vm_types.specs.declared.op.Op.{Op}
 use Rattle.vm_types.specs.declared.ids.ActorId.{ActorId}
 use Rattle.vm_types.specs.declared.ids.PlaceId.{PlaceId}
 use Rattle.board_table.specs.Board.{Board}
+use Rattle.port_table.specs.declared.state.PortState.{PortState}
 use Rattle.guest_pages.specs.Pages.{PageValue, flat_of, marks_of}
 use Rattle.hart_trace.specs.States.{Hart}
 use Rattle.timer_trace.specs.declared.timer.Timer.{Timer}
+use Rattle.guest_devices.specs.declared.device.Device.{Device}
+use Rattle.guest_devices.specs.Kept.{devices_left}
 use Rattle.flat_guest.specs.Guest.{Guest}
-use Rattle.flat_guest.specs.Body.{IsGuest, wants}
-use Rattle.flat_guest.specs.Places.{place_of, without_devices}
+use Rattle.flat_guest.specs.Body.{Body, IsGuest, body_layout, wants}
+use Rattle.flat_guest.specs.Places.{place_of}
 use Rattle.flat_guest.specs.Steps.{FlatStep, IsUnstamped, StepsBy, guest_after}
 
--- pages, the board, the timer, and the harts by their numbers
+-- pages, the board, the ports, the timer, and the harts and the devices by their numbers
 pub record WorldValue : Type 0 where
   pub pages : List PageValue
   pub board : Board
+  pub ports : List PortState
   pub timer : Timer
   pub harts : List Hart
+  pub devices : List Device
 
-abbrev pub world_with : List PageValue → Board → Timer → List Hart → WorldValue
-world_with pages board timer harts = record { pages = pages; board = board; timer = timer; harts = harts }
+abbrev pub world_with : List PageValue → Board → List PortState → Timer → List Hart → List Device → WorldValue
+world_with pages board ports timer harts devices =
+    record { pages = pages; board = board; ports = ports; timer = timer; harts = harts; devices = devices }
 
--- the guest's memory is the pages' one memory, the pages are marked that were written, its board is the board, and its
--- steps lead to the timer and the harts
+-- the pages as one memory, which of them are marked, what the devices have still to do, and the rest as it is
+abbrev pub body_of : WorldValue → Body
+body_of w = record {
+  memory = flat_of w.pages;
+  marks = marks_of w.pages;
+  board = w.board;
+  ports = w.ports;
+  timer = w.timer;
+  harts = w.harts;
+  devices = devices_left w.devices;
+}
+
+-- the guest's memory is the pages' one memory, the pages are marked that were written, its board and its ports are these,
+-- and its steps lead to the timer, the harts and the devices
 abbrev pub IsWorld : WorldValue → Guest → Type 0
-IsWorld w g = IsGuest (flat_of w.pages) (marks_of w.pages) w.board w.timer w.harts g
+IsWorld w g = IsGuest (body_of w) g
 
 -- what an actor wants, if it is there
 abbrev pub want_in : WorldValue → ActorId → Option Op
-want_in w actor = wants w.timer w.harts actor
+want_in w actor = wants w.timer w.harts (devices_left w.devices) actor
 
--- where an op acts: the pages are all memory, and there is no device
+-- where an op acts: the pages are all memory
 abbrev pub place_in : WorldValue → Op → PlaceId
-place_in w op = place_of (without_devices (length (flat_of w.pages).bytes)) op
+place_in w op = place_of (body_layout (body_of w)) op
 
 -- the event that this entry tells, of each guest that the world was, to the guest that it is
 pub record MakesEvent (old : WorldValue) (event : Event) (e : Entry) (new : WorldValue) : Type 0 where

@@ -9,6 +9,8 @@ ghost use Rattle.hart_trace.specs.Asks.{is_hart_op};
 ghost use Rattle.rv_doing.specs.HartOps.{op_of, reply_of};
 ghost use Rattle.hart_trace.specs.States.{Hart as HartValue};
 ghost use Rattle.timer_trace.specs.declared.timer.Timer.{Timer};
+ghost use Rattle.guest_devices.specs.declared.device.Device.{Device};
+ghost use Rattle.flat_guest.specs.Steps.{port_after, port_reply};
 ghost use Rattle.vm_world.specs.Answering.{Advances, Goes, IsAnswered, is_low};
 ghost use Rattle.vm_world.specs.Worlds.{Runs, world_with};
 
@@ -17,6 +19,7 @@ use guest_memory::{PAGE_SIZE, RAM_START};
 use guest_pages::PageSet;
 use hart_rv64::Hart;
 use line_board::Board;
+use mmio_port::Port;
 use rv_doing::{HartOp, HartReply, Load};
 use rv_rows::Width;
 use vm_types::{ActorId, BoardOp, Op, Place, PlaceId, Reply};
@@ -41,19 +44,40 @@ fn is_low(op: HartOp) -> bool
     }
 }
 
+/// What the port of this number answers; one that isn't there does as nothing in the machine does.
+pub fn act_on_port(ports: &mut Vec<Port>, number: u8, actor: ActorId, op: &Op) -> Reply
+    ensures reply { result ≡ port_reply (slice_get ports.old.items number) actor op.now }
+    ensures ports { ports.new.items ≡ port_after (slice_get ports.old.items number) ports.old.items number actor op.now }
+{
+    let number = number as usize;
+    if number < ports.len() {
+        ports[number].act(actor, op)
+    } else {
+        Reply::AccessFault
+    }
+}
+
 // What an act is answered by its place, or where it has none.
-fn act(pages: &mut PageSet, board: &mut Board, actor: ActorId, op: &Op) -> Reply
-    requires { length pages.old ≤ 2 ^ 28 }
-    ensures { IsAnswered pages.old board.old actor op.now result pages.new board.new }
+fn act(
+    pages: &mut PageSet,
+    board: &mut Board,
+    ports: &mut Vec<Port>,
+    actor: ActorId,
+    op: &Op,
+) -> Reply
+    requires small { length pages.old ≤ 2 ^ 28 }
+    requires few { length ports.old.items ≤ 16 }
+    ensures { IsAnswered pages.old board.old ports.old.items actor op.now result pages.new board.new ports.new.items }
 {
     let there = Layout {
         memory_size: PAGE_SIZE * pages.len(),
-        ports: 0,
+        ports: ports.len() as u8,
     };
     match place(there, op) {
         PlaceId::Page(number) => pages.act(number as usize, actor, op),
         PlaceId::Board => board.act(actor, op),
-        PlaceId::Port(_) | PlaceId::Out => match op {
+        PlaceId::Port(number) => act_on_port(ports, number, actor, op),
+        PlaceId::Out => match op {
             Op::Idle => Reply::Done,
             _ => Reply::AccessFault,
         },
@@ -62,12 +86,19 @@ fn act(pages: &mut PageSet, board: &mut Board, actor: ActorId, op: &Op) -> Reply
 
 // An act that is rare, by its whole op and reply.
 #[inline(never)]
-fn answer_rare(pages: &mut PageSet, board: &mut Board, actor: ActorId, op: HartOp) -> HartReply
+fn answer_rare(
+    pages: &mut PageSet,
+    board: &mut Board,
+    ports: &mut Vec<Port>,
+    actor: ActorId,
+    op: HartOp,
+) -> HartReply
     requires small { length pages.old ≤ 2 ^ 28 }
+    requires few { length ports.old.items ≤ 16 }
     requires own { is_hart_op (op_of op) ≡ true }
-    ensures { IsAnswered pages.old board.old actor (op_of op) (reply_of result) pages.new board.new }
+    ensures { IsAnswered pages.old board.old ports.old.items actor (op_of op) (reply_of result) pages.new board.new ports.new.items }
 {
-    let reply = act(pages, board, actor, &op.op());
+    let reply = act(pages, board, ports, actor, &op.op());
     match HartReply::of(&reply) {
         Some(small) => small,
         None => HartReply::Fault,
@@ -75,13 +106,20 @@ fn answer_rare(pages: &mut PageSet, board: &mut Board, actor: ActorId, op: HartO
 }
 
 #[inline]
-fn answer(pages: &mut PageSet, board: &mut Board, actor: ActorId, op: HartOp) -> HartReply
+fn answer(
+    pages: &mut PageSet,
+    board: &mut Board,
+    ports: &mut Vec<Port>,
+    actor: ActorId,
+    op: HartOp,
+) -> HartReply
     requires small { length pages.old ≤ 2 ^ 28 }
+    requires few { length ports.old.items ≤ 16 }
     requires own { is_hart_op (op_of op) ≡ true }
-    ensures { IsAnswered pages.old board.old actor (op_of op) (reply_of result) pages.new board.new }
+    ensures { IsAnswered pages.old board.old ports.old.items actor (op_of op) (reply_of result) pages.new board.new ports.new.items }
 {
     if is_low(op) {
-        return answer_rare(pages, board, actor, op);
+        return answer_rare(pages, board, ports, actor, op);
     }
     match op {
         HartOp::Fetch { pc } => read(pages, pc, Width::Word),
@@ -95,18 +133,27 @@ fn answer(pages: &mut PageSet, board: &mut Board, actor: ActorId, op: HartOp) ->
         }
         HartOp::Board(BoardOp::Look) => HartReply::Shown(board.show(actor)),
         HartOp::Idle => HartReply::Done,
-        _ => answer_rare(pages, board, actor, op),
+        _ => answer_rare(pages, board, ports, actor, op),
     }
 }
 
 // The next event of the hart of this number.
 #[inline(never)]
-fn advance(pages: &mut PageSet, board: &mut Board, hart: &mut Hart, number: u8)
+fn advance(
+    pages: &mut PageSet,
+    board: &mut Board,
+    ports: &mut Vec<Port>,
+    hart: &mut Hart,
+    number: u8,
+)
     requires small { length pages.old ≤ 2 ^ 28 }
-    ensures event { Advances pages.old board.old hart.old (ActorId.Hart number) pages.new board.new hart.new }
+    requires few { length ports.old.items ≤ 16 }
+    ensures event { Advances pages.old board.old ports.old.items hart.old (ActorId.Hart number)
+        pages.new board.new ports.new.items hart.new }
     ensures count { length pages.new ≡ length pages.old }
+    ensures many { length ports.new.items ≡ length ports.old.items }
 {
-    let reply = answer(pages, board, ActorId::Hart(number), hart.asks());
+    let reply = answer(pages, board, ports, ActorId::Hart(number), hart.asks());
     hart.goes_on(reply);
 }
 
@@ -130,23 +177,27 @@ fn read_load(pages: &PageSet, load: Load) -> Option<u64>
 fn advance_some(
     pages: &mut PageSet,
     board: &mut Board,
+    ports: &mut Vec<Port>,
     hart: &mut Hart,
     number: u8,
     left: u64,
 ) -> u64
     requires small { length pages.old ≤ 2 ^ 28 }
+    requires few { length ports.old.items ≤ 16 }
     requires some { 1 ≤ left }
-    ensures events { Goes pages.old board.old hart.old (ActorId.Hart number) result pages.new board.new hart.new }
+    ensures events { Goes pages.old board.old ports.old.items hart.old (ActorId.Hart number) result
+        pages.new board.new ports.new.items hart.new }
     ensures some { 1 ≤ result }
     ensures within { result ≤ left }
     ensures count { length pages.new ≡ length pages.old }
+    ensures many { length ports.new.items ≡ length ports.old.items }
 {
     let Some(pc) = hart.fetches() else {
-        advance(pages, board, hart, number);
+        advance(pages, board, ports, hart, number);
         return 1;
     };
     let Some(word) = pages.read_word(pc, Width::Word) else {
-        advance(pages, board, hart, number);
+        advance(pages, board, ports, hart, number);
         return 1;
     };
     if left > 1 {
@@ -172,27 +223,32 @@ fn advance_some(
     1
 }
 
-/// Events of the hart of this number, and how many there were. Whatever the timer and the other harts are, they stay.
+/// Events of the hart of this number, and how many there were. Whatever the timer, the other harts and the devices are, they
+/// stay.
 #[inline(never)]
 pub fn run_hart(
     pages: &mut PageSet,
     board: &mut Board,
+    ports: &mut Vec<Port>,
     hart: &mut Hart,
     number: u8,
     count: u64,
 ) -> u64
     requires small { length pages.old ≤ 2 ^ 28 }
-    ensures runs { (timer : Timer) (harts : List HartValue) → slice_get harts number ≡ Some hart.old →
-        Runs (world_with pages.old board.old timer harts) (ActorId.Hart number) count result
-        (world_with pages.new board.new timer (slice_set harts number hart.new)) }
+    requires few { length ports.old.items ≤ 16 }
+    ensures runs { (timer : Timer) (harts : List HartValue) (devices : List Device) →
+        slice_get harts number ≡ Some hart.old →
+        Runs (world_with pages.old board.old ports.old.items timer harts devices) (ActorId.Hart number) count result
+        (world_with pages.new board.new ports.new.items timer (slice_set harts number hart.new) devices) }
     ensures count { length pages.new ≡ length pages.old }
+    ensures many { length ports.new.items ≡ length ports.old.items }
 {
     let mut made = 0;
     while made < count {
         if board.is_off() {
             return made;
         }
-        made += advance_some(pages, board, hart, number, count - made);
+        made += advance_some(pages, board, ports, hart, number, count - made);
     }
     made
 }

@@ -1,5 +1,5 @@
-// The world: pages, the board, the timer and the harts.
-ghost use Rattle.std.specs.Prelude.{◌≡◌, ◌≤◌, ◌<◌, ◌++◌, ◌*◌, ◌^◌, true, false, length, min, take, drop};
+// The world: pages, the board, the ports, the timer, the harts and the devices.
+ghost use Rattle.std.specs.Prelude.{◌≡◌, ◌≤◌, ◌<◌, ◌++◌, ◌*◌, ◌^◌, true, false, [], length, min, take, drop};
 ghost use Rattle.std.specs.Prelude.{replicate, slice_get};
 ghost use Rattle.std.specs.Prelude.{IfErr, IfOk, MatchOption, None, Some, OnErr, OnOk, is_ok, Option};
 ghost use Rattle.std.specs.Option.{option_map};
@@ -15,40 +15,46 @@ ghost use Rattle.hart_trace.specs.Asks.{is_host_op};
 ghost use Rattle.hart_trace.specs.Shown.{register_of};
 ghost use Rattle.timer_trace.specs.States.{new_timer};
 ghost use Rattle.flat_guest.specs.Guest.{Guest, Wants, is_actor, unwritten};
-ghost use Rattle.flat_guest.specs.Body.{harts_after, out_reply, reply_at, timer_after, want_of, with_reply};
+ghost use Rattle.guest_devices.specs.Kept.{devices_left};
+ghost use Rattle.flat_guest.specs.Body.{harts_after, lefts_after, out_reply, reply_at, timer_after, want_of, with_reply};
 ghost use Rattle.flat_guest.specs.Start.{started, timer_restarted};
-ghost use Rattle.flat_guest.specs.Steps.{board_after, is_given, memory_after};
+ghost use Rattle.flat_guest.specs.Steps.{board_after, is_given, memory_after, ports_after};
 ghost use Rattle.vm_world.specs.Refusing.{IsRefused, refusal_of};
 ghost use Rattle.vm_world.specs.Worlds.{IsWorld, MakesEvent, Runs, place_in, want_in, world_with};
 
 mod parting;
 
 use crate::actors::{give_hart, start_harts, want_of_hart};
-use crate::hart_run::run_hart;
+use crate::hart_run::{act_on_port, run_hart};
 use crate::memory::read_pages;
 use crate::step_error::{NoActor, NotRam, StepError, refusal_of};
 pub use crate::world::parting::WorldParts;
 use boot_loader::{BootError, Booted, Loads, boot};
 use flat_guest::{Layout, place};
+use guest_devices::{Device, give_device, want_of_device};
 use guest_memory::PAGE_SIZE;
 use guest_pages::PageSet;
 use hart_rv64::Hart;
 use line_board::Board;
+use mmio_port::Port;
 use std::alloc::{AllocError, Global};
 use std::marker::Model;
 use timer_trace::Timer;
 use vm_types::{Actor, ActorId, Entry, GuestAddr, Op, Place, PlaceId, Reply};
 
-/// Guest memory, the board, and the actors: the timer and at most 32 harts.
+/// Guest memory, the board, the ports, and the actors: the timer, at most 32 harts, and the devices of the ports.
 ///
-/// Contracts see its parts, the pages as the list of their values. The guests of the flat machine that it is are those
-/// of `IsWorld`: one memory, which the pages are together, the board, and for each actor the steps that lead to it.
+/// Contracts see its parts, the pages as the list of their values, and of a device what it has still to do. The guests of
+/// the flat machine that it is are those of `IsWorld`: one memory, which the pages are together, the board, the ports, and
+/// for each actor the steps that lead to it.
 #[derive(Drop)]
 pub struct World {
     pages: PageSet,
     board: Board,
+    ports: Vec<Port>,
     timer: Timer,
     harts: Vec<Hart>,
+    devices: Vec<Device>,
 }
 
 impl Model for World {
@@ -57,14 +63,21 @@ impl Model for World {
 
     ghost Value = { WorldValue };
 
-    ghost view = { λ w. record { pages = w.pages; board = w.board; timer = w.timer; harts = w.harts.items } };
+    ghost view = { λ w. record {
+      pages = w.pages;
+      board = w.board;
+      ports = w.ports.items;
+      timer = w.timer;
+      harts = w.harts.items;
+      devices = w.devices.items;
+    } };
 
-    ghost invariant = { λ w. length w.pages ≤ 2 ^ 28 };
+    ghost invariant = { λ w. (length w.pages ≤ 2 ^ 28) × (length w.ports.items ≤ 16) };
 }
 
 impl World {
     /// The world as a start makes it, with so many harts, so many MiB of memory, at most `flat_guest::MOST_MIB`, and
-    /// this in it. No page is marked.
+    /// this in it, and no device. No page is marked.
     ///
     /// Errors: `NoRoom` exactly where what is loaded does not fit, unless memory is wanting first, and `OutOfMemory`.
     pub fn start(
@@ -91,21 +104,25 @@ impl World {
         Ok(World {
             pages,
             board,
+            ports: Vec::new(alloc),
             timer: Timer::new(),
             harts,
+            devices: Vec::new(alloc),
         })
     }
 
-    /// The world that has these parts, with the timer at its start. There are at most 2^28 pages.
-    pub fn from_parts(pages: PageSet, board: Board, harts: Vec<Hart>) -> World
+    /// The world that has these parts and no device, with the timer at its start. There are at most 2^28 pages.
+    pub fn from_parts(alloc: Global, pages: PageSet, board: Board, harts: Vec<Hart>) -> World
         requires { length pages ≤ 2 ^ 28 }
-        ensures { result ≡ world_with pages board new_timer harts.items }
+        ensures { result ≡ world_with pages board [] new_timer harts.items [] }
     {
         World {
             pages,
             board,
+            ports: Vec::new(alloc),
             timer: Timer::new(),
             harts,
+            devices: Vec::new(alloc),
         }
     }
 
@@ -124,6 +141,21 @@ impl World {
         &self.board
     }
 
+    /// The ports, by their numbers.
+    pub fn ports(&self) -> &[Port]
+        ensures ports { result.now ≡ self.now.ports }
+        ensures few { length result.now ≤ 16 }
+    {
+        &self.ports
+    }
+
+    /// The devices, each by the number of its port.
+    pub fn devices(&self) -> &[Device]
+        ensures { result.now ≡ self.now.devices }
+    {
+        &self.devices
+    }
+
     /// The harts, by their numbers.
     pub fn harts(&self) -> &[Hart]
         ensures { result.now ≡ self.now.harts }
@@ -131,13 +163,13 @@ impl World {
         &self.harts
     }
 
-    /// The place of an op: the page of RAM that has all of its bytes, the board, or `Out` where neither has it.
+    /// The place of an op: the page of RAM that has all of its bytes, a port, the board, or `Out` where none has it.
     pub fn route(&self, op: &Op) -> PlaceId
         ensures { result ≡ place_in self.now op.now }
     {
         let there = Layout {
             memory_size: PAGE_SIZE * self.pages.len(),
-            ports: 0,
+            ports: self.ports.len() as u8,
         };
         place(there, op)
     }
@@ -157,24 +189,27 @@ impl World {
         match actor {
             ActorId::Timer => Some(self.timer.want()),
             ActorId::Hart(number) => want_of_hart(&self.harts, number),
-            ActorId::Device(_) => None,
+            ActorId::Device(number) => want_of_device(&self.devices, number),
         }
     }
 
     // What an act is answered by its place, or where it has none.
     fn answer(&mut self, actor: ActorId, place: PlaceId, op: &Op, given: Option<Reply>) -> Reply
         requires { place ≡ place_in self.old op.now }
-        ensures reply { result ≡ reply_at place (flat_of self.old.pages) self.old.board actor op.now given }
+        ensures reply { result ≡ reply_at place (flat_of self.old.pages) self.old.board self.old.ports actor op.now given }
         ensures memory { flat_of self.new.pages ≡ memory_after place (flat_of self.old.pages) actor op.now }
         ensures marks { marks_of self.new.pages ≡ marks_after place (marks_of self.old.pages) op.now result }
         ensures board { self.new.board ≡ board_after place self.old.board actor op.now }
+        ensures ports { self.new.ports ≡ ports_after place self.old.ports actor op.now }
         ensures timer { self.new.timer ≡ self.old.timer }
         ensures harts { self.new.harts ≡ self.old.harts }
+        ensures devices { self.new.devices ≡ self.old.devices }
     {
         match place {
             PlaceId::Page(number) => self.pages.act(number as usize, actor, op),
             PlaceId::Board => self.board.act(actor, op),
-            PlaceId::Port(_) | PlaceId::Out => answer_out(op, given),
+            PlaceId::Port(number) => act_on_port(&mut self.ports, number, actor, op),
+            PlaceId::Out => answer_out(op, given),
         }
     }
 
@@ -182,13 +217,15 @@ impl World {
     fn give(&mut self, actor: ActorId, reply: Reply)
         ensures timer { self.new.timer ≡ timer_after actor self.old.timer reply }
         ensures harts { self.new.harts ≡ harts_after actor self.old.harts reply }
+        ensures devices { devices_left self.new.devices ≡ lefts_after actor (devices_left self.old.devices) reply }
         ensures pages { self.new.pages ≡ self.old.pages }
         ensures board { self.new.board ≡ self.old.board }
+        ensures ports { self.new.ports ≡ self.old.ports }
     {
         match actor {
             ActorId::Timer => self.timer.give(reply),
             ActorId::Hart(number) => give_hart(&mut self.harts, number, reply),
-            ActorId::Device(_) => {}
+            ActorId::Device(number) => give_device(&mut self.devices, number, reply),
         }
     }
 
@@ -302,6 +339,7 @@ impl World {
         run_hart(
             &mut self.pages,
             &mut self.board,
+            &mut self.ports,
             &mut self.harts[at],
             number,
             count,

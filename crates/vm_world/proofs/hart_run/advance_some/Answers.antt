@@ -19,9 +19,9 @@ returns-in-Some-read_load-clause-events c =
     inr (
       refl,
       mid,
-      read_advances c.args.pages.now c.args.board.now actor c.args.hart.now mid Width.Word c.in-Some.pc word
+      read_advances c.args.pages.now c.args.board.now c.args.ports.now.items actor c.args.hart.now mid Width.Word c.in-Some.pc word
           c.in-Some.ensures.wants high (c.in-Some-read_word.ensures actor) refl,
-      read_advances c.args.pages.now c.args.board.now actor mid c.loads.new.self (load_width load.kind) load.address
+      read_advances c.args.pages.now c.args.board.now c.args.ports.now.items actor mid c.loads.new.self (load_width load.kind) load.address
           c.in-Some-read_load.read c.in-Some-load.ensures.wants c.in-Some-read_load.ensures.ram
           (c.in-Some-read_load.ensures.read actor) (c.loads.ensures word c.in-Some-load.ensures.is),
     )
@@ -38,9 +38,9 @@ returns-then-store-ge-RAM_START-clause-events c =
     inr (
       refl,
       mid,
-      read_advances c.args.pages.now c.args.board.now actor c.args.hart.now mid Width.Word c.in-Some.pc word
+      read_advances c.args.pages.now c.args.board.now c.args.ports.now.items actor c.args.hart.now mid Width.Word c.in-Some.pc word
           c.in-Some.ensures.wants high (c.in-Some-read_word.ensures actor) refl,
-      write_advances c.args.pages.now c.write_word-is_made.new.self c.args.board.now actor mid c.stores.new.self store.width
+      write_advances c.args.pages.now c.write_word-is_made.new.self c.args.board.now c.args.ports.now.items actor mid c.stores.new.self store.width
           store.address store.value c.write_word-is_made.result c.in-Some-store.ensures.wants c.if-store-ge-RAM_START.true
           made.reply made.memory made.marks made.count (c.stores.ensures word c.in-Some-store.ensures.is),
     )
@@ -52,6 +52,6 @@ returns-clause-events c =
     ap (λ (at : ℕ). nat_lt at ram_start) c.in-Some.ensures.at ∙ c.in-Some.ensures.fetching.ram in
     inl (
       refl,
-      read_advances c.args.pages.now c.args.board.now actor c.args.hart.now c.begins.new.self Width.Word c.in-Some.pc
+      read_advances c.args.pages.now c.args.board.now c.args.ports.now.items actor c.args.hart.now c.begins.new.self Width.Word c.in-Some.pc
           c.in-Some-read_word.word c.in-Some.ensures.wants high (c.in-Some-read_word.ensures actor) c.begins.ensures,
     )

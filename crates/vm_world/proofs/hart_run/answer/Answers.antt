@@ -9,11 +9,11 @@ use Rattle.vm_world.proofs.hart_run.answer.Goals as goal
 pub returns-in-Fetch : goal.returns-in-Fetch
 returns-in-Fetch c =
     let high = not_low c.in-Fetch.pc (sym (ap is_low c.in-Fetch.is) ∙ sym c.is_low.ensures ∙ c.if-is_low.false) in
-    subst (λ (op : HartOp). IsAnswered c.args.pages.now c.args.board.now c.args.actor (op_of op) (reply_of c.read.result) c.args.pages.now c.args.board.now) (sym c.in-Fetch.is)
-    (read_answered c.args.pages.now c.args.board.now c.args.actor c.in-Fetch.pc Width.Word (reply_of c.read.result) high (c.read.ensures c.args.actor))
+    subst (λ (op : HartOp). IsAnswered c.args.pages.now c.args.board.now c.args.ports.now.items c.args.actor (op_of op) (reply_of c.read.result) c.args.pages.now c.args.board.now c.args.ports.now.items) (sym c.in-Fetch.is)
+    (read_answered c.args.pages.now c.args.board.now c.args.ports.now.items c.args.actor c.in-Fetch.pc Width.Word (reply_of c.read.result) high (c.read.ensures c.args.actor))
 
 pub returns-in-Read : goal.returns-in-Read
 returns-in-Read c =
     let high = not_low c.in-Read.at (sym (ap is_low c.in-Read.is) ∙ sym c.is_low.ensures ∙ c.if-is_low.false) in
-    subst (λ (op : HartOp). IsAnswered c.args.pages.now c.args.board.now c.args.actor (op_of op) (reply_of c.read-in-Read.result) c.args.pages.now c.args.board.now) (sym c.in-Read.is)
-    (read_answered c.args.pages.now c.args.board.now c.args.actor c.in-Read.at c.in-Read.width (reply_of c.read-in-Read.result) high (c.read-in-Read.ensures c.args.actor))
+    subst (λ (op : HartOp). IsAnswered c.args.pages.now c.args.board.now c.args.ports.now.items c.args.actor (op_of op) (reply_of c.read-in-Read.result) c.args.pages.now c.args.board.now c.args.ports.now.items) (sym c.in-Read.is)
+    (read_answered c.args.pages.now c.args.board.now c.args.ports.now.items c.args.actor c.in-Read.at c.in-Read.width (reply_of c.read-in-Read.result) high (c.read-in-Read.ensures c.args.actor))

@@ -2,6 +2,7 @@ use Rattle.std.proofs.Common.{◌-◌, ◌≤◌, ◌≡◌, List, Some, length,
 use Rattle.vm_types.specs.declared.ids.ActorId.{ActorId}
 use Rattle.hart_trace.specs.States.{Hart}
 use Rattle.timer_trace.specs.declared.timer.Timer.{Timer}
+use Rattle.guest_devices.specs.declared.device.Device.{Device}
 use Rattle.vm_world.specs.Worlds.{world_with}
 use Rattle.vm_world.proofs.Events.{HasRun}
 use Rattle.vm_world.proofs.hart_run.run_hart.Given as goal
@@ -9,10 +10,11 @@ use Rattle.vm_world.proofs.hart_run.run_hart.Given as goal
 abbrev pub invariant-loop-made : goal.invariant-loop-made
 invariant-loop-made l = record {
   within : l.made ≤ l.count;
-  has : (timer : Timer) (harts : List Hart) → slice_get harts l.number ≡ Some l.fn.hart
-      → HasRun (ActorId.Hart l.number) (world_with l.fn.pages l.fn.board timer harts) l.made
-      (world_with l.pages l.board timer (slice_set harts l.number l.hart));
+  has : (timer : Timer) (harts : List Hart) (devices : List Device) → slice_get harts l.number ≡ Some l.fn.hart
+      → HasRun (ActorId.Hart l.number) (world_with l.fn.pages l.fn.board l.fn.ports.items timer harts devices) l.made
+      (world_with l.pages l.board l.ports.items timer (slice_set harts l.number l.hart) devices);
   many : length l.pages ≡ length l.fn.pages;
+  many_ports : length l.ports.items ≡ length l.fn.ports.items;
 }
 
 abbrev pub decreases-loop-made : goal.decreases-loop-made

@@ -3,7 +3,9 @@ use Rattle.vm_types.specs.declared.reply.Reply.{Reply}
 use Rattle.guest_pages.specs.Pages.{flat_of, marks_of}
 use Rattle.hart_trace.specs.States.{Hart}
 use Rattle.timer_trace.specs.declared.timer.Timer.{Timer}
-use Rattle.flat_guest.specs.Body.{harts_after, timer_after}
+use Rattle.guest_devices.specs.declared.device.Device.{Device}
+use Rattle.guest_devices.specs.Kept.{devices_left}
+use Rattle.flat_guest.specs.Body.{harts_after, lefts_after, timer_after}
 use Rattle.vm_world.proofs.Events.{event_made, there_now}
 use Rattle.vm_world.proofs.world.World.event.Goals as goal
 
@@ -17,16 +19,20 @@ returns-clause-made c =
     (ap flat_of given.pages ∙ answered.memory)
     (ap marks_of given.pages ∙ answered.marks)
     (given.board ∙ answered.board)
+    (given.ports ∙ answered.ports)
     (given.timer ∙ ap (λ (t : Timer). timer_after actor t c.again.result) answered.timer
     ∙ ap (λ (r : Reply). timer_after actor c.args.self.now.timer r) c.again.ensures)
     (given.harts ∙ ap (λ (hs : List Hart). harts_after actor hs c.again.result) answered.harts
     ∙ ap (λ (r : Reply). harts_after actor c.args.self.now.harts r) c.again.ensures)
+    (given.devices ∙ ap (λ (ds : List Device). lefts_after actor (devices_left ds) c.again.result) answered.devices
+    ∙ ap (λ (r : Reply). lefts_after actor (devices_left c.args.self.now.devices) r) c.again.ensures)
 
 pub returns-clause-there : goal.returns-clause-there
 returns-clause-there c =
     let answered = c.answer-reply.ensures in
     let given = c.give.ensures in
     let actor = c.args.actor in
-    there_now c.give.new.self c.args.self.now.timer c.args.self.now.harts actor c.args.op c.again.result c.requires.want
+    there_now c.give.new.self c.args.self.now.timer c.args.self.now.harts (devices_left c.args.self.now.devices) actor c.args.op c.again.result c.requires.want
     (given.timer ∙ ap (λ (t : Timer). timer_after actor t c.again.result) answered.timer)
     (given.harts ∙ ap (λ (hs : List Hart). harts_after actor hs c.again.result) answered.harts)
+    (given.devices ∙ ap (λ (ds : List Device). lefts_after actor (devices_left ds) c.again.result) answered.devices)
