@@ -11,6 +11,7 @@ use Rattle.hart_trace.specs.States.{Hart, fresh, hart_next, hart_wants}
 use Rattle.hart_trace.specs.Stopped.{stopped_regs}
 use Rattle.timer_trace.specs.declared.timer.Timer.{Timer}
 use Rattle.timer_trace.specs.States.{timer_next, timer_wants}
+use Rattle.stamp_merge.specs.declared.layout.Layout.{Layout}
 use Rattle.stamp_merge.specs.Journals.{AreOwn, all_of, journal_at}
 use Rattle.stamp_merge.specs.Legal.{AreFollowed}
 use Rattle.stamp_merge.specs.Merged.{journals_of}
@@ -47,20 +48,20 @@ hart_follows s t [] h = ap HartIs h
 hart_follows s t (e ∷ es) h = (h.0, hart_follows (hart_next s e.reply) t es h.1)
 
 -- the harts from number k on, at work since these states
-abbrev pub Crew : {Q : Type 0} → ℕ → ℕ → List (HartWorker Q) → List Hart → Type 0
-Crew count k [] [] = Unit {0}
-Crew count k (v ∷ vs) (h ∷ hs) =
+abbrev pub Crew : {Q : Type 0} → Layout → ℕ → List (HartWorker Q) → List Hart → Type 0
+Crew layout k [] [] = Unit {0}
+Crew layout k (v ∷ vs) (h ∷ hs) =
     (v.track.id ≡ ActorId.Hart k)
-    × HasRun hart_wants hart_next count (ActorId.Hart k) h v.track.journal.items v.hart v.track.clock × Crew count (suc k) vs hs
-Crew count k vs hs = ⊥
+    × HasRun hart_wants hart_next layout (ActorId.Hart k) h v.track.journal.items v.hart v.track.clock × Crew layout (suc k) vs hs
+Crew layout k vs hs = ⊥
 
 abbrev pub harts_journals : {Q : Type 0} → List (HartWorker Q) → Journals
 harts_journals {Q} vs = map (λ (v : HartWorker Q). (v.track.id, v.track.journal.items)) vs
 
-module _ {Q : Type 0} (count : ℕ) where
+module _ {Q : Type 0} (layout : Layout) where
   -- what holds of the journal at each hart's number
-  journal_by : (P : List Entry → Type 0) (k : ℕ) (vs : List (HartWorker Q)) (hs : List Hart) → Crew count k vs hs → P []
-      → ((h : Hart) (v : HartWorker Q) (n : ℕ) → HasRun hart_wants hart_next count (ActorId.Hart n) h v.track.journal.items v.hart v.track.clock
+  journal_by : (P : List Entry → Type 0) (k : ℕ) (vs : List (HartWorker Q)) (hs : List Hart) → Crew layout k vs hs → P []
+      → ((h : Hart) (v : HartWorker Q) (n : ℕ) → HasRun hart_wants hart_next layout (ActorId.Hart n) h v.track.journal.items v.hart v.track.clock
       → P v.track.journal.items)
       → (a : ActorId) → P (journal_at a (harts_journals vs))
   journal_by P k [] [] crew none one a = none
@@ -78,7 +79,7 @@ module _ {Q : Type 0} (count : ℕ) where
   same_hart v k j is = ap (λ (a : ActorId). same_actor a (ActorId.Hart j)) is
 
   -- an actor whose id none of the harts has
-  journal_none : (k : ℕ) (vs : List (HartWorker Q)) (hs : List Hart) (a : ActorId) → Crew count k vs hs
+  journal_none : (k : ℕ) (vs : List (HartWorker Q)) (hs : List Hart) (a : ActorId) → Crew layout k vs hs
       → ((j : ℕ) → k < j + 1 → same_actor (ActorId.Hart j) a ≡ false) → journal_at a (harts_journals vs) ≡ []
   journal_none k [] hs a crew not = refl
   journal_none k (v ∷ vs) [] a crew not = absurd crew
@@ -87,7 +88,7 @@ module _ {Q : Type 0} (count : ℕ) where
       (ap (λ (b : ActorId). same_actor b a) crew.0 ∙ not k (omega arith))
       ∙ journal_none (suc k) vs hs a crew.2 (λ j lt. not j (omega (arith, lt)))
 
-  crew_follow : (k : ℕ) (vs : List (HartWorker Q)) (hs : List Hart) → Crew count k vs hs → (j : ℕ)
+  crew_follow : (k : ℕ) (vs : List (HartWorker Q)) (hs : List Hart) → Crew layout k vs hs → (j : ℕ)
       → Follows actor_wants actor_next (HartIs (hart_or_none hs j)) (journal_at (ActorId.Hart (k + j)) (harts_journals vs))
       (HartIs (hart_or_none (harts_of vs) j))
   crew_follow k [] [] crew j = refl
@@ -108,7 +109,7 @@ module _ {Q : Type 0} (count : ℕ) where
       e (crew_follow (suc k) vs hs crew.2 j))
 
   -- ids that differ
-  others : (k n : ℕ) (vs : List (HartWorker Q)) (hs : List Hart) → Crew count k vs hs → n < k
+  others : (k n : ℕ) (vs : List (HartWorker Q)) (hs : List Hart) → Crew layout k vs hs → n < k
       → AllByRecursion (λ (j : ActorId × List Entry). same_actor j.0 (ActorId.Hart n) ≡ false) (harts_journals vs)
   others k n [] hs crew lt = tt
   others k n (v ∷ vs) [] crew lt = absurd crew
@@ -117,14 +118,14 @@ module _ {Q : Type 0} (count : ℕ) where
     others (suc k) n vs hs crew.2 (omega (arith, lt)),
   )
 
-  no_timer : (k : ℕ) (vs : List (HartWorker Q)) (hs : List Hart) → Crew count k vs hs
+  no_timer : (k : ℕ) (vs : List (HartWorker Q)) (hs : List Hart) → Crew layout k vs hs
       → AllByRecursion (λ (j : ActorId × List Entry). same_actor j.0 ActorId.Timer ≡ false) (harts_journals vs)
   no_timer k [] hs crew = tt
   no_timer k (v ∷ vs) [] crew = absurd crew
   no_timer k (v ∷ vs) (h ∷ hs) crew =
       (ap (λ (a : ActorId). same_actor a ActorId.Timer) crew.0, no_timer (suc k) vs hs crew.2)
 
-  crew_own : (k : ℕ) (vs : List (HartWorker Q)) (hs : List Hart) → Crew count k vs hs → AreOwn (harts_journals vs)
+  crew_own : (k : ℕ) (vs : List (HartWorker Q)) (hs : List Hart) → Crew layout k vs hs → AreOwn (harts_journals vs)
   crew_own k [] hs crew = tt
   crew_own k (v ∷ vs) [] crew = absurd crew
   crew_own k (v ∷ vs) (h ∷ hs) crew = (
@@ -134,8 +135,8 @@ module _ {Q : Type 0} (count : ℕ) where
     crew_own (suc k) vs hs crew.2,
   )
 
-  crew_all : (P : Entry → Type 0) (k : ℕ) (vs : List (HartWorker Q)) (hs : List Hart) → Crew count k vs hs
-      → ((h : Hart) (v : HartWorker Q) (n : ℕ) → n < k + length hs → HasRun hart_wants hart_next count (ActorId.Hart n) h v.track.journal.items v.hart v.track.clock
+  crew_all : (P : Entry → Type 0) (k : ℕ) (vs : List (HartWorker Q)) (hs : List Hart) → Crew layout k vs hs
+      → ((h : Hart) (v : HartWorker Q) (n : ℕ) → n < k + length hs → HasRun hart_wants hart_next layout (ActorId.Hart n) h v.track.journal.items v.hart v.track.clock
       → AllByRecursion P v.track.journal.items)
       → AllByRecursion P (all_of (harts_journals vs))
   crew_all P k [] hs crew one = tt
@@ -155,10 +156,10 @@ journals_are u vs = ap (λ l. (u.track.id, u.track.journal.items) ∷ l) (harts_
     harts_are [] = refl
     harts_are (v ∷ vs) = ap (λ l. (v.track.id, v.track.journal.items) ∷ l) (harts_are vs)
 
-module _ {Q : Type 0} (count : ℕ) (t : Timer) (hs : List Hart) (u : TimerWorker Q) (vs : List (HartWorker Q))
+module _ {Q : Type 0} (layout : Layout) (t : Timer) (hs : List Hart) (u : TimerWorker Q) (vs : List (HartWorker Q))
     (first : u.track.id ≡ ActorId.Timer)
-    (ran : HasRun timer_wants timer_next count ActorId.Timer t u.track.journal.items u.timer u.track.clock)
-    (crew : Crew count 0 vs hs) where
+    (ran : HasRun timer_wants timer_next layout ActorId.Timer t u.track.journal.items u.timer u.track.clock)
+    (crew : Crew layout 0 vs hs) where
   abbrev js : Journals
   js = slice_journals u vs
 
@@ -181,16 +182,16 @@ module _ {Q : Type 0} (count : ℕ) (t : Timer) (hs : List Hart) (u : TimerWorke
       subst (λ (l : List Entry). Follows actor_wants actor_next (HartIs (hart_or_none hs k)) l (HartIs (hart_or_none (harts_of vs) k)))
       (sym (at_other (ActorId.Hart k) refl))
       (subst (λ (n : ℕ). Follows actor_wants actor_next (HartIs (hart_or_none hs k)) (journal_at (ActorId.Hart n) (harts_journals vs)) (HartIs (hart_or_none (harts_of vs) k)))
-      e (crew_follow count 0 vs hs crew k))
+      e (crew_follow layout 0 vs hs crew k))
   follow (ActorId.Device k) =
       subst (λ (l : List Entry). Follows actor_wants actor_next (HartIs (fresh stopped_regs)) l (HartIs (fresh stopped_regs)))
-      (sym (at_other (ActorId.Device k) refl ∙ journal_none count 0 vs hs (ActorId.Device k) crew (λ j lt. refl))) refl
+      (sym (at_other (ActorId.Device k) refl ∙ journal_none layout 0 vs hs (ActorId.Device k) crew (λ j lt. refl))) refl
 
   own : AreOwn js
   own = (
     subst (λ (a : ActorId). AllByRecursion (λ (e : Entry). e.actor ≡ a) u.track.journal.items) (sym first) ran.own,
-    subst (λ (a : ActorId). AllByRecursion (λ (j : ActorId × List Entry). same_actor j.0 a ≡ false) (harts_journals vs)) (sym first) (no_timer count 0 vs hs crew),
-    crew_own count 0 vs hs crew,
+    subst (λ (a : ActorId). AllByRecursion (λ (j : ActorId × List Entry). same_actor j.0 a ≡ false) (harts_journals vs)) (sym first) (no_timer layout 0 vs hs crew),
+    crew_own layout 0 vs hs crew,
   )
 
   stamped : (a : ActorId) → Stamped 0 (journal_at a js)
@@ -198,22 +199,22 @@ module _ {Q : Type 0} (count : ℕ) (t : Timer) (hs : List Hart) (u : TimerWorke
     where
       by_test : (b : Bool) → Stamped 0 (cond b u.track.journal.items (journal_at a (harts_journals vs)))
       by_test true = ran.stamped
-      by_test false = journal_by count (Stamped 0) 0 vs hs crew tt (λ h v n r. r.stamped) a
+      by_test false = journal_by layout (Stamped 0) 0 vs hs crew tt (λ h v n r. r.stamped) a
 
   all : (P : Entry → Type 0) → AllByRecursion P u.track.journal.items
-      → ((h : Hart) (v : HartWorker Q) (n : ℕ) → n < 0 + length hs → HasRun hart_wants hart_next count (ActorId.Hart n) h v.track.journal.items v.hart v.track.clock
+      → ((h : Hart) (v : HartWorker Q) (n : ℕ) → n < 0 + length hs → HasRun hart_wants hart_next layout (ActorId.Hart n) h v.track.journal.items v.hart v.track.clock
       → AllByRecursion P v.track.journal.items) → AllByRecursion P (all_of js)
-  all P here one = append_all P u.track.journal.items (all_of (harts_journals vs)) here (crew_all count P 0 vs hs crew one)
+  all P here one = append_all P u.track.journal.items (all_of (harts_journals vs)) here (crew_all layout P 0 vs hs crew one)
 
   pub are_stamped : AreStamped js
   are_stamped = record { own = own; stamped = stamped; out = all OutIsZero ran.out (λ h v n lt r. r.out) }
 
-  pub are_followed : AreFollowed actor_wants actor_next (route_among count) OutFits (actor_among t hs) (actor_among u.timer (harts_of vs)) js
+  pub are_followed : AreFollowed actor_wants actor_next (route_among layout) OutFits (actor_among t hs) (actor_among u.timer (harts_of vs)) js
   are_followed = record {
     own = own;
     climb = λ a. climbs_from 0 (journal_at a js) (stamped a);
     follow = follow;
-    placed = all (IsPlaced (route_among count) OutFits) ran.placed (λ h v n lt r. r.placed);
+    placed = all (IsPlaced (route_among layout) OutFits) ran.placed (λ h v n lt r. r.placed);
   }
 
   pub are_there : AllByRecursion (λ (e : Entry). IsThere (length hs) e.actor) (all_of js)
@@ -225,18 +226,18 @@ module _ {Q : Type 0} (count : ℕ) (t : Timer) (hs : List Hart) (u : TimerWorke
       (λ e is. subst (IsThere (length hs)) (sym is) (let e : n < length hs = omega (arith, lt) in e)) r.own)
 
 -- the journal at a hart's number
-pub journal_there : {Q : Type 0} (count k : ℕ) (vs : List (HartWorker Q)) (hs : List Hart) → Crew count k vs hs → (j : ℕ) (v : HartWorker Q)
+pub journal_there : {Q : Type 0} (layout : Layout) (k : ℕ) (vs : List (HartWorker Q)) (hs : List Hart) → Crew layout k vs hs → (j : ℕ) (v : HartWorker Q)
     → slice_get vs j ≡ Some v → journal_at (ActorId.Hart (k + j)) (harts_journals vs) ≡ v.track.journal.items
-journal_there count k [] hs crew j v is = cc
-journal_there count k (w ∷ vs) [] crew j v is = absurd crew
-journal_there count k (w ∷ vs) (h ∷ hs) crew zero v is =
+journal_there layout k [] hs crew j v is = cc
+journal_there layout k (w ∷ vs) [] crew j v is = absurd crew
+journal_there layout k (w ∷ vs) (h ∷ hs) crew zero v is =
     let e : k + 0 ≡ k = omega arith in
     let same : w ≡ v = cc in
     ap (λ (t : Bool). cond t w.track.journal.items (journal_at (ActorId.Hart (k + 0)) (harts_journals vs)))
-    (same_hart count w k (k + 0) crew.0 ∙ eq-eqb k (k + 0) (sym e))
+    (same_hart layout w k (k + 0) crew.0 ∙ eq-eqb k (k + 0) (sym e))
     ∙ ap (λ (x : HartWorker _). x.track.journal.items) same
-journal_there count k (w ∷ vs) (h ∷ hs) crew (suc j) v is =
+journal_there layout k (w ∷ vs) (h ∷ hs) crew (suc j) v is =
     let e : k + suc j ≡ suc k + j = omega arith in
     ap (λ (t : Bool). cond t w.track.journal.items (journal_at (ActorId.Hart (k + suc j)) (harts_journals vs)))
-    (same_hart count w k (k + suc j) crew.0 ∙ ne_eqb k (k + suc j) (λ eq. omega (arith, eq)))
-    ∙ ap (λ (n : ℕ). journal_at (ActorId.Hart n) (harts_journals vs)) e ∙ journal_there count (suc k) vs hs crew.2 j v is
+    (same_hart layout w k (k + suc j) crew.0 ∙ ne_eqb k (k + suc j) (λ eq. omega (arith, eq)))
+    ∙ ap (λ (n : ℕ). journal_at (ActorId.Hart n) (harts_journals vs)) e ∙ journal_there layout (suc k) vs hs crew.2 j v is

@@ -9,6 +9,7 @@ use Rattle.hart_trace.specs.States.{Hart}
 use Rattle.timer_trace.specs.declared.timer.Timer.{Timer}
 use Rattle.vm_host.specs.Telling.{ClockKnown}
 use Rattle.pause_gate.specs.Tally.{Tally}
+use Rattle.stamp_merge.specs.declared.layout.Layout.{Layout}
 use Rattle.stamp_merge.specs.declared.journal.Journal.{Journal}
 use Rattle.stamp_merge.specs.Journals.{all_of}
 use Rattle.stamp_merge.specs.Merged.{journals_of}
@@ -62,16 +63,16 @@ module _ {Q : Type 0} (serves : Q → Type 0) (n : ℕ) (t : Timer) (hs : List H
       let g = long_map (λ (w : HartWorker Q). w.track.pass) ws in
       omega (arith, e, f, g)
 
-module _ {Q : Type 0} (serves : Q → Type 0) (tally : Q → Tally) (count n : ℕ) where
+module _ {Q : Type 0} (serves : Q → Type 0) (tally : Q → Tally) (layout : Layout) (n : ℕ) where
   served_by : (ws vs : List (HartWorker Q)) → length vs ≡ length ws
-      → ((i : ℕ) (d : HartWorker Q) → i < length ws → HartEnds serves tally count n (slice_index_or ws i d) (slice_index_or vs i d))
+      → ((i : ℕ) (d : HartWorker Q) → i < length ws → HartEnds serves tally layout n (slice_index_or ws i d) (slice_index_or vs i d))
       → AllByRecursion serves (passes_of vs)
   served_by [] [] long worked = tt
   served_by [] (v ∷ vs) long worked = absurd (omega (arith, long))
   served_by (w ∷ ws) [] long worked = absurd (omega (arith, long))
   served_by (w ∷ ws) (v ∷ vs) long worked =
       let one : 0 < length (w ∷ ws) = omega arith in
-      let first : HartEnds serves tally count n w v = worked 0 w one in (
+      let first : HartEnds serves tally layout n w v = worked 0 w one in (
         first.pass,
         served_by ws vs (omega (arith, long)) (λ i d below. let more : suc i < length (w ∷ ws) = omega (arith, below) in worked (suc i) d more),
       )
@@ -80,14 +81,14 @@ module _ {Q : Type 0} (serves : Q → Type 0) (tally : Q → Tally) (count n : �
   one_more k = omega arith
 
   bound_by : (ws vs : List (HartWorker Q)) → length vs ≡ length ws
-      → ((i : ℕ) (d : HartWorker Q) → i < length ws → HartEnds serves tally count n (slice_index_or ws i d) (slice_index_or vs i d))
+      → ((i : ℕ) (d : HartWorker Q) → i < length ws → HartEnds serves tally layout n (slice_index_or ws i d) (slice_index_or vs i d))
       → length (all_of (harts_journals vs)) ≤ length ws * n
   bound_by [] [] long worked = omega arith
   bound_by [] (v ∷ vs) long worked = absurd (omega (arith, long))
   bound_by (w ∷ ws) [] long worked = absurd (omega (arith, long))
   bound_by (w ∷ ws) (v ∷ vs) long worked =
       let one : 0 < length (w ∷ ws) = omega arith in
-      let first : HartEnds serves tally count n w v = worked 0 w one in
+      let first : HartEnds serves tally layout n w v = worked 0 w one in
       let most = first.worked.cause.most in
       let rest = bound_by ws vs (omega (arith, long)) (λ i d below. let more : suc i < length (w ∷ ws) = omega (arith, below) in worked (suc i) d more) in
       let whole = length-append v.track.journal.items (all_of (harts_journals vs)) in
@@ -95,8 +96,8 @@ module _ {Q : Type 0} (serves : Q → Type 0) (tally : Q → Tally) (count n : �
       omega (arith, most, rest, whole, product)
 
   module _ (asked now : ClockKnown) (t u : TimerWorker Q) (ws vs : List (HartWorker Q)) (left : List Q) (harts : List Hart)
-      (later : List Q) (journals : List Journal) (stops : List Stopped) (timer_ends : TimerEnds serves tally count (timer_most n) asked now t u)
-      (worked : HartsWorked serves tally count n ws vs) (back : AreBack u vs left harts later journals stops) where
+      (later : List Q) (journals : List Journal) (stops : List Stopped) (timer_ends : TimerEnds serves tally layout (timer_most n) asked now t u)
+      (worked : HartsWorked serves tally layout n ws vs) (back : AreBack u vs left harts later journals stops) where
     pub back_served : AllByRecursion serves left → All serves later
     back_served served =
         All-from_recursion serves later

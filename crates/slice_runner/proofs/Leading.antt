@@ -13,10 +13,12 @@ use Rattle.guest_pages.specs.Pages.{PageValue, new_page}
 use Rattle.hart_trace.specs.States.{Hart, fresh}
 use Rattle.hart_trace.specs.Stopped.{stopped_regs}
 use Rattle.timer_trace.specs.declared.timer.Timer.{Timer}
+use Rattle.port_table.specs.declared.state.PortState.{PortState}
+use Rattle.stamp_merge.specs.declared.layout.Layout.{Layout}
 use Rattle.flat_guest.specs.Steps.{guest_after, written_after}
 use Rattle.vm_world.specs.Worlds.{WorldValue}
 use Rattle.slice_runner.specs.Slices.{IsSerial, MarksFollow}
-use Rattle.slice_runner.specs.Values.{ActorState, BoardHolds, HartIs, PageHolds, PlaceValue, TimerIs, actor_next, actor_wants, actors_of, place_touch, places_of, route_among}
+use Rattle.slice_runner.specs.Values.{ActorState, BoardHolds, HartIs, PageHolds, PlaceValue, PortHolds, TimerIs, actor_next, actor_wants, actors_of, layout_in, no_port, place_touch, places_of, route_among}
 use Rattle.slice_runner.proofs.Stepping.{IsThere, StepsOn, steps_on, world_after}
 
 -- the entries lead from the world to one that has these values and states
@@ -25,7 +27,8 @@ pub record Reaches (w : WorldValue) (es : List Entry) : Type 0 where
   pub serial : IsSerial w es end
   pub marks : MarksFollow w.pages es end.pages
   pub pages : ArePages 0 end.pages
-  pub count : length end.pages ≡ length w.pages
+  pub layout : layout_in end ≡ layout_in w
+  pub devices : end.devices ≡ w.devices
   pub harts : length end.harts ≡ length w.harts
   pub places : vals_end place_touch (places_of w) es ≡ places_of end
   pub actors : states_end actor_next (actors_of w) es ≡ actors_of end
@@ -36,34 +39,36 @@ reach_more w e es s r = record {
   serial = λ g is. let next = r.serial (guest_after g e) (s.stays g is) in (next.0, (guest_after g e, s.step g is, next.1), next.2);
   marks = λ written are. r.marks (written_after written e) (s.marks written are);
   pages = r.pages;
-  count = r.count ∙ s.count;
+  layout = r.layout ∙ s.layout;
+  devices = r.devices ∙ s.devices;
   harts = r.harts ∙ s.harts;
   places = ap (λ (f : PlaceId → PlaceValue). vals_end place_touch f es) s.places ∙ r.places;
   actors = ap (λ (f : ActorId → ActorState). states_end actor_next f es) s.actors ∙ r.actors;
 }
 
-pub reaches : (es : List Entry) (w : WorldValue) (n m : ℕ) → n ≡ length w.pages → m ≡ length w.harts → ArePages 0 w.pages
+pub reaches : (es : List Entry) (w : WorldValue) (layout : Layout) (m : ℕ) → layout ≡ layout_in w → m ≡ length w.harts → ArePages 0 w.pages
     → AllByRecursion (λ (e : Entry). IsThere m e.actor) es
-    → IsFresh place_touch actor_wants actor_next (route_among n) OutFits (places_of w) (actors_of w) es → Reaches w es
-reaches [] w n m pages_are harts_are are there fresh_is = record {
+    → IsFresh place_touch actor_wants actor_next (route_among layout) OutFits (places_of w) (actors_of w) es → Reaches w es
+reaches [] w layout m layout_is harts_are are there fresh_is = record {
   end = w;
   serial = λ g is. (g, refl, is);
   marks = λ written are. are;
   pages = are;
-  count = refl;
+  layout = refl;
+  devices = refl;
   harts = refl;
   places = refl;
   actors = refl;
 }
-reaches (e ∷ es) w n m pages_are harts_are are there fresh_is =
+reaches (e ∷ es) w layout m layout_is harts_are are there fresh_is =
     let s : StepsOn w e =
     steps_on w e are (subst (λ (k : ℕ). IsThere k e.actor) harts_are there.0) fresh_is.0
-    (fresh_is.1 ∙ ap (λ (k : ℕ). route_among k e.op) pages_are) fresh_is.2 in
-    let rest : IsFresh place_touch actor_wants actor_next (route_among n) OutFits (places_of (world_after w e)) (actors_of (world_after w e)) es =
-    subst (λ (f : ActorId → ActorState). IsFresh place_touch actor_wants actor_next (route_among n) OutFits (places_of (world_after w e)) f es) s.actors
-    (subst (λ (f : PlaceId → PlaceValue). IsFresh place_touch actor_wants actor_next (route_among n) OutFits f (put_actor (actors_of w) e.actor (actor_next (actors_of w e.actor) e.reply)) es) s.places fresh_is.3) in
+    (fresh_is.1 ∙ ap (λ (l : Layout). route_among l e.op) layout_is) fresh_is.2 in
+    let rest : IsFresh place_touch actor_wants actor_next (route_among layout) OutFits (places_of (world_after w e)) (actors_of (world_after w e)) es =
+    subst (λ (f : ActorId → ActorState). IsFresh place_touch actor_wants actor_next (route_among layout) OutFits (places_of (world_after w e)) f es) s.actors
+    (subst (λ (f : PlaceId → PlaceValue). IsFresh place_touch actor_wants actor_next (route_among layout) OutFits f (put_actor (actors_of w) e.actor (actor_next (actors_of w e.actor) e.reply)) es) s.places fresh_is.3) in
     reach_more w e es s
-    (reaches es (world_after w e) n m (pages_are ∙ sym s.count) (harts_are ∙ sym s.harts) s.pages there.1 rest)
+    (reaches es (world_after w e) layout m (layout_is ∙ sym s.layout) (harts_are ∙ sym s.harts) s.pages there.1 rest)
 
 -- lists with the same items are one
 same_lists : {A : Type 0} (xs ys : List A) (d : A) → length xs ≡ length ys → ((i : ℕ) → get_or xs i d ≡ get_or ys i d) → xs ≡ ys
@@ -75,10 +80,17 @@ same_lists (x ∷ xs) (y ∷ ys) d long same =
 
 abbrev page_in : PlaceValue → PageValue → PageValue
 page_in (PageHolds p) d = p
+page_in (PortHolds p) d = d
 page_in (BoardHolds b) d = d
+
+abbrev port_in : PlaceValue → PortState → PortState
+port_in (PageHolds p) d = d
+port_in (PortHolds p) d = p
+port_in (BoardHolds b) d = d
 
 abbrev board_in : PlaceValue → Board → Board
 board_in (PageHolds p) d = d
+board_in (PortHolds p) d = d
 board_in (BoardHolds b) d = b
 
 abbrev timer_in : ActorState → Timer → Timer
@@ -90,13 +102,15 @@ hart_in (TimerIs t) d = d
 hart_in (HartIs h) d = h
 
 -- a world is known by its places and its actors
-pub same_world : (w v : WorldValue) → length w.pages ≡ length v.pages → length w.harts ≡ length v.harts
+pub same_world : (w v : WorldValue) → layout_in w ≡ layout_in v → length w.harts ≡ length v.harts → w.devices ≡ v.devices
     → ((p : PlaceId) → is_out p ≡ false → places_of w p ≡ places_of v p) → ((a : ActorId) → actors_of w a ≡ actors_of v a) → w ≡ v
-same_world w v pages harts places actors =
+same_world w v layout harts devices places actors =
     let pages_are : w.pages ≡ v.pages =
-    same_lists w.pages v.pages (new_page 0) pages (λ i. ap (λ (x : PlaceValue). page_in x (new_page 0)) (places (PlaceId.Page i) refl)) in
+    same_lists w.pages v.pages (new_page 0) (ap (λ (l : Layout). l.pages) layout) (λ i. ap (λ (x : PlaceValue). page_in x (new_page 0)) (places (PlaceId.Page i) refl)) in
+    let ports_are : w.ports ≡ v.ports =
+    same_lists w.ports v.ports no_port (ap (λ (l : Layout). l.ports) layout) (λ k. ap (λ (x : PlaceValue). port_in x no_port) (places (PlaceId.Port k) refl)) in
     let board_is : w.board ≡ v.board = ap (λ (x : PlaceValue). board_in x w.board) (places PlaceId.Board refl) in
     let timer_is : w.timer ≡ v.timer = ap (λ (x : ActorState). timer_in x w.timer) (actors ActorId.Timer) in
     let harts_are : w.harts ≡ v.harts =
     same_lists w.harts v.harts (fresh stopped_regs) harts (λ k. ap (λ (x : ActorState). hart_in x (fresh stopped_regs)) (actors (ActorId.Hart k))) in
-    λ j. record { pages = pages_are j; board = board_is j; timer = timer_is j; harts = harts_are j }
+    λ j. record { pages = pages_are j; board = board_is j; ports = ports_are j; timer = timer_is j; harts = harts_are j; devices = devices j }

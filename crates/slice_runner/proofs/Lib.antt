@@ -1,6 +1,7 @@
 pub mod Answers
 pub mod Crew
 pub mod Home
+pub mod Homes
 pub mod Joined
 pub mod Leading
 pub mod Returned

@@ -1,6 +1,7 @@
--- Where ops act, among so many pages.
-use Rattle.std.proofs.Common.{◌≡◌, ℕ, ◌+◌, ◌*◌, ◌-◌, ◌/◌, ◌%◌, ◌<◌, nat_le, max, Bool, true, false, cond, ◌&&◌, refl, sym, ap, ◌∙◌, subst, arith, length}
-use Rattle.std.proofs.Common.{◌⊎◌, inl, inr, Option, Some, None, IfOk, Result, Ok, Err}
+-- Where ops act, among so many pages and ports.
+use Rattle.std.proofs.Common.{◌≡◌, ℕ, ◌+◌, ◌*◌, ◌-◌, ◌/◌, ◌%◌, ◌<◌, nat_le, nat_lt, max, Bool, true, false, cond, ◌&&◌, refl, sym, ap, ◌∙◌, subst, arith, length}
+use Rattle.std.proofs.lemmas.Bool.{ltb-true}
+use Rattle.std.proofs.Common.{Option, Some, None, IfOk, OnErr, Result, Ok, Err}
 use Rattle.std.specs.declared.alloc.AllocError.{AllocError}
 use Rattle.vm_types.specs.declared.entry.Entry.{Entry}
 use Rattle.vm_types.specs.declared.ids.ActorId.{ActorId}
@@ -18,7 +19,9 @@ use Rattle.guest_memory.specs.Route.{access_place, page_of}
 use Rattle.guest_memory.specs.Words.{width_of}
 use Rattle.guest_pages.proofs.Here.{here}
 use Rattle.hart_trace.specs.Asks.{is_port_op}
-use Rattle.flat_guest.specs.Places.{are_registers}
+use Rattle.flat_guest.specs.Places.{is_register_access, place_by, port_accessed, port_of}
+use Rattle.stamp_merge.specs.declared.layout.Layout.{Layout}
+use Rattle.slice_runner.specs.Locks.{IsLaidOut}
 use Rattle.vm_world.proofs.Events.{place_access}
 use Rattle.slice_runner.specs.Values.{route_among}
 
@@ -40,66 +43,103 @@ access_below n i (Op.Sc at value wide) is = below n at (width_of wide) i is
 access_below n i op is = cc
 
 -- a page that an op acts on is there
-pub page_there : (n i : ℕ) (op : Op) → route_among n op ≡ PlaceId.Page i → i < n
-page_there n i op is = access_below n i op (place_access (4096 * n) i op is)
+pub page_there : (layout : Layout) (i : ℕ) (op : Op) → route_among layout op ≡ PlaceId.Page i → i < layout.pages
+page_there layout i op is =
+    access_below layout.pages i op (place_access (record { memory_size = 4096 * layout.pages; ports = layout.ports }) i op is)
+
+-- no access to memory is at a port
+not_memory : (page : Bool) (i k : ℕ) → cond page (PlaceId.Page i) PlaceId.Out ≡ PlaceId.Port k → ⊥
+not_memory true i k is = cc
+not_memory false i k is = cc
 
 -- the bytes are in one page of RAM
 abbrev in_page : ℕ → ℕ → ℕ → Bool
-in_page n at len =
-    nat_le 1 len && is_ram (4096 * n) at len && nat_le ((at - ram_start) % page_size + len) page_size
+in_page size at len =
+    nat_le 1 len && is_ram size at len && nat_le ((at - ram_start) % page_size + len) page_size
 
-not_port : (registers page : Bool) (i k : ℕ) → cond registers PlaceId.Board (cond page (PlaceId.Page i) PlaceId.Out) ≡ PlaceId.Port k → ⊥
-not_port true page i k is = cc
-not_port false true i k is = cc
-not_port false false i k is = cc
+no_port_of : (size at len k : ℕ) → page_of size at len ≡ PlaceId.Port k → ⊥
+no_port_of size at len k is = not_memory (in_page size at len) ((at - ram_start) / page_size) k is
 
--- nor on a port, since there is none
-pub never_port : (n k : ℕ) (op : Op) → is_port_op op ≡ false → route_among n op ≡ PlaceId.Port k → ⊥
-never_port n k (Op.Read at len) own is = not_port (are_registers at len) (in_page n at len) ((at - ram_start) / page_size) k is
-never_port n k (Op.Write at piece) own is =
-    not_port (are_registers at (length piece)) (in_page n at (length piece)) ((at - ram_start) / page_size) k is
-never_port n k (Op.Amo at value kind wide) own is =
-    not_port (are_registers at (width_of wide)) (in_page n at (width_of wide)) ((at - ram_start) / page_size) k is
-never_port n k (Op.Lr at wide) own is =
-    not_port (are_registers at (width_of wide)) (in_page n at (width_of wide)) ((at - ram_start) / page_size) k is
-never_port n k (Op.Sc at value wide) own is =
-    not_port (are_registers at (width_of wide)) (in_page n at (width_of wide)) ((at - ram_start) / page_size) k is
-never_port n k (Op.Port port act) own is = cc
-never_port n k (Op.Board act) own is = cc
-never_port n k (Op.Out act) own is = cc
-never_port n k Op.Idle own is = cc
+-- the port is one of so many
+by_test : (port ports k : ℕ) (t : Bool) → nat_lt port ports ≡ t → cond t (PlaceId.Port port) PlaceId.Out ≡ PlaceId.Port k → k < ports
+by_test port ports k true lt is =
+    let same : port ≡ k = cc in subst (λ (n : ℕ). n < ports) same (ltb-true port ports lt)
+by_test port ports k false lt is = cc
+
+of_port : (ports port k : ℕ) → port_of ports port ≡ PlaceId.Port k → k < ports
+of_port ports port k is = by_test port ports k (nat_lt port ports) refl is
+
+by_place : (ports k : ℕ) (registers : Bool) (o : Option ℕ) (memory : PlaceId) → (memory ≡ PlaceId.Port k → ⊥)
+    → place_by ports registers o memory ≡ PlaceId.Port k → k < ports
+by_place ports k true o memory not is = cc
+by_place ports k false (Some port) memory not is = of_port ports port k is
+by_place ports k false None memory not is = absurd (not is)
+
+-- a port that an op acts on is there
+pub port_there : (layout : Layout) (k : ℕ) (op : Op) → route_among layout op ≡ PlaceId.Port k → k < layout.ports
+port_there layout k (Op.Read at len) is =
+    let op : Op = Op.Read at len in
+    by_place layout.ports k (is_register_access op) (port_accessed op) (page_of (4096 * layout.pages) at len)
+    (no_port_of (4096 * layout.pages) at len k) is
+port_there layout k (Op.Write at piece) is =
+    let op : Op = Op.Write at piece in
+    by_place layout.ports k (is_register_access op) (port_accessed op) (page_of (4096 * layout.pages) at (length piece))
+    (no_port_of (4096 * layout.pages) at (length piece) k) is
+port_there layout k (Op.Amo at value kind wide) is =
+    let op : Op = Op.Amo at value kind wide in
+    by_place layout.ports k (is_register_access op) (port_accessed op) (page_of (4096 * layout.pages) at (width_of wide))
+    (no_port_of (4096 * layout.pages) at (width_of wide) k) is
+port_there layout k (Op.Lr at wide) is =
+    let op : Op = Op.Lr at wide in
+    by_place layout.ports k (is_register_access op) (port_accessed op) (page_of (4096 * layout.pages) at (width_of wide))
+    (no_port_of (4096 * layout.pages) at (width_of wide) k) is
+port_there layout k (Op.Sc at value wide) is =
+    let op : Op = Op.Sc at value wide in
+    by_place layout.ports k (is_register_access op) (port_accessed op) (page_of (4096 * layout.pages) at (width_of wide))
+    (no_port_of (4096 * layout.pages) at (width_of wide) k) is
+port_there layout k (Op.Port port act) is = of_port layout.ports port k is
+port_there layout k (Op.Board act) is = cc
+port_there layout k (Op.Out act) is = cc
+port_there layout k Op.Idle is = cc
+
+-- the place of an op is there, if it has one
+pub laid_out : (layout : Layout) (op : Op) (place : PlaceId) → place ≡ route_among layout op → is_out place ≡ false → IsLaidOut layout place
+laid_out layout op (PlaceId.Page i) is inner = page_there layout i op (sym is)
+laid_out layout op (PlaceId.Port k) is inner = port_there layout k op (sym is)
+laid_out layout op PlaceId.Board is inner = tt
+laid_out layout op PlaceId.Out is inner = cc
 
 -- with no place the reply is what the machine allows
-none_fits : (n : ℕ) (op : Op) → route_among n op ≡ PlaceId.Out → is_port_op op ≡ false → is_given op None ≡ true
+none_fits : (layout : Layout) (op : Op) → route_among layout op ≡ PlaceId.Out → is_port_op op ≡ false → is_given op None ≡ true
     → OutFits op (out_reply op None)
-none_fits n (Op.Read at len) is own fit = refl
-none_fits n (Op.Write at piece) is own fit = refl
-none_fits n (Op.Amo at value kind wide) is own fit = refl
-none_fits n (Op.Lr at wide) is own fit = refl
-none_fits n (Op.Sc at value wide) is own fit = refl
-none_fits n (Op.Port port act) is own fit = cc
-none_fits n (Op.Board act) is own fit = cc
-none_fits n (Op.Out act) is own fit = cc
-none_fits n Op.Idle is own fit = refl
+none_fits layout (Op.Read at len) is own fit = refl
+none_fits layout (Op.Write at piece) is own fit = refl
+none_fits layout (Op.Amo at value kind wide) is own fit = refl
+none_fits layout (Op.Lr at wide) is own fit = refl
+none_fits layout (Op.Sc at value wide) is own fit = refl
+none_fits layout (Op.Port port act) is own fit = cc
+none_fits layout (Op.Board act) is own fit = cc
+none_fits layout (Op.Out act) is own fit = cc
+none_fits layout Op.Idle is own fit = refl
 
 some_fits : (op : Op) (reply : Reply) → is_given op (Some reply) ≡ true → OutFits op (out_reply op (Some reply))
 some_fits (Op.Out act) reply fit = fit
 some_fits op reply fit = cc
 
-out_fits_by : (n : ℕ) (op : Op) (given : Option Reply) → route_among n op ≡ PlaceId.Out → is_port_op op ≡ false
+out_fits_by : (layout : Layout) (op : Op) (given : Option Reply) → route_among layout op ≡ PlaceId.Out → is_port_op op ≡ false
     → is_given op given ≡ true → OutFits op (out_reply op given)
-out_fits_by n op None is own fit = none_fits n op is own fit
-out_fits_by n op (Some reply) is own fit = some_fits op reply fit
+out_fits_by layout op None is own fit = none_fits layout op is own fit
+out_fits_by layout op (Some reply) is own fit = some_fits op reply fit
 
-module _ (n clock : ℕ) (actor : ActorId) (op : Op) (given : Option Reply) where
+module _ (layout : Layout) (clock : ℕ) (actor : ActorId) (op : Op) (given : Option Reply) where
   -- an act under the lock of its place
-  at_one : (place : PlaceId) (e : Entry) → is_out place ≡ false → place ≡ route_among n op
-      → IsEntryOf e actor place op clock → IsActOf e actor op given n clock
+  at_one : (place : PlaceId) (e : Entry) → is_out place ≡ false → place ≡ route_among layout op
+      → IsEntryOf e actor place op clock → IsActOf e actor op given layout clock
   at_one place e inner placed is =
       let inside : is_out e.place ≡ false = ap is_out is.place_is ∙ inner in record {
         actor_is = is.actor_is;
         op_is = is.op_is;
-        placed = (is.place_is ∙ placed ∙ ap (route_among n) (sym is.op_is), λ out. absurd (clash (e.place) inside out));
+        placed = (is.place_is ∙ placed ∙ ap (route_among layout) (sym is.op_is), λ out. absurd (clash (e.place) inside out));
         stamp_is = is.stamp_is;
         out = λ out. absurd (clash (e.place) inside out);
         given_is = λ out. absurd (clash (e.place) inside out);
@@ -108,35 +148,39 @@ module _ (n clock : ℕ) (actor : ActorId) (op : Op) (given : Option Reply) wher
       clash : (p : PlaceId) → is_out p ≡ false → is_out p ≡ true → ⊥
       clash p inside outside = let both = sym inside ∙ outside in cc
 
-  pub at_place : (place lock : PlaceId) (r : Result Entry AllocError) → is_out place ≡ false → place ≡ route_among n op
-      → lock ≡ place → IfOk r (λ (e : Entry). IsEntryOf e actor lock op clock)
-      → IfOk r (λ (e : Entry). IsActOf e actor op given n clock)
-  at_place place lock (Ok e) inner here is made =
-      at_one place e inner here (subst (λ (p : PlaceId). IsEntryOf e actor p op clock) is made)
-  at_place place lock (Err why) inner here is made = tt
+  pub at_place : (place : PlaceId) (r : Result Entry AllocError) → is_out place ≡ false → place ≡ route_among layout op
+      → IfOk r (λ (e : Entry). IsEntryOf e actor place op clock) → IfOk r (λ (e : Entry). IsActOf e actor op given layout clock)
+  at_place place (Ok e) inner here made = at_one place e inner here made
+  at_place place (Err why) inner here made = tt
 
   -- an act with no place
-  pub at_none : (place : PlaceId) (e : Entry) → is_port_op op ≡ false → is_given op given ≡ true
-      → place ≡ route_among n op → ((k : ℕ) × (place ≡ PlaceId.Port k)) ⊎ (place ≡ PlaceId.Out)
+  pub at_none : (e : Entry) → is_port_op op ≡ false → is_given op given ≡ true → route_among layout op ≡ PlaceId.Out
       → e.actor ≡ actor → e.place ≡ PlaceId.Out → e.op ≡ op → e.reply ≡ out_reply op given → e.stamp ≡ clock + 1
-      → e.before ≡ 0 → IsActOf e actor op given n clock
-  at_none place e own fit here (inl port) actor_is place_is op_is reply_is stamp_is before_is =
-      absurd (never_port n port.0 op own (sym here ∙ port.1))
-  at_none place e own fit here (inr out) actor_is place_is op_is reply_is stamp_is before_is =
-      let nowhere : route_among n op ≡ PlaceId.Out = sym here ∙ out in record {
-        actor_is = actor_is;
-        op_is = op_is;
-        placed = (
-          place_is ∙ sym nowhere ∙ ap (route_among n) (sym op_is),
-          λ is. rw (reply_is, op_is) (out_fits_by n op given nowhere own fit),
-        );
-        stamp_is = rw before_is (stamp_is ∙ add_one clock);
-        out = λ is. before_is;
-        given_is = λ is. reply_is;
-      }
+      → e.before ≡ 0 → IsActOf e actor op given layout clock
+  at_none e own fit nowhere actor_is place_is op_is reply_is stamp_is before_is = record {
+    actor_is = actor_is;
+    op_is = op_is;
+    placed = (
+      place_is ∙ sym nowhere ∙ ap (route_among layout) (sym op_is),
+      λ is. rw (reply_is, op_is) (out_fits_by layout op given nowhere own fit),
+    );
+    stamp_is = rw before_is (stamp_is ∙ add_one clock);
+    out = λ is. before_is;
+    given_is = λ is. reply_is;
+  }
     where
       add_one : (k : ℕ) → k + 1 ≡ 1 + max k 0
       add_one k = omega arith
 
-  pub not_out : (place : PlaceId) → place ≡ route_among n op → is_out place ≡ false → is_out (route_among n op) ≡ false
+  pub not_out : (place : PlaceId) → place ≡ route_among layout op → is_out place ≡ false → is_out (route_among layout op) ≡ false
   not_out place here inner = ap is_out (sym here) ∙ inner
+
+pub inside_of : (place : PlaceId) → (place ≡ PlaceId.Out → ⊥) → is_out place ≡ false
+inside_of (PlaceId.Page i) not = refl
+inside_of (PlaceId.Port k) not = refl
+inside_of PlaceId.Board not = refl
+inside_of PlaceId.Out not = absurd (not refl)
+
+pub also : (A B : Type 0) (r : Result Entry AllocError) → OnErr r A → B → OnErr r (A × B)
+also A B (Ok e) a b = tt
+also A B (Err why) a b = (a, b)

@@ -17,21 +17,24 @@ use Rattle.guest_pages.specs.Pages.{PageValue, flat_of, marks_of, new_page, page
 use Rattle.guest_pages.proofs.Here.{size_of_pages}
 use Rattle.guest_pages.proofs.Marking.{acted_marks}
 use Rattle.guest_pages.proofs.Sets.{act_memory, act_reply, act_stays}
-use Rattle.hart_trace.specs.Asks.{is_port_op}
 use Rattle.hart_trace.specs.States.{Hart, fresh, hart_next}
-use Rattle.flat_guest.specs.Body.{harts_after, out_reply, timer_after, want_of, with_reply}
+use Rattle.flat_guest.specs.Body.{harts_after, lefts_after, out_reply, timer_after, want_of, with_reply}
+use Rattle.guest_devices.specs.Devices.{DeviceLeft}
+use Rattle.guest_devices.specs.Kept.{devices_left}
+use Rattle.port_table.specs.Acts as port
+use Rattle.port_table.specs.declared.state.PortState.{PortState}
+use Rattle.stamp_merge.specs.declared.layout.Layout.{Layout}
 use Rattle.hart_trace.specs.Stopped.{stopped_regs}
 use Rattle.flat_guest.specs.Guest.{Guest}
-use Rattle.flat_guest.specs.Places.{place_of, without_devices}
-use Rattle.flat_guest.specs.Steps.{FlatStep, board_after, guest_after, is_given, written_after}
-use Rattle.flat_guest.proofs.Acting as acting
+use Rattle.flat_guest.specs.Places.{place_of}
+use Rattle.flat_guest.specs.Steps.{FlatStep, board_after, guest_after, is_given, port_after, port_reply, ports_after, written_after}
 use Rattle.flat_guest.proofs.Marked.{marks_on}
 use Rattle.flat_guest.proofs.Stepping.{entry_of}
 use Rattle.vm_world.specs.Worlds.{IsWorld, MakesEvent, WorldValue, place_in, want_in}
 use Rattle.vm_world.proofs.Events.{event_made, place_access}
 use Rattle.slice_runner.specs.Slices.{event_of, given_of}
-use Rattle.slice_runner.specs.Values.{HartIs, PageHolds, actor_next, actor_wants, actors_of, hart_or_none, page_or_none, place_touch, places_of, route_among}
-use Rattle.slice_runner.proofs.Routes.{never_port, page_there}
+use Rattle.slice_runner.specs.Values.{HartIs, PageHolds, PortHolds, actor_next, actor_wants, actors_of, hart_or_none, layout_in, no_port, page_or_none, place_touch, places_of, port_or_none, route_among}
+use Rattle.slice_runner.proofs.Routes.{page_there, port_there}
 
 -- the pages after an act at a place
 abbrev pub pages_after : PlaceId → List PageValue → ActorId → Op → List PageValue
@@ -42,8 +45,10 @@ abbrev pub world_after : WorldValue → Entry → WorldValue
 world_after w e = record {
   pages = pages_after e.place w.pages e.actor e.op;
   board = board_after e.place w.board e.actor e.op;
+  ports = ports_after e.place w.ports e.actor e.op;
   timer = timer_after e.actor w.timer e.reply;
   harts = harts_after e.actor w.harts e.reply;
+  devices = w.devices;
 }
 
 -- the actor is one of the timer and so many harts
@@ -111,37 +116,44 @@ reply_out (Op.Board act) reply fit = absurd fit
 reply_out Op.Idle reply fit = fit
 
 -- an op with a place asks no host object
-given_in : (n : ℕ) (op : Op) (reply : Reply) → is_out (route_among n op) ≡ false → given_of op reply ≡ None
-given_in n (Op.Out act) reply inner = cc
-given_in n op reply inner = refl
+given_in : (layout : Layout) (op : Op) (reply : Reply) → is_out (route_among layout op) ≡ false → given_of op reply ≡ None
+given_in layout (Op.Out act) reply inner = cc
+given_in layout op reply inner = refl
 
-given_none : (n : ℕ) (op : Op) (reply : Reply) → is_out (route_among n op) ≡ false → is_given op (given_of op reply) ≡ true
-given_none n (Op.Out act) reply inner = cc
-given_none n (Op.Read at len) reply inner = refl
-given_none n (Op.Write at piece) reply inner = refl
-given_none n (Op.Amo at value kind wide) reply inner = refl
-given_none n (Op.Lr at wide) reply inner = refl
-given_none n (Op.Sc at value wide) reply inner = refl
-given_none n (Op.Port port act) reply inner = refl
-given_none n (Op.Board act) reply inner = refl
-given_none n Op.Idle reply inner = refl
+given_none : (layout : Layout) (op : Op) (reply : Reply) → is_out (route_among layout op) ≡ false → is_given op (given_of op reply) ≡ true
+given_none layout (Op.Out act) reply inner = cc
+given_none layout (Op.Read at len) reply inner = refl
+given_none layout (Op.Write at piece) reply inner = refl
+given_none layout (Op.Amo at value kind wide) reply inner = refl
+given_none layout (Op.Lr at wide) reply inner = refl
+given_none layout (Op.Sc at value wide) reply inner = refl
+given_none layout (Op.Port port act) reply inner = refl
+given_none layout (Op.Board act) reply inner = refl
+given_none layout Op.Idle reply inner = refl
+
+-- an act leaves as many ports
+ports_kept : (o : Option PortState) (ports : List PortState) (k : ℕ) (actor : ActorId) (op : Op)
+    → length (port_after o ports k actor op) ≡ length ports
+ports_kept None ports k actor op = refl
+ports_kept (Some p) ports k actor op = length-set ports k (port.touch p actor op).1
 
 -- an entry is a step from one world to another
 pub record Steps (w : WorldValue) (e : Entry) : Type 0 where
   pub made : MakesEvent w (event_of e) (entry_of e.place e.actor e.op e.reply) (world_after w e)
   pub pages : ArePages 0 (world_after w e).pages
-  pub count : length (world_after w e).pages ≡ length w.pages
+  pub layout : layout_in (world_after w e) ≡ layout_in w
   pub marks : (written : ℕ → Bool) → AreMarks (marks_of w.pages) written
       → AreMarks (marks_of (world_after w e).pages) (written_after written e)
   pub places : vals_after place_touch (places_of w) e ≡ places_of (world_after w e)
 
 module _ (w : WorldValue) (are : ArePages 0 w.pages) (actor : ActorId) (op : Op) (reply : Reply) (stamp before : ℕ)
-    (want : want_in w actor ≡ Some op) (own : is_port_op op ≡ false) where
+    (want : want_in w actor ≡ Some op) (idle : lefts_after actor (devices_left w.devices) reply ≡ devices_left w.devices) where
   abbrev at : PlaceId → Entry
   at place = record { stamp = stamp; before = before; actor = actor; place = place; op = op; reply = reply }
 
-  routed : (place : PlaceId) → place ≡ route_among (length w.pages) op → place ≡ place_in w op
-  routed place is = is ∙ ap (λ (n : ℕ). place_of (without_devices n) op) (sym (size_of_pages w.pages are))
+  routed : (place : PlaceId) → place ≡ route_among (layout_in w) op → place ≡ place_in w op
+  routed place is =
+      is ∙ ap (λ (n : ℕ). place_of (record { memory_size = n; ports = length w.ports }) op) (sym (size_of_pages w.pages are))
 
   -- marks that are as the act leaves them are those of what was written
   follows : (place : PlaceId)
@@ -152,26 +164,26 @@ module _ (w : WorldValue) (are : ArePages 0 w.pages) (actor : ActorId) (op : Op)
       subst (λ (l : List Bool). AreMarks l (written_after written (at place))) (sym left)
       (marks_on (marks_of w.pages) written are_marks place op reply)
 
-  on_page : (i : ℕ) → PlaceId.Page i ≡ route_among (length w.pages) op
+  on_page : (i : ℕ) → PlaceId.Page i ≡ route_among (layout_in w) op
       → reply ≡ (page_touch (page_or_none w.pages i) actor op).0 → Steps w (at (PlaceId.Page i))
   on_page i is answer =
       let old = page_or_none w.pages i in
       let new = (page_touch old actor op).1 in
-      let there : i < length w.pages = page_there (length w.pages) i op (sym is) in
+      let there : i < length w.pages = page_there (layout_in w) i op (sym is) in
       let here : place_in w op ≡ PlaceId.Page i = sym (routed (PlaceId.Page i) is) in
       let size = length (flat_of w.pages).bytes in
-      let access = place_access size i op here in
+      let access = place_access (record { memory_size = size; ports = length w.ports }) i op here in
       let same : old ≡ get_or w.pages i old = get_or_default w.pages i (new_page 0) old there in
-      let inner : is_out (route_among (length w.pages) op) ≡ false = ap is_out (sym is) in
-      let none = given_in (length w.pages) op reply inner in
+      let inner : is_out (route_among (layout_in w) op) ≡ false = ap is_out (sym is) in
+      let none = given_in (layout_in w) op reply inner in
       let made = event_made w (world_after w (at (PlaceId.Page i))) actor op (given_of op reply) (PlaceId.Page i) reply want
-      (given_none (length w.pages) op reply inner) (sym here)
+      (given_none (layout_in w) op reply inner) (sym here)
       (act_reply w.pages w.pages i actor op old new refl are there same refl reply access answer)
-      (act_memory w.pages w.pages i actor op old new refl are there same refl access) (marks_here same answer) refl refl refl in
+      (act_memory w.pages w.pages i actor op old new refl are there same refl access) (marks_here same answer) refl refl refl refl (sym idle) in
       record {
         made = made;
         pages = act_stays w.pages w.pages i actor op old new refl are there same refl;
-        count = length-set w.pages i new;
+        layout = λ j. record { pages = length-set w.pages i new j; ports = length w.ports };
         marks = follows (PlaceId.Page i) (marks_here same answer);
         places = λ j p. at_page there p j;
       }
@@ -192,16 +204,16 @@ module _ (w : WorldValue) (are : ArePages 0 w.pages) (actor : ActorId) (op : Op)
       at_page there PlaceId.Board = refl
       at_page there PlaceId.Out = refl
 
-  on_board : PlaceId.Board ≡ route_among (length w.pages) op → reply ≡ (board.touch w.board actor op).0
+  on_board : PlaceId.Board ≡ route_among (layout_in w) op → reply ≡ (board.touch w.board actor op).0
       → Steps w (at PlaceId.Board)
   on_board is answer =
-      let inner : is_out (route_among (length w.pages) op) ≡ false = ap is_out (sym is) in
-      let none = given_in (length w.pages) op reply inner in
+      let inner : is_out (route_among (layout_in w) op) ≡ false = ap is_out (sym is) in
+      let none = given_in (layout_in w) op reply inner in
       record {
         made = event_made w (world_after w (at PlaceId.Board)) actor op (given_of op reply) PlaceId.Board reply want
-            (given_none (length w.pages) op reply inner) (routed PlaceId.Board is) answer refl refl refl refl refl;
+            (given_none (layout_in w) op reply inner) (routed PlaceId.Board is) answer refl refl refl refl refl refl (sym idle);
         pages = are;
-        count = refl;
+        layout = refl;
         marks = follows PlaceId.Board refl;
         places = λ j p. at_board p j;
       }
@@ -213,26 +225,47 @@ module _ (w : WorldValue) (are : ArePages 0 w.pages) (actor : ActorId) (op : Op)
       at_board PlaceId.Board = refl
       at_board PlaceId.Out = refl
 
-  nowhere : PlaceId.Out ≡ route_among (length w.pages) op → OutFits op reply → Steps w (at PlaceId.Out)
+  on_port : (k : ℕ) → PlaceId.Port k ≡ route_among (layout_in w) op → reply ≡ (port.touch (port_or_none w.ports k) actor op).0
+      → Steps w (at (PlaceId.Port k))
+  on_port k is answer =
+      let inner : is_out (route_among (layout_in w) op) ≡ false = ap is_out (sym is) in
+      let there : k < length w.ports = port_there (layout_in w) k op (sym is) in
+      let some : slice_get w.ports k ≡ Some (port_or_none w.ports k) = got w.ports k no_port there in
+      record {
+        made = event_made w (world_after w (at (PlaceId.Port k))) actor op (given_of op reply) (PlaceId.Port k) reply want
+            (given_none (layout_in w) op reply inner) (routed (PlaceId.Port k) is)
+            (answer ∙ ap (λ (o : Option PortState). port_reply o actor op) (sym some)) refl refl refl refl refl refl (sym idle);
+        pages = are;
+        layout = λ j. record { pages = length w.pages; ports = ports_kept (slice_get w.ports k) w.ports k actor op j };
+        marks = follows (PlaceId.Port k) refl;
+        places = λ j p. at_port there some p j;
+      }
+    where
+      at_port : k < length w.ports → slice_get w.ports k ≡ Some (port_or_none w.ports k) → (p : PlaceId)
+          → vals_after place_touch (places_of w) (at (PlaceId.Port k)) p ≡ places_of (world_after w (at (PlaceId.Port k))) p
+      at_port there some (PlaceId.Page j) = refl
+      at_port there some (PlaceId.Port j) =
+          changed (λ (q : PortState). PortHolds q) w.ports j k (port.touch (port_or_none w.ports k) actor op).1 no_port there
+          ∙ ap (λ (o : Option PortState). PortHolds (port_or_none (port_after o w.ports k actor op) j)) (sym some)
+      at_port there some PlaceId.Board = refl
+      at_port there some PlaceId.Out = refl
+
+  nowhere : PlaceId.Out ≡ route_among (layout_in w) op → OutFits op reply → Steps w (at PlaceId.Out)
   nowhere is fit = record {
     made = event_made w (world_after w (at PlaceId.Out)) actor op (given_of op reply) PlaceId.Out reply want
-        (given_out op reply fit) (routed PlaceId.Out is) (reply_out op reply fit) refl refl refl refl refl;
+        (given_out op reply fit) (routed PlaceId.Out is) (reply_out op reply fit) refl refl refl refl refl refl (sym idle);
     pages = are;
-    count = refl;
+    layout = refl;
     marks = follows PlaceId.Out refl;
     places = refl;
   }
 
-  steps_at : (place : PlaceId) → place ≡ route_among (length w.pages) op
+  steps_at : (place : PlaceId) → place ≡ route_among (layout_in w) op
       → MatchBool (is_out place) (OutFits op reply) (reply ≡ (place_touch (places_of w place) actor op).0) → Steps w (at place)
   steps_at (PlaceId.Page i) is answer = on_page i is answer
-  steps_at (PlaceId.Port k) is answer = absurd (never_port (length w.pages) k op own (sym is))
+  steps_at (PlaceId.Port k) is answer = on_port k is answer
   steps_at PlaceId.Board is answer = on_board is answer
   steps_at PlaceId.Out is answer = nowhere is answer
-
--- an actor that is there asks no port
-own_op : (w : WorldValue) (actor : ActorId) (op : Op) → want_in w actor ≡ Some op → is_port_op op ≡ false
-own_op w actor op want = acting.no_port w.timer w.harts actor op want
 
 -- where the actors stand after the entry
 actors_moved : (w : WorldValue) (e : Entry) → (actor : ActorId) → IsThere (length w.harts) actor → (reply : Reply) → (a : ActorId)
@@ -257,12 +290,20 @@ harts_kept (ActorId.Hart k) harts reply = by_hart (slice_get harts k)
     by_hart None = refl
     by_hart (Some h) = length-set harts k (hart_next h reply)
 
+-- none of these actors is a device
+no_device : (n : ℕ) (actor : ActorId) (devices : List DeviceLeft) (reply : Reply) → IsThere n actor
+    → lefts_after actor devices reply ≡ devices
+no_device n ActorId.Timer devices reply there = refl
+no_device n (ActorId.Hart k) devices reply there = refl
+no_device n (ActorId.Device k) devices reply there = absurd there
+
 -- one step, with what the next ones need
 pub record StepsOn (w : WorldValue) (e : Entry) : Type 0 where
   pub step : (g : Guest) → IsWorld w g → FlatStep g (event_of e) e (guest_after g e)
   pub stays : (g : Guest) → IsWorld w g → IsWorld (world_after w e) (guest_after g e)
   pub pages : ArePages 0 (world_after w e).pages
-  pub count : length (world_after w e).pages ≡ length w.pages
+  pub layout : layout_in (world_after w e) ≡ layout_in w
+  pub devices : (world_after w e).devices ≡ w.devices
   pub harts : length (world_after w e).harts ≡ length w.harts
   pub marks : (written : ℕ → Bool) → AreMarks (marks_of w.pages) written
       → AreMarks (marks_of (world_after w e).pages) (written_after written e)
@@ -271,16 +312,17 @@ pub record StepsOn (w : WorldValue) (e : Entry) : Type 0 where
 
 -- an entry with the machine's want, place and reply
 pub steps_on : (w : WorldValue) (e : Entry) → ArePages 0 w.pages → IsThere (length w.harts) e.actor
-    → e.op ≡ actor_wants (actors_of w e.actor) → e.place ≡ route_among (length w.pages) e.op
+    → e.op ≡ actor_wants (actors_of w e.actor) → e.place ≡ route_among (layout_in w) e.op
     → IsReplied place_touch OutFits (places_of w) e → StepsOn w e
 steps_on w e are there want place answer =
     let wants : want_in w e.actor ≡ Some e.op = wants_there w e.actor there ∙ ap Some (sym want) in
-    let s : Steps w e = steps_at w are e.actor e.op e.reply e.stamp e.before wants (own_op w e.actor e.op wants) e.place place answer in
+    let s : Steps w e = steps_at w are e.actor e.op e.reply e.stamp e.before wants (no_device (length w.harts) e.actor (devices_left w.devices) e.reply there) e.place place answer in
     record {
       step = λ g is. let flat = s.made.step g is in record { actor = refl; want = flat.want; place = flat.place; answer = flat.answer; after = refl };
       stays = λ g is. s.made.stays g is;
       pages = s.pages;
-      count = s.count;
+      layout = s.layout;
+      devices = refl;
       harts = harts_kept e.actor w.harts e.reply;
       marks = s.marks;
       places = s.places;

@@ -20,7 +20,10 @@ use Rattle.timer_trace.specs.declared.timer.Timer.{Timer}
 use Rattle.timer_trace.specs.States.{timer_next, timer_wants}
 use Rattle.flat_guest.specs.Body.{want_of}
 use Rattle.pause_gate.specs.Tally.{Tally}
+use Rattle.port_table.specs.Acts as port
+use Rattle.port_table.specs.declared.state.PortState.{PortState}
 use Rattle.stamp_merge.specs.declared.history.History.{History}
+use Rattle.stamp_merge.specs.declared.layout.Layout.{Layout}
 use Rattle.stamp_merge.specs.declared.journal.Journal.{Journal}
 use Rattle.stamp_merge.specs.Journals.{all_of, journal_at}
 use Rattle.stamp_merge.specs.Legal.{AreFollowed, IsRun}
@@ -34,30 +37,31 @@ use Rattle.vm_world.specs.Worlds.{WorldValue, want_in, world_with}
 use Rattle.slice_runner.specs.declared.stop.Stopped.{Stopped}
 use Rattle.slice_runner.specs.declared.worker.HartWorker.{HartWorker}
 use Rattle.slice_runner.specs.declared.worker.TimerWorker.{TimerWorker}
-use Rattle.slice_runner.specs.Locks.{AreHome, AreOpen, IsBoardHome}
+use Rattle.slice_runner.specs.Locks.{AllHome}
 use Rattle.slice_runner.specs.Runs.{HartEnds, HartsWorked, HasRun, TimerEnds}
 use Rattle.slice_runner.specs.Slices.{IsSerial, IsSlice, IsTornSlice, MarksFollow, ReplaysFrom, answers_of}
 use Rattle.slice_runner.specs.Staff.{AreBack, AreNumbered, AreStaffed, harts_of, passes_of, stop_of, stops_from}
 use Rattle.slice_runner.specs.Stops.{HasCause, IsStopped, timer_most}
-use Rattle.slice_runner.specs.Values.{actor_next, actor_wants, actors_of, page_at, place_touch, places_of, route_among}
+use Rattle.slice_runner.specs.Values.{actor_next, actor_wants, actors_of, layout_in, page_at, page_or_none, place_touch, places_of, port_at, port_or_none, route_among}
 use Rattle.slice_runner.proofs.Crew.{Crew, are_followed, are_stamped, are_there, at_other, at_timer, harts_journals, journal_there, journals_are, slice_journals}
 use Rattle.slice_runner.proofs.Leading.{Reaches, reaches, same_world}
-use Rattle.slice_runner.proofs.Returned.{Homes, homes, replayed, rising}
+use Rattle.slice_runner.proofs.Homes.{IsOwn}
+use Rattle.slice_runner.proofs.Returned.{each_history, replayed, rising}
 use Rattle.slice_runner.proofs.Stepping.{IsThere}
 
-module _ {Q : Type 0} (serves : Q → Type 0) (tally : Q → Tally) (count n : ℕ) where
+module _ {Q : Type 0} (serves : Q → Type 0) (tally : Q → Tally) (layout : Layout) (n : ℕ) where
   -- each hart, by its number
   crew_by : (k : ℕ) (ws vs : List (HartWorker Q)) → length vs ≡ length ws → AreNumbered k ws
-      → ((i : ℕ) (d : HartWorker Q) → i < length ws → HartEnds serves tally count n (slice_index_or ws i d) (slice_index_or vs i d))
-      → Crew count k vs (harts_of ws)
+      → ((i : ℕ) (d : HartWorker Q) → i < length ws → HartEnds serves tally layout n (slice_index_or ws i d) (slice_index_or vs i d))
+      → Crew layout k vs (harts_of ws)
   crew_by k [] [] long ids each = tt
   crew_by k [] (v ∷ vs) long ids each = absurd (omega (arith, long))
   crew_by k (w ∷ ws) [] long ids each = absurd (omega (arith, long))
   crew_by k (w ∷ ws) (v ∷ vs) long ids each =
       let one : 0 < length (w ∷ ws) = omega arith in
-      let first : HartEnds serves tally count n w v = each 0 w one in (
+      let first : HartEnds serves tally layout n w v = each 0 w one in (
         first.worked.same ∙ ids.0,
-        subst (λ (a : ActorId). HasRun hart_wants hart_next count a w.hart v.track.journal.items v.hart v.track.clock) ids.0 first.worked.ran,
+        subst (λ (a : ActorId). HasRun hart_wants hart_next layout a w.hart v.track.journal.items v.hart v.track.clock) ids.0 first.worked.ran,
         crew_by (suc k) ws vs (omega (arith, long)) ids.1
             (λ i d below. let more : suc i < length (w ∷ ws) = omega (arith, below) in each (suc i) d more),
       )
@@ -70,7 +74,7 @@ module _ {Q : Type 0} (serves : Q → Type 0) (tally : Q → Tally) (count n : �
     pub cause : HasCause n s.stop worker.track.journal.items (hart_wants worker.hart) (tally p) (tally q)
 
   stop_by : (left : List Q) (k : ℕ) (ws vs : List (HartWorker Q)) → length vs ≡ length ws → AreNumbered k ws
-      → ((i : ℕ) (d : HartWorker Q) → i < length ws → HartEnds serves tally count n (slice_index_or ws i d) (slice_index_or vs i d))
+      → ((i : ℕ) (d : HartWorker Q) → i < length ws → HartEnds serves tally layout n (slice_index_or ws i d) (slice_index_or vs i d))
       → (j : ℕ) (s : Stopped) (p q : Q) → slice_get (map (λ (v : HartWorker Q). stop_of v.track) vs) j ≡ Some s
       → slice_get (passes_of ws ++ left) j ≡ Some p → slice_get (passes_of vs ++ left) j ≡ Some q → HartStop k j vs s p q
   stop_by left k [] [] long ids each j s p q stop before after = cc
@@ -78,7 +82,7 @@ module _ {Q : Type 0} (serves : Q → Type 0) (tally : Q → Tally) (count n : �
   stop_by left k (w ∷ ws) [] long ids each j s p q stop before after = absurd (omega (arith, long))
   stop_by left k (w ∷ ws) (v ∷ vs) long ids each zero s p q stop before after =
       let one : 0 < length (w ∷ ws) = omega arith in
-      let first : HartEnds serves tally count n w v = each 0 w one in
+      let first : HartEnds serves tally layout n w v = each 0 w one in
       let s_is : stop_of v.track ≡ s = cc in
       let p_is : w.track.pass ≡ p = cc in
       let q_is : v.track.pass ≡ q = cc in
@@ -107,23 +111,24 @@ length_map f [] = refl
 length_map f (x ∷ xs) = let e = length_map f xs in omega (arith, e)
 
 module _ {Q : Type 0} (serves : Q → Type 0) (tally : Q → Tally) (n : ℕ) (asked now : ClockKnown) (old : WorldValue)
-    (opening : PlaceId → PageValue) (board_opening : PlaceId → Board) (t u : TimerWorker Q) (ws vs : List (HartWorker Q))
-    (left passes later : List Q) (pages : List PageValue) (b : Board) (harts : List Hart) (hs : List History) (hb : History)
-    (journals : List Journal) (stops : List Stopped) (events : List Entry) (are : ArePages 0 old.pages)
-    (begun : AreOpen opening old.pages) (board_same : (p : PlaceId) → board_opening p ≡ old.board)
+    (page_opening : PlaceId → PageValue) (port_opening : PlaceId → PortState) (board_opening : PlaceId → Board)
+    (t u : TimerWorker Q) (ws vs : List (HartWorker Q)) (left passes later : List Q)
+    (pages : List PageValue) (ports : List PortState) (b : Board) (harts : List Hart) (all : List History) (journals : List Journal) (stops : List Stopped) (events : List Entry) (are : ArePages 0 old.pages)
+    (page_same : (p : PlaceId) → page_opening p ≡ page_at old.pages p) (port_same : (p : PlaceId) → port_opening p ≡ port_at old.ports p)
+    (board_same : (p : PlaceId) → board_opening p ≡ old.board)
     (staffed : AreStaffed n old.timer old.harts passes t ws left)
-    (timer_ends : TimerEnds serves tally (length old.pages) (timer_most n) asked now t u)
-    (worked : HartsWorked serves tally (length old.pages) n ws vs) (back : AreBack u vs left harts later journals stops)
-    (home : AreHome opening (length old.pages) pages hs) (board_home : IsBoardHome board_opening b hb)
+    (timer_ends : TimerEnds serves tally (layout_in old) (timer_most n) asked now t u)
+    (worked : HartsWorked serves tally (layout_in old) n ws vs) (back : AreBack u vs left harts later journals stops)
+    (home : AllHome page_opening port_opening board_opening (layout_in old) pages ports b all)
     (order : IsOrder (all_of (journals_of journals)) events) where
-  abbrev size : ℕ
-  size = length old.pages
+  abbrev size : Layout
+  size = layout_in old
 
   abbrev js : List (ActorId × List Entry)
   js = slice_journals u vs
 
   abbrev new : WorldValue
-  new = world_with pages b u.timer harts
+  new = world_with pages b ports u.timer harts old.devices
 
   crew : Crew size 0 vs old.harts
   crew = subst (λ (l : List Hart). Crew size 0 vs l) staffed.harts_are (crew_by serves tally size n 0 ws vs worked.same staffed.numbered worked.each)
@@ -141,52 +146,48 @@ module _ {Q : Type 0} (serves : Q → Type 0) (tally : Q → Tally) (n : ℕ) (a
 
   followed : AreFollowed actor_wants actor_next (route_among size) OutFits (actors_of old) (actors_of new) js
   followed =
-      subst (λ (l : List Hart). AreFollowed actor_wants actor_next (route_among size) OutFits (actors_of old) (actors_of (world_with pages b u.timer l)) js)
+      subst (λ (l : List Hart). AreFollowed actor_wants actor_next (route_among size) OutFits (actors_of old) (actors_of (world_with pages b ports u.timer l old.devices)) js)
       (sym back.harts_are) (are_followed size old.timer old.harts u vs first ran crew)
 
-  replays_each : (i : ℕ) (ps : List PageValue) (ks : List History) → Homes opening i ps ks
-      → ((p : PlaceId) → opening p ≡ page_at old.pages p) → AllByRecursion (λ (h : History). ReplaysFrom old h.lock h) (ks ++ hb ∷ [])
-  replays_each i [] [] homes_are begun_so = (
-    subst (λ (p : PlaceId). ReplaysFrom old p hb) (sym board_home.lock)
-        (b, subst (λ (x : Board). IsHistory board.touch hb.kept x hb.entries.items b) (board_same hb.kept) board_home.history),
-    tt,
-  )
-  replays_each i [] (h ∷ ks) homes_are begun_so = absurd homes_are
-  replays_each i (p ∷ ps) [] homes_are begun_so = absurd homes_are
-  replays_each i (p ∷ ps) (h ∷ ks) homes_are begun_so = (
-    subst (λ (q : PlaceId). ReplaysFrom old q h) (sym homes_are.0.lock)
-        (p, subst (λ (x : PageValue). IsHistory page_touch h.kept x h.entries.items p) (begun_so h.kept) homes_are.0.history),
-    replays_each (suc i) ps ks homes_are.1 begun_so,
-  )
+  replays_each : AllByRecursion (λ (h : History). ReplaysFrom old h.lock h) all
+  replays_each =
+      each_history page_opening port_opening board_opening (layout_in old) pages ports b all home
+      (λ h. ReplaysFrom old h.lock h)
+      (λ k p h is. subst (λ (q : PlaceId). ReplaysFrom old q h) (sym is.lock)
+      (p, subst (λ (x : PageValue). IsHistory page_touch h.kept x h.entries.items p) (page_same h.kept) is.history))
+      (λ k p h is. subst (λ (q : PlaceId). ReplaysFrom old q h) (sym is.lock)
+      (p, subst (λ (x : PortState). IsHistory port.touch h.kept x h.entries.items p) (port_same h.kept) is.history))
+      (λ is. subst (λ (q : PlaceId). ReplaysFrom old q home.of_board) (sym is.lock)
+      (b, subst (λ (x : Board). IsHistory board.touch home.of_board.kept x home.of_board.entries.items b) (board_same home.of_board.kept) is.history))
 
   -- where they don't agree
-  pub parted : ((p : PlaceId) → opening p ≡ page_at old.pages p) → (torn : Torn) → IsTorn events (hs ++ hb ∷ []) torn
-      → IsTornSlice old torn journals (hs ++ hb ∷ [])
-  parted begun_so torn is = record {
+  pub parted : (torn : Torn) → IsTorn events all torn → IsTornSlice old torn journals all
+  parted torn is = record {
     lasts = actors_of new;
     follow = subst (λ (l : List (ActorId × List Entry)). AreFollowed actor_wants actor_next (route_among size) OutFits (actors_of old) (actors_of new) l)
         (sym (ap journals_of back.journals_are ∙ journals_are u vs)) followed;
-    replay = replays_each 0 pages hs (homes opening size pages hs home) begun_so;
+    replay = replays_each;
     order = events;
     in_order = order;
     differ = is;
   }
 
   -- where they agree
-  module _ (agree : Agree events (hs ++ hb ∷ [])) where
-    own_all : AllByRecursion (λ (h : History). h.kept ≡ h.lock) (hs ++ hb ∷ [])
-    own_all = recursion_from_All (λ (h : History). h.kept ≡ h.lock) (hs ++ hb ∷ []) agree.kept
+  module _ (agree : Agree events all) where
+    own_all : AllByRecursion IsOwn all
+    own_all = recursion_from_All IsOwn all agree.kept
 
-    own_front : (hs : List History) → AllByRecursion (λ (h : History). h.kept ≡ h.lock) (hs ++ hb ∷ []) → AllByRecursion (λ (h : History). h.kept ≡ h.lock) hs × (hb.kept ≡ hb.lock)
-    own_front [] all = (tt, all.0)
-    own_front (h ∷ hs) all = let rest = own_front hs all.1 in ((all.0, rest.0), rest.1)
+    at_page : (i : ℕ) → page_opening (PlaceId.Page i) ≡ page_or_none old.pages i
+    at_page i = page_same (PlaceId.Page i)
+
+    at_port : (k : ℕ) → port_opening (PlaceId.Port k) ≡ port_or_none old.ports k
+    at_port k = port_same (PlaceId.Port k)
 
     run : IsRun place_touch actor_wants actor_next (route_among size) OutFits (places_of old) (places_of new) (actors_of old) (actors_of new) events
     run =
-        let own = own_front hs own_all in
         parts_run place_touch actor_wants actor_next (route_among size) OutFits (places_of old) (places_of new) (actors_of old) (actors_of new) js _
         followed
-        (replayed opening board_opening old.board b hb (board_same PlaceId.Board) board_home own.1 old.pages pages hs (homes opening size pages hs home) (sym home.pages_are) begun own.0)
+        (replayed page_opening port_opening board_opening size pages ports b all home old.pages old.ports old.board own_all at_page at_port (board_same PlaceId.Board) refl refl)
         events ordered agree.parts
 
     there : AllByRecursion (λ (e : Entry). IsThere (length old.harts) e.actor) events
@@ -203,9 +204,12 @@ module _ {Q : Type 0} (serves : Q → Type 0) (tally : Q → Tally) (n : ℕ) (a
         ap length back.harts_are ∙ length_map (λ (v : HartWorker Q). v.hart) vs ∙ worked.same
         ∙ sym (length_map (λ (w : HartWorker Q). w.hart) ws) ∙ ap length staffed.harts_are
 
+    came : layout_in new ≡ layout_in old
+    came = λ i. record { pages = home.pages_count i; ports = home.ports_count i }
+
     arrived : reached.end ≡ new
     arrived =
-        same_world reached.end new (reached.count ∙ sym home.pages_are) (reached.harts ∙ sym harts_long)
+        same_world reached.end new (reached.layout ∙ sym came) (reached.harts ∙ sym harts_long) reached.devices
         (λ p inner. sym (ap (λ (f : PlaceId → _). f p) reached.places) ∙ run.places p inner)
         (λ a. sym (ap (λ (f : ActorId → _). f a) reached.actors) ∙ run.actors a)
 
@@ -253,9 +257,8 @@ module _ {Q : Type 0} (serves : Q → Type 0) (tally : Q → Tally) (n : ℕ) (a
     whole = record {
       serial = subst (λ (w : WorldValue). IsSerial old events w) arrived reached.serial;
       stamps =
-          let own = own_front hs own_all in
           stamps_run js _ events (are_stamped size old.timer old.harts u vs first ran crew)
-          (rising opening board_opening old.board b hb (board_same PlaceId.Board) board_home own.1 old.pages pages hs (homes opening size pages hs home) (sym home.pages_are) begun own.0)
+          (rising page_opening port_opening board_opening size pages ports b all home old.pages old.ports old.board own_all at_page at_port (board_same PlaceId.Board) refl refl)
           ordered agree.parts;
       marks = subst (λ (w : WorldValue). MarksFollow old.pages events w.pages) arrived reached.marks;
       stopped = record {
@@ -271,5 +274,6 @@ module _ {Q : Type 0} (serves : Q → Type 0) (tally : Q → Tally) (n : ℕ) (a
         subst (λ (l : List Entry). AreNext asked.left (answers_of l) now.left) (sym timers) (timer_ends.answers.are tells),
       );
       pages = subst (λ (w : WorldValue). ArePages 0 w.pages) arrived reached.pages;
-      count = home.pages_are;
+      count = home.pages_count;
+      ports = home.ports_count;
     }

@@ -12,6 +12,7 @@ use Rattle.hart_trace.specs.Traces.{is_full}
 use Rattle.hart_trace.specs.Asks.{is_host_op}
 use Rattle.flat_guest.specs.Steps.{is_given}
 use Rattle.pause_gate.specs.Tally.{Tally}
+use Rattle.stamp_merge.specs.declared.layout.Layout.{Layout}
 use Rattle.stamp_merge.specs.Stamps.{OutIsZero, Stamped}
 use Rattle.slice_runner.specs.declared.stop.Stop.{Stop}
 use Rattle.slice_runner.specs.declared.worker.Track.{Track}
@@ -45,8 +46,8 @@ unfull_more : (b : Bool) (es : List Entry) (e : Entry) → IsUnfull b es → is_
 unfull_more b [] e h last = (last, tt)
 unfull_more b (d ∷ es) e h last = (h.0, unfull_more (is_full d.reply) es e h.1 last)
 
-module _ {S Q : Type 0} (want : S → Op) (next : S → Reply → S) (tally : Q → Tally) (count : ℕ) (id : ActorId) (s : S)
-    (c : Tally) (t : S) (old mid : Track Q) (op : Op) (way : IsUnderWay want next tally count id s c t old)
+module _ {S Q : Type 0} (want : S → Op) (next : S → Reply → S) (tally : Q → Tally) (layout : Layout) (id : ActorId) (s : S)
+    (c : Tally) (t : S) (old mid : Track Q) (op : Op) (way : IsUnderWay want next tally layout id s c t old)
     (same : IsSameBut old mid) (is_want : op ≡ want t) where
   mid_id : mid.id ≡ id
   mid_id = same.id ∙ way.same
@@ -57,14 +58,14 @@ module _ {S Q : Type 0} (want : S → Op) (next : S → Reply → S) (tally : Q 
   mid_unfull : IsUnfull false mid.journal.items
   mid_unfull = rw mid_items way.unfull
 
-  mid_run : HasRun want next count id s mid.journal.items t mid.clock
+  mid_run : HasRun want next layout id s mid.journal.items t mid.clock
   mid_run = rw (mid_items, same.clock) way.ran
 
   -- one more entry
   pub went : (now new : Track Q) (e : Entry) (given : Option Reply) (u : S) → GoesOn tally op old mid
       → now.id ≡ mid.id → now.pass ≡ mid.pass → now.journal.items ≡ mid.journal.items → now.clock ≡ e.stamp
-      → IsActOf e mid.id op given count mid.clock → WritesDown e now new → u ≡ next t e.reply
-      → IsUnderWay want next tally count id s c u new
+      → IsActOf e mid.id op given layout mid.clock → WritesDown e now new → u ≡ next t e.reply
+      → IsUnderWay want next tally layout id s c u new
   went now new e given u on now_id now_pass now_items now_clock act down is =
       let run = mid_run in
       let items : new.journal.items ≡ mid.journal.items ++ e ∷ [] =
@@ -80,7 +81,7 @@ module _ {S Q : Type 0} (want : S → Op) (next : S → Reply → S) (tally : Q 
           stamped = stamped_more 0 mid.journal.items e run.stamped stamp;
           last = down.clock ∙ now_clock ∙ sym (last_more 0 mid.journal.items e);
           own = all_more (λ (x : Entry). x.actor ≡ id) mid.journal.items e run.own (act.actor_is ∙ mid_id);
-          placed = all_more (IsPlaced (route_among count) OutFits) mid.journal.items e run.placed act.placed;
+          placed = all_more (IsPlaced (route_among layout) OutFits) mid.journal.items e run.placed act.placed;
           out = all_more OutIsZero mid.journal.items e run.out act.out;
         });
         full_is = down.full ∙ sym (full_more false mid.journal.items e) ∙ ap (is_last_full false) (sym items);
@@ -93,7 +94,7 @@ module _ {S Q : Type 0} (want : S → Op) (next : S → Reply → S) (tally : Q 
 
   -- a stop
   pub ended : (n : ℕ) (stop : Stop) → StopsFor tally op old mid stop → length old.journal.items < n
-      → HasEnded want next tally count id s c n t mid stop
+      → HasEnded want next tally layout id s c n t mid stop
   ended n stop why less =
       let few : length mid.journal.items < n = subst (λ (xs : List Entry). length xs < n) (sym mid_items) less in
       record {
@@ -123,7 +124,7 @@ module _ {S Q : Type 0} (want : S → Op) (next : S → Reply → S) (tally : Q 
   -- no memory
   pub wanting : (n : ℕ) (now : Track Q) → GoesOn tally op old mid → length old.journal.items < n → now.id ≡ mid.id
       → now.pass ≡ mid.pass → now.journal.items ≡ mid.journal.items → now.clock ≡ mid.clock
-      → HasEnded want next tally count id s c n t now Stop.Memory
+      → HasEnded want next tally layout id s c n t now Stop.Memory
   wanting n now on less now_id now_pass now_items now_clock =
       let items : now.journal.items ≡ old.journal.items = now_items ∙ mid_items in
       let few : length now.journal.items < n = subst (λ (xs : List Entry). length xs < n) (sym items) less in

@@ -8,9 +8,9 @@ use Rattle.slice_runner.specs.declared.slice.SliceError.{SliceError}
 use Rattle.slice_runner.specs.declared.slice.SliceError.TheVariants.{Torn, OutOfMemory}
 use Rattle.slice_runner.specs.Slices.{IsTornSlice}
 
--- a world with no page and no hart
+-- a world with no page, no port, no hart and no device
 abbrev pub no_world : WorldValue
-no_world = world_with [] (new_board 0) new_timer []
+no_world = world_with [] (new_board 0) [] new_timer [] []
 
 -- where journals and histories part they are handed out, and the world is empty; without memory nothing has changed
 abbrev pub HasFailed : {Q : Type 0} → WorldValue → WorldValue → ClockKnown → ClockKnown → List Q → List Q → SliceError → Type 0

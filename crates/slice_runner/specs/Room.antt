@@ -5,13 +5,15 @@ use Rattle.slice_runner.specs.declared.room.EventRoom.{EventRoom}
 use Rattle.slice_runner.specs.declared.room.PlaceRoom.{PlaceRoom}
 use Rattle.slice_runner.specs.declared.room.Room.{Room}
 
--- empty lists with room for so many pages
-pub record ForPlaces (pages : ℕ) (room : PlaceRoom) : Type 0 where
+-- empty lists with room for so many pages and ports
+pub record ForPlaces (pages ports : ℕ) (room : PlaceRoom) : Type 0 where
   pub no_pages : room.pages.items ≡ []
   pub for_pages : pages ≤ vec_capacity room.pages
+  pub no_ports : room.ports.items ≡ []
+  pub for_ports : ports ≤ vec_capacity room.ports
   pub no_histories : room.histories.items ≡ []
-  pub for_histories : pages + 1 ≤ vec_capacity room.histories
-  pub for_met : length room.met.items ≡ pages + 1
+  pub for_histories : pages + (ports + 1) ≤ vec_capacity room.histories
+  pub for_met : length room.met.items ≡ pages + (ports + 1)
 
 -- with room for so many harts and passes, and for so many steps of each actor
 pub record ForActors {Q : Type 0} (harts passes n : ℕ) (room : ActorRoom Q) : Type 0 where
@@ -35,7 +37,7 @@ pub record ForEvents (actors n : ℕ) (room : EventRoom) : Type 0 where
   pub no_events : room.events.items ≡ []
   pub for_events : actors * n ≤ vec_capacity room.events
 
-pub record HasRoom {Q : Type 0} (pages harts passes n : ℕ) (room : Room Q) : Type 0 where
-  pub places : ForPlaces pages room.places
+pub record HasRoom {Q : Type 0} (pages ports harts passes n : ℕ) (room : Room Q) : Type 0 where
+  pub places : ForPlaces pages ports room.places
   pub actors : ForActors harts passes n room.actors
   pub events : ForEvents (harts + 1) n room.events

@@ -15,6 +15,7 @@ use Rattle.hart_trace.specs.Traces.{is_full}
 use Rattle.timer_trace.specs.States.{timer_next, timer_wants}
 use Rattle.flat_guest.specs.Body.{out_reply}
 use Rattle.pause_gate.specs.Tally.{Tally}
+use Rattle.stamp_merge.specs.declared.layout.Layout.{Layout}
 use Rattle.stamp_merge.specs.Stamps.{OutIsZero, Stamped}
 use Rattle.vm_host.specs.Telling.{AreNext, ClockKnown, Gives, Tells}
 use Rattle.slice_runner.specs.declared.stop.Stop.{Stop}
@@ -25,24 +26,24 @@ use Rattle.slice_runner.specs.Slices.{answers_of}
 use Rattle.slice_runner.specs.Stops.{HasCause, IsUnfull, closings, is_last_full, last_asks}
 use Rattle.slice_runner.specs.Values.{route_among}
 
--- the entry is of this actor and op, at the op's place among so many pages, with the next stamp after the actor's clock
+-- the entry is of this actor and op, at the op's place among so many pages and ports, with the next stamp after the actor's clock
 -- and the place's last; with no place the reply is what is given
-pub record IsActOf (e : Entry) (actor : ActorId) (op : Op) (given : Option Reply) (count clock : ℕ) : Type 0 where
+pub record IsActOf (e : Entry) (actor : ActorId) (op : Op) (given : Option Reply) (layout : Layout) (clock : ℕ) : Type 0 where
   pub actor_is : e.actor ≡ actor
   pub op_is : e.op ≡ op
-  pub placed : IsPlaced (route_among count) OutFits e
+  pub placed : IsPlaced (route_among layout) OutFits e
   pub stamp_is : e.stamp ≡ 1 + max clock e.before
   pub out : OutIsZero e
   pub given_is : is_out e.place ≡ true → e.reply ≡ out_reply op given
 
 -- from the state s this journal of the actor leads to the state t, with this last stamp
-pub record HasRun {S : Type 0} (want : S → Op) (next : S → Reply → S) (count : ℕ) (id : ActorId) (s : S)
+pub record HasRun {S : Type 0} (want : S → Op) (next : S → Reply → S) (layout : Layout) (id : ActorId) (s : S)
     (journal : List Entry) (t : S) (clock : ℕ) : Type 0 where
   pub follows : Follows want next s journal t
   pub stamped : Stamped 0 journal
   pub last : clock ≡ last_stamp 0 journal
   pub own : AllByRecursion (λ (e : Entry). e.actor ≡ id) journal
-  pub placed : Placed (route_among count) OutFits journal
+  pub placed : Placed (route_among layout) OutFits journal
   pub out : AllByRecursion OutIsZero journal
 
 -- nothing was done yet, and there is room for so many entries
@@ -54,34 +55,34 @@ pub record Begins {Q : Type 0} (n : ℕ) (track : Track Q) : Type 0 where
 
 -- the actor came from the state s to the state t; since it had the tally c, its pass asked once for each entry, and was
 -- never answered "closed"
-pub record IsUnderWay {S Q : Type 0} (want : S → Op) (next : S → Reply → S) (tally : Q → Tally) (count : ℕ)
+pub record IsUnderWay {S Q : Type 0} (want : S → Op) (next : S → Reply → S) (tally : Q → Tally) (layout : Layout)
     (id : ActorId) (s : S) (c : Tally) (t : S) (track : Track Q) : Type 0 where
   pub same : track.id ≡ id
-  pub ran : HasRun want next count id s track.journal.items t track.clock
+  pub ran : HasRun want next layout id s track.journal.items t track.clock
   pub full_is : track.full ≡ is_last_full false track.journal.items
   pub unfull : IsUnfull false track.journal.items
   pub asked : (tally track.pass).asks ≡ c.asks + length track.journal.items
   pub unclosed : (tally track.pass).closed ≡ c.closed
 
 -- the actor came from the state s to the state t, and stopped for a cause
-pub record HasEnded {S Q : Type 0} (want : S → Op) (next : S → Reply → S) (tally : Q → Tally) (count : ℕ) (id : ActorId)
+pub record HasEnded {S Q : Type 0} (want : S → Op) (next : S → Reply → S) (tally : Q → Tally) (layout : Layout) (id : ActorId)
     (s : S) (c : Tally) (n : ℕ) (t : S) (track : Track Q) (stop : Stop) : Type 0 where
   pub same : track.id ≡ id
-  pub ran : HasRun want next count id s track.journal.items t track.clock
+  pub ran : HasRun want next layout id s track.journal.items t track.clock
   pub cause : HasCause n stop track.journal.items (want t) c (tally track.pass)
 
-abbrev pub HasWorked : {S Q : Type 0} → (S → Op) → (S → Reply → S) → (Q → Tally) → ℕ → ℕ → S → S → Track Q → Track Q
+abbrev pub HasWorked : {S Q : Type 0} → (S → Op) → (S → Reply → S) → (Q → Tally) → Layout → ℕ → S → S → Track Q → Track Q
     → Type 0
-HasWorked want next tally count n s t before after =
-    HasEnded want next tally count before.id s (tally before.pass) n t after after.stop
+HasWorked want next tally layout n s t before after =
+    HasEnded want next tally layout before.id s (tally before.pass) n t after after.stop
 
-abbrev pub HartWorked : {Q : Type 0} → (Q → Tally) → ℕ → ℕ → HartWorker Q → HartWorker Q → Type 0
-HartWorked tally count n before after =
-    HasWorked hart_wants hart_next tally count n before.hart after.hart before.track after.track
+abbrev pub HartWorked : {Q : Type 0} → (Q → Tally) → Layout → ℕ → HartWorker Q → HartWorker Q → Type 0
+HartWorked tally layout n before after =
+    HasWorked hart_wants hart_next tally layout n before.hart after.hart before.track after.track
 
-abbrev pub TimerWorked : {Q : Type 0} → (Q → Tally) → ℕ → ℕ → TimerWorker Q → TimerWorker Q → Type 0
-TimerWorked tally count n before after =
-    HasWorked timer_wants timer_next tally count n before.timer after.timer before.track after.track
+abbrev pub TimerWorked : {Q : Type 0} → (Q → Tally) → Layout → ℕ → TimerWorker Q → TimerWorker Q → Type 0
+TimerWorked tally layout n before after =
+    HasWorked timer_wants timer_next tally layout n before.timer after.timer before.track after.track
 
 -- nothing but the pass may have changed
 pub record IsSameBut {Q : Type 0} (old new : Track Q) : Type 0 where
@@ -132,20 +133,20 @@ pub record IsReady {Q : Type 0} (serves : Q → Type 0) (n : ℕ) (track : Track
   pub begins : Begins n track
 
 -- and ends it
-pub record HartEnds {Q : Type 0} (serves : Q → Type 0) (tally : Q → Tally) (count n : ℕ) (before after : HartWorker Q) :
+pub record HartEnds {Q : Type 0} (serves : Q → Type 0) (tally : Q → Tally) (layout : Layout) (n : ℕ) (before after : HartWorker Q) :
     Type 0 where
   pub pass : serves after.track.pass
-  pub worked : HartWorked tally count n before after
+  pub worked : HartWorked tally layout n before after
 
-pub record TimerEnds {Q : Type 0} (serves : Q → Type 0) (tally : Q → Tally) (count n : ℕ) (asked now : ClockKnown)
+pub record TimerEnds {Q : Type 0} (serves : Q → Type 0) (tally : Q → Tally) (layout : Layout) (n : ℕ) (asked now : ClockKnown)
     (before after : TimerWorker Q) : Type 0 where
   pub pass : serves after.track.pass
-  pub worked : TimerWorked tally count n before after
+  pub worked : TimerWorked tally layout n before after
   pub answers : HasAnswered asked (answers_of after.track.journal.items) now
 
 -- each hart of the list does
-pub record HartsWorked {Q : Type 0} (serves : Q → Type 0) (tally : Q → Tally) (count n : ℕ)
+pub record HartsWorked {Q : Type 0} (serves : Q → Type 0) (tally : Q → Tally) (layout : Layout) (n : ℕ)
     (before after : List (HartWorker Q)) : Type 0 where
   pub same : length after ≡ length before
   pub each : (i : ℕ) (d : HartWorker Q) → i < length before
-      → HartEnds serves tally count n (slice_index_or before i d) (slice_index_or after i d)
+      → HartEnds serves tally layout n (slice_index_or before i d) (slice_index_or after i d)

@@ -19,6 +19,8 @@ use Rattle.guest_pages.specs.Marks.{AreMarks}
 use Rattle.guest_pages.specs.Flat.{ArePages}
 use Rattle.guest_pages.specs.Pages.{PageValue, marks_of, page_touch}
 use Rattle.pause_gate.specs.Tally.{Tally}
+use Rattle.port_table.specs.Acts as port
+use Rattle.port_table.specs.declared.state.PortState.{PortState}
 use Rattle.place_locks.specs.Held.{IsHistory}
 use Rattle.stamp_merge.specs.declared.history.History.{History}
 use Rattle.stamp_merge.specs.declared.journal.Journal.{Journal}
@@ -32,7 +34,7 @@ use Rattle.vm_host.specs.Telling.{AreNext, ClockKnown, Tells}
 use Rattle.vm_world.specs.Worlds.{IsWorld, WorldValue}
 use Rattle.slice_runner.specs.declared.stop.Stopped.{Stopped}
 use Rattle.slice_runner.specs.Stops.{AreStopped}
-use Rattle.slice_runner.specs.Values.{ActorState, actor_next, actor_wants, actors_of, page_at, route_among}
+use Rattle.slice_runner.specs.Values.{ActorState, actor_next, actor_wants, actors_of, layout_in, page_at, port_at, route_among}
 
 -- the event that an entry tells: who acted, and what a host object answered
 abbrev pub given_of : Op → Reply → Option Reply
@@ -82,18 +84,20 @@ ClockWasAsked old events new =
 -- a history replays from how its place stood before
 abbrev pub ReplaysFrom : WorldValue → PlaceId → History → Type 0
 ReplaysFrom old PlaceId.Board h = (end : Board) × IsHistory board.touch h.kept old.board h.entries.items end
+ReplaysFrom old (PlaceId.Port k) h =
+    (end : PortState) × IsHistory port.touch h.kept (port_at old.ports h.kept) h.entries.items end
 ReplaysFrom old lock h = (end : PageValue) × IsHistory page_touch h.kept (page_at old.pages h.kept) h.entries.items end
 
 -- journals that follow their actors' wants, and histories that replay from how the places stood, which don't agree
 pub record IsTornSlice (old : WorldValue) (torn : Torn) (journals : List Journal) (histories : List History) : Type 0 where
   pub lasts : ActorId → ActorState
-  pub follow : AreFollowed actor_wants actor_next (route_among (length old.pages)) OutFits (actors_of old) lasts (journals_of journals)
+  pub follow : AreFollowed actor_wants actor_next (route_among (layout_in old)) OutFits (actors_of old) lasts (journals_of journals)
   pub replay : AllByRecursion (λ (h : History). ReplaysFrom old h.lock h) histories
   pub order : List Entry
   pub in_order : IsOrder (all_of (journals_of journals)) order
   pub differ : IsTorn order histories torn
 
--- the events of a slice lead from the world before to the world after, which has pages still
+-- the events of a slice lead from the world before to the world after, which has its pages and its ports still
 pub record IsSlice {Q : Type 0} (tally : Q → Tally) (n : ℕ) (asked now : ClockKnown) (old : WorldValue)
     (events : List Entry) (new : WorldValue) (stops : List Stopped) (before after : List Q) : Type 0 where
   pub serial : IsSerial old events new
@@ -103,3 +107,4 @@ pub record IsSlice {Q : Type 0} (tally : Q → Tally) (n : ℕ) (asked now : Clo
   pub clock : ClockWasAsked asked events now
   pub pages : ArePages 0 new.pages
   pub count : length new.pages ≡ length old.pages
+  pub ports : length new.ports ≡ length old.ports

@@ -9,7 +9,8 @@ use Rattle.slice_runner.specs.declared.sharing.Unshared.TheVariants as unshared
 use Rattle.slice_runner.specs.Slices.{IsTornSlice}
 
 abbrev pub world_of : WorldParts → WorldValue
-world_of parts = world_with parts.pages.items parts.board parts.timer parts.harts.items
+world_of parts =
+    world_with parts.pages.items parts.board parts.ports.items parts.timer parts.harts.items parts.devices.items
 
 -- journals and histories part; or nothing has changed
 abbrev pub IsUnshared : {Q : Type 0} → WorldValue → ClockKnown → ClockKnown → List Q → List Q → Unshared → Type 0

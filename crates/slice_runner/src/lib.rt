@@ -1,6 +1,6 @@
 //! Slices: harts side by side over locked places, and one list of events.
 //!
-//! `run_slice` moves a world's pages and its board under locks of their own, lets each hart work in a thread of its own and
+//! `run_slice` moves a world's pages, its ports and its board under locks of their own, lets each hart work in a thread of its own and
 //! the timer beside them, brings everything home, and puts what all of them did in one order. The events are a run of the
 //! flat machine from the world before to the world after, each with the reply that it got, whoever came first; pages stay
 //! marked exactly where events wrote them; each actor has one stop, with its cause. `specs/Slices.antt` says so, and
@@ -9,7 +9,9 @@
 #![tactic(auto)]
 
 mod acting;
+mod listed;
 mod locking;
+mod locks;
 mod room;
 mod running;
 mod sharing;

@@ -1,78 +1,62 @@
-// Places under locks of their own, and back.
-ghost use Rattle.std.specs.Prelude.{◌≡◌, ◌+◌, ◌<◌, ◌≤◌, ◌^◌, ◌++◌, ◌∷◌, [], ℕ, length, slice_index_or, vec_len, vec_capacity};
-ghost use Rattle.vm_types.specs.declared.ids.PlaceId.{PlaceId};
-ghost use Rattle.guest_pages.specs.Pages.{PageValue};
-ghost use Rattle.stamp_merge.specs.declared.history.History.{History as HistoryValue};
-ghost use Rattle.slice_runner.specs.Locks.{AreHome, AreOpen, ArePageLocks, IsBoardHome};
+// Lists of places under locks of their own, and back.
+ghost use Rattle.std.specs.Prelude.{◌≡◌, ◌+◌, ◌≤◌, [], length, vec_len, vec_capacity};
+ghost use Rattle.slice_runner.specs.Locks.{AreLocksOf, AreOpen, CameHome, most_of};
 
-use guest_pages::Page;
-use line_board::Board;
+use crate::listed::Listed;
 use place_locks::Locked;
 use stamp_merge::History;
 use std::alloc::Global;
-use vm_types::{Openings, PlaceId};
+use vm_types::{Openings, Place};
 
-/// Every page under a lock of its own, in room that was made before. It takes no memory.
-pub fn lock_pages<K: Openings<Page>>(
+/// Every place of a list under a lock of its own, in room that was made before. It takes no memory.
+pub fn lock_all<P: Place, K: Openings<P>>(
     alloc: Global,
-    pages: Vec<Page>,
-    locks: &mut Vec<Locked<Page, K>>,
+    listed: Listed,
+    places: Vec<P>,
+    locks: &mut Vec<Locked<P, K>>,
 )
     requires empty { locks.old.items ≡ [] }
-    requires room { length pages.items ≤ vec_capacity locks.old }
-    requires few { length pages.items ≤ 2 ^ 28 }
-    requires opening { AreOpen K.opening pages.items }
-    ensures count { length locks.new.items ≡ length pages.items }
-    ensures locks { ArePageLocks locks.new.items }
+    requires room { length places.items ≤ vec_capacity locks.old }
+    requires few { length places.items ≤ most_of listed }
+    requires opening { AreOpen P.value K.opening listed places.items }
+    ensures count { length locks.new.items ≡ length places.items }
+    ensures locks { AreLocksOf listed locks.new.items }
 {
     let mut number = 0;
-    let mut rest = pages.into_iter();
-    while let Some(page) = rest.next() {
-        locks.push_reserved(Locked::new(alloc, PlaceId::Page(number), page));
+    let mut rest = places.into_iter();
+    while let Some(place) = rest.next() {
+        locks.push_reserved(Locked::new(alloc, listed.name(number), place));
         number += 1;
     }
 }
 
-/// Every page back from under its lock, and its history, into room that was made before. It takes no memory.
-pub fn unlock_pages<K: Openings<Page>>(
-    locks: Vec<Locked<Page, K>>,
-    pages: &mut Vec<Page>,
+/// Every place of a list back from under its lock, and its history behind those that came before, into room that was made
+/// before. It takes no memory.
+pub fn unlock_all<P: Place, K: Openings<P>>(
+    listed: Listed,
+    locks: Vec<Locked<P, K>>,
+    places: &mut Vec<P>,
     histories: &mut Vec<History>,
 )
-    requires locks { ArePageLocks locks.items }
-    requires empty { (pages.old.items ≡ []) × (histories.old.items ≡ []) }
-    requires room { (length locks.items ≤ vec_capacity pages.old) × (length locks.items + 1 ≤ vec_capacity histories.old) }
-    ensures home { AreHome K.opening (length locks.items) pages.new.items histories.new.items }
+    requires locks { AreLocksOf listed locks.items }
+    requires empty { places.old.items ≡ [] }
+    requires room { (length locks.items ≤ vec_capacity places.old)
+        × (vec_len histories.old + length locks.items ≤ vec_capacity histories.old) }
+    ensures home { CameHome P.touch P.value K.opening listed (length locks.items) places.new.items
+        histories.old.items histories.new.items }
     ensures room { vec_capacity histories.new ≡ vec_capacity histories.old }
+    ensures len { vec_len histories.new ≡ vec_len histories.old + length locks.items }
 {
+    let _listed = listed;
     let mut rest = locks.into_iter();
     while let Some(lock) = rest.next() {
         let id = lock.id();
-        let (kept, page, entries) = lock.into_place();
-        pages.push_reserved(page);
+        let (kept, place, entries) = lock.into_place();
+        places.push_reserved(place);
         histories.push_reserved(History {
             lock: id,
             kept,
             entries,
         });
     }
-}
-
-/// The board back from under its lock, and its history behind those of the pages. It takes no memory.
-pub fn unlock_board<L: Openings<Board>>(
-    lock: Locked<Board, L>,
-    histories: &mut Vec<History>,
-) -> Board
-    requires lock { lock ≡ PlaceId.Board }
-    requires room { vec_len histories.old + 1 ≤ vec_capacity histories.old }
-    ensures { (h : HistoryValue) × (histories.new.items ≡ histories.old.items ++ h ∷ []) × IsBoardHome L.opening result h }
-{
-    let id = lock.id();
-    let (kept, board, entries) = lock.into_place();
-    histories.push_reserved(History {
-        lock: id,
-        kept,
-        entries,
-    });
-    board
 }

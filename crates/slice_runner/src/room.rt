@@ -6,14 +6,16 @@ use crate::stop::Stopped;
 use crate::worker::HartWorker;
 use guest_pages::Page;
 use hart_rv64::Hart;
+use mmio_port::Port;
 use stamp_merge::{History, Journal};
 use std::alloc::{AllocError, Global};
 use vm_types::Entry;
 
-/// Empty lists for pages that come back from under their locks with their histories, and a number for each history.
+/// Empty lists for pages and ports that come back from under their locks with their histories, and a number for each history.
 #[derive(Drop)]
 pub struct PlaceRoom {
     pub pages: Vec<Page>,
+    pub ports: Vec<Port>,
     pub histories: Vec<History>,
     pub met: Vec<usize>,
 }
@@ -46,15 +48,17 @@ pub struct Room<Q> {
 }
 
 impl PlaceRoom {
-    fn new(alloc: Global, pages: usize) -> Result<PlaceRoom, AllocError>
-        requires { pages ≤ 2 ^ 28 }
-        ensures { IfOk result (λ room. ForPlaces pages room) }
+    fn new(alloc: Global, pages: usize, ports: usize) -> Result<PlaceRoom, AllocError>
+        requires { (pages ≤ 2 ^ 28) × (ports ≤ 255) }
+        ensures { IfOk result (λ room. ForPlaces pages ports room) }
     {
         let home = Vec::with_capacity(alloc, pages)?;
-        let histories = Vec::with_capacity(alloc, pages + 1)?;
-        let met = vec![in alloc; 0; pages + 1]?;
+        let ports_home = Vec::with_capacity(alloc, ports)?;
+        let histories = Vec::with_capacity(alloc, pages + (ports + 1))?;
+        let met = vec![in alloc; 0; pages + (ports + 1)]?;
         Ok(PlaceRoom {
             pages: home,
+            ports: ports_home,
             histories,
             met,
         })
@@ -111,19 +115,21 @@ impl EventRoom {
 }
 
 impl<Q: Drop> Room<Q> {
-    /// Room for so many pages, harts and passes, and for so many steps of each actor.
+    /// Room for so many pages, ports, harts and passes, and for so many steps of each actor.
     pub fn new(
         alloc: Global,
         pages: usize,
+        ports: usize,
         harts: usize,
         passes: usize,
         n: u32,
     ) -> Result<Room<Q>, AllocError>
         requires pages { pages ≤ 2 ^ 28 }
+        requires ports { ports ≤ 255 }
         requires harts { harts ≤ 32 }
-        ensures { IfOk result (λ room. HasRoom pages harts passes n room) }
+        ensures { IfOk result (λ room. HasRoom pages ports harts passes n room) }
     {
-        let places = PlaceRoom::new(alloc, pages)?;
+        let places = PlaceRoom::new(alloc, pages, ports)?;
         let actors = ActorRoom::new(alloc, harts, passes, n as usize)?;
         let events = EventRoom::new(alloc, harts + 1, n as usize)?;
         Ok(Room {

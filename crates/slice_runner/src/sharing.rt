@@ -6,19 +6,19 @@ ghost use Rattle.stamp_merge.specs.Journals.{all_of};
 ghost use Rattle.stamp_merge.specs.Merged.{journals_of};
 ghost use Rattle.stamp_merge.specs.Order.{IsOrder};
 ghost use Rattle.stamp_merge.specs.Parts.{Agree, AreLaid, IsTorn};
-ghost use Rattle.vm_world.specs.Worlds.{world_with};
 ghost use Rattle.slice_runner.specs.Room.{HasRoom};
 ghost use Rattle.slice_runner.specs.Slices.{IsSlice};
-ghost use Rattle.slice_runner.specs.Unshared.{IsUnshared};
-ghost use Rattle.slice_runner.specs.Values.{page_at};
+ghost use Rattle.slice_runner.specs.Unshared.{IsUnshared, world_of};
+ghost use Rattle.slice_runner.specs.Values.{page_at, port_at};
 
-use crate::locking::{lock_pages, unlock_board, unlock_pages};
+use crate::locks::Locks;
 use crate::room::{ActorRoom, EventRoom, PlaceRoom, Room};
 use crate::running::run_all;
 use crate::staffing::{dismiss, staff};
 use crate::stop::Stopped;
 use guest_pages::Page;
 use line_board::Board;
+use mmio_port::Port;
 use pause_gate::Gate;
 use place_locks::Locked;
 use stamp_merge::{History, Journal, Layout, compare, merge};
@@ -27,7 +27,7 @@ use std::mem::replace;
 use std::sync::Wait;
 use std::thread::Threads;
 use vm_host::Clock;
-use vm_types::{Entry, Openings, PlaceId, Torn};
+use vm_types::{Entry, Openings, Torn};
 use vm_world::WorldParts;
 
 /// What a slice leaves: the parts of the world, the events in order, and each actor's stop.
@@ -75,10 +75,11 @@ fn agree(
     compare(events.as_slice(), histories, layout, met)
 }
 
-/// One slice. `K` and `L` say how the places stood before, which are those of the parts.
+/// One slice. `K`, `M` and `L` say how the places stood before, which are those of the parts.
 pub fn share<
     Q: Send + Drop,
     K: Openings<Page> + Send + Sync,
+    M: Openings<Port> + Send + Sync,
     L: Openings<Board> + Send + Sync,
     C: Clock,
     G: Gate<Pass = Q> + Sync,
@@ -95,23 +96,26 @@ pub fn share<
 ) -> Result<Shared, Unshared>
     requires pages { ArePages 0 parts.pages.items }
     requires few { length parts.pages.items ≤ 2 ^ 28 }
+    requires few_ports { length parts.ports.items ≤ 16 }
     requires harts { length parts.harts.items ≤ 32 }
     requires passes { length parts.harts.items + 1 ≤ length passes.old.items }
     requires serve { All (G.serves gate.now) passes.old.items }
-    requires room { HasRoom (length parts.pages.items) (length parts.harts.items) (length passes.old.items) n room }
+    requires room { HasRoom (length parts.pages.items) (length parts.ports.items) (length parts.harts.items) (length passes.old.items) n room }
     requires opening { (p : PlaceId) → K.opening p ≡ page_at parts.pages.items p }
+    requires ports { (p : PlaceId) → M.opening p ≡ port_at parts.ports.items p }
     requires board { (p : PlaceId) → L.opening p ≡ parts.board }
     ensures shared { IfOk result (λ shared. IsSlice G.tally n (C.known clock.old) (C.known clock.new)
-        (world_with parts.pages.items parts.board parts.timer parts.harts.items) shared.events.items
-        (world_with shared.parts.pages.items shared.parts.board shared.parts.timer shared.parts.harts.items)
+        (world_of parts) shared.events.items (world_of shared.parts)
         shared.stops.items passes.old.items passes.new.items) }
-    ensures unshared { IfErr result (λ why. IsUnshared
-        (world_with parts.pages.items parts.board parts.timer parts.harts.items)
+    ensures unshared { IfErr result (λ why. IsUnshared (world_of parts)
         (C.known clock.old) (C.known clock.new) passes.old.items passes.new.items why) }
     ensures serve { All (G.serves gate.now) passes.new.items }
     ensures same { length passes.new.items ≡ length passes.old.items }
 {
-    let Ok(mut locks) = Vec::<Locked<Page, K>>::with_capacity(alloc, parts.pages.len()) else {
+    let Ok(for_pages) = Vec::<Locked<Page, K>>::with_capacity(alloc, parts.pages.len()) else {
+        return Err(Unshared::OutOfMemory(parts));
+    };
+    let Ok(for_ports) = Vec::<Locked<Port, M>>::with_capacity(alloc, parts.ports.len()) else {
         return Err(Unshared::OutOfMemory(parts));
     };
     let Room {
@@ -121,6 +125,7 @@ pub fn share<
     } = room;
     let PlaceRoom {
         mut pages,
+        mut ports,
         mut histories,
         mut met,
     } = places;
@@ -136,12 +141,16 @@ pub fn share<
         mut stops,
         mut events,
     } = events;
-    let layout = Layout {
-        pages: parts.pages.len() as u32,
-        ports: 0,
-    };
-    lock_pages(alloc, parts.pages, &mut locks);
-    let board = Locked::<Board, L>::new(alloc, PlaceId::Board, parts.board);
+    let locks = Locks::<K, M, L>::new(
+        alloc,
+        parts.pages,
+        parts.ports,
+        parts.board,
+        for_pages,
+        for_ports,
+    );
+    let layout = locks.layout();
+    let devices = parts.devices;
     let given = replace(passes, none);
     let mut timer = staff(
         parts.timer,
@@ -155,8 +164,7 @@ pub fn share<
     run_all(
         rt,
         gate,
-        locks.as_slice(),
-        &board,
+        &locks,
         n,
         clock,
         &mut timer,
@@ -171,8 +179,7 @@ pub fn share<
         &mut journals,
         &mut stops,
     );
-    unlock_pages(locks, &mut pages, &mut histories);
-    let board = unlock_board(board, &mut histories);
+    let board = locks.into_places(&mut pages, &mut ports, &mut histories);
     let agreed = agree(
         journals.as_slice(),
         histories.as_slice(),
@@ -190,8 +197,10 @@ pub fn share<
     let parts = WorldParts {
         pages,
         board,
+        ports,
         timer,
         harts,
+        devices,
     };
     Ok(Shared {
         parts,

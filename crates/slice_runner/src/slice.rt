@@ -83,15 +83,16 @@ pub fn run_slice<
     ensures same { length passes.new.items ≡ length passes.old.items }
 {
     let pages = world.pages().len();
+    let ports = world.ports().len();
     let harts = world.hart_count();
-    let Ok(room) = Room::<Q>::new(alloc, pages, harts, passes.len(), n) else {
+    let Ok(room) = Room::<Q>::new(alloc, pages, ports, harts, passes.len(), n) else {
         return Err(SliceError::OutOfMemory);
     };
     let Ok(board) = Board::new(alloc, 0) else {
         return Err(SliceError::OutOfMemory);
     };
     let parts = world.take(alloc, board);
-    match share::<Q, Brand, Brand, C, G, R>(
+    match share::<Q, Brand, Brand, Brand, C, G, R>(
         rt,
         alloc,
         gate,

@@ -1,24 +1,23 @@
 // Actors at work, each with its pass and its journal.
 ghost use Rattle.std.specs.Prelude.{◌≡◌, ◌+◌, ◌<◌, ◌≤◌, ◌^◌, ℕ, length, vec_len, vec_capacity, IfErr, OnOk, MatchOption};
 ghost use Rattle.vm_types.specs.declared.ids.ActorId.{ActorId};
-ghost use Rattle.vm_types.specs.declared.ids.PlaceId.{PlaceId};
 ghost use Rattle.hart_trace.specs.States.{Hart as HartValue, hart_next, hart_wants};
 ghost use Rattle.timer_trace.specs.States.{timer_next, timer_wants};
 ghost use Rattle.timer_trace.specs.declared.timer.Timer.{Timer as TimerValue};
 ghost use Rattle.pause_gate.specs.Tally.{Tally};
 ghost use Rattle.vm_host.specs.Telling.{ClockKnown};
-ghost use Rattle.slice_runner.specs.Locks.{ArePageLocks};
 ghost use Rattle.slice_runner.specs.Runs.{Begins, GoesOn, HartWorked, HasAnswered, HasEnded, IsAsked, IsSameBut};
 ghost use Rattle.slice_runner.specs.Runs.{IsUnderWay, StopsFor, TimerWorked, WritesDown};
 ghost use Rattle.slice_runner.specs.Slices.{answers_of};
 
 use crate::acting::act_once;
+use crate::locks::Locks;
 use crate::stop::Stop;
 use guest_pages::Page;
 use hart_rv64::Hart;
 use line_board::Board;
+use mmio_port::Port;
 use pause_gate::Gate;
-use place_locks::Locked;
 use std::sync::Wait;
 use timer_trace::Timer;
 use vm_host::Clock;
@@ -88,28 +87,24 @@ impl<Q> Track<Q> {
 
 impl<Q> HartWorker<Q> {
     // The next step, or why none is made.
-    fn step<K: Openings<Page>, L: Openings<Board>, R: Wait, G: Gate<Pass = Q>>(
+    fn step<K: Openings<Page>, M: Openings<Port>, L: Openings<Board>, R: Wait, G: Gate<Pass = Q>>(
         &mut self,
         rt: &R,
         gate: &G,
-        pages: &[Locked<Page, K>],
-        board: &Locked<Board, L>,
+        locks: &Locks<K, M, L>,
     ) -> Result<(), Stop>
-        requires pages { ArePageLocks pages.now }
-        requires few { length pages.now ≤ 2 ^ 28 }
-        requires board { board.now ≡ PlaceId.Board }
         requires pass { G.serves gate.now self.old.track.pass }
         requires room { vec_len self.old.track.journal < vec_capacity self.old.track.journal }
         ensures pass { G.serves gate.now self.new.track.pass }
         ensures room { vec_capacity self.new.track.journal ≡ vec_capacity self.old.track.journal }
         ensures one { OnOk result (vec_len self.new.track.journal ≡ vec_len self.old.track.journal + 1) }
         ensures went { OnOk result ((id : ActorId) (s : HartValue) (c : Tally) →
-            IsUnderWay hart_wants hart_next G.tally (length pages.now) id s c self.old.hart self.old.track →
-            IsUnderWay hart_wants hart_next G.tally (length pages.now) id s c self.new.hart self.new.track) }
+            IsUnderWay hart_wants hart_next G.tally locks.now id s c self.old.hart self.old.track →
+            IsUnderWay hart_wants hart_next G.tally locks.now id s c self.new.hart self.new.track) }
         ensures ended { IfErr result (λ stop. (id : ActorId) (s : HartValue) (c : Tally) (n : ℕ) →
-            IsUnderWay hart_wants hart_next G.tally (length pages.now) id s c self.old.hart self.old.track →
+            IsUnderWay hart_wants hart_next G.tally locks.now id s c self.old.hart self.old.track →
             vec_len self.old.track.journal < n →
-            HasEnded hart_wants hart_next G.tally (length pages.now) id s c n self.new.hart self.new.track stop) }
+            HasEnded hart_wants hart_next G.tally locks.now id s c n self.new.hart self.new.track stop) }
     {
         let op = self.hart.want();
         if let Some(stop) = self.track.stops(gate, &op) {
@@ -117,7 +112,7 @@ impl<Q> HartWorker<Q> {
         }
         let actor = self.track.id;
         let clock = &mut self.track.clock;
-        let Ok(entry) = act_once(rt, gate, pages, board, actor, clock, &op, None) else {
+        let Ok(entry) = act_once(rt, gate, locks, actor, clock, &op, None) else {
             return Err(Stop::Memory);
         };
         self.track.write_down(&entry);
@@ -126,24 +121,20 @@ impl<Q> HartWorker<Q> {
     }
 
     /// So many steps at most, the gate asked before each.
-    pub fn run<K: Openings<Page>, L: Openings<Board>, R: Wait, G: Gate<Pass = Q>>(
+    pub fn run<K: Openings<Page>, M: Openings<Port>, L: Openings<Board>, R: Wait, G: Gate<Pass = Q>>(
         &mut self,
         rt: &R,
         gate: &G,
-        pages: &[Locked<Page, K>],
-        board: &Locked<Board, L>,
+        locks: &Locks<K, M, L>,
         n: u32,
     )
-        requires pages { ArePageLocks pages.now }
-        requires few { length pages.now ≤ 2 ^ 28 }
-        requires board { board.now ≡ PlaceId.Board }
         requires pass { G.serves gate.now self.old.track.pass }
         requires begins { Begins n self.old.track }
         ensures pass { G.serves gate.now self.new.track.pass }
-        ensures worked { HartWorked G.tally (length pages.now) n self.old self.new }
+        ensures worked { HartWorked G.tally locks.now n self.old self.new }
     {
         for _step in 0..n {
-            if let Err(stop) = self.step(rt, gate, pages, board) {
+            if let Err(stop) = self.step(rt, gate, locks) {
                 self.track.stop = stop;
                 return;
             }
@@ -164,29 +155,25 @@ pub fn ask_clock<C: Clock>(clock: &mut C, op: &Op) -> Option<Reply>
 
 impl<Q> TimerWorker<Q> {
     // The next step, or why none is made.
-    fn step<K: Openings<Page>, L: Openings<Board>, R: Wait, C: Clock, G: Gate<Pass = Q>>(
+    fn step<K: Openings<Page>, M: Openings<Port>, L: Openings<Board>, R: Wait, C: Clock, G: Gate<Pass = Q>>(
         &mut self,
         rt: &R,
         gate: &G,
-        pages: &[Locked<Page, K>],
-        board: &Locked<Board, L>,
+        locks: &Locks<K, M, L>,
         clock: &mut C,
     ) -> Result<(), Stop>
-        requires pages { ArePageLocks pages.now }
-        requires few { length pages.now ≤ 2 ^ 28 }
-        requires board { board.now ≡ PlaceId.Board }
         requires pass { G.serves gate.now self.old.track.pass }
         requires room { vec_len self.old.track.journal < vec_capacity self.old.track.journal }
         ensures pass { G.serves gate.now self.new.track.pass }
         ensures room { vec_capacity self.new.track.journal ≡ vec_capacity self.old.track.journal }
         ensures one { OnOk result (vec_len self.new.track.journal ≡ vec_len self.old.track.journal + 1) }
         ensures went { OnOk result ((id : ActorId) (s : TimerValue) (c : Tally) →
-            IsUnderWay timer_wants timer_next G.tally (length pages.now) id s c self.old.timer self.old.track →
-            IsUnderWay timer_wants timer_next G.tally (length pages.now) id s c self.new.timer self.new.track) }
+            IsUnderWay timer_wants timer_next G.tally locks.now id s c self.old.timer self.old.track →
+            IsUnderWay timer_wants timer_next G.tally locks.now id s c self.new.timer self.new.track) }
         ensures ended { IfErr result (λ stop. (id : ActorId) (s : TimerValue) (c : Tally) (n : ℕ) →
-            IsUnderWay timer_wants timer_next G.tally (length pages.now) id s c self.old.timer self.old.track →
+            IsUnderWay timer_wants timer_next G.tally locks.now id s c self.old.timer self.old.track →
             vec_len self.old.track.journal < n →
-            HasEnded timer_wants timer_next G.tally (length pages.now) id s c n self.new.timer self.new.track stop) }
+            HasEnded timer_wants timer_next G.tally locks.now id s c n self.new.timer self.new.track stop) }
         ensures answers { (start : ClockKnown) →
             HasAnswered start (answers_of self.old.track.journal.items) (C.known clock.old) →
             HasAnswered start (answers_of self.new.track.journal.items) (C.known clock.new) }
@@ -198,7 +185,7 @@ impl<Q> TimerWorker<Q> {
         let given = ask_clock(clock, &op);
         let actor = self.track.id;
         let last = &mut self.track.clock;
-        let Ok(entry) = act_once(rt, gate, pages, board, actor, last, &op, given) else {
+        let Ok(entry) = act_once(rt, gate, locks, actor, last, &op, given) else {
             return Err(Stop::Memory);
         };
         self.track.write_down(&entry);
@@ -207,26 +194,22 @@ impl<Q> TimerWorker<Q> {
     }
 
     /// So many steps at most, the gate asked before each.
-    pub fn run<K: Openings<Page>, L: Openings<Board>, R: Wait, C: Clock, G: Gate<Pass = Q>>(
+    pub fn run<K: Openings<Page>, M: Openings<Port>, L: Openings<Board>, R: Wait, C: Clock, G: Gate<Pass = Q>>(
         &mut self,
         rt: &R,
         gate: &G,
-        pages: &[Locked<Page, K>],
-        board: &Locked<Board, L>,
+        locks: &Locks<K, M, L>,
         n: u32,
         clock: &mut C,
     )
-        requires pages { ArePageLocks pages.now }
-        requires few { length pages.now ≤ 2 ^ 28 }
-        requires board { board.now ≡ PlaceId.Board }
         requires pass { G.serves gate.now self.old.track.pass }
         requires begins { Begins n self.old.track }
         ensures pass { G.serves gate.now self.new.track.pass }
-        ensures worked { TimerWorked G.tally (length pages.now) n self.old self.new }
+        ensures worked { TimerWorked G.tally locks.now n self.old self.new }
         ensures answers { HasAnswered (C.known clock.old) (answers_of self.new.track.journal.items) (C.known clock.new) }
     {
         for _step in 0..n {
-            if let Err(stop) = self.step(rt, gate, pages, board, clock) {
+            if let Err(stop) = self.step(rt, gate, locks, clock) {
                 self.track.stop = stop;
                 return;
             }

@@ -1,14 +1,26 @@
-use Rattle.std.proofs.Common.{refl, sym, ◌∙◌, length}
-use Rattle.slice_runner.proofs.Routes.{at_none, at_place, page_there}
+use Rattle.std.proofs.Common.{sym, ap, ◌∙◌}
+use Rattle.stamp_merge.specs.declared.layout.Layout.{Layout}
+use Rattle.slice_runner.specs.Values.{route_among}
+use Rattle.slice_runner.proofs.Routes.{also, at_none, at_place, inside_of, laid_out, not_out}
 use Rattle.slice_runner.proofs.acting.act_once.Goals as goal
 
-pub returns-in-Page-clause-entry : goal.returns-in-Page-clause-entry
-returns-in-Page-clause-entry g c =
-    let n = length c.args.pages.now in
-    let there = page_there n c.in-Page.number c.args.op.now (sym c.in-Page.ensures) in
-    at_place n c.args.clock.now c.args.actor c.args.op.now c.args.given _ c.index-pages-number.result c.act_as.result refl c.in-Page.ensures (c.index-pages-number.is ∙ c.requires.pages c.in-Page.number c.index-pages-number.result there) c.act_as.ensures.entry
+pub act_as-requires : goal.act_as-requires
+act_as-requires g c =
+    let here = c.place.ensures ∙ ap (λ (l : Layout). route_among l c.args.op.now) c.layout-layout.ensures.layout in
+    record { clock = c.requires.clock; place = laid_out c.args.locks.now c.args.op.now c.place.result here (inside_of c.place.result c.in_default.not-Out) }
 
-pub returns-in-Port-clause-entry : goal.returns-in-Port-clause-entry
-returns-in-Port-clause-entry g c =
+pub returns-in_default : goal.returns-in_default
+returns-in_default g c =
+    let here = c.place.ensures ∙ ap (λ (l : Layout). route_among l c.args.op.now) c.layout-layout.ensures.layout in
+    let inner = inside_of c.place.result c.in_default.not-Out in
+    record {
+      entry = at_place c.args.locks.now c.args.clock.now c.args.actor c.args.op.now c.args.given c.place.result c.act_as.result inner here c.act_as.ensures.entry;
+      clock = c.act_as.ensures.clock;
+      err = also _ _ c.act_as.result c.act_as.ensures.err (not_out c.args.locks.now c.args.clock.now c.args.actor c.args.op.now c.args.given c.place.result here inner);
+    }
+
+pub returns-in-Out-clause-entry : goal.returns-in-Out-clause-entry
+returns-in-Out-clause-entry g c =
+    let here = c.place.ensures ∙ ap (λ (l : Layout). route_among l c.args.op.now) c.layout-layout.ensures.layout in
     let made = c.entry_out.ensures in
-    at_none (length c.args.pages.now) c.args.clock.now c.args.actor c.args.op.now c.args.given c.place.result c.entry_out.result c.requires.port c.requires.given c.place.ensures c.in-Port.is made.actor made.place made.op made.reply made.stamp.0 made.stamp.1
+    at_none c.args.locks.now c.args.clock.now c.args.actor c.args.op.now c.args.given c.entry_out.result c.requires.port c.requires.given (sym here ∙ c.in-Out.is) made.actor made.place made.op made.reply made.stamp.0 made.stamp.1

@@ -1,6 +1,7 @@
 use Rattle.std.proofs.Common.{sym, subst}
-use Rattle.vm_world.specs.Worlds.{WorldValue, world_with}
+use Rattle.vm_world.specs.Worlds.{WorldValue}
 use Rattle.slice_runner.specs.Slices.{IsSerial, MarksFollow}
+use Rattle.slice_runner.specs.Unshared.{world_of}
 use Rattle.slice_runner.proofs.slice.run_slice.Goals as goal
 
 pub returns-in-Ok-share-clause-serial : goal.returns-in-Ok-share-clause-serial
@@ -8,7 +9,7 @@ returns-in-Ok-share-clause-serial g c =
     let p = c.take-parts.result in
     let events = c.in-Ok-share.shared.events.items in
     subst (λ (w : WorldValue). IsSerial w events c.with_parts.result) c.take-parts.ensures.parts
-    (subst (λ (w : WorldValue). IsSerial (world_with p.pages.items p.board p.timer p.harts.items) events w) (sym c.with_parts.ensures)
+    (subst (λ (w : WorldValue). IsSerial (world_of p) events w) (sym c.with_parts.ensures)
     c.in-Ok-share.ensures.shared.serial)
 
 pub returns-in-Ok-share-clause-marks : goal.returns-in-Ok-share-clause-marks

@@ -1,0 +1,19 @@
+use Rattle.std.proofs.Common.{◌≡◌, ◌≤◌, ◌+◌, ◌++◌, List, length, vec_len, vec_capacity}
+use Rattle.std.specs.Vec.Iter.{into_iter_items, into_iter_len}
+use Rattle.stamp_merge.specs.declared.history.History.{History}
+use Rattle.slice_runner.specs.Locks.{CameHome}
+use Rattle.slice_runner.proofs.Home.{LocksFrom}
+use Rattle.slice_runner.proofs.locking.unlock_all.Given as goal
+
+abbrev pub invariant-loop-lock : goal.invariant-loop-lock
+invariant-loop-lock g l = record {
+  ids : LocksFrom l.fn.listed (vec_len l.places) (into_iter_items l.rest);
+  all : vec_len l.places + length (into_iter_items l.rest) ≡ length l.fn.locks.items;
+  same : vec_len l.histories ≡ vec_len l.fn.histories + vec_len l.places;
+  room_places : length l.fn.locks.items ≤ vec_capacity l.places;
+  room_histories : vec_capacity l.histories ≡ vec_capacity l.fn.histories;
+  home : CameHome g.P.Place.touch g.P.Place.value g.K.Openings.opening l.fn.listed (vec_len l.places) l.places.items l.fn.histories.items l.histories.items;
+}
+
+abbrev pub decreases-loop-lock : goal.decreases-loop-lock
+decreases-loop-lock g l = into_iter_len l.rest
