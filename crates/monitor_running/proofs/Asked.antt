@@ -1,5 +1,5 @@
--- Of the actors that there are, the timer alone asks a host object, its clock.
-use Rattle.std.proofs.Common.{◌≡◌, ℕ, Bool, true, false, cond, refl, sym, ap, ◌∙◌, subst, List, [], ◌∷◌, Option, Some, None, slice_get}
+-- Who asks a host object: the timer its clock, and a device its disk.
+use Rattle.std.proofs.Common.{◌≡◌, ℕ, Bool, true, false, cond, refl, sym, ap, ◌∙◌, subst, List, [], ◌∷◌, Option, Some, None, slice_get, ◌⊎◌, inl, inr}
 use Rattle.std.specs.List.{AllByRecursion}
 use Rattle.vm_types.specs.declared.ids.ActorId.{ActorId}
 use Rattle.vm_types.specs.declared.ids.PlaceId.{PlaceId}
@@ -8,7 +8,7 @@ use Rattle.vm_types.specs.declared.entry.Event.{Event}
 use Rattle.vm_types.specs.declared.entry.Step.{Step}
 use Rattle.vm_types.specs.declared.op.Op.{Op}
 use Rattle.vm_types.specs.declared.op.OutOp.{OutOp}
-use Rattle.vm_types.specs.declared.op.OutOp.TheVariants.{Clock}
+use Rattle.vm_types.specs.declared.op.OutOp.TheVariants.{Clock, DiskFlush, DiskRead, DiskWrite}
 use Rattle.vm_types.specs.declared.reply.Reply.{Reply}
 use Rattle.vm_types.specs.Fits.{out_fits}
 use Rattle.vm_types.specs.Ids.{of_actor, same_actor}
@@ -20,8 +20,14 @@ use Rattle.hart_trace.proofs.Asks.{never_host}
 use Rattle.hart_trace.proofs.Traces as hart_traces
 use Rattle.timer_trace.specs.States.{wants_by}
 use Rattle.timer_trace.proofs.Traces as timer_traces
-use Rattle.flat_guest.specs.Guest.{Guest, Wants, WantsFrom, layout_of}
+use Rattle.device_trace.specs.Acts.{is_disk_call}
+use Rattle.guest_devices.specs.Devices.{BlockIs, FlatDevice, device_calls}
+use Rattle.guest_devices.proofs.Soundness.{want_host}
+use Rattle.flat_guest.specs.Guest.{Guest, Wants, WantsFrom, WantsOf, layout_of}
 use Rattle.flat_guest.specs.Places.{place_of}
+use Rattle.flat_guest.specs.Sound.{IsSound}
+use Rattle.flat_guest.proofs.Soundness.{sound_next}
+use Rattle.monitor_running.specs.Waiting.{takes_turn}
 use Rattle.flat_guest.specs.Steps.{Answers, FlatStep}
 use Rattle.slice_runner.specs.Slices.{Leads, answer_in, answers_of, event_of}
 use Rattle.flat_trace.specs.Events.{answer_by, answers_in, event_items, host_reply, is_received, item_by, item_of, needs_room, needs_room_by}
@@ -49,40 +55,109 @@ no_hart (Some start) steps act wants =
     differ : true ≡ false → ⊥
     differ is = cc
 
-pub who_asks : (g : Guest) (actor : ActorId) (act : OutOp) → Wants g actor (Op.Out act) → (actor ≡ ActorId.Timer) × (act ≡ Clock)
-who_asks g ActorId.Timer act wants =
+-- an actor that takes turns asks the clock alone
+pub turn_asks : (g : Guest) (actor : ActorId) (act : OutOp) → takes_turn g actor ≡ true → Wants g actor (Op.Out act)
+    → (actor ≡ ActorId.Timer) × (act ≡ Clock)
+turn_asks g ActorId.Timer act turn wants =
     let steps = g.steps ActorId.Timer in
     let t = timer_traces.some_timer steps (record { op = Op.Out act; reply = wants.0 } ∷ wants.1, wants.2) in
     let same = timer_traces.wants_only steps t.0 (Op.Out act) t.1 wants in
     (refl, asks_clock t.0.due act same)
-who_asks g (ActorId.Hart k) act wants = absurd (no_hart (slice_get g.starts k) (g.steps (ActorId.Hart k)) act wants)
-who_asks g (ActorId.Device k) act wants = absurd wants
+turn_asks g (ActorId.Hart k) act turn wants = absurd (no_hart (slice_get g.starts k) (g.steps (ActorId.Hart k)) act wants)
+turn_asks g (ActorId.Device k) act turn wants = cc
+
+-- a device asks its disk
+disk_calls : (d : FlatDevice) (act : OutOp) → device_calls d act ≡ true → is_disk_call act ≡ true
+disk_calls (BlockIs start items) act is = is
+
+device_asks : (g : Guest) (k : ℕ) (o : Option FlatDevice) (act : OutOp) → IsSound g → slice_get g.devices k ≡ o
+    → WantsOf o (Op.Out act) → is_disk_call act ≡ true
+device_asks g k None act sound is wants = absurd wants
+device_asks g k (Some d) act sound is wants =
+    let own = sound.devices_on.each k d is in
+    disk_calls d act (want_host k own.0 d (Op.Out act) own.1 wants)
+
+abbrev pub Asks : ActorId → OutOp → Type 0
+Asks actor act =
+    ((actor ≡ ActorId.Timer) × (act ≡ Clock)) ⊎ ((k : ℕ) × (actor ≡ ActorId.Device k) × (is_disk_call act ≡ true))
+
+who_asks : (g : Guest) (actor : ActorId) (act : OutOp) → IsSound g → Wants g actor (Op.Out act) → Asks actor act
+who_asks g ActorId.Timer act sound wants = inl (turn_asks g ActorId.Timer act refl wants)
+who_asks g (ActorId.Hart k) act sound wants = absurd (no_hart (slice_get g.starts k) (g.steps (ActorId.Hart k)) act wants)
+who_asks g (ActorId.Device k) act sound wants =
+    inr (k, refl, device_asks g k (slice_get g.devices k) act sound refl wants)
 
 fits_word : (reply : Reply) → out_fits Clock reply ≡ true → (n : ℕ) × (reply ≡ Reply.Word n)
 fits_word (Reply.Word n) fits = (n, refl)
 fits_word reply fits = cc
 
-pub is_asking : (g : Guest) (event : Event) (e : Entry) (h : Guest) (act : OutOp) → FlatStep g event e h → e.op ≡ Op.Out act
-    → IsAsking e act
-is_asking g event e h act step is =
-    let who = who_asks g e.actor act (subst (λ (o : Op). Wants g e.actor o) is step.want) in
+-- a device asks its disk, which replies what fits
+pub record IsDiskAct (e : Entry) (act : OutOp) : Type 0 where
+  pub number : ℕ
+  pub actor : e.actor ≡ ActorId.Device number
+  pub call : is_disk_call act ≡ true
+  pub fits : out_fits act e.reply ≡ true
+
+-- the reply to what is asked of a host object fits
+out_fit : (g : Guest) (event : Event) (e : Entry) (h : Guest) (act : OutOp) → FlatStep g event e h → e.op ≡ Op.Out act
+    → out_fits act e.reply ≡ true
+out_fit g event e h act step is =
     let there : e.place ≡ place_of (layout_of g) (Op.Out act) = step.place ∙ ap (λ (o : Op). place_of (layout_of g) o) is in
     let answers : Answers (place_of (layout_of g) (Op.Out act)) g e.actor (Op.Out act) event.reply e.reply =
     subst (λ (o : Op). Answers (place_of (layout_of g) (Op.Out act)) g e.actor o event.reply e.reply) is
     (subst (λ (p : PlaceId). Answers p g e.actor e.op event.reply e.reply) there step.answer) in
-    let word = fits_word e.reply (subst (λ (a : OutOp). out_fits a e.reply ≡ true) who.1 answers.1) in
-    record { actor = who.0; act_is = who.1; answer = word.0; reply = word.1 }
+    answers.1
+
+asking_by : (e : Entry) (act : OutOp) → out_fits act e.reply ≡ true → Asks e.actor act → IsAsking e act ⊎ IsDiskAct e act
+asking_by e act fits (inl who) =
+    let word = fits_word e.reply (subst (λ (a : OutOp). out_fits a e.reply ≡ true) who.1 fits) in
+    inl (record { actor = who.0; act_is = who.1; answer = word.0; reply = word.1 })
+asking_by e act fits (inr who) = inr (record { number = who.0; actor = who.1; call = who.2; fits = fits })
+
+pub is_asking : (g : Guest) (event : Event) (e : Entry) (h : Guest) (act : OutOp) → IsSound g → FlatStep g event e h
+    → e.op ≡ Op.Out act → IsAsking e act ⊎ IsDiskAct e act
+is_asking g event e h act sound step is =
+    asking_by e act (out_fit g event e h act step is)
+    (who_asks g e.actor act sound (subst (λ (o : Op). Wants g e.actor o) is step.want))
+
+-- the clock is asked by the timer
+clock_by : (e : Entry) → IsAsking e Clock ⊎ IsDiskAct e Clock → IsAsking e Clock
+clock_by e (inl asking) = asking
+clock_by e (inr disk) = let never = disk.call in cc
+
+pub clock_asking : (g : Guest) (event : Event) (e : Entry) (h : Guest) → IsSound g → FlatStep g event e h
+    → e.op ≡ Op.Out Clock → IsAsking e Clock
+clock_asking g event e h sound step is = clock_by e (is_asking g event e h Clock sound step is)
 
 -- so no item needs room
-roomy_by : (e : Entry) (op : Op) → e.op ≡ op → ((act : OutOp) → e.op ≡ Op.Out act → IsAsking e act)
+not_received : (act : OutOp) (reply : Reply) → is_disk_call act ≡ true → out_fits act reply ≡ true → is_received reply ≡ false
+not_received (DiskRead sector part) (Reply.Bytes piece) call fits = refl
+not_received (DiskRead sector part) Reply.Failed call fits = refl
+not_received (DiskRead sector part) reply call fits = cc
+not_received (DiskWrite sector part bytes) Reply.Done call fits = refl
+not_received (DiskWrite sector part bytes) Reply.Failed call fits = refl
+not_received (DiskWrite sector part bytes) reply call fits = cc
+not_received DiskFlush Reply.Done call fits = refl
+not_received DiskFlush Reply.Failed call fits = refl
+not_received DiskFlush reply call fits = cc
+not_received act reply call fits = cc
+
+roomy_out : (e : Entry) (act : OutOp) → IsAsking e act ⊎ IsDiskAct e act → is_received e.reply ≡ false
+roomy_out e act (inl asking) = ap is_received asking.reply
+roomy_out e act (inr disk) = not_received act e.reply disk.call disk.fits
+
+roomy_by : (e : Entry) (op : Op) → e.op ≡ op → ((act : OutOp) → e.op ≡ Op.Out act → IsAsking e act ⊎ IsDiskAct e act)
     → needs_room_by op e.reply ≡ false
-roomy_by e (Op.Out act) is asking = ap is_received (asking act is).reply
+roomy_by e (Op.Out act) is asking = roomy_out e act (asking act is)
 roomy_by e op is asking = refl
 
-pub roomy : (es : List Entry) (g h : Guest) → Leads g es h → AllByRecursion (λ (e : Entry). needs_room e ≡ false) es
-roomy [] g h leads = tt
-roomy (e ∷ es) g h leads =
-    (roomy_by e e.op refl (λ act is. is_asking g (event_of e) e leads.0 act leads.1 is), roomy es leads.0 h leads.2)
+pub roomy : (es : List Entry) (g h : Guest) → IsSound g → Leads g es h
+    → AllByRecursion (λ (e : Entry). needs_room e ≡ false) es
+roomy [] g h sound leads = tt
+roomy (e ∷ es) g h sound leads = (
+  roomy_by e e.op refl (λ act is. is_asking g (event_of e) e leads.0 act sound leads.1 is),
+  roomy es leads.0 h (sound_next g (event_of e) e leads.0 sound leads.1) leads.2,
+)
 
 -- and the items tell what the clock answered the timer
 plain_at : (e : Entry) (b : Bool) (es : List Entry) → answer_in e.op e.reply (answers_of es) ≡ answers_of es
@@ -90,11 +165,10 @@ plain_at : (e : Entry) (b : Bool) (es : List Entry) → answer_in e.op e.reply (
 plain_at e true es none = sym none
 plain_at e false es none = refl
 
-answer_at : (e : Entry) (op : Op) (b : Bool) (es : List Entry) → e.op ≡ op → same_actor e.actor ActorId.Timer ≡ b
-    → ((act : OutOp) → e.op ≡ Op.Out act → IsAsking e act)
-    → answer_by (item_by op e.actor e.reply) (answers_of es) ≡ answers_of (cond b (e ∷ es) es)
-answer_at e (Op.Out act) true es is mine asking =
-    let a = asking act is in
+-- the timer's clock
+asked_at : (e : Entry) (act : OutOp) (b : Bool) (es : List Entry) → e.op ≡ Op.Out act → same_actor e.actor ActorId.Timer ≡ b
+    → IsAsking e act → answer_by (item_by (Op.Out act) e.actor e.reply) (answers_of es) ≡ answers_of (cond b (e ∷ es) es)
+asked_at e act true es is mine a =
     let more = answers_of es in
     let told : answer_by (item_by (Op.Out act) e.actor e.reply) more ≡ a.answer ∷ more =
     ap (λ (k : ActorId). answer_by (item.Reply k (host_reply e.reply)) more) a.actor
@@ -103,9 +177,26 @@ answer_at e (Op.Out act) true es is mine asking =
     ap (λ (o : Op). answer_in o e.reply more) (is ∙ ap (λ (b : OutOp). Op.Out b) a.act_is)
     ∙ ap (λ (r : Reply). answer_in (Op.Out Clock) r more) a.reply in
     told ∙ sym asked
-answer_at e (Op.Out act) false es is mine asking =
-    let a = asking act is in
+asked_at e act false es is mine a =
     let both : true ≡ false = sym (ap (λ (x : ActorId). same_actor x ActorId.Timer) a.actor) ∙ mine in cc
+
+-- and another's disk
+told_at : (e : Entry) (act : OutOp) (b : Bool) (es : List Entry) → same_actor e.actor ActorId.Timer ≡ b
+    → IsDiskAct e act → answer_by (item_by (Op.Out act) e.actor e.reply) (answers_of es) ≡ answers_of (cond b (e ∷ es) es)
+told_at e act true es mine d =
+    let both : false ≡ true = sym (ap (λ (x : ActorId). same_actor x ActorId.Timer) d.actor) ∙ mine in cc
+told_at e act false es mine d = ap (λ (k : ActorId). answer_by (item.Reply k (host_reply e.reply)) (answers_of es)) d.actor
+
+out_at : (e : Entry) (act : OutOp) (b : Bool) (es : List Entry) → e.op ≡ Op.Out act → same_actor e.actor ActorId.Timer ≡ b
+    → IsAsking e act ⊎ IsDiskAct e act
+    → answer_by (item_by (Op.Out act) e.actor e.reply) (answers_of es) ≡ answers_of (cond b (e ∷ es) es)
+out_at e act b es is mine (inl asking) = asked_at e act b es is mine asking
+out_at e act b es is mine (inr disk) = told_at e act b es mine disk
+
+answer_at : (e : Entry) (op : Op) (b : Bool) (es : List Entry) → e.op ≡ op → same_actor e.actor ActorId.Timer ≡ b
+    → ((act : OutOp) → e.op ≡ Op.Out act → IsAsking e act ⊎ IsDiskAct e act)
+    → answer_by (item_by op e.actor e.reply) (answers_of es) ≡ answers_of (cond b (e ∷ es) es)
+answer_at e (Op.Out act) b es is mine asking = out_at e act b es is mine (asking act is)
 answer_at e (Op.Read at len) b es is mine asking = plain_at e b es (ap (λ (o : Op). answer_in o e.reply (answers_of es)) is)
 answer_at e (Op.Write at piece) b es is mine asking = plain_at e b es (ap (λ (o : Op). answer_in o e.reply (answers_of es)) is)
 answer_at e (Op.Amo at value kind wide) b es is mine asking = plain_at e b es (ap (λ (o : Op). answer_in o e.reply (answers_of es)) is)
@@ -115,10 +206,10 @@ answer_at e (Op.Port port act) b es is mine asking = plain_at e b es (ap (λ (o 
 answer_at e (Op.Board act) b es is mine asking = plain_at e b es (ap (λ (o : Op). answer_in o e.reply (answers_of es)) is)
 answer_at e Op.Idle b es is mine asking = plain_at e b es (ap (λ (o : Op). answer_in o e.reply (answers_of es)) is)
 
-pub answers_same : (es : List Entry) (g h : Guest) → Leads g es h
+pub answers_same : (es : List Entry) (g h : Guest) → IsSound g → Leads g es h
     → answers_in (event_items es) ≡ answers_of (of_actor ActorId.Timer es)
-answers_same [] g h leads = refl
-answers_same (e ∷ es) g h leads =
-    ap (answer_by (item_of e)) (answers_same es leads.0 h leads.2)
+answers_same [] g h sound leads = refl
+answers_same (e ∷ es) g h sound leads =
+    ap (answer_by (item_of e)) (answers_same es leads.0 h (sound_next g (event_of e) e leads.0 sound leads.1) leads.2)
     ∙ answer_at e e.op (same_actor e.actor ActorId.Timer) (of_actor ActorId.Timer es) refl refl
-    (λ act is. is_asking g (event_of e) e leads.0 act leads.1 is)
+    (λ act is. is_asking g (event_of e) e leads.0 act sound leads.1 is)

@@ -20,14 +20,16 @@ use Rattle.slice_runner.specs.Runs.{IsAsked}
 use Rattle.slice_runner.specs.Slices.{ClockWasAsked, Leads, answer_in, answers_of, event_of, given_of}
 use Rattle.slice_runner.proofs.Answers.{next_more, nil_more}
 use Rattle.monitor_running.specs.Waiting.{HasGone}
-use Rattle.monitor_running.proofs.Asked.{is_asking}
+use Rattle.flat_guest.specs.Sound.{IsSound}
+use Rattle.monitor_running.proofs.Asked.{clock_asking}
+use Rattle.monitor_running.proofs.Sound.{world_sound}
 
 -- ---- the event is the one that its entry tells
 
 plain : (p : PlaceId) (g : Guest) (actor : ActorId) (op : Op) (given : Option Reply) (reply : Reply)
     → (AnswersOut op given reply → given ≡ None) → Answers p g actor op given reply → given ≡ None
 plain (PlaceId.Page i) g actor op given reply out answer = answer.0
-plain (PlaceId.Port k) g actor op given reply out answer = absurd answer
+plain (PlaceId.Port k) g actor op given reply out answer = answer.0
 plain PlaceId.Board g actor op given reply out answer = answer.0
 plain PlaceId.Out g actor op given reply out answer = out answer
 
@@ -134,17 +136,17 @@ module _ (first w : WorldValue) (asked old now : ClockKnown) (es : List Entry) (
   abbrev event : Event
   event = record { actor = actor; reply = given }
 
-  clock_on : (o : Op) (h k : Guest) (e : Entry) → FlatStep h event e k → e.op ≡ o → IsAsked o old given now
+  clock_on : (o : Op) (h k : Guest) (e : Entry) → IsSound h → FlatStep h event e k → e.op ≡ o → IsAsked o old given now
       → ClockWasAsked asked es old → ClockWasAsked asked (es ++ e ∷ []) now
-  clock_on (Op.Out Clock) h k e step is it was =
-      let asking = is_asking h event e k Clock step is in
+  clock_on (Op.Out Clock) h k e sound step is it was =
+      let asking = clock_asking h event e k sound step is in
       let told : given ≡ given_of e.op e.reply =
       given_is (layout_of h) h e.actor e.op given e.reply
       (subst (λ (p : PlaceId). Answers p h e.actor e.op given e.reply) step.place step.answer) in
       let reply : e.reply ≡ Reply.Word it.0 =
       some_same e.reply (Reply.Word it.0) (sym (told ∙ ap (λ (x : Op). given_of x e.reply) is) ∙ it.1) in
       was_answered asked old now es e it.0 asking.actor is reply it.2 was
-  clock_on o h k e step is it was =
+  clock_on o h k e sound step is it was =
       unasked asked old now es e (ap (λ (x : Op). answer_in x e.reply []) is) it.1 was
 
   pub gone_more : (v : WorldValue) (e : Entry) → MakesEvent w event e v → HasGone (es ++ e ∷ []) first v asked now
@@ -159,7 +161,7 @@ module _ (first w : WorldValue) (asked old now : ClockKnown) (es : List Entry) (
           leads_more es g h (guest_after h e) e before.0.1 (step_told h (guest_after h e) event e step),
           made.stays h before.0.2,
         ),
-        clock_on op h (guest_after h e) e step same was_given before.1,
+        clock_on op h (guest_after h e) e (world_sound w h before.0.2) step same was_given before.1,
       )
 
   refused_on : (o : Op) → IsAsked o old given now → ((h : Guest) → IsWorld w h → refusal_of o given ≡ None → ⊥)

@@ -1,5 +1,5 @@
 -- A slice's events, and a drain, are a run over the items that tell them.
-use Rattle.std.proofs.Common.{◌≡◌, ℕ, zero, suc, Bool, true, false, refl, sym, ap, ◌∙◌, subst, List, [], ◌∷◌, ◌++◌, map, take, drop, append-nil, take-append-drop, Option, Some, None}
+use Rattle.std.proofs.Common.{◌≡◌, ℕ, zero, suc, Bool, true, false, refl, sym, ap, ◌∙◌, subst, List, [], ◌∷◌, ◌++◌, map, take, drop, append-nil, take-append-drop, Option, Some, None, ◌⊎◌, inl, inr}
 use Rattle.vm_types.specs.declared.entry.Entry.{Entry}
 use Rattle.vm_types.specs.declared.op.Op.{Op}
 use Rattle.vm_types.specs.declared.reply.Reply.{Reply}
@@ -14,7 +14,13 @@ use Rattle.flat_machine.specs.Machine.{Machine, running, running_by}
 use Rattle.flat_machine.specs.Run.{Act}
 use Rattle.vm_world.specs.Worlds.{IsWorld, WorldValue}
 use Rattle.slice_runner.specs.Slices.{Leads, event_of, given_of}
-use Rattle.monitor_running.proofs.Asked.{is_asking}
+use Rattle.monitor_running.proofs.Asked.{IsAsking, IsDiskAct, is_asking}
+use Rattle.device_trace.specs.Acts.{is_disk_call}
+use Rattle.flat_guest.specs.Sound.{IsSound}
+use Rattle.flat_guest.proofs.Soundness.{sound_next}
+use Rattle.vm_types.specs.declared.op.OutOp.{OutOp}
+use Rattle.vm_types.specs.declared.op.OutOp.TheVariants.{DiskFlush, DiskRead, DiskWrite}
+use Rattle.vm_types.specs.Fits.{out_fits}
 use Rattle.flat_trace.specs.Events.{drain_items, event_acts, event_items, host_reply, item_by, item_of, quiet_act}
 use Rattle.monitor_running.specs.Items.{drained_world}
 use Rattle.flat_trace.specs.Showing.{HasEvent, Out, Run, TraceStep, items_of, said, shown}
@@ -44,7 +50,28 @@ guest_is m g is = own_guest m.guest m.paused g is
 abbrev unstamped : Entry → Entry
 unstamped e = record e { stamp = 0; before = 0 }
 
-module _ (m : Machine) (g mid : Guest) (e : Entry) (runs : running m ≡ Some g) (step : FlatStep g (event_of e) e mid) where
+-- a line gives an actor just what it tells
+disk_again : (act : OutOp) (reply : Reply) → is_disk_call act ≡ true → out_fits act reply ≡ true
+    → reply_given (host_reply reply) ≡ Some reply
+disk_again (DiskRead sector part) (Reply.Bytes piece) call fits = refl
+disk_again (DiskRead sector part) Reply.Failed call fits = refl
+disk_again (DiskRead sector part) reply call fits = cc
+disk_again (DiskWrite sector part bytes) Reply.Done call fits = refl
+disk_again (DiskWrite sector part bytes) Reply.Failed call fits = refl
+disk_again (DiskWrite sector part bytes) reply call fits = cc
+disk_again DiskFlush Reply.Done call fits = refl
+disk_again DiskFlush Reply.Failed call fits = refl
+disk_again DiskFlush reply call fits = cc
+disk_again act reply call fits = cc
+
+given_again : (e : Entry) (act : OutOp) → IsAsking e act ⊎ IsDiskAct e act
+    → reply_given (host_reply e.reply) ≡ Some e.reply
+given_again e act (inl asking) =
+    subst (λ (r : Reply). reply_given (host_reply r) ≡ Some r) (sym asking.reply) refl
+given_again e act (inr disk) = disk_again act e.reply disk.call disk.fits
+
+module _ (m : Machine) (g mid : Guest) (e : Entry) (sound : IsSound g) (runs : running m ≡ Some g)
+    (step : FlatStep g (event_of e) e mid) where
   has_event : (given : Option Reply) → given_of e.op e.reply ≡ given → HasEvent (running m) e.actor given m (with_guest m mid)
   has_event given is =
       let there : FlatStep g (record { actor = e.actor; reply = given }) e mid =
@@ -64,9 +91,8 @@ module _ (m : Machine) (g mid : Guest) (e : Entry) (runs : running m ≡ Some g)
 
   told_by : (op : Op) → e.op ≡ op → TraceStep (item_by op e.actor e.reply) [] m Quiet (with_guest m mid)
   told_by (Op.Out act) is =
-      let asking = is_asking g (event_of e) e mid act step is in
       let reads : reply_given (host_reply e.reply) ≡ Some e.reply =
-      subst (λ (r : Reply). reply_given (host_reply r) ≡ Some r) (sym asking.reply) refl in
+      given_again e act (is_asking g (event_of e) e mid act sound step is) in
       (refl, refl, e.reply, reads, has_event (Some e.reply) (ap (λ (o : Op). given_of o e.reply) is))
   told_by (Op.Read at len) is = told_plain (ap (λ (o : Op). given_of o e.reply) is)
   told_by (Op.Write at piece) is = told_plain (ap (λ (o : Op). given_of o e.reply) is)
@@ -97,17 +123,17 @@ pub acts_items : (es : List Entry) → items_of (event_acts es) ≡ event_items 
 acts_items [] = refl
 acts_items (e ∷ es) = ap (λ (l : List Item). item_of e ∷ l) (acts_items es)
 
-pub events_run : (es : List Entry) (m : Machine) (g h : Guest) → running m ≡ Some g → Leads g es h
+pub events_run : (es : List Entry) (m : Machine) (g h : Guest) → IsSound g → running m ≡ Some g → Leads g es h
     → Run (event_acts es) m (quiets es) (with_guest m h)
-events_run [] m g h runs leads =
+events_run [] m g h sound runs leads =
     (refl, sym (ap (λ (o : Option Guest). record m { guest = o }) (ap (λ (x : Guest). Some x) (sym leads) ∙ sym (guest_is m g runs))))
-events_run (e ∷ es) m g h runs leads = (
+events_run (e ∷ es) m g h sound runs leads = (
   Quiet,
   with_guest m leads.0,
   quiets es,
   refl,
-  told m g leads.0 e runs leads.1,
-  events_run es (with_guest m leads.0) leads.0 h (still_runs m g leads.0 runs) leads.2,
+  told m g leads.0 e sound runs leads.1,
+  events_run es (with_guest m leads.0) leads.0 h (sound_next g (event_of e) e leads.0 sound leads.1) (still_runs m g leads.0 runs) leads.2,
 )
 
 -- the first of the events, and the others

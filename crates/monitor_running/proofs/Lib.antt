@@ -5,4 +5,5 @@ pub mod Led
 pub mod Lifts
 pub mod Making
 pub mod Passing
+pub mod Sound
 pub mod Told

@@ -13,14 +13,20 @@ use Rattle.flat_guest.specs.Steps.{guest_after}
 use Rattle.vm_world.specs.Refusing.{refusal_of}
 use Rattle.vm_world.specs.Worlds.{IsWorld, MakesEvent, WorldValue}
 use Rattle.slice_runner.specs.Runs.{IsAsked}
-use Rattle.monitor_running.specs.Waiting.{HasMade, turns}
-use Rattle.monitor_running.proofs.Asked.{who_asks}
+use Rattle.monitor_running.specs.Waiting.{HasMade, takes_turn, turns}
+use Rattle.monitor_running.proofs.Asked.{turn_asks}
 
 -- an actor stays among as many harts
-still_there : (actor : ActorId) (g h : Guest) → length h.starts ≡ length g.starts → is_actor g actor ≡ true → is_actor h actor ≡ true
+still_there : (actor : ActorId) (g h : Guest) → length h.starts ≡ length g.starts → takes_turn g actor ≡ true
+    → takes_turn h actor ≡ true
 still_there ActorId.Timer g h same is = refl
 still_there (ActorId.Hart k) g h same is = ap (nat_lt k) same ∙ is
 still_there (ActorId.Device k) g h same is = is
+
+turn_there : (g : Guest) (actor : ActorId) → takes_turn g actor ≡ true → is_actor g actor ≡ true
+turn_there g ActorId.Timer is = refl
+turn_there g (ActorId.Hart k) is = is
+turn_there g (ActorId.Device k) is = cc
 
 asked_of : (act : OutOp) (given : Option Reply) (old now : ClockKnown) → act ≡ Clock → IsAsked (Op.Out act) old given now
     → refusal_of (Op.Out act) given ≡ None
@@ -29,22 +35,22 @@ asked_of act given old now is asked =
     ap (λ (a : OutOp). refusal_of (Op.Out a) given) is ∙ ap (refusal_of (Op.Out Clock)) it.1
 
 -- what an actor wants is given what it is to be given
-unrefused : (g : Guest) (actor : ActorId) (op : Op) (given : Option Reply) (old now : ClockKnown) → Wants g actor op
-    → IsAsked op old given now → refusal_of op given ≡ None
-unrefused g actor (Op.Out act) given old now wants asked = asked_of act given old now (who_asks g actor act wants).1 asked
-unrefused g actor (Op.Read at len) given old now wants asked = ap (refusal_of (Op.Read at len)) asked.0
-unrefused g actor (Op.Write at piece) given old now wants asked = ap (refusal_of (Op.Write at piece)) asked.0
-unrefused g actor (Op.Amo at value kind wide) given old now wants asked = ap (refusal_of (Op.Amo at value kind wide)) asked.0
-unrefused g actor (Op.Lr at wide) given old now wants asked = ap (refusal_of (Op.Lr at wide)) asked.0
-unrefused g actor (Op.Sc at value wide) given old now wants asked = ap (refusal_of (Op.Sc at value wide)) asked.0
-unrefused g actor (Op.Port port act) given old now wants asked = ap (refusal_of (Op.Port port act)) asked.0
-unrefused g actor (Op.Board act) given old now wants asked = ap (refusal_of (Op.Board act)) asked.0
-unrefused g actor Op.Idle given old now wants asked = ap (refusal_of Op.Idle) asked.0
+unrefused : (g : Guest) (actor : ActorId) (op : Op) (given : Option Reply) (old now : ClockKnown) → takes_turn g actor ≡ true
+    → Wants g actor op → IsAsked op old given now → refusal_of op given ≡ None
+unrefused g actor (Op.Out act) given old now turn wants asked = asked_of act given old now (turn_asks g actor act turn wants).1 asked
+unrefused g actor (Op.Read at len) given old now turn wants asked = ap (refusal_of (Op.Read at len)) asked.0
+unrefused g actor (Op.Write at piece) given old now turn wants asked = ap (refusal_of (Op.Write at piece)) asked.0
+unrefused g actor (Op.Amo at value kind wide) given old now turn wants asked = ap (refusal_of (Op.Amo at value kind wide)) asked.0
+unrefused g actor (Op.Lr at wide) given old now turn wants asked = ap (refusal_of (Op.Lr at wide)) asked.0
+unrefused g actor (Op.Sc at value wide) given old now turn wants asked = ap (refusal_of (Op.Sc at value wide)) asked.0
+unrefused g actor (Op.Port port act) given old now turn wants asked = ap (refusal_of (Op.Port port act)) asked.0
+unrefused g actor (Op.Board act) given old now turn wants asked = ap (refusal_of (Op.Board act)) asked.0
+unrefused g actor Op.Idle given old now turn wants asked = ap (refusal_of Op.Idle) asked.0
 
 -- ---- one event more
 
 module _ (first w : WorldValue) (actors : List ActorId) (actor : ActorId) (es : List Entry)
-    (there : (g : Guest) → IsWorld first g → is_actor g actor ≡ true) (has : HasMade actors es first w) where
+    (there : (g : Guest) → IsWorld first g → takes_turn g actor ≡ true) (has : HasMade actors es first w) where
   pub made_more : (given : Option Reply) (v : WorldValue) (e : Entry)
       → MakesEvent w (record { actor = actor; reply = given }) e v → HasMade (actors ++ actor ∷ []) (es ++ e ∷ []) first v
   made_more given v e made g is =
@@ -64,7 +70,7 @@ module _ (first w : WorldValue) (actors : List ActorId) (actor : ActorId) (es : 
   never_absent absent to new g is =
       let before = has g is in
       let both : true ≡ false =
-      sym (still_there actor g before.0 before.2 (there g is)) ∙ absent before.0 before.1 in cc
+      sym (turn_there before.0 actor (still_there actor g before.0 before.2 (there g is))) ∙ absent before.0 before.1 in cc
 
   -- and what it wants is not refused
   pub never_refused : (op : Op) (given : Option Reply) (old now : ClockKnown) → ((g : Guest) → IsWorld w g → Wants g actor op)
@@ -74,7 +80,7 @@ module _ (first w : WorldValue) (actors : List ActorId) (actor : ActorId) (es : 
   never_refused op given old now wants asked never to new g is =
       let before = has g is in
       let want = wants before.0 before.1 in
-      absurd (never before.0 before.1 want (unrefused before.0 actor op given old now want asked))
+      absurd (never before.0 before.1 want (unrefused before.0 actor op given old now (still_there actor g before.0 before.2 (there g is)) want asked))
 
 -- nothing was done so far
 pub made_none : (w : WorldValue) → HasMade [] [] w w
@@ -85,7 +91,7 @@ less_by k n true is less = is
 less_by k n false is less = let past = ltb-false k n is in absurd (omega (arith, past, less))
 
 -- a hart is there by its number
-pub hart_there : (w : WorldValue) (k : ℕ) → k < length w.harts → (g : Guest) → IsWorld w g → is_actor g (ActorId.Hart k) ≡ true
+pub hart_there : (w : WorldValue) (k : ℕ) → k < length w.harts → (g : Guest) → IsWorld w g → takes_turn g (ActorId.Hart k) ≡ true
 hart_there w k less g is =
     ap (nat_lt k) (sym is.harts_are.count) ∙ less_by k (length w.harts) (nat_lt k (length w.harts)) refl less
 

@@ -32,7 +32,9 @@ use Rattle.monitor_running.specs.Ran.{HasFault, IsRunning, IsTornOff, RanOn, Wen
 use Rattle.monitor_running.specs.Waiting.{HasGone}
 use Rattle.monitor_running.specs.Reached.{Ahead, GetsAhead, IsCut, Keeps, Known, Reached, Seen, Start, known}
 use Rattle.flat_trace.specs.Showing.{Out}
+use Rattle.flat_guest.specs.Sound.{IsSound}
 use Rattle.monitor_running.proofs.Asked.{answers_same, roomy}
+use Rattle.monitor_running.proofs.Sound.{sound_led, world_sound}
 use Rattle.monitor_running.proofs.Joins.{answered_first, answers_append, goes_by, rests}
 use Rattle.monitor_running.proofs.Led.{acts_items, drain_acts, drain_outs, drain_run, drain_says, drain_shows, drain_told, drained_guest, drained_is, events_run, items_split, leads_split, quiets, quiets_say, quiets_show, still_runs, with_guest}
 
@@ -40,10 +42,10 @@ abbrev seen_by : List Item → List ℕ → ClockKnown → Seen
 seen_by took taken clock = record { took = took; taken = taken; clock = clock }
 
 -- a clock that answered in the events
-pub was_asked : (asked now : ClockKnown) (es : List Entry) (g h : Guest) → ClockWasAsked asked es now → Leads g es h
-    → HasAnswered asked (answers_in (event_items es)) now
-was_asked asked now es g h was leads =
-    subst (λ (l : List ℕ). HasAnswered asked l now) (sym (answers_same es g h leads))
+pub was_asked : (asked now : ClockKnown) (es : List Entry) (g h : Guest) → IsSound g → ClockWasAsked asked es now
+    → Leads g es h → HasAnswered asked (answers_in (event_items es)) now
+was_asked asked now es g h sound was leads =
+    subst (λ (l : List ℕ). HasAnswered asked l now) (sym (answers_same es g h sound leads))
     (record { still = λ tells. (was tells).0; are = λ tells. (was tells).1 })
 
 -- ---- the events, and then the drain
@@ -95,13 +97,13 @@ module _ (s : Start) (m : Machine) (talk : List Out) (took : List Item) (taken :
   after_runs = still_runs m is.0 led.0 is.1
 
   all_asked : HasAnswered asked (answers_in (event_items es)) now
-  all_asked = was_asked asked now es is.0 led.0 (gone is.0 is.2).1 led.1
+  all_asked = was_asked asked now es is.0 led.0 (world_sound w is.0 is.2) (gone is.0 is.2).1 led.1
 
   -- all events are told
   events_told : Reached s (seen_by (took ++ event_items es) taken now) after talk
   events_told =
       goes_by s old (seen_by (took ++ event_items es) taken now) m after talk (event_acts es) (quiets es) r
-      (events_run es m is.0 led.0 is.1 led.1) (ap (λ (l : List Item). took ++ l) (sym (acts_items es)))
+      (events_run es m is.0 led.0 (world_sound w is.0 is.2) is.1 led.1) (ap (λ (l : List Item). took ++ l) (sym (acts_items es)))
       (sym (append-nil taken) ∙ ap (λ (l : List ℕ). taken ++ l) (sym (quiets_show es))) (quiets_say es)
       (subst (λ (l : List Item). HasAnswered asked (answers_in l) now) (sym (acts_items es)) all_asked)
 
@@ -145,13 +147,13 @@ module _ (s : Start) (m : Machine) (talk : List Out) (took : List Item) (taken :
         clock = clocks.0;
         reached =
             goes_by s old front m (with_guest m parts.0) talk (event_acts (take n es)) (quiets (take n es)) r
-            (events_run (take n es) m is.0 parts.0 is.1 parts.1) (ap (λ (l : List Item). took ++ l) (sym (acts_items (take n es))))
+            (events_run (take n es) m is.0 parts.0 (world_sound w is.0 is.2) is.1 parts.1) (ap (λ (l : List Item). took ++ l) (sym (acts_items (take n es))))
             (sym (append-nil taken) ∙ ap (λ (l : List ℕ). taken ++ l) (sym (quiets_show (take n es)))) (quiets_say (take n es))
             (subst (λ (l : List Item). HasAnswered asked (answers_in l) clocks.0) (sym (acts_items (take n es))) clocks.1);
         more = event_acts (drop n es);
         outs = quiets (drop n es);
         flat = after;
-        ahead = events_run (drop n es) (with_guest m parts.0) parts.0 led.0 (still_runs m is.0 parts.0 is.1) parts.2;
+        ahead = events_run (drop n es) (with_guest m parts.0) parts.0 led.0 (sound_led (take n es) is.0 parts.0 (world_sound w is.0 is.2) parts.1) (still_runs m is.0 parts.0 is.1) parts.2;
         unshown = quiets_show (drop n es);
         unsaid = quiets_say (drop n es);
         asked = subst (λ (l : List Item). HasAnswered clocks.0 (answers_in l) now) (sym (acts_items (drop n es))) clocks.2;
@@ -204,7 +206,7 @@ pub slice_short : (took took' : List Item) (taken taken' : List ℕ) (asked now 
     → Keeps IsRunning (seen_by took taken asked) w (seen_by took' taken' now) u
 slice_short took took' taken taken' asked now w v u es gone short s m talk is r =
     let h = (gone is.0 is.2).0 in
-    absurd (short (All-from_recursion (λ (e : Entry). needs_room e ≡ false) es (roomy es is.0 h.0 h.1)))
+    absurd (short (All-from_recursion (λ (e : Entry). needs_room e ≡ false) es (roomy es is.0 h.0 (world_sound w is.0 is.2) h.1)))
 
 pub slice_stops : (why : Untold) (took took' : List Item) (taken taken' : List ℕ) (asked now : ClockKnown) (w v u : WorldValue)
     (es : List Entry) → HasGone es w v asked now → TellStops why es v took taken u took' taken'

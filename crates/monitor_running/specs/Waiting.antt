@@ -1,5 +1,5 @@
 -- Where every hart waits, and the events that are made there.
-use Rattle.std.specs.Prelude.{ℕ, zero, suc, ◌≡◌, ◌<◌, List, [], ◌∷◌, ◌++◌, Some, length, map}
+use Rattle.std.specs.Prelude.{ℕ, zero, suc, ◌≡◌, ◌<◌, nat_lt, Bool, true, false, List, [], ◌∷◌, ◌++◌, Some, length, map}
 use Rattle.vm_types.specs.declared.entry.Entry.{Entry}
 use Rattle.vm_types.specs.declared.ids.ActorId.{ActorId}
 use Rattle.vm_types.specs.declared.op.Op.{Op}
@@ -17,6 +17,12 @@ HasGone events old new asked now =
 -- each hart wants to wait
 abbrev pub AllIdle : WorldValue → Type 0
 AllIdle w = (k : ℕ) → k < length w.harts → want_in w (ActorId.Hart k) ≡ Some Op.Idle
+
+-- an actor that takes turns: the timer, and each hart
+abbrev pub takes_turn : Guest → ActorId → Bool
+takes_turn g ActorId.Timer = true
+takes_turn g (ActorId.Hart k) = nat_lt k (length g.starts)
+takes_turn g actor = false
 
 -- who made these events, one after another
 abbrev pub makers : List Entry → List ActorId

@@ -17,9 +17,9 @@ ghost use Rattle.std.specs.Prelude.{
   vec_len,
 };
 ghost use Rattle.vm_host.specs.Telling.{ClockKnown};
-ghost use Rattle.flat_guest.specs.Guest.{Guest, is_actor};
+ghost use Rattle.flat_guest.specs.Guest.{Guest};
 ghost use Rattle.vm_world.specs.Worlds.{IsWorld, WorldValue};
-ghost use Rattle.monitor_running.specs.Waiting.{AllIdle, HasGone, HasMade, makers, turns};
+ghost use Rattle.monitor_running.specs.Waiting.{AllIdle, HasGone, HasMade, makers, takes_turn, turns};
 
 use slice_runner::ask_clock;
 use std::alloc::{AllocError, Global};
@@ -47,7 +47,7 @@ fn step_once<C: Clock>(world: &mut World, actor: ActorId, clock: &mut C, events:
         HasGone events.old.items first world.old asked (C.known clock.old) →
         HasGone events.new.items first world.new asked (C.known clock.new) }
     ensures made { (first : WorldValue) (actors : List ActorId) →
-        ((g : Guest) → IsWorld first g → is_actor g actor ≡ true) →
+        ((g : Guest) → IsWorld first g → takes_turn g actor ≡ true) →
         HasMade actors events.old.items first world.old →
         HasMade (actors ++ actor ∷ []) events.new.items first world.new }
     ensures room { vec_capacity events.new ≡ vec_capacity events.old }
@@ -70,7 +70,7 @@ fn step_twice<C: Clock>(world: &mut World, actor: ActorId, clock: &mut C, events
         HasGone events.old.items first world.old asked (C.known clock.old) →
         HasGone events.new.items first world.new asked (C.known clock.new) }
     ensures made { (first : WorldValue) (actors : List ActorId) →
-        ((g : Guest) → IsWorld first g → is_actor g actor ≡ true) →
+        ((g : Guest) → IsWorld first g → takes_turn g actor ≡ true) →
         HasMade actors events.old.items first world.old →
         HasMade (actors ++ actor ∷ actor ∷ []) events.new.items first world.new }
     ensures room { vec_capacity events.new ≡ vec_capacity events.old }
