@@ -188,6 +188,8 @@ drained_is w g is = record {
   memory_is = is.memory_is;
   marks_are = is.marks_are;
   board_is = ap (λ (b : Board). record b { console = [] }) is.board_is;
+  ports_are = is.ports_are;
   timer_is = is.timer_is;
   harts_are = record { count = is.harts_are.count; each = is.harts_are.each };
+  devices_are = record { count = is.devices_are.count; each = is.devices_are.each; sound = is.devices_are.sound };
 }

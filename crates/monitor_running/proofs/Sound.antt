@@ -1,5 +1,5 @@
 -- The guest that a world is, is sound.
-use Rattle.std.proofs.Common.{◌≡◌, sym, subst, Some, slice_get, List, [], ◌∷◌}
+use Rattle.std.proofs.Common.{sym, subst, List, [], ◌∷◌}
 use Rattle.vm_types.specs.declared.ids.ActorId.{ActorId}
 use Rattle.vm_types.specs.declared.entry.Entry.{Entry}
 use Rattle.hart_trace.proofs.Traces as hart_traces

@@ -1,7 +1,7 @@
 use Rattle.std.proofs.Common.{sym, subst, List, ◌∷◌, ◌++◌, []}
 use Rattle.vm_types.specs.declared.entry.Entry.{Entry}
 use Rattle.monitor_running.specs.Waiting.{HasGone, HasMade}
-use Rattle.monitor_running.proofs.Going.{gone_more}
+use Rattle.monitor_running.proofs.Going.{gone_more, gone_still}
 use Rattle.monitor_running.proofs.Making.{made_more, never_refused}
 use Rattle.monitor_running.proofs.waiting.step_once.Goals as goal
 
@@ -25,3 +25,10 @@ returns-in-Err-clause-made g c = λ first actors there made.
     c.ask_clock-given.result (g.C.Clock.known c.args.clock.now) (g.C.Clock.known c.ask_clock-given.new.clock)
     c.in-Some.ensures.wants c.ask_clock-given.ensures
     (λ h is wants none. let no = c.in-Err.ensures.promised h c.in-Some.op is wants none in cc) _ _
+
+pub returns-in-Err-clause-gone : goal.returns-in-Err-clause-gone
+returns-in-Err-clause-gone g c = λ first asked gone.
+    gone_still first c.args.world.now asked (g.C.Clock.known c.args.clock.now) (g.C.Clock.known c.ask_clock-given.new.clock)
+    c.args.events.now.items c.args.actor c.in-Some.op c.ask_clock-given.result c.in-Some.ensures.wants c.ask_clock-given.ensures
+    gone c.step.new.self c.in-Err.ensures.err
+    (λ h is none. let no = c.in-Err.ensures.promised h c.in-Some.op is (c.in-Some.ensures.wants h is) none in cc)
