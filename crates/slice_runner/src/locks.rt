@@ -43,10 +43,7 @@ impl<K: Openings<Page>, M: Openings<Port>, L: Openings<Board>> Model for Locks<K
 }
 
 // The board back from under its lock, and its history behind those that came before. It takes no memory.
-fn unlock_board<L: Openings<Board>>(
-    lock: Locked<Board, L>,
-    histories: &mut Vec<History>,
-) -> Board
+fn unlock_board<L: Openings<Board>>(lock: Locked<Board, L>, histories: &mut Vec<History>) -> Board
     requires lock { lock ≡ PlaceId.Board }
     requires room { vec_len histories.old + 1 ≤ vec_capacity histories.old }
     ensures { IsBoardBack L.opening result histories.old.items histories.new.items }
@@ -118,7 +115,9 @@ impl<K: Openings<Page>, M: Openings<Port>, L: Openings<Board>> Locks<K, M, L> {
     {
         match place {
             PlaceId::Page(number) => self.pages[number as usize].act_as(rt, gate, actor, clock, op),
-            PlaceId::Port(number) => self.ports[usize::from(number)].act_as(rt, gate, actor, clock, op),
+            PlaceId::Port(number) => self.ports[usize::from(number)].act_as(
+                rt, gate, actor, clock, op,
+            ),
             PlaceId::Board => self.board.act_as(rt, gate, actor, clock, op),
             PlaceId::Out => unreachable!(),
         }

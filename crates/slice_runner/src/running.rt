@@ -26,13 +26,7 @@ fn run_harts<
     L: Openings<Board> + Send + Sync,
     G: Gate<Pass = Q> + Sync,
     R: Threads + Wait + Sync,
->(
-    rt: &R,
-    gate: &G,
-    locks: &Locks<K, M, L>,
-    n: u32,
-    harts: &mut [HartWorker<Q>],
-)
+>(rt: &R, gate: &G, locks: &Locks<K, M, L>, n: u32, harts: &mut [HartWorker<Q>])
     requires ready { All (λ worker. IsReady (G.serves gate.now) n worker.track) harts.old }
     ensures { (i : ℕ) (d : _) → i < length harts.old →
         HartEnds (G.serves gate.now) G.tally locks.now n (slice_index_or harts.old i d) (slice_index_or harts.new i d) }
@@ -49,13 +43,14 @@ fn run_harts<
     );
 }
 
-fn run_hart<Q, K: Openings<Page>, M: Openings<Port>, L: Openings<Board>, G: Gate<Pass = Q>, R: Wait>(
-    rt: &R,
-    gate: &G,
-    locks: &Locks<K, M, L>,
-    n: u32,
-    worker: &mut HartWorker<Q>,
-)
+fn run_hart<
+    Q,
+    K: Openings<Page>,
+    M: Openings<Port>,
+    L: Openings<Board>,
+    G: Gate<Pass = Q>,
+    R: Wait,
+>(rt: &R, gate: &G, locks: &Locks<K, M, L>, n: u32, worker: &mut HartWorker<Q>)
     requires ready { IsReady (G.serves gate.now) n worker.old.track }
     ensures { HartEnds (G.serves gate.now) G.tally locks.now n worker.old worker.new }
 {
@@ -69,27 +64,22 @@ fn run_vec<
     L: Openings<Board> + Send + Sync,
     G: Gate<Pass = Q> + Sync,
     R: Threads + Wait + Sync,
->(
-    rt: &R,
-    gate: &G,
-    locks: &Locks<K, M, L>,
-    n: u32,
-    harts: &mut Vec<HartWorker<Q>>,
-)
+>(rt: &R, gate: &G, locks: &Locks<K, M, L>, n: u32, harts: &mut Vec<HartWorker<Q>>)
     requires ready { All (λ worker. IsReady (G.serves gate.now) n worker.track) harts.old.items }
     ensures { HartsWorked (G.serves gate.now) G.tally locks.now n harts.old.items harts.new.items }
 {
     run_harts(rt, gate, locks, n, harts.as_mut_slice());
 }
 
-fn run_timer<Q, K: Openings<Page>, M: Openings<Port>, L: Openings<Board>, C: Clock, G: Gate<Pass = Q>, R: Wait>(
-    rt: &R,
-    gate: &G,
-    locks: &Locks<K, M, L>,
-    n: u32,
-    clock: &mut C,
-    timer: &mut TimerWorker<Q>,
-)
+fn run_timer<
+    Q,
+    K: Openings<Page>,
+    M: Openings<Port>,
+    L: Openings<Board>,
+    C: Clock,
+    G: Gate<Pass = Q>,
+    R: Wait,
+>(rt: &R, gate: &G, locks: &Locks<K, M, L>, n: u32, clock: &mut C, timer: &mut TimerWorker<Q>)
     requires ready { IsReady (G.serves gate.now) n timer.old.track }
     ensures { TimerEnds (G.serves gate.now) G.tally locks.now (timer_most n)
         (C.known clock.old) (C.known clock.new) timer.old timer.new }

@@ -161,15 +161,7 @@ pub fn share<
         &mut left,
         n,
     );
-    run_all(
-        rt,
-        gate,
-        &locks,
-        n,
-        clock,
-        &mut timer,
-        &mut workers,
-    );
+    run_all(rt, gate, &locks, n, clock, &mut timer, &mut workers);
     let timer = dismiss(
         timer,
         workers,

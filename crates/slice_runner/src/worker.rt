@@ -121,13 +121,13 @@ impl<Q> HartWorker<Q> {
     }
 
     /// So many steps at most, the gate asked before each.
-    pub fn run<K: Openings<Page>, M: Openings<Port>, L: Openings<Board>, R: Wait, G: Gate<Pass = Q>>(
-        &mut self,
-        rt: &R,
-        gate: &G,
-        locks: &Locks<K, M, L>,
-        n: u32,
-    )
+    pub fn run<
+        K: Openings<Page>,
+        M: Openings<Port>,
+        L: Openings<Board>,
+        R: Wait,
+        G: Gate<Pass = Q>,
+    >(&mut self, rt: &R, gate: &G, locks: &Locks<K, M, L>, n: u32)
         requires pass { G.serves gate.now self.old.track.pass }
         requires begins { Begins n self.old.track }
         ensures pass { G.serves gate.now self.new.track.pass }
@@ -155,13 +155,14 @@ pub fn ask_clock<C: Clock>(clock: &mut C, op: &Op) -> Option<Reply>
 
 impl<Q> TimerWorker<Q> {
     // The next step, or why none is made.
-    fn step<K: Openings<Page>, M: Openings<Port>, L: Openings<Board>, R: Wait, C: Clock, G: Gate<Pass = Q>>(
-        &mut self,
-        rt: &R,
-        gate: &G,
-        locks: &Locks<K, M, L>,
-        clock: &mut C,
-    ) -> Result<(), Stop>
+    fn step<
+        K: Openings<Page>,
+        M: Openings<Port>,
+        L: Openings<Board>,
+        R: Wait,
+        C: Clock,
+        G: Gate<Pass = Q>,
+    >(&mut self, rt: &R, gate: &G, locks: &Locks<K, M, L>, clock: &mut C) -> Result<(), Stop>
         requires pass { G.serves gate.now self.old.track.pass }
         requires room { vec_len self.old.track.journal < vec_capacity self.old.track.journal }
         ensures pass { G.serves gate.now self.new.track.pass }
@@ -194,14 +195,14 @@ impl<Q> TimerWorker<Q> {
     }
 
     /// So many steps at most, the gate asked before each.
-    pub fn run<K: Openings<Page>, M: Openings<Port>, L: Openings<Board>, R: Wait, C: Clock, G: Gate<Pass = Q>>(
-        &mut self,
-        rt: &R,
-        gate: &G,
-        locks: &Locks<K, M, L>,
-        n: u32,
-        clock: &mut C,
-    )
+    pub fn run<
+        K: Openings<Page>,
+        M: Openings<Port>,
+        L: Openings<Board>,
+        R: Wait,
+        C: Clock,
+        G: Gate<Pass = Q>,
+    >(&mut self, rt: &R, gate: &G, locks: &Locks<K, M, L>, n: u32, clock: &mut C)
         requires pass { G.serves gate.now self.old.track.pass }
         requires begins { Begins n self.old.track }
         ensures pass { G.serves gate.now self.new.track.pass }

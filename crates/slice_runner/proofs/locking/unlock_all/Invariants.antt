@@ -1,6 +1,5 @@
-use Rattle.std.proofs.Common.{◌≡◌, ◌≤◌, ◌+◌, ◌++◌, List, length, vec_len, vec_capacity}
+use Rattle.std.proofs.Common.{◌≡◌, ◌≤◌, ◌+◌, length, vec_len, vec_capacity}
 use Rattle.std.specs.Vec.Iter.{into_iter_items, into_iter_len}
-use Rattle.stamp_merge.specs.declared.history.History.{History}
 use Rattle.slice_runner.specs.Locks.{CameHome}
 use Rattle.slice_runner.proofs.Home.{LocksFrom}
 use Rattle.slice_runner.proofs.locking.unlock_all.Given as goal

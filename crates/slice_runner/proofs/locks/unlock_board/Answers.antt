@@ -1,5 +1,4 @@
 use Rattle.std.proofs.Common.{◌∙◌}
-use Rattle.slice_runner.proofs.Returned.{laid}
 use Rattle.slice_runner.proofs.locks.unlock_board.Goals as goal
 
 pub returns : goal.returns

@@ -1,4 +1,4 @@
-use Rattle.std.proofs.Common.{◌≡◌, ℕ, ◌+◌, ◌*◌, ◌≤◌, ◌++◌, ◌∷◌, [], List, length, sym, ap, ◌∙◌, subst, arith, All, le_trans}
+use Rattle.std.proofs.Common.{◌≡◌, ℕ, ◌+◌, ◌*◌, ◌≤◌, List, length, sym, ap, ◌∙◌, subst, arith, All, le_trans}
 use Rattle.std.proofs.lemmas.List.{get_or_default}
 use Rattle.vm_types.specs.declared.ids.PlaceId.{PlaceId}
 use Rattle.guest_pages.specs.Pages.{new_page}
@@ -12,7 +12,7 @@ use Rattle.vm_world.specs.Worlds.{world_with}
 use Rattle.stamp_merge.specs.declared.layout.Layout.{Layout}
 use Rattle.slice_runner.specs.Locks.{AllHome}
 use Rattle.slice_runner.specs.Runs.{HartsWorked, TimerEnds}
-use Rattle.slice_runner.specs.Slices.{IsSlice, IsTornSlice}
+use Rattle.slice_runner.specs.Slices.{IsSlice}
 use Rattle.slice_runner.specs.Staff.{AreStaffed}
 use Rattle.slice_runner.specs.Stops.{timer_most}
 use Rattle.slice_runner.specs.Unshared.{world_of}
