@@ -1,5 +1,5 @@
-// A machine of two harts, served over objects in memory in slices of 64 steps, and its trace replayed. What a trace has is
-// proved; that a guest comes to its end so, and that a replay of its trace answers the same, is shown here.
+// A machine of two harts, served over objects in memory in slices of 64 steps, and its trace replayed. What a trace has
+// is proved; that a guest comes to its end so, and that a replay of its trace answers the same, is shown here.
 use crate::outside::ServeOutside;
 use crate::serve_words::ServeWords;
 use crate::serving::serve_main;
@@ -82,8 +82,8 @@ impl Door {
     }
 }
 
-// Hart 0 starts the other; then each adds 1 to the word at 0x80210018 1,000 times, by amoadd. Hart 0 waits until it is 2,000,
-// and then for the timer, at 299,008 ns; then it writes a D and turns the machine off. Hart 1 waits for ever.
+// Hart 0 starts the other; then each adds 1 to the word at 0x80210018 1,000 times, by amoadd. Hart 0 goes on once it is
+// 2,000, and waits for the timer, at 299,008 ns; then it writes a D and turns the machine off. Hart 1 waits for ever.
 const IMAGE: [u8; 132] = [
     0xb7, 0x58, 0x48, 0x00, 0x93, 0x88, 0xd8, 0x34, 0x13, 0x05, 0x10, 0x00, 0x97, 0x05, 0x00, 0x00,
     0x93, 0x85, 0xc5, 0x00, 0x73, 0x00, 0x00, 0x00, 0x97, 0x02, 0x01, 0x00, 0x93, 0x03, 0x80, 0x3e,
@@ -109,7 +109,8 @@ const REPLIES: &[u8] = b"HTTP/1.1 204 No Content\r\nConnection: keep-alive\r\n\r
     {\"app_name\":\"Firecracker\",\"id\":\"anonymous-instance\",\"state\":\"Running\",\"vmm_version\":\"1.0-rv64\"}";
 
 const REPLAYED: &[u8] = b"< 204\n< 204\n< 204\n\
-    < 200 {\"app_name\":\"Firecracker\",\"id\":\"anonymous-instance\",\"state\":\"Running\",\"vmm_version\":\"1.0-rv64\"}\n\
+    < 200 {\"app_name\":\"Firecracker\",\"id\":\"anonymous-instance\",\"state\":\"Running\",\
+    \"vmm_version\":\"1.0-rv64\"}\n\
     ! D\n. off\n";
 
 // The requests, of which 7 bytes come first, then 40, and then all others.
