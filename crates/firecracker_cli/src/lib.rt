@@ -8,6 +8,8 @@
 mod outside;
 mod serve_words;
 mod serving;
+#[cfg(test)]
+mod tests;
 mod top;
 
 pub use outside::ServeOutside;

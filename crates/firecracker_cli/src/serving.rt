@@ -36,9 +36,6 @@ use vm_host::Clock;
 use vm_outside::{Failed, Files, Sink, write_all};
 use vm_types::{Exit, Object, TextList};
 
-/// A slice has so many steps of each actor at most.
-const STEPS: u32 = 4_096;
-
 // Opens the trace, if one is kept, and listens.
 fn open<N: Conn, M: Listener<N>, T: Trace>(
     words: ServeWords<'_>,
@@ -148,6 +145,7 @@ fn serve_on<
     rt: &R,
     alloc: Global,
     words: ServeWords<'_>,
+    steps: u32,
     mut monitor: Monitor,
     files: &mut F,
     sink: &mut K,
@@ -182,7 +180,7 @@ fn serve_on<
     let served = serve(
         rt,
         alloc,
-        STEPS,
+        steps,
         &mut monitor,
         files,
         &mut with.host,
@@ -207,6 +205,7 @@ fn run_serve<
     rt: &R,
     alloc: Global,
     words: ServeWords<'_>,
+    steps: u32,
     files: &mut F,
     sink: &mut K,
     with: &mut ServeOutside<C, W, M, T>,
@@ -234,12 +233,13 @@ fn run_serve<
         return Exit::OutOfMemory;
     };
     match Monitor::new(alloc, id) {
-        Ok(monitor) => serve_on(rt, alloc, words, monitor, files, sink, with),
+        Ok(monitor) => serve_on(rt, alloc, words, steps, monitor, files, sink, with),
         Err(_) => Exit::OutOfMemory,
     }
 }
 
-/// Serves a machine over connections to a socket, one after another, until none comes any more or its guest is off.
+/// Serves a machine over connections to a socket, one after another, until none comes any more or its guest is off. It
+/// runs in slices of `steps` steps at most of each actor.
 ///
 /// `Fault`: a call on the trace, the sink, the words or the listener failed. `Torn`: the journals and the histories of
 /// a slice part. `OutOfMemory`: there was no memory. Files that fail are answered 500, and a connection that fails ends
@@ -257,6 +257,7 @@ pub fn serve_main<
     rt: &R,
     alloc: Global,
     words: ServeWords<'_>,
+    steps: u32,
     files: &mut F,
     sink: &mut K,
     with: &mut ServeOutside<C, W, M, T>,
@@ -267,7 +268,7 @@ pub fn serve_main<
         (serve_known (hosts (known (T.known with.new.trace) (K.known sink.new) (C.known with.new.host.clock))
         (F.known files.new)) (W.known with.new.words) (M.known with.new.listener)) }
 {
-    let exit = run_serve(rt, alloc, words, files, sink, with);
+    let exit = run_serve(rt, alloc, words, steps, files, sink, with);
     let last = exit;
     let _ = write_last(sink, last);
     exit

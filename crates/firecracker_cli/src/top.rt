@@ -19,6 +19,9 @@ use vm_host::Clock;
 use vm_outside::{Files, Sink, Source};
 use vm_types::Exit;
 
+/// A slice has so many steps of each actor at most.
+const STEPS: u32 = 4_096;
+
 /// The command of these words, which are those behind the program's name: `replay [--id ID]`, or
 /// `serve --api-sock PATH [--id ID] [--trace FILE]`. Where the words can't be had, or are no command, the last line
 /// that says so is all that is written.
@@ -63,7 +66,7 @@ pub fn firecracker_main<
         Err(why) => return refuse(why.exit(), out),
     };
     match serve_words(&words) {
-        Some(it) => serve_main(rt, alloc, it, &mut out.files, &mut out.sink, with),
+        Some(it) => serve_main(rt, alloc, it, STEPS, &mut out.files, &mut out.sink, with),
         None => replay_main(alloc, &words, out),
     }
 }
