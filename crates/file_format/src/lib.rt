@@ -15,6 +15,7 @@ mod items;
 mod lists;
 mod start;
 mod stored;
+mod whole;
 
 pub use error::{DecodeError, ReadError};
 pub use fixed::{read_fixed, read_zeros, write_fixed, write_zeros};
@@ -24,3 +25,4 @@ pub use items::Items;
 pub use lists::{read_into, read_items, write_items};
 pub use start::{is_closed, is_other};
 pub use stored::Stored;
+pub use whole::{Counted, decode};

@@ -99,7 +99,7 @@ fn write_bytes(bytes: &[u8], out: &mut Vec<u8>) -> Result<(), AllocError>
 }
 
 #[tactic(auto, unfolding(crate::specs::Kinds::byte_list, crate::specs::Kinds::number32, crate::specs::Kinds::raw))]
-fn bytes_at<'a>(alloc: Global, input: &mut Input<'a>) -> Result<&'a [u8], ReadError>
+pub fn bytes_at<'a>(alloc: Global, input: &mut Input<'a>) -> Result<&'a [u8], ReadError>
     ensures ok { IfOk result (λ bytes. byte_list.reads input.old ≡ Some (bytes.now, input.new)) }
     ensures bad { result ≡ Err ReadError.Bad → byte_list.reads input.old ≡ None }
 {
