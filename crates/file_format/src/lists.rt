@@ -14,9 +14,9 @@ use crate::stored::Stored;
 use std::alloc::{AllocError, Global};
 use vm_types::{ByteList, TextList};
 
-// The count of a list. A longer one than a count can say is given up as if there were no memory.
+/// Puts the count of a list at the end. A longer list than a count can say is given up as if there were no memory.
 #[tactic(auto, unfolding(crate::specs::Kinds::number32))]
-fn write_count(len: usize, out: &mut Vec<u8>) -> Result<(), AllocError>
+pub fn write_count(len: usize, out: &mut Vec<u8>) -> Result<(), AllocError>
     ensures fits { OnOk result (len < 0x1_0000_0000) }
     ensures bytes { OnOk result (out.new.items ≡ out.old.items ++ to_le_bytes w32 len) }
 {

@@ -2,7 +2,8 @@
 use Rattle.std.specs.Prelude.{◌≡◌, ℕ, zero, suc, refl}
 use Rattle.std.proofs.Common.{sym, ap}
 use Rattle.file_format.specs.Format.{Format}
-use Rattle.file_format.specs.Kinds.{byte, number32, number64, flag, times, just, nothing, chosen_by, passing, ◌&◌, made_of}
+use Rattle.file_format.specs.Kinds.{byte, number32, number64, flag, times, just, nothing, chosen_by, passing}
+use Rattle.file_format.specs.Kinds.{◌&◌, made_of}
 use Rattle.port_table.specs.declared.kind.DeviceKind.{DeviceKind}
 use Rattle.port_table.specs.declared.kind.DeviceKind.TheVariants.{Net, Block, Balloon, Vsock}
 use Rattle.port_table.specs.declared.state.PortQueue.{PortQueue}

@@ -23,7 +23,8 @@ queue =
 -- where a part is, how many bytes it has, and whether the device writes it
 unfoldable pub part : Format Part
 part =
-    made_of (λ p. (p.at, (p.len, p.writable))) (λ (at, (len, writable)). record { at = at; len = len; writable = writable })
+    made_of (λ p. (p.at, (p.len, p.writable)))
+    (λ (at, (len, writable)). record { at = at; len = len; writable = writable })
     (λ _. refl) (λ _. refl)
     (number64 & number32 & flag)
 

@@ -10,17 +10,17 @@ abbrev pub service_code : ServiceStage → ℕ
 service_code (Read sector unit more) = 0
 service_code (Put sector unit more) = 1
 service_code PutId = 2
-service_code (Gather sector unit more) = 3
-service_code (Disk sector unit more) = 4
+service_code (Gather sector part more) = 3
+service_code (Disk sector part more) = 4
 service_code Flush = 5
 service_code (Status status used) = 6
 
--- the sector and the unit that it is at, and how many units follow
+-- a sector, the unit behind it or the part of it that the request is at, and how many units follow
 abbrev pub units_of : ServiceStage → ℕ × (ℕ × ℕ)
 units_of (Read sector unit more) = (sector, (unit, more))
 units_of (Put sector unit more) = (sector, (unit, more))
-units_of (Gather sector unit more) = (sector, (unit, more))
-units_of (Disk sector unit more) = (sector, (unit, more))
+units_of (Gather sector part more) = (sector, (part, more))
+units_of (Disk sector part more) = (sector, (part, more))
 units_of _ = (0, (0, 0))
 
 -- the status that is written, and the used length

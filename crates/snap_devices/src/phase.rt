@@ -107,13 +107,23 @@ impl Stored for Saved<ServiceStage> {
                 Units { sector, unit, more }.write(out)?;
             }
             ServiceStage::PutId => 2u8.write(out)?,
-            ServiceStage::Gather { sector, unit, more } => {
+            ServiceStage::Gather { sector, part, more } => {
                 3u8.write(out)?;
-                Units { sector, unit, more }.write(out)?;
+                Units {
+                    sector,
+                    unit: part,
+                    more,
+                }
+                .write(out)?;
             }
-            ServiceStage::Disk { sector, unit, more } => {
+            ServiceStage::Disk { sector, part, more } => {
                 4u8.write(out)?;
-                Units { sector, unit, more }.write(out)?;
+                Units {
+                    sector,
+                    unit: part,
+                    more,
+                }
+                .write(out)?;
             }
             ServiceStage::Flush => 5u8.write(out)?,
             ServiceStage::Status { status, used } => {
@@ -138,11 +148,19 @@ impl Stored for Saved<ServiceStage> {
             2 => ServiceStage::PutId,
             3 => {
                 let Units { sector, unit, more } = Units::read(alloc, input)?;
-                ServiceStage::Gather { sector, unit, more }
+                ServiceStage::Gather {
+                    sector,
+                    part: unit,
+                    more,
+                }
             }
             4 => {
                 let Units { sector, unit, more } = Units::read(alloc, input)?;
-                ServiceStage::Disk { sector, unit, more }
+                ServiceStage::Disk {
+                    sector,
+                    part: unit,
+                    more,
+                }
             }
             5 => ServiceStage::Flush,
             6 => {

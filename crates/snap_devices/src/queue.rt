@@ -8,7 +8,7 @@ ghost use Rattle.snap_devices.specs.Queues.{are_few, collect, held, part, parts,
 
 use crate::saved::Saved;
 use dev_core::{Collect, Gather, Held};
-use file_format::{Input, Items, ReadError, Stored};
+use file_format::{Input, Items, ReadError, Stored, write_count};
 use std::alloc::{AllocError, Global};
 use vm_types::ByteList;
 use vq_split::{ChainWalk, Part, PartList, Queue, Stage};
@@ -72,13 +72,13 @@ fn write_items(list: &[Part], out: &mut Vec<u8>) -> Result<(), AllocError>
 }
 
 /// Puts parts, of which there are 256 at most, at the end.
-#[tactic(auto, unfolding(crate::specs::Queues::parts, file_format::specs::Kinds::list_of, file_format::specs::Kinds::number32))]
+#[tactic(auto, unfolding(crate::specs::Queues::parts, file_format::specs::Kinds::list_of))]
 pub fn write_parts(list: &[Part], out: &mut Vec<u8>) -> Result<(), AllocError>
     requires { length list.now ≤ 256 }
     ensures fits { OnOk result (parts.Fits list.now) }
     ensures bytes { OnOk result (out.new.items ≡ parts.puts list.now out.old.items) }
 {
-    (list.len() as u32).write(out)?;
+    write_count(list.len(), out)?;
     write_items(list, out)?;
     Ok(())
 }
@@ -109,13 +109,13 @@ pub fn read_parts(alloc: Global, input: &mut Input) -> Result<PartList, ReadErro
     }
 }
 
-#[tactic(auto, unfolding(crate::specs::Queues::held, file_format::specs::Kinds::byte_list, file_format::specs::Kinds::number32))]
+#[tactic(auto, unfolding(crate::specs::Queues::held, file_format::specs::Kinds::byte_list))]
 fn write_held(bytes: &[u8], out: &mut Vec<u8>) -> Result<(), AllocError>
     requires { length bytes.now ≤ 128 }
     ensures fits { OnOk result (held.Fits bytes.now) }
     ensures bytes { OnOk result (out.new.items ≡ held.puts bytes.now out.old.items) }
 {
-    (bytes.len() as u32).write(out)?;
+    write_count(bytes.len(), out)?;
     out.extend_from_slice(bytes)?;
     Ok(())
 }
