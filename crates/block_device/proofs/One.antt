@@ -1,26 +1,28 @@
 -- Kept data that hold nothing of a request are one where what is left to do is one.
-use Rattle.std.proofs.Common.{◌≡◌, ℕ, ◌+◌, ◌^◌, ◌<◌, ◌≤◌, ◌∙◌, refl, sym, ap, subst, ◌-◌, true, List, [], length, arith, Option, Some, None, ◌⊎◌, inl, inr}
-use Rattle.device_trace.specs.Script.{perform}
+use Rattle.std.proofs.Common.{◌≡◌, ℕ, suc, zero, ◌+◌, ◌^◌, ◌<◌, ◌≤◌, ◌∙◌, refl, sym, ap, subst, ◌-◌, true, List, [], length, arith, Option, Some, None, ◌⊎◌, inl, inr}
+use Rattle.device_trace.specs.Script.{Ends, perform}
 use Rattle.vq_split.specs.declared.queue.Queue.{Queue}
 use Rattle.vq_split.specs.declared.queue.Part.{Part}
 use Rattle.vq_split.specs.declared.walk.Stage.{Stage}
 use Rattle.vq_split.specs.declared.walk.Stage.TheVariants as walking
+use Rattle.vq_split.specs.Chain.{descriptors}
 use Rattle.vq_split.specs.Walking.{IsStage, Walking, left_at as walk_at}
 use Rattle.dev_core.specs.declared.collect.Collect.{Collect}
-use Rattle.dev_core.specs.declared.breaking.BreakStage.TheVariants as breaking
-use Rattle.dev_core.specs.Returning.{return_left}
+use Rattle.dev_core.specs.Returning.{break_left, return_left}
+use Rattle.dev_core.specs.Collecting.{collect_left}
 use Rattle.block_device.specs.declared.data.BlockData.{BlockData}
 use Rattle.block_device.specs.declared.phase.Phase.{Phase}
 use Rattle.block_device.specs.declared.phase.Phase.TheVariants as phase
 use Rattle.block_device.specs.declared.phase.BlockState.{BlockState}
 use Rattle.block_device.specs.declared.stage.ServiceStage.TheVariants as stage
-use Rattle.block_device.specs.Block.{chain_returned, given_back, walked}
+use Rattle.block_device.specs.Block.{chain_returned, given_back, request_served, round_ended, walked}
 use Rattle.block_device.specs.Kept.{is_state}
 use Rattle.block_device.specs.Service.{units_in, units_out}
 use Rattle.block_device.specs.One.{IsPlain, IsPlainAt, IsPlainPhase, IsPlainWalk, IsSized}
+use Rattle.block_device.specs.Serving.{serving_left}
 use Rattle.block_device.specs.States.{IsClear, IsPhase, IsState, IsWalk, block_left, left_at, left_by, used_chain}
 use Rattle.block_device.proofs.Kept.{state_of}
-use Rattle.block_device.proofs.Phases.{return_asks}
+use Rattle.block_device.proofs.Phases.{break_asks, collect_asks, return_asks, serving_asks}
 use Rattle.block_device.proofs.Plain.{told_index, told_phase, told_ring, walk_told}
 use Rattle.block_device.proofs.Requests.{gather_none, header_none, link_none, put_id_none, put_none, units_stay}
 use Rattle.block_device.proofs.Telling.{performed, root_of, told}
@@ -31,28 +33,40 @@ stage_in (Some w) = Some w.stage
 
 -- ---- the data are seen at once
 
-facts_phase : (p : Phase) (d : BlockData) (from : Collect) (to : List Part) → IsPlainPhase p
+facts_phase : (p : Phase) (d : BlockData) (from : Collect) (to : List Part) → IsPhase p d from to
     → (root_of (left_at p d from to)).0 ≡ d
-facts_phase phase.Between d from to plain = refl
-facts_phase (phase.Break breaking.Port) d from to plain = refl
-facts_phase (phase.Break breaking.Line) d from to plain = refl
-facts_phase (phase.Header len head) d from to plain = absurd plain
-facts_phase (phase.Serve at stage.Flush head) d from to plain = refl
-facts_phase (phase.Serve at (stage.Status status used) head) d from to plain = refl
-facts_phase (phase.Serve at s head) d from to plain = absurd plain
-facts_phase (phase.Return len head s) d from to plain =
+facts_phase phase.Between d from to is = refl
+facts_phase (phase.Break s) d from to is =
+    let asks = break_asks s d.port in
+    ap (λ x. x.0) (performed (break_left s d.port) d (λ e done. Ends (round_ended e)) asks.0 asks.1)
+facts_phase (phase.Header len head) d from to is =
+    ap (λ x. x.0)
+    (performed (collect_left 16 from) d (λ e got. request_served head to len e got) _ (collect_asks from is.2 is.3))
+facts_phase (phase.Serve at s head) d from to is =
+    ap (λ x. x.0)
+    (performed (serving_left s from to at) d (λ e used. chain_returned head e used) _ (serving_asks s from to at is.1))
+facts_phase (phase.Return len head s) d from to is =
     let asks = return_asks s (used_chain d head len) in
     ap (λ x. x.0) (performed (return_left s (used_chain d head len)) d (λ e done. given_back e) asks.0 asks.1)
 
-facts_walk : (s : Stage) (q : Queue) (next : ℕ) (parts : List Part) (d : BlockData) → IsPlainWalk s
-    → (root_of (perform (walk_at s q next parts) d walked)).0 ≡ d
-facts_walk walking.Index q next parts d plain = refl
-facts_walk walking.Ring q next parts d plain = refl
-facts_walk (walking.Link head at) q next parts d plain = absurd plain
+link_facts : (q : Queue) (head most at : ℕ) (parts : List Part) (d : BlockData) → 0 < most
+    → (root_of (perform (descriptors q head most at parts) d walked)).0 ≡ d
+link_facts q head zero at parts d some = absurd (omega (arith, some))
+link_facts q head (suc most) at parts d some = refl
 
-facts_left : (w : Option Walking) (b : BlockState) → IsPlainAt w b.phase → (root_of (left_by w b)).0 ≡ b.facts
-facts_left None b plain = facts_phase b.phase b.facts b.from b.to plain
-facts_left (Some w) b plain = facts_walk w.stage w.queue w.next w.parts b.facts plain
+facts_walk : (s : Stage) (q : Queue) (next : ℕ) (parts : List Part) (d : BlockData) → IsStage s q parts
+    → (root_of (perform (walk_at s q next parts) d walked)).0 ≡ d
+facts_walk walking.Index q next parts d is = refl
+facts_walk walking.Ring q next parts d is = refl
+facts_walk (walking.Link head at) q next parts d is =
+    link_facts q head (q.size - length parts) at parts d (omega (arith, is.1))
+
+facts_left : (w : Option Walking) (b : BlockState) → IsWalk w b → (root_of (left_by w b)).0 ≡ b.facts
+facts_left None b is = facts_phase b.phase b.facts b.from b.to is
+facts_left (Some w) b is = facts_walk w.stage w.queue w.next w.parts b.facts is.is.stage
+
+data_one : (a b : BlockState) → IsState a → IsState b → block_left a ≡ block_left b → a.facts ≡ b.facts
+data_one a b is at same = sym (facts_left a.walk a is) ∙ ap (λ t. (root_of t).0) same ∙ facts_left b.walk b at
 
 -- ---- and so are the phase and the walk's stage
 
@@ -135,8 +149,7 @@ same_state a b f p w c t =
 both_plain : (a b : BlockState) → IsState a → IsState b → IsSized a → IsSized b → IsPlain a → IsPlain b
     → block_left a ≡ block_left b → a ≡ b
 both_plain a b is at sized bound plain flat same =
-    let facts : a.facts ≡ b.facts = sym (facts_left a.walk a plain) ∙ ap (λ t. (root_of t).0) same
-    ∙ facts_left b.walk b flat in
+    let facts = data_one a b is at same in
     let first : Option Stage × Phase = (stage_in a.walk, a.phase) in
     let other : Option Stage × Phase = (stage_in b.walk, b.phase) in
     let seen : Some first ≡ Some other =
@@ -195,3 +208,7 @@ pub one_kept : (a b : BlockState) → a.facts.queue.pages < 2 ^ 32 → b.facts.q
 one_kept a b few least is at sized bound plain same =
     let state = state_of b least at in
     one_or a b (state_of a few is) state sized bound plain (plain_or b.walk b state) same
+
+pub data_kept : (a b : BlockState) → a.facts.queue.pages < 2 ^ 32 → b.facts.queue.pages < 2 ^ 32 → is_state a ≡ true
+    → is_state b ≡ true → block_left a ≡ block_left b → a.facts ≡ b.facts
+data_kept a b few least is at same = data_one a b (state_of a few is) (state_of b least at) same

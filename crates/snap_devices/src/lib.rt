@@ -39,11 +39,13 @@
 
 mod block;
 mod device;
+mod law;
 mod phase;
 mod port;
 mod queue;
 mod saved;
 
 pub use device::{decode_device, encode_device};
+pub use law::port_size;
 pub use port::{decode_port, encode_port};
 pub use saved::Saved;
