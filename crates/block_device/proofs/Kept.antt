@@ -8,6 +8,8 @@ use Rattle.vq_split.specs.Walking.{Walking}
 use Rattle.vq_split.proofs.Inside.{both}
 use Rattle.vq_split.proofs.Kept.{all, are_of, inside_of, is_eq, sound_of_test, test_of_sound, test_of_walking, walking_of}
 use Rattle.dev_core.specs.declared.collect.Collect.{Collect}
+use Rattle.dev_core.specs.declared.returning.ReturnStage.{ReturnStage}
+use Rattle.dev_core.specs.declared.returning.ReturnStage.TheVariants as returning
 use Rattle.dev_core.specs.Collecting.{nothing}
 use Rattle.dev_core.specs.Pieces.{room, share}
 use Rattle.block_device.specs.declared.data.BlockData.{BlockData}
@@ -16,9 +18,9 @@ use Rattle.block_device.specs.declared.phase.Phase.TheVariants as phase
 use Rattle.block_device.specs.declared.phase.BlockState.{BlockState}
 use Rattle.block_device.specs.declared.stage.ServiceStage.{ServiceStage}
 use Rattle.block_device.specs.declared.stage.ServiceStage.TheVariants as stage
-use Rattle.block_device.specs.Kept.{are_placed, is_between, is_clear, is_nothing, is_phase, is_same_queue, is_stage, is_state, is_walk, is_within}
+use Rattle.block_device.specs.Kept.{are_placed, is_between, is_clear, is_nothing, is_phase, is_same_queue, is_stage, is_state, is_told, is_walk, is_within}
 use Rattle.block_device.specs.Serving.{ArePlaced, IsStage, IsWithin}
-use Rattle.block_device.specs.States.{IsClear, IsPhase, IsState, IsWalk}
+use Rattle.block_device.specs.States.{IsClear, IsPhase, IsState, IsTold, IsWalk}
 
 empty : {A : Type 0} (xs : List A) → (length xs == 0) ≡ true → xs ≡ []
 empty [] is = refl
@@ -78,38 +80,47 @@ test_of_within sector unit more is =
 
 stage_of : (s : ServiceStage) (from : Collect) (to : List Part) → is_stage s from to ≡ true → IsStage s from to
 stage_of (stage.Read sector unit more) from to is =
-    let h = both (is_within sector unit more) (is_nothing from) is in
-    (within_of sector unit more h.0, nothing_of from h.1)
+    let h = both (is_within sector unit more && is_nothing from) (nat_lt unit (2 ^ 26)) is in
+    let g = both (is_within sector unit more) (is_nothing from) h.0 in
+    (within_of sector unit more g.0, nothing_of from g.1, less_of _ _ h.1)
 stage_of (stage.Put sector unit more) from to is =
-    let h = both (is_within sector unit more && (length from.from == 0)) (nat_lt 0 (share from.held to)) is in
-    let g = both (is_within sector unit more) (length from.from == 0) h.0 in
-    (within_of sector unit more g.0, empty from.from g.1, less_of _ _ h.1)
+    let h = both (is_within sector unit more && (length from.from == 0) && nat_lt 0 (share from.held to))
+    (nat_lt unit (2 ^ 26)) is in
+    let g = both (is_within sector unit more && (length from.from == 0)) (nat_lt 0 (share from.held to)) h.0 in
+    let f = both (is_within sector unit more) (length from.from == 0) g.0 in
+    (within_of sector unit more f.0, empty from.from f.1, less_of _ _ g.1, less_of _ _ h.1)
 stage_of stage.PutId from to is =
     let h = both (length from.from == 0) (nat_lt 0 (share from.held to)) is in
     (empty from.from h.0, less_of _ _ h.1)
-stage_of (stage.Gather sector unit more) from to is =
-    let h = both (is_within sector unit more && (length to == 0) && nat_lt (length from.held) 64)
-    (nat_lt 0 (room from.from)) is in
-    let g = both (is_within sector unit more && (length to == 0)) (nat_lt (length from.held) 64) h.0 in
-    let f = both (is_within sector unit more) (length to == 0) g.0 in
-    (within_of sector unit more f.0, empty to f.1, less_of _ _ g.1, less_of _ _ h.1)
-stage_of (stage.Disk sector unit more) from to is =
-    let h = both (is_within sector unit more) (length to == 0) is in
-    (within_of sector unit more h.0, empty to h.1)
+stage_of (stage.Gather sector part more) from to is =
+    let h = both (is_within sector part more && (length to == 0) && nat_lt (length from.held) 64
+    && nat_lt 0 (room from.from)) (nat_lt part 8) is in
+    let g = both (is_within sector part more && (length to == 0) && nat_lt (length from.held) 64)
+    (nat_lt 0 (room from.from)) h.0 in
+    let f = both (is_within sector part more && (length to == 0)) (nat_lt (length from.held) 64) g.0 in
+    let e = both (is_within sector part more) (length to == 0) f.0 in
+    (within_of sector part more e.0, empty to e.1, less_of _ _ f.1, less_of _ _ g.1, less_of _ _ h.1)
+stage_of (stage.Disk sector part more) from to is =
+    let h = both (is_within sector part more && (length to == 0)) (nat_lt part 8) is in
+    let g = both (is_within sector part more) (length to == 0) h.0 in
+    (within_of sector part more g.0, empty to g.1, less_of _ _ h.1)
 stage_of stage.Flush from to is = clear_of from to is
 stage_of (stage.Status status used) from to is = clear_of from to is
 
 test_of_stage : (s : ServiceStage) (from : Collect) (to : List Part) → IsStage s from to → is_stage s from to ≡ true
 test_of_stage (stage.Read sector unit more) from to is =
-    all _ _ (test_of_within sector unit more is.0) (test_of_nothing from is.1)
+    all _ _ (all _ _ (test_of_within sector unit more is.0) (test_of_nothing from is.1)) (is_less _ _ is.2)
 test_of_stage (stage.Put sector unit more) from to is =
-    all _ _ (all _ _ (test_of_within sector unit more is.0) (none_is from.from is.1)) (is_less _ _ is.2)
-test_of_stage stage.PutId from to is = all _ _ (none_is from.from is.0) (is_less _ _ is.1)
-test_of_stage (stage.Gather sector unit more) from to is =
-    all _ _ (all _ _ (all _ _ (test_of_within sector unit more is.0) (none_is to is.1)) (is_less _ _ is.2))
+    all _ _ (all _ _ (all _ _ (test_of_within sector unit more is.0) (none_is from.from is.1)) (is_less _ _ is.2))
     (is_less _ _ is.3)
-test_of_stage (stage.Disk sector unit more) from to is =
-    all _ _ (test_of_within sector unit more is.0) (none_is to is.1)
+test_of_stage stage.PutId from to is = all _ _ (none_is from.from is.0) (is_less _ _ is.1)
+test_of_stage (stage.Gather sector part more) from to is =
+    all _ _
+    (all _ _ (all _ _ (all _ _ (test_of_within sector part more is.0) (none_is to is.1)) (is_less _ _ is.2))
+    (is_less _ _ is.3))
+    (is_less _ _ is.4)
+test_of_stage (stage.Disk sector part more) from to is =
+    all _ _ (all _ _ (test_of_within sector part more is.0) (none_is to is.1)) (is_less _ _ is.2)
 test_of_stage stage.Flush from to is = test_of_clear from to is
 test_of_stage (stage.Status status used) from to is = test_of_clear from to is
 
@@ -123,6 +134,28 @@ placed_of pages from to is =
 test_of_placed : (pages : ℕ) (from : Collect) (to : List Part) → ArePlaced pages from to
     → are_placed pages from to ≡ true
 test_of_placed pages from to is = all _ _ (are_of pages from.from is.0) (are_of pages to is.1)
+
+zeros_of : (len head : ℕ) → ((len == 0) && (head == 0)) ≡ true → (len ≡ 0) × (head ≡ 0)
+zeros_of len head is =
+    let h = both (len == 0) (head == 0) is in
+    (eq_of _ _ h.0, eq_of _ _ h.1)
+
+told_of : (s : ReturnStage) (len head : ℕ) → is_told s len head ≡ true → IsTold s len head
+told_of returning.Pair len head is = tt
+told_of returning.Half len head is = eq_of _ _ is
+told_of returning.Index len head is = zeros_of len head is
+told_of returning.Interrupt len head is = zeros_of len head is
+told_of returning.Line len head is = zeros_of len head is
+
+are_zeros : (len head : ℕ) → (len ≡ 0) × (head ≡ 0) → ((len == 0) && (head == 0)) ≡ true
+are_zeros len head is = all _ _ (is_eq _ _ is.0) (is_eq _ _ is.1)
+
+test_of_told : (s : ReturnStage) (len head : ℕ) → IsTold s len head → is_told s len head ≡ true
+test_of_told returning.Pair len head is = refl
+test_of_told returning.Half len head is = is_eq _ _ is
+test_of_told returning.Index len head is = are_zeros len head is
+test_of_told returning.Interrupt len head is = are_zeros len head is
+test_of_told returning.Line len head is = are_zeros len head is
 
 phase_of : (p : Phase) (d : BlockData) (from : Collect) (to : List Part) → d.queue.pages < 2 ^ 32
     → is_phase p d from to ≡ true → IsPhase p d from to
@@ -152,8 +185,9 @@ phase_of (phase.Serve at stage head) d from to few is =
     let f = both (is_sound d.queue) (is_stage stage from to) g.0 in
     (sound_of_test d.queue few f.0, stage_of stage from to f.1, g.1, placed_of pages from to h.1)
 phase_of (phase.Return len head stage) d from to few is =
-    let h = both (is_sound d.queue) (is_clear from to) is in
-    (sound_of_test d.queue few h.0, clear_of from to h.1)
+    let h = both (is_sound d.queue && is_clear from to) (is_told stage len head) is in
+    let g = both (is_sound d.queue) (is_clear from to) h.0 in
+    (sound_of_test d.queue few g.0, clear_of from to g.1, told_of stage len head h.1)
 
 test_of_phase : (p : Phase) (d : BlockData) (from : Collect) (to : List Part) → IsPhase p d from to
     → is_phase p d from to ≡ true
@@ -168,7 +202,7 @@ test_of_phase (phase.Serve at stage head) d from to is =
     all _ _ (all _ _ (all _ _ (test_of_sound d.queue is.0) (test_of_stage stage from to is.1)) is.2)
     (test_of_placed d.queue.pages from to is.3)
 test_of_phase (phase.Return len head stage) d from to is =
-    all _ _ (test_of_sound d.queue is.0) (test_of_clear from to is.1)
+    all _ _ (all _ _ (test_of_sound d.queue is.0) (test_of_clear from to is.1)) (test_of_told stage len head is.2)
 
 -- ---- walks
 

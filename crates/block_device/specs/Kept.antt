@@ -6,6 +6,8 @@ use Rattle.vq_split.specs.Chain.{is_inside}
 use Rattle.vq_split.specs.Kept.{are_inside, is_sound, is_walking}
 use Rattle.vq_split.specs.Walking.{Walking}
 use Rattle.dev_core.specs.declared.collect.Collect.{Collect}
+use Rattle.dev_core.specs.declared.returning.ReturnStage.{ReturnStage}
+use Rattle.dev_core.specs.declared.returning.ReturnStage.TheVariants as returning
 use Rattle.dev_core.specs.Pieces.{room, share}
 use Rattle.block_device.specs.declared.data.BlockData.{BlockData}
 use Rattle.block_device.specs.declared.phase.Phase.{Phase}
@@ -27,19 +29,26 @@ is_clear from to = is_nothing from && (length to == 0)
 
 -- a stage has something to want, and what it doesn't need is cleared
 abbrev pub is_stage : ServiceStage → Collect → List Part → Bool
-is_stage (stage.Read sector unit more) from to = is_within sector unit more && is_nothing from
+is_stage (stage.Read sector unit more) from to = is_within sector unit more && is_nothing from && nat_lt unit (2 ^ 26)
 is_stage (stage.Put sector unit more) from to =
-    is_within sector unit more && (length from.from == 0) && nat_lt 0 (share from.held to)
+    is_within sector unit more && (length from.from == 0) && nat_lt 0 (share from.held to) && nat_lt unit (2 ^ 26)
 is_stage stage.PutId from to = (length from.from == 0) && nat_lt 0 (share from.held to)
-is_stage (stage.Gather sector unit more) from to =
-    is_within sector unit more && (length to == 0) && nat_lt (length from.held) 64 && nat_lt 0 (room from.from)
-is_stage (stage.Disk sector unit more) from to = is_within sector unit more && (length to == 0)
+is_stage (stage.Gather sector part more) from to =
+    is_within sector part more && (length to == 0) && nat_lt (length from.held) 64 && nat_lt 0 (room from.from)
+    && nat_lt part 8
+is_stage (stage.Disk sector part more) from to = is_within sector part more && (length to == 0) && nat_lt part 8
 is_stage stage.Flush from to = is_clear from to
 is_stage (stage.Status status used) from to = is_clear from to
 
 -- the parts that are left lie inside RAM
 abbrev pub are_placed : ℕ → Collect → List Part → Bool
 are_placed pages from to = are_inside pages from.from && are_inside pages to
+
+-- what is told already of a chain that is given back isn't kept
+abbrev pub is_told : ReturnStage → ℕ → ℕ → Bool
+is_told returning.Pair len head = true
+is_told returning.Half len head = head == 0
+is_told stage len head = (len == 0) && (head == 0)
 
 abbrev pub is_phase : Phase → BlockData → Collect → List Part → Bool
 is_phase phase.Between d from to = is_clear from to
@@ -49,7 +58,7 @@ is_phase (phase.Header len head) d from to =
     && nat_lt 0 (length to) && are_placed d.queue.pages from to
 is_phase (phase.Serve at stage head) d from to =
     is_sound d.queue && is_stage stage from to && is_inside d.queue.pages at 1 && are_placed d.queue.pages from to
-is_phase (phase.Return len head stage) d from to = is_sound d.queue && is_clear from to
+is_phase (phase.Return len head stage) d from to = is_sound d.queue && is_clear from to && is_told stage len head
 
 abbrev pub is_between : Phase → Bool
 is_between phase.Between = true

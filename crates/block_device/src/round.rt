@@ -82,6 +82,28 @@ pub fn used_chain(facts: &BlockData, head: u16, len: u32) -> UsedChain
     }
 }
 
+// How far a chain is given back, with what is still to be told of it.
+fn returning(stage: ReturnStage, len: u32, head: u16) -> Phase
+    ensures left { (d : BlockData) (from : Collect) (to : List Part) → left_at result d from to ≡
+        perform (return_left stage (used_chain d head len)) d (λ e done. given_back e) }
+    ensures phase { (d : BlockData) (from : Collect) (to : List Part) →
+        IsSound d.queue → IsClear from to → IsPhase result d from to }
+{
+    match stage {
+        ReturnStage::Pair => Phase::Return { len, head, stage },
+        ReturnStage::Half => Phase::Return {
+            len,
+            head: 0,
+            stage,
+        },
+        ReturnStage::Index | ReturnStage::Interrupt | ReturnStage::Line => Phase::Return {
+            len: 0,
+            head: 0,
+            stage,
+        },
+    }
+}
+
 /// A chain is given back, and a reply came to that.
 pub fn return_given(
     facts: &mut BlockData,
@@ -98,7 +120,7 @@ pub fn return_given(
     let _ = reply;
     let mut stage = stage;
     match stage.give(&used_chain(facts, head, len)) {
-        None => Phase::Return { len, head, stage },
+        None => returning(stage, len, head),
         Some(()) => {
             facts.used = facts.used.wrapping_add(1);
             facts.has_finished = true;

@@ -14,7 +14,9 @@ pub const IO_ERROR: u8 = 1;
 
 pub const UNSUPPORTED: u8 = 2;
 
-/// The act that is wanted. `more` counts the units of 64 bytes behind this one.
+/// The act that is wanted. `more` counts the units of 64 bytes behind this one. What is read begins at `sector`, `unit`
+/// units before this one; 2^26 units are as many as none, since the used length is modulo 2^32, and `sector` is then
+/// 2^23 further. What is written is `part`, below 8, of `sector`.
 #[derive(Clone, Copy, Debug, PartialEq, Eq, Drop)]
 pub enum ServiceStage {
     /// A unit is read from the disk.
@@ -24,9 +26,9 @@ pub enum ServiceStage {
     /// So is the drive's id.
     PutId,
     /// A piece is read of the driver's parts.
-    Gather { sector: u64, unit: u64, more: u64 },
+    Gather { sector: u64, part: u64, more: u64 },
     /// A unit is written to the disk.
-    Disk { sector: u64, unit: u64, more: u64 },
+    Disk { sector: u64, part: u64, more: u64 },
     Flush,
     /// The status is written.
     Status { status: u8, used: u32 },
@@ -67,6 +69,7 @@ pub fn read_stage(
     unit: u64,
     units: u64,
 ) -> ServiceStage
+    requires most { unit ≤ 2 ^ 26 }
     requires units { unit + units ≤ 2 ^ 50 }
     requires inside { sector + (unit + units - 1) / 8 < 2 ^ 64 }
     requires clear { from.old ≡ nothing }
@@ -76,6 +79,12 @@ pub fn read_stage(
 {
     if units == 0 {
         ended(from, to, OK, used_of(unit))
+    } else if unit == 0x400_0000 {
+        ServiceStage::Read {
+            sector: sector + 0x80_0000,
+            unit: 0,
+            more: units - 1,
+        }
     } else {
         ServiceStage::Read {
             sector,
@@ -94,6 +103,7 @@ pub fn put_stage(
     more: u64,
 ) -> ServiceStage
     requires within { IsWithin sector unit more }
+    requires unit { unit < 2 ^ 26 }
     requires parts { from.old.from ≡ [] }
     ensures left { (at : ℕ) → serving_left result from.new to.new at ≡
         and_then (put_all from.old.held to.old) (λ left. units_in more (unit + 1) sector left at) }
@@ -122,19 +132,20 @@ pub fn id_stage(from: &mut Collect, to: &mut Scatter) -> ServiceStage
     }
 }
 
-/// The driver's bytes go to so many units of the disk, after as many as `unit`.
+/// The driver's bytes go to so many units of the disk, from this part of a sector on.
 pub fn collect_stage(
     from: &mut Collect,
     to: &mut Scatter,
     sector: u64,
-    unit: u64,
+    part: u64,
     units: u64,
 ) -> ServiceStage
-    requires units { unit + units ≤ 2 ^ 50 }
-    requires inside { sector + (unit + units - 1) / 8 < 2 ^ 64 }
+    requires part { part < 8 }
+    requires units { part + units ≤ 2 ^ 50 }
+    requires inside { sector + (part + units - 1) / 8 < 2 ^ 64 }
     requires clear { to.old ≡ [] }
     ensures left { (at : ℕ) → serving_left result from.new to.new at ≡
-        units_out units unit sector at (got_of from.old) }
+        units_out units part sector at (got_of from.old) }
     ensures stage { IsStage result from.new to.new }
     ensures placed { StayPlaced from.old to.old from.new to.new }
 {
@@ -143,15 +154,41 @@ pub fn collect_stage(
     } else if from.is_done(64) {
         ServiceStage::Disk {
             sector,
-            unit,
+            part,
             more: units - 1,
         }
     } else {
         ServiceStage::Gather {
             sector,
-            unit,
+            part,
             more: units - 1,
         }
+    }
+}
+
+/// So do they from the part behind this one on.
+pub fn next_stage(
+    from: &mut Collect,
+    to: &mut Scatter,
+    sector: u64,
+    part: u64,
+    units: u64,
+) -> ServiceStage
+    requires part { part < 8 }
+    requires units { part + units < 2 ^ 50 }
+    requires inside { sector + (part + units) / 8 < 2 ^ 64 }
+    requires clear { to.old ≡ [] }
+    ensures left { (at : ℕ) → serving_left result from.new to.new at ≡
+        units_out units (part + 1) sector at (got_of from.old) }
+    ensures stage { IsStage result from.new to.new }
+    ensures placed { StayPlaced from.old to.old from.new to.new }
+{
+    if units == 0 {
+        ended(from, to, OK, 1)
+    } else if part == 7 {
+        collect_stage(from, to, sector + 1, 0, units)
+    } else {
+        collect_stage(from, to, sector, part + 1, units)
     }
 }
 

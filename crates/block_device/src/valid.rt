@@ -6,7 +6,7 @@ ghost use Rattle.block_device.specs.States.{IsState};
 use crate::data::BlockData;
 use crate::phase::{BlockState, Phase};
 use crate::stage::{ServiceStage, share};
-use dev_core::{Collect, Scatter};
+use dev_core::{Collect, ReturnStage, Scatter};
 use vq_split::{ChainWalk, Queue, are_inside, is_inside, is_sound};
 
 fn is_within(sector: u64, unit: u64, more: u64) -> bool
@@ -33,22 +33,24 @@ fn is_stage(stage: &ServiceStage, from: &Collect, to: &Scatter) -> bool
 {
     match *stage {
         ServiceStage::Read { sector, unit, more } => {
-            is_within(sector, unit, more) && is_nothing(from)
+            is_within(sector, unit, more) && is_nothing(from) && unit < 0x400_0000
         }
         ServiceStage::Put { sector, unit, more } => {
             is_within(sector, unit, more)
                 && from.from.parts().len() == 0
                 && 0 < share(&from.held, to)
+                && unit < 0x400_0000
         }
         ServiceStage::PutId => from.from.parts().len() == 0 && 0 < share(&from.held, to),
-        ServiceStage::Gather { sector, unit, more } => {
-            is_within(sector, unit, more)
+        ServiceStage::Gather { sector, part, more } => {
+            is_within(sector, part, more)
                 && to.parts().len() == 0
                 && from.held.as_slice().len() < 64
                 && 0 < from.from.room()
+                && part < 8
         }
-        ServiceStage::Disk { sector, unit, more } => {
-            is_within(sector, unit, more) && to.parts().len() == 0
+        ServiceStage::Disk { sector, part, more } => {
+            is_within(sector, part, more) && to.parts().len() == 0 && part < 8
         }
         ServiceStage::Flush | ServiceStage::Status { .. } => is_clear(from, to),
     }
@@ -58,6 +60,16 @@ fn are_placed(pages: u32, from: &Collect, to: &Scatter) -> bool
     ensures { result ≡ kept.are_placed pages from.now to.now }
 {
     are_inside(pages, from.from.parts()) && are_inside(pages, to.parts())
+}
+
+fn is_told(stage: ReturnStage, len: u32, head: u16) -> bool
+    ensures { result ≡ kept.is_told stage len head }
+{
+    match stage {
+        ReturnStage::Pair => true,
+        ReturnStage::Half => head == 0,
+        ReturnStage::Index | ReturnStage::Interrupt | ReturnStage::Line => len == 0 && head == 0,
+    }
 }
 
 fn is_phase(phase: &Phase, facts: &BlockData, from: &Collect, to: &Scatter) -> bool
@@ -80,7 +92,9 @@ fn is_phase(phase: &Phase, facts: &BlockData, from: &Collect, to: &Scatter) -> b
                 && is_inside(pages, *at, 1)
                 && are_placed(pages, from, to)
         }
-        Phase::Return { .. } => is_sound(&facts.queue) && is_clear(from, to),
+        Phase::Return { len, head, stage } => {
+            is_sound(&facts.queue) && is_clear(from, to) && is_told(*stage, *len, *head)
+        }
     }
 }
 

@@ -1,5 +1,5 @@
 -- What names a snapshot, as files have it.
-use Rattle.std.specs.Prelude.{ℕ, ◌==◌, ◌&&◌, nat_lt, Bool, refl}
+use Rattle.std.specs.Prelude.{◌==◌, ◌&&◌, nat_lt, Bool, refl}
 use Rattle.vm_types.specs.declared.identity.Identity.{Identity}
 use Rattle.file_format.specs.Format.{Format}
 use Rattle.file_format.specs.Kinds.{number64, ◌&◌, made_of}

@@ -1,9 +1,9 @@
 -- The laws of each kind of format, over plain variables.
-use Rattle.std.specs.Prelude.{◌≡◌, ℕ, zero, suc, ◌+◌, ◌<◌, ◌≤◌, ◌==◌, ◌&&◌, nat_lt, replicate, Bool, true, false}
+use Rattle.std.specs.Prelude.{◌≡◌, ℕ, zero, suc, ◌+◌, ◌<◌, ◌≤◌, ◌==◌, ◌&&◌, replicate, Bool, true, false}
 use Rattle.std.specs.Prelude.{IsTrue, if◌then◌else◌, List, [], ◌∷◌, ◌++◌, length, take, drop, Option, None, Some}
 use Rattle.std.specs.Prelude.{IfSome, refl}
 use Rattle.std.specs.Option.{option_and_then}
-use Rattle.std.specs.List.{flat_map, list_all, AllByRecursion}
+use Rattle.std.specs.List.{flat_map, AllByRecursion}
 use Rattle.std.specs.Int.{Width, byte_len, w16, w32, w64, to_le_bytes, from_le_bytes}
 use Rattle.std.proofs.Common.{sym, ap, subst, ◌∙◌, append_assoc, arith, get_or, cond, ltb, inl, inr}
 use Rattle.std.proofs.lemmas.Bool.{cases_lt, eqb-true, ltb-false, le-ltb}
@@ -28,12 +28,12 @@ get_or-behind (b ∷ front) rest i =
     ap (λ k. get_or (b ∷ front ++ rest) k 0) k ∙ get_or-behind front rest i
 
 -- the rest of bytes is bytes
-IsBytes-rest : (given front rest : List ℕ) → given ≡ front ++ rest → IsBytes given → IsBytes rest
+pub IsBytes-rest : (given front rest : List ℕ) → given ≡ front ++ rest → IsBytes given → IsBytes rest
 IsBytes-rest given front rest e h i =
     subst (λ (n : ℕ). n < 256) (ap (λ (g : List ℕ). get_or g (length front + i) 0) e
     ∙ get_or-behind front rest i) (h (length front + i))
 
-IsBytes-take : (n : ℕ) (given : List ℕ) → IsBytes given → IsBytes (take n given)
+pub IsBytes-take : (n : ℕ) (given : List ℕ) → IsBytes given → IsBytes (take n given)
 IsBytes-take n given h i =
     elim (cases_lt i n) [
       | inl lt ↦ rw (get_or-take n given i 0 lt) (h i)

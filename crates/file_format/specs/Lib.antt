@@ -3,6 +3,7 @@ pub mod Readers
 pub mod Laws
 pub mod Kinds
 pub mod Reading
+pub mod Whole
 pub mod Starts
 pub mod Identities
 pub mod Refusing

@@ -15,12 +15,14 @@ mod items;
 mod lists;
 mod start;
 mod stored;
+mod whole;
 
 pub use error::{DecodeError, ReadError};
 pub use fixed::{read_fixed, read_zeros, write_fixed, write_zeros};
 pub use identity::{is_numbered, is_same};
 pub use input::Input;
 pub use items::Items;
-pub use lists::{read_into, read_items, write_items};
+pub use lists::{read_into, read_items, write_count, write_items};
 pub use start::{is_closed, is_other};
 pub use stored::Stored;
+pub use whole::{Counted, decode};

@@ -14,9 +14,9 @@ use crate::stored::Stored;
 use std::alloc::{AllocError, Global};
 use vm_types::{ByteList, TextList};
 
-// The count of a list. A longer one than a count can say is given up as if there were no memory.
+/// Puts the count of a list at the end. A longer list than a count can say is given up as if there were no memory.
 #[tactic(auto, unfolding(crate::specs::Kinds::number32))]
-fn write_count(len: usize, out: &mut Vec<u8>) -> Result<(), AllocError>
+pub fn write_count(len: usize, out: &mut Vec<u8>) -> Result<(), AllocError>
     ensures fits { OnOk result (len < 0x1_0000_0000) }
     ensures bytes { OnOk result (out.new.items ≡ out.old.items ++ to_le_bytes w32 len) }
 {
@@ -99,7 +99,7 @@ fn write_bytes(bytes: &[u8], out: &mut Vec<u8>) -> Result<(), AllocError>
 }
 
 #[tactic(auto, unfolding(crate::specs::Kinds::byte_list, crate::specs::Kinds::number32, crate::specs::Kinds::raw))]
-fn bytes_at<'a>(alloc: Global, input: &mut Input<'a>) -> Result<&'a [u8], ReadError>
+pub fn bytes_at<'a>(alloc: Global, input: &mut Input<'a>) -> Result<&'a [u8], ReadError>
     ensures ok { IfOk result (λ bytes. byte_list.reads input.old ≡ Some (bytes.now, input.new)) }
     ensures bad { result ≡ Err ReadError.Bad → byte_list.reads input.old ≡ None }
 {

@@ -1,0 +1,58 @@
+-- Bytes that are one value and nothing else.
+use Rattle.std.proofs.Common.{◌≡◌, ℕ, ◌+◌, ◌<◌, List, [], ◌∷◌, ◌++◌, length, take, drop, Result, Ok, Err, refl, sym, ap, subst, ◌∙◌, append_assoc, arith, length-append}
+use Rattle.std.specs.Int.{w32, to_le_bytes}
+use Rattle.std.proofs.lemmas.List.{take_at, drop_at}
+use Rattle.file_format.specs.declared.error.ReadError.{ReadError}
+use Rattle.file_format.specs.declared.error.ReadError.TheVariants.{Memory, Bad}
+use Rattle.file_format.specs.Format.{Format, IsBytes}
+use Rattle.file_format.specs.Kinds.{byte_list}
+use Rattle.file_format.specs.Whole.{IsEncoding, IsDecoded, TakesWhole, whole_only, whole_none, counted}
+
+pub put_first : {A : Type 0} (format : Format A) (v : A) (bytes : List ℕ) → format.Fits v → bytes ≡ format.puts v []
+    → IsEncoding format bytes v
+put_first format v bytes fits e = (fits, e ∙ format.same v [])
+
+pub taken_whole : {A : Type 0} (format : Format A) (given : List ℕ) (result : Result A ReadError) → IsBytes given
+    → TakesWhole format given result → IsDecoded format given result
+taken_whole format given (Ok v) is e = whole_only format given v is e
+taken_whole format given (Err Bad) is e = whole_none format given e
+taken_whole format given (Err Memory) is e = tt
+
+pub ruleset wholes = (put_first, taken_whole)
+
+-- a count that is put in the place that was left for it
+record Put {A : Type 0} (item : Format A) (v : A) (old mid : List ℕ) : Type 0 where
+  pub size : length mid ≡ (length old + 4) + length (item.bytes v)
+  pub front : take (length old) mid ≡ old
+  pub behind : drop (length old + 4) mid ≡ item.bytes v
+
+put_behind : {A : Type 0} (item : Format A) (v : A) (old first mid : List ℕ) → first ≡ old ++ 0 ∷ 0 ∷ 0 ∷ 0 ∷ []
+    → mid ≡ item.puts v first → Put item v old mid
+put_behind item v old first mid a b =
+    let zeros : List ℕ = 0 ∷ 0 ∷ 0 ∷ 0 ∷ [] in
+    let whole : mid ≡ (old ++ zeros) ++ item.bytes v = b ∙ item.same v first
+    ∙ ap (λ (x : List ℕ). x ++ item.bytes v) a in
+    let long : length (old ++ zeros) ≡ length old + 4 = length-append old zeros in
+    record {
+      size = ap length whole ∙ length-append (old ++ zeros) (item.bytes v)
+          ∙ ap (λ n. n + length (item.bytes v)) long;
+      front = ap (take (length old)) (whole ∙ append_assoc old zeros (item.bytes v))
+          ∙ take_at old (zeros ++ item.bytes v) (length old) refl;
+      behind = ap (drop (length old + 4)) whole ∙ drop_at (old ++ zeros) (item.bytes v) (length old + 4) long;
+    }
+
+pub count_put : {A : Type 0} (item : Format A) (v : A) (old first mid now : List ℕ) (at start len count : ℕ)
+    → item.Fits v → at ≡ length old → first ≡ old ++ 0 ∷ 0 ∷ 0 ∷ 0 ∷ [] → mid ≡ item.puts v first → start ≡ length first
+    → length mid ≡ start + len → (len < 0x1_0000_0000) × (count ≡ len)
+    → now ≡ take at mid ++ (to_le_bytes w32 count ++ drop (at + 4) mid)
+    → (counted item).Fits v × (now ≡ (counted item).puts v old)
+unfolding counted byte_list
+count_put item v old first mid now at start len count fits t a b s l c is =
+    let p = put_behind item v old first mid a b in
+    let same : len ≡ length (item.bytes v) =
+    omega (arith, p.size, l, s, ap length a, length-append old (0 ∷ 0 ∷ 0 ∷ 0 ∷ [])) in
+    let made : now ≡ old ++ (to_le_bytes w32 (length (item.bytes v)) ++ item.bytes v) =
+    rw (c.1, t, p.front, p.behind, same) at is in (
+      (fits, subst (λ n. n < 0x1_0000_0000) same c.0),
+      made ∙ sym (append_assoc old (to_le_bytes w32 (length (item.bytes v))) (item.bytes v)),
+    )

@@ -1,0 +1,6 @@
+pub mod Ports
+pub mod Queues
+pub mod Serving
+pub mod Phases
+pub mod Blocks
+pub mod Devices

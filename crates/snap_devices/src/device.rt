@@ -1,0 +1,64 @@
+// A device.
+ghost use Rattle.std.specs.Prelude.{◌≡◌, IfOk, OnOk};
+ghost use Rattle.file_format.specs.Whole.{IsDecoded, IsEncoding};
+ghost use Rattle.snap_devices.specs.Devices.{device};
+
+use crate::block::{read_block, write_block};
+use crate::saved::Saved;
+use file_format::{Input, ReadError, Stored, decode};
+use guest_devices::Device;
+use std::alloc::{AllocError, Global};
+
+#[tactic(auto, unfolding(crate::specs::Devices::device, file_format::specs::Kinds::byte))]
+fn write_device(it: &Device, out: &mut Vec<u8>) -> Result<(), AllocError>
+    ensures fits { OnOk result (device.Fits it.now) }
+    ensures bytes { OnOk result (out.new.items ≡ device.puts it.now out.old.items) }
+{
+    match it {
+        Device::Block(block) => {
+            1u8.write(out)?;
+            write_block(block, out)?;
+        }
+    }
+    Ok(())
+}
+
+#[tactic(auto, unfolding(crate::specs::Devices::device, file_format::specs::Kinds::byte))]
+impl Stored for Saved<Device> {
+    ghost format = { device };
+
+    fn write(&self, out: &mut Vec<u8>) -> Result<(), AllocError> {
+        write_device(&self.value, out)?;
+        Ok(())
+    }
+
+    fn read(alloc: Global, input: &mut Input) -> Result<Saved<Device>, ReadError> {
+        match u8::read(alloc, input)? {
+            1 => {
+                let block = read_block(alloc, input)?;
+                Ok(Saved {
+                    value: Device::Block(block),
+                })
+            }
+            _ => Err(ReadError::Bad),
+        }
+    }
+}
+
+/// The bytes of this device.
+#[tactic(auto, using(file_format::proofs::Wholes::wholes))]
+pub fn encode_device(alloc: Global, it: &Device) -> Result<Vec<u8>, AllocError>
+    ensures { IfOk result (λ bytes. IsEncoding device bytes.items it.now) }
+{
+    let mut bytes = Vec::new(alloc);
+    write_device(it, &mut bytes)?;
+    Ok(bytes)
+}
+
+/// The one device that these bytes are, if they are one.
+pub fn decode_device(alloc: Global, bytes: &[u8]) -> Result<Device, ReadError>
+    ensures { IsDecoded device bytes.now result }
+{
+    let it: Saved<Device> = decode(alloc, bytes)?;
+    Ok(it.value)
+}

@@ -1,0 +1,51 @@
+//! Ports and devices as bytes: how a state file has each of them, one encoding for each state.
+//!
+//! `specs/` has the formats: `Ports` of a port, `Devices` of a device by its kind, and under it `Blocks`, `Phases`,
+//! `Serving` and `Queues` of a block device. `encode_port` and `encode_device` give the bytes of one; `decode_port` and
+//! `decode_device` answer the one that bytes are, exactly where they are the encoding of a state that it may be in.
+//! What they take of memory is no more than a few times the bytes that are there.
+//!
+//! Numbers are little-endian; a flag is a byte 0 or 1; an option is a flag, and behind a 1 the value; a list is a count
+//! of 4 bytes, and its items.
+//!
+//! A port, 149 bytes: the kind of its device (1 byte: 0 net, 1 block, 2 balloon, 3 vsock); the features that are
+//! offered and those that were accepted (8 each); DeviceFeaturesSel, DriverFeaturesSel and QueueSel (4 each);
+//! InterruptStatus, Status and ConfigGeneration (4 each); the flag that a reset is asked; three queues; the 8 bytes of
+//! the configuration. A queue, 33 bytes: QueueDesc, QueueDriver and QueueDevice (8 each), QueueNum and QueueReady (4
+//! each), and the flag that it was kicked.
+//!
+//! A device: its kind (1 byte: 1 block), and what is kept of it. A block device:
+//!
+//! - its data, 67 bytes: the size of the disk in sectors (8); the queue, 30 bytes: its three tables (8 each), its size
+//!   (2) and the guest's pages (4); the drive's id (20); the number of the next chain and how many were given back (2
+//!   each); the number of its port (1); the flags that it is read-only, that the queue was kicked, and that the round
+//!   gave a chain back; and what is due (1: 0 a look, 1 a walk, 2 a wait);
+//! - where it is, a byte and what follows it: 0 between two groups; 1 the queue is broken, and then 0 the port, 1 the
+//!   line is told (1); 2 the header of a request: how many bytes the chain has for the device to read (8), and its head
+//!   (2); 3 a request is served: where its status goes (8), the act, and the head (2); 4 a chain is given back: how
+//!   many bytes were written (4), the head (2), and how far (1: 0 the pair, 1 its second half, 2 the index, 3 the
+//!   interrupt, 4 the line);
+//! - the act of a request, a byte and what follows it: 0 a unit is read from the disk, 1 its bytes are written to the
+//!   driver's parts, 3 a piece is read of them, 4 a unit is written to the disk: each time the sector, the unit and how
+//!   many follow (8 each); 2 the drive's id is written; 5 a flush; 6 the status is written: it (1), and the used length
+//!   (4);
+//! - the walk that is begun, an option: the queue, 30 bytes; the number of its chain (2); the act (1: 0 the index, 1
+//!   the ring's entry, 2 a descriptor, and behind a 2 the chain's head and the descriptor's number, 2 each); the list
+//!   of its parts;
+//! - the list of the parts that are still read; the list of the bytes that are held; the list of the parts that are
+//!   still written. A part, 13 bytes: where it is (8), how many bytes it has (4), and the flag that the device writes
+//!   it.
+#![tactic(auto)]
+
+mod block;
+mod device;
+mod law;
+mod phase;
+mod port;
+mod queue;
+mod saved;
+
+pub use device::{decode_device, encode_device};
+pub use law::port_size;
+pub use port::{decode_port, encode_port};
+pub use saved::Saved;

@@ -1,0 +1,243 @@
+// Where a block device is.
+ghost use Rattle.snap_devices.specs.Phases.{break_stage, phase, return_stage};
+ghost use Rattle.snap_devices.specs.Serving.{service, units};
+
+use crate::saved::Saved;
+use block_device::{Phase, ServiceStage};
+use dev_core::{BreakStage, ReturnStage};
+use file_format::{Input, ReadError, Stored};
+use std::alloc::{AllocError, Global};
+use std::marker::Model;
+
+#[tactic(auto, unfolding(crate::specs::Phases::break_stage, file_format::specs::Kinds::byte))]
+impl Stored for Saved<BreakStage> {
+    ghost format = { break_stage };
+
+    fn write(&self, out: &mut Vec<u8>) -> Result<(), AllocError> {
+        match self.value {
+            BreakStage::Port => 0u8.write(out)?,
+            BreakStage::Line => 1u8.write(out)?,
+        }
+        Ok(())
+    }
+
+    fn read(alloc: Global, input: &mut Input) -> Result<Saved<BreakStage>, ReadError> {
+        let value = match u8::read(alloc, input)? {
+            0 => BreakStage::Port,
+            1 => BreakStage::Line,
+            _ => return Err(ReadError::Bad),
+        };
+        Ok(Saved { value })
+    }
+}
+
+#[tactic(auto, unfolding(crate::specs::Phases::return_stage, file_format::specs::Kinds::byte))]
+impl Stored for Saved<ReturnStage> {
+    ghost format = { return_stage };
+
+    fn write(&self, out: &mut Vec<u8>) -> Result<(), AllocError> {
+        match self.value {
+            ReturnStage::Pair => 0u8.write(out)?,
+            ReturnStage::Half => 1u8.write(out)?,
+            ReturnStage::Index => 2u8.write(out)?,
+            ReturnStage::Interrupt => 3u8.write(out)?,
+            ReturnStage::Line => 4u8.write(out)?,
+        }
+        Ok(())
+    }
+
+    fn read(alloc: Global, input: &mut Input) -> Result<Saved<ReturnStage>, ReadError> {
+        let value = match u8::read(alloc, input)? {
+            0 => ReturnStage::Pair,
+            1 => ReturnStage::Half,
+            2 => ReturnStage::Index,
+            3 => ReturnStage::Interrupt,
+            4 => ReturnStage::Line,
+            _ => return Err(ReadError::Bad),
+        };
+        Ok(Saved { value })
+    }
+}
+
+// A sector, a unit, and how many units follow.
+#[derive(Drop)]
+struct Units {
+    sector: u64,
+    unit: u64,
+    more: u64,
+}
+
+impl Model for Units {
+    ghost use Rattle.std.specs.Prelude.{ℕ};
+
+    ghost Value = { ℕ × (ℕ × ℕ) };
+
+    ghost view = { λ u. (u.sector, (u.unit, u.more)) };
+}
+
+#[tactic(auto, unfolding(crate::specs::Serving::units))]
+impl Stored for Units {
+    ghost format = { units };
+
+    fn write(&self, out: &mut Vec<u8>) -> Result<(), AllocError> {
+        self.sector.write(out)?;
+        self.unit.write(out)?;
+        self.more.write(out)?;
+        Ok(())
+    }
+
+    fn read(alloc: Global, input: &mut Input) -> Result<Units, ReadError> {
+        let (sector, (unit, more)) = Stored::read(alloc, input)?;
+        Ok(Units { sector, unit, more })
+    }
+}
+
+#[tactic(auto, unfolding(crate::specs::Serving::service, file_format::specs::Kinds::byte))]
+impl Stored for Saved<ServiceStage> {
+    ghost format = { service };
+
+    fn write(&self, out: &mut Vec<u8>) -> Result<(), AllocError> {
+        match self.value {
+            ServiceStage::Read { sector, unit, more } => {
+                0u8.write(out)?;
+                Units { sector, unit, more }.write(out)?;
+            }
+            ServiceStage::Put { sector, unit, more } => {
+                1u8.write(out)?;
+                Units { sector, unit, more }.write(out)?;
+            }
+            ServiceStage::PutId => 2u8.write(out)?,
+            ServiceStage::Gather { sector, part, more } => {
+                3u8.write(out)?;
+                Units {
+                    sector,
+                    unit: part,
+                    more,
+                }
+                .write(out)?;
+            }
+            ServiceStage::Disk { sector, part, more } => {
+                4u8.write(out)?;
+                Units {
+                    sector,
+                    unit: part,
+                    more,
+                }
+                .write(out)?;
+            }
+            ServiceStage::Flush => 5u8.write(out)?,
+            ServiceStage::Status { status, used } => {
+                6u8.write(out)?;
+                status.write(out)?;
+                used.write(out)?;
+            }
+        }
+        Ok(())
+    }
+
+    fn read(alloc: Global, input: &mut Input) -> Result<Saved<ServiceStage>, ReadError> {
+        let value = match u8::read(alloc, input)? {
+            0 => {
+                let Units { sector, unit, more } = Units::read(alloc, input)?;
+                ServiceStage::Read { sector, unit, more }
+            }
+            1 => {
+                let Units { sector, unit, more } = Units::read(alloc, input)?;
+                ServiceStage::Put { sector, unit, more }
+            }
+            2 => ServiceStage::PutId,
+            3 => {
+                let Units { sector, unit, more } = Units::read(alloc, input)?;
+                ServiceStage::Gather {
+                    sector,
+                    part: unit,
+                    more,
+                }
+            }
+            4 => {
+                let Units { sector, unit, more } = Units::read(alloc, input)?;
+                ServiceStage::Disk {
+                    sector,
+                    part: unit,
+                    more,
+                }
+            }
+            5 => ServiceStage::Flush,
+            6 => {
+                let (status, used) = Stored::read(alloc, input)?;
+                ServiceStage::Status { status, used }
+            }
+            _ => return Err(ReadError::Bad),
+        };
+        Ok(Saved { value })
+    }
+}
+
+#[tactic(auto, unfolding(crate::specs::Phases::phase, file_format::specs::Kinds::byte))]
+impl Stored for Saved<Phase> {
+    ghost format = { phase };
+
+    fn write(&self, out: &mut Vec<u8>) -> Result<(), AllocError> {
+        match self.value {
+            Phase::Between => 0u8.write(out)?,
+            Phase::Break { stage } => {
+                1u8.write(out)?;
+                Saved { value: stage }.write(out)?;
+            }
+            Phase::Header { len, head } => {
+                2u8.write(out)?;
+                len.write(out)?;
+                head.write(out)?;
+            }
+            Phase::Serve { at, stage, head } => {
+                3u8.write(out)?;
+                at.write(out)?;
+                Saved { value: stage }.write(out)?;
+                head.write(out)?;
+            }
+            Phase::Return { len, head, stage } => {
+                4u8.write(out)?;
+                len.write(out)?;
+                head.write(out)?;
+                Saved { value: stage }.write(out)?;
+            }
+        }
+        Ok(())
+    }
+
+    fn read(alloc: Global, input: &mut Input) -> Result<Saved<Phase>, ReadError> {
+        let value = match u8::read(alloc, input)? {
+            0 => Phase::Between,
+            1 => {
+                let stage: Saved<BreakStage> = Stored::read(alloc, input)?;
+                Phase::Break { stage: stage.value }
+            }
+            2 => {
+                let (len, head) = Stored::read(alloc, input)?;
+                Phase::Header { len, head }
+            }
+            3 => {
+                let (at, (stage, head)): (u64, (Saved<ServiceStage>, u16)) = Stored::read(
+                    alloc, input,
+                )?;
+                Phase::Serve {
+                    at,
+                    stage: stage.value,
+                    head,
+                }
+            }
+            4 => {
+                let (len, (head, stage)): (u32, (u16, Saved<ReturnStage>)) = Stored::read(
+                    alloc, input,
+                )?;
+                Phase::Return {
+                    len,
+                    head,
+                    stage: stage.value,
+                }
+            }
+            _ => return Err(ReadError::Bad),
+        };
+        Ok(Saved { value })
+    }
+}
