@@ -26,8 +26,8 @@ use Rattle.slice_runner.specs.Slices.{answers_of}
 use Rattle.slice_runner.specs.Stops.{HasCause, IsUnfull, closings, is_last_full, last_asks}
 use Rattle.slice_runner.specs.Values.{route_among}
 
--- the entry is of this actor and op, at the op's place among so many pages and ports, with the next stamp after the actor's clock
--- and the place's last; with no place the reply is what is given
+-- the entry is of this actor and op, at the op's place among so many pages and ports, with the next stamp after the actor's
+-- clock and the place's last; with no place the reply is what is given
 pub record IsActOf (e : Entry) (actor : ActorId) (op : Op) (given : Option Reply) (layout : Layout) (clock : ℕ) : Type 0 where
   pub actor_is : e.actor ≡ actor
   pub op_is : e.op ≡ op

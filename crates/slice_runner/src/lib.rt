@@ -1,11 +1,11 @@
 //! Slices: harts side by side over locked places, and one list of events.
 //!
-//! `run_slice` moves a world's pages, its ports and its board under locks of their own, lets each hart work in a thread of its own and
-//! the timer beside them, brings everything home, and puts what all of them did in one order. The events are a run of the
-//! flat machine from the world before to the world after, each with the reply that it got, whoever came first; pages stay
-//! marked exactly where events wrote them; each actor has one stop, with its cause. `specs/Slices.antt` says so, and
-//! `specs/Stops.antt` why an actor stops. All room but that of the places' histories is made before the first step.
-//! Nothing is said of time: not that an actor gets on, nor that two threads ran at once.
+//! `run_slice` moves a world's pages, its ports and its board under locks of their own, lets each hart work in a thread of
+//! its own and the timer beside them, brings everything home, and puts what all of them did in one order. Devices don't act
+//! in a slice. The events are a run of the flat machine from the world before to the world after, each with the reply that
+//! it got, whoever came first; pages stay marked exactly where events wrote them; each actor has one stop, with its cause.
+//! `specs/Slices.antt` says so, and `specs/Stops.antt` why an actor stops. All room but that of the places' histories is
+//! made before the first step. Nothing is said of time: not that an actor gets on, nor that two threads ran at once.
 #![tactic(auto)]
 
 mod acting;

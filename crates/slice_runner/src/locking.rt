@@ -30,8 +30,8 @@ pub fn lock_all<P: Place, K: Openings<P>>(
     }
 }
 
-/// Every place of a list back from under its lock, and its history behind those that came before, into room that was made
-/// before. It takes no memory.
+/// Every place of a list back from under its lock, and its history behind those that came before, into room that
+/// was made before. It takes no memory.
 pub fn unlock_all<P: Place, K: Openings<P>>(
     listed: Listed,
     locks: Vec<Locked<P, K>>,

@@ -1,11 +1,9 @@
 // All places of a slice, each under a lock of its own.
-ghost use Rattle.std.specs.Prelude.{◌≡◌, ◌+◌, ◌<◌, ◌≤◌, ◌^◌, ◌++◌, ◌∷◌, [], length, vec_len, vec_capacity, IfOk, OnErr};
+ghost use Rattle.std.specs.Prelude.{◌≡◌, ◌+◌, ◌<◌, ◌≤◌, ◌^◌, [], length, vec_len, vec_capacity, IfOk, OnErr};
 ghost use Rattle.vm_types.specs.declared.ids.PlaceId.{PlaceId};
-ghost use Rattle.vm_types.specs.Ids.{is_out};
 ghost use Rattle.guest_pages.specs.Pages.{PageValue};
 ghost use Rattle.place_locks.specs.Held.{IsEntryOf};
 ghost use Rattle.port_table.specs.declared.state.PortState.{PortState};
-ghost use Rattle.stamp_merge.specs.declared.history.History.{History as HistoryValue};
 ghost use Rattle.slice_runner.specs.Locks.{AllHome, AreOpen, IsBoardBack, IsLaidOut};
 ghost use Rattle.slice_runner.specs.declared.listed.Listed.TheVariants as listed;
 
@@ -69,7 +67,8 @@ impl<K: Openings<Page>, M: Openings<Port>, L: Openings<Board>> Locks<K, M, L> {
         mut for_ports: Vec<Locked<Port, M>>,
     ) -> Locks<K, M, L>
         requires empty { (for_pages.items ≡ []) × (for_ports.items ≡ []) }
-        requires room { (length pages.items ≤ vec_capacity for_pages) × (length ports.items ≤ vec_capacity for_ports) }
+        requires room { (length pages.items ≤ vec_capacity for_pages)
+            × (length ports.items ≤ vec_capacity for_ports) }
         requires few { (length pages.items ≤ 2 ^ 28) × (length ports.items ≤ 255) }
         requires pages { AreOpen (λ (p : PageValue). p) K.opening listed.Pages pages.items }
         requires ports { AreOpen (λ (p : PortState). p) M.opening listed.Ports ports.items }
@@ -123,8 +122,8 @@ impl<K: Openings<Page>, M: Openings<Port>, L: Openings<Board>> Locks<K, M, L> {
         }
     }
 
-    /// Every place back from under its lock, and the histories: those of the pages, those of the ports, and the board's. It
-    /// takes no memory.
+    /// Every place back from under its lock, and the histories: those of the pages, those of the ports, and the
+    /// board's. It takes no memory.
     pub fn into_places(
         self,
         pages: &mut Vec<Page>,
@@ -134,7 +133,8 @@ impl<K: Openings<Page>, M: Openings<Port>, L: Openings<Board>> Locks<K, M, L> {
         requires empty { (pages.old.items ≡ []) × (ports.old.items ≡ []) × (histories.old.items ≡ []) }
         requires room { (self.pages ≤ vec_capacity pages.old) × (self.ports ≤ vec_capacity ports.old)
             × (self.pages + (self.ports + 1) ≤ vec_capacity histories.old) }
-        ensures home { AllHome K.opening M.opening L.opening self pages.new.items ports.new.items result histories.new.items }
+        ensures home { AllHome K.opening M.opening L.opening self
+            pages.new.items ports.new.items result histories.new.items }
         ensures count { length histories.new.items ≡ self.pages + (self.ports + 1) }
     {
         let Locks {

@@ -11,7 +11,8 @@ use stamp_merge::{History, Journal};
 use std::alloc::{AllocError, Global};
 use vm_types::Entry;
 
-/// Empty lists for pages and ports that come back from under their locks with their histories, and a number for each history.
+/// Empty lists for pages and ports that come back from under their locks with their histories, and a number for each
+/// history.
 #[derive(Drop)]
 pub struct PlaceRoom {
     pub pages: Vec<Page>,

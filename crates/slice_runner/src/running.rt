@@ -1,5 +1,5 @@
 // All actors at once: each hart in a thread of its own, and the timer beside them.
-ghost use Rattle.std.specs.Prelude.{◌≡◌, ◌≤◌, ◌<◌, ◌^◌, ℕ, length, All, slice_index_or};
+ghost use Rattle.std.specs.Prelude.{◌<◌, ℕ, length, All, slice_index_or};
 ghost use Rattle.slice_runner.specs.Runs.{HartEnds, HartsWorked, TimerEnds};
 ghost use Rattle.slice_runner.specs.Runs.{IsReady};
 ghost use Rattle.slice_runner.specs.Stops.{timer_most};
@@ -114,7 +114,8 @@ pub fn run_all<
 {
     let mut beside = ||
         requires { All (λ worker. IsReady (G.serves gate.now) n worker.track) harts.now.items }
-        ensures { HartsWorked (G.serves gate.entry.now) G.tally locks.entry.now n harts.entry.now.items harts.exit.now.items }
+        ensures { HartsWorked (G.serves gate.entry.now) G.tally locks.entry.now n
+            harts.entry.now.items harts.exit.now.items }
     { run_vec(rt, gate, locks, n, harts) };
     let also_rt = rt;
     let also_gate = gate;

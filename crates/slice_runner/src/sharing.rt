@@ -100,7 +100,8 @@ pub fn share<
     requires harts { length parts.harts.items ≤ 32 }
     requires passes { length parts.harts.items + 1 ≤ length passes.old.items }
     requires serve { All (G.serves gate.now) passes.old.items }
-    requires room { HasRoom (length parts.pages.items) (length parts.ports.items) (length parts.harts.items) (length passes.old.items) n room }
+    requires room { HasRoom (length parts.pages.items) (length parts.ports.items) (length parts.harts.items)
+        (length passes.old.items) n room }
     requires opening { (p : PlaceId) → K.opening p ≡ page_at parts.pages.items p }
     requires ports { (p : PlaceId) → M.opening p ≡ port_at parts.ports.items p }
     requires board { (p : PlaceId) → L.opening p ≡ parts.board }

@@ -1,5 +1,5 @@
 // Actors at work, each with its pass and its journal.
-ghost use Rattle.std.specs.Prelude.{◌≡◌, ◌+◌, ◌<◌, ◌≤◌, ◌^◌, ℕ, length, vec_len, vec_capacity, IfErr, OnOk, MatchOption};
+ghost use Rattle.std.specs.Prelude.{◌≡◌, ◌+◌, ◌<◌, ℕ, vec_len, vec_capacity, IfErr, OnOk, MatchOption};
 ghost use Rattle.vm_types.specs.declared.ids.ActorId.{ActorId};
 ghost use Rattle.hart_trace.specs.States.{Hart as HartValue, hart_next, hart_wants};
 ghost use Rattle.timer_trace.specs.States.{timer_next, timer_wants};
