@@ -26,9 +26,10 @@
 //!   many bytes were written (4), the head (2), and how far (1: 0 the pair, 1 its second half, 2 the index, 3 the
 //!   interrupt, 4 the line);
 //! - the act of a request, a byte and what follows it: 0 a unit is read from the disk, 1 its bytes are written to the
-//!   driver's parts, 3 a piece is read of them, 4 a unit is written to the disk: each time the sector, the unit and how
-//!   many follow (8 each); 2 the drive's id is written; 5 a flush; 6 the status is written: it (1), and the used length
-//!   (4);
+//!   driver's parts, each with the sector, how many units behind it, and how many follow (8 each); 2 the drive's id
+//!   is written; 3 a piece is read of the driver's parts, 4 a unit is written to the disk, each with the sector, the
+//!   part of it, below 8, and how many follow (8 each); 5 a flush; 6 the status is written: it (1), and the used
+//!   length (4);
 //! - the walk that is begun, an option: the queue, 30 bytes; the number of its chain (2); the act (1: 0 the index, 1
 //!   the ring's entry, 2 a descriptor, and behind a 2 the chain's head and the descriptor's number, 2 each); the list
 //!   of its parts;
@@ -44,6 +45,8 @@ mod phase;
 mod port;
 mod queue;
 mod saved;
+#[cfg(test)]
+mod tests;
 
 pub use device::{decode_device, encode_device};
 pub use law::port_size;
