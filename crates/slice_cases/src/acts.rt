@@ -46,7 +46,7 @@ pub fn lock_of(alloc: Global, page: u32) -> Lock {
 }
 
 /// The journals of two harts, each with a lock of its own or both with one, which make so many acts.
-pub fn act_in_two<R: Threads + Wait + Print + AllocGlobal + Sync, G: Gate + Sync>(
+pub fn act_in_two<R: Threads + Wait + AllocGlobal + Sync, G: Gate + Sync>(
     rt: &R,
     gate: &G,
     locks: (&Lock, &Lock),
@@ -61,7 +61,7 @@ pub fn act_in_two<R: Threads + Wait + Print + AllocGlobal + Sync, G: Gate + Sync
 }
 
 // So many acts of this hart, and its journal of them.
-fn act<R: Threads + Wait + Print + AllocGlobal + Sync, G: Gate>(
+fn act<R: Wait + AllocGlobal, G: Gate>(
     rt: &R,
     gate: &G,
     lock: &Lock,

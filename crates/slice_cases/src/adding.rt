@@ -38,7 +38,7 @@ pub fn print<R: Threads + Wait + Print + AllocGlobal + Sync>(rt: &R) -> io::Resu
     print_words(rt, &world, &other)
 }
 
-fn run_all<R: Threads + Wait + Print + AllocGlobal + Sync>(
+fn run_all<R: Threads + Wait + AllocGlobal + Sync>(
     rt: &R,
     world: &mut World,
     other: &mut World,
@@ -74,13 +74,13 @@ fn count(counts: &mut Counts, other: &mut World, slice: &Slice) {
     }
 }
 
-fn print_counts<R: Print + AllocGlobal>(rt: &R, counts: Counts) -> io::Result<()> {
+fn print_counts<R: Print>(rt: &R, counts: Counts) -> io::Result<()> {
     println!(rt; "adding: slices => {}", counts.slices)?;
     println!(rt; "adding: slices with three stops => {}", counts.stopped)?;
     println!(rt; "adding: slices that replay => {}", counts.replayed)
 }
 
-fn print_words<R: Print + AllocGlobal>(rt: &R, world: &World, other: &World) -> io::Result<()> {
+fn print_words<R: Print>(rt: &R, world: &World, other: &World) -> io::Result<()> {
     println!(rt; "adding: the word => {:?}", word_at(world, 0x8021_0018))?;
     println!(rt;
         "adding: the word of the replay => {:?}",

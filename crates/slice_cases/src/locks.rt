@@ -26,12 +26,7 @@ fn print_history<R: Threads + Wait + Print + AllocGlobal + Sync>(rt: &R) -> io::
     print_kept(rt, lock, &one, &other)
 }
 
-fn print_kept<R: Print + AllocGlobal>(
-    rt: &R,
-    lock: Lock,
-    one: &[Entry],
-    other: &[Entry],
-) -> io::Result<()> {
+fn print_kept<R: Print>(rt: &R, lock: Lock, one: &[Entry], other: &[Entry]) -> io::Result<()> {
     let (id, place, history) = lock.into_place();
     println!(rt; "lock: the place's id and count => {id:?} {}", place.count)?;
     let is_history = is_history_of(&history, one, other);

@@ -43,7 +43,7 @@ pub fn party(hart: u8, page: u32) -> Party {
 }
 
 // After one slice, if there are enough passes.
-fn stop_of_hart_0<R: Threads + Wait + Print + AllocGlobal + Sync>(
+fn stop_of_hart_0<R: Threads + Wait + AllocGlobal + Sync>(
     rt: &R,
     world: &mut World,
     gate: &HoldGate,
