@@ -22,17 +22,16 @@ fn print_trace(rt: &HostRuntime) -> io::Result<()> {
     let calls = [1].to_vec(rt.alloc())?;
     let mut trace = MemoryTrace::new(rt.alloc(), Failing::new(calls));
     show(rt, "trace: open", &trace.open("t"))?;
-    show(rt, "trace: add", &trace.add(&Item::Console))?;
-    show(rt, "trace: add", &add_bytes(rt.alloc(), &mut trace)?)?;
+    show(rt, "trace: add", &added(&mut trace, Item::Console))?;
+    let bytes = ByteList::copy_of(rt.alloc(), b"ab")?;
+    show(rt, "trace: add", &added(&mut trace, Item::Bytes { bytes }))?;
     let counts = (trace.took().len(), trace.faults());
     show(rt, "trace: took, failed", &counts)
 }
 
-fn add_bytes(alloc: Global, trace: &mut MemoryTrace) -> Result<Result<(), Failed>, AllocError> {
-    let item = Item::Bytes {
-        bytes: ByteList::copy_of(alloc, b"ab")?,
-    };
-    Ok(trace.add(&item))
+/// What a trace answers to an item.
+pub fn added<T: Trace>(trace: &mut T, item: Item) -> Result<(), Failed> {
+    trace.add(&item)
 }
 
 // The first call fails.

@@ -1,4 +1,5 @@
 // A trace in a file, a disk in a file, random words and the system's clock.
+use crate::lists::added;
 use crate::showing::{alike, part_of, show, text_of};
 use host_real::{DiskFiles, RandomWords, SystemClock, TraceFile};
 use script_text::Item;
@@ -33,15 +34,15 @@ fn print_trace(rt: &HostRuntime) -> io::Result<()> {
 }
 
 fn print_added(rt: &HostRuntime, trace: &mut TraceFile<'_, HostRuntime>) -> io::Result<()> {
-    show(rt, "trace file: add", &trace.add(&Item::Console))?;
+    show(rt, "trace file: add", &added(trace, Item::Console))?;
     show(rt, "trace file: open", &trace.open("trace"))?;
-    show(rt, "trace file: add", &trace.add(&Item::Connect))?;
+    show(rt, "trace file: add", &added(trace, Item::Connect))?;
     let step = Item::Step {
         actor: ActorId::Timer,
         count: 2,
     };
-    let added = trace.add(&step);
-    show(rt, "trace file: add, failed", &(added, trace.faults()))
+    let last = added(trace, step);
+    show(rt, "trace file: add, failed", &(last, trace.faults()))
 }
 
 fn print_lines(rt: &HostRuntime) -> io::Result<()> {
