@@ -1,6 +1,6 @@
 //! Prints what objects in memory and over the real thing do, and what merges, orders and gates answer, for the gate to
-//! compare with `stdout`. What they do is proved where a contract can say it; which bytes the system gives and takes, and
-//! that a call with enough memory succeeds, is shown here.
+//! compare with `stdout`. What they do is proved where a contract can say it; which bytes the system gives and takes,
+//! and that a call with enough memory succeeds, is shown here.
 //!
 //! Each line is what was done, and what came out. `data/` has the files that are read, and the merges and commands that
 //! are tried. What is made there is removed.

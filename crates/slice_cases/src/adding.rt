@@ -1,4 +1,4 @@
-// Two harts that add to one word, in a hundred slices of 64 steps, each replayed one step after the other on another world.
+// Two harts that add to one word, in a hundred slices of 64 steps, each replayed step by step on another world.
 ghost use Rattle.std.specs.Prelude.{◌≡◌, All};
 
 use crate::worlds::{host, replays, two_harts, word_at};

@@ -1,8 +1,9 @@
 //! Prints stored cases with what they are read as or written as, for the gate to compare with `stdout`.
 //!
-//! A case is a line of a file of `data/`, with `\r`, `\n` and `\0` for those bytes, `|` where a text is cut in pieces, and
-//! `COUNT*TEXT` for a piece that is a text so many times. Each of `TABLES` is such a file, and of `SERVICES`, whose lines
-//! are `NOW WORD METHOD PATH HEADER VALUE`, one request after another. What is only written is in `written` and `refused`. A new case is one more line there and one in `stdout`: it costs no proof.
+//! A case is a line of a file of `data/`, with `\r`, `\n` and `\0` for those bytes, `|` where a text is cut in pieces,
+//! and `COUNT*TEXT` for a piece that is a text so many times. Each of `TABLES` is such a file, and of `SERVICES`, whose
+//! lines are `NOW WORD METHOD PATH HEADER VALUE`, one request after another. What is only written is in `written` and
+//! `refused`. A new case is one more line there and one in `stdout`: it costs no proof.
 #![tactic(auto)]
 
 mod calls;
