@@ -1,7 +1,7 @@
 //! The host objects of a running guest and of serving in memory, each with a list of calls that are to fail.
 //!
-//! They tell their content, so all that a contract says of host objects holds of them. What they take is kept, for
-//! tests to look at. Words, and a clock, that never fail stand on `Numbers`, a list of answers. Read `memory_trace`
+//! They tell their content, so all that a contract says of host objects holds of them. What they take is kept, to
+//! be looked at. Words, and a clock, that never fail stand on `Numbers`, a list of answers. Read `memory_trace`
 //! and `memory_conn` first, then `memory_listener` with `past`, by which the end of a connection needs no memory.
 #![tactic(auto)]
 
@@ -20,8 +20,6 @@ mod numbers;
 mod passed;
 mod past;
 mod steady_words;
-#[cfg(test)]
-mod tests;
 
 pub use frame::Frame;
 pub use memory_clock::MemoryClock;

@@ -2,7 +2,7 @@
 //! a file for a trace, random words, and a file for each device's disk.
 //!
 //! This is the trusted edge. None of these tells its content: the contracts say that each call that failed is counted.
-//! That the right bytes come in and go out is tested, over real files and sockets.
+//! That the right bytes come in and go out is shown by `object_cases`, over real files and sockets.
 #![tactic(auto)]
 
 mod disk_files;
@@ -11,8 +11,6 @@ mod socket_conn;
 mod socket_file;
 mod socket_listener;
 mod system_clock;
-#[cfg(test)]
-mod tests;
 mod trace_file;
 mod trace_lines;
 

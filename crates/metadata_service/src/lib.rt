@@ -28,6 +28,3 @@ mod service;
 pub use reply::Reply;
 pub use service::Service;
 pub use token::Token;
-
-#[cfg(test)]
-mod tests;

@@ -3,7 +3,7 @@
 //! This is the trusted edge. No contract can say which bytes the system gave or took, so none of these
 //! tells its content: the contracts say that each call that failed is counted once, that no other call
 //! is, and that a sink takes at least one byte of a piece that isn't empty. That the right bytes come
-//! in and go out is tested, over real files.
+//! in and go out is shown by `object_cases`, over real files.
 //!
 //! Read `reading`, `writing` and `folder`, one for each trait, then `named_file` and `open_files` with the calls on one
 //! file, `entered` with the names that are on disk, and `tries` with the calls that a signal may cut off.
@@ -16,11 +16,10 @@ mod folder;
 mod named_file;
 mod open_files;
 mod reading;
-#[cfg(test)]
-mod tests;
 pub mod tries;
 mod writing;
 
 pub use folder::Folder;
+pub use named_file::folder_of;
 pub use reading::Reading;
 pub use writing::Writing;

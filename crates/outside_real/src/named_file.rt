@@ -49,7 +49,8 @@ pub(crate) fn sync_entry<R: rt::Files>(rt: &R, name: &str) -> io::Result<()> {
     File::open(rt, folder_of(name))?.sync_all()
 }
 
-pub(crate) fn folder_of(name: &str) -> Path<'_> {
+/// The folder that a file of this name stands in.
+pub fn folder_of(name: &str) -> Path<'_> {
     match Path::new(name).parent() {
         Some(folder) if !folder.path_text().is_empty() => folder,
         _ => Path::new("."),

@@ -8,8 +8,6 @@
 
 mod kept;
 mod locked;
-#[cfg(test)]
-mod tests;
 
 pub use kept::Kept;
 pub use locked::Locked;

@@ -5,8 +5,6 @@
 #![tactic(auto)]
 
 mod gate;
-#[cfg(test)]
-mod tests;
 
 pub use gate::{Pass, RateGate};
 pub use token_bucket::Bucket;

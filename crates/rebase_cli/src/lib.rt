@@ -7,8 +7,6 @@
 
 mod end;
 mod last_line;
-#[cfg(test)]
-mod tests;
 mod top;
 mod words;
 

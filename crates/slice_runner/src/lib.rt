@@ -18,8 +18,6 @@ mod sharing;
 mod slice;
 mod staffing;
 mod stop;
-#[cfg(test)]
-mod tests;
 mod worker;
 
 pub use slice::{Slice, SliceError, run_slice};

@@ -31,7 +31,8 @@ fn joined(alloc: Global, pieces: &str) -> Result<Vec<u8>, AllocError> {
     Ok(bytes)
 }
 
-fn request_of(
+/// A request without headers.
+pub fn request_of(
     alloc: Global,
     method: &str,
     path: &str,

@@ -16,7 +16,8 @@ pub fn bytes_of(alloc: Global, piece: &str) -> Result<Vec<u8>, AllocError> {
     }
 }
 
-fn counted(piece: &str) -> Option<(u32, &str)> {
+/// The count and the text of `COUNT*TEXT`.
+pub fn counted(piece: &str) -> Option<(u32, &str)> {
     let (count, text) = piece.split_once('*')?;
     match count.parse::<u32>() {
         Ok(count) => Some((count, text)),

@@ -1,7 +1,14 @@
 // An order, a comparison, and the laws at a place and an actor.
-use crate::{History, Layout, agreed_order, compare, one_clock, one_order, sort_all};
-use std::test::Fail;
-use vm_types::{Actor, ActorId, Entry, Op, Place, PlaceId, Reply, Torn};
+use crate::showing::show;
+use stamp_merge::{History, Layout, agreed_order, compare, one_clock, one_order, sort_all};
+use std::io;
+use vm_types::{Actor, ActorId, Entry, Op, Place, PlaceId, Reply};
+
+pub fn print(rt: &HostRuntime) -> io::Result<()> {
+    print_sorted(rt)?;
+    print_compared(rt)?;
+    print_laws(rt)
+}
 
 fn entry(stamp: u64, actor: ActorId, place: PlaceId) -> Entry {
     Entry {
@@ -19,8 +26,7 @@ fn of(stamp: u64, actor: ActorId) -> Entry {
 }
 
 // By stamp, and at one stamp the timer, the harts and the devices.
-#[test]
-fn entries_go_by_stamp_and_then_by_actor(rt: HostRuntime) {
+fn print_sorted(rt: &HostRuntime) -> io::Result<()> {
     let mut entries = [
         of(2, ActorId::Device(0)),
         of(1, ActorId::Hart(1)),
@@ -28,19 +34,15 @@ fn entries_go_by_stamp_and_then_by_actor(rt: HostRuntime) {
         of(1, ActorId::Hart(0)),
         of(2, ActorId::Timer),
     ];
-    let sorted = [
-        of(1, ActorId::Hart(0)),
-        of(1, ActorId::Hart(1)),
-        of(2, ActorId::Timer),
-        of(2, ActorId::Hart(1)),
-        of(2, ActorId::Device(0)),
-    ];
     sort_all(&mut entries);
-    assert!(rt; entries == sorted);
+    for entry in &entries {
+        show(rt, "sorted", entry)?;
+    }
+    Ok(())
 }
 
-#[test]
-fn a_history_agrees_or_is_torn_where_an_entry_is_lost(rt: HostRuntime) -> Result<(), Fail> {
+// A history that agrees, and one that is torn where an entry is lost.
+fn print_compared(rt: &HostRuntime) -> io::Result<()> {
     let layout = Layout { pages: 1, ports: 0 };
     let page = PlaceId::Page(0);
     let a = entry(1, ActorId::Hart(0), page);
@@ -49,17 +51,12 @@ fn a_history_agrees_or_is_torn_where_an_entry_is_lost(rt: HostRuntime) -> Result
     let kept = [History {
         lock: page,
         kept: page,
-        entries: vec![in rt.alloc(); a, c]?,
+        entries: [a, c].to_vec(rt.alloc())?,
     }];
-    assert!(rt; compare(&[a, out, c], &kept, layout, &mut [7]) == Ok(()));
-    let torn = Err(Torn::Entry {
-        place: page,
-        index: 1,
-        kept: Some(c),
-        other: None,
-    });
-    assert!(rt; compare(&[a, out], &kept, layout, &mut [7]) == torn);
-    Ok(())
+    let whole = compare(&[a, out, c], &kept, layout, &mut [7]);
+    show(rt, "compare: all entries", &whole)?;
+    let lost = compare(&[a, out], &kept, layout, &mut [7]);
+    show(rt, "compare: one is lost", &lost)
 }
 
 // Nothing that is acted on, and nobody that acts.
@@ -109,12 +106,12 @@ impl Actor for Nobody {
     ghost leaves = { λ s reply unfit. refl };
 }
 
-#[test]
-fn the_laws_hold_at_a_place_and_an_actor(rt: HostRuntime) {
+// The laws hold at a place and an actor.
+fn print_laws(rt: &HostRuntime) -> io::Result<()> {
     one_order::<Nothing, Nobody>();
     agreed_order::<Nothing, Nobody>();
     one_clock();
     let mut nobody = Nobody;
     nobody.give(Nothing.act(ActorId::Timer, &nobody.want()));
-    assert!(rt; nobody.want() == Op::Idle);
+    show(rt, "laws: nobody wants", &nobody.want())
 }

@@ -1,0 +1,77 @@
+// Worlds of two harts, and a clock for their slices.
+use boot_loader::Loads;
+use std::alloc::Global;
+use vm_host::{Clock, Host};
+use vm_types::{Entry, Op, is_same_op, is_same_place, is_same_reply};
+use vm_world::World;
+
+/// A clock whose answers rise by 1,000.
+#[derive(Drop)]
+pub struct Ticks {
+    moment: u64,
+}
+
+impl Clock for Ticks {
+    ghost use Rattle.std.specs.Prelude.{false};
+
+    ghost known = { λ clock. record { tells = false; left = λ n. 0 } };
+
+    fn now(&mut self) -> u64 {
+        self.moment = self.moment.wrapping_add(1000);
+        self.moment
+    }
+
+    fn rest(&mut self) {}
+}
+
+pub fn host() -> Host<(), (), (), Ticks> {
+    Host {
+        disk: (),
+        link: (),
+        vsock: (),
+        clock: Ticks { moment: 0 },
+    }
+}
+
+pub fn two_harts(alloc: Global, image: &[u8]) -> Option<World> {
+    let loads = Loads {
+        image,
+        initrd: None,
+        tree: &[],
+    };
+    World::start(alloc, 2, 4, &loads).ok()
+}
+
+/// Whether each step, one after the other, is as its event says.
+pub fn replays(world: &mut World, events: &[Entry]) -> bool {
+    for event in events {
+        if !is_made(world, event) {
+            return false;
+        }
+    }
+    true
+}
+
+fn is_made(world: &mut World, event: &Entry) -> bool {
+    let given = match event.op {
+        Op::Out(_) => Some(event.reply.again()),
+        _ => None,
+    };
+    match world.step(event.actor, given) {
+        Ok(entry) => {
+            is_same_op(&entry.op, &event.op)
+                && is_same_reply(&entry.reply, &event.reply)
+                && is_same_place(entry.place, event.place)
+        }
+        Err(_) => false,
+    }
+}
+
+/// The doubleword there, if it is memory.
+pub fn word_at(world: &World, address: u64) -> Option<u64> {
+    let mut word = [0; 8];
+    match world.read_memory(address, &mut word) {
+        Ok(()) => Some(u64::from_le_bytes(word)),
+        Err(_) => None,
+    }
+}
