@@ -2,7 +2,9 @@
 #![tactic(auto)]
 
 use firecracker_cli::{ServeOutside, firecracker_main};
-use host_real::{RandomWords, SocketConn, SocketListener, SystemClock, TraceFile};
+use host_real::{
+    RandomWords, SocketConn, SocketListener, SystemClock, TraceFile, keep_freed_memory,
+};
 use monitor_cli::{NoWords, Outside};
 use outside_real::{Folder, Reading, Writing};
 use std::io::ErrorKind;
@@ -11,6 +13,7 @@ use std::{env, io};
 use vm_host::Host;
 
 fn main(rt: HostRuntime) -> ExitCode {
+    keep_freed_memory(&rt);
     let mut out = Outside {
         source: Reading::new(rt.stdin()),
         sink: Writing::new(rt.stdout()),

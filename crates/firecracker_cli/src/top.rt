@@ -19,8 +19,9 @@ use vm_host::Clock;
 use vm_outside::{Files, Sink, Source};
 use vm_types::Exit;
 
-/// A slice has so many steps of each actor at most.
-const STEPS: u32 = 4_096;
+/// A slice has so many steps of each actor at most: with 128 MiB of memory they take four times as long as it takes to open
+/// and close the slice (`bench/slices`).
+const STEPS: u32 = 24_576;
 
 /// The command of these words, which are those behind the program's name: `replay [--id ID]`, or
 /// `serve --api-sock PATH [--id ID] [--trace FILE]`. Where the words can't be had, or are no command, the last line

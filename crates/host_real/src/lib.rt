@@ -6,6 +6,7 @@
 #![tactic(auto)]
 
 mod disk_files;
+mod kept_memory;
 mod random_words;
 mod socket_conn;
 mod socket_file;
@@ -15,6 +16,7 @@ mod trace_file;
 mod trace_lines;
 
 pub use disk_files::DiskFiles;
+pub use kept_memory::keep_freed_memory;
 pub use random_words::RandomWords;
 pub use socket_conn::SocketConn;
 pub use socket_listener::SocketListener;

@@ -24,6 +24,9 @@ use vm_world::World;
 /// A slice has at most so many harts, and so has every guest that a start or a load makes.
 const MOST_HARTS: usize = 32;
 
+/// All actors of a slice together make at most so many steps, so that their journals take some 45 MiB at most.
+const MOST_STEPS: u32 = 65_536;
+
 // Whether each actor of the world has a pass.
 fn has_passes(world: &World, passes: usize) -> bool
     ensures { result ≡ true → (length world.now.harts ≤ 32) × (length world.now.harts + 1 ≤ passes) }
@@ -72,6 +75,15 @@ fn end_by(why: Untold) -> Ran
     }
 }
 
+// So many steps of each actor as are asked for, or as many as a slice has room for.
+fn steps_each(world: &World, steps: u32) -> u32
+    requires { length world.now.harts ≤ 32 }
+    ensures { result ≤ steps }
+{
+    let actors = world.hart_count() as u32 + 1;
+    steps.min(MOST_STEPS / actors)
+}
+
 // One slice of a guest, its events and a drain.
 fn run_guest<
     Q: Send + Drop,
@@ -103,7 +115,8 @@ fn run_guest<
     ensures passes { ArePassed (G.serves gate.now) G.tally result passes.old.items passes.new.items }
     ensures unclosed { result ≢ Some ran.Closed }
 {
-    let slice = match run_slice(rt, alloc, world, host, gate, passes, steps) {
+    let each = steps_each(world, steps);
+    let slice = match run_slice(rt, alloc, world, host, gate, passes, each) {
         Ok(slice) => slice,
         Err(why) => return Some(slice_end(why)),
     };
@@ -176,8 +189,8 @@ fn run_or_wait<
     run_guest(rt, alloc, world, host, gate, passes, steps, trace, sink)
 }
 
-/// One slice of a machine, of `steps` steps at most of each actor, which asks the gate with a pass of its own before each
-/// step. Answers why slices end, or `None` where they may go on; it is `Off` where the guest is off, of which no slice is
+/// One slice of a machine, of `steps` steps at most of each actor, and 65,536 of all of them. An actor asks the gate with a
+/// pass of its own before each step. Answers why slices end, or `None` where they may go on; it is `Off` where the guest is off, of which no slice is
 /// made. That the gate is closed is no end here.
 ///
 /// Each event goes to the trace, as `step ACTOR 1`, or `reply ACTOR R` with the answer of a host object; then, where the
