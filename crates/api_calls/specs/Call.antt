@@ -1,5 +1,5 @@
 -- What a request asks for, or its first refusal.
-use Rattle.std.specs.Prelude.{ℕ, Bool, true, false, ◌||◌, List, [], ◌∷◌, if◌then◌else◌, Option, Some, None, is_some, option_and_then, unwrap_or, Result, Ok, Err, codes}
+use Rattle.std.specs.Prelude.{ℕ, Bool, false, ◌||◌, List, [], if◌then◌else◌, Option, Some, None, is_some, option_and_then, unwrap_or, Result, Ok, Err, codes}
 use Rattle.std.specs.Str.{bytes_eq, is_utf8}
 use Rattle.serde_json.specs.Data.{Data}
 use Rattle.serde_json.specs.Find.{get, as_object}
@@ -9,12 +9,13 @@ use Rattle.refusals.specs.declared.refusal.Refusal.TheVariants as refused
 use Rattle.http_stream.specs.declared.request.Request.{Request}
 use Rattle.api_calls.specs.Form.{refusal, text_at, number_at, flag_at}
 use Rattle.api_calls.specs.Fields.{form_of}
-use Rattle.api_calls.specs.Routes.{endpoint_of}
+use Rattle.api_calls.specs.Routes.{target_of}
 use Rattle.api_calls.specs.declared.call.ApiCall.{ApiCall}
 use Rattle.api_calls.specs.declared.call.ApiCall.TheVariants as call
+use Rattle.api_calls.specs.declared.call.CacheType.{CacheType}
+use Rattle.api_calls.specs.declared.call.CacheType.TheVariants as cache
 use Rattle.api_calls.specs.declared.call.VmState.{VmState}
 use Rattle.api_calls.specs.declared.call.VmState.TheVariants as state
-use Rattle.api_calls.specs.declared.call.SnapshotFiles.{SnapshotFiles}
 use Rattle.api_calls.specs.declared.call.SnapshotType.{SnapshotType}
 use Rattle.api_calls.specs.declared.call.SnapshotType.TheVariants as snapshot
 use Rattle.api_calls.specs.declared.endpoint.Body.{Body}
@@ -54,6 +55,10 @@ abbrev pub is_text : List ℕ → Option (List ℕ) → Bool
 is_text text None = false
 is_text text (Some t) = bytes_eq t text
 
+-- unsafe, where nothing is said
+abbrev pub cache_of : Data → CacheType
+cache_of d = if is_text (codes "Writeback") (text_at (codes "cache_type") d) then cache.Writeback else cache.Unsafe
+
 abbrev pub state_of : Data → VmState
 state_of d = if is_text (codes "Paused") (text_at (codes "state") d) then state.Paused else state.Resumed
 
@@ -84,6 +89,17 @@ made body.BootSource d = call.PutBootSource (record {
   kernel_image_path = text_or_none (text_at (codes "kernel_image_path") d);
   initrd_path = text_at (codes "initrd_path") d;
   boot_args = text_or_none (text_at (codes "boot_args") d);
+})
+made body.Drive d = call.PutDrive (record {
+  drive_id = text_or_none (text_at (codes "drive_id") d);
+  path_on_host = text_or_none (text_at (codes "path_on_host") d);
+  is_root_device = is_set (codes "is_root_device") d;
+  is_read_only = is_set (codes "is_read_only") d;
+  cache_type = cache_of d;
+})
+made body.DrivePatch d = call.PatchDrive (record {
+  drive_id = text_or_none (text_at (codes "drive_id") d);
+  path_on_host = text_at (codes "path_on_host") d;
 })
 made body.MachineConfig d = call.PutMachineConfig (record {
   vcpu_count = unwrap_or (number_at (codes "vcpu_count") d) 0;
@@ -117,18 +133,18 @@ made body.SnapshotLoad d = call.LoadSnapshot (record {
 
 -- ---- the request
 
-abbrev pub sent : Body → List ℕ → Result ApiCall Refusal
-sent b bytes = do
+abbrev pub sent : Body → List ℕ → List ℕ → Result ApiCall Refusal
+sent b id bytes = do
   d ← object_of bytes
-  d ← unless (refusal (form_of b) d) d
+  d ← unless (refusal (form_of b id) d) d
   Ok (made b d)
 
-abbrev pub asked : Endpoint → List ℕ → Result ApiCall Refusal
-asked (endpoint.Send b) bytes = sent b bytes
-asked (endpoint.Get part) bytes = Ok (call.Get part)
+abbrev pub asked : Endpoint → List ℕ → List ℕ → Result ApiCall Refusal
+asked (endpoint.Send b) id bytes = sent b id bytes
+asked (endpoint.Get part) id bytes = Ok (call.Get part)
 
 -- Refused by its path, then by its method, then by its body; the body of a GET is not looked at.
 abbrev pub call_of : Request → Result ApiCall Refusal
 call_of r = do
-  e ← endpoint_of r.path r.method
-  asked e r.body
+  t ← target_of r.path r.method
+  asked t.endpoint t.id r.body

@@ -1,7 +1,7 @@
 -- The fields of each body, in the order of the API's table. What isn't built is not in it: a field is unknown
 -- then, and a value out of range.
-use Rattle.std.specs.Prelude.{ℕ, Bool, true, false, List, [], ◌∷◌, codes}
-use Rattle.api_calls.specs.Form.{Kind, path, text, choice, whole, flag, unset, group, Row, Level, Together, free, some_of, either, differing, Form}
+use Rattle.std.specs.Prelude.{ℕ, true, false, List, [], ◌∷◌, codes}
+use Rattle.api_calls.specs.Form.{Kind, path, id, text, choice, whole, flag, unset, group, Row, Together, free, some_of, either, differing, naming, Form}
 use Rattle.api_calls.specs.declared.endpoint.Body.{Body}
 use Rattle.api_calls.specs.declared.endpoint.Body.TheVariants as body
 
@@ -25,6 +25,23 @@ boot_source = flat (
     ∷ optional (codes "initrd_path") path
     ∷ optional (codes "boot_args") (text 2048)
     ∷ []) free
+
+-- PUT /drives/{id}, where the body names the drive that the path does
+abbrev pub drive : List ℕ → Form
+drive named = flat (
+    needed (codes "drive_id") id
+    ∷ needed (codes "path_on_host") path
+    ∷ needed (codes "is_root_device") flag
+    ∷ optional (codes "is_read_only") flag
+    ∷ optional (codes "cache_type") (choice (codes "Unsafe" ∷ codes "Writeback" ∷ []))
+    ∷ []) (naming (codes "drive_id") named)
+
+-- PATCH /drives/{id}
+abbrev pub drive_patch : List ℕ → Form
+drive_patch named = flat (
+    needed (codes "drive_id") id
+    ∷ optional (codes "path_on_host") path
+    ∷ []) (naming (codes "drive_id") named)
 
 -- PUT /machine-config: 1 to 32 harts, 4 to 1,024 MiB
 abbrev pub machine_config : Form
@@ -95,13 +112,16 @@ snapshot_load = record {
   together = either (codes "mem_file_path") (codes "mem_backend");
 }
 
-abbrev pub form_of : Body → Form
-form_of body.BootSource = boot_source
-form_of body.MachineConfig = machine_config
-form_of body.MachinePatch = machine_patch
-form_of body.Metadata = metadata
-form_of body.MetadataPatch = metadata
-form_of body.Action = action
-form_of body.VmState = vm_state
-form_of body.SnapshotCreate = snapshot_create
-form_of body.SnapshotLoad = snapshot_load
+-- by the id in the path, where it has one
+abbrev pub form_of : Body → List ℕ → Form
+form_of body.BootSource named = boot_source
+form_of body.Drive named = drive named
+form_of body.DrivePatch named = drive_patch named
+form_of body.MachineConfig named = machine_config
+form_of body.MachinePatch named = machine_patch
+form_of body.Metadata named = metadata
+form_of body.MetadataPatch named = metadata
+form_of body.Action named = action
+form_of body.VmState named = vm_state
+form_of body.SnapshotCreate named = snapshot_create
+form_of body.SnapshotLoad named = snapshot_load

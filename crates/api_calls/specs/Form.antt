@@ -1,6 +1,7 @@
 -- The fields of a body by tables, and the first refusal by them.
-use Rattle.std.specs.Prelude.{ℕ, ◌&&◌, ◌||◌, ◌==◌, Bool, true, false, not, List, [], ◌∷◌, length, if◌then◌else◌, nat_lt, nat_le, Option, Some, None, is_some, option_and_then, option_map, unwrap_or}
+use Rattle.std.specs.Prelude.{ℕ, ◌&&◌, ◌||◌, ◌==◌, Bool, true, false, not, List, [], ◌∷◌, length, if◌then◌else◌, nat_lt, nat_le, Option, Some, None, is_some, option_and_then, option_map}
 use Rattle.std.specs.List.{list_any, list_all, find}
+use Rattle.std.specs.Char.{is_ascii_alphanumeric}
 use Rattle.std.specs.Str.{bytes_eq}
 use Rattle.serde_json.specs.Data.{Data, null, boolean, number, string, array, object, Members, no_members, member}
 use Rattle.serde_json.specs.Find.{get, as_object, as_null, as_bool, as_str, as_number, as_u64}
@@ -11,10 +12,12 @@ use Rattle.api_calls.specs.declared.test.Test.TheVariants as test
 
 -- ---- tables
 
--- What a field's value must be: the name of a file; a text of at most so many bytes; one of these texts; a whole
--- number, at least and at most; a flag; a flag that must not be set; an object, whose fields have a level of their own.
+-- What a field's value must be: the name of a file; the id of a thing; a text of at most so many bytes; one of these
+-- texts; a whole number, at least and at most; a flag; a flag that must not be set; an object, whose fields have a level
+-- of their own.
 pub data Kind : Type 0 where
   path : Kind
+  id : Kind
   text : ℕ → Kind
   choice : List (List ℕ) → Kind
   whole : ℕ → ℕ → Kind
@@ -33,12 +36,13 @@ pub record Level : Type 0 where
   pub rows : List Row
 
 -- What fields must be together: nothing; at least one of these is given; one of these two is given and
--- not both; these two texts differ.
+-- not both; these two texts differ; the text of this field is this text.
 pub data Together : Type 0 where
   free : Together
   some_of : List (List ℕ) → Together
   either : List ℕ → List ℕ → Together
   differing : List ℕ → List ℕ → Together
+  naming : List ℕ → List ℕ → Together
 
 pub record Form : Type 0 where
   pub levels : List Level
@@ -100,6 +104,7 @@ is_known rows name = list_any (λ row. bytes_eq row.name name) rows
 
 unfoldable pub is_of_kind : Kind → Data → Bool
 is_of_kind path d = is_some (as_str d)
+is_of_kind id d = is_some (as_str d)
 is_of_kind (text most) d = is_some (as_str d)
 is_of_kind (choice texts) d = is_some (as_str d)
 is_of_kind (whole least most) d = is_some (as_whole d)
@@ -111,8 +116,17 @@ is_of_kind group d = is_some (as_object d)
 abbrev pub is_path : List ℕ → Bool
 is_path t = nat_lt 0 (length t) && nat_le (length t) 4095 && not (list_any (λ b. b == 0) t)
 
+-- a letter or digit of ASCII, or _
+abbrev pub is_id_byte : ℕ → Bool
+is_id_byte b = is_ascii_alphanumeric b || b == 95
+
+-- 1 to 64 of them
+abbrev pub is_id : List ℕ → Bool
+is_id t = nat_lt 0 (length t) && nat_le (length t) 64 && list_all is_id_byte t
+
 unfoldable pub is_in_range : Kind → Data → Bool
 is_in_range path d = holds is_path (as_str d)
+is_in_range id d = holds is_id (as_str d)
 is_in_range (text most) d = holds (λ t. nat_le (length t) most) (as_str d)
 is_in_range (choice texts) d = holds (λ t. list_any (λ c. bytes_eq c t) texts) (as_str d)
 is_in_range (whole least most) d = holds (λ n. nat_le least n && nat_le n most) (as_whole d)
@@ -144,12 +158,14 @@ has_enough free d = true
 has_enough (some_of names) d = list_any (λ name. is_given name d) names
 has_enough (either a b) d = is_given a d || is_given b d
 has_enough (differing a b) d = true
+has_enough (naming a due) d = true
 
 abbrev pub agrees : Together → Data → Bool
 agrees free d = true
 agrees (some_of names) d = true
 agrees (either a b) d = not (is_given a d && is_given b d)
 agrees (differing a b) d = differ (text_at a d) (text_at b d)
+agrees (naming a due) d = holds (λ t. bytes_eq t due) (text_at a d)
 
 -- too few fields are a missing one, and what doesn't agree is out of range
 unfoldable pub together_passes : Test → Together → Data → Bool

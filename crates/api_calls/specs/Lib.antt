@@ -2,3 +2,4 @@ pub mod Form
 pub mod Fields
 pub mod Routes
 pub mod Call
+pub mod Drives

@@ -1,4 +1,6 @@
 // The calls of the API, in the table's order.
+ghost use Rattle.std.specs.Prelude.{◌≡◌};
+
 use metadata_store::Tree;
 use vm_types::TextList;
 
@@ -26,6 +28,52 @@ pub struct BootSource {
     pub initrd_path: Option<TextList>,
     /// What the kernel is told on its command line, of at most 2,048 bytes.
     pub boot_args: TextList,
+}
+
+/// Whether a drive offers its guest to flush what it wrote (VIRTIO 1.2, 5.2.3).
+#[derive(Clone, Copy, Debug, PartialEq, Eq, Drop)]
+pub enum CacheType {
+    /// It doesn't.
+    Unsafe,
+    /// It does.
+    Writeback,
+}
+
+impl CacheType {
+    ghost use Rattle.api_calls.specs.Drives.{cache_text};
+
+    /// How a request, a text and a file say it.
+    pub fn text(self) -> &'static str
+        ensures { result.now ≡ cache_text self }
+    {
+        match self {
+            CacheType::Unsafe => "Unsafe",
+            CacheType::Writeback => "Writeback",
+        }
+    }
+}
+
+/// A drive: a block device over a file.
+#[derive(Drop)]
+pub struct Drive {
+    /// Its name among the drives: 1 to 64 letters and digits of ASCII, and `_`.
+    pub drive_id: TextList,
+    /// The name of its file, of 1 to 4,095 bytes.
+    pub path_on_host: TextList,
+    /// Whether it is the first of the machine's devices. One drive at most is.
+    pub is_root_device: bool,
+    /// Whether the guest can only read it.
+    pub is_read_only: bool,
+    pub cache_type: CacheType,
+}
+
+/// What is to be replaced of a drive; what isn't given stays.
+#[derive(Drop)]
+pub struct DrivePatch {
+    /// The name of the drive.
+    pub drive_id: TextList,
+    /// The name of its file, of 1 to 4,095 bytes.
+    pub path_on_host: Option<TextList>,
 }
 
 /// The machine itself. Simultaneous multithreading is always off.
@@ -92,6 +140,10 @@ pub struct SnapshotLoad {
 pub enum ApiCall {
     /// PUT /boot-source
     PutBootSource(BootSource),
+    /// PUT /drives/{id}
+    PutDrive(Drive),
+    /// PATCH /drives/{id}
+    PatchDrive(DrivePatch),
     /// PUT /machine-config
     PutMachineConfig(MachineConfig),
     /// PATCH /machine-config

@@ -5,6 +5,8 @@ use crate::call::Part;
 #[derive(Clone, Copy, Drop)]
 pub enum Body {
     BootSource,
+    Drive,
+    DrivePatch,
     MachineConfig,
     MachinePatch,
     Metadata,

@@ -1,10 +1,15 @@
 // What holds of every call that the tables let through.
-ghost use Rattle.std.specs.Prelude.{◌≡◌, ◌≢◌, true, Ok};
+ghost use Rattle.std.specs.Prelude.{◌≡◌, ◌≢◌, ◌≤◌, ℕ, true, length, Ok, Some};
 ghost use Rattle.http_stream.specs.declared.request.Request.{Request};
 ghost use Rattle.api_calls.specs.declared.call.ApiCall.TheVariants as call;
+ghost use Rattle.api_calls.specs.declared.call.BootSource.{BootSource};
+ghost use Rattle.api_calls.specs.declared.call.Drive.{Drive};
+ghost use Rattle.api_calls.specs.declared.call.DrivePatch.{DrivePatch};
+ghost use Rattle.api_calls.specs.declared.call.MachineConfig.{MachineConfig};
+ghost use Rattle.api_calls.specs.declared.call.MachinePatch.{MachinePatch};
 ghost use Rattle.api_calls.specs.declared.call.SnapshotCreate.{SnapshotCreate};
 ghost use Rattle.api_calls.specs.declared.call.SnapshotLoad.{SnapshotLoad};
-ghost use Rattle.api_calls.specs.Form.{is_path};
+ghost use Rattle.api_calls.specs.Form.{holds, is_id, is_path};
 ghost use Rattle.api_calls.specs.Call.{call_of};
 
 /// What a create and a load ask for: a create names two files whose names differ, and each name in either call is one
@@ -16,4 +21,33 @@ pub fn paths_differ()
         (is_path it.files.snapshot_path ≡ true) × (is_path it.files.mem_file_path ≡ true) }
     ensures loaded { (r : Request) (load : SnapshotLoad) → call_of r ≡ Ok (call.LoadSnapshot load) →
         (is_path load.files.snapshot_path ≡ true) × (is_path load.files.mem_file_path ≡ true) }
+{}
+
+/// What a PUT and a PATCH of a drive name: an id of 1 to 64 letters and digits of ASCII and `_`, and a file by a name of 1
+/// to 4,095 bytes without a NUL, which a PATCH may leave out.
+pub fn drives_are_named()
+    ensures put { (r : Request) (drive : Drive) → call_of r ≡ Ok (call.PutDrive drive) →
+        (is_id drive.drive_id ≡ true) × (is_path drive.path_on_host ≡ true) }
+    ensures patch { (r : Request) (patch : DrivePatch) → call_of r ≡ Ok (call.PatchDrive patch) →
+        (is_id patch.drive_id ≡ true) × (holds is_path patch.path_on_host ≡ true) }
+{}
+
+/// What a machine boots: files by names of 1 to 4,095 bytes without a NUL, the second of which may be left out, and at most
+/// 2,048 bytes of arguments.
+pub fn sources_are_short()
+    ensures { (r : Request) (source : BootSource) → call_of r ≡ Ok (call.PutBootSource source) →
+        (is_path source.kernel_image_path ≡ true) × (holds is_path source.initrd_path ≡ true)
+        × (length source.boot_args ≤ 2048) }
+{}
+
+/// A machine has 1 to 32 harts and 4 to 1,024 MiB of memory, by a PUT and by what a PATCH gives.
+pub fn machines_are_in_range()
+    ensures harts { (r : Request) (machine : MachineConfig) → call_of r ≡ Ok (call.PutMachineConfig machine) →
+        (1 ≤ machine.vcpu_count) × (machine.vcpu_count ≤ 32) }
+    ensures mib { (r : Request) (machine : MachineConfig) → call_of r ≡ Ok (call.PutMachineConfig machine) →
+        (4 ≤ machine.mem_size_mib) × (machine.mem_size_mib ≤ 1024) }
+    ensures patched_harts { (r : Request) (patch : MachinePatch) (n : ℕ) →
+        call_of r ≡ Ok (call.PatchMachineConfig patch) → patch.vcpu_count ≡ Some n → (1 ≤ n) × (n ≤ 32) }
+    ensures patched_mib { (r : Request) (patch : MachinePatch) (n : ℕ) →
+        call_of r ≡ Ok (call.PatchMachineConfig patch) → patch.mem_size_mib ≡ Some n → (4 ≤ n) × (n ≤ 1024) }
 {}

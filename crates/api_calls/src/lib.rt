@@ -2,8 +2,8 @@
 //!
 //! `specs/Routes.antt` has the paths and their methods, `specs/Fields.antt` the fields of each body, and
 //! `specs/Form.antt` what is asked of fields and which refusal comes first. `specs/Call.antt` puts them together:
-//! the call that a request is, or its first refusal. There is no body here: `api_json` reads requests by these
-//! tables, and the flat machine cites them.
+//! the call that a request is, or its first refusal. But for `CacheType::text` there is no body here: `api_json` reads
+//! requests by these tables, and the flat machine cites them. `specs/Drives.antt` says of a drive what others need too.
 #![tactic(auto)]
 
 mod call;
@@ -12,9 +12,9 @@ mod law;
 mod test;
 
 pub use call::{
-    ApiCall, BootSource, MachineConfig, MachinePatch, Part, SnapshotCreate, SnapshotFiles,
-    SnapshotLoad, SnapshotType, VmState,
+    ApiCall, BootSource, CacheType, Drive, DrivePatch, MachineConfig, MachinePatch, Part,
+    SnapshotCreate, SnapshotFiles, SnapshotLoad, SnapshotType, VmState,
 };
 pub use endpoint::{Body, Endpoint};
-pub use law::paths_differ;
+pub use law::{drives_are_named, machines_are_in_range, paths_differ, sources_are_short};
 pub use test::Test;

@@ -8,7 +8,7 @@ const ROWS: [Row; 1] = [Row {
     kind: Kind::Choice(&["InstanceStart"]),
 }];
 
-pub static ACTION: Form = Form {
+pub static ACTION: Form<'static> = Form {
     levels: &[Level {
         place: &[],
         rows: &ROWS,

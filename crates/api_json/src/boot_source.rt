@@ -32,7 +32,7 @@ const ROWS: [Row; 3] = [
     },
 ];
 
-pub static BOOT_SOURCE: Form = Form {
+pub static BOOT_SOURCE: Form<'static> = Form {
     levels: &[Level {
         place: &[],
         rows: &ROWS,

@@ -12,11 +12,15 @@ use serde_json::{Map, Value};
 
 const LONGEST_PATH: usize = 4095;
 
+const LONGEST_ID: usize = 64;
+
 /// What a field's value must be.
 #[derive(Clone, Copy)]
 pub enum Kind {
     /// The name of a file: 1 to 4,095 bytes, none of them a NUL.
     Path,
+    /// The id of a thing: 1 to 64 letters and digits of ASCII, and `_`.
+    Id,
     /// A text of at most so many bytes.
     Text(usize),
     /// One of these texts.
@@ -84,12 +88,31 @@ fn is_path(text: &str) -> bool
     !text.is_empty() && text.len() <= LONGEST_PATH && !text.as_bytes().contains(&0)
 }
 
+fn is_id_byte(byte: u8) -> bool
+    ensures { result ≡ form.is_id_byte byte }
+{
+    byte.is_ascii_alphanumeric() || byte == b'_'
+}
+
+fn are_id_bytes(text: &[u8]) -> bool
+    ensures { result ≡ list_all form.is_id_byte text.now }
+{
+    text.iter().all(|byte| is_id_byte(*byte))
+}
+
+/// Whether this is an id: 1 to 64 letters and digits of ASCII, and `_`.
+pub fn is_id(text: &[u8]) -> bool
+    ensures { result ≡ form.is_id text.now }
+{
+    !text.is_empty() && text.len() <= LONGEST_ID && are_id_bytes(text)
+}
+
 #[tactic(auto, unfolding(api_calls::specs::Form::is_of_kind))]
 fn is_of_kind(kind: &Kind, value: &Value) -> bool
     ensures { result ≡ form.is_of_kind (kind_of kind.now) (view value.now) }
 {
     match kind {
-        Kind::Path | Kind::Text(_) | Kind::Choice(_) => value.is_string(),
+        Kind::Path | Kind::Id | Kind::Text(_) | Kind::Choice(_) => value.is_string(),
         Kind::Whole(_, _) => value.is_u64(),
         Kind::Flag | Kind::Unset => value.is_boolean(),
         Kind::Group => value.is_object(),
@@ -115,6 +138,10 @@ fn is_in_range(kind: &Kind, value: &Value) -> bool
     match kind {
         Kind::Path => match value.as_str() {
             Some(text) => is_path(text),
+            None => true,
+        },
+        Kind::Id => match value.as_str() {
+            Some(text) => is_id(text.as_bytes()),
             None => true,
         },
         Kind::Text(most) => match value.as_str() {

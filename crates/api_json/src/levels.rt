@@ -1,6 +1,7 @@
 // All fields of a body, at all levels, and the first refusal by them.
 ghost use Rattle.std.specs.Prelude.{◌≡◌, map, option_map, not};
 ghost use Rattle.std.specs.List.{list_all, list_any, find};
+ghost use Rattle.std.specs.Str.{bytes_eq};
 ghost use Rattle.serde_json.specs.View.{view};
 ghost use Rattle.api_calls.specs.Form as form;
 ghost use Rattle.api_json.specs.Tables.{form_of, level_of, together_of};
@@ -19,7 +20,7 @@ pub struct Level {
 
 /// What fields must be together.
 #[derive(Clone, Copy)]
-pub enum Together {
+pub enum Together<'i> {
     Free,
     /// At least one of these is given.
     SomeOf(&'static [&'static str]),
@@ -27,13 +28,15 @@ pub enum Together {
     Either(&'static str, &'static str),
     /// Two texts that differ.
     Differing(&'static str, &'static str),
+    /// A text that is this one.
+    Naming(&'static str, &'i [u8]),
 }
 
 /// The fields of a body.
 #[derive(Clone, Copy)]
-pub struct Form {
+pub struct Form<'i> {
     pub levels: &'static [Level],
-    pub together: Together,
+    pub together: Together<'i>,
 }
 
 /// In the order of the refusals.
@@ -91,29 +94,39 @@ fn differ(one: &str, other: &str, body: &Value) -> bool
     }
 }
 
+fn is_named(name: &str, due: &[u8], body: &Value) -> bool
+    ensures { result ≡ form.holds (λ t. bytes_eq t due.now) (form.text_at name.now (view body.now)) }
+{
+    match body.get(name).and_then(Value::as_str) {
+        Some(text) => text.as_bytes() == due,
+        None => true,
+    }
+}
+
 #[tactic(auto, using(crate::proofs::FormLemmas::list_any_map))]
-fn has_enough(together: &Together, body: &Value) -> bool
+fn has_enough(together: &Together<'_>, body: &Value) -> bool
     ensures { result ≡ form.has_enough (together_of together.now) (view body.now) }
 {
     match together {
         Together::SomeOf(names) => some_given(names, body),
         Together::Either(one, other) => is_given(one, body) || is_given(other, body),
-        Together::Free | Together::Differing(_, _) => true,
+        Together::Free | Together::Differing(_, _) | Together::Naming(_, _) => true,
     }
 }
 
-fn agrees(together: &Together, body: &Value) -> bool
+fn agrees(together: &Together<'_>, body: &Value) -> bool
     ensures { result ≡ form.agrees (together_of together.now) (view body.now) }
 {
     match together {
         Together::Either(one, other) => !(is_given(one, body) && is_given(other, body)),
         Together::Differing(one, other) => differ(one, other, body),
+        Together::Naming(name, due) => is_named(name, due, body),
         Together::Free | Together::SomeOf(_) => true,
     }
 }
 
 #[tactic(auto, unfolding(api_calls::specs::Form::together_passes))]
-fn together_passes(test: Test, together: &Together, body: &Value) -> bool
+fn together_passes(test: Test, together: &Together<'_>, body: &Value) -> bool
     ensures { result ≡ form.together_passes test (together_of together.now) (view body.now) }
 {
     match test {
@@ -124,13 +137,13 @@ fn together_passes(test: Test, together: &Together, body: &Value) -> bool
 }
 
 #[tactic(auto, using(crate::proofs::FormLemmas::list_all_map), unfolding(api_calls::specs::Form::passes))]
-fn passes(fields: &Form, body: &Value, test: Test) -> bool
+fn passes(fields: &Form<'_>, body: &Value, test: Test) -> bool
     ensures { result ≡ form.passes (form_of fields.now) (view body.now) test }
 {
     levels_pass(test, body, fields.levels) && together_passes(test, &fields.together, body)
 }
 
-fn first_failed<'t>(tests: &'t [Test], fields: &Form, body: &Value) -> Option<&'t Test>
+fn first_failed<'t>(tests: &'t [Test], fields: &Form<'_>, body: &Value) -> Option<&'t Test>
     ensures { option_map (λ test. test.now) result
         ≡ find (λ test. not (form.passes (form_of fields.now) (view body.now) test)) tests.now }
 {
@@ -150,7 +163,7 @@ fn refusal_by(test: Test) -> Refusal
 
 /// The first refusal of a body by its tables, if there is one.
 #[tactic(auto, unfolding(api_calls::specs::Form::refusal))]
-pub fn refusal(fields: &Form, body: &Value) -> Option<Refusal>
+pub fn refusal(fields: &Form<'_>, body: &Value) -> Option<Refusal>
     ensures { result ≡ form.refusal (form_of fields.now) (view body.now) }
 {
     let failed = first_failed(&TESTS, fields, body)?;

@@ -18,6 +18,9 @@ mod routes;
 // The resources, in the order of the API's table: PUT /boot-source,
 mod boot_source;
 
+// PUT and PATCH /drives/{id},
+mod drives;
+
 // PUT and PATCH /machine-config,
 mod machine_config;
 

@@ -82,7 +82,7 @@ const PATCH_ROWS: [Row; 6] = [
     },
 ];
 
-pub static MACHINE_CONFIG: Form = Form {
+pub static MACHINE_CONFIG: Form<'static> = Form {
     levels: &[Level {
         place: &[],
         rows: &PUT_ROWS,
@@ -90,7 +90,7 @@ pub static MACHINE_CONFIG: Form = Form {
     together: Together::Free,
 };
 
-pub static MACHINE_PATCH: Form = Form {
+pub static MACHINE_PATCH: Form<'static> = Form {
     levels: &[Level {
         place: &[],
         rows: &PATCH_ROWS,

@@ -9,11 +9,12 @@ ghost use Rattle.api_json.specs.Tables.{form_of};
 use crate::actions::ACTION;
 use crate::body::object_of;
 use crate::boot_source::{self, BOOT_SOURCE};
+use crate::drives;
 use crate::error::ReadError;
 use crate::levels::{Form, refusal};
 use crate::machine_config::{self, MACHINE_CONFIG, MACHINE_PATCH};
 use crate::metadata::METADATA;
-use crate::routes::endpoint_of;
+use crate::routes::target_of;
 use crate::snapshot::{self, SNAPSHOT_CREATE, SNAPSHOT_LOAD};
 use crate::vm::{VM_STATE, state_of};
 use api_calls::{ApiCall, Body, Endpoint};
@@ -22,18 +23,21 @@ use metadata_store::Tree;
 use serde_json::Value;
 use std::alloc::{AllocError, Global};
 
-fn form_of(body: Body) -> &'static Form
-    ensures { form_of result.now ≡ fields.form_of body }
+// The fields of a body, by the id in the path, where it has one.
+fn form_of(body: Body, id: &[u8]) -> Form<'_>
+    ensures { form_of result ≡ fields.form_of body id.now }
 {
     match body {
-        Body::BootSource => &BOOT_SOURCE,
-        Body::MachineConfig => &MACHINE_CONFIG,
-        Body::MachinePatch => &MACHINE_PATCH,
-        Body::Metadata | Body::MetadataPatch => &METADATA,
-        Body::Action => &ACTION,
-        Body::VmState => &VM_STATE,
-        Body::SnapshotCreate => &SNAPSHOT_CREATE,
-        Body::SnapshotLoad => &SNAPSHOT_LOAD,
+        Body::BootSource => BOOT_SOURCE,
+        Body::Drive => drives::put_form(id),
+        Body::DrivePatch => drives::patch_form(id),
+        Body::MachineConfig => MACHINE_CONFIG,
+        Body::MachinePatch => MACHINE_PATCH,
+        Body::Metadata | Body::MetadataPatch => METADATA,
+        Body::Action => ACTION,
+        Body::VmState => VM_STATE,
+        Body::SnapshotCreate => SNAPSHOT_CREATE,
+        Body::SnapshotLoad => SNAPSHOT_LOAD,
     }
 }
 
@@ -42,6 +46,8 @@ fn make(alloc: Global, body: Body, object: Value) -> Result<ApiCall, AllocError>
 {
     match body {
         Body::BootSource => boot_source::put(alloc, &object),
+        Body::Drive => drives::put(alloc, &object),
+        Body::DrivePatch => drives::patch(alloc, &object),
         Body::MachineConfig => Ok(machine_config::put(&object)),
         Body::MachinePatch => Ok(machine_config::patch(&object)),
         Body::Metadata => Ok(ApiCall::PutMetadata(Tree::of_value(object))),
@@ -53,11 +59,12 @@ fn make(alloc: Global, body: Body, object: Value) -> Result<ApiCall, AllocError>
     }
 }
 
-fn read_body(alloc: Global, body: Body, bytes: &[u8]) -> Result<ApiCall, ReadError>
-    ensures { Gives result (sent body bytes.now) }
+fn read_body(alloc: Global, body: Body, id: &[u8], bytes: &[u8]) -> Result<ApiCall, ReadError>
+    ensures { Gives result (sent body id.now bytes.now) }
 {
     let object = object_of(alloc, bytes)?;
-    if let Some(why) = refusal(form_of(body), &object) {
+    let form = form_of(body, id);
+    if let Some(why) = refusal(&form, &object) {
         return Err(ReadError::Refused(why));
     }
     let call = make(alloc, body, object)?;
@@ -72,10 +79,10 @@ fn read_body(alloc: Global, body: Body, bytes: &[u8]) -> Result<ApiCall, ReadErr
 pub fn read(alloc: Global, request: &Request) -> Result<ApiCall, ReadError>
     ensures { Gives result (call_of request.now) }
 {
-    let endpoint = endpoint_of(request.path.as_bytes(), request.method.as_bytes())?;
-    match endpoint {
+    let target = target_of(request.path.as_bytes(), request.method.as_bytes())?;
+    match target.endpoint {
         Endpoint::Send(body) => {
-            let call = read_body(alloc, body, request.body.as_slice())?;
+            let call = read_body(alloc, body, target.id, request.body.as_slice())?;
             Ok(call)
         }
         Endpoint::Get(part) => Ok(ApiCall::Get(part)),

@@ -77,7 +77,7 @@ const BACKEND_ROWS: [Row; 2] = [
     },
 ];
 
-pub static SNAPSHOT_CREATE: Form = Form {
+pub static SNAPSHOT_CREATE: Form<'static> = Form {
     levels: &[Level {
         place: &[],
         rows: &CREATE_ROWS,
@@ -85,7 +85,7 @@ pub static SNAPSHOT_CREATE: Form = Form {
     together: Together::Differing("snapshot_path", "mem_file_path"),
 };
 
-pub static SNAPSHOT_LOAD: Form = Form {
+pub static SNAPSHOT_LOAD: Form<'static> = Form {
     levels: &[
         Level {
             place: &[],

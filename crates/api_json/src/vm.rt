@@ -15,7 +15,7 @@ const ROWS: [Row; 1] = [Row {
     kind: Kind::Choice(&["Paused", "Resumed"]),
 }];
 
-pub static VM_STATE: Form = Form {
+pub static VM_STATE: Form<'static> = Form {
     levels: &[Level {
         place: &[],
         rows: &ROWS,

@@ -23,6 +23,8 @@ accepted (change.Tell part) id p config metadata = record {
   body = Some (text_of part id p config metadata);
 }
 accepted (change.BootSource source) id p config metadata = no_content
+accepted (change.PutDrive drive) id p config metadata = no_content
+accepted (change.PatchDrive patch) id p config metadata = no_content
 accepted (change.MachineConfig machine) id p config metadata = no_content
 accepted (change.PutMetadata body) id p config metadata = no_content
 accepted (change.PatchMetadata patch) id p config metadata = no_content

@@ -1,5 +1,6 @@
 -- Which calls are allowed: the API's table, row by row, without the checks of bodies, which come before.
 use Rattle.std.specs.Prelude.{ℕ, ◌^◌, nat_le, Bool, true, false, not, ◌&&◌, if◌then◌else◌, List, [], ◌∷◌, length, Option, Some, None, is_none, unwrap_or, Result, Ok, Err}
+use Rattle.std.specs.List.{list_any}
 use Rattle.guest_memory.specs.Boot.{loads_fit}
 use Rattle.refusals.specs.declared.refusal.Refusal.{Refusal}
 use Rattle.refusals.specs.declared.refusal.Refusal.TheVariants as refusal
@@ -9,6 +10,10 @@ use Rattle.api_calls.specs.declared.call.MachineConfig.{MachineConfig}
 use Rattle.api_calls.specs.declared.call.SnapshotType.{SnapshotType}
 use Rattle.api_calls.specs.declared.call.SnapshotType.TheVariants as snapshot
 use Rattle.api_calls.specs.declared.call.MachinePatch.{MachinePatch}
+use Rattle.api_calls.specs.declared.call.Drive.{Drive}
+use Rattle.api_calls.specs.declared.call.DrivePatch.{DrivePatch}
+use Rattle.vm_config.specs.Devices.{device_count}
+use Rattle.vm_config.specs.Drives.{has_drive, is_named, is_root}
 use Rattle.vm_config.specs.declared.config.Config.{Config}
 use Rattle.vm_config.specs.declared.config.Phase.{Phase}
 use Rattle.vm_config.specs.declared.config.Phase.TheVariants as phase
@@ -24,6 +29,8 @@ use Rattle.api_rules.specs.declared.ids.Ids.{Ids}
 
 abbrev pub when_allowed : ApiCall → When
 when_allowed (call.PutBootSource source) = BeforeBoot
+when_allowed (call.PutDrive drive) = BeforeBoot
+when_allowed (call.PatchDrive patch) = AfterBoot
 when_allowed (call.PutMachineConfig machine) = BeforeBoot
 when_allowed (call.PatchMachineConfig patch) = BeforeBoot
 when_allowed (call.PutMetadata body) = Always
@@ -54,6 +61,20 @@ misplaced Always p = None
 abbrev pub Rows : Type 0
 Rows = List (Bool × Refusal)
 
+-- another drive than this one is the root drive
+abbrev pub has_other_root : Config → Drive → Bool
+has_other_root config drive = list_any (λ d. is_root d && not (is_named drive.drive_id d)) config.drives
+
+-- a machine has 16 devices at most
+abbrev pub drive_rows : Config → Drive → Rows
+drive_rows config drive =
+    (is_root drive && has_other_root config drive, refusal.SecondRootDrive)
+    ∷ (not (has_drive config.drives drive.drive_id) && nat_le 16 (device_count config), refusal.TooManyDevices)
+    ∷ []
+
+abbrev pub drive_patch_rows : Config → DrivePatch → Rows
+drive_patch_rows config patch = (not (has_drive config.drives patch.drive_id), refusal.NoSuchId) ∷ []
+
 abbrev pub start_rows : Config → Rows
 start_rows config = (is_none config.boot_source, refusal.NoBootSource) ∷ []
 
@@ -75,6 +96,8 @@ load_rows config = (config.configured, refusal.AlreadyConfigured) ∷ []
 
 abbrev pub own_rows : Phase → Config → Ids → ApiCall → Rows
 own_rows p config ids (call.PutBootSource source) = []
+own_rows p config ids (call.PutDrive drive) = drive_rows config drive
+own_rows p config ids (call.PatchDrive patch) = drive_patch_rows config patch
 own_rows p config ids (call.PutMachineConfig machine) = []
 own_rows p config ids (call.PatchMachineConfig patch) = []
 own_rows p config ids (call.PutMetadata body) = []
@@ -104,6 +127,8 @@ patched machine patch = record {
 
 abbrev pub change_of : Config → ApiCall → Change
 change_of config (call.PutBootSource source) = change.BootSource source
+change_of config (call.PutDrive drive) = change.PutDrive drive
+change_of config (call.PatchDrive patch) = change.PatchDrive patch
 change_of config (call.PutMachineConfig machine) = change.MachineConfig machine
 change_of config (call.PatchMachineConfig patch) = change.MachineConfig (patched config.machine patch)
 change_of config (call.PutMetadata body) = change.PutMetadata body
@@ -126,7 +151,8 @@ abbrev pub decision : Phase → Config → Ids → ApiCall → Result Change Ref
 decision p config ids c =
     unless (misplaced (when_allowed c) p) (unless (own_refusal p config ids c) (Ok (change_of config c)))
 
--- ---- what an allowed start is refused by the files, where image is how many bytes its kernel image has
+-- ---- what an allowed start is refused by the files, where image is how many bytes its kernel image has, and
+-- ---- has_drive_files is whether each drive has its file
 
 abbrev pub is_missing : InitrdFile → Bool
 is_missing initrd.Unnamed = false
@@ -142,12 +168,13 @@ abbrev pub fits_by : Option ℕ → InitrdFile → ℕ → Bool
 fits_by None file mib = true
 fits_by (Some len) file mib = loads_fit mib len (len_of file)
 
-abbrev pub boot_rows : Config → Option ℕ → InitrdFile → Rows
-boot_rows config image file =
+abbrev pub boot_rows : Config → Option ℕ → InitrdFile → Bool → Rows
+boot_rows config image file has_drive_files =
     (is_none image, refusal.NoSuchFile)
     ∷ (is_missing file, refusal.NoSuchFile)
+    ∷ (not has_drive_files, refusal.NoSuchFile)
     ∷ (not (fits_by image file config.machine.mem_size_mib), refusal.DoesNotFit)
     ∷ []
 
-abbrev pub boot_refusal : Config → Option ℕ → InitrdFile → Option Refusal
-boot_refusal config image file = first_refusal (boot_rows config image file)
+abbrev pub boot_refusal : Config → Option ℕ → InitrdFile → Bool → Option Refusal
+boot_refusal config image file has_drive_files = first_refusal (boot_rows config image file has_drive_files)

@@ -41,14 +41,20 @@ pub fn initrd_len(initrd: InitrdFile) -> Option<u64>
 
 /// What a start that `decide` allows is refused by the files.
 ///
-/// `image` is how many bytes the file of the kernel image has, if there is one.
-pub fn boot_refusal(config: &Config, image: Option<u64>, initrd: InitrdFile) -> Option<Refusal>
-    ensures { result ≡ table.boot_refusal config.now image initrd }
+/// `image` is how many bytes the file of the kernel image has, if there is one, and `has_drive_files` is whether each
+/// drive has its file.
+pub fn boot_refusal(
+    config: &Config,
+    image: Option<u64>,
+    initrd: InitrdFile,
+    has_drive_files: bool,
+) -> Option<Refusal>
+    ensures { result ≡ table.boot_refusal config.now image initrd has_drive_files }
 {
     let Some(image) = image else {
         return Some(Refusal::NoSuchFile);
     };
-    if initrd == InitrdFile::Missing {
+    if initrd == InitrdFile::Missing || !has_drive_files {
         return Some(Refusal::NoSuchFile);
     }
     if do_loads_fit(config.machine.mem_size_mib, image, initrd_len(initrd)) {

@@ -3,6 +3,7 @@ ghost use Rattle.std.specs.Prelude.{◌≡◌};
 ghost use Rattle.api_rules.specs.Table as table;
 
 use crate::actions::start_refusal;
+use crate::drives::{patch_refusal, put_refusal};
 use crate::ids::Ids;
 use crate::machine_config::patched;
 use crate::snapshot::{create_refusal, load_refusal};
@@ -23,11 +24,14 @@ fn when_allowed(call: &ApiCall) -> When
 {
     match call {
         ApiCall::PutBootSource(_)
+        | ApiCall::PutDrive(_)
         | ApiCall::PutMachineConfig(_)
         | ApiCall::PatchMachineConfig(_)
         | ApiCall::InstanceStart
         | ApiCall::LoadSnapshot(_) => When::BeforeBoot,
-        ApiCall::PatchVm(_) | ApiCall::CreateSnapshot(_) => When::AfterBoot,
+        ApiCall::PatchDrive(_) | ApiCall::PatchVm(_) | ApiCall::CreateSnapshot(_) => {
+            When::AfterBoot
+        }
         ApiCall::PutMetadata(_) | ApiCall::PatchMetadata(_) | ApiCall::Get(_) => When::Always,
     }
 }
@@ -46,6 +50,8 @@ fn own_refusal(phase: Phase, config: &Config, ids: &Ids, call: &ApiCall) -> Opti
     ensures { result ≡ table.own_refusal phase config.now ids.now call.now }
 {
     match call {
+        ApiCall::PutDrive(drive) => put_refusal(config, drive),
+        ApiCall::PatchDrive(patch) => patch_refusal(config, patch),
         ApiCall::InstanceStart => start_refusal(config),
         ApiCall::CreateSnapshot(create) => create_refusal(phase, config, ids, create.snapshot_type),
         ApiCall::LoadSnapshot(_) => load_refusal(config),
@@ -58,6 +64,8 @@ fn change_of(config: &Config, call: ApiCall) -> Change
 {
     match call {
         ApiCall::PutBootSource(source) => Change::BootSource(source),
+        ApiCall::PutDrive(drive) => Change::PutDrive(drive),
+        ApiCall::PatchDrive(patch) => Change::PatchDrive(patch),
         ApiCall::PutMachineConfig(machine) => Change::MachineConfig(machine),
         ApiCall::PatchMachineConfig(patch) => {
             Change::MachineConfig(patched(&config.machine, &patch))
@@ -74,8 +82,8 @@ fn change_of(config: &Config, call: ApiCall) -> Change
 
 /// What a call asks for in this phase, or its first refusal: by the phase, then its own in the table's order.
 ///
-/// It takes no memory: texts are moved. It asks no file: a start goes on with `boot_refusal`. Nor does it look at the
-/// metadata: a PUT or a PATCH of them goes on with the store.
+/// It takes no memory: texts are moved. It asks no file: a start goes on with `boot_refusal`, and a PATCH of a drive with
+/// the file. Nor does it look at the metadata: a PUT or a PATCH of them goes on with the store.
 pub fn decide(phase: Phase, config: &Config, ids: &Ids, call: ApiCall) -> Result<Change, Refusal>
     ensures { result ≡ table.decision phase config.now ids.now call }
 {

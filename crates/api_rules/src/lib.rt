@@ -1,14 +1,17 @@
 //! Which calls are allowed, and what each asks for.
 //!
 //! `decide` is the table: a call is refused by the phase, then by the refusals of its own, each in the table's
-//! order, and else it is a change. It takes no memory, and asks no file: what a start is refused by the file of its
-//! kernel image, `boot_refusal` says. The definition is `specs/Table.antt`, row by row. `specs/Answers.antt` has what
+//! order, and else it is a change. It takes no memory, and asks no file: what a start is refused by its files,
+//! `boot_refusal` says. The definition is `specs/Table.antt`, row by row. `specs/Answers.antt` has what
 //! a call is answered.
 #![tactic(auto)]
 
 mod ids;
 
-// The resources that have rules of their own, in the order of the API's table: PATCH /machine-config,
+// The resources that have rules of their own, in the order of the API's table: PUT and PATCH /drives/{id},
+mod drives;
+
+// PATCH /machine-config,
 mod machine_config;
 
 // PUT /actions,

@@ -1,7 +1,7 @@
 -- Tokens of nodes that are pushed one after the other.
-use Rattle.std.proofs.Common.{◌≡◌, ℕ, zero, suc, ◌+◌, List, [], ◌∷◌, ◌++◌, refl, sym, ap, ◌∙◌, arith, append_assoc}
-use Rattle.devtree.specs.Tree.{Node}
-use Rattle.devtree.specs.Flat.{Token, tokens_of, tokens_of_all}
+use Rattle.std.proofs.Common.{◌≡◌, ℕ, zero, suc, ◌+◌, List, [], ◌∷◌, ◌++◌, map, refl, sym, ap, ◌∙◌, arith, append_assoc}
+use Rattle.devtree.specs.Tree.{Node, node, no_nodes, and_node, Property}
+use Rattle.devtree.specs.Flat.{Token, begin, end, property_token, tokens_of, tokens_of_all}
 use Rattle.devtree.specs.Machine.{nodes_from}
 
 append_nil : {X : Type 0} (xs : List X) → xs ++ [] ≡ xs
@@ -31,3 +31,18 @@ pushed_more make first old new n so_far next =
     ∙ append_assoc first (tokens_of_all (nodes_from make 0 n)) (tokens_of (make n))
     ∙ ap (λ (j : ℕ). first ++ (tokens_of_all (nodes_from make 0 n) ++ tokens_of (make j))) same
     ∙ ap (λ (l : List Token). first ++ l) (sym (nodes_more make 0 n))
+
+regrouped : (t r a b c d e : List Token) → t ++ r ++ a ++ b ++ c ++ d ++ e ≡ t ++ (r ++ (a ++ (b ++ (c ++ (d ++ [])))) ++ e)
+regrouped t r a b c d e = simp (append_assoc, append_nil)
+
+-- the tokens of a node with four nodes, when its parts are pushed one after the other
+pub pushed_all : (name : List ℕ) (properties : List Property) (a b c d : Node) (t0 t1 t2 t3 t4 t5 t6 : List Token) → t1 ≡ t0 ++ begin name ∷ map property_token properties
+    → t2 ≡ t1 ++ tokens_of a → t3 ≡ t2 ++ tokens_of b → t4 ≡ t3 ++ tokens_of c → t5 ≡ t4 ++ tokens_of d → t6 ≡ t5 ++ end ∷ []
+    → t6 ≡ t0 ++ tokens_of (node name properties (and_node a (and_node b (and_node c (and_node d no_nodes)))))
+pushed_all name properties a b c d t0 t1 t2 t3 t4 t5 t6 e1 e2 e3 e4 e5 e6 =
+    e6
+    ∙ ap (λ (l : List Token). l ++ end ∷ []) (
+    e5
+    ∙ ap (λ (l : List Token). l ++ tokens_of d) (
+    e4 ∙ ap (λ (l : List Token). l ++ tokens_of c) (e3 ∙ ap (λ (l : List Token). l ++ tokens_of b) (e2 ∙ ap (λ (l : List Token). l ++ tokens_of a) e1))))
+    ∙ regrouped t0 (begin name ∷ map property_token properties) (tokens_of a) (tokens_of b) (tokens_of c) (tokens_of d) (end ∷ [])

@@ -1,6 +1,7 @@
 -- The device tree of a machine.
 use Rattle.std.specs.Prelude.{ℕ, zero, suc, ◌+◌, ◌*◌, List, [], ◌∷◌, Option, Some, None, codes}
 use Rattle.api_calls.specs.declared.call.BootSource.{BootSource}
+use Rattle.vm_config.specs.Devices.{device_count}
 use Rattle.vm_config.specs.declared.config.Config.{Config}
 use Rattle.guest_memory.specs.Boot.{bytes_of_mib}
 use Rattle.guest_memory.specs.Ram.{ram_start}
@@ -108,17 +109,17 @@ abbrev pub args_by : Option BootSource → List ℕ
 args_by None = []
 args_by (Some source) = source.boot_args
 
--- how many devices there are: none yet
-abbrev pub device_count : ℕ
-device_count = 0
-
-abbrev pub tree_of : Config → Option InitrdPlace → Node
-tree_of config initrd =
+-- with so many devices
+abbrev pub tree_with : Config → Option InitrdPlace → ℕ → Node
+tree_with config initrd devices =
     node [] root_properties (
     and_node (chosen (args_by config.boot_source) initrd)
     (and_node (memory config.machine.mem_size_mib)
     (and_node (cpus config.machine.vcpu_count)
-    (and_node (soc device_count) no_nodes))))
+    (and_node (soc devices) no_nodes))))
+
+abbrev pub tree_of : Config → Option InitrdPlace → Node
+tree_of config initrd = tree_with config initrd (device_count config)
 
 -- its file
 abbrev pub tree_bytes : Config → Option InitrdPlace → List ℕ

@@ -5,7 +5,9 @@
 #![tactic(auto)]
 
 mod flat;
+mod law;
 mod machine;
 mod token;
 
+pub use law::trees_have_room;
 pub use machine::{InitrdPlace, write_tree};

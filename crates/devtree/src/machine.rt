@@ -4,6 +4,7 @@ ghost use Rattle.devtree.specs.Coding.{all_of};
 ghost use Rattle.devtree.specs.Flat.{begin, end, property, property_token, tokens_of, tokens_of_all};
 ghost use Rattle.devtree.specs.Machine as machine;
 ghost use Rattle.devtree.specs.Tree.{text};
+ghost use Rattle.vm_config.specs.Devices.{device_count};
 
 use crate::flat::file_of;
 use crate::token::{Token, Value};
@@ -24,9 +25,6 @@ const BOARD: u64 = 0x200_0000;
 const PORTS: u64 = 0x1000_0000;
 
 const PORT_SIZE: u64 = 0x1000;
-
-/// How many devices there are: none yet.
-const DEVICES: u32 = 0;
 
 // One hart counts nanoseconds.
 const TIMEBASE: u64 = 1_000_000_000;
@@ -229,19 +227,27 @@ fn args_by(source: &Option<BootSource>) -> &str
     }
 }
 
+// A tree of more devices than 32 bits count is more than memory holds.
+fn count_devices(config: &Config) -> Result<u32, AllocError>
+    ensures { IfOk result (λ count. count ≡ device_count config.now) }
+{
+    u32::try_from(config.device_count()).map_err(|_| AllocError)
+}
+
 fn push_all<'a>(
     tokens: &mut Vec<Token<'a>>,
     config: &'a Config,
     initrd: Option<InitrdPlace>,
+    devices: u32,
 ) -> Result<(), AllocError>
     ensures { OnOk result (all_of tokens.new.items
-        ≡ all_of tokens.old.items ++ tokens_of (machine.tree_of config.now initrd)) }
+        ≡ all_of tokens.old.items ++ tokens_of (machine.tree_with config.now initrd devices)) }
 {
     open_root(tokens)?;
     push_chosen(tokens, args_by(&config.boot_source), initrd)?;
     push_memory(tokens, config.machine.mem_size_mib)?;
     push_cpus(tokens, config.machine.vcpu_count)?;
-    push_soc(tokens, DEVICES)?;
+    push_soc(tokens, devices)?;
     close(tokens)?;
     Ok(())
 }
@@ -254,8 +260,9 @@ pub fn write_tree(
 ) -> Result<Vec<u8>, AllocError>
     ensures { IfOk result (λ tree. tree.items ≡ machine.tree_bytes config.now initrd) }
 {
+    let devices = count_devices(config)?;
     let mut tokens = Vec::new(alloc);
-    push_all(&mut tokens, config, initrd)?;
+    push_all(&mut tokens, config, initrd, devices)?;
     let tree = file_of(alloc, tokens.as_slice())?;
     Ok(tree)
 }

@@ -1,12 +1,12 @@
 // A request as a call of the API.
 use crate::escapes::bytes_of;
-use api_calls::{ApiCall, Part, VmState};
+use api_calls::{ApiCall, CacheType, Drive, DrivePatch, Part, VmState};
 use api_json::{ReadError, read};
 use http_stream::{HeaderList, Request};
 use std::alloc::{AllocError, Global};
 use vm_types::{ByteList, TextList};
 
-/// The name of the call of a method, a path and a body, or the number of its refusal.
+/// The name of the call of a method, a path and a body, for a drive with its fields, or the number of its refusal.
 pub fn told(alloc: Global, case: &str) -> Result<String, AllocError> {
     let (method, rest) = case.split_once(' ').unwrap_or((case, ""));
     let (path, body) = rest.split_once(' ').unwrap_or((rest, ""));
@@ -17,6 +17,8 @@ pub fn told(alloc: Global, case: &str) -> Result<String, AllocError> {
         ByteList::from_vec(joined(alloc, body)?),
     )?;
     match read(alloc, &request) {
+        Ok(ApiCall::PutDrive(drive)) => put_told(alloc, &drive),
+        Ok(ApiCall::PatchDrive(patch)) => patch_told(alloc, &patch),
         Ok(call) => name(&call).to_string(alloc),
         Err(ReadError::Refused(why)) => why.number().to_string(alloc),
         Err(ReadError::OutOfMemory) => Err(AllocError),
@@ -48,9 +50,42 @@ pub fn request_of(
     })
 }
 
+fn put_told(alloc: Global, drive: &Drive) -> Result<String, AllocError> {
+    let id = drive.drive_id.as_str();
+    let path = drive.path_on_host.as_str();
+    let root = if drive.is_root_device {
+        "root"
+    } else {
+        "other"
+    };
+    let access = if drive.is_read_only {
+        "read-only"
+    } else {
+        "read-write"
+    };
+    let cache = match drive.cache_type {
+        CacheType::Unsafe => "unsafe",
+        CacheType::Writeback => "writeback",
+    };
+    format!(in alloc; "drive-put {id} {path} {root} {access} {cache}")
+}
+
+fn patch_told(alloc: Global, patch: &DrivePatch) -> Result<String, AllocError> {
+    let id = patch.drive_id.as_str();
+    match &patch.path_on_host {
+        Some(path) => {
+            let path = path.as_str();
+            format!(in alloc; "drive-patch {id} {path}")
+        }
+        None => format!(in alloc; "drive-patch {id}"),
+    }
+}
+
 fn name(call: &ApiCall) -> &'static str {
     match call {
         ApiCall::PutBootSource(_) => "boot",
+        ApiCall::PutDrive(_) => "drive-put",
+        ApiCall::PatchDrive(_) => "drive-patch",
         ApiCall::PutMachineConfig(_) => "machine-put",
         ApiCall::PatchMachineConfig(_) => "machine-patch",
         ApiCall::PutMetadata(_) => "metadata-put",

@@ -1,2 +1,4 @@
+pub mod Drives
+pub mod Devices
 pub mod Changes
 pub mod Texts

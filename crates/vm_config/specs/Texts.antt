@@ -1,9 +1,12 @@
 -- What GET tells, as trees whose keys are in byte order, and their compact writing. What isn't built is absent:
 -- an empty list, or null.
-use Rattle.std.specs.Prelude.{ℕ, false, List, codes, Option, Some, None}
+use Rattle.std.specs.Prelude.{ℕ, false, List, map, codes, Option, Some, None}
 use Rattle.serde_json.specs.Data.{Data, null, boolean, number, string, array, object, unsigned, no_items, member, no_members}
+use Rattle.serde_json.specs.View.{items_of}
 use Rattle.serde_json.specs.Written.{compact_text}
 use Rattle.api_calls.specs.declared.call.BootSource.{BootSource}
+use Rattle.api_calls.specs.declared.call.Drive.{Drive}
+use Rattle.api_calls.specs.Drives.{cache_text}
 use Rattle.api_calls.specs.declared.call.MachineConfig.{MachineConfig}
 use Rattle.api_calls.specs.declared.call.Part.{Part}
 use Rattle.api_calls.specs.declared.call.Part.TheVariants as part
@@ -51,12 +54,25 @@ abbrev pub boot_source : Option BootSource → Data
 boot_source None = null
 boot_source (Some s) = given_source s
 
+-- no drive has a rate limiter yet
+abbrev pub drive : Drive → Data
+drive d = object (
+    member (codes "cache_type") (string (cache_text d.cache_type))
+    (member (codes "drive_id") (string d.drive_id)
+    (member (codes "is_read_only") (boolean d.is_read_only)
+    (member (codes "is_root_device") (boolean d.is_root_device)
+    (member (codes "path_on_host") (string d.path_on_host)
+    (member (codes "rate_limiter") null no_members))))))
+
+abbrev pub drives : List Drive → Data
+drives ds = array (items_of (map drive ds))
+
 -- GET /vm/config
 abbrev pub vm_config : Config → Data
 vm_config c = object (
     member (codes "balloon") null
     (member (codes "boot-source") (boot_source c.boot_source)
-    (member (codes "drives") (array no_items)
+    (member (codes "drives") (drives c.drives)
     (member (codes "machine-config") (machine c.machine)
     (member (codes "mmds-config") null
     (member (codes "network-interfaces") (array no_items)

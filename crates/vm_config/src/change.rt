@@ -1,5 +1,7 @@
 // What accepted calls ask for.
-use api_calls::{BootSource, MachineConfig, Part, SnapshotCreate, SnapshotLoad, VmState};
+use api_calls::{
+    BootSource, Drive, DrivePatch, MachineConfig, Part, SnapshotCreate, SnapshotLoad, VmState,
+};
 use metadata_store::Tree;
 
 /// What an accepted call asks for.
@@ -7,6 +9,10 @@ use metadata_store::Tree;
 pub enum Change {
     /// This is booted.
     BootSource(BootSource),
+    /// This drive takes the place of the one of its id, or stands last.
+    PutDrive(Drive),
+    /// What this gives is replaced of the drive of its id.
+    PatchDrive(DrivePatch),
     /// The machine is this one.
     MachineConfig(MachineConfig),
     /// The metadata are this body.

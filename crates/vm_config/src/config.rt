@@ -1,10 +1,13 @@
 // What is configured.
-ghost use Rattle.std.specs.Prelude.{◌≡◌, IsOk, OnOk};
-ghost use Rattle.vm_config.specs.Changes.{changed, default_config};
+ghost use Rattle.std.specs.Prelude.{◌≡◌, true, false, IsOk, IfOk, OnOk, OnErr};
+ghost use Rattle.vm_config.specs.Changes.{changed, default_config, takes_memory};
+ghost use Rattle.vm_config.specs.Devices.{device_count};
+ghost use Rattle.vm_config.specs.Drives.{put_drive};
 
 use crate::change::Change;
-use api_calls::{BootSource, MachineConfig};
-use std::alloc::AllocError;
+use crate::drives::Drives;
+use api_calls::{BootSource, Drive, MachineConfig};
+use std::alloc::{AllocError, Global};
 
 const DEFAULT_HARTS: u64 = 1;
 
@@ -22,18 +25,20 @@ pub enum Phase {
 #[derive(Drop)]
 pub struct Config {
     pub boot_source: Option<BootSource>,
+    pub drives: Drives,
     pub machine: MachineConfig,
     /// Whether any call that is allowed only before boot was accepted.
     pub configured: bool,
 }
 
 impl Config {
-    /// What a machine has before the first call: no boot source, one hart and 128 MiB.
-    pub fn new() -> Config
+    /// What a machine has before the first call: no boot source, no drive, one hart and 128 MiB.
+    pub fn new(alloc: Global) -> Config
         ensures { result ≡ default_config }
     {
         Config {
             boot_source: None,
+            drives: Drives::new(alloc),
             machine: MachineConfig {
                 vcpu_count: DEFAULT_HARTS,
                 mem_size_mib: DEFAULT_MIB,
@@ -43,27 +48,65 @@ impl Config {
         }
     }
 
-    /// Takes what an accepted call changes. What is given moves in, so nothing takes memory so far, and it succeeds.
+    /// How many devices a machine has by what is configured: one for each drive, and no others yet.
+    pub fn device_count(&self) -> usize
+        ensures { result ≡ device_count self.now }
+    {
+        self.drives.len()
+    }
+
+    /// Takes what an accepted call changes. What is given moves in, so that only one drive more takes memory. An `Err`
+    /// changes nothing.
     pub fn apply(&mut self, change: Change) -> Result<(), AllocError>
-        ensures succeeds { IsOk result }
+        ensures succeeds { takes_memory change ≡ false → IsOk result }
         ensures ok { OnOk result (self.new ≡ changed self.old change) }
+        ensures err { OnErr result (self.new ≡ self.old) }
     {
         match change {
             Change::BootSource(source) => {
                 self.boot_source = Some(source);
                 self.configured = true;
             }
+            Change::PutDrive(drive) => return self.put_drive(drive),
+            Change::PatchDrive(patch) => self.drives.patch(patch),
             Change::MachineConfig(machine) => {
                 self.machine = machine;
                 self.configured = true;
             }
-            Change::Start | Change::LoadSnapshot(_) => self.configured = true,
-            Change::PutMetadata(_)
-            | Change::PatchMetadata(_)
-            | Change::State(_)
-            | Change::CreateSnapshot(_)
-            | Change::Tell(_) => {}
+            Change::Start => self.configured = true,
+            Change::LoadSnapshot(_load) => self.configured = true,
+            Change::PutMetadata(_body) => {}
+            Change::PatchMetadata(_patch) => {}
+            Change::CreateSnapshot(_create) => {}
+            Change::State(_) | Change::Tell(_) => {}
         }
         Ok(())
+    }
+
+    fn put_drive(&mut self, drive: Drive) -> Result<(), AllocError>
+        ensures ok { OnOk result (self.new
+            ≡ record self.old { drives = put_drive self.old.drives drive; configured = true }) }
+        ensures err { OnErr result (self.new ≡ self.old) }
+    {
+        self.drives.put(drive)?;
+        self.configured = true;
+        Ok(())
+    }
+
+    /// The drives with one that is put among them, for `set_drives`: all the memory that a PUT of a drive takes.
+    pub fn with_drive(&self, alloc: Global, drive: Drive) -> Result<Drives, AllocError>
+        ensures { IfOk result (λ drives. drives ≡ put_drive self.now.drives drive) }
+    {
+        let mut drives = Drives::copy_of(alloc, self.drives.as_slice())?;
+        drives.put(drive)?;
+        Ok(drives)
+    }
+
+    /// Takes the drives that a PUT of one leaves.
+    pub fn set_drives(&mut self, drives: Drives)
+        ensures { self.new ≡ record self.old { drives = drives; configured = true } }
+    {
+        self.drives = drives;
+        self.configured = true;
     }
 }

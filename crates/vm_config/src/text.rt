@@ -4,7 +4,7 @@ ghost use Rattle.serde_json.specs.View.{view};
 ghost use Rattle.vm_config.specs.Texts as texts;
 
 use crate::config::{Config, Phase};
-use api_calls::{BootSource, MachineConfig, Part};
+use api_calls::{BootSource, Drive, MachineConfig, Part};
 use metadata_store::Store;
 use serde_json::{Value, json};
 use std::alloc::{AllocError, Global};
@@ -13,6 +13,7 @@ use vm_types::{ByteList, TextList};
 impl Config {
     /// A part as compact JSON with its keys in byte order, of the machine with this id in this phase, and with these
     /// metadata.
+    #[tactic(auto, using(crate::proofs::TextLemmas::drives_whole))]
     pub fn json(
         &self,
         alloc: Global,
@@ -103,14 +104,39 @@ fn boot_source(alloc: Global, source: &Option<BootSource>) -> Result<Value, Allo
     }
 }
 
+fn drive(alloc: Global, drive: &Drive) -> Result<Value, AllocError>
+    ensures { IfOk result (λ v. view v ≡ texts.drive drive.now) }
+{
+    let cache = drive.cache_type.text();
+    json!(in alloc; {
+        "drive_id": drive.drive_id.as_str(),
+        "path_on_host": drive.path_on_host.as_str(),
+        "is_root_device": drive.is_root_device,
+        "is_read_only": drive.is_read_only,
+        "cache_type": cache,
+        "rate_limiter": null,
+    })
+}
+
+fn drives(alloc: Global, drives: &[Drive]) -> Result<Value, AllocError>
+    ensures { IfOk result (λ v. view v ≡ texts.drives drives.now) }
+{
+    let mut told = Vec::new(alloc);
+    for one in drives {
+        told.push(drive(alloc, one)?)?;
+    }
+    Ok(Value::Array(told))
+}
+
 fn vm_config(alloc: Global, config: &Config) -> Result<Value, AllocError>
     ensures { IfOk result (λ v. view v ≡ texts.vm_config config.now) }
 {
     let source = boot_source(alloc, &config.boot_source)?;
+    let drives = drives(alloc, config.drives.as_slice())?;
     let machine = machine(alloc, &config.machine)?;
     json!(in alloc; {
         "boot-source": source,
-        "drives": [],
+        "drives": drives,
         "machine-config": machine,
         "network-interfaces": [],
         "vsock": null,

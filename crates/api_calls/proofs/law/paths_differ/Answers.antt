@@ -1,5 +1,5 @@
 use Rattle.api_calls.specs.declared.call.ApiCall.TheVariants as call
-use Rattle.api_calls.proofs.Snapshots.{asked_is}
+use Rattle.api_calls.proofs.Asked.{asked_is}
 use Rattle.api_calls.proofs.law.paths_differ.Goals as goal
 
 pub returns : goal.returns

@@ -1,0 +1,80 @@
+-- What holds of each call that a request asks for.
+use Rattle.std.proofs.Common.{◌≡◌, ◌≢◌, ◌≤◌, ℕ, true, length, List, Option, Some, None, Result, Ok, Err, refl, subst}
+use Rattle.std.specs.Prelude.{⊤}
+use Rattle.serde_json.specs.Data.{Data, null, boolean, number, string, array, object, Members}
+use Rattle.refusals.specs.declared.refusal.Refusal.{Refusal}
+use Rattle.http_stream.specs.declared.request.Request.{Request}
+use Rattle.api_calls.specs.declared.call.ApiCall.{ApiCall}
+use Rattle.api_calls.specs.declared.call.ApiCall.TheVariants as call
+use Rattle.api_calls.specs.declared.endpoint.Body.{Body}
+use Rattle.api_calls.specs.declared.endpoint.Body.TheVariants as body
+use Rattle.api_calls.specs.declared.endpoint.Endpoint.{Endpoint}
+use Rattle.api_calls.specs.declared.endpoint.Endpoint.TheVariants as endpoint
+use Rattle.api_calls.specs.Form.{holds, is_path, is_id, refusal}
+use Rattle.api_calls.specs.Fields.{form_of}
+use Rattle.api_calls.specs.Call.{◌>>=◌, json_of, object_in, object_of, unless, made, asked, call_of}
+use Rattle.api_calls.specs.Routes.{Target, target_of}
+use Rattle.api_calls.proofs.Drives.{drive_is, patch_is}
+use Rattle.api_calls.proofs.Ranges.{IsWithin, machine_is, machine_patch_is, source_is}
+use Rattle.api_calls.proofs.Snapshots.{create_is, load_is}
+
+-- what is said of a call
+abbrev pub IsAsked : ApiCall → Type 0
+IsAsked (call.PutBootSource source) =
+    (is_path source.kernel_image_path ≡ true) × (holds is_path source.initrd_path ≡ true) × (length source.boot_args ≤ 2048)
+IsAsked (call.PutDrive drive) = (is_id drive.drive_id ≡ true) × (is_path drive.path_on_host ≡ true)
+IsAsked (call.PatchDrive patch) = (is_id patch.drive_id ≡ true) × (holds is_path patch.path_on_host ≡ true)
+IsAsked (call.PutMachineConfig machine) = IsWithin 1 32 machine.vcpu_count × IsWithin 4 1024 machine.mem_size_mib
+IsAsked (call.PatchMachineConfig patch) =
+    ((n : ℕ) → patch.vcpu_count ≡ Some n → IsWithin 1 32 n) × ((n : ℕ) → patch.mem_size_mib ≡ Some n → IsWithin 4 1024 n)
+IsAsked (call.PutMetadata d) = ⊤
+IsAsked (call.PatchMetadata d) = ⊤
+IsAsked call.InstanceStart = ⊤
+IsAsked (call.PatchVm s) = ⊤
+IsAsked (call.CreateSnapshot it) =
+    (is_path it.files.snapshot_path ≡ true) × (is_path it.files.mem_file_path ≡ true)
+    × (it.files.mem_file_path ≢ it.files.snapshot_path)
+IsAsked (call.LoadSnapshot load) = (is_path load.files.snapshot_path ≡ true) × (is_path load.files.mem_file_path ≡ true)
+IsAsked (call.Get part) = ⊤
+
+made_is : (b : Body) (named : List ℕ) (ms : Members) → refusal (form_of b named) (object ms) ≡ None → IsAsked (made b (object ms))
+made_is body.BootSource named ms none = source_is ms none
+made_is body.Drive named ms none = drive_is named ms none
+made_is body.DrivePatch named ms none = patch_is named ms none
+made_is body.MachineConfig named ms none = machine_is ms none
+made_is body.MachinePatch named ms none = machine_patch_is ms none
+made_is body.Metadata named ms none = tt
+made_is body.MetadataPatch named ms none = tt
+made_is body.Action named ms none = tt
+made_is body.VmState named ms none = tt
+made_is body.SnapshotCreate named ms none = create_is ms none
+made_is body.SnapshotLoad named ms none = load_is ms none
+
+-- what `unless` lets through wasn't refused
+by_refusal : (b : Body) (named : List ℕ) (ms : Members) (why : Option Refusal) (asked : ApiCall) → refusal (form_of b named) (object ms) ≡ why
+    → (unless why (object ms) >>= λ d. Ok (made b d)) ≡ Ok asked → IsAsked asked
+by_refusal b named ms None asked none is = let e : made b (object ms) ≡ asked = cc in subst IsAsked e (made_is b named ms none)
+by_refusal b named ms (Some why) asked refused is = absurd cc
+
+by_object : (b : Body) (named : List ℕ) (o : Option Data) (asked : ApiCall)
+    → (object_in o >>= λ d. unless (refusal (form_of b named) d) d >>= λ d. Ok (made b d)) ≡ Ok asked → IsAsked asked
+by_object b named None asked is = absurd cc
+by_object b named (Some null) asked is = absurd cc
+by_object b named (Some (boolean c)) asked is = absurd cc
+by_object b named (Some (number n)) asked is = absurd cc
+by_object b named (Some (string s)) asked is = absurd cc
+by_object b named (Some (array ds)) asked is = absurd cc
+by_object b named (Some (object ms)) asked is = by_refusal b named ms (refusal (form_of b named) (object ms)) asked refl is
+
+by_endpoint : (e : Endpoint) (named bytes : List ℕ) (a : ApiCall) → asked e named bytes ≡ Ok a → IsAsked a
+unfolding object_of
+by_endpoint (endpoint.Send b) named bytes a is = by_object b named (json_of bytes) a is
+by_endpoint (endpoint.Get part) named bytes a is = let e : call.Get part ≡ a = cc in subst IsAsked e tt
+
+by_target : (t : Result Target Refusal) (bytes : List ℕ) (a : ApiCall) → (t >>= λ t. asked t.endpoint t.id bytes) ≡ Ok a → IsAsked a
+by_target (Ok t) bytes a is = by_endpoint t.endpoint t.id bytes a is
+by_target (Err why) bytes a is = absurd cc
+
+-- each call that a request asks for is as said
+pub asked_is : (r : Request) (a : ApiCall) → call_of r ≡ Ok a → IsAsked a
+asked_is r a is = by_target (target_of r.path r.method) r.body a is

@@ -1,0 +1,6 @@
+use Rattle.api_calls.specs.declared.call.ApiCall.TheVariants as call
+use Rattle.api_calls.proofs.Asked.{asked_is}
+use Rattle.api_calls.proofs.law.sources_are_short.Goals as goal
+
+pub returns : goal.returns
+returns c = λ r source is. asked_is r (call.PutBootSource source) is
