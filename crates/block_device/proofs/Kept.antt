@@ -29,7 +29,7 @@ empty (x ∷ xs) is = grind arith
 eq_of : (n m : ℕ) → (n == m) ≡ true → n ≡ m
 eq_of n m is = grind arith
 
-less_of : (n m : ℕ) → nat_lt n m ≡ true → n < m
+pub less_of : (n m : ℕ) → nat_lt n m ≡ true → n < m
 less_of n m is = grind arith
 
 is_less : (n m : ℕ) → n < m → nat_lt n m ≡ true
@@ -78,7 +78,7 @@ test_of_within sector unit more is =
     all (nat_lt (unit + more) (2 ^ 50)) (nat_lt (sector + (unit + more) / 8) (2 ^ 64)) (is_less _ _ is.units)
     (is_less _ _ is.inside)
 
-stage_of : (s : ServiceStage) (from : Collect) (to : List Part) → is_stage s from to ≡ true → IsStage s from to
+pub stage_of : (s : ServiceStage) (from : Collect) (to : List Part) → is_stage s from to ≡ true → IsStage s from to
 stage_of (stage.Read sector unit more) from to is =
     let h = both (is_within sector unit more && is_nothing from) (nat_lt unit (2 ^ 26)) is in
     let g = both (is_within sector unit more) (is_nothing from) h.0 in

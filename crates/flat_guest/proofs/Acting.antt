@@ -20,10 +20,10 @@ use Rattle.timer_trace.specs.States as timer
 use Rattle.timer_trace.proofs.Leads as timer_leads
 use Rattle.timer_trace.proofs.Traces as timer_traces
 use Rattle.guest_devices.specs.Devices.{DeviceLeads, DeviceLeft, FlatDevice, device_did, device_next, device_wants}
-use Rattle.guest_devices.specs.Kept as device
+use Rattle.guest_devices.specs.Kept.{device_want, devices_given}
 use Rattle.guest_devices.proofs.Follows.{did_leads}
 use Rattle.guest_devices.proofs.Soundness.{want_own}
-use Rattle.flat_guest.specs.Guest.{Guest, Wants, WantsFrom, WantsOf}
+use Rattle.flat_guest.specs.Guest.{Guest, Wants, WantsFrom, WantsOf, whole_pages}
 use Rattle.flat_guest.specs.Sound.{AreSoundDevices}
 use Rattle.flat_guest.specs.Steps.{device_after, guest_after}
 use Rattle.flat_guest.specs.Body.{AreDevices, AreHarts, Body, IsGuest, harts_after, lefts_after, timer_after, want_of, wants, with_reply}
@@ -37,7 +37,7 @@ hart_there None op is = cc
 hart_there (Some hart) op is = (hart, refl, sym (some_is (hart_wants hart) op is))
 
 -- what a device wants, where it is there
-left_there : (o : Option DeviceLeft) (op : Op) → device.want_of o ≡ Some op
+left_there : (o : Option DeviceLeft) (op : Op) → device_want o ≡ Some op
     → (left : DeviceLeft) × (o ≡ Some left) × (op ≡ device_wants left)
 left_there None op is = cc
 left_there (Some left) op is = (left, refl, sym (some_is (device_wants left) op is))
@@ -69,7 +69,7 @@ module _ (b : Body) (g : Guest) (is : IsGuest b g) where
       let d = there_too b.devices g.devices k left is.devices_are.count here in
       (d.0, d.1, is.devices_are.each k d.0 left d.1 here)
 
-  device_wanted : (k : ℕ) (op : Op) → device.want_of (slice_get b.devices k) ≡ Some op → Wants g (ActorId.Device k) op
+  device_wanted : (k : ℕ) (op : Op) → device_want (slice_get b.devices k) ≡ Some op → Wants g (ActorId.Device k) op
   device_wanted k op want =
       let l = left_there (slice_get b.devices k) op want in
       let d = device_leads k l.0 l.1 in
@@ -97,7 +97,7 @@ module _ (b : Body) (g : Guest) (is : IsGuest b g) where
       let sound = is.devices_are.sound.each k d.0 d.1 in
       own_there (length g.ports) k op
       (ap (λ (n : ℕ). nat_lt k n) is.devices_are.sound.as_many ∙ get_lt g.devices k d.0 d.1)
-      (want_own k sound.0 d.0 op sound.1 (l.0, d.2, l.2))
+      (want_own k (whole_pages g.memory) d.0 op sound (l.0, d.2, l.2))
 
 -- what each is given leads it on
 abbrev entry : PlaceId → ActorId → Op → Reply → Entry
@@ -193,7 +193,7 @@ module _ (b : Body) (g : Guest) (is : IsGuest b g) (op : Op) (place : PlaceId) (
     abbrev after : Guest
     after = guest_after g (entry place actor op reply)
 
-    still_sound : AreSoundDevices after.ports after.devices
+    still_sound : AreSoundDevices (whole_pages after.memory) after.ports after.devices
     still_sound = sound_after g is.devices_are.sound place actor op reply (want_in b g is actor op want) fit
 
   device_on : (k : ℕ) (want : wants b.timer b.harts b.devices (ActorId.Device k) ≡ Some op)
@@ -201,9 +201,9 @@ module _ (b : Body) (g : Guest) (is : IsGuest b g) (op : Op) (place : PlaceId) (
   device_on k want =
       let l = left_there (slice_get b.devices k) op want in
       let d = device_leads b g is k l.0 l.1 in
-      let before : device.with_reply (slice_get b.devices k) b.devices k reply
+      let before : devices_given (slice_get b.devices k) b.devices k reply
       ≡ slice_set b.devices k (device_next l.0 reply) =
-      ap (λ (o : Option DeviceLeft). device.with_reply o b.devices k reply) l.1 in
+      ap (λ (o : Option DeviceLeft). devices_given o b.devices k reply) l.1 in
       let there : device_after (slice_get g.devices k) g.devices k made ≡ slice_set g.devices k (device_did d.0 made) =
       ap (λ (o : Option FlatDevice). device_after o g.devices k made) d.1 in
       record {

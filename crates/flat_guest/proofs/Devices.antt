@@ -1,6 +1,9 @@
--- Ports and devices stay as many, and devices sound.
-use Rattle.std.proofs.Common.{◌≡◌, ℕ, ◌==◌, Bool, true, false, refl, sym, ap, subst, ◌∙◌, List, length, Option, Some, None, slice_get, slice_set}
+-- Ports and devices stay as many, and devices sound: at the start, with each act and with each change.
+use Rattle.std.proofs.Common.{◌≡◌, ℕ, zero, suc, ◌+◌, ◌==◌, ◌<◌, ◌^◌, Bool, true, false, refl, sym, ap, subst, ◌∙◌, List, [], ◌∷◌, arith}
+use Rattle.std.proofs.Common.{length, map, Option, Some, None, slice_get, slice_set}
+use Rattle.std.specs.List.{All}
 use Rattle.std.proofs.lemmas.List.{length-set}
+use Rattle.std.proofs.lemmas.List.Elements.{All-head, All-tail}
 use Rattle.std.proofs.lemmas.Bool.{eqb-true, eqb-false}
 use Rattle.vm_types.specs.declared.ids.ActorId.{ActorId}
 use Rattle.vm_types.specs.declared.ids.PlaceId.{PlaceId}
@@ -8,14 +11,20 @@ use Rattle.vm_types.specs.declared.op.Op.{Op}
 use Rattle.vm_types.specs.declared.reply.Reply.{Reply}
 use Rattle.vm_types.specs.declared.entry.Step.{Step}
 use Rattle.vm_types.specs.Fits.{fits}
+use Rattle.le_fields.specs.Fields.{bytes_of}
 use Rattle.port_table.specs.Acts as port
 use Rattle.port_table.specs.declared.state.PortState.{PortState}
-use Rattle.guest_devices.specs.Devices.{FlatDevice, device_did}
+use Rattle.block_device.specs.Block.Change.{Sectors}
+use Rattle.guest_devices.specs.declared.drive.NewDrive.{NewDrive}
+use Rattle.guest_devices.specs.Devices.{BlockChanged, DeviceChange, FlatDevice, device_did, device_told, new_block_device}
 use Rattle.guest_devices.specs.Sound.{IsSoundDevice}
-use Rattle.guest_devices.proofs.Soundness.{did_sound}
-use Rattle.flat_guest.specs.Guest.{Guest, Wants, WantsOf}
+use Rattle.guest_devices.proofs.Soundness.{did_sound, new_sound, told_sound}
+use Rattle.flat_guest.specs.Changes.{sectors_shown, sectors_told}
+use Rattle.flat_guest.specs.Guest.{Guest, Wants, WantsOf, whole_pages}
 use Rattle.flat_guest.specs.Sound.{AreSoundDevices}
-use Rattle.flat_guest.specs.Steps.{device_after, devices_after, port_after, ports_after}
+use Rattle.flat_guest.specs.Start.{drive_devices, drive_port}
+use Rattle.flat_guest.specs.Steps.{device_after, devices_after, memory_after, port_after, ports_after}
+use Rattle.flat_guest.proofs.Lengths.{pages_kept}
 use Rattle.flat_guest.proofs.Lists.{get_set_other, get_set_same, some_is}
 
 port_many : (o : Option PortState) (ports : List PortState) (k : ℕ) (actor : ActorId) (op : Op)
@@ -41,45 +50,108 @@ devices_many (ActorId.Device k) devices s = device_many (slice_get devices k) de
 devices_many (ActorId.Hart k) devices s = refl
 devices_many ActorId.Timer devices s = refl
 
-module _ (g : Guest) (sound : AreSoundDevices g.ports g.devices) (s : Step) (fit : fits s.op s.reply ≡ true) where
-  abbrev Each : List FlatDevice → Type 0
-  Each devices = (j : ℕ) (d : FlatDevice) → slice_get devices j ≡ Some d → (pages : ℕ) × IsSoundDevice j pages d
+pub told_many : (o : Option FlatDevice) (devices : List FlatDevice) (k sectors : ℕ)
+    → length (sectors_told o devices k sectors) ≡ length devices
+told_many None devices k sectors = refl
+told_many (Some d) devices k sectors = length-set devices k (device_told d (BlockChanged (Sectors sectors)))
 
-  -- of the device that did it, and of the others
-  one_by : (k : ℕ) (x : FlatDevice) → slice_get g.devices k ≡ Some x → WantsOf (Some x) s.op → (same : Bool) (j : ℕ)
-      (d : FlatDevice) → (j == k) ≡ same → slice_get (slice_set g.devices k (device_did x s)) j ≡ Some d
-      → (pages : ℕ) × IsSoundDevice j pages d
-  one_by k x x_is want true j d same d_is =
+shown_many : (o : Option PortState) (ports : List PortState) (k sectors : ℕ)
+    → length (sectors_shown o ports k sectors) ≡ length ports
+shown_many None ports k sectors = refl
+shown_many (Some p) ports k sectors = length-set ports k (port.configured p (bytes_of 8 sectors))
+
+-- each is sound, in a guest of so many pages
+abbrev Each : ℕ → List FlatDevice → Type 0
+Each pages devices = (j : ℕ) (d : FlatDevice) → slice_get devices j ≡ Some d → IsSoundDevice j pages d
+
+-- one of them becomes another
+module _ (pages : ℕ) (devices : List FlatDevice) (each : Each pages devices) (k : ℕ) (x y : FlatDevice)
+    (x_is : slice_get devices k ≡ Some x) (sound : IsSoundDevice k pages y) where
+  replaced_by : (same : Bool) (j : ℕ) (d : FlatDevice) → (j == k) ≡ same → slice_get (slice_set devices k y) j ≡ Some d
+      → IsSoundDevice j pages d
+  replaced_by true j d same d_is =
       let here : j ≡ k = eqb-true j k same in
-      let is : device_did x s ≡ d = some_is (device_did x s) d
-      (sym (get_set_same g.devices k x (device_did x s) x_is)
-      ∙ sym (ap (λ (i : ℕ). slice_get (slice_set g.devices k (device_did x s)) i) here) ∙ d_is) in
-      let was = sound.each k x x_is in (
-        was.0,
-        subst (λ (i : ℕ). IsSoundDevice i was.0 d) (sym here)
-            (subst (λ (e : FlatDevice). IsSoundDevice k was.0 e) is (did_sound k was.0 x s was.1 want fit)),
-      )
-  one_by k x x_is want false j d same d_is =
-      sound.each j d (sym (get_set_other g.devices j k (device_did x s) (eqb-false j k same)) ∙ d_is)
+      let is : y ≡ d = some_is y d
+      (sym (get_set_same devices k x y x_is) ∙ sym (ap (λ (i : ℕ). slice_get (slice_set devices k y) i) here) ∙ d_is) in
+      subst (λ (i : ℕ). IsSoundDevice i pages d) (sym here) (subst (λ (e : FlatDevice). IsSoundDevice k pages e) is sound)
+  replaced_by false j d same d_is = each j d (sym (get_set_other devices j k y (eqb-false j k same)) ∙ d_is)
 
-  each_by : (k : ℕ) (o : Option FlatDevice) → slice_get g.devices k ≡ o → WantsOf o s.op → Each (device_after o g.devices k s)
-  each_by k None is want = absurd want
-  each_by k (Some x) is want = λ j d d_is. one_by k x is want (j == k) j d refl d_is
+  replaced : Each pages (slice_set devices k y)
+  replaced j d d_is = replaced_by (j == k) j d refl d_is
 
-  each_after : (actor : ActorId) → Wants g actor s.op → Each (devices_after actor g.devices s)
-  each_after ActorId.Timer want = sound.each
-  each_after (ActorId.Hart k) want = sound.each
-  each_after (ActorId.Device k) want = each_by k (slice_get g.devices k) refl want
+module _ (pages : ℕ) (devices : List FlatDevice) (each : Each pages devices) where
+  -- by an act
+  each_did : (s : Step) → fits s.op s.reply ≡ true → (k : ℕ) (o : Option FlatDevice) → slice_get devices k ≡ o
+      → WantsOf o s.op → Each pages (device_after o devices k s)
+  each_did s fit k None is want = absurd want
+  each_did s fit k (Some x) is want =
+      replaced pages devices each k x (device_did x s) is (did_sound k pages x s (each k x is) want fit)
 
-  many_after : (place : PlaceId) (actor : ActorId) (op : Op)
-      → length (ports_after place g.ports actor op) ≡ length (devices_after actor g.devices s)
-  many_after place actor op =
-      ports_many place g.ports actor op ∙ sound.as_many ∙ sym (devices_many actor g.devices s)
+  -- by a change
+  each_told : (k sectors : ℕ) (o : Option FlatDevice) → sectors < 2 ^ 64 → slice_get devices k ≡ o
+      → Each pages (sectors_told o devices k sectors)
+  each_told k sectors None size is = each
+  each_told k sectors (Some x) size is =
+      let c : DeviceChange = BlockChanged (Sectors sectors) in
+      replaced pages devices each k x (device_told x c) is (told_sound k pages x c size (each k x is))
 
-pub sound_after : (g : Guest) → AreSoundDevices g.ports g.devices → (place : PlaceId) (actor : ActorId) (op : Op)
-    (reply : Reply) → Wants g actor op → fits op reply ≡ true
-    → AreSoundDevices (ports_after place g.ports actor op)
+each_after : (g : Guest) (pages : ℕ) → Each pages g.devices → (s : Step) → fits s.op s.reply ≡ true → (actor : ActorId)
+    → Wants g actor s.op → Each pages (devices_after actor g.devices s)
+each_after g pages each s fit ActorId.Timer want = each
+each_after g pages each s fit (ActorId.Hart k) want = each
+each_after g pages each s fit (ActorId.Device k) want = each_did pages g.devices each s fit k (slice_get g.devices k) refl want
+
+pub sound_after : (g : Guest) → AreSoundDevices (whole_pages g.memory) g.ports g.devices → (place : PlaceId)
+    (actor : ActorId) (op : Op) (reply : Reply) → Wants g actor op → fits op reply ≡ true
+    → AreSoundDevices (whole_pages (memory_after place g.memory actor op)) (ports_after place g.ports actor op)
     (devices_after actor g.devices (record { op = op; reply = reply }))
 sound_after g sound place actor op reply want fit =
     let s : Step = record { op = op; reply = reply } in
-    record { as_many = many_after g sound s fit place actor op; each = each_after g sound s fit actor want }
+    subst (λ (pages : ℕ). AreSoundDevices pages (ports_after place g.ports actor op) (devices_after actor g.devices s))
+    (sym (pages_kept place g.memory actor op))
+    (record {
+      as_many = ports_many place g.ports actor op ∙ sound.as_many ∙ sym (devices_many actor g.devices s);
+      each = each_after g (whole_pages g.memory) sound.each s fit actor want;
+    })
+
+pub sound_resized : (pages : ℕ) (ports : List PortState) (devices : List FlatDevice) → AreSoundDevices pages ports devices
+    → (k sectors : ℕ) → sectors < 2 ^ 64
+    → AreSoundDevices pages (sectors_shown (slice_get ports k) ports k sectors)
+    (sectors_told (slice_get devices k) devices k sectors)
+sound_resized pages ports devices sound k sectors size = record {
+  as_many = shown_many (slice_get ports k) ports k sectors ∙ sound.as_many
+      ∙ sym (told_many (slice_get devices k) devices k sectors);
+  each = each_told pages devices sound.each k sectors (slice_get devices k) size refl;
+}
+
+-- and at the start
+started_many : (pages n : ℕ) (drives : List NewDrive) → length (map drive_port drives) ≡ length (drive_devices pages n drives)
+started_many pages n [] = refl
+started_many pages n (d ∷ drives) = ap suc (started_many pages (suc n) drives)
+
+-- a drive has less than 2^64 sectors
+abbrev pub FitsDrive : NewDrive → Type 0
+FitsDrive d = d.sectors < 2 ^ 64
+
+started_each : (pages n : ℕ) (drives : List NewDrive) (k : ℕ) (d : FlatDevice) → All FitsDrive drives
+    → slice_get (drive_devices pages n drives) k ≡ Some d → IsSoundDevice (n + k) pages d
+started_each pages n [] k d fit is = cc
+started_each pages n (x ∷ drives) zero d fit is =
+    let same : new_block_device n pages x.drive_id x.sectors x.is_read_only ≡ d = some_is _ d is in
+    let first : n ≡ n + 0 = omega arith in
+    subst (λ (i : ℕ). IsSoundDevice i pages d) first
+    (subst (λ (e : FlatDevice). IsSoundDevice n pages e) same
+    (new_sound n pages x.drive_id x.sectors x.is_read_only (All-head FitsDrive x drives fit)))
+started_each pages n (x ∷ drives) (suc k) d fit is =
+    let next : suc n + k ≡ n + suc k = omega arith in
+    subst (λ (i : ℕ). IsSoundDevice i pages d) next
+    (started_each pages (suc n) drives k d (All-tail FitsDrive x drives fit) is)
+
+pub sound_drives : (pages : ℕ) (drives : List NewDrive) → All FitsDrive drives
+    → AreSoundDevices pages (map drive_port drives) (drive_devices pages 0 drives)
+sound_drives pages drives fit = record {
+  as_many = started_many pages 0 drives;
+  each = λ k d is.
+      let here : 0 + k ≡ k = omega arith in
+      subst (λ (i : ℕ). IsSoundDevice i pages d) here (started_each pages 0 drives k d fit is);
+}

@@ -1,7 +1,9 @@
 pub mod Acting
 pub mod Answering
+pub mod Changing
 pub mod Determined
 pub mod Devices
+pub mod Lengths
 pub mod Lists
 pub mod Marked
 pub mod Soundness

@@ -1,6 +1,7 @@
 -- A guest that has started is never stuck.
 use Rattle.std.proofs.Common.{◌≡◌, ℕ, zero, suc, nat_lt, Bool, true, false, cond, refl, sym, ap, subst, ◌∙◌, List, [], ◌∷◌}
-use Rattle.std.proofs.Common.{◌++◌, length, Option, Some, None, slice_get, get_or, ◌<◌, ◌≤◌, ◌⊎◌, inl, inr, arith}
+use Rattle.std.proofs.Common.{◌++◌, length, Option, Some, None, slice_get, get_or, ◌<◌, ◌≤◌, ◌^◌, ◌⊎◌, inl, inr, arith}
+use Rattle.std.specs.List.{All}
 use Rattle.std.proofs.lemmas.Bool.{eqb-true}
 use borrow.Author.Tests.{ltb-true}
 use Rattle.std.proofs.lemmas.Option.{slice_get_cases}
@@ -22,10 +23,12 @@ use Rattle.hart_trace.proofs.Traces.{leads_start, hart_prefix, some_hart, some_o
 use Rattle.timer_trace.specs.States.{new_timer, wants_by}
 use Rattle.timer_trace.specs.Traces as timer
 use Rattle.timer_trace.proofs.Traces as timer_traces
-use Rattle.guest_memory.specs.Boot.{Loads}
+use Rattle.guest_memory.specs.Boot.{Loads, boot_memory}
+use Rattle.guest_devices.specs.declared.drive.NewDrive.{NewDrive}
 use Rattle.guest_devices.specs.Devices.{FlatDevice}
 use Rattle.guest_devices.proofs.Soundness.{some_want as device_want, want_own}
-use Rattle.flat_guest.specs.Guest.{Guest, Wants, WantsFrom, WantsOf, is_actor, layout_of}
+use Rattle.flat_guest.specs.Changes.{resized}
+use Rattle.flat_guest.specs.Guest.{Guest, Wants, WantsFrom, WantsOf, is_actor, layout_of, whole_pages}
 use Rattle.flat_guest.specs.Places.{place_of}
 use Rattle.flat_guest.specs.declared.places.Layout.{Layout}
 use Rattle.flat_guest.specs.Sound.{IsSound}
@@ -39,11 +42,12 @@ use Rattle.flat_guest.proofs.Lists.{get_lt, lt_get}
 no_steps : timer.IsPrefix []
 no_steps = timer_traces.timer_prefix [] new_timer timer_traces.leads_start
 
-pub sound_start : (harts mib : ℕ) (loads : Loads) → IsSound (started harts mib loads)
-sound_start harts mib loads = record {
+pub sound_start : (harts mib : ℕ) (loads : Loads) (drives : List NewDrive) → All devices.FitsDrive drives
+    → IsSound (started harts mib loads drives)
+sound_start harts mib loads drives fit = record {
   timer_on = no_steps;
   harts_on = λ k start is. hart_prefix start [] (fresh start) (leads_start start);
-  devices_on = record { as_many = refl; each = λ k d is. cc };
+  devices_on = devices.sound_drives (whole_pages (boot_memory mib loads)) drives fit;
 }
 
 pub sound_restart : (g : Guest) → IsSound g → IsSound (timer_restarted g)
@@ -51,6 +55,13 @@ sound_restart g sound = record {
   timer_on = no_steps;
   harts_on = λ k start is. sound.harts_on k start is;
   devices_on = sound.devices_on;
+}
+
+pub sound_resize : (g : Guest) (k sectors : ℕ) → sectors < 2 ^ 64 → IsSound g → IsSound (resized k sectors g)
+sound_resize g k sectors size sound = record {
+  timer_on = sound.timer_on;
+  harts_on = λ j start is. sound.harts_on j start is;
+  devices_on = devices.sound_resized (whole_pages g.memory) g.ports g.devices sound.devices_on k sectors size;
 }
 
 -- what an actor wants on a port is on one that is there, and a hart wants nothing of a host object
@@ -79,10 +90,9 @@ device_port : (g : Guest) (k : ℕ) (op : Op) (o : Option FlatDevice) → slice_
     → WantsOf o op → IsPortThere (length g.ports) op
 device_port g k op None is sound wants = absurd wants
 device_port g k op (Some d) is sound wants =
-    let own = sound.devices_on.each k d is in
     own_there (length g.ports) k op
     (ap (λ (n : ℕ). nat_lt k n) sound.devices_on.as_many ∙ get_lt g.devices k d is)
-    (want_own k own.0 d op own.1 wants)
+    (want_own k (whole_pages g.memory) d op (sound.devices_on.each k d is) wants)
 
 port_there : (g : Guest) (actor : ActorId) (op : Op) → IsSound g → Wants g actor op → IsPortThere (length g.ports) op
 port_there g ActorId.Timer op sound wants =
@@ -200,8 +210,7 @@ hart_want_by g k (Some start) is sound there =
 device_want_by : (g : Guest) (k : ℕ) (d : FlatDevice) → slice_get g.devices k ≡ Some d → IsSound g
     → (op : Op) × Wants g (ActorId.Device k) op
 device_want_by g k d is sound =
-    let own = sound.devices_on.each k d is in
-    let want = device_want k own.0 d own.1 in
+    let want = device_want k (whole_pages g.memory) d (sound.devices_on.each k d is) in
     (want.0, subst (λ (o : Option FlatDevice). WantsOf o want.0) (sym is) want.1)
 
 some_want : (g : Guest) (actor : ActorId) → IsSound g → is_actor g actor ≡ true → (op : Op) × Wants g actor op

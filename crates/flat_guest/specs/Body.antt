@@ -15,10 +15,11 @@ use Rattle.rv_supervisor.specs.declared.regs.Regs.{Regs}
 use Rattle.hart_trace.specs.States.{Hart, LeadsTo, hart_next, hart_wants}
 use Rattle.timer_trace.specs.declared.timer.Timer.{Timer}
 use Rattle.timer_trace.specs.States as timer
-use Rattle.guest_devices.specs.Devices.{DeviceLeads, DeviceLeft, FlatDevice}
-use Rattle.guest_devices.specs.Kept as device
+use Rattle.block_device.specs.Block.Change.{Sectors}
+use Rattle.guest_devices.specs.Devices.{BlockChanged, DeviceLeads, DeviceLeft, FlatDevice, device_changed}
+use Rattle.guest_devices.specs.Kept.{device_want, devices_given}
 use Rattle.flat_guest.specs.declared.places.Layout.{Layout}
-use Rattle.flat_guest.specs.Guest.{Guest}
+use Rattle.flat_guest.specs.Guest.{Guest, whole_pages}
 use Rattle.flat_guest.specs.Sound.{AreSoundDevices}
 use Rattle.flat_guest.specs.Steps.{board_after, memory_after, port_reply, ports_after}
 
@@ -37,12 +38,12 @@ pub record AreHarts (harts : List Hart) (g : Guest) : Type 0 where
   pub each : (k : ℕ) (start : Regs) (hart : Hart) → slice_get g.starts k ≡ Some start → slice_get harts k ≡ Some hart
       → LeadsTo start (g.steps (actors.Hart k)) hart
 
--- each device has still to do what its items lead to, and keeps to its own port
+-- each device has still to do what its items lead to, and keeps to its own port and to the guest's pages
 pub record AreDevices (lefts : List DeviceLeft) (g : Guest) : Type 0 where
   pub count : length lefts ≡ length g.devices
   pub each : (k : ℕ) (d : FlatDevice) (left : DeviceLeft) → slice_get g.devices k ≡ Some d → slice_get lefts k ≡ Some left
       → DeviceLeads d left
-  pub sound : AreSoundDevices g.ports g.devices
+  pub sound : AreSoundDevices (whole_pages g.memory) g.ports g.devices
 
 -- memory, board and ports are the guest's, the pages are marked that were written, and its timer, its harts and its devices
 -- are where the steps lead
@@ -67,7 +68,7 @@ want_of (Some hart) = Some (hart_wants hart)
 abbrev pub wants : Timer → List Hart → List DeviceLeft → ActorId → Option Op
 wants t harts devices actors.Timer = Some (timer.timer_wants t)
 wants t harts devices (actors.Hart k) = want_of (slice_get harts k)
-wants t harts devices (actors.Device k) = device.want_of (slice_get devices k)
+wants t harts devices (actors.Device k) = device_want (slice_get devices k)
 
 -- and what its reply makes of it; the others stay
 abbrev pub timer_after : ActorId → Timer → Reply → Timer
@@ -83,8 +84,14 @@ harts_after (actors.Hart k) harts reply = with_reply (slice_get harts k) harts k
 harts_after actor harts reply = harts
 
 abbrev pub lefts_after : ActorId → List DeviceLeft → Reply → List DeviceLeft
-lefts_after (actors.Device k) devices reply = device.with_reply (slice_get devices k) devices k reply
+lefts_after (actors.Device k) devices reply = devices_given (slice_get devices k) devices k reply
 lefts_after actor devices reply = devices
+
+-- what a change of its disk's size makes of a device that is there; the others stay
+abbrev pub lefts_resized : Option DeviceLeft → List DeviceLeft → ℕ → ℕ → List DeviceLeft
+lefts_resized None devices k sectors = devices
+lefts_resized (Some left) devices k sectors =
+    slice_set devices k (device_changed (BlockChanged (Sectors sectors)) left)
 
 -- the reply of an act with no place: what is given, where a host object is asked
 abbrev pub out_reply : Op → Option Reply → Reply

@@ -1,11 +1,13 @@
--- A guest: memory, the board, the ports of its devices, for each hart its registers at the start, for each actor its steps
--- since, its devices, and which pages were written.
-use Rattle.std.specs.Prelude.{ℕ, zero, suc, nat_lt, Bool, true, false, if◌then◌else◌, List, [], ◌∷◌, Option, Some, None, length, slice_get}
+-- A guest: memory, the board, the ports of its devices, for each hart its registers at the start, for the timer and each
+-- hart its steps since, its devices, and which pages were written.
+use Rattle.std.specs.Prelude.{ℕ, zero, suc, ◌/◌, nat_lt, Bool, true, false, if◌then◌else◌, List, [], ◌∷◌}
+use Rattle.std.specs.Prelude.{Option, Some, None, length, slice_get}
 use Rattle.vm_types.specs.declared.ids.ActorId.{ActorId}
 use Rattle.vm_types.specs.declared.ids.ActorId.TheVariants.{Timer, Hart, Device}
 use Rattle.vm_types.specs.declared.op.Op.{Op}
 use Rattle.vm_types.specs.declared.entry.Step.{Step}
 use Rattle.guest_memory.specs.Memory.{Memory}
+use Rattle.guest_memory.specs.Ram.{page_size}
 use Rattle.board_table.specs.Board.{Board}
 use Rattle.port_table.specs.declared.state.PortState.{PortState}
 use Rattle.rv_supervisor.specs.declared.regs.Regs.{Regs}
@@ -14,8 +16,9 @@ use Rattle.timer_trace.specs.Traces as timer
 use Rattle.guest_devices.specs.Devices.{DeviceWants, FlatDevice}
 use Rattle.flat_guest.specs.declared.places.Layout.{Layout}
 
--- The device of a number has the port of that number. `written` says of each page by its number whether an event wrote it since the guest started, goes on from a snapshot,
--- or was last saved in one
+-- The device of a number has the port of that number. What it did stands in its items, and `steps` has none of it.
+-- `written` says of each page by its number whether an event wrote it since the guest started, goes on from a snapshot, or
+-- was last saved in one.
 pub record Guest : Type 0 where
   pub memory : Memory
   pub board : Board
@@ -24,6 +27,10 @@ pub record Guest : Type 0 where
   pub steps : ActorId → List Step
   pub devices : List FlatDevice
   pub written : ℕ → Bool
+
+-- how many whole pages it has
+abbrev pub whole_pages : Memory → ℕ
+whole_pages m = length m.bytes / page_size
 
 -- no page was written
 abbrev pub none_written : ℕ → Bool

@@ -1,4 +1,5 @@
 pub mod Body
+pub mod Changes
 pub mod Guest
 pub mod Places
 pub mod Sound

@@ -9,8 +9,8 @@ use Rattle.port_table.specs.Window.{port_at}
 use Rattle.flat_guest.specs.declared.places.Layout.{Layout}
 
 -- the place of an act on a port, which is there or not
-abbrev pub port_of : ℕ → ℕ → PlaceId
-port_of ports port = if nat_lt port ports then PlaceId.Port port else PlaceId.Out
+abbrev pub port_place : ℕ → ℕ → PlaceId
+port_place ports port = if nat_lt port ports then PlaceId.Port port else PlaceId.Out
 
 -- these bytes, one at least, are the board's registers
 abbrev pub are_registers : ℕ → ℕ → Bool
@@ -37,12 +37,12 @@ port_accessed op = None
 -- the place of an access: the board where it is to its registers, else a port, else where it is in memory
 abbrev pub place_by : ℕ → Bool → Option ℕ → PlaceId → PlaceId
 place_by ports true port memory = PlaceId.Board
-place_by ports false (Some port) memory = port_of ports port
+place_by ports false (Some port) memory = port_place ports port
 place_by ports false None memory = memory
 
 -- The place of an op, by what there is. An act on a host object and a wait have none, nor has an access outside RAM, the
 -- board's registers and the ports, or an act on a port that isn't there.
 abbrev pub place_of : Layout → Op → PlaceId
-place_of there (Op.Port port act) = port_of there.ports port
+place_of there (Op.Port port act) = port_place there.ports port
 place_of there (Op.Board act) = PlaceId.Board
 place_of there op = place_by there.ports (is_register_access op) (port_accessed op) (access_place there.memory_size op)

@@ -68,11 +68,12 @@ abbrev pub ports_after : PlaceId → List PortState → ActorId → Op → List 
 ports_after (PlaceId.Port k) ports actor op = port_after (slice_get ports k) ports k actor op
 ports_after place ports actor op = ports
 
--- a step joins those of its actor
+-- a step joins those of its actor, the timer or a hart
 abbrev pub steps_after : (ActorId → List Step) → ActorId → Step → ActorId → List Step
+steps_after steps actor s (ActorId.Device k) = steps (ActorId.Device k)
 steps_after steps actor s a = if same_actor a actor then steps a ++ s ∷ [] else steps a
 
--- and is the next act of a device
+-- and is the next of a device's items
 abbrev pub device_after : Option FlatDevice → List FlatDevice → ℕ → Step → List FlatDevice
 device_after None devices k s = devices
 device_after (Some d) devices k s = slice_set devices k (device_did d s)

@@ -1,5 +1,5 @@
 // What holds of every guest.
-ghost use Rattle.std.specs.Prelude.{◌≡◌, ℕ, List, Option, None, length, true};
+ghost use Rattle.std.specs.Prelude.{◌≡◌, ◌<◌, ◌^◌, ℕ, All, List, Option, None, length, true};
 ghost use Rattle.vm_types.specs.declared.entry.Entry.{Entry};
 ghost use Rattle.vm_types.specs.declared.entry.Event.{Event};
 ghost use Rattle.vm_types.specs.declared.ids.ActorId.{ActorId};
@@ -7,6 +7,8 @@ ghost use Rattle.vm_types.specs.declared.ids.ActorId.TheVariants.{Hart};
 ghost use Rattle.vm_types.specs.declared.op.Op.{Op};
 ghost use Rattle.vm_types.specs.declared.reply.Reply.{Reply};
 ghost use Rattle.guest_memory.specs.Boot.{Loads};
+ghost use Rattle.guest_devices.specs.declared.drive.NewDrive.{NewDrive};
+ghost use Rattle.flat_guest.specs.Changes.{resized};
 ghost use Rattle.flat_guest.specs.Guest.{Guest, Wants, is_actor};
 ghost use Rattle.flat_guest.specs.Sound.{IsSound};
 ghost use Rattle.flat_guest.specs.Start.{started, timer_restarted};
@@ -31,8 +33,10 @@ pub fn one_step()
 /// A guest that has started is never stuck: each of its actors always wants something, which is done with whatever reply
 /// is due to it, and so on. A hart never waits for a reply of a host object.
 pub fn some_step()
-    ensures start { (harts mib : ℕ) (loads : Loads) → IsSound (started harts mib loads) }
+    ensures start { (harts mib : ℕ) (loads : Loads) (drives : List NewDrive) →
+        All (λ (d : NewDrive). d.sectors < 2 ^ 64) drives → IsSound (started harts mib loads drives) }
     ensures restart { (g : Guest) → IsSound g → IsSound (timer_restarted g) }
+    ensures resize { (g : Guest) (k sectors : ℕ) → sectors < 2 ^ 64 → IsSound g → IsSound (resized k sectors g) }
     ensures step { (g : Guest) (actor : ActorId) → IsSound g → is_actor g actor ≡ true →
         (op : Op) × Wants g actor op × ((given : Option Reply) → is_given op given ≡ true →
         (e : Entry) × (h : Guest) × IsUnstamped e

@@ -1,4 +1,5 @@
-//! The flat machine's guest: memory as one list, the board, and the timer and harts by their traces.
+//! The flat machine's guest: memory as one list, the board, the ports of its devices, the timer and harts by their traces,
+//! and the devices by their items.
 //!
 //! `specs/` says what a guest is, what an event does to it, how it starts, and which guests a body's data are; `law`
 //! has what holds of every guest. `place` says where an op acts.

@@ -35,8 +35,8 @@ fn port_accessed(op: &Op) -> Option<u8>
     }
 }
 
-fn port_of(ports: u8, port: u8) -> PlaceId
-    ensures { result ≡ places.port_of ports port }
+fn port_place(ports: u8, port: u8) -> PlaceId
+    ensures { result ≡ places.port_place ports port }
 {
     if port < ports {
         PlaceId::Port(port)
@@ -66,12 +66,12 @@ pub fn place(layout: Layout, op: &Op) -> PlaceId
     ensures { result ≡ places.place_of layout op.now }
 {
     match op {
-        Op::Port { port, act: _ } => port_of(layout.ports, *port),
+        Op::Port { port, act: _ } => port_place(layout.ports, *port),
         Op::Board(_) => PlaceId::Board,
         _ => if is_register_access(op) {
             PlaceId::Board
         } else if let Some(port) = port_accessed(op) {
-            port_of(layout.ports, port)
+            port_place(layout.ports, port)
         } else {
             access_place(layout.memory_size, op)
         },

@@ -1,3 +1,4 @@
 pub mod Among
 pub mod Follows
+pub mod Placed
 pub mod Soundness

@@ -1,5 +1,5 @@
 -- The devices of a guest, by kind: what each has still to do, and the device in the flat machine.
-use Rattle.std.specs.Prelude.{ℕ, ◌≡◌, Bool, false, List, [], ◌∷◌, ◌++◌}
+use Rattle.std.specs.Prelude.{ℕ, ◌≡◌, ◌<◌, ◌^◌, Bool, false, List, [], ◌∷◌, ◌++◌}
 use Rattle.std.proofs.Common.{ap}
 use Rattle.vm_types.specs.declared.op.Op.{Op}
 use Rattle.vm_types.specs.declared.op.OutOp.{OutOp}
@@ -12,6 +12,7 @@ use Rattle.device_trace.specs.Traces.{Item, Did, Changed}
 use Rattle.device_trace.specs.States.{wants, next, leaves, changed_at, Leads}
 use Rattle.block_device.specs.declared.data.BlockData.{BlockData}
 use Rattle.block_device.specs.Block.{Change, block_rules, new_block}
+use Rattle.block_device.specs.Block.Change.{Sectors}
 
 -- what a device has still to do
 pub data DeviceLeft : Type 0 where
@@ -20,6 +21,10 @@ pub data DeviceLeft : Type 0 where
 -- what the API changes of a device
 pub data DeviceChange : Type 0 where
   BlockChanged : Change → DeviceChange
+
+-- it gives a disk less than 2^64 sectors
+abbrev pub FitsChange : DeviceChange → Type 0
+FitsChange (BlockChanged (Sectors sectors)) = sectors < 2 ^ 64
 
 abbrev pub device_wants : DeviceLeft → Op
 device_wants (BlockLeft t) = wants block_rules t

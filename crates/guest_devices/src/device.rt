@@ -1,11 +1,13 @@
 // A device of any kind as an actor.
-ghost use Rattle.std.specs.Prelude.{◌≡◌};
+ghost use Rattle.std.specs.Prelude.{◌≡◌, true};
 ghost use Rattle.device_trace.specs.Script.{Ends};
 ghost use Rattle.block_device.specs.Block.{new_block};
 ghost use Rattle.block_device.specs.Block.Change.{Sectors};
 ghost use Rattle.guest_devices.specs.Devices.{BlockChanged, BlockLeft, device_changed};
-ghost use Rattle.guest_devices.specs.Kept.{device_left};
+ghost use Rattle.guest_devices.specs.Kept.{device_left, device_pages, device_port, is_kept};
 
+use crate::again::{block_again, block_port};
+use crate::drive::NewDrive;
 use block_device::Block;
 use vm_types::{Actor, Op, Reply};
 
@@ -16,18 +18,47 @@ pub enum Device {
 }
 
 impl Device {
-    /// The block device of this port that has done nothing, in a guest of so many pages, over a disk of so many
-    /// sectors of 512 bytes; GET_ID gives `drive_id`.
-    pub fn block(
-        port: u8,
-        pages: u32,
-        drive_id: [u8; 20],
-        sectors: u64,
-        is_read_only: bool,
-    ) -> Device
-        ensures { device_left result ≡ BlockLeft (Ends (new_block port pages drive_id sectors is_read_only)) }
+    /// The block device of this port that has done nothing, in a guest of so many pages.
+    pub fn block(port: u8, pages: u32, drive: &NewDrive) -> Device
+        ensures { device_left result ≡ BlockLeft (Ends
+            (new_block port pages drive.now.drive_id drive.now.sectors drive.now.is_read_only)) }
     {
-        Device::Block(Block::new(port, pages, drive_id, sectors, is_read_only))
+        Device::Block(Block::new(
+            port,
+            pages,
+            drive.drive_id,
+            drive.sectors,
+            drive.is_read_only,
+        ))
+    }
+
+    /// The number of its port.
+    pub fn port(&self) -> u8
+        ensures port { result ≡ device_port self.now }
+        ensures kept { is_kept self.now ≡ true }
+    {
+        match self {
+            Device::Block(block) => block_port(block),
+        }
+    }
+
+    /// How many pages of 4,096 bytes its guest has.
+    pub fn pages(&self) -> u32
+        ensures { result ≡ device_pages self.now }
+    {
+        match self {
+            Device::Block(block) => block.state().facts.queue.pages,
+        }
+    }
+
+    /// The device that keeps the same. It takes no memory.
+    pub fn again(&self) -> Device
+        ensures device { result ≡ self.now }
+        ensures kept { is_kept self.now ≡ true }
+    {
+        match self {
+            Device::Block(block) => Device::Block(block_again(block)),
+        }
     }
 
     /// The disk of a block device has another size, in sectors of 512 bytes, from the next judgement of a request on.

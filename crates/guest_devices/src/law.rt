@@ -1,5 +1,5 @@
 // What holds of every device of a guest.
-ghost use Rattle.std.specs.Prelude.{◌≡◌, ◌<◌, ◌^◌, ◌++◌, ℕ, Bool, List};
+ghost use Rattle.std.specs.Prelude.{◌≡◌, ◌<◌, ◌≤◌, ◌^◌, ◌++◌, ℕ, Bool, true, List};
 ghost use Rattle.vm_types.specs.declared.entry.Step.{Step};
 ghost use Rattle.vm_types.specs.declared.op.Op.{Op};
 ghost use Rattle.vm_types.specs.Fits.{Fits};
@@ -11,11 +11,14 @@ ghost use Rattle.vq_split.specs.Inside.{IsInside};
 ghost use Rattle.block_device.specs.declared.data.BlockData.{BlockData};
 ghost use Rattle.block_device.specs.declared.phase.BlockState.{BlockState};
 ghost use Rattle.block_device.specs.Block.{Change, block_rules};
+ghost use Rattle.block_device.specs.GoesOn.{IsBounded};
+ghost use Rattle.block_device.specs.Kept.{is_state};
 ghost use Rattle.block_device.specs.States.{block_left};
-ghost use Rattle.block_device.specs.Stays.{BlockStays};
-ghost use Rattle.guest_devices.specs.Devices.{BlockIs, BlockLeft, DeviceChange, DeviceLeads, DeviceLeft, DeviceWants, FlatDevice};
-ghost use Rattle.guest_devices.specs.Devices.{device_at, device_calls, device_changed, device_did, device_next};
+ghost use Rattle.guest_devices.specs.declared.device.Device.{Device};
+ghost use Rattle.guest_devices.specs.Devices.{BlockIs, BlockLeft, DeviceChange, DeviceLeads, DeviceLeft, DeviceWants, FitsChange};
+ghost use Rattle.guest_devices.specs.Devices.{FlatDevice, device_at, device_calls, device_changed, device_did, device_next};
 ghost use Rattle.guest_devices.specs.Devices.{device_told, device_wants, new_block_device};
+ghost use Rattle.guest_devices.specs.Kept.{IsBoundedDevice, device_left, device_pages, device_port, is_device_state};
 ghost use Rattle.guest_devices.specs.Sound.{IsSoundDevice};
 
 /// The items of a device lead to one thing that is still to be done. With a step of the act that it wants, or with a
@@ -40,28 +43,33 @@ pub fn devices_follow()
         DeviceWants (BlockIs start items) op }
 {}
 
-/// A sound device always wants something: an act of its own, inside RAM, and of host objects a call of its own. It is
-/// sound from its start on, with each fitting reply and each change, where it goes on from what was left of another, and
-/// where what is kept of it stays inside RAM.
+/// A sound device always wants something: an act of its own, and of host objects a call of its own; inside RAM, where
+/// there are less than 2^32 pages. It is sound from its start on, with each fitting reply and each change that fits, where
+/// it goes on from what was left of another, and with whatever bounded data a device may keep. In a guest of at most 2^20
+/// pages some device keeps what its items lead to.
 pub fn sound_devices()
-    ensures begins { (port pages : ℕ) (id : List ℕ) (sectors : ℕ) (read_only : Bool) →
-        pages < 2 ^ 32 → IsSoundDevice port pages (new_block_device port pages id sectors read_only) }
+    ensures begins { (port pages : ℕ) (id : List ℕ) (sectors : ℕ) (read_only : Bool) → sectors < 2 ^ 64 →
+        IsSoundDevice port pages (new_block_device port pages id sectors read_only) }
     ensures stays { (port pages : ℕ) (d : FlatDevice) (s : Step) →
         IsSoundDevice port pages d → DeviceWants d s.op → Fits s.op s.reply →
         IsSoundDevice port pages (device_did d s) }
-    ensures told { (port pages : ℕ) (d : FlatDevice) (c : DeviceChange) →
+    ensures told { (port pages : ℕ) (d : FlatDevice) (c : DeviceChange) → FitsChange c →
         IsSoundDevice port pages d → IsSoundDevice port pages (device_told d c) }
     ensures again { (port pages : ℕ) (d : FlatDevice) (left : DeviceLeft) →
         IsSoundDevice port pages d → DeviceLeads d left → IsSoundDevice port pages (device_at left) }
-    ensures kept { (b : BlockState) → b.facts.queue.pages < 2 ^ 32 →
-        BlockStays b.facts.queue.pages (block_left b) →
+    ensures kept { (b : BlockState) → is_state b ≡ true → IsBounded b →
         IsSoundDevice b.facts.port b.facts.queue.pages (device_at (BlockLeft (block_left b))) }
+    ensures resumed { (k : Device) → is_device_state k ≡ true → IsBoundedDevice k →
+        IsSoundDevice (device_port k) (device_pages k) (device_at (device_left k)) }
+    ensures copied { (port pages : ℕ) (d : FlatDevice) → pages ≤ 2 ^ 20 → IsSoundDevice port pages d →
+        (it : Device) × DeviceLeads d (device_left it) × (is_device_state it ≡ true) × IsBoundedDevice it
+        × (device_port it ≡ port) × (device_pages it ≡ pages) }
     ensures some { (port pages : ℕ) (d : FlatDevice) →
         IsSoundDevice port pages d → (op : Op) × DeviceWants d op }
     ensures own { (port pages : ℕ) (d : FlatDevice) (op : Op) →
         IsSoundDevice port pages d → DeviceWants d op → IsOwnAct port op }
     ensures inside { (port pages : ℕ) (d : FlatDevice) (op : Op) →
-        IsSoundDevice port pages d → DeviceWants d op → IsInside pages op }
+        pages < 2 ^ 32 → IsSoundDevice port pages d → DeviceWants d op → IsInside pages op }
     ensures host { (port pages : ℕ) (d : FlatDevice) (op : Op) →
         IsSoundDevice port pages d → DeviceWants d op → AsksOnly (device_calls d) op }
 {}

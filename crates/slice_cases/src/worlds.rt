@@ -39,7 +39,7 @@ pub fn two_harts(alloc: Global, image: &[u8]) -> Option<World> {
         initrd: None,
         tree: &[],
     };
-    World::start(alloc, 2, 4, &loads).ok()
+    World::start(alloc, 2, 4, &loads, &[]).ok()
 }
 
 /// Whether each step, one after the other, is as its event says.

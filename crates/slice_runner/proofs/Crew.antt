@@ -22,7 +22,7 @@ use Rattle.slice_runner.specs.declared.worker.TimerWorker.{TimerWorker}
 use Rattle.slice_runner.specs.Runs.{HasRun}
 use Rattle.slice_runner.specs.Staff.{harts_of, journals_from}
 use Rattle.slice_runner.specs.Values.{HartIs, TimerIs, actor_among, actor_next, actor_wants, hart_or_none, route_among}
-use Rattle.slice_runner.proofs.Stepping.{IsThere}
+use Rattle.slice_runner.specs.Slices.{IsThere}
 
 abbrev pub Journals : Type 0
 Journals = List (ActorId × List Entry)

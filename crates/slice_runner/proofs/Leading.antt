@@ -17,9 +17,9 @@ use Rattle.port_table.specs.declared.state.PortState.{PortState}
 use Rattle.stamp_merge.specs.declared.layout.Layout.{Layout}
 use Rattle.flat_guest.specs.Steps.{guest_after, written_after}
 use Rattle.vm_world.specs.Worlds.{WorldValue}
-use Rattle.slice_runner.specs.Slices.{IsSerial, MarksFollow}
+use Rattle.slice_runner.specs.Slices.{IsSerial, IsThere, MarksFollow}
 use Rattle.slice_runner.specs.Values.{ActorState, BoardHolds, HartIs, PageHolds, PlaceValue, PortHolds, TimerIs, actor_next, actor_wants, actors_of, layout_in, no_port, place_touch, places_of, route_among}
-use Rattle.slice_runner.proofs.Stepping.{IsThere, StepsOn, steps_on, world_after}
+use Rattle.slice_runner.proofs.Stepping.{StepsOn, steps_on, world_after}
 
 -- the entries lead from the world to one that has these values and states
 pub record Reaches (w : WorldValue) (es : List Entry) : Type 0 where

@@ -19,7 +19,7 @@ use Rattle.guest_memory.specs.Route.{access_place, page_of}
 use Rattle.guest_memory.specs.Words.{width_of}
 use Rattle.guest_pages.proofs.Here.{here}
 use Rattle.hart_trace.specs.Asks.{is_port_op}
-use Rattle.flat_guest.specs.Places.{is_register_access, place_by, port_accessed, port_of}
+use Rattle.flat_guest.specs.Places.{is_register_access, place_by, port_accessed, port_place}
 use Rattle.stamp_merge.specs.declared.layout.Layout.{Layout}
 use Rattle.slice_runner.specs.Locks.{IsLaidOut}
 use Rattle.vm_world.proofs.Events.{place_access}
@@ -66,7 +66,7 @@ by_test port ports k true lt is =
     let same : port ≡ k = cc in subst (λ (n : ℕ). n < ports) same (ltb-true port ports lt)
 by_test port ports k false lt is = cc
 
-of_port : (ports port k : ℕ) → port_of ports port ≡ PlaceId.Port k → k < ports
+of_port : (ports port k : ℕ) → port_place ports port ≡ PlaceId.Port k → k < ports
 of_port ports port k is = by_test port ports k (nat_lt port ports) refl is
 
 by_place : (ports k : ℕ) (registers : Bool) (o : Option ℕ) (memory : PlaceId) → (memory ≡ PlaceId.Port k → ⊥)

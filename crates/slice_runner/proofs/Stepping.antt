@@ -32,7 +32,7 @@ use Rattle.flat_guest.proofs.Marked.{marks_on}
 use Rattle.flat_guest.proofs.Stepping.{entry_of}
 use Rattle.vm_world.specs.Worlds.{IsWorld, MakesEvent, WorldValue, place_in, want_in}
 use Rattle.vm_world.proofs.Events.{event_made, place_access}
-use Rattle.slice_runner.specs.Slices.{event_of, given_of}
+use Rattle.slice_runner.specs.Slices.{IsThere, event_of, given_of}
 use Rattle.slice_runner.specs.Values.{HartIs, PageHolds, PortHolds, actor_next, actor_wants, actors_of, hart_or_none, layout_in, no_port, page_or_none, place_touch, places_of, port_or_none, route_among}
 use Rattle.slice_runner.proofs.Routes.{page_there, port_there}
 
@@ -50,12 +50,6 @@ world_after w e = record {
   harts = harts_after e.actor w.harts e.reply;
   devices = w.devices;
 }
-
--- the actor is one of the timer and so many harts
-abbrev pub IsThere : ℕ → ActorId → Type 0
-IsThere harts ActorId.Timer = Unit {0}
-IsThere harts (ActorId.Hart k) = k < harts
-IsThere harts (ActorId.Device k) = ⊥
 
 got : {A : Type 0} (xs : List A) (k : ℕ) (d : A) → k < length xs → slice_get xs k ≡ Some (get_or xs k d)
 got [] k d lt = absurd (omega arith)

@@ -1,6 +1,6 @@
 -- A slice, from what its actors did and what came back from under the locks.
 use Rattle.std.proofs.Common.{◌≡◌, ℕ, zero, suc, ◌+◌, ◌<◌, refl, sym, ap, ◌∙◌, subst, arith}
-use Rattle.std.proofs.Common.{List, [], ◌∷◌, ◌++◌, length, map, slice_get, slice_index_or, Some}
+use Rattle.std.proofs.Common.{All, List, [], ◌∷◌, ◌++◌, length, map, slice_get, slice_index_or, Some}
 use Rattle.std.specs.List.{AllByRecursion}
 use Rattle.std.proofs.lemmas.List.Elements.{All-from_recursion, recursion_from_All}
 use Rattle.std.proofs.lemmas.List.Sorted.{All-permutation}
@@ -39,7 +39,7 @@ use Rattle.slice_runner.specs.declared.worker.HartWorker.{HartWorker}
 use Rattle.slice_runner.specs.declared.worker.TimerWorker.{TimerWorker}
 use Rattle.slice_runner.specs.Locks.{AllHome}
 use Rattle.slice_runner.specs.Runs.{HartEnds, HartsWorked, HasRun, TimerEnds}
-use Rattle.slice_runner.specs.Slices.{IsSerial, IsSlice, IsTornSlice, MarksFollow, ReplaysFrom, answers_of}
+use Rattle.slice_runner.specs.Slices.{IsSerial, IsSlice, IsThere, IsTornSlice, MarksFollow, ReplaysFrom, answers_of}
 use Rattle.slice_runner.specs.Staff.{AreBack, AreNumbered, AreStaffed, harts_of, passes_of, stop_of, stops_from}
 use Rattle.slice_runner.specs.Stops.{HasCause, IsStopped, timer_most}
 use Rattle.slice_runner.specs.Values.{actor_next, actor_wants, actors_of, layout_in, page_at, page_or_none, place_touch, places_of, port_at, port_or_none, route_among}
@@ -47,7 +47,6 @@ use Rattle.slice_runner.proofs.Crew.{Crew, are_followed, are_stamped, are_there,
 use Rattle.slice_runner.proofs.Leading.{Reaches, reaches, same_world}
 use Rattle.slice_runner.proofs.Homes.{IsOwn}
 use Rattle.slice_runner.proofs.Returned.{each_history, replayed, rising}
-use Rattle.slice_runner.proofs.Stepping.{IsThere}
 
 module _ {Q : Type 0} (serves : Q → Type 0) (tally : Q → Tally) (layout : Layout) (n : ℕ) where
   -- each hart, by its number
@@ -190,14 +189,15 @@ module _ {Q : Type 0} (serves : Q → Type 0) (tally : Q → Tally) (n : ℕ) (a
         (replayed page_opening port_opening board_opening size pages ports b all home old.pages old.ports old.board own_all at_page at_port (board_same PlaceId.Board) refl refl)
         events ordered agree.parts
 
-    there : AllByRecursion (λ (e : Entry). IsThere (length old.harts) e.actor) events
-    there =
-        recursion_from_All (λ (e : Entry). IsThere (length old.harts) e.actor) events
-        (All-permutation (λ (e : Entry). IsThere (length old.harts) e.actor) (all_of js) events ordered.moved
-        (All-from_recursion (λ (e : Entry). IsThere (length old.harts) e.actor) (all_of js) (are_there size old.timer old.harts u vs first ran crew)))
+    all_there : All (λ (e : Entry). IsThere (length old.harts) e.actor) events
+    all_there =
+        All-permutation (λ (e : Entry). IsThere (length old.harts) e.actor) (all_of js) events ordered.moved
+        (All-from_recursion (λ (e : Entry). IsThere (length old.harts) e.actor) (all_of js) (are_there size old.timer old.harts u vs first ran crew))
 
     reached : Reaches old events
-    reached = reaches events old size (length old.harts) refl refl are there run.fresh
+    reached =
+        reaches events old size (length old.harts) refl refl are
+        (recursion_from_All (λ (e : Entry). IsThere (length old.harts) e.actor) events all_there) run.fresh
 
     harts_long : length harts ≡ length old.harts
     harts_long =
@@ -256,6 +256,7 @@ module _ {Q : Type 0} (serves : Q → Type 0) (tally : Q → Tally) (n : ℕ) (a
     pub whole : IsSlice tally n asked now old events new stops passes later
     whole = record {
       serial = subst (λ (w : WorldValue). IsSerial old events w) arrived reached.serial;
+      there = all_there;
       stamps =
           stamps_run js _ events (are_stamped size old.timer old.harts u vs first ran crew)
           (rising page_opening port_opening board_opening size pages ports b all home old.pages old.ports old.board own_all at_page at_port (board_same PlaceId.Board) refl refl)
@@ -276,4 +277,5 @@ module _ {Q : Type 0} (serves : Q → Type 0) (tally : Q → Tally) (n : ℕ) (a
       pages = subst (λ (w : WorldValue). ArePages 0 w.pages) arrived reached.pages;
       count = home.pages_count;
       ports = home.ports_count;
+      devices = refl;
     }

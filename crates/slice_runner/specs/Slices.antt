@@ -1,5 +1,5 @@
 -- What a slice is to the flat machine.
-use Rattle.std.specs.Prelude.{ℕ, ◌≡◌, Bool, List, [], ◌∷◌, length, Option, Some, None}
+use Rattle.std.specs.Prelude.{ℕ, ◌≡◌, ◌<◌, All, Bool, List, [], ◌∷◌, length, Option, Some, None}
 use Rattle.std.specs.List.{AllByRecursion}
 use Rattle.vm_types.specs.declared.entry.Entry.{Entry}
 use Rattle.vm_types.specs.declared.entry.Event.{Event}
@@ -53,6 +53,12 @@ Leads g (e ∷ es) h = (mid : Guest) × FlatStep g (event_of e) e mid × Leads m
 abbrev pub IsSerial : WorldValue → List Entry → WorldValue → Type 0
 IsSerial old events new = (g : Guest) → IsWorld old g → (h : Guest) × Leads g events h × IsWorld new h
 
+-- the actor is one of the timer and so many harts
+abbrev pub IsThere : ℕ → ActorId → Type 0
+IsThere harts ActorId.Timer = Unit {0}
+IsThere harts (ActorId.Hart k) = k < harts
+IsThere harts (ActorId.Device k) = ⊥
+
 -- stamps begin anew with each slice
 abbrev pub AreStamps : List Entry → Type 0
 AreStamps events = StampsRun (λ actor. 0) (λ place. 0) events
@@ -97,10 +103,12 @@ pub record IsTornSlice (old : WorldValue) (torn : Torn) (journals : List Journal
   pub in_order : IsOrder (all_of (journals_of journals)) order
   pub differ : IsTorn order histories torn
 
--- the events of a slice lead from the world before to the world after, which has its pages and its ports still
+-- the events of a slice lead from the world before to the world after, which has its pages and its ports still, and its
+-- devices as they were
 pub record IsSlice {Q : Type 0} (tally : Q → Tally) (n : ℕ) (asked now : ClockKnown) (old : WorldValue)
     (events : List Entry) (new : WorldValue) (stops : List Stopped) (before after : List Q) : Type 0 where
   pub serial : IsSerial old events new
+  pub there : All (λ (e : Entry). IsThere (length old.harts) e.actor) events
   pub stamps : AreStamps events
   pub marks : MarksFollow old.pages events new.pages
   pub stopped : AreStopped tally n events new stops before after
@@ -108,3 +116,4 @@ pub record IsSlice {Q : Type 0} (tally : Q → Tally) (n : ℕ) (asked now : Clo
   pub pages : ArePages 0 new.pages
   pub count : length new.pages ≡ length old.pages
   pub ports : length new.ports ≡ length old.ports
+  pub devices : new.devices ≡ old.devices

@@ -1,7 +1,7 @@
 // A slice of a world.
-ghost use Rattle.std.specs.Prelude.{◌≡◌, ◌+◌, ◌≤◌, [], length, All, IfErr, IfOk};
+ghost use Rattle.std.specs.Prelude.{◌≡◌, ◌+◌, ◌≤◌, [], length, All, IfErr, IfOk, OnOk};
 ghost use Rattle.vm_world.specs.Worlds.{world_with};
-ghost use Rattle.slice_runner.specs.Slices.{AreStamps, ClockWasAsked, IsSerial, MarksFollow};
+ghost use Rattle.slice_runner.specs.Slices.{AreStamps, ClockWasAsked, IsSerial, IsThere, MarksFollow};
 ghost use Rattle.slice_runner.specs.Ended.{HasFailed};
 ghost use Rattle.slice_runner.specs.Stops.{AreStopped};
 
@@ -40,13 +40,15 @@ pub enum SliceError {
     OutOfMemory,
 }
 
-/// So many steps at most of each hart, all of them side by side, each in a thread of its own; and of the timer in this one, but
-/// no more than a round of it, so that guest time goes on from slice to slice. Before each step the actor asks the gate with its pass, the one at its place, where the timer comes first and then the
-/// harts by their numbers; an actor stops as `Stop` says. At most 32 harts.
+/// So many steps at most of each hart, all of them side by side, each in a thread of its own; and of the timer in this
+/// one, but no more than a round of it, so that guest time goes on from slice to slice. Before each step the actor asks the
+/// gate with its pass, the one at its place, where the timer comes first and then the harts by their numbers; an actor
+/// stops as `Stop` says. At most 32 harts.
 ///
-/// The events lead from the world before to the world after, each as the flat machine's step, with the reply that it got.
-/// Their stamps begin anew with the slice. The timer's `Clock` answers are the clock's next ones. Nothing is said of
-/// waiting, nor of which actor gets on.
+/// The events lead from the world before to the world after, each as the flat machine's step, with the reply that it got;
+/// each is the timer's or a hart's, and devices are as they were. Their stamps begin anew with the slice. The timer's
+/// `Clock` answers are the clock's next ones, and no other host object is asked. Nothing is said of waiting, nor of which
+/// actor gets on.
 ///
 /// Errors: `OutOfMemory` where the lists of events and journals, or what moves places, found no room before the first
 /// step, and then the world and the clock are as they were; `Torn` where journals and histories don't agree.
@@ -71,12 +73,15 @@ pub fn run_slice<
     requires passes { length world.old.harts + 1 ≤ length passes.old.items }
     requires serve { All (G.serves gate.now) passes.old.items }
     ensures serial { IfOk result (λ slice. IsSerial world.old slice.events.items world.new) }
+    ensures actors { IfOk result (λ slice. All (λ e. IsThere (length world.old.harts) e.actor) slice.events.items) }
     ensures stamps { IfOk result (λ slice. AreStamps slice.events.items) }
     ensures marks { IfOk result (λ slice. MarksFollow world.old.pages slice.events.items world.new.pages) }
     ensures stops { IfOk result (λ slice.
         AreStopped G.tally n slice.events.items world.new slice.stops.items passes.old.items passes.new.items) }
     ensures clock { IfOk result (λ slice.
         ClockWasAsked (C.known host.old.clock) slice.events.items (C.known host.new.clock)) }
+    ensures devices { OnOk result (world.new.devices ≡ world.old.devices) }
+    ensures beside { host.new ≡ record host.old { clock = host.new.clock } }
     ensures failed { IfErr result (λ why. HasFailed world.old world.new
         (C.known host.old.clock) (C.known host.new.clock) passes.old.items passes.new.items why) }
     ensures serve { All (G.serves gate.now) passes.new.items }

@@ -45,8 +45,6 @@ mod phase;
 mod port;
 mod queue;
 mod saved;
-#[cfg(test)]
-mod tests;
 
 pub use device::{decode_device, encode_device};
 pub use law::port_size;

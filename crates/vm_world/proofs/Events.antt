@@ -1,5 +1,5 @@
 -- A world's events are the flat machine's.
-use Rattle.std.proofs.Common.{◌≡◌, ℕ, zero, suc, ◌+◌, ◌<◌, true, false, Bool, nat_lt, refl, sym, ap, subst, ◌∙◌, List, [], ◌∷◌, length, replicate, slice_get, if◌then◌else◌, MatchOption, is_some, Option, Some, None, ◌⊎◌, arith}
+use Rattle.std.proofs.Common.{◌≡◌, ℕ, zero, suc, ◌+◌, ◌<◌, ◌^◌, true, false, Bool, nat_lt, refl, sym, ap, subst, ◌∙◌, List, [], ◌∷◌, length, replicate, slice_get, if◌then◌else◌, MatchOption, is_some, Option, Some, None, ◌⊎◌, arith}
 use Rattle.std.proofs.lemmas.Bool.{lt-ltb, ltb-false, ltb-true}
 use Rattle.vm_types.specs.declared.ids.ActorId.{ActorId}
 use Rattle.vm_types.specs.Fits.{out_fits}
@@ -16,15 +16,21 @@ use Rattle.timer_trace.specs.declared.timer.Timer.{Timer}
 use Rattle.timer_trace.specs.States.{new_timer}
 use Rattle.timer_trace.proofs.Traces as timer_traces
 use Rattle.flat_guest.specs.Guest.{Guest, Wants, WantsFrom, WantsOf, is_actor, none_written, unwritten}
+use Rattle.board_table.specs.Acts.{raise_line}
+use Rattle.board_table.specs.Board.{Board}
+use Rattle.port_table.specs.declared.state.PortState.{PortState}
+use Rattle.guest_devices.specs.declared.device.Device.{Device}
 use Rattle.guest_devices.specs.Devices.{DeviceLeft, FlatDevice, device_next, device_wants}
-use Rattle.guest_devices.specs.Kept as device
-use Rattle.guest_devices.specs.Kept.{devices_left}
+use Rattle.guest_devices.specs.Kept.{device_want, devices_given, devices_left}
 use Rattle.flat_guest.specs.declared.places.Layout.{Layout}
 use Rattle.flat_guest.specs.Places.{is_register_access, place_by, place_of, port_accessed}
-use Rattle.flat_guest.specs.Body.{body_after, harts_after, lefts_after, reply_at, timer_after, want_of, wants, with_reply}
+use Rattle.flat_guest.specs.Body.{Body, IsGuest, body_after, harts_after, lefts_after, lefts_resized, reply_at, timer_after, want_of, wants, with_reply}
+use Rattle.flat_guest.specs.Changes.{resized, sectors_shown}
 use Rattle.flat_guest.specs.Start.{timer_restarted}
 use Rattle.flat_guest.specs.Steps.{board_after, is_given, memory_after, ports_after}
 use Rattle.flat_guest.proofs.Acting as acting
+use Rattle.flat_guest.proofs.Changing as changing
+use Rattle.flat_guest.proofs.Changing.{body_resized}
 use Rattle.flat_guest.proofs.Lists as lists
 use Rattle.flat_guest.proofs.Determined.{wants_one}
 use Rattle.flat_guest.proofs.Marked.{none_marked}
@@ -98,11 +104,11 @@ next_by (Some hart) harts k op reply is want =
     (hart_wants (hart_next hart reply), ap want_of (lists.get_set_same harts k hart (hart_next hart reply) is))
 
 left_by : (o : Option DeviceLeft) (lefts : List DeviceLeft) (k : ℕ) (op : Op) (reply : Reply) → slice_get lefts k ≡ o
-    → device.want_of o ≡ Some op
-    → (next : Op) × (device.want_of (slice_get (device.with_reply o lefts k reply) k) ≡ Some next)
+    → device_want o ≡ Some op
+    → (next : Op) × (device_want (slice_get (devices_given o lefts k reply) k) ≡ Some next)
 left_by None lefts k op reply is want = cc
 left_by (Some left) lefts k op reply is want =
-    (device_wants (device_next left reply), ap device.want_of (lists.get_set_same lefts k left (device_next left reply) is))
+    (device_wants (device_next left reply), ap device_want (lists.get_set_same lefts k left (device_next left reply) is))
 
 pub still_there : (t : Timer) (harts : List Hart) (lefts : List DeviceLeft) (actor : ActorId) (op : Op) (reply : Reply)
     → wants t harts lefts actor ≡ Some op
@@ -125,7 +131,7 @@ none_there : (o : Option Hart) → want_of o ≡ None → o ≡ None
 none_there None is = refl
 none_there (Some hart) is = cc
 
-no_left : (o : Option DeviceLeft) → device.want_of o ≡ None → o ≡ None
+no_left : (o : Option DeviceLeft) → device_want o ≡ None → o ≡ None
 no_left None is = refl
 no_left (Some left) is = cc
 
@@ -183,7 +189,7 @@ here_by : (o : Option Hart) (op : Op) → want_of o ≡ Some op → (hart : Hart
 here_by None op is = cc
 here_by (Some hart) op is = (hart, refl)
 
-left_here : (o : Option DeviceLeft) (op : Op) → device.want_of o ≡ Some op → (left : DeviceLeft) × (o ≡ Some left)
+left_here : (o : Option DeviceLeft) (op : Op) → device_want o ≡ Some op → (left : DeviceLeft) × (o ≡ Some left)
 left_here None op is = cc
 left_here (Some left) op is = (left, refl)
 
@@ -251,6 +257,17 @@ unwritten_is w pages g is memory marks = record {
   harts_are = record { count = is.harts_are.count; each = is.harts_are.each };
   devices_are = record { count = is.devices_are.count; each = is.devices_are.each; sound = is.devices_are.sound };
 }
+
+-- and with another disk of a device
+pub resized_is : (w : WorldValue) (b : Board) (ports : List PortState) (devices : List Device) (k sectors : ℕ) (g : Guest)
+    → sectors < 2 ^ 64 → IsWorld w g → b ≡ raise_line w.board (ActorId.Device k)
+    → ports ≡ sectors_shown (slice_get w.ports k) w.ports k sectors
+    → devices_left devices ≡ lefts_resized (slice_get (devices_left w.devices) k) (devices_left w.devices) k sectors
+    → IsWorld (record w { board = b; ports = ports; devices = devices }) (resized k sectors g)
+resized_is w b ports devices k sectors g size is board_is ports_are devices_are =
+    let after : body_of (record w { board = b; ports = ports; devices = devices }) ≡ body_resized k sectors (body_of w) =
+    λ i. record (body_of w) { board = board_is i; ports = ports_are i; devices = devices_are i } in
+    subst (λ (n : Body). IsGuest n (resized k sectors g)) (sym after) (changing.resized_is (body_of w) g k sectors size is)
 
 -- events of an actor, one after another
 abbrev pub HasRun : ActorId → WorldValue → ℕ → WorldValue → Type 0

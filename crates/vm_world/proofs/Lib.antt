@@ -1,3 +1,4 @@
+mod Beginning
 pub mod Events
 mod Listed
 pub mod Running

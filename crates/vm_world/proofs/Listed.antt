@@ -1,5 +1,6 @@
 -- Harts in a list: how they start, and one that is given its reply.
-use Rattle.std.proofs.Common.{◌≡◌, ℕ, false, zero, suc, ◌+◌, ◌<◌, ◌≤◌, refl, sym, ap, subst, ◌∙◌, List, [], ◌∷◌, ◌++◌, Option, Some, None, length, replicate, slice_get, slice_set, slice_index_or, arith}
+use Rattle.std.proofs.Common.{◌≡◌, ℕ, false, zero, suc, ◌+◌, ◌*◌, ◌<◌, ◌≤◌, refl, sym, ap, subst, ◌∙◌, List, [], ◌∷◌, ◌++◌, Option, Some, None, length, map, replicate, slice_get, slice_set, slice_index_or, arith}
+use Rattle.std.specs.List.{All}
 use Rattle.std.proofs.lemmas.List.{length-set, length-replicate}
 use Rattle.vm_types.specs.declared.reply.Reply.{Reply}
 use Rattle.rv_supervisor.specs.declared.regs.Regs.{Regs}
@@ -12,10 +13,14 @@ use Rattle.boot_loader.specs.declared.loading.Start.{Start}
 use Rattle.board_table.specs.Board.{new_board}
 use Rattle.rv_supervisor.specs.Start.{start_regs}
 use Rattle.timer_trace.specs.States.{new_timer}
+use Rattle.guest_devices.specs.declared.drive.NewDrive.{NewDrive}
 use Rattle.flat_guest.proofs.Marked.{none_marked}
 use Rattle.flat_guest.specs.Body.{Body, IsGuest, with_reply}
-use Rattle.flat_guest.specs.Start.{started, start_of_harts}
-use Rattle.vm_world.specs.Starting.{harts_at_start}
+use Rattle.flat_guest.specs.Guest.{whole_pages}
+use Rattle.flat_guest.specs.Start.{drive_port, started, start_of_harts}
+use Rattle.flat_guest.proofs.Devices.{FitsDrive, sound_drives}
+use Rattle.vm_world.specs.Starting.{harts_at_start, lefts_at_start}
+use Rattle.vm_world.proofs.Beginning.{all_pages, lefts_lead, lefts_many}
 
 pub replicate_more : {A : Type 0} (n : ℕ) (x : A) → replicate n x ++ x ∷ [] ≡ replicate (n + 1) x
 replicate_more zero x = refl
@@ -72,17 +77,20 @@ module _ (mib : ℕ) where
       length-set (replicate n (fresh stopped_regs)) 0 (fresh first) ∙ length-replicate n (fresh stopped_regs)
       ∙ sym (length-set (replicate n stopped_regs) 0 first ∙ length-replicate n stopped_regs)
 
-  at_start : (n : ℕ) (loads : Loads) (count : ℕ)
+  abbrev pages_with : Loads → ℕ
+  pages_with loads = whole_pages (boot_memory mib loads)
+
+  at_start : (n : ℕ) (loads : Loads) (drives : List NewDrive) (count : ℕ) → All FitsDrive drives
       → IsGuest (record {
         memory = boot_memory mib loads;
         marks = replicate count false;
         board = new_board n;
-        ports = [];
+        ports = map drive_port drives;
         timer = new_timer;
         harts = harts_at_start n image_start (tree_start mib);
-        devices = [];
-      }) (started n mib loads)
-  at_start n loads count = record {
+        devices = lefts_at_start (pages_with loads) 0 drives;
+      }) (started n mib loads drives)
+  at_start n loads drives count fit = record {
     memory_is = refl;
     marks_are = none_marked count;
     board_is = refl;
@@ -90,27 +98,31 @@ module _ (mib : ℕ) where
     timer_is = timer_traces.leads_start;
     harts_are = record { count = as_many n; each = λ k start hart start_is hart_is. each_from n k start hart start_is hart_is };
     devices_are = record {
-      count = refl;
-      each = λ k d left is here. cc;
-      sound = record { as_many = refl; each = λ k d is. cc };
+      count = lefts_many (pages_with loads) 0 drives;
+      each = λ k d left is here. lefts_lead (pages_with loads) 0 drives k d left is here;
+      sound = sound_drives (pages_with loads) drives fit;
     };
   }
 
-  pub started_is : (n : ℕ) (loads : Loads) (count : ℕ) (b : Body) (start : Start)
-      → b.memory ≡ boot_memory mib loads → b.marks ≡ replicate count false → b.board ≡ new_board n → b.ports ≡ []
-      → b.timer ≡ new_timer → start ≡ record { pc = image_start; tree = tree_start mib }
-      → b.harts ≡ harts_at_start n start.pc start.tree → b.devices ≡ [] → IsGuest b (started n mib loads)
-  started_is n loads count b start memory unmarked board ports timer begins harts devices =
+  pub started_is : (n : ℕ) (loads : Loads) (drives : List NewDrive) (count pages : ℕ) (b : Body) (start : Start)
+      → b.memory ≡ boot_memory mib loads → b.marks ≡ replicate count false → b.board ≡ new_board n
+      → b.ports ≡ map drive_port drives → b.timer ≡ new_timer → start ≡ record { pc = image_start; tree = tree_start mib }
+      → b.harts ≡ harts_at_start n start.pc start.tree → length b.memory.bytes ≡ 4096 * pages
+      → b.devices ≡ lefts_at_start pages 0 drives → All FitsDrive drives → IsGuest b (started n mib loads drives)
+  started_is n loads drives count pages b start memory unmarked board ports timer begins harts long devices fit =
       let here : b.harts ≡ harts_at_start n image_start (tree_start mib) =
       harts ∙ ap (λ (s : Start). harts_at_start n s.pc s.tree) begins in
+      let all : pages ≡ pages_with loads = all_pages b.memory pages long ∙ ap whole_pages memory in
+      let lefts : b.devices ≡ lefts_at_start (pages_with loads) 0 drives =
+      devices ∙ ap (λ (k : ℕ). lefts_at_start k 0 drives) all in
       let is : record {
         memory = boot_memory mib loads;
         marks = replicate count false;
         board = new_board n;
-        ports = [];
+        ports = map drive_port drives;
         timer = new_timer;
         harts = harts_at_start n image_start (tree_start mib);
-        devices = [];
+        devices = lefts_at_start (pages_with loads) 0 drives;
       } ≡ b = sym (λ i. record {
         memory = memory i;
         marks = unmarked i;
@@ -118,6 +130,6 @@ module _ (mib : ℕ) where
         ports = ports i;
         timer = timer i;
         harts = here i;
-        devices = devices i;
+        devices = lefts i;
       }) in
-      subst (λ (c : Body). IsGuest c (started n mib loads)) is (at_start n loads count)
+      subst (λ (c : Body). IsGuest c (started n mib loads drives)) is (at_start n loads drives count fit)

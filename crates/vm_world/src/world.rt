@@ -22,16 +22,18 @@ ghost use Rattle.flat_guest.specs.Steps.{board_after, is_given, memory_after, po
 ghost use Rattle.vm_world.specs.Refusing.{IsRefused, refusal_of};
 ghost use Rattle.vm_world.specs.Worlds.{IsWorld, MakesEvent, Runs, place_in, want_in, world_with};
 
+mod changing;
 mod parting;
 
 use crate::actors::{give_hart, start_harts, want_of_hart};
+use crate::drives::{drive_devices, drive_ports};
 use crate::hart_run::{act_on_port, run_hart};
 use crate::memory::read_pages;
 use crate::step_error::{NoActor, NotRam, StepError, refusal_of};
 pub use crate::world::parting::WorldParts;
 use boot_loader::{BootError, Booted, Loads, boot};
 use flat_guest::{Layout, place};
-use guest_devices::{Device, give_device, want_of_device};
+use guest_devices::{Device, NewDrive, give_device, want_of_device};
 use guest_memory::PAGE_SIZE;
 use guest_pages::PageSet;
 use hart_rv64::Hart;
@@ -77,7 +79,7 @@ impl Model for World {
 
 impl World {
     /// The world as a start makes it, with so many harts, so many MiB of memory, at most `flat_guest::MOST_MIB`, and
-    /// this in it, and no device. No page is marked.
+    /// this in it, and a block device with its port for each drive, of which there are at most 16. No page is marked.
     ///
     /// Errors: `NoRoom` exactly where what is loaded does not fit, unless memory is wanting first, and `OutOfMemory`.
     pub fn start(
@@ -85,10 +87,13 @@ impl World {
         harts: usize,
         mem_size_mib: u64,
         loads: &Loads<'_>,
+        drives: &[NewDrive],
     ) -> Result<World, BootError>
         requires few { harts ≤ 32 }
         requires small { mem_size_mib ≤ 2 ^ 20 }
-        ensures world { IfOk result (λ world. IsWorld world (started harts mem_size_mib (loads_of loads.now))) }
+        requires few_drives { length drives.now ≤ 16 }
+        ensures world { IfOk result (λ world.
+            IsWorld world (started harts mem_size_mib (loads_of loads.now) drives.now)) }
         ensures marks { IfOk result (λ world. marks_of world.pages ≡ replicate (256 * mem_size_mib) false) }
         ensures room { OnOk result (have_room mem_size_mib (loads_of loads.now) ≡ true) }
         ensures no_room { IfErr result (λ why.
@@ -101,28 +106,35 @@ impl World {
         let Ok(harts) = start_harts(alloc, harts, start) else {
             return Err(BootError::OutOfMemory);
         };
-        Ok(World {
-            pages,
-            board,
-            ports: Vec::new(alloc),
-            timer: Timer::new(),
-            harts,
-            devices: Vec::new(alloc),
-        })
+        let Ok(ports) = drive_ports(alloc, drives) else {
+            return Err(BootError::OutOfMemory);
+        };
+        let Ok(devices) = drive_devices(alloc, pages.len() as u32, drives) else {
+            return Err(BootError::OutOfMemory);
+        };
+        Ok(World::from_parts(pages, board, harts, ports, devices))
     }
 
-    /// The world that has these parts and no device, with the timer at its start. There are at most 2^28 pages.
-    pub fn from_parts(alloc: Global, pages: PageSet, board: Board, harts: Vec<Hart>) -> World
-        requires { length pages ≤ 2 ^ 28 }
-        ensures { result ≡ world_with pages board [] new_timer harts.items [] }
+    /// The world that has these parts, with the timer at its start. There are at most 2^28 pages and 16 ports. It takes
+    /// no memory.
+    pub fn from_parts(
+        pages: PageSet,
+        board: Board,
+        harts: Vec<Hart>,
+        ports: Vec<Port>,
+        devices: Vec<Device>,
+    ) -> World
+        requires few { length pages ≤ 2 ^ 28 }
+        requires few_ports { length ports.items ≤ 16 }
+        ensures { result ≡ world_with pages board ports.items new_timer harts.items devices.items }
     {
         World {
             pages,
             board,
-            ports: Vec::new(alloc),
+            ports,
             timer: Timer::new(),
             harts,
-            devices: Vec::new(alloc),
+            devices,
         }
     }
 

@@ -1,4 +1,4 @@
-use Rattle.guest_devices.proofs.Soundness.{at_sound, did_sound, kept_sound, new_sound, some_want, told_sound, want_host, want_inside, want_own}
+use Rattle.guest_devices.proofs.Soundness.{at_sound, copied, did_sound, kept_sound, new_sound, resumed_sound, some_want, told_sound, want_host, want_inside, want_own}
 use Rattle.guest_devices.proofs.law.sound_devices.Goals as goal
 
 pub returns-clause-begins : goal.returns-clause-begins
@@ -27,3 +27,9 @@ returns-clause-host c = want_host
 
 pub returns-clause-kept : goal.returns-clause-kept
 returns-clause-kept c = kept_sound
+
+pub returns-clause-resumed : goal.returns-clause-resumed
+returns-clause-resumed c = resumed_sound
+
+pub returns-clause-copied : goal.returns-clause-copied
+returns-clause-copied c = copied

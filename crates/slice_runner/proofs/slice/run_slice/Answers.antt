@@ -1,6 +1,7 @@
-use Rattle.std.proofs.Common.{sym, subst}
+use Rattle.std.proofs.Common.{All, length, sym, subst}
+use Rattle.vm_types.specs.declared.entry.Entry.{Entry}
 use Rattle.vm_world.specs.Worlds.{WorldValue}
-use Rattle.slice_runner.specs.Slices.{IsSerial, MarksFollow}
+use Rattle.slice_runner.specs.Slices.{IsSerial, IsThere, MarksFollow}
 use Rattle.slice_runner.specs.Unshared.{world_of}
 use Rattle.slice_runner.proofs.slice.run_slice.Goals as goal
 
@@ -19,3 +20,9 @@ returns-in-Ok-share-clause-marks g c =
     subst (λ (w : WorldValue). MarksFollow w.pages events c.with_parts.result.pages) c.take-parts.ensures.parts
     (subst (λ (w : WorldValue). MarksFollow p.pages.items events w.pages) (sym c.with_parts.ensures)
     c.in-Ok-share.ensures.shared.marks)
+
+pub returns-in-Ok-share-clause-actors : goal.returns-in-Ok-share-clause-actors
+returns-in-Ok-share-clause-actors g c =
+    let events = c.in-Ok-share.shared.events.items in
+    subst (λ (w : WorldValue). All (λ (e : Entry). IsThere (length w.harts) e.actor) events) c.take-parts.ensures.parts
+    c.in-Ok-share.ensures.shared.there

@@ -1,11 +1,16 @@
-use Rattle.std.proofs.Common.{ap}
-use Rattle.guest_devices.specs.Kept.{devices_left}
+use Rattle.std.proofs.Common.{subst, sym, refl}
 use Rattle.boot_loader.specs.Loading.{loads_of}
+use Rattle.flat_guest.specs.Start.{started}
+use Rattle.vm_world.specs.Worlds.{IsWorld, WorldValue}
 use Rattle.vm_world.proofs.Listed.{started_is}
 use Rattle.vm_world.proofs.world.World.start.Goals as goal
 
 pub returns-clause-world : goal.returns-clause-world
 returns-clause-world c =
-    started_is c.args.mem_size_mib c.args.harts (loads_of c.args.loads.now) _ _ _ c.in_ok-pages.ensures.memory
-    c.in_ok-pages.ensures.marks c.in-Ok.ensures c.new-2.ensures.items c.new-3.ensures c.in_ok-pages.ensures.start
-    c.in-Ok-start_harts.ensures (ap devices_left c.new-4.ensures.items)
+    let loads = loads_of c.args.loads.now in
+    let booted = c.in_ok-pages.ensures in
+    subst (λ (w : WorldValue). IsWorld w (started c.args.harts c.args.mem_size_mib loads c.args.drives.now))
+    (sym c.from_parts.ensures)
+    (started_is c.args.mem_size_mib c.args.harts loads c.args.drives.now _ c.len.result _ _ booted.memory booted.marks
+    c.in-Ok.ensures c.in-Ok-drive_ports.ensures.ports refl booted.start c.in-Ok-start_harts.ensures c.len.ensures.bytes
+    c.in-Ok-drive_devices.ensures c.in-Ok-drive_ports.ensures.fit)

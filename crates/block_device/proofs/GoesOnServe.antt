@@ -1,0 +1,274 @@
+-- Where a reply leads the service of a request: to a stage with what it holds, or to the end.
+use Rattle.std.proofs.Common.{◌≡◌, ℕ, zero, suc, ◌+◌, ◌-◌, ◌/◌, ◌%◌, ◌^◌, ◌==◌, ◌<◌, ◌≤◌, ◌||◌, refl, sym, ap, subst, Bool, true, false, if◌then◌else◌, List, [], ◌∷◌, ◌++◌, length, drop, arith, ◌⊎◌, inl, inr}
+use Rattle.vm_types.specs.Fits.{fits}
+use Rattle.vm_types.specs.declared.reply.Reply.{Reply}
+use Rattle.vm_types.specs.declared.reply.Reply.TheVariants.{Bytes, Done}
+use Rattle.device_trace.specs.Doing.{Doing, Gives, led, and_then}
+use Rattle.vq_split.specs.declared.queue.Part.{Part}
+use Rattle.vq_split.specs.Chain.{read_bytes}
+use Rattle.vq_split.specs.Inside.{AreInside}
+use Rattle.dev_core.specs.declared.collect.Collect.{Collect}
+use Rattle.dev_core.specs.Collecting.{nothing}
+use Rattle.dev_core.specs.Pieces.{Got, past, place, put_all, room, share}
+use Rattle.dev_core.proofs.Fuel.{bytes_fit, collect_done, collect_led, put_done}
+use Rattle.dev_core.proofs.Inside.{past_inside}
+use Rattle.block_device.specs.declared.stage.ServiceStage.{ServiceStage}
+use Rattle.block_device.specs.declared.stage.ServiceStage.TheVariants as stage
+use Rattle.block_device.specs.Service.{behind_unit, done_by, done_status, id_put, io_error, ok, read_by, status_written, unit_written, units_in, units_out, used_of}
+use Rattle.block_device.specs.Serving.{ArePlaced, IsStage, IsWithin, got_of, serving_left, serving_op}
+use Rattle.block_device.proofs.Moves.{in_wrapped, out_wrapped}
+use Rattle.block_device.proofs.Steps.{gather_next, put_next}
+
+-- what is kept of a request of which this is left, in a guest of so many pages, with its status at this place
+pub record Serves (pages at : ℕ) (t : Doing ℕ) : Type 0 where
+  pub stage : ServiceStage
+  pub from : Collect
+  pub to : List Part
+  pub is : IsStage stage from to
+  pub placed : ArePlaced pages from to
+  pub few : length to ≤ 256
+  pub left : serving_left stage from to at ≡ t
+
+-- or its used length
+abbrev pub ServesOn : ℕ → ℕ → Doing ℕ → Type 0
+ServesOn pages at t = Serves pages at t ⊎ ((used : ℕ) × (t ≡ Gives used))
+
+eq_of : (n m : ℕ) → (n == m) ≡ true → n ≡ m
+eq_of n m is = grind arith
+
+apart_of : (n m : ℕ) → (n == m) ≡ false → n ≤ m → n < m
+apart_of n m is most = grind arith
+
+some_of : (n : ℕ) → (n == 0) ≡ false → 0 < n
+some_of n is = grind arith
+
+-- what is short of so many bytes, and may read more
+pub more_of : (need n space : ℕ) → ((need - n == 0) || (space == 0)) ≡ false → (n < need) × (0 < space)
+more_of need n space is = (grind arith, grind arith)
+
+fewer_if : (test : Bool) (part : Part) (parts : List Part)
+    → length (if test then parts else part ∷ parts) ≤ length parts + 1
+fewer_if true part parts = omega arith
+fewer_if false part parts = omega arith
+
+-- a piece leaves no more parts
+pub past_few : (n most : ℕ) (parts : List Part) → length parts ≤ most → length (past n parts) ≤ most
+past_few n most [] few = few
+past_few n most (part ∷ parts) few = omega (
+  arith,
+  few,
+  fewer_if (part.len == n)
+      (record { at = (part.at + n) % 2 ^ 64; len = part.len - n; writable = part.writable }) parts,
+)
+
+module _ (pages at : ℕ) where
+  pub moved : (t u : Doing ℕ) → t ≡ u → Serves pages at t → Serves pages at u
+  moved t u same is = subst (Serves pages at) same is
+
+  pub serves_if : (test : Bool) (x y : Doing ℕ) → (test ≡ true → Serves pages at x)
+      → (test ≡ false → Serves pages at y) → Serves pages at (if test then x else y)
+  serves_if true x y on off = on refl
+  serves_if false x y on off = off refl
+
+  -- the status is left
+  pub ends : (status used : ℕ) → Serves pages at (status_written at status used)
+  ends status used = record {
+    stage = stage.Status status used;
+    from = nothing;
+    to = [];
+    is = (refl, refl);
+    placed = (tt, tt);
+    few = omega arith;
+    left = refl;
+  }
+
+  -- ---- units are read
+
+  reads_unit : (test : Bool) (more unit sector : ℕ) (to : List Part) → (unit == 2 ^ 26) ≡ test → unit ≤ 2 ^ 26
+      → IsWithin sector unit more → AreInside pages to → length to ≤ 256
+      → Serves pages at (units_in (suc more) unit sector to at)
+  reads_unit true more unit sector to test most within inside few =
+      let is = eq_of unit (2 ^ 26) test in
+      let units : 0 + (suc more - 1) < 2 ^ 50 = omega (arith, within.units) in
+      let end : sector + 2 ^ 23 + (0 + (suc more - 1)) / 8 < 2 ^ 64 = omega (arith, is, within.inside) in
+      record {
+        stage = stage.Read (sector + 2 ^ 23) 0 (suc more - 1);
+        from = nothing;
+        to = to;
+        is = (record { units = units; inside = end }, refl, omega arith);
+        placed = (tt, inside);
+        few = few;
+        left = in_wrapped (suc more) unit sector to at (omega arith) is;
+      }
+  reads_unit false more unit sector to test most within inside few = record {
+    stage = stage.Read sector unit more;
+    from = nothing;
+    to = to;
+    is = (within, refl, apart_of unit (2 ^ 26) test most);
+    placed = (tt, inside);
+    few = few;
+    left = refl;
+  }
+
+  pub reads_on : (units unit sector : ℕ) (to : List Part) → unit ≤ 2 ^ 26 → unit + units ≤ 2 ^ 50
+      → sector + (unit + units - 1) / 8 < 2 ^ 64 → AreInside pages to → length to ≤ 256
+      → Serves pages at (units_in units unit sector to at)
+  reads_on zero unit sector to most count end inside few = ends ok (used_of unit)
+  reads_on (suc more) unit sector to most count end inside few =
+      reads_unit (unit == 2 ^ 26) more unit sector to refl most
+      (record { units = omega (arith, count); inside = omega (arith, end) }) inside few
+
+  puts_share : (test : Bool) (held : List ℕ) (to : List Part) (sector unit more : ℕ) → (share held to == 0) ≡ test
+      → IsWithin sector unit more → unit < 2 ^ 26 → AreInside pages to → length to ≤ 256
+      → Serves pages at (and_then (put_all held to) (λ left. units_in more (unit + 1) sector left at))
+  puts_share true held to sector unit more test within below inside few =
+      moved (units_in more (unit + 1) sector to at) _
+      (sym (ap (λ t. and_then t (λ left. units_in more (unit + 1) sector left at)) (put_done held to test)))
+      (reads_on more (unit + 1) sector to (omega (arith, below)) (omega (arith, within.units))
+      (omega (arith, within.inside)) inside few)
+  puts_share false held to sector unit more test within below inside few = record {
+    stage = stage.Put sector unit more;
+    from = record { from = []; held = held };
+    to = to;
+    is = (within, refl, some_of (share held to) test, below);
+    placed = (tt, inside);
+    few = few;
+    left = refl;
+  }
+
+  pub puts_on : (held : List ℕ) (to : List Part) (sector unit more : ℕ) → IsWithin sector unit more → unit < 2 ^ 26
+      → AreInside pages to → length to ≤ 256
+      → Serves pages at (and_then (put_all held to) (λ left. units_in more (unit + 1) sector left at))
+  puts_on held to sector unit more within below inside few =
+      puts_share (share held to == 0) held to sector unit more refl within below inside few
+
+  -- ---- the id is put
+
+  puts_id_share : (test : Bool) (held : List ℕ) (to : List Part) → (share held to == 0) ≡ test → AreInside pages to
+      → length to ≤ 256 → Serves pages at (id_put held to at)
+  puts_id_share true held to test inside few =
+      moved (status_written at ok 21) _
+      (sym (ap (λ t. and_then t (λ left. status_written at ok 21)) (put_done held to test))) (ends ok 21)
+  puts_id_share false held to test inside few = record {
+    stage = stage.PutId;
+    from = record { from = []; held = held };
+    to = to;
+    is = (refl, some_of (share held to) test);
+    placed = (tt, inside);
+    few = few;
+    left = refl;
+  }
+
+  pub puts_id_on : (held : List ℕ) (to : List Part) → AreInside pages to → length to ≤ 256
+      → Serves pages at (id_put held to at)
+  puts_id_on held to inside few = puts_id_share (share held to == 0) held to refl inside few
+
+  -- ---- units are written
+
+  gathers_unit : (test : Bool) (more part sector : ℕ) (got : Got)
+      → ((64 - length got.bytes == 0) || (room got.parts == 0)) ≡ test → part < 8 → IsWithin sector part more
+      → AreInside pages got.parts → Serves pages at (units_out (suc more) part sector at got)
+  gathers_unit true more part sector got test below within inside =
+      let on : Got → Doing ℕ = unit_written part sector at (units_out more (part + 1) sector at) in
+      moved (on got) _ (sym (ap (λ t. and_then t on) (collect_done (64 - length got.bytes) got.bytes got.parts test)))
+      (record {
+        stage = stage.Disk sector part more;
+        from = record { from = got.parts; held = got.bytes };
+        to = [];
+        is = (within, refl, below);
+        placed = (inside, tt);
+        few = omega arith;
+        left = refl;
+      })
+  gathers_unit false more part sector got test below within inside =
+      let more_is = more_of 64 (length got.bytes) (room got.parts) test in
+      record {
+        stage = stage.Gather sector part more;
+        from = record { from = got.parts; held = got.bytes };
+        to = [];
+        is = (within, refl, more_is.0, more_is.1, below);
+        placed = (inside, tt);
+        few = omega arith;
+        left = refl;
+      }
+
+  pub gathers_on : (units part sector : ℕ) (got : Got) → part < 8 → part + units ≤ 2 ^ 50
+      → sector + (part + units - 1) / 8 < 2 ^ 64 → AreInside pages got.parts
+      → Serves pages at (units_out units part sector at got)
+  gathers_on zero part sector got below count end inside = ends ok 1
+  gathers_on (suc more) part sector got below count end inside =
+      gathers_unit ((64 - length got.bytes == 0) || (room got.parts == 0)) more part sector got refl below
+      (record { units = omega (arith, count); inside = omega (arith, end) }) inside
+
+  next_part : (test : Bool) (more part sector : ℕ) (got : Got) → (part == 7) ≡ test → part < 8
+      → IsWithin sector part (suc more) → AreInside pages got.parts
+      → Serves pages at (units_out (suc more) (part + 1) sector at got)
+  next_part true more part sector got test below within inside =
+      let is = eq_of part 7 test in
+      moved (units_out (suc more) 0 (sector + 1) at got) _ (out_wrapped (suc more) part sector at got is)
+      (gathers_on (suc more) 0 (sector + 1) got (omega arith) (omega (arith, within.units))
+      (omega (arith, is, within.inside)) inside)
+  next_part false more part sector got test below within inside =
+      let apart = apart_of part 7 test (omega (arith, below)) in
+      gathers_on (suc more) (part + 1) sector got (omega (arith, apart)) (omega (arith, within.units))
+      (omega (arith, within.inside)) inside
+
+  pub next_on : (units part sector : ℕ) (got : Got) → part < 8 → IsWithin sector part units
+      → AreInside pages got.parts → Serves pages at (units_out units (part + 1) sector at got)
+  next_on zero part sector got below within inside = ends ok 1
+  next_on (suc more) part sector got below within inside =
+      next_part (part == 7) more part sector got refl below within inside
+
+  -- ---- a reply came
+
+  read_came : (reply : Reply) (good : List ℕ → Doing ℕ) (bad : Doing ℕ) → ((piece : List ℕ) → Serves pages at (good piece))
+      → Serves pages at bad → Serves pages at (read_by reply good bad)
+  read_came (Bytes piece) good bad on off = on piece
+  read_came reply good bad on off = off
+
+  done_came : (reply : Reply) (good bad : Doing ℕ) → Serves pages at good → Serves pages at bad
+      → Serves pages at (done_by reply good bad)
+  done_came Done good bad on off = on
+  done_came reply good bad on off = off
+
+  gather_came : (sector part more : ℕ) (from : Collect) (to : List Part) (reply : Reply) → pages < 2 ^ 32
+      → IsStage (stage.Gather sector part more) from to → AreInside pages from.from
+      → fits (serving_op (stage.Gather sector part more) from to at) reply ≡ true
+      → Serves pages at (led (serving_left (stage.Gather sector part more) from to at) reply)
+  gather_came sector part more from to reply small is inside fit =
+      let space = room from.from in
+      let piece = read_bytes space reply in
+      let long = bytes_fit (place from.from) space reply fit in
+      let now : Collect = record { from = past space from.from; held = from.held ++ piece } in
+      let whole = collect_led 64 from.held piece from.from reply is.2 is.3 refl long in
+      moved (units_out (more + 1) part sector at (got_of now)) _
+      (gather_next from now sector part more at reply is.2 is.3 whole)
+      (gathers_on (more + 1) part sector (got_of now) is.4 (omega (arith, is.0.units)) (omega (arith, is.0.inside))
+      (past_inside pages space from.from small inside (omega arith)))
+
+  pub serves_on : (s : ServiceStage) (from : Collect) (to : List Part) (reply : Reply) → pages < 2 ^ 32
+      → IsStage s from to → ArePlaced pages from to → length to ≤ 256 → fits (serving_op s from to at) reply ≡ true
+      → ServesOn pages at (led (serving_left s from to at) reply)
+  serves_on (stage.Read sector unit more) from to reply small is placed few fit =
+      inl (read_came reply _ _ (λ piece. puts_on piece to sector unit more is.0 is.2 placed.1 few)
+      (ends io_error (used_of unit)))
+  serves_on (stage.Put sector unit more) from to reply small is placed few fit =
+      let n = share from.held to in
+      inl (moved _ _
+      (put_next from.held (drop n from.held) to (past n to) n (λ left. units_in more (unit + 1) sector left at) reply is.2
+      refl refl refl)
+      (puts_on (drop n from.held) (past n to) sector unit more is.0 is.3
+      (past_inside pages n to small placed.1 (omega arith)) (past_few n 256 to few)))
+  serves_on stage.PutId from to reply small is placed few fit =
+      let n = share from.held to in
+      inl (moved _ _
+      (put_next from.held (drop n from.held) to (past n to) n (λ left. status_written at ok 21) reply is.1 refl refl refl)
+      (puts_id_on (drop n from.held) (past n to) (past_inside pages n to small placed.1 (omega arith))
+      (past_few n 256 to few)))
+  serves_on (stage.Gather sector part more) from to reply small is placed few fit =
+      inl (gather_came sector part more from to reply small is placed.0 fit)
+  serves_on (stage.Disk sector part more) from to reply small is placed few fit =
+      inl (done_came reply _ _ (next_on more part sector (behind_unit (got_of from)) is.2 is.0 placed.0)
+      (ends io_error 1))
+  serves_on stage.Flush from to reply small is placed few fit = inl (ends (done_status reply) 1)
+  serves_on (stage.Status status used) from to reply small is placed few fit = inr (used, refl)

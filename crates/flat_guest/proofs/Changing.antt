@@ -1,0 +1,93 @@
+-- A change from the API leads a body and its guest on alike.
+use Rattle.std.proofs.Common.{◌≡◌, ℕ, ◌==◌, ◌<◌, ◌^◌, Bool, true, false, refl, sym, ap, subst, ◌∙◌, List, length, Option, Some, None, slice_get, slice_set}
+use Rattle.std.proofs.lemmas.Bool.{eqb-true, eqb-false}
+use Rattle.std.proofs.lemmas.List.{length-set}
+use Rattle.vm_types.specs.declared.ids.ActorId.{ActorId}
+use Rattle.board_table.specs.Acts.{raise_line}
+use Rattle.board_table.specs.Board.{Board}
+use Rattle.port_table.specs.declared.state.PortState.{PortState}
+use Rattle.block_device.specs.Block.Change.{Sectors}
+use Rattle.guest_devices.specs.Devices.{BlockChanged, DeviceChange, DeviceLeads, DeviceLeft, FlatDevice, device_changed, device_told}
+use Rattle.guest_devices.proofs.Follows.{told_leads}
+use Rattle.flat_guest.specs.Body.{Body, IsGuest, lefts_resized}
+use Rattle.flat_guest.specs.Changes.{resized, sectors_shown, sectors_told}
+use Rattle.flat_guest.specs.Guest.{Guest, whole_pages}
+use Rattle.flat_guest.proofs.Devices.{sound_resized}
+use Rattle.flat_guest.proofs.Lists.{get_set_other, get_set_same, some_is, there_too}
+
+module _ (lefts : List DeviceLeft) (devices : List FlatDevice) (many : length lefts ≡ length devices)
+    (leads : (k : ℕ) (d : FlatDevice) (left : DeviceLeft) → slice_get devices k ≡ Some d → slice_get lefts k ≡ Some left
+    → DeviceLeads d left)
+    (k sectors : ℕ) where
+  abbrev change : DeviceChange
+  change = BlockChanged (Sectors sectors)
+
+  module _ (left : DeviceLeft) (x : FlatDevice) (left_is : slice_get lefts k ≡ Some left) (x_is : slice_get devices k ≡ Some x) where
+    leads_by : (same : Bool) (j : ℕ) (d : FlatDevice) (l : DeviceLeft) → (j == k) ≡ same
+        → slice_get (slice_set devices k (device_told x change)) j ≡ Some d
+        → slice_get (slice_set lefts k (device_changed change left)) j ≡ Some l → DeviceLeads d l
+    leads_by true j d l same d_is l_is =
+        let here : j ≡ k = eqb-true j k same in
+        let first : device_told x change ≡ d = some_is (device_told x change) d
+        (sym (get_set_same devices k x (device_told x change) x_is)
+        ∙ sym (ap (λ (i : ℕ). slice_get (slice_set devices k (device_told x change)) i) here) ∙ d_is) in
+        let second : device_changed change left ≡ l = some_is (device_changed change left) l
+        (sym (get_set_same lefts k left (device_changed change left) left_is)
+        ∙ sym (ap (λ (i : ℕ). slice_get (slice_set lefts k (device_changed change left)) i) here) ∙ l_is) in
+        subst (λ (e : FlatDevice). DeviceLeads e l) first
+        (subst (λ (m : DeviceLeft). DeviceLeads (device_told x change) m) second
+        (told_leads x left change (leads k x left x_is left_is)))
+    leads_by false j d l same d_is l_is =
+        leads j d l (sym (get_set_other devices j k (device_told x change) (eqb-false j k same)) ∙ d_is)
+        (sym (get_set_other lefts j k (device_changed change left) (eqb-false j k same)) ∙ l_is)
+
+  -- where the change leads, there or not
+  abbrev Told : Option DeviceLeft → Option FlatDevice → Type 0
+  Told l o =
+      (length (lefts_resized l lefts k sectors) ≡ length (sectors_told o devices k sectors))
+      × ((j : ℕ) (d : FlatDevice) (m : DeviceLeft) → slice_get (sectors_told o devices k sectors) j ≡ Some d
+      → slice_get (lefts_resized l lefts k sectors) j ≡ Some m → DeviceLeads d m)
+
+  told_by : (l : Option DeviceLeft) (o : Option FlatDevice) → slice_get lefts k ≡ l → slice_get devices k ≡ o → Told l o
+  told_by None None l_is o_is = (many, leads)
+  told_by None (Some x) l_is o_is =
+      let there = there_too devices lefts k x (sym many) o_is in
+      let both : None ≡ Some there.0 = sym l_is ∙ there.1 in
+      cc
+  told_by (Some left) None l_is o_is =
+      let there = there_too lefts devices k left many l_is in
+      let both : None ≡ Some there.0 = sym o_is ∙ there.1 in
+      cc
+  told_by (Some left) (Some x) l_is o_is = (
+    length-set lefts k (device_changed change left) ∙ many ∙ sym (length-set devices k (device_told x change)),
+    λ j d m d_is m_is. leads_by left x l_is o_is (j == k) j d m refl d_is m_is,
+  )
+
+  told : Told (slice_get lefts k) (slice_get devices k)
+  told = told_by (slice_get lefts k) (slice_get devices k) refl refl
+
+-- the body behind the change
+abbrev pub body_resized : ℕ → ℕ → Body → Body
+body_resized k sectors b = record b {
+  board = raise_line b.board (ActorId.Device k);
+  ports = sectors_shown (slice_get b.ports k) b.ports k sectors;
+  devices = lefts_resized (slice_get b.devices k) b.devices k sectors;
+}
+
+pub resized_is : (b : Body) (g : Guest) (k sectors : ℕ) → sectors < 2 ^ 64 → IsGuest b g
+    → IsGuest (body_resized k sectors b) (resized k sectors g)
+resized_is b g k sectors size is =
+    let both = told b.devices g.devices is.devices_are.count is.devices_are.each k sectors in
+    record {
+      memory_is = is.memory_is;
+      marks_are = is.marks_are;
+      board_is = ap (λ (n : Board). raise_line n (ActorId.Device k)) is.board_is;
+      ports_are = ap (λ (ports : List PortState). sectors_shown (slice_get ports k) ports k sectors) is.ports_are;
+      timer_is = is.timer_is;
+      harts_are = record { count = is.harts_are.count; each = is.harts_are.each };
+      devices_are = record {
+        count = both.0;
+        each = both.1;
+        sound = sound_resized (whole_pages g.memory) g.ports g.devices is.devices_are.sound k sectors size;
+      };
+    }
