@@ -1,8 +1,8 @@
 -- The guest that goes on from a snapshot has that snapshot's copy.
-use Rattle.std.proofs.Common.{Bool, ◌≡◌, ◌<◌, ◌≤◌, ◌⊎◌, inl, inr, ℕ, zero, suc, ◌+◌, ◌*◌, ◌/◌, ◌%◌, nat_lt, nat_le, not, ◌^◌, if◌then◌else◌, ◌==◌, true, ◌&&◌, refl, sym, ap, subst, ◌∙◌, List, [], ◌∷◌, ◌++◌, length, map, replicate, Option, Some, None, slice_get, slice_set, append_assoc, arith}
+use Rattle.std.proofs.Common.{Bool, ◌≡◌, ◌<◌, ◌≤◌, ◌⊎◌, inl, inr, ℕ, zero, suc, ◌+◌, ◌*◌, ◌/◌, ◌%◌, nat_lt, ◌^◌, ◌==◌, true, ◌&&◌, refl, sym, ap, subst, ◌∙◌, List, [], ◌∷◌, ◌++◌, length, map, replicate, Option, Some, None, slice_get, slice_set, append_assoc, arith}
 use Rattle.std.specs.Prelude.{is_some}
 use Rattle.std.specs.List.{list_all, AllByRecursion}
-use Rattle.std.proofs.lemmas.Bool.{and_parts, eqb-true, leb-true, ltb-true, or_cases}
+use Rattle.std.proofs.lemmas.Bool.{and_parts, eqb-true, ltb-true, or_cases}
 use Rattle.std.proofs.lemmas.List.{length-set, length-replicate}
 use Rattle.vm_types.specs.declared.ids.ActorId.{ActorId}
 use Rattle.vm_types.specs.declared.ids.ActorId.TheVariants.{Hart as HartId}
@@ -13,6 +13,9 @@ use Rattle.vm_types.specs.declared.identity.Identity.{Identity}
 use Rattle.le_fields.specs.Fields.{bytes_of}
 use Rattle.le_fields.proofs.Values.{long, value_of_bytes}
 use Rattle.file_format.specs.Kinds.{list_of, number32}
+use Rattle.guest_devices.specs.declared.device.Device.{Device}
+use Rattle.guest_devices.specs.Kept.{device_left}
+use Rattle.guest_devices.proofs.Follows.{at_start}
 use Rattle.guest_memory.specs.Ram.{page_size}
 use Rattle.guest_memory.specs.Reserved.{hart_limit, unreserved}
 use Rattle.rv_supervisor.specs.declared.regs.Turn.TheVariants as turn
@@ -29,10 +32,11 @@ use Rattle.snap_state.specs.Copies.{state_copy}
 use Rattle.snap_state.specs.Copy.{begun_at, hart_of, harts_of, regs_of, saved_hart, turn_of}
 use Rattle.snap_state.specs.Files.{IsSaved}
 use Rattle.snap_state.specs.Harts.{hart, place}
-use Rattle.snap_state.specs.Valid.{asks, has_machine, is_before, is_board, is_hart, is_machine, is_reserved, is_rising, is_source, is_valid, rises_from}
+use Rattle.snap_state.specs.Valid.{are_devices, asks, is_before, is_device, is_hart, is_reserved, is_rising, rises_from}
 use Rattle.snap_state.proofs.Parts.{hart_again}
-use Rattle.flat_snapshot.specs.Copies.{AreHarts, IsCopyOf, reservations_from}
-use Rattle.flat_snapshot.specs.Carried.{carried_config, carried_guest, hart_steps, slots_with, steps_at, steps_from, with_tracking}
+use Rattle.snap_state.proofs.Rules.{attached, device_of, few_harts, rules_of}
+use Rattle.flat_snapshot.specs.Copies.{AreHarts, AreKept, IsCopyOf, reservations_from}
+use Rattle.flat_snapshot.specs.Carried.{carried_config, carried_guest, hart_steps, resumed, slots_with, steps_at, steps_from, with_tracking}
 use Rattle.flat_snapshot.proofs.GoesOn.{access_fetches}
 
 -- ---- harts
@@ -88,6 +92,14 @@ harts_again pages (h ∷ harts) all =
     let parts = and_parts (is_hart pages h) (list_all (is_hart pages) harts) all in
     ap (λ (x : SavedHart). x ∷ map saved_hart (map hart_of harts)) (hart_again pages h parts.0)
     ∙ ap (λ (l : List SavedHart). h ∷ l) (harts_again pages harts parts.1)
+
+-- ---- devices
+
+kept_again : (pages port : ℕ) (kept : List Device) → are_devices pages port kept ≡ true → AreKept kept (map resumed kept)
+kept_again pages port [] all = tt
+kept_again pages port (it ∷ kept) all =
+    let parts = and_parts (is_device pages port it) (are_devices pages (suc port) kept) all in
+    (at_start (device_left it), (device_of pages port it parts.0).kept, kept_again pages (suc port) kept parts.1)
 
 -- ---- reservations
 
@@ -205,30 +217,6 @@ module _ (pages harts : ℕ) (few : harts ≤ hart_limit) where
 
 -- ---- the copy
 
--- what is used of a copy that a state file can have
-record HasParts (c : StateCopy) : Type 0 where
-  few : c.configuration.machine.vcpu_count ≤ hart_limit
-  harts : list_all (is_hart c.pages) c.harts ≡ true
-  reserved : list_all (is_reserved c.pages c.configuration.machine.vcpu_count) c.reservations ≡ true
-  rising : is_rising c.reservations ≡ true
-
-parts_of : (c : StateCopy) → is_valid c ≡ true → HasParts c
-unfolding is_valid
-parts_of c valid =
-    let m = c.configuration.machine in
-    let p6 = and_parts _ (is_rising c.reservations) valid in
-    let p5 = and_parts _ (list_all (is_reserved c.pages m.vcpu_count) c.reservations) p6.0 in
-    let p4 = and_parts _ (list_all (is_hart c.pages) c.harts) p5.0 in
-    let p3 = and_parts _ (length c.harts == m.vcpu_count) p4.0 in
-    let p2 = and_parts _ (is_board m.vcpu_count c.board) p3.0 in
-    let p1 = and_parts (is_source c.configuration.boot_source) (has_machine c m) p2.0 in
-    let q1 = and_parts _ (if c.track_dirty_pages then m.track_dirty_pages else not m.track_dirty_pages) p1.1 in
-    let q0 = and_parts (is_machine m) (c.pages == 256 * m.mem_size_mib) q1.0 in
-    let r2 = and_parts _ (nat_le m.mem_size_mib 1024) q0.0 in
-    let r1 = and_parts _ (nat_le 4 m.mem_size_mib) r2.0 in
-    let r0 = and_parts (nat_le 1 m.vcpu_count) (nat_le m.vcpu_count hart_limit) r1.0 in
-    record { few = leb-true _ _ r0.1; harts = p4.1; reserved = p5.1; rising = p6.1 }
-
 harts_fit : (c : StateCopy) → state_copy.Fits c → AllByRecursion hart.Fits c.harts
 unfolding state_copy list_of
 harts_fit c fits = fits.1.1.0.1
@@ -237,14 +225,15 @@ pub copied_again : (identity : Identity) (c : StateCopy) (bytes : List ℕ) (tra
     → length bytes ≡ page_size * c.pages
     → IsCopyOf (carried_config tracking c.configuration) (carried_guest c bytes) (with_tracking tracking c)
 copied_again identity c bytes tracking saved whole =
-    let parts = parts_of c saved.valid in
+    let parts = rules_of c saved.valid in
     let pages : c.pages ≡ length bytes / page_size = omega (arith, whole) in
     let harts = sym (harts_again c.pages c.harts parts.harts) in
-    let reserved = sym (reserved_again c.pages c.configuration.machine.vcpu_count parts.few c.reservations parts.reserved parts.rising) in
+    let reserved = sym (reserved_again c.pages c.configuration.machine.vcpu_count (few_harts c parts) c.reservations parts.reservations parts.rising) in
     let first : (i : ℕ) → steps_from c.harts (HartId (0 + i)) ≡ hart_steps (slice_get c.harts i) = λ i.
     let same : 0 + i ≡ i = omega arith in
     ap (λ (n : ℕ). hart_steps (slice_get c.harts n)) same in (
       harts_of c,
       harts_lead c.pages c.harts 0 (steps_from c.harts) first parts.harts (harts_fit c saved.fits.1.1),
+      kept_again c.pages 0 c.devices (attached c parts).each,
       λ i. record (with_tracking tracking c) { pages = pages i; harts = harts i; reservations = reserved i },
     )

@@ -8,6 +8,9 @@ use Rattle.vm_types.specs.declared.entry.Step.{Step}
 use Rattle.vm_config.specs.declared.config.Config.{Config}
 use Rattle.le_fields.specs.Fields.{bytes_of}
 use Rattle.guest_memory.specs.Reserved.{hart_limit, unreserved}
+use Rattle.guest_devices.specs.declared.device.Device.{Device}
+use Rattle.guest_devices.specs.Devices.{FlatDevice, device_at}
+use Rattle.guest_devices.specs.Kept.{device_left}
 use Rattle.flat_guest.specs.Guest.{Guest, none_written}
 use Rattle.snap_state.specs.declared.configuration.Configuration.{Configuration}
 use Rattle.snap_state.specs.declared.hart.SavedHart.{SavedHart}
@@ -36,15 +39,18 @@ abbrev pub slots_with : List Reservation → List (Option ℕ) → List (Option 
 slots_with [] slots = slots
 slots_with (r ∷ others) slots = slots_with others (slice_set slots (hart_limit * r.page + r.hart) (Some r.offset))
 
--- a copy has no devices yet, and no start makes any
+-- a device goes on with what it has still to do by what is kept of it
+abbrev pub resumed : Device → FlatDevice
+resumed it = device_at (device_left it)
+
 abbrev pub carried_guest : StateCopy → List ℕ → Guest
 carried_guest copy bytes = record {
   memory = record { bytes = bytes; reserved = slots_with copy.reservations (unreserved copy.pages) };
   board = board_of copy;
-  ports = [];
+  ports = copy.ports;
   starts = map regs_of copy.harts;
   steps = steps_from copy.harts;
-  devices = [];
+  devices = map resumed copy.devices;
   written = none_written;
 }
 
@@ -56,6 +62,7 @@ carried_config tracking c = record {
     initrd_path = c.boot_source.initrd_path;
     boot_args = c.boot_source.boot_args;
   });
+  drives = c.drives;
   machine = record c.machine { track_dirty_pages = tracking };
   configured = true;
 }

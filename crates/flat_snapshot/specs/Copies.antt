@@ -1,5 +1,5 @@
 -- What a snapshot keeps of a machine that has started, besides the bytes of its memory.
-use Rattle.std.specs.Prelude.{◌≡◌, ℕ, suc, ◌/◌, ◌%◌, List, [], ◌∷◌, Option, Some, None, length, map}
+use Rattle.std.specs.Prelude.{◌≡◌, ℕ, suc, ◌/◌, ◌%◌, true, List, [], ◌∷◌, Option, Some, None, length, map}
 use Rattle.vm_types.specs.declared.ids.ActorId.{ActorId}
 use Rattle.vm_types.specs.declared.ids.ActorId.TheVariants.{Hart as HartId}
 use Rattle.vm_types.specs.declared.entry.Step.{Step}
@@ -9,6 +9,9 @@ use Rattle.guest_memory.specs.Ram.{page_size}
 use Rattle.guest_memory.specs.Reserved.{hart_limit}
 use Rattle.rv_supervisor.specs.declared.regs.Regs.{Regs}
 use Rattle.hart_trace.specs.States.{Hart, LeadsTo}
+use Rattle.guest_devices.specs.declared.device.Device.{Device}
+use Rattle.guest_devices.specs.Devices.{DeviceLeads, FlatDevice}
+use Rattle.guest_devices.specs.Kept.{device_left, is_kept}
 use Rattle.flat_guest.specs.Guest.{Guest}
 use Rattle.snap_state.specs.declared.configuration.BootSource.{BootSource}
 use Rattle.snap_state.specs.declared.copy.Reservation.{Reservation}
@@ -21,6 +24,12 @@ AreHarts k [] steps harts = harts ≡ []
 AreHarts k (start ∷ starts) steps harts =
     (h : Hart) × (rest : List Hart) × (harts ≡ h ∷ rest) × LeadsTo start (steps (HartId k)) h
     × AreHarts (suc k) starts steps rest
+
+-- what is kept of the devices: of each such data as may be kept, which tell what it has still to do where its items lead
+abbrev pub AreKept : List Device → List FlatDevice → Type 0
+AreKept [] [] = Unit {0}
+AreKept (it ∷ kept) (d ∷ devices) = DeviceLeads d (device_left it) × (is_kept it ≡ true) × AreKept kept devices
+AreKept kept devices = ⊥
 
 -- what is reserved in the slots from this number on, by page and then by hart
 abbrev pub reservations_from : ℕ → List (Option ℕ) → List Reservation
@@ -39,18 +48,27 @@ source_of (Some source) =
       boot_args = source.boot_args;
     }
 
--- the copy of a guest whose harts are where these are
-abbrev pub copy_of : Config → Guest → List Hart → StateCopy
-copy_of config g harts = record {
-  configuration = record { boot_source = source_of config.boot_source; machine = config.machine };
+-- the copy of a guest whose harts are where these are, with this kept of its devices
+abbrev pub copy_of : Config → Guest → List Hart → List Device → StateCopy
+copy_of config g harts kept = record {
+  configuration = record {
+    boot_source = source_of config.boot_source;
+    drives = config.drives;
+    machine = config.machine;
+  };
   pages = length g.memory.bytes / page_size;
   track_dirty_pages = config.machine.track_dirty_pages;
   guest_time = g.board.now;
   board = saved_board g.board;
   harts = map saved_hart harts;
+  ports = g.ports;
+  devices = kept;
   reservations = reservations_from 0 g.memory.reserved;
 }
 
--- a copy of the guest of a machine that is configured so
+-- A copy of the guest of a machine that is configured so. What is kept of a device is any of the data that may be kept and
+-- tell what it has still to do: several may tell the same, as with a border between two parts of a chain that touch.
 abbrev pub IsCopyOf : Config → Guest → StateCopy → Type 0
-IsCopyOf config g copy = (harts : List Hart) × AreHarts 0 g.starts g.steps harts × (copy ≡ copy_of config g harts)
+IsCopyOf config g copy =
+    (harts : List Hart) × AreHarts 0 g.starts g.steps harts × AreKept copy.devices g.devices
+    × (copy ≡ copy_of config g harts copy.devices)

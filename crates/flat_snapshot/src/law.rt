@@ -1,5 +1,5 @@
 // What holds of every guest, and of every snapshot.
-ghost use Rattle.std.specs.Prelude.{◌≡◌, ◌≢◌, ◌*◌, ◌⊎◌, ◌++◌, ℕ, Bool, List, IsTrue, IsErr, Ok, Err, Some, length};
+ghost use Rattle.std.specs.Prelude.{◌≡◌, ◌≢◌, ◌≤◌, ◌*◌, ◌^◌, ◌⊎◌, ◌++◌, [], ℕ, Bool, List, IsTrue, IsErr, Ok, Err, Some, length};
 ghost use Rattle.std.specs.FinMap.{get, insert};
 ghost use Rattle.vm_types.specs.Saved.{Saved};
 ghost use Rattle.vm_types.specs.declared.entry.Entry.{Entry};
@@ -17,10 +17,11 @@ ghost use Rattle.snap_diff.specs.Copies.{IsDiffOf};
 ghost use Rattle.snap_diff.specs.Diffs.{IsDiffFile};
 ghost use Rattle.snap_diff.specs.Headers.{header as diff_header, header_of, is_header};
 ghost use Rattle.snap_state.specs.Files.{IsSaved};
+ghost use Rattle.snap_state.specs.Valid.{is_valid as is_valid_copy};
 ghost use Rattle.flat_snapshot.specs.Files.{diff_file, diff_in, memory_file, memory_in, state_file};
-ghost use Rattle.flat_snapshot.specs.Found.{found};
+ghost use Rattle.flat_snapshot.specs.Found.{Snapshot, found};
 ghost use Rattle.vm_config.specs.declared.config.Config.{Config};
-ghost use Rattle.flat_guest.specs.Guest.{Guest, unwritten};
+ghost use Rattle.flat_guest.specs.Guest.{Guest, unwritten, whole_pages};
 ghost use Rattle.flat_guest.specs.Sound.{IsSound};
 ghost use Rattle.flat_guest.specs.Steps.{FlatStep, StepsBy};
 ghost use Rattle.snap_state.specs.declared.copy.StateCopy.{StateCopy};
@@ -28,16 +29,28 @@ ghost use Rattle.flat_snapshot.specs.Carried.{carried_config, carried_guest, wit
 ghost use Rattle.flat_snapshot.specs.Copies.{IsCopyOf};
 ghost use Rattle.flat_snapshot.specs.Unwritten.{KeepsUnwritten};
 
-/// A guest has one copy at most, and one that is never stuck has one.
+/// A guest has one copy at most with the same kept of its devices, and so one at most where it has none. Which of the
+/// data that may be kept of its devices a copy has makes no difference to the guest that goes on from it. A guest that is
+/// never stuck has a copy, if it has at most 2^20 pages.
 pub fn one_copy_of()
-    ensures one { (config : Config) (g : Guest) (first second : StateCopy) →
+    ensures one { (config : Config) (g : Guest) (first second : StateCopy) → first.devices ≡ second.devices →
         IsCopyOf config g first → IsCopyOf config g second → first ≡ second }
-    ensures some { (config : Config) (g : Guest) → IsSound g → (copy : StateCopy) × IsCopyOf config g copy }
+    ensures plain { (config : Config) (g : Guest) (first second : StateCopy) → g.devices ≡ [] →
+        IsCopyOf config g first → IsCopyOf config g second → first ≡ second }
+    ensures same_guest { (config : Config) (g : Guest) (first second : StateCopy) (bytes : List ℕ) →
+        IsCopyOf config g first → IsCopyOf config g second →
+        carried_guest first bytes ≡ carried_guest second bytes }
+    ensures some { (config : Config) (g : Guest) → IsSound g → whole_pages g.memory ≤ 2 ^ 20 →
+        (copy : StateCopy) × IsCopyOf config g copy }
 {}
 
-/// The guest that goes on from a snapshot is never stuck.
+/// The guest that goes on from a snapshot is never stuck, where a state file can have its copy, and its memory has as
+/// many pages as that says. What a load finds is such.
 pub fn goes_on()
-    ensures { (copy : StateCopy) (bytes : List ℕ) → IsSound (carried_guest copy bytes) }
+    ensures sound { (copy : StateCopy) (bytes : List ℕ) → IsTrue (is_valid_copy copy) →
+        length bytes ≡ page_size * copy.pages → IsSound (carried_guest copy bytes) }
+    ensures found { (saved : Saved) (files : SnapshotFiles) (it : Snapshot) → found saved files ≡ Ok it →
+        IsTrue (is_valid_copy it.copy) × (length it.bytes ≡ page_size * it.copy.pages) }
 {}
 
 /// The copy of the guest that goes on from a snapshot is the one that it goes on from, but that the load says whether

@@ -1,6 +1,5 @@
 -- What is found of both files.
-use Rattle.std.proofs.Common.{◌≡◌, ℕ, ◌+◌, ◌*◌, Bool, true, false, ◌&&◌, if◌then◌else◌, List, length, take, drop, length-drop, Option, Some, None, Result, Ok, Err, refl, sym, ap, subst, ◌∙◌, arith}
-use Rattle.std.proofs.lemmas.Bool.{eqb-true}
+use Rattle.std.proofs.Common.{◌≡◌, ℕ, ◌*◌, List, length, take, drop, length-drop, Option, Some, None, Result, Ok, Err, refl, sym, ap, subst, ◌∙◌, arith}
 use Rattle.std.proofs.Math.Seq.{take-length}
 use Rattle.std.specs.FinMap.{get}
 use Rattle.std.specs.Option.{option_map}
@@ -10,17 +9,13 @@ use Rattle.refusals.specs.declared.refusal.Refusal.{Refusal}
 use Rattle.refusals.specs.declared.refusal.Refusal.TheVariants as refusal
 use Rattle.api_calls.specs.declared.call.SnapshotFiles.{SnapshotFiles}
 use Rattle.api_calls.specs.Call.{◌>>=◌}
-use Rattle.guest_memory.specs.Ram.{page_size}
-use Rattle.file_format.specs.Starts.{is_closed, is_other}
-use Rattle.snap_memory.specs.declared.header.MemHeader.{MemHeader}
-use Rattle.snap_memory.specs.Headers as memory
 use Rattle.snap_state.specs.declared.copy.StateCopy.{StateCopy}
-use Rattle.flat_snapshot.specs.Found.{Snapshot, found, memory_found, memory_front, memory_judged, memory_read, state_found}
+use Rattle.flat_snapshot.specs.Found.{Snapshot, found, memory_found, memory_front, state_found}
+use Rattle.flat_snapshot.proofs.Finds.{front_size}
 use Rattle.gate_file.specs.Reading.{start_of}
 use Rattle.snap_finding.specs.declared.finding.FindError.{FindError}
 use Rattle.snap_finding.specs.declared.finding.FindError.TheVariants.{Refused, Fault, OutOfMemory}
 use Rattle.snap_finding.specs.Finding.{Answers, front_found, nothing_of, snapshot_of, state_of}
-use Rattle.snap_finding.proofs.Judged.{not_false}
 
 abbrev pub rest_of : Saved → SnapshotFiles → Identity × StateCopy → Result Snapshot Refusal
 rest_of saved names s =
@@ -48,36 +43,7 @@ memory_refuses saved names i c why is refuses =
     ∙ ap (λ (r : Result (List ℕ) Refusal). r >>= λ bytes. Ok (record { identity = i; copy = c; bytes = bytes }))
     (memory_of i c.pages (get saved names.mem_file_path) why refuses)
 
--- ---- the size of a memory file that isn't refused
-
-passes : {A : Type 0} (b : Bool) (why : Refusal) (r : Result A Refusal) (v : A) → (if b then Err why else r) ≡ Ok v → (b ≡ false) × (r ≡ Ok v)
-passes true why r v is = absurd cc
-passes false why r v is = (refl, is)
-
-holds : {A : Type 0} (b : Bool) (why : Refusal) (r : Result A Refusal) (v : A) → (if b then r else Err why) ≡ Ok v → r ≡ Ok v
-holds true why r v is = is
-holds false why r v is = absurd cc
-
-and_right : (a b : Bool) → (a && b) ≡ true → b ≡ true
-and_right true b is = is
-and_right false b is = absurd cc
-
-judged_size : (i : Identity) (pages size : ℕ) (h : MemHeader) → memory_judged i pages size h ≡ Ok tt → size ≡ 4096 + page_size * pages
-judged_size i pages size h is =
-    let one = passes _ _ _ tt is in
-    let two = passes _ _ _ tt one.1 in
-    eqb-true size (4096 + page_size * pages) (and_right _ _ (not_false _ two.0))
-
-read_size : (i : Identity) (pages size : ℕ) (o : Option (MemHeader × List ℕ)) → memory_read i pages size o ≡ Ok tt → size ≡ 4096 + page_size * pages
-read_size i pages size None is = absurd cc
-read_size i pages size (Some read) is = judged_size i pages size read.0 (holds _ _ _ tt is)
-
-front_size : (i : Identity) (pages size : ℕ) (front : List ℕ) → memory_front i pages size front ≡ Ok tt → size ≡ 4096 + page_size * pages
-front_size i pages size front is =
-    let late : Result (Unit {0}) Refusal = memory_read i pages size (memory.header.reads front) in
-    let one = passes (is_closed 4096 front) refusal.GateClosed (if is_other memory.magic front then Err refusal.WrongMagic else late) tt is in
-    let two = passes (is_other memory.magic front) refusal.WrongMagic late tt one.1 in
-    read_size i pages size (memory.header.reads front) two.1
+-- ---- a memory file that isn't refused
 
 memory_good : (i : Identity) (pages : ℕ) (o : Option (List ℕ)) (bytes : List ℕ) → front_found i pages o ≡ Ok tt
     → ((content : List ℕ) → o ≡ Some content → bytes ≡ take (4096 * pages) (drop 4096 content)) → memory_found i pages o ≡ Ok bytes

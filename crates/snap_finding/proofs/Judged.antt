@@ -1,5 +1,5 @@
 -- What bytes are judged as is what the definition finds.
-use Rattle.std.proofs.Common.{◌≡◌, ℕ, ◌+◌, ◌<◌, Bool, true, false, not, ◌||◌, if◌then◌else◌, List, [], ◌∷◌, ◌++◌, length, take, drop, take-append-drop, Option, Some, None, Ok, Err, refl, sym, ap, subst, ◌∙◌}
+use Rattle.std.proofs.Common.{◌≡◌, ℕ, ◌+◌, ◌<◌, Bool, true, false, ◌||◌, if◌then◌else◌, List, [], ◌∷◌, ◌++◌, length, take, drop, take-append-drop, Option, Some, None, Ok, Err, refl, sym, ap, subst, ◌∙◌}
 use Rattle.std.proofs.lemmas.Bool.{eqb-true}
 use Rattle.std.proofs.lemmas.List.{get_or-drop}
 use Rattle.std.proofs.lemmas.Slice.Eq.{bytes_eq-Decides}
@@ -16,16 +16,13 @@ use Rattle.snap_state.specs.declared.file.Saved.{Saved}
 use Rattle.snap_state.specs.Files as state
 use Rattle.snap_state.proofs.Copies as copies
 use Rattle.flat_snapshot.specs.Found.{memory_front, memory_judged, memory_read, state_in, state_read}
+use Rattle.flat_snapshot.proofs.Finds.{not_false}
 use Rattle.flat_snapshot.proofs.Loaded as loaded
 use Rattle.snap_finding.specs.Finding.{Answers, FindCause, nothing_of, refused_by, state_of}
 
 or_false : (a b : Bool) → (a || b) ≡ false → b ≡ false
 or_false true b is = absurd (let k : true ≡ false = is in cc)
 or_false false b is = is
-
-pub not_false : (b : Bool) → not b ≡ false → b ≡ true
-not_false true is = refl
-not_false false is = absurd (let k : true ≡ false = is in cc)
 
 -- ---- a state file
 

@@ -1,11 +1,10 @@
 -- When bytes hold a copy.
-use Rattle.std.proofs.Common.{◌≡◌, ℕ, ◌+◌, ◌<◌, Bool, true, false, ◌&&◌, get_or, ◌≤◌, cond, eqb, ltb, List, [], ◌∷◌, ◌++◌, length, drop, Option, Some, None, Result, Ok, Err, refl, sym, ap, subst, ◌∙◌, append_assoc, arith, length-append}
-use Rattle.std.specs.Prelude.{IsTrue, ◌==◌}
-use Rattle.std.specs.Int.{w32, w64, to_le_bytes}
+use Rattle.std.proofs.Common.{◌≡◌, ℕ, ◌+◌, Bool, true, false, ◌&&◌, get_or, eqb, ltb, List, [], ◌∷◌, ◌++◌, length, drop, Some, None, Err, refl, sym, ap, subst, ◌∙◌, append_assoc, arith}
+use Rattle.std.specs.Prelude.{IsTrue}
 use Rattle.std.proofs.lemmas.Bool.{eqb-true, eq-eqb, le-ltb}
 use Rattle.std.proofs.lemmas.List.{append-nil, nil_from_length}
 use Rattle.vm_types.specs.declared.identity.Identity.{Identity}
-use Rattle.file_format.specs.Format.{IsBytes, Format}
+use Rattle.file_format.specs.Format.{IsBytes}
 use Rattle.file_format.specs.Kinds.{number32, number64}
 use Rattle.file_format.specs.Identities.{identity, is_numbered}
 use Rattle.file_format.specs.Reading.{Takes}
@@ -16,7 +15,7 @@ use Rattle.snap_state.specs.declared.copy.StateCopy.{StateCopy}
 use Rattle.snap_state.specs.declared.file.Saved.{Saved}
 use Rattle.snap_state.specs.Copies.{state_copy}
 use Rattle.snap_state.specs.Valid.{is_valid}
-use Rattle.snap_state.specs.Files.{magic, contents, contents_of, IsSaved, Encodes, Holds, Found, is_accepted}
+use Rattle.snap_state.specs.Files.{magic, contents, contents_of, Encodes, Holds, Found, is_accepted}
 
 -- what is held is read, to its end
 held_reads : (rest : List ℕ) (s : Saved) → Holds rest s → contents.reads rest ≡ Some (contents_of s, [])

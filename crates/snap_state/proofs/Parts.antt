@@ -1,8 +1,7 @@
 -- A hart and its copy, a board and its copy.
-use Rattle.std.proofs.Common.{◌≡◌, ℕ, ◌==◌, ◌&&◌, Bool, true, false, eqb, Option, Some, None, refl, sym, ap, ◌∙◌}
+use Rattle.std.proofs.Common.{◌≡◌, ℕ, ◌&&◌, Bool, true, false, eqb, Option, Some, None, refl, sym}
 use Rattle.std.proofs.lemmas.Bool.{eqb-true}
 use Rattle.board_table.specs.Board.{Board}
-use Rattle.rv_supervisor.specs.declared.regs.Regs.{Regs}
 use Rattle.rv_supervisor.specs.declared.regs.Turn.{Turn}
 use Rattle.rv_supervisor.specs.declared.regs.Turn.TheVariants as turn
 use Rattle.rv_supervisor.specs.Csrs.{bit, status}
@@ -11,7 +10,7 @@ use Rattle.snap_state.specs.declared.hart.SavedHart.{SavedHart}
 use Rattle.snap_state.specs.declared.hart.HartPlace.{HartPlace}
 use Rattle.snap_state.specs.declared.hart.HartPlace.TheVariants.{Begin, BeginWaiting, Idle, IdleWaiting, Access}
 use Rattle.snap_state.specs.Copy.{turn_of, begun_at, regs_of, hart_of, is_due, place_of, saved_hart, IsBegunByFetch, board_at, saved_board}
-use Rattle.snap_state.specs.Valid.{is_placed, is_hart, has_bits, is_counted, is_aligned, is_granule, asks}
+use Rattle.snap_state.specs.Valid.{is_placed, is_hart, has_bits, is_granule, asks}
 
 sie_back : (sie spie : Bool) → bit 1 (status sie spie) ≡ sie
 sie_back false false = refl

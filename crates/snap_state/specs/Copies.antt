@@ -1,7 +1,12 @@
 -- The body of a state file.
-use Rattle.std.specs.Prelude.{refl}
+use Rattle.std.specs.Prelude.{refl, nat_le, Bool, List, length}
 use Rattle.file_format.specs.Format.{Format}
-use Rattle.file_format.specs.Kinds.{number32, number64, flag, zeros, list_of, ◌&◌, made_of}
+use Rattle.file_format.specs.Kinds.{number32, number64, flag, list_of, passing, ◌&◌, made_of}
+use Rattle.file_format.specs.Whole.{counted}
+use Rattle.port_table.specs.Window.{most_ports}
+use Rattle.guest_devices.specs.declared.device.Device.{Device}
+use Rattle.snap_devices.specs.Ports.{port}
+use Rattle.snap_devices.specs.Devices.{device}
 use Rattle.snap_state.specs.Configured.{configuration}
 use Rattle.snap_state.specs.Boards.{board}
 use Rattle.snap_state.specs.Harts.{hart}
@@ -16,16 +21,23 @@ reservation =
     (λ _. refl) (λ _. refl)
     (number32 & number32 & number32)
 
--- The configuration, the number of pages, track_dirty_pages once more and guest time; the board and the harts; no ports
--- and no devices, 4 zeros each; the reservations.
+-- the devices, of which there are as many as ports at most
+abbrev pub are_few : List Device → Bool
+are_few ds = nat_le (length ds) most_ports
+
+unfoldable pub devices : Format (List Device)
+devices = passing are_few (list_of (counted device))
+
+-- The configuration, the number of pages, track_dirty_pages once more and guest time; the board and the harts; the ports
+-- and the devices, each as a list of its bytes; the reservations.
 unfoldable pub state_copy : Format StateCopy
 state_copy =
     made_of
     (λ c. (
       (c.configuration, (c.pages, (c.track_dirty_pages, c.guest_time))),
-      (c.board, (c.harts, (tt, c.reservations))),
+      (c.board, (c.harts, (c.ports, (c.devices, c.reservations)))),
     ))
-    (λ ((configuration, (pages, (track_dirty_pages, guest_time))), (board, (harts, (_, reservations)))).
+    (λ ((configuration, (pages, (track_dirty_pages, guest_time))), (board, (harts, (ports, (devices, reservations))))).
     record {
       configuration = configuration;
       pages = pages;
@@ -33,7 +45,9 @@ state_copy =
       guest_time = guest_time;
       board = board;
       harts = harts;
+      ports = ports;
+      devices = devices;
       reservations = reservations;
     })
     (λ _. refl) (λ _. refl)
-    ((configuration & number32 & flag & number64) & (board & list_of hart & zeros 8 & list_of reservation))
+    ((configuration & number32 & flag & number64) & (board & list_of hart & list_of (counted port) & devices & list_of reservation))

@@ -1,3 +1,4 @@
+pub mod Drives
 pub mod Configured
 pub mod HartStates
 pub mod Boards

@@ -1,12 +1,20 @@
 -- Which copies there are: what the fields must be besides fitting their places.
-use Rattle.std.specs.Prelude.{ℕ, ◌*◌, ◌%◌, ◌==◌, nat_le, nat_lt, Bool, true, false, not, ◌&&◌, ◌||◌, if◌then◌else◌}
-use Rattle.std.specs.Prelude.{List, [], ◌∷◌, length, Option, None, Some, is_some, bit_and}
-use Rattle.std.specs.List.{list_all}
+use Rattle.std.specs.Prelude.{ℕ, suc, ◌*◌, ◌%◌, ◌==◌, nat_le, nat_lt, Bool, true, false, not, ◌&&◌, ◌||◌, if◌then◌else◌}
+use Rattle.std.specs.Prelude.{List, [], ◌∷◌, length, count_by, Option, None, Some, is_some, bit_and}
+use Rattle.std.specs.List.{list_all, list_any}
+use Rattle.api_calls.specs.declared.call.Drive.{Drive}
 use Rattle.api_calls.specs.declared.call.MachineConfig.{MachineConfig}
-use Rattle.api_calls.specs.Form.{is_path}
+use Rattle.api_calls.specs.Drives.{is_named, is_root}
+use Rattle.api_calls.specs.Form.{is_id, is_path}
 use Rattle.board_table.specs.Board.{ring_size}
 use Rattle.guest_memory.specs.Ram.{page_size, is_ram}
 use Rattle.guest_memory.specs.Reserved.{hart_limit}
+use Rattle.port_table.specs.declared.state.PortState.{PortState}
+use Rattle.port_table.specs.declared.kind.DeviceKind.{DeviceKind}
+use Rattle.port_table.specs.declared.kind.DeviceKind.TheVariants.{Block}
+use Rattle.port_table.specs.Window.{most_ports}
+use Rattle.guest_devices.specs.declared.device.Device.{Device}
+use Rattle.guest_devices.specs.Kept.{device_pages, device_port, is_kept}
 use Rattle.rv_supervisor.specs.declared.regs.Regs.{Regs}
 use Rattle.rv_supervisor.specs.declared.csr.HartCsr.TheVariants.{Sstatus}
 use Rattle.rv_supervisor.specs.Csrs.{interrupts, csr_value}
@@ -35,6 +43,21 @@ is_source b = is_path b.kernel_image_path && are_paths b.initrd_path && nat_le (
 abbrev pub is_machine : MachineConfig → Bool
 is_machine m =
     nat_le 1 m.vcpu_count && nat_le m.vcpu_count hart_limit && nat_le 4 m.mem_size_mib && nat_le m.mem_size_mib 1024
+
+-- a drive's id is one that a path may name, and its file's path is one
+abbrev pub is_drive : Drive → Bool
+is_drive d = is_id d.drive_id && is_path d.path_on_host
+
+-- no two have one id
+abbrev pub are_told_apart : List Drive → Bool
+are_told_apart [] = true
+are_told_apart (d ∷ others) = not (list_any (is_named d.drive_id) others) && are_told_apart others
+
+-- one drive at most is the root device
+abbrev pub are_drives : List Drive → Bool
+are_drives drives =
+    nat_le (length drives) most_ports && list_all is_drive drives && are_told_apart drives
+    && nat_le (count_by is_root drives) 1
 
 -- ---- the board
 
@@ -81,6 +104,25 @@ is_hart pages h =
     is_counted h && is_aligned h && has_bits h && is_granule pages h.held && is_placed h.is_look_due h.place
     && asks h.place (regs_of h)
 
+-- ---- ports and devices
+
+-- the kind of all devices that there are
+abbrev pub is_block : DeviceKind → Bool
+is_block Block = true
+is_block kind = false
+
+abbrev pub is_block_port : PortState → Bool
+is_block_port p = is_block p.kind
+
+-- the device at this port of a guest of so many pages, with data that a device keeps
+abbrev pub is_device : ℕ → ℕ → Device → Bool
+is_device pages port d = (device_port d == port) && (device_pages d == pages) && is_kept d
+
+-- each at the port of its number, from this one on
+abbrev pub are_devices : ℕ → ℕ → List Device → Bool
+are_devices pages port [] = true
+are_devices pages port (d ∷ others) = is_device pages port d && are_devices pages (suc port) others
+
 -- ---- reservations
 
 -- of a page and a hart that are there, at a granule
@@ -108,12 +150,20 @@ has_machine c m =
     is_machine m && (c.pages == 256 * m.mem_size_mib)
     && (if c.track_dirty_pages then m.track_dirty_pages else not m.track_dirty_pages)
 
+-- a port and a device for each drive
+abbrev pub has_devices : StateCopy → Bool
+has_devices c =
+    (length c.ports == length c.configuration.drives) && (length c.devices == length c.configuration.drives)
+    && list_all is_block_port c.ports && are_devices c.pages 0 c.devices
+
 unfoldable pub is_valid : StateCopy → Bool
 is_valid c =
     is_source c.configuration.boot_source
+    && are_drives c.configuration.drives
     && has_machine c c.configuration.machine
     && is_board c.configuration.machine.vcpu_count c.board
     && (length c.harts == c.configuration.machine.vcpu_count)
     && list_all (is_hart c.pages) c.harts
+    && has_devices c
     && list_all (is_reserved c.pages c.configuration.machine.vcpu_count) c.reservations
     && is_rising c.reservations

@@ -1,6 +1,7 @@
 // The configuration of a machine that has started.
 ghost use Rattle.snap_state.specs.Configured.{boot_source, configuration};
 
+use crate::drives::SavedDrives;
 use api_calls::MachineConfig;
 use file_format::{Input, ReadError, Stored, read_fixed, read_zeros, write_fixed, write_zeros};
 use std::alloc::{AllocError, Global};
@@ -18,6 +19,8 @@ pub struct BootSource {
 #[derive(Drop)]
 pub struct Configuration {
     pub boot_source: BootSource,
+    /// In the order in which they were first put.
+    pub drives: SavedDrives,
     pub machine: MachineConfig,
 }
 
@@ -49,7 +52,8 @@ impl Stored for Configuration {
     fn write(&self, out: &mut Vec<u8>) -> Result<(), AllocError> {
         write_fixed(&[1], out)?;
         self.boot_source.write(out)?;
-        write_zeros(9, out)?;
+        self.drives.write(out)?;
+        write_zeros(5, out)?;
         self.machine.vcpu_count.write(out)?;
         self.machine.mem_size_mib.write(out)?;
         write_zeros(1, out)?;
@@ -60,14 +64,15 @@ impl Stored for Configuration {
 
     fn read(alloc: Global, input: &mut Input) -> Result<Configuration, ReadError> {
         read_fixed(&[1], input)?;
-        let boot_source: BootSource = Stored::read(alloc, input)?;
-        read_zeros(9, input)?;
+        let (boot_source, drives) = Stored::read(alloc, input)?;
+        read_zeros(5, input)?;
         let (vcpu_count, mem_size_mib) = Stored::read(alloc, input)?;
         read_zeros(1, input)?;
         let track_dirty_pages = bool::read(alloc, input)?;
         read_zeros(2, input)?;
         Ok(Configuration {
             boot_source,
+            drives,
             machine: MachineConfig {
                 vcpu_count,
                 mem_size_mib,

@@ -3,8 +3,12 @@ ghost use Rattle.snap_state.specs.Copies.{reservation, state_copy};
 
 use crate::board::SavedBoard;
 use crate::configuration::Configuration;
+use crate::devices::{read_devices, write_devices};
 use crate::hart::SavedHart;
-use file_format::{Input, Items, ReadError, Stored, read_zeros, write_zeros};
+use file_format::{Counted, Input, Items, ReadError, Stored};
+use guest_devices::Device;
+use mmio_port::Port;
+use snap_devices::Saved;
 use std::alloc::{AllocError, Global};
 
 /// What one hart has reserved in one page: a granule of 8 bytes.
@@ -27,6 +31,10 @@ pub struct StateCopy {
     pub guest_time: u64,
     pub board: SavedBoard,
     pub harts: Items<SavedHart>,
+    /// The ports of the devices, by their numbers.
+    pub ports: Items<Counted<Saved<Port>>>,
+    /// The devices, each by the number of its port.
+    pub devices: Items<Counted<Saved<Device>>>,
     /// By page and then by hart.
     pub reservations: Items<Reservation>,
 }
@@ -59,7 +67,8 @@ impl Stored for StateCopy {
         self.guest_time.write(out)?;
         self.board.write(out)?;
         self.harts.write(out)?;
-        write_zeros(8, out)?;
+        self.ports.write(out)?;
+        write_devices(&self.devices, out)?;
         self.reservations.write(out)?;
         Ok(())
     }
@@ -67,7 +76,8 @@ impl Stored for StateCopy {
     fn read(alloc: Global, input: &mut Input) -> Result<StateCopy, ReadError> {
         let (configuration, (pages, (track_dirty_pages, guest_time))) = Stored::read(alloc, input)?;
         let (board, harts) = Stored::read(alloc, input)?;
-        read_zeros(8, input)?;
+        let ports = Stored::read(alloc, input)?;
+        let devices = read_devices(alloc, input)?;
         let reservations = Stored::read(alloc, input)?;
         Ok(StateCopy {
             configuration,
@@ -76,6 +86,8 @@ impl Stored for StateCopy {
             guest_time,
             board,
             harts,
+            ports,
+            devices,
             reservations,
         })
     }

@@ -7,9 +7,12 @@
 //! `specs/Copy.antt` says of which board and of which harts a copy is.
 #![tactic(auto)]
 
+mod attached;
 mod board;
 mod configuration;
 mod copy;
+mod devices;
+mod drives;
 mod file;
 mod hart;
 mod hart_state;
@@ -19,6 +22,7 @@ mod valid;
 pub use board::SavedBoard;
 pub use configuration::{BootSource, Configuration};
 pub use copy::{Reservation, StateCopy};
+pub use drives::SavedDrives;
 pub use file::{Saved, decode, encode};
 pub use hart::{HartPlace, SavedHart};
 pub use hart_state::SavedHartState;

@@ -5,9 +5,10 @@ ghost use Rattle.std.specs.Option.{option_copied};
 ghost use Rattle.api_calls.specs.Form.{is_path};
 ghost use Rattle.snap_state.specs.Valid.{are_paths, is_source, is_machine, is_board, is_counted, is_aligned};
 ghost use Rattle.snap_state.specs.Valid.{has_bits, is_granule, asks, is_placed, is_hart, is_reserved};
-ghost use Rattle.snap_state.specs.Valid.{is_before, is_rising, has_machine, is_valid};
+ghost use Rattle.snap_state.specs.Valid.{is_before, is_rising, has_machine, has_devices, is_valid};
 ghost use Rattle.snap_state.specs.Copy.{regs_of};
 
+use crate::attached::{are_block_ports, are_devices, are_drives};
 use crate::board::SavedBoard;
 use crate::configuration::BootSource;
 use crate::copy::{Reservation, StateCopy};
@@ -23,7 +24,8 @@ const INTERRUPTS: u64 = 0x222;
 
 const RING_SIZE: usize = 4096;
 
-fn is_path(path: &TextList) -> bool
+/// Whether this is the name of a file: 1 to 4,095 bytes without a NUL.
+pub fn is_path(path: &TextList) -> bool
     ensures { result ≡ is_path path.now }
 {
     let bytes = path.as_bytes();
@@ -178,6 +180,18 @@ fn has_machine(copy: &StateCopy, machine: &MachineConfig) -> bool
         && copy.track_dirty_pages == machine.track_dirty_pages
 }
 
+fn has_devices(copy: &StateCopy) -> bool
+    ensures { result ≡ has_devices copy.now }
+{
+    let drives = copy.configuration.drives.drives.len();
+    let ports = copy.ports.as_slice();
+    let devices = copy.devices.as_slice();
+    ports.len() == drives
+        && devices.len() == drives
+        && are_block_ports(ports)
+        && are_devices(copy.pages, devices)
+}
+
 /// Whether there is such a copy: what the fields are besides fitting their places.
 #[tactic(auto, unfolding(crate::specs::Valid::is_valid))]
 pub fn is_valid(copy: &StateCopy) -> bool
@@ -186,10 +200,12 @@ pub fn is_valid(copy: &StateCopy) -> bool
     let machine = &copy.configuration.machine;
     let harts = machine.vcpu_count;
     is_source(&copy.configuration.boot_source)
+        && are_drives(&copy.configuration.drives.drives)
         && has_machine(copy, machine)
         && is_board(harts, &copy.board)
         && copy.harts.as_slice().len() as u64 == harts
         && are_harts(copy.pages, copy.harts.as_slice())
+        && has_devices(copy)
         && are_reserved(copy.pages, harts, copy.reservations.as_slice())
         && is_rising(copy.reservations.as_slice())
 }

@@ -14,27 +14,23 @@ use Rattle.snap_diff.specs.Copies.{IsDiffOf, LeadBy}
 use Rattle.snap_diff.specs.Diffs.{IsDiffFile}
 use Rattle.snap_diff.specs.Headers as diffs
 use Rattle.snapshot_merge.specs.Memories.{IsMemoryFile}
-use Rattle.snap_state.specs.declared.copy.StateCopy.{StateCopy}
 use Rattle.flat_guest.specs.Guest.{Guest, unwritten}
 use Rattle.flat_snapshot.specs.Files.{diff_file, head_of, memory_file, saved_pages, state_file}
 use Rattle.flat_snapshot.specs.Unwritten.{KeepsUnwritten}
-use Rattle.flat_snapshot.proofs.Copied.{same_copy}
 use Rattle.flat_snapshot.proofs.Diffs.{diff_of_both, is_file, written_few}
 use Rattle.flat_snapshot.proofs.Loaded.{memory_is, new_valid}
 use Rattle.flat_machine.specs.Between.{GoesOn, NoCreate, SomeCreate}
 use Rattle.flat_machine.specs.Machine.{Machine}
-use Rattle.flat_machine.specs.Requests.{Creates, created, parent_in, parent_of}
+use Rattle.flat_machine.specs.Requests.{created, parent_in, parent_of}
 use Rattle.flat_machine.proofs.Between.{run_on}
+use Rattle.flat_machine.proofs.Carries.{created_is}
 use Rattle.snapshot_chain.specs.Chains.{DiffsLead, Follows, IsSaving, Saving, diff_since, identity_of, memory_of, memory_text, state_text, steps_of}
 
 -- ---- what stands under the two names
 
 module _ (type : SnapshotType) (s : Saving) (is : IsSaving type s) where
   pub after_is : s.after ≡ created s.before s.guest s.asked.files (parent_in s.before s.asked) s.copy
-  after_is =
-      let made : Creates (Some s.guest) s.before s.asked s.after = subst (λ (o : Option Guest). Creates o s.before s.asked s.after) is.there is.leaves in
-      made.2 ∙ ap (λ (c : StateCopy). created s.before s.guest s.asked.files (parent_in s.before s.asked) c)
-      (same_copy s.before.config s.guest made.0 s.copy made.1 is.is_copy)
+  after_is = created_is s.before s.after s.guest s.asked s.copy is.there is.is_copy is.leaves
 
   pub state_is : state_text s ≡ Some (state_file (identity_of s) s.copy)
   state_is =

@@ -5,7 +5,6 @@ use Rattle.vm_types.specs.declared.identity.Identity.{Identity}
 use Rattle.api_calls.specs.declared.call.SnapshotCreate.{SnapshotCreate}
 use Rattle.api_calls.specs.declared.call.SnapshotType.{SnapshotType}
 use Rattle.api_calls.specs.declared.call.SnapshotType.TheVariants as snapshot
-use Rattle.vm_config.specs.declared.change.Change.TheVariants as change
 use Rattle.guest_memory.specs.Ram.{page_size}
 use Rattle.flat_guest.specs.Guest.{Guest}
 use Rattle.snap_memory.specs.Headers.{header, new_header}
@@ -15,7 +14,7 @@ use Rattle.snap_state.specs.Files.{IsSaved}
 use Rattle.flat_snapshot.specs.Copies.{IsCopyOf}
 use Rattle.flat_snapshot.specs.Files.{diff_in, memory_in}
 use Rattle.flat_machine.specs.Machine.{Machine}
-use Rattle.flat_machine.specs.Requests.{Leaves, next_identity}
+use Rattle.flat_machine.specs.Requests.{Creates, next_identity}
 use Rattle.flat_machine.specs.Run.{Act, Run}
 
 -- ---- a create that was answered
@@ -42,7 +41,7 @@ pub record IsSaving (type : SnapshotType) (s : Saving) : Type 0 where
   pub saved : IsSaved (record { identity = identity_of s; copy = s.copy })
   pub fits : header.Fits (new_header s.copy.pages (identity_of s))
   pub whole : length s.guest.memory.bytes ≡ page_size * s.copy.pages
-  pub leaves : Leaves s.before (change.CreateSnapshot s.asked) s.after
+  pub leaves : Creates s.before.guest s.before s.asked s.copy.devices s.after
 
 -- what stands under its two names after it
 abbrev pub memory_text : Saving → Option (List ℕ)

@@ -1,23 +1,26 @@
 -- The copy of a world is the copy of each guest that it is.
-use Rattle.std.proofs.Common.{◌≡◌, ℕ, zero, suc, ◌+◌, ◌<◌, Bool, true, false, ◌&&◌, List, [], ◌∷◌, Option, Some, length, get_or, map, slice_get, refl, sym, ap, subst, ◌∙◌, arith}
+use Rattle.std.proofs.Common.{◌≡◌, ℕ, zero, suc, ◌+◌, ◌<◌, Bool, true, false, ◌&&◌, List, [], ◌∷◌, Some, length, get_or, map, slice_get, refl, sym, ap, subst, ◌∙◌, arith}
 use Rattle.std.specs.List.{list_all}
+use Rattle.std.proofs.lemmas.Bool.{and_parts}
 use Rattle.vm_types.specs.declared.ids.ActorId.{ActorId}
 use Rattle.vm_types.specs.declared.ids.ActorId.TheVariants.{Hart as HartId}
 use Rattle.vm_types.specs.declared.entry.Step.{Step}
 use Rattle.vm_config.specs.declared.config.Config.{Config}
 use Rattle.rv_supervisor.specs.declared.regs.Regs.{Regs}
 use Rattle.hart_trace.specs.States.{Hart, LeadsTo}
-use Rattle.flat_guest.specs.Body as body
+use Rattle.guest_devices.specs.declared.device.Device.{Device}
+use Rattle.guest_devices.specs.Devices.{DeviceLeads, DeviceLeft, FlatDevice}
+use Rattle.guest_devices.specs.Kept.{device_left, devices_left, is_kept}
 use Rattle.flat_guest.specs.Guest.{Guest, none_written}
-use Rattle.snap_state.specs.declared.hart.SavedHart.{SavedHart}
 use Rattle.snap_state.specs.declared.copy.StateCopy.{StateCopy}
 use Rattle.snap_state.specs.Copy.{saved_hart}
 use Rattle.snap_state.specs.Valid.{is_hart, is_valid}
-use Rattle.flat_snapshot.specs.Copies.{AreHarts, IsCopyOf, copy_of}
-use Rattle.flat_snapshot.proofs.Copied.{same_copy}
+use Rattle.snap_state.proofs.Rules.{Rules, rules_hold, rules_of}
+use Rattle.flat_snapshot.specs.Copies.{AreHarts, AreKept, IsCopyOf, copy_of}
+use Rattle.flat_snapshot.proofs.Copied.{one_harts}
 use Rattle.vm_world.specs.Worlds.{IsWorld, WorldValue}
 use Rattle.world_copy.specs.Copying.{copy_in}
-use Rattle.world_copy.proofs.Parts.{parts_of}
+use Rattle.world_copy.proofs.Kept.{rules_too}
 
 are_listed : (starts : List Regs) (k : ℕ) (steps : ActorId → List Step) (harts : List Hart) → length harts ≡ length starts
     → ((i : ℕ) (start : Regs) (hart : Hart) → slice_get starts i ≡ Some start → slice_get harts i ≡ Some hart
@@ -44,26 +47,66 @@ harts_are w g is = are_listed g.starts 0 g.steps w.harts is.harts_are.count (λ 
     let same : i ≡ 0 + i = omega arith in
     subst (λ (n : ℕ). LeadsTo start (g.steps (HartId n)) hart) same (is.harts_are.each i start hart begins here))
 
-pub copied : (config : Config) (w : WorldValue) (g : Guest) (copy : StateCopy) → copy ≡ copy_in config w → IsWorld w g → IsCopyOf config g copy
-copied config w g copy made is = (
-  w.harts,
-  harts_are w g is,
-  made ∙ (λ i. copy_of config (record {
-    memory = is.memory_is i;
-    board = is.board_is i;
-    ports = [];
-    starts = [];
-    steps = λ actor. [];
-    devices = [];
-    written = none_written;
-  }) w.harts),
-)
+kept_are : (kept : List Device) (devices : List FlatDevice) → length (devices_left kept) ≡ length devices
+    → ((k : ℕ) (d : FlatDevice) (left : DeviceLeft) → slice_get devices k ≡ Some d → slice_get (devices_left kept) k ≡ Some left
+    → DeviceLeads d left)
+    → list_all is_kept kept ≡ true → AreKept kept devices
+kept_are [] [] long each known = tt
+kept_are [] (d ∷ devices) long each known = absurd (omega (arith, long))
+kept_are (it ∷ kept) [] long each known = absurd (omega (arith, long))
+kept_are (it ∷ kept) (d ∷ devices) long each known =
+    let parts = and_parts (is_kept it) (list_all is_kept kept) known in (
+      each 0 d (device_left it) refl refl,
+      parts.0,
+      kept_are kept devices (omega (arith, long)) (λ k other left is here. each (suc k) other left is here) parts.1,
+    )
+
+in_world : (w : WorldValue) (g : Guest) → list_all is_kept w.devices ≡ true → IsWorld w g → AreKept w.devices g.devices
+in_world w g known is = kept_are w.devices g.devices is.devices_are.count is.devices_are.each known
+
+guest_is : (config : Config) (w : WorldValue) (g : Guest) → IsWorld w g → copy_in config w ≡ copy_of config g w.harts w.devices
+guest_is config w g is = λ i. copy_of config (record {
+  memory = is.memory_is i;
+  board = is.board_is i;
+  ports = is.ports_are i;
+  starts = [];
+  steps = λ actor. [];
+  devices = [];
+  written = none_written;
+}) w.harts w.devices
+
+pub copied : (config : Config) (w : WorldValue) (g : Guest) (copy : StateCopy) → copy ≡ copy_in config w
+    → list_all is_kept copy.devices ≡ true → IsWorld w g → IsCopyOf config g copy
+copied config w g copy made known is =
+    let small : list_all is_kept w.devices ≡ true = subst (λ (c : StateCopy). list_all is_kept c.devices ≡ true) made known in
+    subst (λ (c : StateCopy). IsCopyOf config g c) (sym made)
+    (w.harts, harts_are w g is, in_world w g small is, guest_is config w g is)
+
+-- each copy of a guest that the world is has the world's harts
+same_harts : (config : Config) (w : WorldValue) (g : Guest) (copy : StateCopy) → IsWorld w g → IsCopyOf config g copy
+    → copy ≡ copy_of config g w.harts copy.devices
+same_harts config w g copy world (harts, are, kept, is) =
+    is ∙ ap (λ (l : List Hart). copy_of config g l copy.devices) (one_harts g.starts 0 g.steps harts w.harts are (harts_are w g world))
 
 -- where the copy of a world is none that a file can have, no guest that it is has one
-pub unsavable : (config : Config) (w : WorldValue) (made : StateCopy) → made ≡ copy_in config w → is_valid made ≡ false
+pub unsavable : (config : Config) (w : WorldValue) (made : StateCopy) → made ≡ copy_in config w
+    → list_all is_kept made.devices ≡ true → is_valid made ≡ false
     → (g : Guest) (copy : StateCopy) → IsWorld w g → IsCopyOf config g copy → is_valid copy ≡ false
-unsavable config w made is bad g copy world of =
-    ap is_valid (same_copy config g copy made of (copied config w g made is world)) ∙ bad
+unsavable config w made made_is sized bad g copy world of = by_test (is_valid copy) refl
+  where
+    mine_valid : is_valid copy ≡ true → is_valid made ≡ true
+    mine_valid valid =
+        let same = same_harts config w g copy world of in
+        let mine = made_is ∙ guest_is config w g world in
+        let rules : Rules (copy_of config g w.harts copy.devices) = subst (λ (c : StateCopy). Rules c) same (rules_of copy valid) in
+        let small : list_all is_kept w.devices ≡ true = subst (λ (c : StateCopy). list_all is_kept c.devices ≡ true) mine sized in
+        ap is_valid mine
+        ∙ rules_hold (copy_of config g w.harts w.devices)
+        (rules_too (copy_of config g w.harts copy.devices) w.devices g.devices rules of.2 (in_world w g small world))
+
+    by_test : (b : Bool) → is_valid copy ≡ b → is_valid copy ≡ false
+    by_test true valid = absurd (let k : true ≡ false = sym (mine_valid valid) ∙ bad in cc)
+    by_test false valid = valid
 
 -- one hart that is none is enough
 all_but_one : (pages i : ℕ) (harts : List Hart) (h : Hart) → i < length harts → h ≡ get_or harts i h
@@ -88,9 +131,9 @@ pub bad_harts : (config : Config) (w : WorldValue) → ((pages : ℕ) → list_a
     → (g : Guest) (copy : StateCopy) → IsWorld w g → IsCopyOf config g copy → is_valid copy ≡ false
 bad_harts config w bad g copy world of =
     let same : copy.harts ≡ map saved_hart w.harts =
-    ap (λ (c : StateCopy). c.harts) (same_copy config g copy (copy_in config w) of (copied config w g (copy_in config w) refl world)) in
+    ap (λ (c : StateCopy). c.harts) (same_harts config w g copy world of) in
     by_test (is_valid copy) refl (ap (list_all (is_hart copy.pages)) same ∙ bad copy.pages)
   where
     by_test : (b : Bool) → is_valid copy ≡ b → list_all (is_hart copy.pages) copy.harts ≡ false → is_valid copy ≡ false
-    by_test true valid none = absurd (let k : true ≡ false = sym (parts_of copy valid).harts ∙ none in cc)
+    by_test true valid none = absurd (let k : true ≡ false = sym (rules_of copy valid).harts ∙ none in cc)
     by_test false valid none = valid

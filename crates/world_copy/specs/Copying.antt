@@ -1,6 +1,5 @@
 -- The copy of a world.
-use Rattle.std.specs.Prelude.{List, [], map}
-use Rattle.vm_types.specs.declared.ids.ActorId.{ActorId}
+use Rattle.std.specs.Prelude.{[]}
 use Rattle.vm_config.specs.declared.config.Config.{Config}
 use Rattle.guest_pages.specs.Pages.{flat_of}
 use Rattle.flat_guest.specs.Guest.{Guest, none_written}
@@ -8,12 +7,12 @@ use Rattle.snap_state.specs.declared.copy.StateCopy.{StateCopy}
 use Rattle.flat_snapshot.specs.Copies.{copy_of}
 use Rattle.vm_world.specs.Worlds.{WorldValue}
 
--- a guest with its memory and its board, which is all that a copy looks at besides the harts
+-- a guest with its memory, its board and its ports, which is all that a copy looks at besides the harts and the devices
 abbrev pub guest_of : WorldValue → Guest
 guest_of w = record {
   memory = flat_of w.pages;
   board = w.board;
-  ports = [];
+  ports = w.ports;
   starts = [];
   steps = λ actor. [];
   devices = [];
@@ -21,4 +20,4 @@ guest_of w = record {
 }
 
 abbrev pub copy_in : Config → WorldValue → StateCopy
-copy_in config w = copy_of config (guest_of w) w.harts
+copy_in config w = copy_of config (guest_of w) w.harts w.devices

@@ -5,9 +5,9 @@ ghost use Rattle.flat_snapshot.specs.Carried.{carried_config};
 ghost use Rattle.flat_snapshot.specs.Copies.{source_of};
 
 use api_calls::{BootSource, MachineConfig};
-use snap_state::Configuration;
+use snap_state::{Configuration, SavedDrives};
 use std::alloc::{AllocError, Global};
-use vm_config::Config;
+use vm_config::{Config, Drives};
 use vm_types::TextList;
 
 fn path_of(alloc: Global, path: &Option<TextList>) -> Result<Option<TextList>, AllocError>
@@ -45,13 +45,29 @@ fn source_of(
     }
 }
 
+fn drives_of(alloc: Global, drives: &Drives) -> Result<SavedDrives, AllocError>
+    ensures { IfOk result (λ copy. copy ≡ drives.now) }
+{
+    let drives = Drives::copy_of(alloc, drives.as_slice())?;
+    Ok(SavedDrives {
+        drives: drives.into_vec(),
+    })
+}
+
 /// The configuration as a copy has it.
 pub(crate) fn configuration_of(alloc: Global, config: &Config) -> Result<Configuration, AllocError>
     ensures { IfOk result (λ copy.
-        copy ≡ record { boot_source = source_of config.now.boot_source; machine = config.now.machine }) }
+        copy ≡ record {
+          boot_source = source_of config.now.boot_source;
+          drives = config.now.drives;
+          machine = config.now.machine;
+        }) }
 {
+    let boot_source = source_of(alloc, &config.boot_source)?;
+    let drives = drives_of(alloc, &config.drives)?;
     Ok(Configuration {
-        boot_source: source_of(alloc, &config.boot_source)?,
+        boot_source,
+        drives,
         machine: config.machine,
     })
 }
@@ -66,6 +82,7 @@ pub fn config_of(configuration: Configuration, track_dirty_pages: bool) -> Confi
             initrd_path: configuration.boot_source.initrd_path,
             boot_args: configuration.boot_source.boot_args,
         }),
+        drives: Drives::from_vec(configuration.drives.drives),
         machine: MachineConfig {
             vcpu_count: configuration.machine.vcpu_count,
             mem_size_mib: configuration.machine.mem_size_mib,

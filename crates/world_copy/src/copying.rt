@@ -1,6 +1,7 @@
 // The copy of a world.
-ghost use Rattle.std.specs.Prelude.{◌≡◌, ◌≤◌, ℕ, false, IsTrue, IfErr, IfOk, MatchOption, map};
+ghost use Rattle.std.specs.Prelude.{◌≡◌, ◌≤◌, ℕ, true, false, IsTrue, IfErr, IfOk, MatchOption, map};
 ghost use Rattle.std.specs.List.{list_all};
+ghost use Rattle.guest_devices.specs.Kept.{is_kept};
 ghost use Rattle.flat_guest.specs.Guest.{Guest};
 ghost use Rattle.snap_state.specs.declared.copy.StateCopy.{StateCopy as Copy};
 ghost use Rattle.snap_state.specs.Copy.{saved_board, saved_hart};
@@ -10,6 +11,7 @@ ghost use Rattle.vm_world.specs.Worlds.{IsWorld};
 ghost use Rattle.world_copy.specs.Copying.{copy_in};
 ghost use Rattle.world_copy.specs.declared.copying.CopyError as copy_error;
 
+use crate::attached::{devices_kept, ports_kept};
 use crate::configuring::configuration_of;
 use crate::reserving::reservations_of;
 use board_table::HartState;
@@ -107,10 +109,13 @@ fn copy_with(
     harts: Items<SavedHart>,
 ) -> Result<StateCopy, AllocError>
     requires { harts ≡ map saved_hart world.now.harts }
-    ensures { IfOk result (λ copy. copy ≡ copy_in config.now world.now) }
+    ensures copied { IfOk result (λ copy. copy ≡ copy_in config.now world.now) }
+    ensures known { IfOk result (λ copy. list_all is_kept copy.devices ≡ true) }
 {
     let configuration = configuration_of(alloc, config)?;
     let board = board_copy(alloc, world.board())?;
+    let ports = ports_kept(alloc, world.ports())?;
+    let devices = devices_kept(alloc, world.devices())?;
     let reservations = reservations_of(alloc, world.pages())?;
     Ok(StateCopy {
         configuration,
@@ -119,6 +124,8 @@ fn copy_with(
         guest_time: world.board().now(),
         board,
         harts,
+        ports,
+        devices,
         reservations,
     })
 }

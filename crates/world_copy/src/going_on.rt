@@ -11,6 +11,7 @@ ghost use Rattle.flat_snapshot.specs.Carried.{carried_guest, steps_at};
 ghost use Rattle.vm_world.specs.Worlds.{IsWorld};
 ghost use Rattle.world_copy.specs.GoingOn.{GoOn};
 
+use crate::attached::{devices_of, ports_of};
 use crate::reserving::reserve;
 use board_table::HartState;
 use guest_pages::PageSet;
@@ -88,9 +89,13 @@ pub fn world_of(alloc: Global, copy: &StateCopy, pages: PageSet) -> Result<World
     ensures { IfOk result (λ world. IsWorld world (carried_guest copy.now (flat_of pages).bytes)) }
 {
     let mut pages = pages;
+    // Their bytes are so many whole pages.
+    let _size = pages.len();
     let count = copy.configuration.machine.vcpu_count;
     let board = board_of(alloc, count, copy.guest_time, &copy.board)?;
     let harts = harts_of(alloc, copy.pages, copy.harts.as_slice())?;
+    let ports = ports_of(alloc, copy.ports.as_slice())?;
+    let devices = devices_of(alloc, copy.devices.as_slice())?;
     reserve(&mut pages, count, copy.reservations.as_slice());
-    Ok(World::from_parts(alloc, pages, board, harts))
+    Ok(World::from_parts(pages, board, harts, ports, devices))
 }

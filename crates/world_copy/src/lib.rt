@@ -4,6 +4,7 @@
 //! have. `world_of` makes of a copy and the pages of its memory the world of the guest that goes on from them.
 #![tactic(auto)]
 
+mod attached;
 mod configuring;
 mod copying;
 mod going_on;

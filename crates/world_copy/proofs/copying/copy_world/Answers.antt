@@ -13,9 +13,10 @@ returns-in-Err-clause-unsavable c = λ is.
 
 pub returns-then-is_valid-clause-copied : goal.returns-then-is_valid-clause-copied
 returns-then-is_valid-clause-copied c = λ g is.
-    copied c.args.config.now c.args.world.now g c.in-Ok-copy_with.copy c.in-Ok-copy_with.ensures is
+    copied c.args.config.now c.args.world.now g c.in-Ok-copy_with.copy c.in-Ok-copy_with.ensures.copied
+    c.in-Ok-copy_with.ensures.known is
 
 pub returns-else-is_valid-clause-unsavable : goal.returns-else-is_valid-clause-unsavable
 returns-else-is_valid-clause-unsavable c = λ is.
-    unsavable c.args.config.now c.args.world.now c.in-Ok-copy_with.copy c.in-Ok-copy_with.ensures
+    unsavable c.args.config.now c.args.world.now c.in-Ok-copy_with.copy c.in-Ok-copy_with.ensures.copied c.in-Ok-copy_with.ensures.known
     (sym c.is_valid.ensures ∙ c.if-is_valid.false)

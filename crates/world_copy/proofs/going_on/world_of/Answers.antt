@@ -1,5 +1,6 @@
-use Rattle.std.proofs.Common.{sym, subst, ap, ◌∙◌, ℕ, List, length, arith}
+use Rattle.std.proofs.Common.{◌≡◌, ◌*◌, sym, subst, ap, ◌∙◌, ℕ, List, length, arith}
 use Rattle.std.specs.List.{list_all}
+use Rattle.guest_memory.specs.Ram.{page_size}
 use Rattle.guest_pages.specs.Pages.{flat_of}
 use Rattle.snap_state.specs.declared.copy.Reservation.{Reservation}
 use Rattle.snap_state.specs.declared.hart.SavedHart.{SavedHart}
@@ -7,40 +8,51 @@ use Rattle.snap_state.specs.Valid.{is_hart, is_reserved}
 use Rattle.flat_snapshot.specs.Carried.{carried_guest, slots_with}
 use Rattle.vm_world.specs.Worlds.{IsWorld, WorldValue}
 use Rattle.world_copy.specs.GoingOn.{GoOn}
-use Rattle.world_copy.proofs.Parts.{few_harts, few_pages, parts_of}
+use Rattle.snap_state.proofs.Rules.{attached, few_harts, few_pages, rules_of}
 use Rattle.world_copy.proofs.GoingOn.{goes_on}
 use Rattle.world_copy.proofs.going_on.world_of.Goals as goal
 
 pub board_of-requires-clause-valid : goal.board_of-requires-clause-valid
-board_of-requires-clause-valid c = (parts_of c.args.copy.now c.requires.valid).board
+board_of-requires-clause-valid c = (rules_of c.args.copy.now c.requires.valid).board
 
 pub board_of-requires-clause-few : goal.board_of-requires-clause-few
-board_of-requires-clause-few c = few_harts c.args.copy.now c.requires.valid
+board_of-requires-clause-few c = few_harts c.args.copy.now (rules_of c.args.copy.now c.requires.valid)
 
 pub harts_of-requires : goal.harts_of-requires
 harts_of-requires c =
     ap (λ (l : List SavedHart). list_all (is_hart c.args.copy.now.pages) l) c.as_slice.ensures
-    ∙ (parts_of c.args.copy.now c.requires.valid).harts
+    ∙ (rules_of c.args.copy.now c.requires.valid).harts
 
 pub reserve-requires-clause-few : goal.reserve-requires-clause-few
-reserve-requires-clause-few c = few_harts c.args.copy.now c.requires.valid
+reserve-requires-clause-few c = few_harts c.args.copy.now (rules_of c.args.copy.now c.requires.valid)
 
 pub reserve-requires-clause-there : goal.reserve-requires-clause-there
 reserve-requires-clause-there c =
     let copy = c.args.copy.now in
     let harts = copy.configuration.machine.vcpu_count in
-    ap (λ (l : List Reservation). list_all (is_reserved (length c.args.pages) harts) l) c.as_slice-2.ensures
+    ap (λ (l : List Reservation). list_all (is_reserved (length c.args.pages) harts) l) c.as_slice-4.ensures
     ∙ ap (λ (n : ℕ). list_all (is_reserved n harts) copy.reservations) c.requires.count
-    ∙ (parts_of copy c.requires.valid).reservations
+    ∙ (rules_of copy c.requires.valid).reservations
 
-pub from_parts-requires : goal.from_parts-requires
-from_parts-requires c = omega (arith, c.reserve.ensures.count, c.requires.count, few_pages c.args.copy.now c.requires.valid)
+pub from_parts-requires-clause-few : goal.from_parts-requires-clause-few
+from_parts-requires-clause-few c =
+    omega (arith, c.reserve.ensures.count, c.requires.count, few_pages c.args.copy.now (rules_of c.args.copy.now c.requires.valid))
+
+pub from_parts-requires-clause-few_ports : goal.from_parts-requires-clause-few_ports
+from_parts-requires-clause-few_ports c =
+    let on = attached c.args.copy.now (rules_of c.args.copy.now c.requires.valid) in
+    omega (arith, ap length c.in_ok-ports.ensures, ap length c.as_slice-2.ensures, on.ports, on.few)
 
 pub returns : goal.returns
 returns c =
     let copy = c.args.copy.now in
+    let whole : length (flat_of c.args.pages).bytes ≡ page_size * copy.pages =
+    c.len-size.ensures.bytes ∙ ap (λ (n : ℕ). page_size * n) (c.len-size.ensures.pages ∙ c.requires.count) in
     subst (λ (w : WorldValue). IsWorld w (carried_guest copy (flat_of c.args.pages).bytes)) (sym c.from_parts.ensures)
-    (goes_on copy c.args.pages c.reserve.new.pages c.in_ok-board.board c.in_ok-harts.harts.items c.reserve.ensures.bytes
-    (c.reserve.ensures.reserved ∙ ap (λ (l : List Reservation). slots_with l (flat_of c.args.pages).reserved) c.as_slice-2.ensures)
+    (goes_on copy c.args.pages c.reserve.new.pages c.in_ok-board.board c.in_ok-ports.ports.items c.in_ok-harts.harts.items
+    c.in_ok-devices.devices.items c.requires.valid whole c.reserve.ensures.bytes
+    (c.reserve.ensures.reserved ∙ ap (λ (l : List Reservation). slots_with l (flat_of c.args.pages).reserved) c.as_slice-4.ensures)
     c.requires.free c.reserve.ensures.marks c.requires.unmarked c.in_ok-board.ensures
-    (subst (λ (l : List SavedHart). GoOn l c.in_ok-harts.harts.items) c.as_slice.ensures c.in_ok-harts.ensures))
+    (c.in_ok-ports.ensures ∙ c.as_slice-2.ensures)
+    (subst (λ (l : List SavedHart). GoOn l c.in_ok-harts.harts.items) c.as_slice.ensures c.in_ok-harts.ensures)
+    (c.in_ok-devices.ensures ∙ c.as_slice-3.ensures))

@@ -1,0 +1,110 @@
+-- What is known of a copy that there is.
+use Rattle.std.proofs.Common.{◌≡◌, ◌≤◌, ℕ, ◌*◌, true, not, if◌then◌else◌, length, refl, arith}
+use Rattle.std.specs.Prelude.{◌==◌, count_by, nat_le}
+use Rattle.std.specs.List.{list_all}
+use Rattle.std.proofs.lemmas.Bool.{and_parts, eqb-true, leb-true}
+use Rattle.api_calls.specs.Drives.{is_root}
+use Rattle.port_table.specs.Window.{most_ports}
+use Rattle.guest_memory.specs.Reserved.{hart_limit}
+use Rattle.guest_devices.specs.declared.device.Device.{Device}
+use Rattle.guest_devices.specs.Kept.{device_pages, device_port, is_kept}
+use Rattle.snap_state.specs.declared.copy.StateCopy.{StateCopy}
+use Rattle.snap_state.specs.Valid.{are_devices, are_drives, are_told_apart, has_devices, has_machine, is_block_port, is_board, is_device, is_drive, is_hart, is_machine, is_reserved, is_rising, is_source, is_valid}
+
+pub record Rules (c : StateCopy) : Type 0 where
+  pub source : is_source c.configuration.boot_source ≡ true
+  pub drives : are_drives c.configuration.drives ≡ true
+  pub machine : has_machine c c.configuration.machine ≡ true
+  pub board : is_board c.configuration.machine.vcpu_count c.board ≡ true
+  pub many : (length c.harts == c.configuration.machine.vcpu_count) ≡ true
+  pub harts : list_all (is_hart c.pages) c.harts ≡ true
+  pub devices : has_devices c ≡ true
+  pub reservations : list_all (is_reserved c.pages c.configuration.machine.vcpu_count) c.reservations ≡ true
+  pub rising : is_rising c.reservations ≡ true
+
+pub rules_of : (c : StateCopy) → is_valid c ≡ true → Rules c
+unfolding is_valid
+rules_of c valid =
+    let m = c.configuration.machine in
+    let p8 = and_parts _ (is_rising c.reservations) valid in
+    let p7 = and_parts _ (list_all (is_reserved c.pages m.vcpu_count) c.reservations) p8.0 in
+    let p6 = and_parts _ (has_devices c) p7.0 in
+    let p5 = and_parts _ (list_all (is_hart c.pages) c.harts) p6.0 in
+    let p4 = and_parts _ (length c.harts == m.vcpu_count) p5.0 in
+    let p3 = and_parts _ (is_board m.vcpu_count c.board) p4.0 in
+    let p2 = and_parts _ (has_machine c m) p3.0 in
+    let p1 = and_parts (is_source c.configuration.boot_source) (are_drives c.configuration.drives) p2.0 in
+    record {
+      source = p1.0;
+      drives = p1.1;
+      machine = p2.1;
+      board = p3.1;
+      many = p4.1;
+      harts = p5.1;
+      devices = p6.1;
+      reservations = p7.1;
+      rising = p8.1;
+    }
+
+-- and they are all
+pub rules_hold : (c : StateCopy) → Rules c → is_valid c ≡ true
+unfolding is_valid
+rules_hold c r =
+    rw (r.source, r.drives, r.machine, r.board, r.many, r.harts, r.devices, r.reservations, r.rising) refl
+
+-- ---- the machine: at most 32 harts, and 262,144 pages
+
+pub few_harts : (c : StateCopy) → Rules c → c.configuration.machine.vcpu_count ≤ hart_limit
+few_harts c r =
+    let m = c.configuration.machine in
+    let fits = and_parts _ (if c.track_dirty_pages then m.track_dirty_pages else not m.track_dirty_pages) r.machine in
+    let sized = and_parts (is_machine m) (c.pages == 256 * m.mem_size_mib) fits.0 in
+    let large = and_parts _ (nat_le m.mem_size_mib 1024) sized.0 in
+    let some = and_parts _ (nat_le 4 m.mem_size_mib) large.0 in
+    leb-true _ _ (and_parts (nat_le 1 m.vcpu_count) (nat_le m.vcpu_count hart_limit) some.0).1
+
+pub few_pages : (c : StateCopy) → Rules c → c.pages ≤ 262144
+few_pages c r =
+    let m = c.configuration.machine in
+    let fits = and_parts _ (if c.track_dirty_pages then m.track_dirty_pages else not m.track_dirty_pages) r.machine in
+    let sized = and_parts (is_machine m) (c.pages == 256 * m.mem_size_mib) fits.0 in
+    let large = and_parts _ (nat_le m.mem_size_mib 1024) sized.0 in
+    omega (arith, leb-true m.mem_size_mib 1024 large.1, eqb-true c.pages (256 * m.mem_size_mib) sized.1)
+
+-- ---- ports and devices
+
+pub record Attached (c : StateCopy) : Type 0 where
+  pub ports : length c.ports ≡ length c.configuration.drives
+  pub devices : length c.devices ≡ length c.configuration.drives
+  pub few : length c.configuration.drives ≤ most_ports
+  pub blocks : list_all is_block_port c.ports ≡ true
+  pub each : are_devices c.pages 0 c.devices ≡ true
+
+pub attached : (c : StateCopy) → Rules c → Attached c
+attached c r =
+    let drives = c.configuration.drives in
+    let p2 = and_parts _ (are_devices c.pages 0 c.devices) r.devices in
+    let p1 = and_parts _ (list_all is_block_port c.ports) p2.0 in
+    let p0 = and_parts (length c.ports == length drives) (length c.devices == length drives) p1.0 in
+    let d2 = and_parts _ (nat_le (count_by is_root drives) 1) r.drives in
+    let d1 = and_parts _ (are_told_apart drives) d2.0 in
+    let d0 = and_parts (nat_le (length drives) most_ports) (list_all is_drive drives) d1.0 in
+    record {
+      ports = eqb-true _ _ p0.0;
+      devices = eqb-true _ _ p0.1;
+      few = leb-true _ _ d0.0;
+      blocks = p1.1;
+      each = p2.1;
+    }
+
+-- a device of these
+pub record IsAttached (pages port : ℕ) (d : Device) : Type 0 where
+  pub there : device_port d ≡ port
+  pub sized : device_pages d ≡ pages
+  pub kept : is_kept d ≡ true
+
+pub device_of : (pages port : ℕ) (d : Device) → is_device pages port d ≡ true → IsAttached pages port d
+device_of pages port d is =
+    let p1 = and_parts _ (is_kept d) is in
+    let p0 = and_parts (device_port d == port) (device_pages d == pages) p1.0 in
+    record { there = eqb-true _ _ p0.0; sized = eqb-true _ _ p0.1; kept = p1.1 }

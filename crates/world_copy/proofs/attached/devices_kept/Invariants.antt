@@ -1,0 +1,10 @@
+use Rattle.std.proofs.Common.{◌≡◌, true, take}
+use Rattle.std.specs.List.{list_all}
+use Rattle.guest_devices.specs.Kept.{is_kept}
+use Rattle.world_copy.proofs.attached.devices_kept.Given as goal
+
+abbrev pub invariant-loop-device : goal.invariant-loop-device
+invariant-loop-device l = record {
+  kept : l.kept ≡ take l.device-index l.devices;
+  known : list_all is_kept l.kept ≡ true;
+}
