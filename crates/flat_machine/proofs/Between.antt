@@ -1,33 +1,40 @@
 -- A machine that has started keeps its guest, and between two creates a page that isn't written is as it was.
-use Rattle.std.proofs.Common.{◌≡◌, ℕ, ◌+◌, ◌≤◌, Bool, true, false, cond, MatchBool, refl, sym, ap, subst, ◌∙◌, List, [], ◌∷◌, Option, Some, None, Result, Ok, Err, ◌⊎◌, inl, inr, length, arith}
+use Rattle.std.proofs.Common.{◌≡◌, ℕ, ◌+◌, ◌≤◌, Bool, true, false, MatchBool, refl, sym, ap, subst, ◌∙◌, List, [], ◌∷◌, Option, Some, None, Result, Ok, Err, ◌⊎◌, inl, inr, length, slice_get, arith}
 use Rattle.vm_types.specs.declared.ids.ActorId.{ActorId}
+use Rattle.vm_types.specs.declared.entry.Entry.{Entry}
+use Rattle.vm_types.specs.declared.entry.Event.{Event}
 use Rattle.vm_types.specs.declared.reply.Reply.{Reply}
 use Rattle.refusals.specs.declared.refusal.Refusal.{Refusal}
+use Rattle.std.specs.FinMap.{get}
+use Rattle.vm_types.specs.Saved.{Saved}
 use Rattle.guest_memory.specs.Ram.{is_ram}
 use Rattle.hart_trace.specs.Asks.{is_host_op}
 use Rattle.http_stream.specs.Stream.{Connection}
 use Rattle.http_stream.specs.declared.request.Next.{Next}
-use Rattle.http_stream.specs.declared.request.Next.TheVariants as next
 use Rattle.http_stream.specs.Conversation.{Conversation, arrived}
 use Rattle.http_stream.specs.Sent.{sent}
-use Rattle.api_calls.specs.Call.{call_of, ◌>>=◌}
 use Rattle.api_calls.specs.declared.call.ApiCall.{ApiCall}
 use Rattle.api_calls.specs.declared.call.ApiCall.TheVariants as call
 use Rattle.api_calls.specs.declared.call.SnapshotCreate.{SnapshotCreate}
 use Rattle.api_calls.specs.declared.call.VmState.TheVariants.{Paused, Resumed}
 use Rattle.vm_config.specs.declared.config.Config.{Config}
 use Rattle.vm_config.specs.declared.config.Phase.{Phase}
+use Rattle.vm_config.specs.declared.config.Phase.TheVariants as phase
 use Rattle.vm_config.specs.declared.change.Change.{Change}
 use Rattle.vm_config.specs.declared.change.Change.TheVariants as change
-use Rattle.api_rules.specs.declared.ids.Ids.{Ids}
-use Rattle.api_rules.specs.Table.{decision, has_started, own_refusal, unless}
+use Rattle.vm_config.specs.Drives.{device_of}
+use Rattle.api_rules.specs.declared.deciding.When.TheVariants.{BeforeBoot}
+use Rattle.api_rules.specs.Table.{change_of, has_started, misplaced, when_allowed}
 use Rattle.script_text.specs.declared.item.Item.{Item}
 use Rattle.script_text.specs.declared.item.Item.TheVariants as item
 use Rattle.serde_json.specs.Data.{Data}
 use Rattle.metadata_store.specs.Store.{patched, put}
+use Rattle.guest_devices.specs.declared.device.Device.{Device}
+use Rattle.flat_guest.specs.Changes.{resized}
 use Rattle.flat_guest.specs.Guest.{Guest, is_actor, unwritten}
 use Rattle.flat_guest.specs.Start.{timer_restarted}
-use Rattle.flat_guest.specs.Steps.{is_given}
+use Rattle.flat_guest.specs.Steps.{FlatStep, Makes, is_given}
+use Rattle.flat_guest.proofs.Devices.{devices_many, told_many}
 use Rattle.flat_snapshot.specs.Unwritten.{KeepsUnwritten}
 use Rattle.flat_snapshot.proofs.Unwritten.{keeps_joined, keeps_same, one_keeps, several_keep}
 use Rattle.flat_machine.specs.Between.{GoesOn, NoCreate, SomeCreate}
@@ -37,8 +44,24 @@ use Rattle.flat_machine.specs.Outcome.Outcome.{Answered, Failed, NoMemory}
 use Rattle.flat_machine.specs.Machine.{Machine, drained, drained_guest, phase_by, phase_of, running_by}
 use Rattle.flat_machine.specs.Items.{ItemStep, MemoryLine, RegisterLine, RepliesLine, StepsLine, Talks}
 use Rattle.response_form.specs.Responses.{Response}
-use Rattle.flat_machine.specs.Requests.{CreateFails, Creates, Fails, Leaves, LeavesBy, RequestStep, Stores, allowed, by_contents, configured, decided, halted, next_identity}
+use Rattle.flat_machine.specs.Requests.{CreateFails, Creates, Fails, Leaves, LeavesBy, RequestStep, Stores, allowed, configured, halted, next_identity, patched_drive, retold, sectors_of}
 use Rattle.flat_machine.specs.Run.{Act, Run}
+use Rattle.flat_machine.proofs.Allowed.{IsAllowed, allowed_is}
+
+-- ---- as many devices
+
+one_many : (g h : Guest) (event : Event) (e : Entry) → FlatStep g event e h → length h.devices ≡ length g.devices
+one_many g h event e step =
+    ap (λ (q : Guest). length q.devices) step.after ∙ devices_many e.actor g.devices (record { op = e.op; reply = e.reply })
+
+several_many : (g h : Guest) (actor : ActorId) (es : List Entry) → Makes g actor es h → length h.devices ≡ length g.devices
+several_many g h actor [] is = ap (λ (q : Guest). length q.devices) (sym is)
+several_many g h actor (e ∷ es) (unstamped, mid, step, more) =
+    several_many mid h actor es more ∙ one_many g mid (record { actor = actor; reply = None }) e step
+
+-- its memory keeps what is unwritten, and it has as many devices
+abbrev Keeps : Guest → Guest → Type 0
+Keeps g h = KeepsUnwritten g h × (length h.devices ≡ length g.devices)
 
 -- ---- one after another
 
@@ -55,6 +78,7 @@ joined : (m n k : Machine) (g : Guest) (first : GoesOn g m n) → GoesOn first.g
 joined m n k g first second = record {
   guest = second.guest;
   there = second.there;
+  devices = second.devices ∙ first.devices;
   numbers = (let early = first.numbers in let late = second.numbers in omega (arith, early, late));
   since = since_joined m n k g first.guest second.guest first.numbers first.since second.since;
 }
@@ -62,17 +86,18 @@ joined m n k g first second = record {
 moved : (g : Guest) (m n q : Machine) → n ≡ q → GoesOn g m q → GoesOn g m n
 moved g m n q is on = subst (λ (k : Machine). GoesOn g m k) (sym is) on
 
-by_events : (g h : Guest) (m n : Machine) → n.guest ≡ Some h → n.ids.next ≡ m.ids.next → n.ids.base ≡ m.ids.base → KeepsUnwritten g h → GoesOn g m n
+by_events : (g h : Guest) (m n : Machine) → n.guest ≡ Some h → n.ids.next ≡ m.ids.next → n.ids.base ≡ m.ids.base → Keeps g h → GoesOn g m n
 by_events g h m n there numbers base keeps = record {
   guest = h;
   there = there;
+  devices = keeps.1;
   numbers = omega (arith, numbers);
-  since = inl (record { base = base; keeps = keeps });
+  since = inl (record { base = base; keeps = keeps.0 });
 }
 
 -- the guest and what is known of snapshots are as they were
 stays : (g : Guest) (m n : Machine) → m.guest ≡ Some g → n.guest ≡ m.guest → n.ids.next ≡ m.ids.next → n.ids.base ≡ m.ids.base → GoesOn g m n
-stays g m n there guest numbers base = by_events g g m n (guest ∙ there) numbers base (keeps_same g g refl)
+stays g m n there guest numbers base = by_events g g m n (guest ∙ there) numbers base (keeps_same g g refl, refl)
 
 same : (g : Guest) (m n : Machine) → m.guest ≡ Some g → n ≡ m → GoesOn g m n
 same g m n there is = moved g m n m is (stays g m m there refl refl refl)
@@ -84,70 +109,30 @@ IsLater change.Start = ⊥
 IsLater (change.LoadSnapshot load) = ⊥
 IsLater it = Unit {0}
 
-passes : (why : Option Refusal) (first it : Change) → unless why (Ok first) ≡ Ok it → first ≡ it
-passes None first it is = cc
-passes (Some why) first it is = cc
+too_late : {A : Type 0} (p : Phase) → has_started p ≡ true → misplaced BeforeBoot p ≡ None → A
+too_late phase.NotStarted started placed = absurd cc
+too_late phase.Running started placed = absurd cc
+too_late phase.Paused started placed = absurd cc
 
-before_boot : (started : Bool) (why : Refusal) (due : Result Change Refusal) (it : Change) → started ≡ true
-    → unless (cond started (Some why) None) due ≡ Ok it → ⊥
-before_boot true why due it known is = cc
-before_boot false why due it known is = cc
+-- one that comes at its time
+at_its_time : (p : Phase) (config : Config) (c : ApiCall) → has_started p ≡ true → misplaced (when_allowed c) p ≡ None
+    → IsLater (change_of config c)
+at_its_time p config (call.PutBootSource source) started placed = too_late p started placed
+at_its_time p config (call.PutDrive drive) started placed = too_late p started placed
+at_its_time p config (call.PatchDrive patch) started placed = tt
+at_its_time p config (call.PutMachineConfig machine) started placed = too_late p started placed
+at_its_time p config (call.PatchMachineConfig patch) started placed = too_late p started placed
+at_its_time p config (call.PutMetadata body) started placed = tt
+at_its_time p config (call.PatchMetadata patch) started placed = tt
+at_its_time p config call.InstanceStart started placed = too_late p started placed
+at_its_time p config (call.PatchVm state) started placed = tt
+at_its_time p config (call.CreateSnapshot it) started placed = tt
+at_its_time p config (call.LoadSnapshot load) started placed = too_late p started placed
+at_its_time p config (call.Get part) started placed = tt
 
-after_boot : (started : Bool) (why : Refusal) (due : Result Change Refusal) (it : Change) → unless (cond started None (Some why)) due ≡ Ok it → due ≡ Ok it
-after_boot true why due it is = is
-after_boot false why due it is = cc
-
-decision_later : (p : Phase) (config : Config) (ids : Ids) (c : ApiCall) (it : Change) → has_started p ≡ true → decision p config ids c ≡ Ok it → IsLater it
-decision_later p config ids (call.PutBootSource source) it started is = absurd (before_boot (has_started p) _ _ it started is)
-decision_later p config ids (call.PutMachineConfig machine) it started is = absurd (before_boot (has_started p) _ _ it started is)
-decision_later p config ids (call.PatchMachineConfig patch) it started is = absurd (before_boot (has_started p) _ _ it started is)
-decision_later p config ids call.InstanceStart it started is = absurd (before_boot (has_started p) _ _ it started is)
-decision_later p config ids (call.LoadSnapshot load) it started is = absurd (before_boot (has_started p) _ _ it started is)
-decision_later p config ids (call.PatchVm state) it started is =
-    subst IsLater (passes (own_refusal p config ids (call.PatchVm state)) (change.State state) it (after_boot (has_started p) _ _ it is)) tt
-decision_later p config ids (call.CreateSnapshot create) it started is =
-    subst IsLater (passes (own_refusal p config ids (call.CreateSnapshot create)) (change.CreateSnapshot create) it (after_boot (has_started p) _ _ it is)) tt
-decision_later p config ids (call.PutMetadata body) it started is =
-    subst IsLater (passes (own_refusal p config ids (call.PutMetadata body)) (change.PutMetadata body) it is) tt
-decision_later p config ids (call.PatchMetadata patch) it started is =
-    subst IsLater (passes (own_refusal p config ids (call.PatchMetadata patch)) (change.PatchMetadata patch) it is) tt
-decision_later p config ids (call.Get part) it started is =
-    subst IsLater (passes (own_refusal p config ids (call.Get part)) (change.Tell part) it is) tt
-
-call_later : (m : Machine) (asked : Result ApiCall Refusal) (it : Change) → has_started (phase_of m) ≡ true
-    → (asked >>= λ c. decision (phase_of m) m.config m.ids c) ≡ Ok it → IsLater it
-call_later m (Ok c) it started is = decision_later (phase_of m) m.config m.ids c it started is
-call_later m (Err why) it started is = absurd cc
-
-decided_later : (m : Machine) (given : Next) (it : Change) → has_started (phase_of m) ≡ true → decided m given ≡ Ok it → IsLater it
-decided_later m (next.Request request) it started is = call_later m (call_of request) it started is
-decided_later m (next.Bad why) it started is = absurd cc
-decided_later m next.None it started is = absurd cc
-
-same_change : (a b : Change) → ◌≡◌ {A = Result Change Refusal} (Ok a) (Ok b) → a ≡ b
-same_change a b is = cc
-
--- what is stored is no start and no load
-stored_later : (kept : Result Data Refusal) (first it : Change) → IsLater first → (kept >>= λ _. Ok first) ≡ Ok it → IsLater it
-stored_later (Ok kept) first it later is = subst IsLater (same_change first it is) later
-stored_later (Err why) first it later is = absurd cc
-
-contents_later : (m : Machine) (first it : Change) → IsLater first → by_contents m first ≡ Ok it → IsLater it
-contents_later m change.Start it later is = absurd later
-contents_later m (change.LoadSnapshot load) it later is = absurd later
-contents_later m (change.BootSource source) it later is = subst IsLater (same_change (change.BootSource source) it is) tt
-contents_later m (change.MachineConfig machine) it later is = subst IsLater (same_change (change.MachineConfig machine) it is) tt
-contents_later m (change.State state) it later is = subst IsLater (same_change (change.State state) it is) tt
-contents_later m (change.CreateSnapshot create) it later is = subst IsLater (same_change (change.CreateSnapshot create) it is) tt
-contents_later m (change.PutMetadata body) it later is = stored_later (put body) (change.PutMetadata body) it tt is
-contents_later m (change.PatchMetadata patch) it later is =
-    stored_later (patched m.metadata patch) (change.PatchMetadata patch) it tt is
-contents_later m (change.Tell part) it later is = subst IsLater (same_change (change.Tell part) it is) tt
-
-by_decided : (m : Machine) (given : Next) (asked : Result Change Refusal) (it : Change) → has_started (phase_of m) ≡ true → decided m given ≡ asked
-    → (asked >>= λ first. by_contents m first) ≡ Ok it → IsLater it
-by_decided m given (Ok first) it started asks is = contents_later m first it (decided_later m given first started asks) is
-by_decided m given (Err why) it started asks is = absurd cc
+allowed_later : (m : Machine) (it : Change) → has_started (phase_of m) ≡ true → IsAllowed m it → IsLater it
+allowed_later m it started known =
+    subst IsLater known.change_is (at_its_time (phase_of m) m.config known.asked started known.placed)
 
 started_by : (g : Guest) (paused : Bool) → has_started (phase_by (Some g) paused) ≡ true
 started_by g true = refl
@@ -161,30 +146,46 @@ started g m there = ap (λ (guest : Option Guest). has_started (phase_by guest m
 same_guest : (g h : Guest) → ◌≡◌ {A = Option Guest} (Some g) (Some h) → g ≡ h
 same_guest g h is = cc
 
-halted_keeps : (g : Guest) (paused : Bool) (guest : Option Guest) → guest ≡ Some g → (h : Guest) × (halted paused guest ≡ Some h) × KeepsUnwritten g h
-halted_keeps g true guest is = (g, is, keeps_same g g refl)
+halted_keeps : (g : Guest) (paused : Bool) (guest : Option Guest) → guest ≡ Some g → (h : Guest) × (halted paused guest ≡ Some h) × Keeps g h
+halted_keeps g true guest is = (g, is, (keeps_same g g refl, refl))
 halted_keeps g false None is = absurd cc
 halted_keeps g false (Some q) is = (
   timer_restarted q,
   refl,
-  subst (λ (x : Guest). KeepsUnwritten x (timer_restarted q)) (same_guest q g is)
-      (record { size = refl; unwritten = λ i none. none; pages = λ i none. refl }),
+  subst (λ (x : Guest). Keeps x (timer_restarted q)) (same_guest q g is)
+      (record { size = refl; unwritten = λ i none. none; pages = λ i none. refl }, refl),
 )
 
-drained_keeps : (g : Guest) (guest : Option Guest) → guest ≡ Some g → (h : Guest) × (drained_guest guest ≡ Some h) × KeepsUnwritten g h
+drained_keeps : (g : Guest) (guest : Option Guest) → guest ≡ Some g → (h : Guest) × (drained_guest guest ≡ Some h) × Keeps g h
 drained_keeps g None is = absurd cc
 drained_keeps g (Some q) is = (
   record q { board = record q.board { console = [] } },
   refl,
-  subst (λ (x : Guest). KeepsUnwritten x (record q { board = record q.board { console = [] } })) (same_guest q g is)
-      (record { size = refl; unwritten = λ i none. none; pages = λ i none. refl }),
+  subst (λ (x : Guest). Keeps x (record q { board = record q.board { console = [] } })) (same_guest q g is)
+      (record { size = refl; unwritten = λ i none. none; pages = λ i none. refl }, refl),
 )
 
-create_on : (g : Guest) (guest : Option Guest) (m : Machine) (it : SnapshotCreate) (n : Machine) → guest ≡ Some g → Creates guest m it n → GoesOn g m n
-create_on g None m it n there x = absurd cc
-create_on g (Some q) m it n there (copy, of, is) = record {
+retold_keeps : (g : Guest) (path : Option (List ℕ)) (number : Option ℕ) (saved : Saved) (guest : Option Guest) → guest ≡ Some g
+    → (h : Guest) × (retold path number saved guest ≡ Some h) × Keeps g h
+retold_keeps g (Some path) (Some k) saved (Some q) is = (
+  resized k (sectors_of (get saved path)) q,
+  refl,
+  subst (λ (x : Guest). Keeps x (resized k (sectors_of (get saved path)) q)) (same_guest q g is) (
+    record { size = refl; unwritten = λ i none. none; pages = λ i none. refl },
+    told_many (slice_get q.devices k) q.devices k (sectors_of (get saved path)),
+  ),
+)
+retold_keeps g (Some path) (Some k) saved None is = absurd cc
+retold_keeps g (Some path) None saved guest is = (g, is, (keeps_same g g refl, refl))
+retold_keeps g None number saved guest is = (g, is, (keeps_same g g refl, refl))
+
+create_on : (g : Guest) (guest : Option Guest) (m : Machine) (it : SnapshotCreate) (kept : List Device) (n : Machine) → guest ≡ Some g
+    → Creates guest m it kept n → GoesOn g m n
+create_on g None m it kept n there x = absurd cc
+create_on g (Some q) m it kept n there (copy, of, tells, is) = record {
   guest = unwritten q;
   there = ap (λ (k : Machine). k.guest) is;
+  devices = ap (λ (x : Guest). length x.devices) (same_guest q g there);
   numbers = (let number : n.ids.next ≡ m.ids.next + 1 = ap (λ (k : Machine). k.ids.next) is in omega (arith, number));
   since = inr (record { base = next_identity m; base_is = ap (λ (k : Machine). k.ids.base) is; new = omega arith });
 }
@@ -196,6 +197,12 @@ stores_on g (Err why) m n there is = same g m n there is
 leaves_on : (g : Guest) (it : Change) (m n : Machine) → m.guest ≡ Some g → IsLater it → Leaves m it n → GoesOn g m n
 leaves_on g (change.BootSource source) m n there later is =
     moved g m n (configured m (change.BootSource source)) is (stays g m (configured m (change.BootSource source)) there refl refl refl)
+leaves_on g (change.PutDrive drive) m n there later is =
+    moved g m n (configured m (change.PutDrive drive)) is (stays g m (configured m (change.PutDrive drive)) there refl refl refl)
+leaves_on g (change.PatchDrive patch) m n there later is =
+    let after : Machine = configured (patched_drive m patch) (change.PatchDrive patch) in
+    let h = retold_keeps g patch.path_on_host (device_of m.config.drives patch.drive_id) m.saved m.guest there in
+    moved g m n after is (by_events g h.0 m after h.1 refl refl h.2)
 leaves_on g (change.MachineConfig machine) m n there later is =
     moved g m n (configured m (change.MachineConfig machine)) is (stays g m (configured m (change.MachineConfig machine)) there refl refl refl)
 leaves_on g change.Start m n there later is = absurd later
@@ -204,7 +211,7 @@ leaves_on g (change.State Paused) m n there later is =
     moved g m n (record m { guest = halted m.paused m.guest; paused = true }) is
     (by_events g h.0 m (record m { guest = halted m.paused m.guest; paused = true }) h.1 refl refl h.2)
 leaves_on g (change.State Resumed) m n there later is = moved g m n (record m { paused = false }) is (stays g m (record m { paused = false }) there refl refl refl)
-leaves_on g (change.CreateSnapshot it) m n there later x = create_on g m.guest m it n there x
+leaves_on g (change.CreateSnapshot it) m n there later (kept, x) = create_on g m.guest m it kept n there x
 leaves_on g (change.LoadSnapshot load) m n there later x = absurd later
 leaves_on g (change.PutMetadata body) m n there later x = stores_on g (put body) m n there x
 leaves_on g (change.PatchMetadata patch) m n there later x = stores_on g (patched m.metadata patch) m n there x
@@ -216,12 +223,15 @@ create_fails_on g None m it left n there x = absurd x
 create_fails_on g (Some q) m it left n there (copy, of, others, calls, is) = record {
   guest = g;
   there = ap (λ (k : Machine). k.guest) is ∙ there;
+  devices = refl;
   numbers = (let number : n.ids.next ≡ m.ids.next + 1 = ap (λ (k : Machine). k.ids.next) is in omega (arith, number));
   since = inl (record { base = ap (λ (k : Machine). k.ids.base) is; keeps = keeps_same g g refl });
 }
 
 fails_on : (g : Guest) (it : Change) (m : Machine) (left : Left) (n : Machine) → m.guest ≡ Some g → Fails m it left n → GoesOn g m n
 fails_on g (change.BootSource source) m left n there x = absurd x
+fails_on g (change.PutDrive drive) m left n there x = absurd x
+fails_on g (change.PatchDrive patch) m left n there x = same g m n there x.3
 fails_on g (change.MachineConfig machine) m left n there x = absurd x
 fails_on g change.Start m left n there x = same g m n there x.1
 fails_on g (change.State state) m left n there x = absurd x
@@ -231,20 +241,25 @@ fails_on g (change.PutMetadata body) m left n there x = absurd x
 fails_on g (change.PatchMetadata patch) m left n there x = absurd x
 fails_on g (change.Tell part) m left n there x = absurd x
 
-result_on : (g : Guest) (m n : Machine) (given : Next) (result : Result Change Refusal) → m.guest ≡ Some g → allowed m given ≡ result → LeavesBy m result n
-    → GoesOn g m n
-result_on g m n given (Ok it) there is x =
-    leaves_on g it m n there (by_decided m given (decided m given) it (started g m there) refl is) x
-result_on g m n given (Err why) there is x = same g m n there x
+-- what it leaves, whatever it kept
+leaves_of : (it : Change) (m : Machine) (kept : List Device) (n : Machine) → LeavesBy m (Ok it) kept n → Leaves m it n
+leaves_of (change.CreateSnapshot it) m kept n x = (kept, x)
+leaves_of it m kept n x = x.1
 
-request_on : (g : Guest) (how : Outcome) (given : Next) (m : Machine) (t : List Response) (n : Machine) → m.guest ≡ Some g → RequestStep how given m t n → GoesOn g m n
-request_on g Answered given m t n there x = result_on g m n given (allowed m given) there refl x.1
+result_on : (g : Guest) (m n : Machine) (given : Next) (kept : List Device) (result : Result Change Refusal) → m.guest ≡ Some g → allowed m given ≡ result
+    → LeavesBy m result kept n → GoesOn g m n
+result_on g m n given kept (Ok it) there is x =
+    leaves_on g it m n there (allowed_later m it (started g m there) (allowed_is m given it is)) (leaves_of it m kept n x)
+result_on g m n given kept (Err why) there is x = same g m n there x.1
+
+pub request_on : (g : Guest) (how : Outcome) (given : Next) (m : Machine) (t : List Response) (n : Machine) → m.guest ≡ Some g → RequestStep how given m t n → GoesOn g m n
+request_on g (Answered kept) given m t n there x = result_on g m n given kept (allowed m given) there refl x.1
 request_on g (Failed left) given m t n there (it, asks, fails, is) = fails_on g it m left n there fails
 request_on g NoMemory given m t n there x = same g m n there x.1
 
 -- ---- lines
 
-conversation_on : (outcomes : List Outcome) (c d : Connection) (m n : Machine) (t : List Response) (g : Guest) → m.guest ≡ Some g
+pub conversation_on : (outcomes : List Outcome) (c d : Connection) (m n : Machine) (t : List Response) (g : Guest) → m.guest ≡ Some g
     → Conversation RequestStep outcomes c m t d n → GoesOn g m n
 conversation_on [] c d m n t g there (quiet, stays_so, none, is) = same g m n there is
 conversation_on (how ∷ outcomes) c d m n t g there (given, after, first, mid, rest, takes, step, more, text) =
@@ -262,17 +277,18 @@ by_either true some none x = some x
 by_either false some none x = none x
 
 -- the guest that runs is this one
-end_on : (g q h : Guest) (m n : Machine) → ◌≡◌ {A = Option Guest} (Some q) (Some g) → KeepsUnwritten q h → n ≡ record m { guest = Some h } → GoesOn g m n
+end_on : (g q h : Guest) (m n : Machine) → ◌≡◌ {A = Option Guest} (Some q) (Some g) → Keeps q h → n ≡ record m { guest = Some h } → GoesOn g m n
 end_on g q h m n own keeps is =
     moved g m n (record m { guest = Some h }) is
-    (by_events g h m (record m { guest = Some h }) refl refl refl (subst (λ (x : Guest). KeepsUnwritten x h) (same_guest q g own) keeps))
+    (by_events g h m (record m { guest = Some h }) refl refl refl (subst (λ (x : Guest). Keeps x h) (same_guest q g own) keeps))
 
 steps_on : (g : Guest) (guest : Option Guest) (paused : Bool) (actor : ActorId) (count : ℕ) (m n : Machine) (t : List ℕ) → guest ≡ Some g → m.guest ≡ Some g
     → StepsLine (running_by guest paused) actor count m t n → GoesOn g m n
 steps_on g guest true actor count m n t own there x = same g m n there x.1
 steps_on g None false actor count m n t own there x = same g m n there x.1
 steps_on g (Some q) false actor count m n t own there x =
-    by_either (is_actor q actor) (λ moves. end_on g q moves.end m n own (several_keep q moves.end actor count moves.entries moves.made) moves.leaves)
+    by_either (is_actor q actor) (λ moves. end_on g q moves.end m n own
+    (several_keep q moves.end actor count moves.entries moves.made, several_many q moves.end actor moves.entries moves.made.made) moves.leaves)
     (λ none. same g m n there none.1) x
 
 replies_on : (g : Guest) (guest : Option Guest) (paused : Bool) (actor : ActorId) (given : Option Reply) (m n : Machine) (t : List ℕ) → guest ≡ Some g
@@ -283,7 +299,11 @@ replies_on g (Some q) false actor given m n t own there x =
     by_either (is_actor q actor)
     (λ wants. by_either (is_host_op wants.0)
     (λ host. by_either (is_given wants.0 given)
-    (λ fit. end_on g q fit.end m n own (one_keeps q fit.end (record { actor = actor; reply = given }) fit.entry fit.step) fit.leaves)
+    (λ fit. end_on g q fit.end m n own (
+      one_keeps q fit.end (record { actor = actor; reply = given }) fit.entry fit.step,
+      one_many q fit.end (record { actor = actor; reply = given }) fit.entry fit.step,
+    )
+    fit.leaves)
     (λ unfit. same g m n there unfit.1) host)
     (λ none. same g m n there none.1) wants.2)
     (λ none. same g m n there none.1) x

@@ -1,5 +1,5 @@
 -- Requests, items and runs are determined.
-use Rattle.std.proofs.Common.{◌≡◌, Bool, true, false, MatchBool, refl, sym, ap, subst, ◌∙◌, List, [], ◌∷◌, ◌++◌, length, Option, Some, None, Result, Ok, Err, ℕ, slice_get, arith}
+use Rattle.std.proofs.Common.{◌≡◌, Bool, true, false, MatchBool, refl, sym, ap, subst, ◌∙◌, List, [], ◌∷◌, ◌++◌, length, Option, Some, None, Result, Ok, Err, ℕ, slice_get}
 use Rattle.vm_types.specs.declared.ids.ActorId.{ActorId}
 use Rattle.vm_types.specs.declared.ids.ActorId.TheVariants.{Hart as HartId}
 use Rattle.vm_types.specs.declared.entry.Step.{Step}
@@ -13,17 +13,18 @@ use Rattle.hart_trace.specs.Shown.{register_of}
 use Rattle.hart_trace.proofs.OneHart.{one_hart}
 use Rattle.http_stream.specs.Conversation.{IsDetermined, arrived}
 use Rattle.http_stream.specs.Sent.{sent}
-use Rattle.http_stream.proofs.ConversationLemmas.{as_many_due, one_conversation}
+use Rattle.http_stream.proofs.ConversationLemmas.{one_conversation}
 use Rattle.script_text.specs.declared.item.Item.{Item}
 use Rattle.script_text.specs.declared.item.Item.TheVariants as item
 use Rattle.script_text.specs.declared.output.Misfit.TheVariants as misfit
 use Rattle.script_text.specs.Output.{register_line}
 use Rattle.response_form.specs.Responses.{Response}
+use Rattle.guest_devices.specs.declared.device.Device.{Device}
 use Rattle.flat_guest.specs.Guest.{Guest, is_actor}
 use Rattle.flat_guest.specs.Steps.{is_given}
 use Rattle.flat_guest.proofs.Determined.{same_after, several_made, several_one, wants_one}
 use Rattle.flat_machine.specs.Given.{reply_given}
-use Rattle.flat_machine.specs.Outcome.{AreAnswered, Left, Outcome}
+use Rattle.flat_machine.specs.Outcome.{AreAnswered, Left, Outcome, kept_in}
 use Rattle.flat_machine.specs.Outcome.Outcome.{Answered, Failed, NoMemory}
 use Rattle.flat_machine.specs.Machine.{Machine, running}
 use Rattle.flat_machine.specs.Items.{Answers, ItemStep, MemoryLine, Misfits, Moves, RegisterLine, Replies, RepliesLine, ShowsFrom, StepsLine, TalkLines, Talks, response_lines, steps_text}
@@ -32,7 +33,7 @@ use Rattle.api_calls.specs.declared.call.SnapshotCreate.{SnapshotCreate}
 use Rattle.api_calls.specs.declared.call.SnapshotLoad.{SnapshotLoad}
 use Rattle.flat_snapshot.specs.Found.{Snapshot, found}
 use Rattle.flat_snapshot.proofs.Copied.{same_copy}
-use Rattle.flat_machine.specs.Requests.{CreateFails, Creates, Fails, Leaves, LeavesBy, Restores, RequestStep, Stores, allowed, created, parent_in}
+use Rattle.flat_machine.specs.Requests.{CreateFails, Creates, Fails, LeavesBy, Restores, RequestStep, Stores, allowed, created, parent_in}
 use Rattle.serde_json.specs.Data.{Data}
 use Rattle.metadata_store.specs.Store.{patched, put}
 use Rattle.vm_config.specs.declared.change.Change.{Change}
@@ -51,10 +52,12 @@ both x y = (x.0 ∙ sym y.0, x.1 ∙ sym y.1)
 
 -- ---- requests
 
-creates_one : (guest : Option Guest) (m : Machine) (it : SnapshotCreate) (n k : Machine) → Creates guest m it n → Creates guest m it k → n ≡ k
-creates_one None m it n k x y = x ∙ sym y
-creates_one (Some g) m it n k (copy, of, is) (other, same, be) =
-    is ∙ ap (λ (c : StateCopy). created m g it.files (parent_in m it) c) (same_copy m.config g copy other of same) ∙ sym be
+pub creates_one : (guest : Option Guest) (m : Machine) (it : SnapshotCreate) (kept : List Device) (n k : Machine)
+    → Creates guest m it kept n → Creates guest m it kept k → n ≡ k
+creates_one None m it kept n k x y = x.1 ∙ sym y.1
+creates_one (Some g) m it kept n k (copy, of, tells, is) (other, same, says, be) =
+    is ∙ ap (λ (c : StateCopy). created m g it.files (parent_in m it) c) (same_copy m.config g copy other (tells ∙ sym says) of same)
+    ∙ sym be
 
 loads_one : (it : Result Snapshot Refusal) (m : Machine) (load : SnapshotLoad) (n k : Machine) → Restores it m load n → Restores it m load k → n ≡ k
 loads_one (Ok it) m load n k x y = x ∙ sym y
@@ -69,27 +72,29 @@ create_fails_one : (guest : Option Guest) (m : Machine) (it : SnapshotCreate) (l
 create_fails_one None m it left n k x y = absurd x
 create_fails_one (Some g) m it left n k x y = x.4 ∙ sym y.4
 
-leaves_one : (it : Change) (m n k : Machine) → Leaves m it n → Leaves m it k → n ≡ k
-leaves_one (change.BootSource source) m n k x y = x ∙ sym y
-leaves_one (change.MachineConfig machine) m n k x y = x ∙ sym y
-leaves_one (change.PutMetadata body) m n k x y = stores_one (put body) m n k x y
-leaves_one (change.PatchMetadata patch) m n k x y = stores_one (patched m.metadata patch) m n k x y
-leaves_one change.Start m n k x y = x ∙ sym y
-leaves_one (change.State Paused) m n k x y = x ∙ sym y
-leaves_one (change.State Resumed) m n k x y = x ∙ sym y
-leaves_one (change.CreateSnapshot it) m n k x y = creates_one m.guest m it n k x y
-leaves_one (change.LoadSnapshot load) m n k x y = loads_one (found m.saved load.files) m load n k x y
-leaves_one (change.Tell part) m n k x y = x ∙ sym y
-
-result_one : (r : Result Change Refusal) (m n k : Machine) → LeavesBy m r n → LeavesBy m r k → n ≡ k
-result_one (Ok it) m n k x y = leaves_one it m n k x y
-result_one (Err why) m n k x y = x ∙ sym y
+result_one : (r : Result Change Refusal) (m : Machine) (kept : List Device) (n k : Machine) → LeavesBy m r kept n → LeavesBy m r kept k
+    → n ≡ k
+result_one (Ok (change.BootSource source)) m kept n k x y = x.1 ∙ sym y.1
+result_one (Ok (change.PutDrive drive)) m kept n k x y = x.1 ∙ sym y.1
+result_one (Ok (change.PatchDrive patch)) m kept n k x y = x.1 ∙ sym y.1
+result_one (Ok (change.MachineConfig machine)) m kept n k x y = x.1 ∙ sym y.1
+result_one (Ok (change.PutMetadata body)) m kept n k x y = stores_one (put body) m n k x.1 y.1
+result_one (Ok (change.PatchMetadata patch)) m kept n k x y = stores_one (patched m.metadata patch) m n k x.1 y.1
+result_one (Ok change.Start) m kept n k x y = x.1 ∙ sym y.1
+result_one (Ok (change.State Paused)) m kept n k x y = x.1 ∙ sym y.1
+result_one (Ok (change.State Resumed)) m kept n k x y = x.1 ∙ sym y.1
+result_one (Ok (change.CreateSnapshot it)) m kept n k x y = creates_one m.guest m it kept n k x y
+result_one (Ok (change.LoadSnapshot load)) m kept n k x y = loads_one (found m.saved load.files) m load n k x.1 y.1
+result_one (Ok (change.Tell part)) m kept n k x y = x.1 ∙ sym y.1
+result_one (Err why) m kept n k x y = x.1 ∙ sym y.1
 
 same_change : (a b : Change) → ◌≡◌ {A = Result Change Refusal} (Ok a) (Ok b) → a ≡ b
 same_change a b is = cc
 
 fails_one : (it : Change) (m : Machine) (left : Left) (n k : Machine) → Fails m it left n → Fails m it left k → n ≡ k
 fails_one (change.BootSource source) m left n k x y = absurd x
+fails_one (change.PutDrive drive) m left n k x y = absurd x
+fails_one (change.PatchDrive patch) m left n k x y = x.3 ∙ sym y.3
 fails_one (change.MachineConfig machine) m left n k x y = absurd x
 fails_one (change.PutMetadata body) m left n k x y = absurd x
 fails_one (change.PatchMetadata patch) m left n k x y = absurd x
@@ -100,7 +105,7 @@ fails_one (change.LoadSnapshot load) m left n k x y = x.1 ∙ sym y.1
 fails_one (change.Tell part) m left n k x y = absurd x
 
 request_one : IsDetermined RequestStep
-request_one Answered given m t u n k x y = (x.0 ∙ sym y.0, result_one (allowed m given) m n k x.1 y.1)
+request_one (Answered kept) given m t u n k x y = (x.0 ∙ sym y.0, result_one (allowed m given) m kept n k x.1 y.1)
 request_one (Failed left) given m t u n k (it, asks, fails, is) (other, asked, failed, be) =
     let same = same_change other it (sym asked ∙ asks) in
     (is ∙ sym be, fails_one it m left n k fails (subst (λ (c : Change). Fails m c left k) same failed))
@@ -118,24 +123,21 @@ lines_one bytes outcomes m n k t u (said, talk, is) (other, talks, be) =
     let same = talks_one bytes outcomes m n k said other talk talks in
     (is ∙ ap response_lines same.0 ∙ sym be, same.1)
 
--- requests that the machine answers went so, one each
-answered_as_long : (outcomes others : List Outcome) → AreAnswered outcomes → AreAnswered others
-    → length outcomes ≡ length others → outcomes ≡ others
-answered_as_long [] [] good fine long = refl
-answered_as_long [] (other ∷ others) good fine long = absurd (omega arith)
-answered_as_long (outcome ∷ outcomes) [] good fine long = absurd (omega arith)
-answered_as_long (Answered ∷ outcomes) (Answered ∷ others) good fine long =
-    ap (λ (l : List Outcome). Answered ∷ l) (answered_as_long outcomes others good fine (omega arith))
-answered_as_long (Failed left ∷ outcomes) (other ∷ others) good fine long = absurd good
-answered_as_long (NoMemory ∷ outcomes) (other ∷ others) good fine long = absurd good
-answered_as_long (Answered ∷ outcomes) (Failed left ∷ others) good fine long = absurd fine
-answered_as_long (Answered ∷ outcomes) (NoMemory ∷ others) good fine long = absurd fine
-
-talks_answered : (bytes : List ℕ) (outcomes others : List Outcome) (m n k : Machine) (t u : List Response)
-    → AreAnswered outcomes → AreAnswered others → Talks bytes outcomes m t n → Talks bytes others m u k → outcomes ≡ others
-talks_answered bytes outcomes others m n k t u good fine (d, mid, talk, leaves) (e, other, talks, left) =
-    answered_as_long outcomes others good fine
-    (as_many_due RequestStep outcomes others (arrived m.connection bytes) d e m m mid other t u talk talks)
+-- requests that the machine answers went alike where they kept the same
+pub answered_alike : (outcomes others : List Outcome) → AreAnswered outcomes → AreAnswered others → kept_in outcomes ≡ kept_in others
+    → outcomes ≡ others
+answered_alike [] [] good fine same = refl
+answered_alike [] (other ∷ others) good fine same = absurd cc
+answered_alike (outcome ∷ outcomes) [] good fine same = absurd cc
+answered_alike (Answered kept ∷ outcomes) (Answered other ∷ others) good fine same =
+    let first : kept ≡ other = cc in
+    let rest : kept_in outcomes ≡ kept_in others = cc in
+    let alike = answered_alike outcomes others good fine rest in
+    λ j. Answered (first j) ∷ alike j
+answered_alike (Failed left ∷ outcomes) (other ∷ others) good fine same = absurd good
+answered_alike (NoMemory ∷ outcomes) (other ∷ others) good fine same = absurd good
+answered_alike (Answered kept ∷ outcomes) (Failed left ∷ others) good fine same = absurd fine
+answered_alike (Answered kept ∷ outcomes) (NoMemory ∷ others) good fine same = absurd fine
 
 -- ---- events, and what is shown
 
@@ -229,19 +231,3 @@ run_text acts m n k t u x y = (run_one acts m n k t u x y).0
 
 pub run_after : (acts : List Act) (m n k : Machine) (t u : List ℕ) → Run acts m t n → Run acts m u k → n ≡ k
 run_after acts m n k t u x y = (run_one acts m n k t u x y).1
-
-pub item_answered : (it : Item) (outcomes others : List Outcome) (m n k : Machine) (t u : List ℕ) → AreAnswered outcomes
-    → AreAnswered others → ItemStep it outcomes m t n → ItemStep it others m u k → outcomes ≡ others
-item_answered (item.Bytes bytes) outcomes others m n k t u good fine x y =
-    talks_answered bytes outcomes others m n k x.0 y.0 good fine x.1 y.1
-item_answered (item.Api method path body) outcomes others m n k t u good fine x y =
-    talks_answered (sent method path body) outcomes others m n k x.0 y.0 good fine x.1 y.1
-item_answered item.Nothing outcomes others m n k t u good fine x y = x.0 ∙ sym y.0
-item_answered (item.File name content) outcomes others m n k t u good fine x y = x.0 ∙ sym y.0
-item_answered (item.Lineage lineage) outcomes others m n k t u good fine x y = x.0 ∙ sym y.0
-item_answered item.Connect outcomes others m n k t u good fine x y = x.0 ∙ sym y.0
-item_answered (item.Step actor count) outcomes others m n k t u good fine x y = x.0 ∙ sym y.0
-item_answered (item.Reply actor reply) outcomes others m n k t u good fine x y = x.0 ∙ sym y.0
-item_answered item.Console outcomes others m n k t u good fine x y = x.0 ∙ sym y.0
-item_answered (item.Register hart number) outcomes others m n k t u good fine x y = x.0 ∙ sym y.0
-item_answered (item.Memory at len) outcomes others m n k t u good fine x y = x.0 ∙ sym y.0

@@ -1,7 +1,12 @@
+pub mod Allowed
+pub mod Between
 pub mod Carries
 pub mod Determined
 pub mod OneReplay
+pub mod Plain
 pub mod Pushed
+pub mod Sizes
+pub mod SomeAnswer
 pub mod SomeReplay
+pub mod Taken
 pub mod WholeLines
-pub mod Between

@@ -6,8 +6,8 @@ use Rattle.flat_machine.specs.Outcome.{Outcome}
 use Rattle.flat_machine.specs.Machine.{Machine, is_off}
 use Rattle.flat_machine.specs.Items.{ItemStep}
 use Rattle.flat_machine.specs.Replay.{IsEnd, IsReplay, closed, closing, judged_script}
-use Rattle.flat_machine.specs.Run.{Act, AllAnswered, OnBefore, Run, lines_done}
-use Rattle.flat_machine.proofs.Determined.{item_answered, item_one, run_one}
+use Rattle.flat_machine.specs.Run.{Act, AllAnswered, OnBefore, Run, SameKept, lines_done}
+use Rattle.flat_machine.proofs.Determined.{answered_alike, item_one, run_one}
 
 -- where a run could go on, it hasn't ended
 goes_on : (exit : Exit) (item : Item) (more : List (Option Item)) (left : List (Option Item)) (number : ℕ) (m : Machine) → left ≡ Some item ∷ more → is_off m ≡ false → IsEnd exit left number m → ⊥
@@ -38,17 +38,18 @@ some_same i o same = cc
 act_one : (a b : Act) → a.item ≡ b.item → a.outcomes ≡ b.outcomes → a ≡ b
 act_one a b item outcomes = λ j. record { item = item j; outcomes = outcomes j }
 
-acts_one : (acts others : List Act) (judges : List (Option Item)) (m : Machine) (exit stop : Exit) (number count : ℕ) → Ended judges m acts exit number → Ended judges m others stop count → acts ≡ others
-acts_one [] [] judges m exit stop number count x y = refl
-acts_one [] (o ∷ others) judges m exit stop number count x y =
+acts_one : (acts others : List Act) (judges : List (Option Item)) (m : Machine) (exit stop : Exit) (number count : ℕ) → SameKept acts others
+    → Ended judges m acts exit number → Ended judges m others stop count → acts ≡ others
+acts_one [] [] judges m exit stop number count alike x y = refl
+acts_one [] (o ∷ others) judges m exit stop number count alike x y =
     absurd (goes_on exit o.item (lines_done others ++ y.left) x.left number x.last (sym x.lines ∙ y.lines) (subst (λ (q : Machine). is_off q ≡ false) x.ran.1 y.on.0) x.ends)
-acts_one (a ∷ acts) [] judges m exit stop number count x y =
+acts_one (a ∷ acts) [] judges m exit stop number count alike x y =
     absurd (goes_on stop a.item (lines_done acts ++ x.left) y.left count y.last (sym y.lines ∙ x.lines) (subst (λ (q : Machine). is_off q ≡ false) y.ran.1 x.on.0) y.ends)
-acts_one (a ∷ acts) (o ∷ others) judges m exit stop number count x y =
+acts_one (a ∷ acts) (o ∷ others) judges m exit stop number count alike x y =
     let both = tail_of (Some a.item) (Some o.item) (lines_done acts ++ x.left) (lines_done others ++ y.left) (sym x.lines ∙ y.lines) in
     let item : a.item ≡ o.item = some_same a.item o.item both.0 in
     let step : ItemStep o.item a.outcomes m x.ran.0 x.ran.1 = subst (λ (i : Item). ItemStep i a.outcomes m x.ran.0 x.ran.1) item x.ran.3 in
-    let went : a.outcomes ≡ o.outcomes = item_answered o.item a.outcomes o.outcomes m x.ran.1 y.ran.1 x.ran.0 y.ran.0 x.good.0 y.good.0 step y.ran.3 in
+    let went : a.outcomes ≡ o.outcomes = answered_alike a.outcomes o.outcomes x.good.0 y.good.0 alike.0 in
     let first = item_one o.item o.outcomes m x.ran.1 y.ran.1 x.ran.0 y.ran.0 (subst (λ (os : List Outcome). ItemStep o.item os m x.ran.0 x.ran.1) went step) y.ran.3 in
     let one : Ended (lines_done others ++ y.left) y.ran.1 acts exit number = record {
       answers = x.ran.2;
@@ -71,7 +72,7 @@ acts_one (a ∷ acts) (o ∷ others) judges m exit stop number count x y =
       ends = y.ends;
     } in
     let same : a ≡ o = act_one a o item went in
-    let rest : acts ≡ others = acts_one acts others (lines_done others ++ y.left) y.ran.1 exit stop number count one two in
+    let rest : acts ≡ others = acts_one acts others (lines_done others ++ y.left) y.ran.1 exit stop number count alike.1 one two in
     λ j. same j ∷ rest j
 
 left_one : (acts : List Act) (xs ys : List (Option Item)) → lines_done acts ++ xs ≡ lines_done acts ++ ys → xs ≡ ys
@@ -98,7 +99,7 @@ exit_one (Exit.Script line) (Exit.Fault name) left number m x y = absurd y
 exit_one (Exit.Script line) (Exit.Torn at) left number m x y = absurd y
 exit_one (Exit.Script line) Exit.OutOfMemory left number m x y = absurd y
 
-module _ (script : List ℕ) (m n k : Machine) (acts others : List Act) (exit stop : Exit) (t u : List ℕ) (good : AllAnswered acts) (fine : AllAnswered others) (x : IsReplay script m acts exit t n) (y : IsReplay script m others stop u k) where
+module _ (script : List ℕ) (m n k : Machine) (acts others : List Act) (exit stop : Exit) (t u : List ℕ) (good : AllAnswered acts) (fine : AllAnswered others) (alike : SameKept acts others) (x : IsReplay script m acts exit t n) (y : IsReplay script m others stop u k) where
   ended_x : Ended (judged_script script) m acts exit (length acts + 1)
   ended_x = record { answers = x.answers; last = x.last; left = x.left; lines = x.plays.lines; on = x.plays.on; ran = x.plays.ran; good = good; ends = x.ends }
 
@@ -106,7 +107,7 @@ module _ (script : List ℕ) (m n k : Machine) (acts others : List Act) (exit st
   ended_y = record { answers = y.answers; last = y.last; left = y.left; lines = y.plays.lines; on = y.plays.on; ran = y.plays.ran; good = fine; ends = y.ends }
 
   pub replay_acts : acts ≡ others
-  replay_acts = acts_one acts others (judged_script script) m exit stop (length acts + 1) (length others + 1) ended_x ended_y
+  replay_acts = acts_one acts others (judged_script script) m exit stop (length acts + 1) (length others + 1) alike ended_x ended_y
 
   both_ran : (x.answers ≡ y.answers) × (x.last ≡ y.last)
   both_ran = run_one others m x.last y.last x.answers y.answers (subst (λ (xs : List Act). Run xs m x.answers x.last) replay_acts x.plays.ran) y.plays.ran

@@ -1,5 +1,5 @@
 -- Every script has a replay.
-use Rattle.std.proofs.Common.{◌≡◌, ℕ, zero, suc, ◌+◌, Bool, true, false, MatchBool, refl, ap, subst, List, [], ◌∷◌, ◌++◌, length, Option, Some, None, Result, Ok, Err, slice_get, inl, inr, arith}
+use Rattle.std.proofs.Common.{◌≡◌, ◌≤◌, ◌^◌, ℕ, ◌+◌, Bool, true, false, MatchBool, refl, ap, subst, List, [], ◌∷◌, ◌++◌, length, Option, Some, None, slice_get, inl, inr, arith, lit≤}
 use Rattle.std.specs.FinMap.{insert}
 use Rattle.vm_types.specs.Saved.{Saved}
 use Rattle.vm_types.specs.declared.ids.ActorId.{ActorId}
@@ -16,16 +16,8 @@ use Rattle.hart_trace.specs.Asks.{is_host_op}
 use Rattle.hart_trace.specs.Traces.{IsPrefix}
 use Rattle.hart_trace.specs.Shown.{register_of}
 use Rattle.hart_trace.proofs.Traces.{some_hart}
-use Rattle.http_stream.specs.declared.request.Next.{Next}
-use Rattle.http_stream.specs.Conversation.{arrived, new_connection}
+use Rattle.http_stream.specs.Conversation.{new_connection}
 use Rattle.http_stream.specs.Sent.{sent}
-use Rattle.http_stream.proofs.ConversationLemmas.{each, some_conversation}
-use Rattle.refusals.specs.declared.refusal.Refusal.{Refusal}
-use Rattle.serde_json.specs.Data.{Data}
-use Rattle.metadata_store.specs.Store.{patched, put}
-use Rattle.vm_config.specs.declared.change.Change.{Change}
-use Rattle.vm_config.specs.declared.change.Change.TheVariants as change
-use Rattle.api_calls.specs.declared.call.VmState.TheVariants.{Paused, Resumed}
 use Rattle.vm_outside.specs.Calls.{FileCall}
 use Rattle.script_text.specs.declared.item.Item.{Item}
 use Rattle.script_text.specs.declared.item.Item.TheVariants as item
@@ -33,35 +25,29 @@ use Rattle.script_text.specs.declared.output.Misfit.{Misfit}
 use Rattle.script_text.specs.declared.output.Misfit.TheVariants as misfit
 use Rattle.script_text.specs.Output.{memory_line, misfit_line, register_line}
 use Rattle.script_output.specs.Output.{console_line}
-use Rattle.response_form.specs.Responses.{Response}
-use Rattle.flat_guest.specs.Guest.{Guest, is_actor}
+use Rattle.vm_config.specs.Changes.{default_config}
+use Rattle.flat_guest.specs.Guest.{Guest, is_actor, whole_pages}
 use Rattle.flat_guest.specs.Sound.{IsSound}
 use Rattle.flat_guest.specs.Steps.{Makes, is_given}
-use Rattle.flat_guest.proofs.Soundness.{actor_step, actor_steps, missing, sound_next, sound_restart, sound_start}
+use Rattle.flat_guest.proofs.Soundness.{actor_step, actor_steps, missing, sound_next}
+use Rattle.flat_snapshot.specs.Unwritten.{KeepsUnwritten}
+use Rattle.flat_snapshot.proofs.Unwritten.{one_keeps, several_keep}
 use Rattle.gate_file.specs.Runs.{save_calls}
-use Rattle.api_calls.specs.declared.call.SnapshotCreate.{SnapshotCreate}
-use Rattle.api_calls.specs.declared.call.SnapshotLoad.{SnapshotLoad}
-use Rattle.flat_snapshot.specs.Found.{Snapshot, found}
-use Rattle.flat_snapshot.proofs.Copied.{some_copy}
-use Rattle.flat_snapshot.proofs.GoesOn.{carried_sound}
 use Rattle.flat_machine.specs.Given.{reply_given}
 use Rattle.flat_machine.specs.Outcome.{AreAnswered, Outcome}
-use Rattle.flat_machine.specs.Outcome.Outcome.{Answered}
 use Rattle.flat_machine.specs.Machine.{Machine, console_of, drained, drained_guest, is_off, new_machine, running, running_by}
-use Rattle.flat_machine.specs.Items.{Answers, ItemStep, MemoryLine, Misfits, Moves, RegisterLine, Replies, RepliesLine, Shows, ShowsFrom, StepsLine, TalkLines, response_lines, steps_text}
+use Rattle.flat_machine.specs.Items.{Answers, ItemStep, MemoryLine, Misfits, Moves, RegisterLine, Replies, RepliesLine, Shows, ShowsFrom, StepsLine, steps_text}
 use Rattle.flat_machine.specs.Replay.{IsEnd, IsReplay, closed, closing, judged_script}
-use Rattle.flat_machine.specs.Requests.{Creates, Leaves, LeavesBy, Restores, RequestStep, Stores, allowed, answer_by, carried, configured, created, disk_of, halted, image_of, parent_in, loads_from, respond, started_from}
 use Rattle.flat_machine.specs.Run.{Act, AllAnswered, OnBefore, Run, lines_done}
 use Rattle.flat_machine.proofs.Determined.{item_one}
+use Rattle.flat_machine.proofs.SomeAnswer.{IsSoundGuest, Sound, SoundBy, some_talk}
+use Rattle.flat_machine.proofs.Taken.{IsTaken}
 
--- ---- a machine whose guest is never stuck
+-- ---- events
 
-abbrev SoundBy : Option Guest → Type 0
-SoundBy None = Unit {0}
-SoundBy (Some g) = IsSound g
-
-abbrev Sound : Machine → Type 0
-Sound m = SoundBy m.guest
+-- as many pages
+few_kept : (g h : Guest) → KeepsUnwritten g h → whole_pages g.memory ≤ 2 ^ 20 → whole_pages h.memory ≤ 2 ^ 20
+few_kept g h keeps few = let size = keeps.size in omega (arith, size, few)
 
 made_sound : (es : List Entry) (g h : Guest) (actor : ActorId) → Makes g actor es h → IsSound g → IsSound h
 made_sound [] g h actor made sound = subst (λ (q : Guest). IsSound q) made sound
@@ -69,68 +55,20 @@ made_sound (e ∷ es) g h actor made sound =
     let event : Event = record { actor = actor; reply = None } in
     made_sound es made.1 h actor made.3 (sound_next g event e made.1 sound made.2)
 
-from_sound : (image disk : Option (List ℕ)) (m : Machine) → Sound m → Sound (started_from image disk m)
-from_sound (Some image) disk m sound =
-    sound_start m.config.machine.vcpu_count m.config.machine.mem_size_mib (loads_from m.config image disk)
-from_sound None disk m sound = sound
-
-halted_sound : (paused : Bool) (guest : Option Guest) → SoundBy guest → SoundBy (halted paused guest)
-halted_sound true guest sound = sound
-halted_sound false None sound = sound
-halted_sound false (Some g) sound = sound_restart g sound
-
-some_create : (guest : Option Guest) (m : Machine) (it : SnapshotCreate) → SoundBy guest → Sound m → (n : Machine) × Creates guest m it n × Sound n
-some_create None m it own sound = (m, refl, sound)
-some_create (Some g) m it own sound =
-    let copy = some_copy m.config g own in
-    (created m g it.files (parent_in m it) copy.0, (copy.0, copy.1, refl), record { timer_on = own.timer_on; harts_on = own.harts_on; devices_on = own.devices_on })
-
-some_load : (it : Result Snapshot Refusal) (m : Machine) (load : SnapshotLoad) → Sound m → (n : Machine) × Restores it m load n × Sound n
-some_load (Ok it) m load sound = (carried m load it, refl, carried_sound it.copy it.bytes)
-some_load (Err why) m load sound = (m, refl, sound)
-
-some_store : (due : Result Data Refusal) (m : Machine) → Sound m → (n : Machine) × Stores due m n × Sound n
-some_store (Ok kept) m sound = (record m { metadata = kept }, refl, sound)
-some_store (Err why) m sound = (m, refl, sound)
-
--- what an allowed change leaves
-some_change : (it : Change) (m : Machine) → Sound m → (n : Machine) × Leaves m it n × Sound n
-some_change (change.BootSource source) m sound = (configured m (change.BootSource source), refl, sound)
-some_change (change.MachineConfig machine) m sound = (configured m (change.MachineConfig machine), refl, sound)
-some_change (change.PutMetadata body) m sound = some_store (put body) m sound
-some_change (change.PatchMetadata patch) m sound = some_store (patched m.metadata patch) m sound
-some_change change.Start m sound =
-    (configured (started_from (image_of m) (disk_of m) m) change.Start, refl, from_sound (image_of m) (disk_of m) m sound)
-some_change (change.State Paused) m sound =
-    (record m { guest = halted m.paused m.guest; paused = true }, refl, halted_sound m.paused m.guest sound)
-some_change (change.State Resumed) m sound = (record m { paused = false }, refl, sound)
-some_change (change.CreateSnapshot it) m sound = some_create m.guest m it sound sound
-some_change (change.LoadSnapshot load) m sound = some_load (found m.saved load.files) m load sound
-some_change (change.Tell part) m sound = (m, refl, sound)
-
-some_result : (made : Result Change Refusal) (m : Machine) → Sound m → (n : Machine) × LeavesBy m made n × Sound n
-some_result (Ok it) m sound = some_change it m sound
-some_result (Err why) m sound = (m, refl, sound)
-
 running_sound : (guest : Option Guest) (paused : Bool) → SoundBy guest → SoundBy (running_by guest paused)
 running_sound guest true sound = tt
 running_sound guest false sound = sound
 
 drained_sound : (guest : Option Guest) → SoundBy guest → SoundBy (drained_guest guest)
 drained_sound None sound = sound
-drained_sound (Some g) sound = record { timer_on = sound.timer_on; harts_on = sound.harts_on; devices_on = sound.devices_on }
+drained_sound (Some g) sound = record {
+  sound = record { timer_on = sound.sound.timer_on; harts_on = sound.sound.harts_on; devices_on = sound.sound.devices_on };
+  few = sound.few;
+}
 
--- ---- what is due is answered
-
-some_request : (given : Next) (m : Machine) → Sound m
-    → (said : List Response) × (n : Machine) × RequestStep Answered given m said n × Sound n
-some_request given m sound =
-    let left = some_result (allowed m given) m sound in
-    (respond given (answer_by m (allowed m given)), left.0, (refl, left.1), left.2)
-
-each_answered : (count : ℕ) → AreAnswered (each count Answered)
-each_answered zero = tt
-each_answered (suc count) = each_answered count
+-- the machine with another guest, which is sound
+other_sound : (m : Machine) (h : Guest) → Sound m → IsSound h → whole_pages h.memory ≤ 2 ^ 20 → Sound (record m { guest = Some h })
+other_sound m h sound own few = (sound.0, record { sound = own; few = few })
 
 -- ---- each item is done
 
@@ -141,25 +79,6 @@ record Goes (it : Item) (m : Machine) : Type 0 where
   step : ItemStep it outcomes m text next
   good : AreAnswered outcomes
   sound : Sound next
-
-record Said (bytes : List ℕ) (m : Machine) : Type 0 where
-  outcomes : List Outcome
-  text : List ℕ
-  next : Machine
-  talk : TalkLines bytes outcomes m text next
-  good : AreAnswered outcomes
-  sound : Sound next
-
-some_talk : (bytes : List ℕ) (m : Machine) → Sound m → Said bytes m
-some_talk bytes m sound =
-    let all = some_conversation RequestStep Answered Sound some_request (arrived m.connection bytes) m sound in record {
-      outcomes = each all.0 Answered;
-      text = response_lines all.1;
-      next = record all.3 { connection = all.2 };
-      talk = (all.1, (all.2, all.3, all.4, refl), refl);
-      good = each_answered all.0;
-      sound = all.5;
-    }
 
 -- what a line that brings no request writes and leaves
 abbrev Does : (List ℕ → Machine → Type 0) → Type 0
@@ -174,32 +93,34 @@ does_by : (there : Bool) (Yes No : List ℕ → Machine → Type 0) → (there �
 does_by true Yes No yea nay = yea refl
 does_by false Yes No yea nay = nay
 
-some_moves : (g : Guest) (actor : ActorId) (count : ℕ) (m : Machine) → IsSound g → is_actor g actor ≡ true
+some_moves : (g : Guest) (actor : ActorId) (count : ℕ) (m : Machine) → IsSoundGuest g → Sound m → is_actor g actor ≡ true
     → Does (Moves g actor count m)
-some_moves g actor count m sound there =
-    let made = actor_steps count g actor sound there in (
+some_moves g actor count m own sound there =
+    let made = actor_steps count g actor own.sound there in (
       steps_text count (length made.0) made.1.board.off,
       record m { guest = Some made.1 },
       record { entries = made.0; end = made.1; made = made.2; writes = refl; leaves = refl },
-      made_sound made.0 g made.1 actor made.2.made sound,
+      other_sound m made.1 sound (made_sound made.0 g made.1 actor made.2.made own.sound)
+          (few_kept g made.1 (several_keep g made.1 actor count made.0 made.2) own.few),
     )
 
 some_steps : (guest : Option Guest) (actor : ActorId) (count : ℕ) (m : Machine) → Sound m → SoundBy guest
     → Does (StepsLine guest actor count m)
 some_steps None actor count m sound own = misfit_does misfit.NotRunning m sound
 some_steps (Some g) actor count m sound own =
-    does_by (is_actor g actor) (Moves g actor count m) (Misfits misfit.NoActor m) (some_moves g actor count m own)
+    does_by (is_actor g actor) (Moves g actor count m) (Misfits misfit.NoActor m) (some_moves g actor count m own sound)
     (misfit_does misfit.NoActor m sound)
 
-some_answer : (g : Guest) (actor : ActorId) (given : Option Reply) (m : Machine) → IsSound g → Sound m
+some_answer : (g : Guest) (actor : ActorId) (given : Option Reply) (m : Machine) → IsSoundGuest g → Sound m
     → is_actor g actor ≡ true → Does (Replies g actor given m)
 some_answer g actor given m own sound there =
-    let want = actor_step g actor own there in
+    let want = actor_step g actor own.sound there in
     let answered : is_given want.0 given ≡ true → Does (Answers g actor given m) = λ fit. let made = want.2 given fit in (
       [],
       record m { guest = Some made.1 },
       record { entry = made.0; end = made.1; unstamped = made.2; step = made.3; quiet = refl; leaves = refl },
-      sound_next g (record { actor = actor; reply = given }) made.0 made.1 own made.3,
+      other_sound m made.1 sound (sound_next g (record { actor = actor; reply = given }) made.0 made.1 own.sound made.3)
+          (few_kept g made.1 (one_keeps g made.1 (record { actor = actor; reply = given }) made.0 made.3) own.few),
     ) in
     let fits : Does (λ text n. MatchBool (is_given want.0 given) (Answers g actor given m text n) (Misfits misfit.Unfit m text n)) =
     does_by (is_given want.0 given) (Answers g actor given m) (Misfits misfit.Unfit m) answered (misfit_does misfit.Unfit m sound) in
@@ -227,7 +148,7 @@ some_register None hart number m sound own = misfit_does misfit.NoMachine m soun
 some_register (Some g) hart number m sound own =
     does_by (is_actor g (HartId hart)) (λ text n. Shows g hart number text × (n ≡ m)) (Misfits misfit.NoActor m)
     (λ there. let shown = some_shown (slice_get g.starts hart) (g.steps (HartId hart)) number
-    (λ none. missing g.starts hart none there) (λ first is. own.harts_on hart first is) in (shown.0, m, (shown.1, refl), sound))
+    (λ none. missing g.starts hart none there) (λ first is. own.sound.harts_on hart first is) in (shown.0, m, (shown.1, refl), sound))
     (misfit_does misfit.NoActor m sound)
 
 some_memory : (guest : Option Guest) (at len : ℕ) (m : Machine) → Sound m → Does (MemoryLine guest at len m)
@@ -256,15 +177,15 @@ some_item (item.Lineage lineage) m sound =
 some_item item.Connect m sound =
     quietly item.Connect m [] (record m { connection = new_connection }) (refl, (refl, refl)) sound
 some_item (item.Step actor count) m sound =
-    let line = some_steps (running m) actor count m sound (running_sound m.guest m.paused sound) in
+    let line = some_steps (running m) actor count m sound (running_sound m.guest m.paused sound.1) in
     quietly (item.Step actor count) m line.0 line.1 (refl, line.2) line.3
 some_item (item.Reply actor reply) m sound =
-    let line = some_reply (running m) actor (reply_given reply) m sound (running_sound m.guest m.paused sound) in
+    let line = some_reply (running m) actor (reply_given reply) m sound (running_sound m.guest m.paused sound.1) in
     quietly (item.Reply actor reply) m line.0 line.1 (refl, line.2) line.3
 some_item item.Console m sound =
-    quietly item.Console m (console_line (console_of m)) (drained m) (refl, (refl, refl)) (drained_sound m.guest sound)
+    quietly item.Console m (console_line (console_of m)) (drained m) (refl, (refl, refl)) (sound.0, drained_sound m.guest sound.1)
 some_item (item.Register hart number) m sound =
-    let line = some_register m.guest hart number m sound sound in
+    let line = some_register m.guest hart number m sound sound.1 in
     quietly (item.Register hart number) m line.0 line.1 (refl, line.2) line.3
 some_item (item.Memory at len) m sound =
     let line = some_memory m.guest at len m sound in
@@ -322,11 +243,15 @@ some_ends (Some item ∷ more) m number false on sound =
       ends = subst (λ (n : ℕ). IsEnd rest.exit rest.left n rest.last) count rest.ends;
     }
 
+-- one hart, 128 MiB and nothing else
+new_taken : IsTaken default_config
+new_taken = record { mib = lit≤ tt; harts = lit≤ tt; args = omega arith; drives = omega arith }
+
 pub replay_of : (script id : List ℕ) (saved : Saved) (calls : List FileCall)
     → (acts : List Act) × (exit : Exit) × (text : List ℕ) × (end : Machine) × AllAnswered acts
     × IsReplay script (new_machine id saved calls) acts exit text end
 replay_of script id saved calls =
-    let ran = some_ends (judged_script script) (new_machine id saved calls) 1 false refl tt in (
+    let ran = some_ends (judged_script script) (new_machine id saved calls) 1 false refl (new_taken, tt) in (
       ran.acts,
       ran.exit,
       ran.answers ++ closing ran.exit ran.last,

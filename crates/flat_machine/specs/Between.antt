@@ -1,5 +1,5 @@
 -- What a run leaves of a machine that has started.
-use Rattle.std.specs.Prelude.{◌≡◌, ◌≤◌, ◌⊎◌, Some}
+use Rattle.std.specs.Prelude.{◌≡◌, ◌≤◌, ◌⊎◌, Some, length}
 use Rattle.vm_types.specs.declared.identity.Identity.{Identity}
 use Rattle.flat_guest.specs.Guest.{Guest}
 use Rattle.flat_snapshot.specs.Unwritten.{KeepsUnwritten}
@@ -16,10 +16,11 @@ pub record SomeCreate (m n : Machine) : Type 0 where
   pub base_is : n.ids.base ≡ Some base
   pub new : m.ids.next ≤ base.number
 
--- The second machine is the first, whose guest is this one, after a run. It has a guest, and no number of a snapshot is
--- given again.
+-- The second machine is the first, whose guest is this one, after a run. It has a guest, with as many devices, and no number
+-- of a snapshot is given again.
 pub record GoesOn (g : Guest) (m n : Machine) : Type 0 where
   pub guest : Guest
   pub there : n.guest ≡ Some guest
+  pub devices : length guest.devices ≡ length g.devices
   pub numbers : m.ids.next ≤ n.ids.next
   pub since : NoCreate m n g guest ⊎ SomeCreate m n

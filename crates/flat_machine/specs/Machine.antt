@@ -11,6 +11,7 @@ use Rattle.vm_config.specs.declared.config.Phase.{Phase}
 use Rattle.vm_config.specs.declared.config.Phase.TheVariants as phase
 use Rattle.vm_config.specs.Changes.{default_config}
 use Rattle.api_rules.specs.declared.ids.Ids.{Ids}
+use Rattle.guest_devices.specs.Devices.{FlatDevice}
 use Rattle.flat_guest.specs.Guest.{Guest}
 
 -- its id, its lineage with the snapshots that it knows, what was configured, the metadata, the connection on which
@@ -73,6 +74,11 @@ off_by (Some g) = g.board.off
 
 abbrev pub is_off : Machine → Bool
 is_off m = off_by m.guest
+
+-- the guest's devices
+abbrev pub devices_of : Option Guest → List FlatDevice
+devices_of None = []
+devices_of (Some g) = g.devices
 
 -- the console's bytes that were not drained
 abbrev pub console_by : Option Guest → List ℕ

@@ -1,7 +1,8 @@
 -- How a request went.
-use Rattle.std.specs.Prelude.{ℕ, ◌+◌, List, [], ◌∷◌}
+use Rattle.std.specs.Prelude.{ℕ, ◌≡◌, ◌+◌, List, [], ◌∷◌, map}
 use Rattle.vm_types.specs.Saved.{Saved}
 use Rattle.vm_outside.specs.Calls.{FileCall}
+use Rattle.guest_devices.specs.declared.device.Device.{Device}
 
 -- what a call of the API left where one of its calls on the files failed: what each name holds, and the calls that were
 -- made, the oldest first
@@ -9,18 +10,31 @@ pub record Left : Type 0 where
   pub saved : Saved
   pub calls : List FileCall
 
--- Answered by the machine; 500 because a call on the files failed, with what it left of them; or 503 for want of
--- memory. The run goes on after each.
+-- Answered by the machine, with what was kept of the devices where a snapshot was written; 500 because a call on the files
+-- failed, with what it left of them; or 503 for want of memory. The run goes on after each.
 pub data Outcome : Type 0 where
-  Answered : Outcome
+  Answered : List Device → Outcome
   Failed : Left → Outcome
   NoMemory : Outcome
 
 -- answered by the machine, each of them
 abbrev pub AreAnswered : List Outcome → Type 0
 AreAnswered [] = Unit {0}
-AreAnswered (Answered ∷ outcomes) = AreAnswered outcomes
+AreAnswered (Answered kept ∷ outcomes) = AreAnswered outcomes
 AreAnswered (outcome ∷ outcomes) = ⊥
+
+-- what was kept of the devices, request by request
+abbrev pub kept_by : Outcome → List Device
+kept_by (Answered kept) = kept
+kept_by outcome = []
+
+abbrev pub kept_in : List Outcome → List (List Device)
+kept_in outcomes = map kept_by outcomes
+
+-- nothing was kept of them in any of these
+abbrev pub KeepNone : List Outcome → Type 0
+KeepNone [] = Unit {0}
+KeepNone (outcome ∷ outcomes) = (kept_by outcome ≡ []) × KeepNone outcomes
 
 -- how many were answered 500, and how many 503
 abbrev pub failed_in : List Outcome → ℕ

@@ -1,5 +1,7 @@
 -- What the flat machine makes of a request.
-use Rattle.std.specs.Prelude.{ℕ, ◌≡◌, ◌≢◌, ◌+◌, Bool, true, false, not, List, [], ◌∷◌, ◌++◌, length, Option, Some, None, option_and_then, option_map, Result, Ok, Err}
+use Rattle.std.specs.Prelude.{ℕ, ◌≡◌, ◌≢◌, ◌+◌, ◌/◌, ◌%◌, ◌^◌, Bool, true, false, not, if◌then◌else◌, List, [], ◌∷◌, ◌++◌, length, map, take}
+use Rattle.std.specs.Prelude.{replicate, Option, Some, None, is_some, option_and_then, option_map, Result, Ok, Err}
+use Rattle.std.specs.List.{list_all}
 use Rattle.std.specs.FinMap.{get, insert}
 use Rattle.vm_types.specs.declared.identity.Identity.{Identity}
 use Rattle.vm_outside.specs.Calls.{MakesFront}
@@ -10,6 +12,10 @@ use Rattle.serde_json.specs.Data.{Data, null}
 use Rattle.http_stream.specs.declared.request.Next.{Next}
 use Rattle.http_stream.specs.declared.request.Next.TheVariants as next
 use Rattle.api_calls.specs.declared.call.BootSource.{BootSource}
+use Rattle.api_calls.specs.declared.call.CacheType.{CacheType}
+use Rattle.api_calls.specs.declared.call.CacheType.TheVariants as cache
+use Rattle.api_calls.specs.declared.call.Drive.{Drive}
+use Rattle.api_calls.specs.declared.call.DrivePatch.{DrivePatch}
 use Rattle.api_calls.specs.declared.call.SnapshotFiles.{SnapshotFiles}
 use Rattle.api_calls.specs.declared.call.SnapshotCreate.{SnapshotCreate}
 use Rattle.api_calls.specs.declared.call.SnapshotType.{SnapshotType}
@@ -22,6 +28,7 @@ use Rattle.vm_config.specs.declared.config.Config.{Config}
 use Rattle.vm_config.specs.declared.change.Change.{Change}
 use Rattle.vm_config.specs.declared.change.Change.TheVariants as change
 use Rattle.vm_config.specs.Changes.{changed}
+use Rattle.vm_config.specs.Drives.{device_of, in_order}
 use Rattle.api_rules.specs.declared.answer.Answer.{Answer}
 use Rattle.api_rules.specs.declared.ids.Ids.{Ids}
 use Rattle.api_rules.specs.Answers.{accepted, refused}
@@ -32,6 +39,9 @@ use Rattle.guest_memory.specs.Boot.{Loads, initrd_start}
 use Rattle.devtree.specs.declared.machine.InitrdPlace.{InitrdPlace}
 use Rattle.devtree.specs.Machine.{tree_bytes}
 use Rattle.response_form.specs.Responses.{Response}
+use Rattle.guest_devices.specs.declared.device.Device.{Device}
+use Rattle.guest_devices.specs.declared.drive.NewDrive.{NewDrive}
+use Rattle.flat_guest.specs.Changes.{resized}
 use Rattle.flat_guest.specs.Guest.{Guest, unwritten}
 use Rattle.flat_guest.specs.Start.{started, timer_restarted}
 use Rattle.snap_state.specs.declared.copy.StateCopy.{StateCopy}
@@ -80,18 +90,30 @@ disk_by name saved = option_and_then (get saved) name
 abbrev pub disk_of : Machine → Option (List ℕ)
 disk_of m = disk_by (initrd_name m.config.boot_source) m.saved
 
+-- there is a file for each drive
+abbrev pub have_files : List Drive → Saved → Bool
+have_files drives saved = list_all (λ (d : Drive). is_some (get saved d.path_on_host)) drives
+
 -- what a start is refused by the files
 abbrev pub start_refusal : Config → Saved → Option Refusal
 start_refusal config saved =
     boot_refusal config (option_map length (image_by config.boot_source saved)) (file_by (initrd_name config.boot_source) saved)
+    (have_files config.drives saved)
 
--- a start and a load are also refused by the files, which they alone ask, and what is put into the metadata or merged
--- into them by these
+-- what another file for a drive is refused
+abbrev pub file_refusal : Option (List ℕ) → Saved → Option Refusal
+file_refusal None saved = None
+file_refusal (Some path) saved = if is_some (get saved path) then None else Some refusal.NoSuchFile
+
+-- a start, a load and another file for a drive are also refused by the files, which they alone ask, and what is put into the
+-- metadata or merged into them by these
 abbrev pub by_contents : Machine → Change → Result Change Refusal
 by_contents m change.Start = unless (start_refusal m.config m.saved) (Ok change.Start)
 by_contents m (change.LoadSnapshot load) = do
   _ ← found m.saved load.files
   Ok (change.LoadSnapshot load)
+by_contents m (change.PatchDrive patch) =
+    unless (file_refusal patch.path_on_host m.saved) (Ok (change.PatchDrive patch))
 by_contents m (change.PutMetadata body) = do
   _ ← put body
   Ok (change.PutMetadata body)
@@ -131,14 +153,52 @@ loads_from config image disk = record {
   tree = tree_bytes config (place_of config.machine.mem_size_mib disk);
 }
 
--- a start makes the guest of what it loads, which runs
+-- how many whole sectors of 512 bytes a file has: the capacity has 64 bits (VIRTIO 1.2, 5.2.4)
+abbrev pub sectors_of : Option (List ℕ) → ℕ
+sectors_of None = 0
+sectors_of (Some bytes) = length bytes / 512 % 2 ^ 64
+
+-- what GET_ID gives of a drive: its id, cut or with zeros behind it (VIRTIO 1.2, 5.2.6)
+abbrev pub id_bytes : List ℕ → List ℕ
+id_bytes id = take 20 (id ++ replicate 20 0)
+
+-- its driver may ask that what it wrote is flushed
+abbrev pub is_writeback : CacheType → Bool
+is_writeback cache.Unsafe = false
+is_writeback cache.Writeback = true
+
+-- what a start makes of a drive, by the file under its name
+abbrev pub drive_from : Saved → Drive → NewDrive
+drive_from saved d = record {
+  drive_id = id_bytes d.drive_id;
+  sectors = sectors_of (get saved d.path_on_host);
+  is_read_only = d.is_read_only;
+  offers_flush = is_writeback d.cache_type;
+}
+
+-- the drives of its devices: the root drive first
+abbrev pub drives_from : Config → Saved → List NewDrive
+drives_from config saved = map (drive_from saved) (in_order config.drives)
+
+-- a start makes the guest of what it loads and of the drives, which runs
 abbrev pub started_from : Option (List ℕ) → Option (List ℕ) → Machine → Machine
 started_from (Some image) disk m =
     record m {
-      guest = Some (started m.config.machine.vcpu_count m.config.machine.mem_size_mib (loads_from m.config image disk));
+      guest = Some (started m.config.machine.vcpu_count m.config.machine.mem_size_mib (loads_from m.config image disk)
+          (drives_from m.config m.saved));
       paused = false;
     }
 started_from None disk m = m
+
+-- a device whose drive has another file is told its size
+abbrev pub retold : Option (List ℕ) → Option ℕ → Saved → Option Guest → Option Guest
+retold (Some path) (Some k) saved (Some g) = Some (resized k (sectors_of (get saved path)) g)
+retold path number saved guest = guest
+
+-- a drive has another file, or the one that it had
+abbrev pub patched_drive : Machine → DrivePatch → Machine
+patched_drive m patch =
+    record m { guest = retold patch.path_on_host (device_of m.config.drives patch.drive_id) m.saved m.guest }
 
 -- a guest that is to stand still: one that ran begins its timer anew
 abbrev pub halted : Bool → Option Guest → Option Guest
@@ -174,10 +234,12 @@ created m g files parent copy = record m {
   guest = Some (unwritten g);
 }
 
--- of the guest's own copy
-abbrev pub Creates : Option Guest → Machine → SnapshotCreate → Machine → Type 0
-Creates None m it n = n ≡ m
-Creates (Some g) m it n = (copy : StateCopy) × IsCopyOf m.config g copy × (n ≡ created m g it.files (parent_in m it) copy)
+-- of a copy of the guest, which has these devices
+abbrev pub Creates : Option Guest → Machine → SnapshotCreate → List Device → Machine → Type 0
+Creates None m it kept n = (kept ≡ []) × (n ≡ m)
+Creates (Some g) m it kept n =
+    (copy : StateCopy) × IsCopyOf m.config g copy × (copy.devices ≡ kept)
+    × (n ≡ created m g it.files (parent_in m it) copy)
 
 -- A load of this snapshot: its guest goes on, or stands still; the machine keeps its id, its lineage, its connection and
 -- its files. Whether dirty pages are tracked is said by the load. A snapshot has no metadata.
@@ -203,19 +265,22 @@ Stores (Err why) m n = n ≡ m
 abbrev pub Leaves : Machine → Change → Machine → Type 0
 Leaves m (change.BootSource source) n = n ≡ configured m (change.BootSource source)
 Leaves m (change.MachineConfig machine) n = n ≡ configured m (change.MachineConfig machine)
+Leaves m (change.PutDrive drive) n = n ≡ configured m (change.PutDrive drive)
+Leaves m (change.PatchDrive patch) n = n ≡ configured (patched_drive m patch) (change.PatchDrive patch)
 Leaves m (change.PutMetadata body) n = Stores (put body) m n
 Leaves m (change.PatchMetadata patch) n = Stores (patched m.metadata patch) m n
 Leaves m change.Start n = n ≡ configured (started_from (image_of m) (disk_of m) m) change.Start
 Leaves m (change.State Paused) n = n ≡ record m { guest = halted m.paused m.guest; paused = true }
 Leaves m (change.State Resumed) n = n ≡ record m { paused = false }
-Leaves m (change.CreateSnapshot it) n = Creates m.guest m it n
+Leaves m (change.CreateSnapshot it) n = (kept : List Device) × Creates m.guest m it kept n
 Leaves m (change.LoadSnapshot load) n = Restores (found m.saved load.files) m load n
 Leaves m (change.Tell part) n = n ≡ m
 
--- a refused call changes nothing
-abbrev pub LeavesBy : Machine → Result Change Refusal → Machine → Type 0
-LeavesBy m (Ok it) n = Leaves m it n
-LeavesBy m (Err why) n = n ≡ m
+-- A refused call changes nothing. What is kept of the devices is told of a snapshot that is written, and nothing is kept else.
+abbrev pub LeavesBy : Machine → Result Change Refusal → List Device → Machine → Type 0
+LeavesBy m (Ok (change.CreateSnapshot it)) kept n = Creates m.guest m it kept n
+LeavesBy m (Ok it) kept n = (kept ≡ []) × Leaves m it n
+LeavesBy m (Err why) kept n = (kept ≡ []) × (n ≡ m)
 
 -- ---- what it leaves where a call on the files failed
 
@@ -235,8 +300,10 @@ CreateFails (Some g) m it left n =
     m.calls left.calls
     × (n ≡ record m { saved = left.saved; calls = left.calls; ids = spent m })
 
--- a start or a load changes nothing; no other change calls the files
+-- a start, a load or another file for a drive changes nothing; no other change calls the files
 abbrev pub Fails : Machine → Change → Left → Machine → Type 0
+Fails m (change.PatchDrive patch) left n =
+    (path : List ℕ) × (patch.path_on_host ≡ Some path) × (left ≡ untouched m) × (n ≡ m)
 Fails m change.Start left n = (left ≡ untouched m) × (n ≡ m)
 Fails m (change.LoadSnapshot load) left n = (left ≡ untouched m) × (n ≡ m)
 Fails m (change.CreateSnapshot it) left n = CreateFails m.guest m it left n
@@ -255,8 +322,8 @@ respond given answer = record { answer = answer; closes = closes given } ∷ []
 -- What is answered and left where something is due, by how it went: answered by the machine; 500 where a call on the
 -- files failed; 503 where there was no memory, which changes nothing.
 abbrev pub RequestStep : Outcome → Next → Machine → List Response → Machine → Type 0
-RequestStep Answered given m responses n =
-    (responses ≡ respond given (answer_by m (allowed m given))) × LeavesBy m (allowed m given) n
+RequestStep (Answered kept) given m responses n =
+    (responses ≡ respond given (answer_by m (allowed m given))) × LeavesBy m (allowed m given) kept n
 RequestStep (Failed left) given m responses n =
     (it : Change) × (decided m given ≡ Ok it) × Fails m it left n
     × (responses ≡ respond given (refused refusal.OutsideFailed))

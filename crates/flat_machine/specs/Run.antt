@@ -1,7 +1,7 @@
 -- The run of the flat machine over acts.
 use Rattle.std.specs.Prelude.{ℕ, ◌≡◌, ◌+◌, false, List, [], ◌∷◌, ◌++◌, map, Option, Some}
 use Rattle.script_text.specs.declared.item.Item.{Item}
-use Rattle.flat_machine.specs.Outcome.{AreAnswered, Outcome, failed_in, short_in}
+use Rattle.flat_machine.specs.Outcome.{AreAnswered, KeepNone, Outcome, failed_in, kept_in, short_in}
 use Rattle.flat_machine.specs.Machine.{Machine, is_off}
 use Rattle.flat_machine.specs.Items.{ItemStep}
 
@@ -41,3 +41,13 @@ shortages (act ∷ acts) = short_in act.outcomes + shortages acts
 abbrev pub AllAnswered : List Act → Type 0
 AllAnswered [] = Unit {0}
 AllAnswered (act ∷ acts) = AreAnswered act.outcomes × AllAnswered acts
+
+-- nothing was kept of devices in any of them
+abbrev pub AllKeepNone : List Act → Type 0
+AllKeepNone [] = Unit {0}
+AllKeepNone (act ∷ acts) = KeepNone act.outcomes × AllKeepNone acts
+
+-- both kept the same of their devices in each snapshot that was written, as far as both go
+abbrev pub SameKept : List Act → List Act → Type 0
+SameKept (act ∷ acts) (other ∷ others) = (kept_in act.outcomes ≡ kept_in other.outcomes) × SameKept acts others
+SameKept acts others = Unit {0}

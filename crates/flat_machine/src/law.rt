@@ -5,23 +5,27 @@ ghost use Rattle.vm_types.specs.declared.exit.Object.{Object};
 ghost use Rattle.vm_types.specs.Saved.{Saved};
 ghost use Rattle.vm_outside.specs.Calls.{FileCall};
 ghost use Rattle.http_stream.specs.Conversation.{IsQuiet};
+ghost use Rattle.http_stream.specs.declared.request.Next.{Next};
 ghost use Rattle.flat_machine.specs.Between.{GoesOn};
-ghost use Rattle.flat_machine.specs.Machine.{Machine, new_machine};
+ghost use Rattle.flat_machine.specs.Machine.{Machine, devices_of, new_machine};
 ghost use Rattle.flat_machine.specs.Outcome.{Outcome};
+ghost use Rattle.flat_machine.specs.Outcome.Outcome.{Answered};
 ghost use Rattle.flat_machine.specs.Replay.{IsReplay};
-ghost use Rattle.flat_machine.specs.Run.{Act, AllAnswered, Run};
+ghost use Rattle.flat_machine.specs.Run.{Act, AllAnswered, AllKeepNone, Run, SameKept};
 ghost use Rattle.flat_machine.specs.Stops.{IsStopped};
 ghost use Rattle.api_calls.specs.declared.call.SnapshotCreate.{SnapshotCreate};
 ghost use Rattle.api_calls.specs.declared.call.SnapshotType.TheVariants as snapshot;
 ghost use Rattle.api_calls.specs.declared.call.SnapshotLoad.{SnapshotLoad};
 ghost use Rattle.vm_config.specs.declared.change.Change.TheVariants as change;
 ghost use Rattle.guest_memory.specs.Ram.{page_size};
+ghost use Rattle.guest_devices.specs.declared.device.Device.{Device};
 ghost use Rattle.flat_guest.specs.Guest.{Guest};
+ghost use Rattle.response_form.specs.Responses.{Response};
 ghost use Rattle.snap_memory.specs.Headers.{header, new_header};
 ghost use Rattle.snap_state.specs.declared.copy.StateCopy.{StateCopy};
 ghost use Rattle.snap_state.specs.Files.{IsSaved};
 ghost use Rattle.flat_snapshot.specs.Copies.{IsCopyOf};
-ghost use Rattle.flat_machine.specs.Requests.{Leaves, carried, next_identity};
+ghost use Rattle.flat_machine.specs.Requests.{Creates, Leaves, RequestStep, carried, next_identity};
 
 /// A run is determined: acts from one machine write one text and leave one machine.
 pub fn one_run()
@@ -29,20 +33,30 @@ pub fn one_run()
     ensures after { (acts : List Act) (m n k : Machine) (t u : List ℕ) → Run acts m t n → Run acts m u k → n ≡ k }
 {}
 
-/// A replay in which the machine answers every request is determined, by the script and the machine at the start.
+/// A replay in which the machine answers every request is determined, by the script, the machine at the start, and what was
+/// kept of the devices in each snapshot that was written.
 pub fn one_replay()
     ensures acts { (script : List ℕ) (m n k : Machine) (acts others : List Act) (exit stop : Exit) (t u : List ℕ) →
-        AllAnswered acts → AllAnswered others →
+        AllAnswered acts → AllAnswered others → SameKept acts others →
         IsReplay script m acts exit t n → IsReplay script m others stop u k → acts ≡ others }
     ensures exit { (script : List ℕ) (m n k : Machine) (acts others : List Act) (exit stop : Exit) (t u : List ℕ) →
-        AllAnswered acts → AllAnswered others →
+        AllAnswered acts → AllAnswered others → SameKept acts others →
         IsReplay script m acts exit t n → IsReplay script m others stop u k → exit ≡ stop }
     ensures text { (script : List ℕ) (m n k : Machine) (acts others : List Act) (exit stop : Exit) (t u : List ℕ) →
-        AllAnswered acts → AllAnswered others →
+        AllAnswered acts → AllAnswered others → SameKept acts others →
         IsReplay script m acts exit t n → IsReplay script m others stop u k → t ≡ u }
     ensures after { (script : List ℕ) (m n k : Machine) (acts others : List Act) (exit stop : Exit) (t u : List ℕ) →
-        AllAnswered acts → AllAnswered others →
+        AllAnswered acts → AllAnswered others → SameKept acts others →
         IsReplay script m acts exit t n → IsReplay script m others stop u k → n ≡ k }
+{}
+
+/// A machine without devices keeps nothing of them, whatever it is asked. A machine that has started always has as many of
+/// them, so a run that leaves one without devices kept nothing.
+pub fn no_devices()
+    ensures request { (m n : Machine) (kept : List Device) (given : Next) (said : List Response) →
+        devices_of m.guest ≡ [] → RequestStep (Answered kept) given m said n → kept ≡ [] }
+    ensures run { (acts : List Act) (m n : Machine) (text : List ℕ) → Run acts m text n → devices_of n.guest ≡ [] →
+        AllKeepNone acts }
 {}
 
 /// Every script has a replay from a machine that has not started, whatever the files hold and whatever calls were made
@@ -64,23 +78,22 @@ pub fn whole_lines()
         IsStopped script (new_machine id saved calls) acts part (Exit.Fault name) text end → part ≡ [] }
 {}
 
-/// The two files of a full create that was answered are loaded as the machine of that copy, by any machine whose files hold
-/// what they held then: its guest, its configuration and its identity are the copy's, and the rest is its own. The copy
-/// is one that the files can have, and its memory is all of its pages.
+/// The two files that a full create wrote of a copy of the guest are loaded as the machine of that copy, by any machine whose
+/// files hold what they held then: its guest, its configuration and its identity are the copy's, and the rest is its own. The
+/// copy is one that the files can have, and its memory is all of its pages; of other copies, which keep their devices by other
+/// data, nothing is asked.
 pub fn create_then_load()
-    ensures { (m n k p : Machine) (g : Guest) (it : SnapshotCreate) (load : SnapshotLoad) →
+    ensures { (m n k p : Machine) (g : Guest) (it : SnapshotCreate) (load : SnapshotLoad) (copy : StateCopy) →
         it.snapshot_type ≡ snapshot.Full → m.guest ≡ Some g → it.files.mem_file_path ≢ it.files.snapshot_path →
-        ((copy : StateCopy) → IsCopyOf m.config g copy →
-        IsSaved (record { identity = next_identity m; copy = copy }) × header.Fits (new_header copy.pages (next_identity m))
-        × (length g.memory.bytes ≡ page_size * copy.pages)) →
-        Leaves m (change.CreateSnapshot it) n → load.files ≡ it.files → k.saved ≡ n.saved →
+        IsCopyOf m.config g copy → IsSaved (record { identity = next_identity m; copy = copy }) →
+        header.Fits (new_header copy.pages (next_identity m)) → length g.memory.bytes ≡ page_size * copy.pages →
+        Creates m.guest m it copy.devices n → load.files ≡ it.files → k.saved ≡ n.saved →
         Leaves k (change.LoadSnapshot load) p →
-        (copy : StateCopy) × IsCopyOf m.config g copy
-        × (p ≡ carried k load (record { identity = next_identity m; copy = copy; bytes = g.memory.bytes })) }
+        p ≡ carried k load (record { identity = next_identity m; copy = copy; bytes = g.memory.bytes }) }
 {}
 
-/// A machine that has started keeps its guest over any run, and gives no number of a snapshot again. Between two creates of
-/// it, whatever else the run does, a page that is unwritten is as it was.
+/// A machine that has started keeps its guest over any run, with as many devices, and gives no number of a snapshot again.
+/// Between two creates of it, whatever else the run does, a page that is unwritten is as it was.
 pub fn between_creates()
     ensures { (acts : List Act) (m n : Machine) (text : List ℕ) (g : Guest) →
         m.guest ≡ Some g → Run acts m text n → GoesOn g m n }

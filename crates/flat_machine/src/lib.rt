@@ -7,4 +7,6 @@
 
 mod law;
 
-pub use law::{between_creates, create_then_load, one_replay, one_run, some_replay, whole_lines};
+pub use law::{
+    between_creates, create_then_load, no_devices, one_replay, one_run, some_replay, whole_lines,
+};
