@@ -57,7 +57,7 @@ nothing_begun start before files = record {
 -- requests that were neither answered 500 nor 503 were answered by the machine
 are_answered : (outcomes : List Outcome) → failed_in outcomes ≡ 0 → short_in outcomes ≡ 0 → AreAnswered outcomes
 are_answered [] f s = tt
-are_answered (Answered ∷ outcomes) f s = are_answered outcomes f s
+are_answered (Answered kept ∷ outcomes) f s = are_answered outcomes f s
 are_answered (Failed left ∷ outcomes) f s = absurd (omega (arith, f))
 are_answered (NoMemory ∷ outcomes) f s = absurd (omega (arith, s))
 

@@ -66,7 +66,7 @@ Went exit script rest start acts part text known = Stopped exit script rest star
 -- The replay of a script from this machine, whose text the sink took behind what it had; of the line at which it
 -- stopped, these first requests were answered. Where the files' count did not rise and 503 was not answered, the machine
 -- answered every request, so that by `one_replay` the text of a script that came to its end, what the files hold and the
--- calls on them are determined.
+-- calls on them are determined, by what each snapshot that was written kept of the devices.
 pub record Replayed (exit : Exit) (start : Machine) (before now : Known) : Type 0 where
   pub acts : List Act
   pub part : List Outcome

@@ -11,6 +11,7 @@ use Rattle.http_stream.specs.Stream.{Connection, Judged}
 use Rattle.http_stream.specs.Conversation.{IsQuiet, Takes, Conversation, ConversationFront}
 use Rattle.http_stream.proofs.CutLemmas.{made, bad_failed, request_falls, request_lives}
 use Rattle.http_stream.proofs.AnswerLemmas.{some_reading}
+use Rattle.guest_devices.specs.declared.device.Device.{Device}
 use Rattle.flat_machine.specs.Outcome as flat
 use Rattle.flat_machine.specs.Requests.{RequestStep}
 use Rattle.response_form.specs.declared.form.ResponseForm.{ResponseForm}
@@ -116,36 +117,36 @@ filing_later (how ∷ hows) c d s (g, a, f, mid, r, takes, went, on, is) start =
 failed_more : (hows : List flat.Outcome) (how : flat.Outcome)
     → flat.failed_in (hows ++ how ∷ []) ≡ flat.failed_in hows + flat.failed_in (how ∷ [])
 failed_more [] how = omega arith
-failed_more (flat.Outcome.Answered ∷ hows) how = failed_more hows how
+failed_more (flat.Outcome.Answered kept ∷ hows) how = failed_more hows how
 failed_more (flat.Outcome.Failed left ∷ hows) how = let k = failed_more hows how in omega (arith, k)
 failed_more (flat.Outcome.NoMemory ∷ hows) how = failed_more hows how
 
 answered_front : (hows : List flat.Outcome) (how : flat.Outcome)
     → flat.AreAnswered (hows ++ how ∷ []) → flat.AreAnswered hows × flat.AreAnswered (how ∷ [])
 answered_front [] how good = (tt, good)
-answered_front (flat.Outcome.Answered ∷ hows) how good = answered_front hows how good
+answered_front (flat.Outcome.Answered kept ∷ hows) how good = answered_front hows how good
 answered_front (flat.Outcome.Failed left ∷ hows) how good = absurd good
 answered_front (flat.Outcome.NoMemory ∷ hows) how good = absurd good
 
-one_rose : (how : Outcome) (left : FilesKnown) (before now : ℕ) → OutcomeCause how before now
-    → RoseBy (flat.failed_in (outcome_by how left ∷ [])) before now
-one_rose Answered left before now cause = omega (arith, cause)
-one_rose Failed left before now cause = cause
-one_rose NoMemory left before now cause = omega (arith, cause)
+one_rose : (how : Outcome) (kept : List Device) (left : FilesKnown) (before now : ℕ) → OutcomeCause how before now
+    → RoseBy (flat.failed_in (outcome_by how kept left ∷ [])) before now
+one_rose Answered kept left before now cause = omega (arith, cause)
+one_rose Failed kept left before now cause = cause
+one_rose NoMemory kept left before now cause = omega (arith, cause)
 
-one_kept : (how : Outcome) (left : FilesKnown) (before now : ℕ) → OutcomeCause how before now
-    → flat.AreAnswered (outcome_by how left ∷ []) → now ≡ before
-one_kept Answered left before now cause good = cause
-one_kept Failed left before now cause good = absurd good
-one_kept NoMemory left before now cause good = absurd good
+one_kept : (how : Outcome) (kept : List Device) (left : FilesKnown) (before now : ℕ) → OutcomeCause how before now
+    → flat.AreAnswered (outcome_by how kept left ∷ []) → now ≡ before
+one_kept Answered kept left before now cause good = cause
+one_kept Failed kept left before now cause good = absurd good
+one_kept NoMemory kept left before now cause good = absurd good
 
-counts_more : (hows : List flat.Outcome) (how : Outcome) (left : FilesKnown) (before mid now : ℕ) → CountsFaults hows before mid
-    → OutcomeCause how mid now → CountsFaults (hows ++ outcome_by how left ∷ []) before now
-counts_more hows how left before mid now counted cause = record {
-  rose = let one = one_rose how left mid now cause in let many = counted.rose in
-      let sum = failed_more hows (outcome_by how left) in omega (arith, one, many, sum);
-  kept = λ good. let both = answered_front hows (outcome_by how left) good in
-      one_kept how left mid now cause both.1 ∙ counted.kept both.0;
+counts_more : (hows : List flat.Outcome) (how : Outcome) (kept : List Device) (left : FilesKnown) (before mid now : ℕ)
+    → CountsFaults hows before mid → OutcomeCause how mid now → CountsFaults (hows ++ outcome_by how kept left ∷ []) before now
+counts_more hows how kept left before mid now counted cause = record {
+  rose = let one = one_rose how kept left mid now cause in let many = counted.rose in
+      let sum = failed_more hows (outcome_by how kept left) in omega (arith, one, many, sum);
+  kept = λ good. let both = answered_front hows (outcome_by how kept left) good in
+      one_kept how kept left mid now cause both.1 ∙ counted.kept both.0;
 }
 
 not_empty : (hows : List flat.Outcome) (how : flat.Outcome) → hows ++ how ∷ [] ≡ [] → ⊥
@@ -174,19 +175,19 @@ pub answers_more : (form : ResponseForm) (monitor now after : Monitor) (text wri
     → HasAnswered form monitor now text known mid → Replied form now after text written mid left
     → Lasts mid.health left.health → HasAnswered form monitor after written known left
 answers_more form monitor now after text written known mid left a r lasts = record {
-  outcomes = a.outcomes ++ outcome_by r.how left ∷ [];
+  outcomes = a.outcomes ++ outcome_by r.how r.replies.kept left ∷ [];
   responses = a.responses ++ r.replies.responses;
   writes = writes_more form a.responses r.replies.responses text written a.writes r.replies.writes;
-  given = begins_more {W = flat.Outcome} {M = Unit {0}} {A = Unit {0}} (λ how given m said n. Unit {0}) a.outcomes (outcome_by r.how left)
+  given = begins_more {W = flat.Outcome} {M = Unit {0}} {A = Unit {0}} (λ how given m said n. Unit {0}) a.outcomes (outcome_by r.how r.replies.kept left)
       monitor.front now.front after.front tt tt tt [] [] r.given a.given r.takes tt;
-  counted = counts_more a.outcomes r.how left known.health.faults mid.health.faults left.health.faults a.counted r.replies.cause;
+  counted = counts_more a.outcomes r.how r.replies.kept left known.health.faults mid.health.faults left.health.faults a.counted r.replies.cause;
   uncalled = λ never. r.uncalled (λ start. never (filing_later a.outcomes monitor.front now.front [] a.given start)) ∙ a.uncalled never;
-  same = λ none. absurd (not_empty a.outcomes (outcome_by r.how left) none);
+  same = λ none. absurd (not_empty a.outcomes (outcome_by r.how r.replies.kept left) none);
   went = λ told m is.
       let p = a.went told m is in
       let q = r.replies.went (a.lasts.still told) p.0 p.2 in (
         q.0,
-        begins_more RequestStep a.outcomes (outcome_by r.how left) monitor.front now.front after.front m p.0 q.0 a.responses r.replies.responses r.given p.1 r.takes q.1,
+        begins_more RequestStep a.outcomes (outcome_by r.how r.replies.kept left) monitor.front now.front after.front m p.0 q.0 a.responses r.replies.responses r.given p.1 r.takes q.1,
         q.2,
       );
   lasts = record {

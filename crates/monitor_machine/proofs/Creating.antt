@@ -1,9 +1,10 @@
 -- A create that is due does what the machine does.
-use Rattle.std.proofs.Common.{◌≡◌, ℕ, List, [], ◌∷◌, ◌++◌, Option, Some, Ok, Result, refl, sym, ap, subst, ◌∙◌}
+use Rattle.std.proofs.Common.{◌≡◌, ℕ, ◌+◌, List, [], ◌∷◌, ◌++◌, Option, Some, None, Ok, Result, refl, sym, ap, subst, ◌∙◌}
 use Rattle.std.proofs.lemmas.List.{append-nil}
 use Rattle.std.specs.FinMap.{get, insert}
 use Rattle.vm_types.specs.Causes.{Rose}
 use Rattle.vm_types.specs.declared.identity.Identity.{Identity}
+use Rattle.api_calls.specs.declared.call.SnapshotCreate.{SnapshotCreate}
 use Rattle.api_calls.specs.declared.call.SnapshotFiles.{SnapshotFiles}
 use Rattle.vm_types.specs.Saved.{Saved}
 use Rattle.vm_outside.specs.Calls.{FileCall, MakesFront}
@@ -14,32 +15,40 @@ use Rattle.http_stream.specs.declared.request.Next.{Next}
 use Rattle.http_stream.specs.declared.request.Next.TheVariants as next
 use Rattle.http_stream.specs.declared.request.Request.{Request}
 use Rattle.api_calls.specs.Call.{◌>>=◌}
+use Rattle.vm_config.specs.declared.config.Config.{Config}
 use Rattle.vm_config.specs.declared.change.Change.{Change}
 use Rattle.vm_config.specs.declared.change.Change.TheVariants as change
+use Rattle.api_rules.specs.declared.ids.Ids.{Ids}
 use Rattle.api_rules.specs.Answers.{no_content, refused}
 use Rattle.response_form.specs.declared.form.ResponseForm.{ResponseForm}
 use Rattle.response_form.specs.Responses.{Response, written_as}
 use Rattle.guest_memory.specs.Memory.{Memory}
 use Rattle.guest_pages.specs.Pages.{cleared, flat_of}
 use Rattle.guest_pages.proofs.Marking.{flat_cleared, marks_cleared}
+use Rattle.guest_devices.specs.declared.device.Device.{Device}
 use Rattle.flat_guest.specs.Guest.{Guest, unwritten}
-use Rattle.flat_snapshot.specs.Files.{calls_of, saved_pages}
+use Rattle.flat_snapshot.specs.Copies.{IsCopyOf}
+use Rattle.flat_snapshot.specs.Files.{calls_of, head_of, saved_pages, state_body}
 use Rattle.snap_writer.specs.Create.{create_calls}
 use Rattle.snap_writer.specs.Create as writes
 use Rattle.snap_writer.specs.Selected.{selected}
 use Rattle.monitor_plans.specs.Headings.{numbers_in}
 use Rattle.flat_machine.specs.Machine.{Machine}
 use Rattle.flat_machine.specs.Outcome as flat
-use Rattle.flat_machine.specs.Requests.{CreateFails, Creates, RequestStep, by_contents, created, next_identity, parent_in, respond, spent}
+use Rattle.flat_machine.specs.Requests.{CreateFails, Creates, RequestStep, by_contents, created, decided, next_identity, parent_in, parent_of, respond, spent}
 use Rattle.vm_world.specs.Worlds.{IsWorld, WorldValue}
 use Rattle.vm_world.proofs.Events.{unwritten_is}
+use Rattle.monitor_plans.specs.Creating.{CreateGives}
 use Rattle.monitor_plans.specs.declared.creating.Creation.{Creation}
+use Rattle.monitor_plans.specs.declared.plan.Plan.TheVariants as plan
+use Rattle.monitor_plans.specs.declared.plan.Task.{Task}
+use Rattle.monitor_plans.specs.declared.plan.Task.TheVariants as task
 use Rattle.monitor_machine.specs.declared.machine.LiveMachine.{LiveMachine}
 use Rattle.monitor_machine.specs.declared.outcome.Outcome.{Outcome}
-use Rattle.monitor_machine.specs.Plans.{IsCreate, created_after, failed_after, unmarked_world}
+use Rattle.monitor_machine.specs.Plans.{IsCreate, IsTask, created_after, failed_after, unmarked_world}
 use Rattle.monitor_machine.specs.Replying.{Replies, left_by, open_response}
 use Rattle.monitor_machine.specs.State.{IsGuestBy, IsMachine}
-use Rattle.monitor_machine.proofs.Plans.{answered}
+use Rattle.monitor_machine.proofs.Leaving.{answered}
 
 -- the world of a live machine is the guest of the machine
 world_is : (live : Option WorldValue) (w : WorldValue) (guest : Option Guest) (g : Guest) → IsGuestBy live guest → live ≡ Some w
@@ -47,12 +56,56 @@ world_is : (live : Option WorldValue) (w : WorldValue) (guest : Option Guest) (g
 world_is live w guest g is one there =
     subst (λ (o : Option Guest). IsGuestBy (Some w) o) there (subst (λ (o : Option WorldValue). IsGuestBy o guest) one is)
 
+some_world : (live : Option WorldValue) (w : WorldValue) (guest : Option Guest) → IsGuestBy live guest → live ≡ Some w
+    → (g : Guest) × (guest ≡ Some g) × IsWorld w g
+some_world live w None is one = absurd (subst (λ (o : Option WorldValue). IsGuestBy o None) one is)
+some_world live w (Some g) is one = (g, refl, subst (λ (o : Option WorldValue). IsGuestBy o (Some g)) one is)
+
+-- What comes of a create is a create of the machine's guest. What is kept of the devices is one for each machine that it was.
+pub create_task : (made : Task) (live : LiveMachine) (w : WorldValue) (it : SnapshotCreate) (parent : Option Identity) (identity : Identity)
+    → live.guest ≡ Some w → parent ≡ parent_of it.snapshot_type live.ids.base
+    → identity ≡ record { lineage = live.ids.lineage; number = live.ids.next } → CreateGives made live.config parent identity w it.files
+    → (kept : List Device) × ((known : FilesKnown) (m : Machine) → IsMachine live known m → (given : Next)
+    → decided m given ≡ Ok (change.CreateSnapshot it) → IsTask made m given kept)
+create_task (task.Plan plan.NoMemory) live w it parent identity there since own gives = ([], λ known m is given asks. tt)
+create_task (task.Plan (plan.Refused why)) live w it parent identity there since own gives = absurd gives
+create_task (task.Plan (plan.Changes c)) live w it parent identity there since own gives = absurd gives
+create_task (task.Plan (plan.Drives drives)) live w it parent identity there since own gives = absurd gives
+create_task (task.Plan (plan.Resizes r)) live w it parent identity there since own gives = absurd gives
+create_task (task.Plan (plan.Stores kept)) live w it parent identity there since own gives = absurd gives
+create_task (task.Plan (plan.Starts guest)) live w it parent identity there since own gives = absurd gives
+create_task (task.Plan (plan.Restores r)) live w it parent identity there since own gives = absurd gives
+create_task (task.Plan plan.FilesFailed) live w it parent identity there since own gives = absurd gives
+create_task (task.Create c) live w it parent identity there since own gives = (
+  gives.copy.devices,
+  λ known m is given asks.
+      let guest = some_world live.guest w m.guest is.own.guest_is there in
+      let since_is : parent ≡ parent_in m it = since ∙ ap (λ (i : Ids). parent_of it.snapshot_type i.base) is.own.ids_is in
+      let own_is : identity ≡ next_identity m =
+      own ∙ (λ i. record { lineage = (is.own.ids_is i).lineage; number = (is.own.ids_is i).next }) in
+      record {
+        it = it;
+        asks = asks;
+        names_is = gives.names_is;
+        guest = guest.0;
+        there = guest.1;
+        copy = gives.copy;
+        copied = subst (λ (k : Config). IsCopyOf k guest.0 gives.copy) is.own.config_is (gives.copied guest.0 guest.2);
+        kept_is = refl;
+        identity_is = gives.identity_is ∙ own_is;
+        next_is = gives.next_is ∙ ap (λ (k : Identity). k.number + 1) own_is;
+        head_is = gives.head_is guest.0 guest.2 ∙ (λ i. head_of (since_is i) (own_is i) gives.copy.pages guest.0);
+        pages_are = gives.pages_are guest.0 guest.2 ∙ ap (λ (p : Option Identity). saved_pages p gives.copy.pages guest.0) since_is;
+        body_is = gives.body_is ∙ ap (λ (k : Identity). state_body k gives.copy) own_is;
+      },
+)
+
 -- the bytes of the pages that are written
 abbrev pub written_of : Creation → WorldValue → List ℕ
 written_of c w = selected (numbers_in c.numbers) (flat_of w.pages).bytes
 
-module _ (c : Creation) (live : LiveMachine) (w : WorldValue) (known left : FilesKnown) (m : Machine) (given : Next)
-    (there : live.guest ≡ Some w) (is : IsMachine live known m) (due : IsCreate c m given) where
+module _ (c : Creation) (live : LiveMachine) (w : WorldValue) (known left : FilesKnown) (m : Machine) (given : Next) (kept : List Device)
+    (there : live.guest ≡ Some w) (is : IsMachine live known m) (due : IsCreate c m given kept) where
   here : IsWorld w due.guest
   here = world_is live.guest w m.guest due.guest is.own.guest_is there due.there
 
@@ -80,11 +133,11 @@ module _ (c : Creation) (live : LiveMachine) (w : WorldValue) (known left : File
       (unwritten_is w (cleared w.pages) due.guest here (flat_cleared w.pages) (marks_cleared w.pages))
 
   pub create_does : writes.Creates c.names.mem_file_path c.head (written_of c w) c.names.snapshot_path c.body known left
-      → RequestStep flat.Outcome.Answered given m (respond given no_content) end × IsMachine (created_after c live) left end
+      → RequestStep (flat.Outcome.Answered kept) given m (respond given no_content) end × IsMachine (created_after c live) left end
   create_does wrote = (
-    answered live known m end given (Ok (change.CreateSnapshot due.it)) no_content
+    answered live known m end given (Ok (change.CreateSnapshot due.it)) no_content kept
         (ap (λ (r : Result Change Refusal). r >>= by_contents m) due.asks) refl
-        (subst (λ (o : Option Guest). Creates o m due.it end) (sym due.there) (due.copy, due.copied, refl)),
+        (subst (λ (o : Option Guest). Creates o m due.it kept end) (sym due.there) (due.copy, due.copied, due.kept_is, refl)),
     record {
       own = record {
         id_is = is.own.id_is;
@@ -166,7 +219,8 @@ same_part memory head state body m h s b pages g known left em eh eg es eb part 
 
 -- what is due is answered so
 module _ (form : ResponseForm) (c : Creation) (live after : LiveMachine) (w : WorldValue) (text written : List ℕ) (known left : FilesKnown) (request : Request)
-    (there : live.guest ≡ Some w) (due : Tells known.health → (m : Machine) → IsMachine live known m → IsCreate c m (next.Request request)) where
+    (kept : List Device) (there : live.guest ≡ Some w)
+    (due : Tells known.health → (m : Machine) → IsMachine live known m → IsCreate c m (next.Request request) kept) where
   abbrev given : Next
   given = next.Request request
 
@@ -180,13 +234,14 @@ module _ (form : ResponseForm) (c : Creation) (live after : LiveMachine) (w : Wo
       → Replies form given Outcome.Answered live after text written known left
   is_written leaves writes faults wrote = record {
     cause = faults;
+    kept = kept;
     responses = respond given no_content;
     writes = alone (open_response no_content) writes;
     went = λ told m is.
-        let does = create_does c live w known left m given there is (due told m is) (wrote told) in (
-          end c live w known left m given there is (due told m is),
+        let does = create_does c live w known left m given kept there is (due told m is) (wrote told) in (
+          end c live w known left m given kept there is (due told m is),
           does.0,
-          subst (λ (l : LiveMachine). IsMachine l left (end c live w known left m given there is (due told m is))) (sym leaves) does.1,
+          subst (λ (l : LiveMachine). IsMachine l left (end c live w known left m given kept there is (due told m is))) (sym leaves) does.1,
         );
   }
 
@@ -197,12 +252,13 @@ module _ (form : ResponseForm) (c : Creation) (live after : LiveMachine) (w : Wo
       → Replies form given Outcome.Failed live after text written known left
   is_unwritten leaves writes rose part = record {
     cause = rose;
+    kept = kept;
     responses = respond given (refused refusal.OutsideFailed);
     writes = alone (open_response (refused refusal.OutsideFailed)) writes;
     went = λ told m is.
-        let does = create_fails c live w known left m given there is (due told m is) (part told) in (
-          stopped c live w known left m given there is (due told m is),
+        let does = create_fails c live w known left m given kept there is (due told m is) (part told) in (
+          stopped c live w known left m given kept there is (due told m is),
           does.0,
-          subst (λ (l : LiveMachine). IsMachine l left (stopped c live w known left m given there is (due told m is))) (sym leaves) does.1,
+          subst (λ (l : LiveMachine). IsMachine l left (stopped c live w known left m given kept there is (due told m is))) (sym leaves) does.1,
         );
   }

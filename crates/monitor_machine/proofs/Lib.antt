@@ -1,3 +1,6 @@
 pub mod Creating
+pub mod Deciding
+pub mod Leaving
 pub mod Lines
+pub mod Planning
 pub mod Plans

@@ -1,8 +1,11 @@
 -- What a plan is of the machine, and what it leaves.
-use Rattle.std.specs.Prelude.{◌≡◌, ◌≢◌, ◌⊎◌, ◌+◌, ℕ, List, ◌++◌, length, Bool, true, false, not, Option, Some, None, Ok, Err}
+use Rattle.std.specs.Prelude.{◌≡◌, ◌≢◌, ◌⊎◌, ◌+◌, ℕ, List, ◌++◌, length, Bool, true, false, not}
+use Rattle.std.specs.Prelude.{Option, Some, None, is_none, is_some, Ok, Err}
+use Rattle.std.specs.FinMap.{get}
 use Rattle.serde_json.specs.Data.{Data, null}
 use Rattle.vm_outside.specs.Known.{FilesKnown}
 use Rattle.http_stream.specs.declared.request.Next.{Next}
+use Rattle.api_calls.specs.declared.call.Drive.{Drive}
 use Rattle.api_calls.specs.declared.call.SnapshotCreate.{SnapshotCreate}
 use Rattle.api_calls.specs.declared.call.SnapshotFiles.{SnapshotFiles}
 use Rattle.api_calls.specs.declared.call.SnapshotLoad.{SnapshotLoad}
@@ -12,9 +15,12 @@ use Rattle.vm_config.specs.declared.config.Phase.{Phase}
 use Rattle.vm_config.specs.declared.config.Phase.TheVariants as phase
 use Rattle.vm_config.specs.declared.change.Change.{Change}
 use Rattle.vm_config.specs.declared.change.Change.TheVariants as change
-use Rattle.vm_config.specs.Changes.{changed}
+use Rattle.vm_config.specs.Changes.{changed, takes_memory}
+use Rattle.vm_config.specs.Drives.{device_of, put_drive}
 use Rattle.api_rules.specs.declared.answer.Answer.{Answer}
 use Rattle.timer_trace.specs.States.{new_timer}
+use Rattle.guest_devices.specs.declared.device.Device.{Device}
+use Rattle.flat_guest.specs.Changes.{resized}
 use Rattle.flat_guest.specs.Guest.{Guest}
 use Rattle.flat_guest.specs.Start.{started}
 use Rattle.snap_state.specs.declared.copy.StateCopy.{StateCopy}
@@ -25,10 +31,11 @@ use Rattle.flat_snapshot.specs.Found.{Snapshot, found}
 use Rattle.response_form.specs.declared.form.ResponseForm.{ResponseForm}
 use Rattle.response_form.specs.Responses.{Response, written_as}
 use Rattle.flat_machine.specs.Machine.{Machine}
-use Rattle.flat_machine.specs.Requests.{allowed, decided, disk_of, image_of, loads_from, next_identity, parent_in}
+use Rattle.flat_machine.specs.Requests.{allowed, decided, disk_of, drives_from, image_of, loads_from, next_identity, parent_in, sectors_of}
 use Rattle.guest_pages.specs.Pages.{cleared}
 use Rattle.vm_world.specs.Worlds.{IsWorld, WorldValue}
 use Rattle.monitor_plans.specs.declared.creating.Creation.{Creation}
+use Rattle.monitor_plans.specs.declared.drive_changes.Resize.{Resize}
 use Rattle.monitor_plans.specs.declared.restoring.Restored.{Restored}
 use Rattle.monitor_plans.specs.declared.plan.Plan.{Plan}
 use Rattle.monitor_plans.specs.declared.plan.Plan.TheVariants as plan
@@ -49,8 +56,10 @@ phase_by (Some w) true = phase.Paused
 abbrev pub phase_of : LiveMachine → Phase
 phase_of live = phase_by live.guest live.paused
 
--- a change that neither makes a guest, nor reads or writes a file, nor stores metadata
+-- a change that neither makes a guest, nor reads or writes a file, nor stores metadata, nor puts a drive
 abbrev pub is_plain : Change → Bool
+is_plain (change.PutDrive drive) = false
+is_plain (change.PatchDrive patch) = is_none patch.path_on_host
 is_plain (change.PutMetadata body) = false
 is_plain (change.PatchMetadata patch) = false
 is_plain change.Start = false
@@ -60,6 +69,7 @@ is_plain it = true
 
 -- a change that reads or writes files
 abbrev pub needs_files : Change → Bool
+needs_files (change.PatchDrive patch) = is_some patch.path_on_host
 needs_files change.Start = true
 needs_files (change.CreateSnapshot it) = true
 needs_files (change.LoadSnapshot load) = true
@@ -67,12 +77,13 @@ needs_files it = false
 
 -- a change that reads files and leaves them as they are
 abbrev pub reads_files : Change → Bool
+reads_files (change.PatchDrive patch) = is_some patch.path_on_host
 reads_files change.Start = true
 reads_files (change.LoadSnapshot load) = true
 reads_files it = false
 
--- a create of the machine's guest is due, and this is what it writes
-pub record IsCreate (c : Creation) (m : Machine) (given : Next) : Type 0 where
+-- a create of the machine's guest is due, and this is what it writes, with this kept of the devices
+pub record IsCreate (c : Creation) (m : Machine) (given : Next) (kept : List Device) : Type 0 where
   pub it : SnapshotCreate
   pub asks : decided m given ≡ Ok (change.CreateSnapshot it)
   pub names_is : c.names ≡ it.files
@@ -80,6 +91,7 @@ pub record IsCreate (c : Creation) (m : Machine) (given : Next) : Type 0 where
   pub there : m.guest ≡ Some guest
   pub copy : StateCopy
   pub copied : IsCopyOf m.config guest copy
+  pub kept_is : copy.devices ≡ kept
   pub identity_is : c.identity ≡ next_identity m
   pub next_is : c.next ≡ m.ids.next + 1
   pub head_is : c.head ≡ head_of (parent_in m it) (next_identity m) copy.pages guest
@@ -96,6 +108,14 @@ pub record IsRestore (r : Restored) (m : Machine) (given : Next) : Type 0 where
   pub goes_on : GoesOn r load.track_dirty_pages it
   pub resumes_is : r.resumes ≡ load.resume_vm
 
+-- a drive has another file, which is there
+pub record IsAnotherFile (r : Resize) (m : Machine) (given : Next) : Type 0 where
+  pub asks : allowed m given ≡ Ok (change.PatchDrive r.patch)
+  pub path : List ℕ
+  pub path_is : r.patch.path_on_host ≡ Some path
+  pub device_is : r.device ≡ device_of m.config.drives r.patch.drive_id
+  pub sectors_is : r.sectors ≡ sectors_of (get m.saved path)
+
 -- what a change stores is this
 abbrev pub IsKept : Data → Machine → Change → Type 0
 IsKept kept m (change.PutMetadata body) = put body ≡ Ok kept
@@ -106,17 +126,21 @@ IsKept kept m it = ⊥
 abbrev pub IsPlan : Plan → Machine → Next → Type 0
 IsPlan (plan.Refused why) m given = allowed m given ≡ Err why
 IsPlan (plan.Changes it) m given = (allowed m given ≡ Ok it) × (is_plain it ≡ true)
+IsPlan (plan.Drives drives) m given =
+    (drive : Drive) × (allowed m given ≡ Ok (change.PutDrive drive)) × (drives ≡ put_drive m.config.drives drive)
+IsPlan (plan.Resizes r) m given = IsAnotherFile r m given
 IsPlan (plan.Stores kept) m given = (it : Change) × (allowed m given ≡ Ok it) × IsKept kept m it
 IsPlan (plan.Starts w) m given =
     (allowed m given ≡ Ok change.Start) × (image : List ℕ) × (image_of m ≡ Some image)
-    × IsWorld w (started m.config.machine.vcpu_count m.config.machine.mem_size_mib (loads_from m.config image (disk_of m)))
+    × IsWorld w (started m.config.machine.vcpu_count m.config.machine.mem_size_mib (loads_from m.config image (disk_of m))
+    (drives_from m.config m.saved))
 IsPlan (plan.Restores r) m given = IsRestore r m given
 IsPlan plan.FilesFailed m given = (it : Change) × (decided m given ≡ Ok it) × (reads_files it ≡ true)
 IsPlan plan.NoMemory m given = Unit {0}
 
-abbrev pub IsTask : Task → Machine → Next → Type 0
-IsTask (task.Plan it) m given = IsPlan it m given
-IsTask (task.Create c) m given = IsCreate c m given
+abbrev pub IsTask : Task → Machine → Next → List Device → Type 0
+IsTask (task.Plan it) m given kept = IsPlan it m given
+IsTask (task.Create c) m given kept = IsCreate c m given kept
 
 -- the two files of a create have names of their own
 abbrev pub HasTwoNames : SnapshotFiles → Type 0
@@ -156,6 +180,8 @@ plan_response it closes live = record { answer = answer_of it live; closes = clo
 abbrev pub plan_outcome : Plan → Outcome
 plan_outcome (plan.Refused why) = Answered
 plan_outcome (plan.Changes it) = Answered
+plan_outcome (plan.Drives drives) = Answered
+plan_outcome (plan.Resizes r) = Answered
 plan_outcome (plan.Stores kept) = Answered
 plan_outcome (plan.Starts w) = Answered
 plan_outcome (plan.Restores r) = Answered
@@ -178,7 +204,7 @@ abbrev pub world_by : Change → Bool → Option WorldValue → Option WorldValu
 world_by (change.State Paused) paused world = halted_world paused world
 world_by it paused world = world
 
--- and what it leaves
+-- and what it leaves, but for another file of a drive
 abbrev pub plan_after : Plan → LiveMachine → LiveMachine
 plan_after (plan.Changes it) live =
     record live {
@@ -186,6 +212,8 @@ plan_after (plan.Changes it) live =
       guest = world_by it live.paused live.guest;
       paused = paused_by it live.paused;
     }
+plan_after (plan.Drives drives) live =
+    record live { config = record live.config { drives = drives; configured = true } }
 plan_after (plan.Stores kept) live = record live { metadata = kept }
 plan_after (plan.Starts w) live =
     record live { config = changed live.config change.Start; guest = Some w; paused = false }
@@ -198,6 +226,25 @@ plan_after (plan.Restores r) live =
       paused = not r.resumes;
     }
 plan_after it live = live
+
+-- what becomes of the world where a device is told the size of its disk, if both are there
+abbrev pub Resizes : Option ℕ → ℕ → Option WorldValue → Option WorldValue → Type 0
+Resizes None sectors world after = after ≡ world
+Resizes (Some k) sectors None after = after ≡ None
+Resizes (Some k) sectors (Some w) None = ⊥
+Resizes (Some k) sectors (Some w) (Some v) = (g : Guest) → IsWorld w g → IsWorld v (resized k sectors g)
+
+-- and of the machine where a drive has another file
+pub record TakesFile (r : Resize) (live after : LiveMachine) : Type 0 where
+  pub world : Resizes r.device r.sectors live.guest after.guest
+  pub rest :
+      after ≡ record live { config = changed live.config (change.PatchDrive r.patch); guest = after.guest }
+
+-- A plan leaves this. A change that takes memory is none of a plan.
+abbrev pub PlanLeaves : Plan → LiveMachine → LiveMachine → Type 0
+PlanLeaves (plan.Changes it) live after = takes_memory it ≡ false → after ≡ plan_after (plan.Changes it) live
+PlanLeaves (plan.Resizes r) live after = TakesFile r live after
+PlanLeaves it live after = after ≡ plan_after it live
 
 -- a world of which no page is marked
 abbrev pub unmarked_world : Option WorldValue → Option WorldValue
@@ -222,4 +269,4 @@ pub record Answers (form : ResponseForm) (it : Plan) (closes : Bool) (how : Outc
   pub which : (done ≡ it) ⊎ (done ≡ plan.NoMemory)
   pub how_is : how ≡ plan_outcome done
   pub writes : written ≡ text ++ written_as form (plan_response done closes live)
-  pub leaves : after ≡ plan_after done live
+  pub leaves : PlanLeaves done live after

@@ -1,5 +1,5 @@
 -- What comes of something that is due.
-use Rattle.std.specs.Prelude.{◌≡◌, ◌≤◌, ℕ, List, ◌++◌, Bool, true, false, Ok}
+use Rattle.std.specs.Prelude.{◌≡◌, ◌≤◌, ℕ, List, ◌++◌, Bool, true, false, is_some, Ok}
 use Rattle.vm_types.specs.Causes.{Rose}
 use Rattle.vm_outside.specs.Known.{FilesKnown, Tells}
 use Rattle.http_stream.specs.declared.request.Request.{Request}
@@ -7,6 +7,7 @@ use Rattle.http_stream.specs.declared.request.Next.{Next}
 use Rattle.api_calls.specs.declared.call.ApiCall.{ApiCall}
 use Rattle.api_calls.specs.declared.call.ApiCall.TheVariants as call
 use Rattle.api_calls.specs.Call.{call_of}
+use Rattle.guest_devices.specs.declared.device.Device.{Device}
 use Rattle.flat_machine.specs.Outcome as flat
 use Rattle.flat_machine.specs.Machine.{Machine}
 use Rattle.flat_machine.specs.Requests.{RequestStep}
@@ -20,6 +21,7 @@ use Rattle.monitor_machine.specs.State.{IsMachine}
 
 -- the calls of the API that call the files
 abbrev pub calls_files : ApiCall → Bool
+calls_files (call.PatchDrive patch) = is_some patch.path_on_host
 calls_files call.InstanceStart = true
 calls_files (call.CreateSnapshot it) = true
 calls_files (call.LoadSnapshot load) = true
@@ -33,11 +35,11 @@ AsksFiles request = (it : ApiCall) × (call_of request ≡ Ok it) × (calls_file
 abbrev pub left_by : FilesKnown → flat.Left
 left_by known = record { saved = known.saved; calls = known.calls }
 
--- how a request went, as the flat machine has it
-abbrev pub outcome_by : Outcome → FilesKnown → flat.Outcome
-outcome_by Answered known = flat.Outcome.Answered
-outcome_by Failed known = flat.Outcome.Failed (left_by known)
-outcome_by NoMemory known = flat.Outcome.NoMemory
+-- how a request went, as the flat machine has it, where this was kept of the devices
+abbrev pub outcome_by : Outcome → List Device → FilesKnown → flat.Outcome
+outcome_by Answered kept known = flat.Outcome.Answered kept
+outcome_by Failed kept known = flat.Outcome.Failed (left_by known)
+outcome_by NoMemory kept known = flat.Outcome.NoMemory
 
 -- each 500 has a fault of its own, and an answer has none
 abbrev pub OutcomeCause : Outcome → ℕ → ℕ → Type 0
@@ -50,11 +52,12 @@ abbrev pub open_response : Answer → Response
 open_response answer = record { answer = answer; closes = false }
 
 -- What was due was answered so, its responses are behind what was written, and each machine that it was is the machine
--- after it.
+-- after it. Of the devices this was kept where a snapshot was written, and else nothing.
 pub record Replies (form : ResponseForm) (given : Next) (how : Outcome) (live after : LiveMachine)
     (text written : List ℕ) (known left : FilesKnown) : Type 0 where
   pub cause : OutcomeCause how known.health.faults left.health.faults
+  pub kept : List Device
   pub responses : List Response
   pub writes : written ≡ text ++ all_written form responses
   pub went : Tells known.health → (m : Machine) → IsMachine live known m
-      → (n : Machine) × RequestStep (outcome_by how left) given m responses n × IsMachine after left n
+      → (n : Machine) × RequestStep (outcome_by how kept left) given m responses n × IsMachine after left n

@@ -11,6 +11,7 @@ use vm_types::TextList;
 use vm_world::World;
 
 mod creating;
+mod drives;
 mod lines;
 mod planning;
 mod replying;
@@ -44,7 +45,7 @@ impl LiveMachine {
                 base: None,
                 next: 1,
             },
-            config: Config::new(),
+            config: Config::new(alloc),
             metadata: Store::new(alloc),
             guest: None,
             paused: false,

@@ -1,3 +1,4 @@
+pub mod DrivesAsked
 pub mod Headings
 pub mod Heads
 pub mod Loads

@@ -1,5 +1,5 @@
 -- What is loaded is what the machine loads.
-use Rattle.std.proofs.Common.{◌≡◌, ℕ, List, length, take, Option, Some, None, false, refl, sym, subst, ◌∙◌, ap}
+use Rattle.std.proofs.Common.{◌≡◌, ℕ, List, length, take, Option, Some, None, Bool, false, refl, sym, subst, ◌∙◌, ap}
 use Rattle.std.proofs.Math.Seq.{take-length}
 use Rattle.std.specs.Prelude.{option_map}
 use Rattle.std.specs.FinMap.{get}
@@ -13,21 +13,22 @@ use Rattle.guest_memory.specs.Boot.{Loads}
 use Rattle.vm_config.specs.declared.config.Config.{Config}
 use Rattle.devtree.specs.declared.machine.InitrdPlace.{InitrdPlace}
 use Rattle.devtree.specs.Machine.{tree_bytes}
+use Rattle.guest_devices.specs.declared.drive.NewDrive.{NewDrive}
 use Rattle.flat_guest.specs.Start.{started}
-use Rattle.flat_machine.specs.Requests.{disk_by, file_by, image_by, initrd_name, loads_from, place_of, start_refusal}
+use Rattle.flat_machine.specs.Requests.{disk_by, drives_from, file_by, have_files, image_by, initrd_name, loads_from, place_of, start_refusal}
 use Rattle.vm_world.specs.Worlds.{IsWorld, WorldValue}
 use Rattle.monitor_plans.specs.declared.plan.Plan.TheVariants as plan
 use Rattle.monitor_plans.specs.Starting.{StartGives, disk_in, image_in}
 
-pub loads_are : (config : Config) (image : List ℕ) (disk initrd : Option (List ℕ)) (place : Option InitrdPlace) (tree lent : List ℕ) (w : WorldValue)
-    → initrd ≡ disk → place ≡ place_of config.machine.mem_size_mib disk → tree ≡ tree_bytes config place → lent ≡ tree
-    → IsWorld w (started config.machine.vcpu_count config.machine.mem_size_mib (record { image = image; initrd = initrd; tree = lent }))
-    → IsWorld w (started config.machine.vcpu_count config.machine.mem_size_mib (loads_from config image disk))
-loads_are config image disk initrd place tree lent w e p t l world =
+pub loads_are : (config : Config) (image : List ℕ) (disk initrd : Option (List ℕ)) (place : Option InitrdPlace) (tree lent : List ℕ)
+    (drives : List NewDrive) (w : WorldValue) → initrd ≡ disk → place ≡ place_of config.machine.mem_size_mib disk → tree ≡ tree_bytes config place → lent ≡ tree
+    → IsWorld w (started config.machine.vcpu_count config.machine.mem_size_mib (record { image = image; initrd = initrd; tree = lent }) drives)
+    → IsWorld w (started config.machine.vcpu_count config.machine.mem_size_mib (loads_from config image disk) drives)
+loads_are config image disk initrd place tree lent drives w e p t l world =
     let tree_is : lent ≡ tree_bytes config (place_of config.machine.mem_size_mib disk) = l ∙ t ∙ ap (tree_bytes config) p in
     let same : ◌≡◌ {A = Loads} (record { image = image; initrd = initrd; tree = lent }) (loads_from config image disk) =
     (λ i. record { image = image; initrd = e i; tree = tree_is i }) in
-    subst (λ (ls : Loads). IsWorld w (started config.machine.vcpu_count config.machine.mem_size_mib ls)) same world
+    subst (λ (ls : Loads). IsWorld w (started config.machine.vcpu_count config.machine.mem_size_mib ls drives)) same world
 
 -- a file of this many bytes is there
 found : (g : Option (List ℕ)) (len : ℕ) (image : List ℕ) → Some len ≡ option_map length g → length image ≡ len
@@ -38,45 +39,54 @@ found (Some content) len image e whole is =
     ap Some (sym (is.1 ∙ ap (λ (n : ℕ). take n content) long ∙ take-length content))
 
 -- a disk that is missing refuses
-there : (config : Config) (len : ℕ) (file : InitrdFile) → None ≡ boot_refusal config (Some len) file → is_missing file ≡ false
-there config len initrd.Unnamed clear = refl
-there config len initrd.Missing clear = cc
-there config len (initrd.There size) clear = refl
+there : (config : Config) (len : ℕ) (file : InitrdFile) (drives : Bool) → None ≡ boot_refusal config (Some len) file drives
+    → is_missing file ≡ false
+there config len initrd.Unnamed drives clear = refl
+there config len initrd.Missing drives clear = cc
+there config len (initrd.There size) drives clear = refl
 
 -- a start that nothing refuses, by what each call on the files gave
-pub start_gives : (config : Config) (source : BootSource) (s0 s1 s2 s3 : Saved) (path : List ℕ) (size : Option ℕ) (len : ℕ) (file : InitrdFile)
-    (image lent : List ℕ) (disk : Option (List ℕ)) (w : WorldValue) → config.boot_source ≡ Some source → path ≡ source.kernel_image_path
-    → size ≡ option_map length (get s0 path) → size ≡ Some len → s1 ≡ s0 → s2 ≡ s1 → s3 ≡ s2 → file ≡ file_by source.initrd_path s1
-    → None ≡ boot_refusal config (Some len) file → length image ≡ len → IsReadAt (get s2 path) 0 image
-    → (file ≡ file_by source.initrd_path s3 → is_missing file ≡ false → disk ≡ disk_by source.initrd_path s3) → lent ≡ image
-    → IsWorld w (started config.machine.vcpu_count config.machine.mem_size_mib (loads_from config lent disk)) → StartGives (plan.Starts w) config s0
-start_gives config source s0 s1 s2 s3 path size len file image lent disk w eq pe sz sl e1 e2 e3 fe clear whole im dk le wd =
+pub start_gives : (config : Config) (source : BootSource) (s0 s1 s2 s3 s4 : Saved) (path : List ℕ) (size : Option ℕ) (len : ℕ) (file : InitrdFile)
+    (image lent : List ℕ) (disk : Option (List ℕ)) (drives given : List NewDrive) (have : Bool) (w : WorldValue)
+    → config.boot_source ≡ Some source → path ≡ source.kernel_image_path
+    → size ≡ option_map length (get s0 path) → size ≡ Some len → s1 ≡ s0 → s2 ≡ s1 → s3 ≡ s2 → s4 ≡ s3 → file ≡ file_by source.initrd_path s1
+    → drives ≡ drives_from config s2 → have ≡ have_files config.drives s2
+    → None ≡ boot_refusal config (Some len) file have → length image ≡ len → IsReadAt (get s3 path) 0 image
+    → (file ≡ file_by source.initrd_path s4 → is_missing file ≡ false → disk ≡ disk_by source.initrd_path s4) → lent ≡ image → given ≡ drives
+    → IsWorld w (started config.machine.vcpu_count config.machine.mem_size_mib (loads_from config lent disk) given) → StartGives (plan.Starts w) config s0
+start_gives config source s0 s1 s2 s3 s4 path size len file image lent disk drives given have w eq pe sz sl e1 e2 e3 e4 fe de he clear whole im dk le ge wd =
     let size_is : size ≡ option_map length (image_in config s0) =
     sz
     ∙ ap (λ (p : List ℕ). option_map length (get s0 p)) pe
     ∙ ap (λ (b : Option BootSource). option_map length (image_by b s0)) (sym eq) in
     let file_is : file ≡ file_by (initrd_name config.boot_source) s0 =
     fe ∙ ap (file_by source.initrd_path) e1 ∙ ap (λ (b : Option BootSource). file_by (initrd_name b) s0) (sym eq) in
+    let have_is : have ≡ have_files config.drives s0 = he ∙ ap (have_files config.drives) (e2 ∙ e1) in
     let none : start_refusal config s0 ≡ None =
     sym (
     clear
-    ∙ ap (λ (o : Option ℕ). boot_refusal config o file) (sym sl ∙ size_is)
-    ∙ ap (λ (f : InitrdFile). boot_refusal config (option_map length (image_in config s0)) f) file_is) in
-    let missing : is_missing file ≡ false = there config len file clear in
-    let sized : Some len ≡ option_map length (get s2 path) =
-    sym sl ∙ sz ∙ ap (λ (s : Saved). option_map length (get s path)) (sym (e2 ∙ e1)) in
+    ∙ ap (λ (o : Option ℕ). boot_refusal config o file have) (sym sl ∙ size_is)
+    ∙ ap (λ (f : InitrdFile). boot_refusal config (option_map length (image_in config s0)) f have) file_is
+    ∙ ap (boot_refusal config (option_map length (image_in config s0)) (file_by (initrd_name config.boot_source) s0)) have_is) in
+    let missing : is_missing file ≡ false = there config len file have clear in
+    let sized : Some len ≡ option_map length (get s3 path) =
+    sym sl ∙ sz ∙ ap (λ (s : Saved). option_map length (get s path)) (sym (e3 ∙ e2 ∙ e1)) in
     let image_is : image_in config s0 ≡ Some image =
     ap (λ (b : Option BootSource). image_by b s0) eq
     ∙ ap (λ (p : List ℕ). get s0 p) (sym pe)
-    ∙ ap (λ (s : Saved). get s path) (sym (e2 ∙ e1))
-    ∙ found (get s2 path) len image sized whole im in
+    ∙ ap (λ (s : Saved). get s path) (sym (e3 ∙ e2 ∙ e1))
+    ∙ found (get s3 path) len image sized whole im in
     let disk_is : disk ≡ disk_in config s0 =
-    dk (fe ∙ ap (file_by source.initrd_path) (sym (e3 ∙ e2))) missing
-    ∙ ap (λ (s : Saved). disk_by source.initrd_path s) (e3 ∙ e2 ∙ e1)
-    ∙ ap (λ (b : Option BootSource). disk_by (initrd_name b) s0) (sym eq) in (
+    dk (fe ∙ ap (file_by source.initrd_path) (sym (e4 ∙ e3 ∙ e2))) missing
+    ∙ ap (λ (s : Saved). disk_by source.initrd_path s) (e4 ∙ e3 ∙ e2 ∙ e1)
+    ∙ ap (λ (b : Option BootSource). disk_by (initrd_name b) s0) (sym eq) in
+    let drives_is : given ≡ drives_from config s0 = ge ∙ de ∙ ap (drives_from config) (e2 ∙ e1) in
+    let Made : List ℕ → Option (List ℕ) → List NewDrive → Type 0 = λ l d ds.
+    IsWorld w (started config.machine.vcpu_count config.machine.mem_size_mib (loads_from config l d) ds) in (
       none,
       image,
       image_is,
-      subst (λ (d : Option (List ℕ)). IsWorld w (started config.machine.vcpu_count config.machine.mem_size_mib (loads_from config image d))) disk_is
-          (subst (λ (l : List ℕ). IsWorld w (started config.machine.vcpu_count config.machine.mem_size_mib (loads_from config l disk))) le wd),
+      subst (λ (ds : List NewDrive). Made image (disk_in config s0) ds) drives_is
+          (subst (λ (d : Option (List ℕ)). Made image d given) disk_is
+          (subst (λ (l : List ℕ). Made l disk given) le wd)),
     )

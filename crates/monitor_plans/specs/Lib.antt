@@ -1,4 +1,5 @@
 pub mod Creating
+pub mod DriveChanges
 pub mod Headings
 pub mod Plans
 pub mod Restoring

@@ -16,6 +16,8 @@ use Rattle.monitor_plans.specs.declared.plan.Task.TheVariants as task
 abbrev pub plan_answer : Plan → List ℕ → Phase → Config → Data → Answer
 plan_answer (plan.Refused why) id p config metadata = refused why
 plan_answer (plan.Changes it) id p config metadata = accepted it id p config metadata
+plan_answer (plan.Drives drives) id p config metadata = no_content
+plan_answer (plan.Resizes r) id p config metadata = no_content
 plan_answer (plan.Stores kept) id p config metadata = no_content
 plan_answer (plan.Starts w) id p config metadata = no_content
 plan_answer (plan.Restores r) id p config metadata = no_content

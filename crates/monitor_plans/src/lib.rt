@@ -1,12 +1,15 @@
 //! What comes of a request, as a plan: which answer it has, and what is to be done before it is given.
 //!
 //! A `Plan` has all that the answer needs in memory, so what it asks for is done without taking any. `start` plans a
-//! start by the files of its kernel image and its disk, `create` a snapshot of a guest, `restore` what goes on from the
-//! files of one, and `put_metadata` and `patch_metadata` what is stored.
+//! start by the files of its kernel image, its disk and its drives, `create` a snapshot of a guest, `restore` what goes on
+//! from the files of one, `put_drive` and `patch_drive` what is configured of drives, and `put_metadata` and
+//! `patch_metadata` what is stored.
 #![tactic(auto)]
 
 mod creating;
 mod disk;
+mod drive_changes;
+mod drives;
 mod heading;
 mod plan;
 mod restoring;
@@ -14,6 +17,7 @@ mod starting;
 mod storing;
 
 pub use creating::{Creation, create, pages_of};
+pub use drive_changes::{Resize, patch_drive, put_drive};
 pub use plan::{Plan, Task};
 pub use restoring::{Restored, restore};
 pub use starting::start;

@@ -3,19 +3,24 @@ ghost use Rattle.std.specs.Prelude.{◌≡◌, IfOk};
 ghost use Rattle.monitor_plans.specs.Plans.{plan_answer};
 
 use crate::creating::Creation;
+use crate::drive_changes::Resize;
 use crate::restoring::Restored;
 use api_rules::{Answer, Change, Config, Phase, accepted_answer, done_answer, fault_answer};
 use metadata_store::Store;
 use refusals::Refusal;
 use std::alloc::{AllocError, Global};
+use vm_config::Drives;
 use vm_world::World;
 
-/// What comes of a request, where no file is left to be written: it is refused; it changes this; it stores these
-/// metadata; it starts this guest; it goes on from a snapshot; a call on the files failed; or there is no memory.
+/// What comes of a request, where no file is left to be written: it is refused; it changes this; the drives are these; a
+/// drive has another file; it stores these metadata; it starts this guest; it goes on from a snapshot; a call on the files
+/// failed; or there is no memory.
 #[derive(Drop)]
 pub enum Plan {
     Refused(Refusal),
     Changes(Change),
+    Drives(Drives),
+    Resizes(Resize),
     Stores(Store),
     Starts(World),
     Restores(Restored),
@@ -46,6 +51,7 @@ impl Plan {
         match self {
             Plan::Refused(why) => fault_answer(alloc, *why),
             Plan::Changes(change) => accepted_answer(alloc, change, id, phase, config, metadata),
+            Plan::Drives(_) | Plan::Resizes(_) => Ok(done_answer()),
             Plan::Stores(_) | Plan::Starts(_) | Plan::Restores(_) => Ok(done_answer()),
             Plan::FilesFailed => fault_answer(alloc, Refusal::OutsideFailed),
             Plan::NoMemory => fault_answer(alloc, Refusal::OutOfMemory),

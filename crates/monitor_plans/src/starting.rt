@@ -1,5 +1,5 @@
 // What a start comes to.
-ghost use Rattle.std.specs.Prelude.{◌≡◌, ◌+◌, ◌≤◌, ◌^◌, IfSome, option_map};
+ghost use Rattle.std.specs.Prelude.{◌≡◌, ◌+◌, ◌≤◌, ◌^◌, IfSome, length, option_map};
 ghost use Rattle.guest_memory.specs.Boot as boot;
 ghost use Rattle.boot_loader.specs.Loading.{loads_of};
 ghost use Rattle.flat_guest.specs.Start.{started};
@@ -11,6 +11,7 @@ ghost use Rattle.monitor_plans.specs.Plans.{PlanCause};
 ghost use Rattle.monitor_plans.specs.Starting.{StartGives};
 
 use crate::disk::{disk_file, load_disk};
+use crate::drives::drive_files;
 use crate::plan::Plan;
 use api_calls::MachineConfig;
 use api_rules::{Config, boot_refusal};
@@ -18,6 +19,7 @@ use boot_loader::Loads;
 use devtree::{InitrdPlace, write_tree};
 use flat_guest::MOST_MIB;
 use gate_file::{FileError, read_front};
+use guest_devices::NewDrive;
 use guest_memory::initrd_start;
 use refusals::Refusal;
 use std::alloc::Global;
@@ -28,7 +30,10 @@ use vm_world::World;
 /// The most harts that a machine has.
 const MOST_HARTS: u64 = 32;
 
-/// What comes of a start that the configuration allows, by the files of its kernel image and its disk.
+/// The most devices that a machine has.
+const MOST_DEVICES: usize = 16;
+
+/// What comes of a start that the configuration allows, by the files of its kernel image, its disk and its drives.
 pub fn start<F: Files>(alloc: Global, config: &Config, files: &mut F) -> Plan
     ensures gives { Tells (F.known files.old).health → StartGives result config.now (F.known files.old).saved }
     ensures same { Tells (F.known files.old).health → SameFiles (F.known files.old) (F.known files.new) }
@@ -48,7 +53,12 @@ pub fn start<F: Files>(alloc: Global, config: &Config, files: &mut F) -> Plan
     let Ok(file) = disk_file(files, &source.initrd_path) else {
         return Plan::FilesFailed;
     };
-    if let Some(why) = boot_refusal(config, size, file) {
+    let drives = match drive_files(alloc, files, &config.drives) {
+        Ok(drives) => drives,
+        Err(FileError::Fault) => return Plan::FilesFailed,
+        Err(FileError::OutOfMemory) => return Plan::NoMemory,
+    };
+    if let Some(why) = boot_refusal(config, size, file, drives.are_there) {
         return Plan::Refused(why);
     }
     let image = match read_front(alloc, files, path, len) {
@@ -57,7 +67,7 @@ pub fn start<F: Files>(alloc: Global, config: &Config, files: &mut F) -> Plan
         Err(FileError::OutOfMemory) => return Plan::NoMemory,
     };
     match load_disk(alloc, files, &source.initrd_path, file) {
-        Ok(disk) => match guest_of(alloc, config, &image, &disk) {
+        Ok(disk) => match guest_of(alloc, config, &image, &disk, &drives.drives) {
             Some(guest) => Plan::Starts(guest),
             None => Plan::NoMemory,
         },
@@ -100,29 +110,45 @@ fn initrd_of(disk: &Option<ByteList>) -> Option<&[u8]>
     }
 }
 
-fn world_of(alloc: Global, machine: MachineConfig, loads: &Loads<'_>) -> Option<World>
+fn world_of(
+    alloc: Global,
+    machine: MachineConfig,
+    loads: &Loads<'_>,
+    drives: &[NewDrive],
+) -> Option<World>
     requires few { machine.vcpu_count ≤ 32 }
     requires small { machine.mem_size_mib ≤ 2 ^ 20 }
+    requires few_drives { length drives.now ≤ 16 }
     ensures { IfSome result (λ world.
-        IsWorld world (started machine.vcpu_count machine.mem_size_mib (loads_of loads.now))) }
+        IsWorld world (started machine.vcpu_count machine.mem_size_mib (loads_of loads.now) drives.now)) }
 {
     World::start(
         alloc,
         machine.vcpu_count as usize,
         machine.mem_size_mib,
         loads,
+        drives,
     )
     .ok()
 }
 
-// The guest of this configuration, image and disk, if there is memory for it and they fit.
-fn guest_of(alloc: Global, config: &Config, image: &[u8], disk: &Option<ByteList>) -> Option<World>
+// The guest of this configuration, image, disk and drives, if there is memory for it and they fit.
+fn guest_of(
+    alloc: Global,
+    config: &Config,
+    image: &[u8],
+    disk: &Option<ByteList>,
+    drives: &[NewDrive],
+) -> Option<World>
     ensures { IfSome result (λ guest.
         IsWorld guest (started config.now.machine.vcpu_count config.now.machine.mem_size_mib
-        (loads_from config.now image.now disk.now))) }
+        (loads_from config.now image.now disk.now) drives.now)) }
 {
     let machine = config.machine;
     if machine.vcpu_count > MOST_HARTS || machine.mem_size_mib > MOST_MIB {
+        return None;
+    }
+    if drives.len() > MOST_DEVICES {
         return None;
     }
     let Ok(tree) = write_tree(alloc, config, place_of(machine.mem_size_mib, disk)) else {
@@ -133,6 +159,6 @@ fn guest_of(alloc: Global, config: &Config, image: &[u8], disk: &Option<ByteList
         initrd: initrd_of(disk),
         tree: tree.as_slice(),
     };
-    let world = world_of(alloc, machine, &loads)?;
+    let world = world_of(alloc, machine, &loads, drives)?;
     Some(world)
 }

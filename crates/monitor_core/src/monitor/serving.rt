@@ -1,7 +1,7 @@
 // What serving asks of a monitor besides the items of a script.
 ghost use Rattle.std.specs.Prelude.{◌≡◌, IfOk, OnErr};
 ghost use Rattle.std.specs.Borrow.{sem};
-ghost use Rattle.vm_outside.specs.Known.{FilesKnown, Lasts};
+ghost use Rattle.vm_outside.specs.Known.{FilesKnown, Lasts, Tells};
 ghost use Rattle.http_stream.specs.Conversation.{new_connection};
 ghost use Rattle.flat_machine.specs.Machine.{Machine};
 
@@ -9,6 +9,7 @@ use crate::monitor::Monitor;
 use monitor_machine::LiveMachine;
 use response_form::ResponseForm;
 use std::alloc::AllocError;
+use vm_host::Disk;
 use vm_outside::Files;
 use vm_types::ByteList;
 
@@ -66,5 +67,15 @@ impl Monitor {
         ensures value { result.now ≡ self.old.machine }
     {
         &mut self.machine
+    }
+
+    /// Where there is a guest, the disk of each of its devices is the file that its drive names from now on. What can't be
+    /// opened fails later.
+    pub fn attach_disks<D: Disk>(&self, disk: &mut D)
+        ensures same { Tells (D.known disk.old).health → (D.known disk.new).held ≡ (D.known disk.old).held }
+        ensures lasts { Lasts (D.known disk.old).health (D.known disk.new).health }
+        ensures kept { (D.known disk.new).health.faults ≡ (D.known disk.old).health.faults }
+    {
+        self.machine.attach_disks(disk);
     }
 }

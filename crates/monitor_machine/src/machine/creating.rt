@@ -1,9 +1,10 @@
 // What is answered to a create that is due.
-ghost use Rattle.std.specs.Prelude.{◌≡◌, ◌++◌, IfOk, OnErr};
+ghost use Rattle.std.specs.Prelude.{◌≡◌, ◌++◌, List, IfOk, OnErr};
 ghost use Rattle.refusals.specs.declared.refusal.Refusal.TheVariants as refusal;
 ghost use Rattle.api_rules.specs.Answers.{no_content, refused};
 ghost use Rattle.http_stream.specs.declared.request.Next.{Next};
 ghost use Rattle.http_stream.specs.declared.request.Request.{Request};
+ghost use Rattle.guest_devices.specs.declared.device.Device.{Device};
 ghost use Rattle.flat_machine.specs.Machine.{Machine};
 ghost use Rattle.response_form.specs.Responses.{written_as};
 ghost use Rattle.vm_outside.specs.Filing.{SameFiles};
@@ -66,8 +67,9 @@ impl LiveMachine {
     ) -> Result<Outcome, AllocError>
         requires names { HasTwoNames creation.names }
         requires pages { HasPages self.old.guest creation }
-        ensures ok { IfOk result (λ how. (request : Request) → (Tells (F.known files.old).health → (m : Machine) →
-            IsMachine self.old (F.known files.old) m → IsCreate creation m (Next.Request request)) →
+        ensures ok { IfOk result (λ how. (request : Request) (kept : List Device) →
+            (Tells (F.known files.old).health → (m : Machine) →
+            IsMachine self.old (F.known files.old) m → IsCreate creation m (Next.Request request) kept) →
             Replies form (Next.Request request) how self.old self.new text.old text.new
             (F.known files.old) (F.known files.new)) }
         ensures err { OnErr result (self.new ≡ self.old) }

@@ -1,10 +1,11 @@
 // What comes of a request.
-ghost use Rattle.std.specs.Prelude.{◌≡◌, ℕ, Ok, false, true};
+ghost use Rattle.std.specs.Prelude.{◌≡◌, ℕ, List, Ok, false, true};
 ghost use Rattle.vm_outside.specs.Filing.{SameFiles};
 ghost use Rattle.vm_outside.specs.Known.{FilesKnown, Lasts, Tells};
 ghost use Rattle.http_stream.specs.declared.request.Request.{Request};
 ghost use Rattle.api_calls.specs.Call.{call_of};
 ghost use Rattle.api_rules.specs.Table.{decision};
+ghost use Rattle.guest_devices.specs.declared.device.Device.{Device};
 ghost use Rattle.flat_machine.specs.Machine.{Machine};
 ghost use Rattle.flat_machine.specs.Requests.{decided, parent_of};
 ghost use Rattle.vm_config.specs.declared.change.Change.TheVariants as change;
@@ -16,7 +17,9 @@ use api_calls::{ApiCall, SnapshotCreate, SnapshotType};
 use api_json::{ReadError, read};
 use api_rules::{Change, Phase, decide};
 use http_stream::{Next, Request};
-use monitor_plans::{Plan, Task, create, patch_metadata, put_metadata, restore, start};
+use monitor_plans::{
+    Plan, Task, create, patch_drive, patch_metadata, put_drive, put_metadata, restore, start,
+};
 use refusals::Refusal;
 use vm_outside::Files;
 use vm_types::Identity;
@@ -42,12 +45,12 @@ impl LiveMachine {
         decide(self.phase(), &self.config, &self.ids, call)
     }
 
-    // What comes of a call. The files are asked for a start and a load alone.
+    // What comes of a call. The files are asked for a start, a load and another file of a drive alone.
     fn task_of_call<F: Files>(&self, call: ApiCall, files: &mut F) -> Task
         requires { (request : Request) × (call_of request ≡ Ok call) }
-        ensures task { Tells (F.known files.old).health → (m : Machine) →
+        ensures task { (kept : List Device) × (Tells (F.known files.old).health → (m : Machine) →
             IsMachine self.now (F.known files.old) m → (request : Request) → call_of request ≡ Ok call →
-            IsTask result m (Next.Request request) }
+            IsTask result m (Next.Request request) kept) }
         ensures ready { IsReady result self.now.guest }
         ensures later { CallsLater result (F.known files.old) (F.known files.new) }
         ensures cause { TaskCause result (F.known files.old).health.faults (F.known files.new).health.faults }
@@ -65,9 +68,9 @@ impl LiveMachine {
     // What comes of a change that is allowed, but for what the files and the metadata say.
     fn task_of_change<F: Files>(&self, change: Change, files: &mut F) -> Task
         requires { HasTwoFiles change }
-        ensures task { Tells (F.known files.old).health → (m : Machine) →
+        ensures task { (kept : List Device) × (Tells (F.known files.old).health → (m : Machine) →
             IsMachine self.now (F.known files.old) m → (given : Next) → decided m given ≡ Ok change →
-            IsTask result m given }
+            IsTask result m given kept) }
         ensures ready { IsReady result self.now.guest }
         ensures later { CallsLater result (F.known files.old) (F.known files.new) }
         ensures cause { TaskCause result (F.known files.old).health.faults (F.known files.new).health.faults }
@@ -79,6 +82,8 @@ impl LiveMachine {
         match change {
             Change::Start => Task::Plan(start(self.alloc, &self.config, files)),
             Change::LoadSnapshot(load) => Task::Plan(restore(self.alloc, &load, files)),
+            Change::PutDrive(drive) => Task::Plan(put_drive(self.alloc, &self.config, drive)),
+            Change::PatchDrive(patch) => Task::Plan(patch_drive(&self.config, patch, files)),
             Change::PutMetadata(body) => Task::Plan(put_metadata(self.alloc, body)),
             Change::PatchMetadata(patch) => Task::Plan(patch_metadata(&self.metadata, &patch)),
             Change::CreateSnapshot(create) => self.task_of_create(create),
@@ -89,8 +94,8 @@ impl LiveMachine {
     // What comes of a create. Only a machine that has started comes here.
     fn task_of_create(&self, it: SnapshotCreate) -> Task
         requires { HasTwoNames it.files }
-        ensures task { (known : FilesKnown) (m : Machine) → IsMachine self.now known m → (given : Next) →
-            decided m given ≡ Ok (change.CreateSnapshot it) → IsTask result m given }
+        ensures task { (kept : List Device) × ((known : FilesKnown) (m : Machine) → IsMachine self.now known m →
+            (given : Next) → decided m given ≡ Ok (change.CreateSnapshot it) → IsTask result m given kept) }
         ensures ready { IsReady result self.now.guest }
         ensures cause { (n : ℕ) → TaskCause result n n }
     {
@@ -117,8 +122,8 @@ impl LiveMachine {
 
     // What comes of a request.
     pub(super) fn task<F: Files>(&self, request: &Request, files: &mut F) -> Task
-        ensures task { Tells (F.known files.old).health → (m : Machine) →
-            IsMachine self.now (F.known files.old) m → IsTask result m (Next.Request request.now) }
+        ensures task { (kept : List Device) × (Tells (F.known files.old).health → (m : Machine) →
+            IsMachine self.now (F.known files.old) m → IsTask result m (Next.Request request.now) kept) }
         ensures ready { IsReady result self.now.guest }
         ensures later { CallsLater result (F.known files.old) (F.known files.new) }
         ensures cause { TaskCause result (F.known files.old).health.faults (F.known files.new).health.faults }

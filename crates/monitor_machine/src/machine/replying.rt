@@ -21,7 +21,7 @@ use vm_outside::Files;
 use vm_types::ByteList;
 
 impl LiveMachine {
-    ghost use Rattle.monitor_machine.specs.Plans.{Answers, plan_after, plan_outcome, plan_response};
+    ghost use Rattle.monitor_machine.specs.Plans.{Answers, PlanLeaves, plan_outcome, plan_response};
     ghost use Rattle.monitor_machine.specs.Replying.{AsksFiles, Replies};
 
     // Puts the plan's response behind the text.
@@ -99,13 +99,21 @@ impl LiveMachine {
     // Does what was answered, which takes no memory.
     fn perform(&mut self, plan: Plan) -> Outcome
         ensures how { result ≡ plan_outcome plan }
-        ensures leaves { self.new ≡ plan_after plan self.old }
+        ensures leaves { PlanLeaves plan self.old self.new }
     {
         match plan {
             Plan::Refused(_) => Outcome::Answered,
             Plan::Changes(change) => {
                 self.stand(&change);
                 let _applied = self.config.apply(change);
+                Outcome::Answered
+            }
+            Plan::Drives(drives) => {
+                self.config.set_drives(drives);
+                Outcome::Answered
+            }
+            Plan::Resizes(resize) => {
+                self.take_file(resize);
                 Outcome::Answered
             }
             Plan::Stores(metadata) => {

@@ -3,5 +3,5 @@ use Rattle.monitor_plans.proofs.starting.guest_of.Goals as goal
 
 pub returns : goal.returns
 returns c =
-    loads_are c.args.config.now c.args.image.now c.args.disk.now _ _ _ _ c.in_ok-world.world
+    loads_are c.args.config.now c.args.image.now c.args.disk.now _ _ _ _ c.args.drives.now c.in_ok-world.world
     c.initrd_of.ensures c.place_of.ensures c.in-Ok.ensures c.as_slice.ensures.value c.in_ok-world.ensures

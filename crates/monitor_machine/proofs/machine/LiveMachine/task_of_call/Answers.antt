@@ -1,7 +1,8 @@
-use Rattle.std.proofs.Common.{sym, ◌∙◌}
+use Rattle.std.proofs.Common.{sym, ◌∙◌, []}
 use Rattle.http_stream.specs.declared.request.Next.TheVariants as next
 use Rattle.monitor_machine.specs.Plans.{phase_of}
-use Rattle.monitor_machine.proofs.Plans.{decided_is, no_files, refused_plan, two_files}
+use Rattle.monitor_machine.proofs.Deciding.{decided_is, no_files, two_files}
+use Rattle.monitor_machine.proofs.Planning.{refused_plan}
 use Rattle.monitor_machine.proofs.machine.LiveMachine.task_of_call.Goals as goal
 
 pub task_of_change-requires : goal.task_of_change-requires
@@ -10,9 +11,13 @@ task_of_change-requires g c =
     two_files (phase_of live) live.config live.ids c.args.call c.in-Ok.change (sym c.decided.ensures ∙ c.in-Ok.is) c.requires.0 c.requires.1
 
 pub returns-in-Ok-clause-task : goal.returns-in-Ok-clause-task
-returns-in-Ok-clause-task g c = λ told m is request asks.
-    c.task_of_change.ensures.task told m is (next.Request request)
-    (sym (decided_is c.args.self.now m request c.args.call is.own asks) ∙ (sym c.decided.ensures ∙ c.in-Ok.is))
+returns-in-Ok-clause-task g c =
+    let task = c.task_of_change.ensures.task in (
+      task.0,
+      λ told m is request asks.
+          task.1 told m is (next.Request request)
+          (sym (decided_is c.args.self.now m request c.args.call is.own asks) ∙ (sym c.decided.ensures ∙ c.in-Ok.is)),
+    )
 
 pub returns-in-Ok-clause-uncalled : goal.returns-in-Ok-clause-uncalled
 returns-in-Ok-clause-uncalled g c = λ never.
@@ -21,6 +26,9 @@ returns-in-Ok-clause-uncalled g c = λ never.
     (no_files (phase_of live) live.config live.ids c.args.call c.in-Ok.change (sym c.decided.ensures ∙ c.in-Ok.is) never)
 
 pub returns-in-Err-clause-task : goal.returns-in-Err-clause-task
-returns-in-Err-clause-task g c = λ told m is request asks.
-    refused_plan m (next.Request request) c.in-Err.why
-    (sym (decided_is c.args.self.now m request c.args.call is.own asks) ∙ (sym c.decided.ensures ∙ c.in-Err.is))
+returns-in-Err-clause-task g c = (
+  [],
+  λ told m is request asks.
+      refused_plan m (next.Request request) c.in-Err.why
+      (sym (decided_is c.args.self.now m request c.args.call is.own asks) ∙ (sym c.decided.ensures ∙ c.in-Err.is)),
+)

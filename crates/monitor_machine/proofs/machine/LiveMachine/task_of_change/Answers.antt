@@ -1,26 +1,55 @@
-use Rattle.std.proofs.Common.{ap, ◌∙◌, Ok}
-use Rattle.monitor_machine.proofs.Plans.{patch_plan, put_plan, restore_plan, start_plan}
+use Rattle.std.proofs.Common.{ap, ◌∙◌, [], Ok}
+use Rattle.monitor_machine.proofs.Planning.{drives_plan, patch_plan, put_plan, refile_plan, restore_plan, start_plan}
 use Rattle.monitor_machine.proofs.machine.LiveMachine.task_of_change.Goals as goal
 
 pub returns-in-Start-clause-task : goal.returns-in-Start-clause-task
-returns-in-Start-clause-task g c = λ told m is given asks.
-    start_plan c.start.result c.args.self.now (g.F.Files.known c.args.files.now) m given is (asks ∙ ap Ok c.in-Start.is)
-    (c.start.ensures.gives told)
+returns-in-Start-clause-task g c = (
+  [],
+  λ told m is given asks.
+      start_plan c.start.result c.args.self.now (g.F.Files.known c.args.files.now) m given is (asks ∙ ap Ok c.in-Start.is)
+      (c.start.ensures.gives told),
+)
 
 pub returns-in-LoadSnapshot-clause-task : goal.returns-in-LoadSnapshot-clause-task
-returns-in-LoadSnapshot-clause-task g c = λ told m is given asks.
-    restore_plan c.restore.result c.in-LoadSnapshot.load c.args.self.now (g.F.Files.known c.args.files.now) m given is
-    (asks ∙ ap Ok c.in-LoadSnapshot.is) (c.restore.ensures.gives told)
+returns-in-LoadSnapshot-clause-task g c = (
+  [],
+  λ told m is given asks.
+      restore_plan c.restore.result c.in-LoadSnapshot.load c.args.self.now (g.F.Files.known c.args.files.now) m given is
+      (asks ∙ ap Ok c.in-LoadSnapshot.is) (c.restore.ensures.gives told),
+)
 
 pub returns-in-CreateSnapshot-clause-task : goal.returns-in-CreateSnapshot-clause-task
-returns-in-CreateSnapshot-clause-task g c = λ told m is given asks.
-    c.task_of_create.ensures.task (g.F.Files.known c.args.files.now) m is given (asks ∙ ap Ok c.in-CreateSnapshot.is)
+returns-in-CreateSnapshot-clause-task g c =
+    let task = c.task_of_create.ensures.task in
+    (task.0, λ told m is given asks. task.1 (g.F.Files.known c.args.files.now) m is given (asks ∙ ap Ok c.in-CreateSnapshot.is))
+
+pub returns-in-PutDrive-clause-task : goal.returns-in-PutDrive-clause-task
+returns-in-PutDrive-clause-task g c = (
+  [],
+  λ told m is given asks.
+      drives_plan c.put_drive.result c.in-PutDrive.drive c.args.self.now m given is.own.config_is (asks ∙ ap Ok c.in-PutDrive.is)
+      c.put_drive.ensures.gives,
+)
+
+pub returns-in-PatchDrive-clause-task : goal.returns-in-PatchDrive-clause-task
+returns-in-PatchDrive-clause-task g c = (
+  [],
+  λ told m is given asks.
+      refile_plan c.patch_drive.result c.in-PatchDrive.patch c.args.self.now (g.F.Files.known c.args.files.now) m given is
+      (asks ∙ ap Ok c.in-PatchDrive.is) (c.patch_drive.ensures.gives told),
+)
 
 pub returns-in-PutMetadata-clause-task : goal.returns-in-PutMetadata-clause-task
-returns-in-PutMetadata-clause-task g c = λ told m is given asks.
-    put_plan c.put_metadata.result c.in-PutMetadata.body m given (asks ∙ ap Ok c.in-PutMetadata.is) c.put_metadata.ensures.gives
+returns-in-PutMetadata-clause-task g c = (
+  [],
+  λ told m is given asks.
+      put_plan c.put_metadata.result c.in-PutMetadata.body m given (asks ∙ ap Ok c.in-PutMetadata.is) c.put_metadata.ensures.gives,
+)
 
 pub returns-in-PatchMetadata-clause-task : goal.returns-in-PatchMetadata-clause-task
-returns-in-PatchMetadata-clause-task g c = λ told m is given asks.
-    patch_plan c.patch_metadata.result c.args.self.now.metadata c.in-PatchMetadata.patch m given is.own.metadata_is
-    (asks ∙ ap Ok c.in-PatchMetadata.is) c.patch_metadata.ensures.gives
+returns-in-PatchMetadata-clause-task g c = (
+  [],
+  λ told m is given asks.
+      patch_plan c.patch_metadata.result c.args.self.now.metadata c.in-PatchMetadata.patch m given is.own.metadata_is
+      (asks ∙ ap Ok c.in-PatchMetadata.is) c.patch_metadata.ensures.gives,
+)

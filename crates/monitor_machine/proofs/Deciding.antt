@@ -1,0 +1,102 @@
+-- What is decided of a call, and which files it asks.
+use Rattle.std.proofs.Common.{◌≡◌, ℕ, Bool, true, false, refl, sym, ap, subst, ◌∙◌, List, Option, Some, None, Ok, Result}
+use Rattle.std.specs.Prelude.{is_some}
+use Rattle.refusals.specs.declared.refusal.Refusal.{Refusal}
+use Rattle.http_stream.specs.declared.request.Request.{Request}
+use Rattle.http_stream.specs.declared.request.Next.TheVariants as next
+use Rattle.api_calls.specs.declared.call.ApiCall.{ApiCall}
+use Rattle.api_calls.specs.declared.call.ApiCall.TheVariants as call
+use Rattle.api_calls.specs.Call.{call_of, ◌>>=◌}
+use Rattle.api_calls.proofs.Asked.{asked_is}
+use Rattle.vm_config.specs.declared.config.Config.{Config}
+use Rattle.vm_config.specs.declared.config.Phase.{Phase}
+use Rattle.vm_config.specs.declared.change.Change.{Change}
+use Rattle.api_rules.specs.declared.ids.Ids.{Ids}
+use Rattle.api_rules.specs.Table.{change_of, decision, misplaced, own_refusal, unless, when_allowed}
+use Rattle.flat_guest.specs.Guest.{Guest}
+use Rattle.flat_machine.specs.Machine.{AreFilesOf, Machine}
+use Rattle.flat_machine.specs.Machine as machine
+use Rattle.flat_machine.specs.Requests.{decided}
+use Rattle.vm_world.specs.Worlds.{WorldValue}
+use Rattle.monitor_machine.specs.declared.machine.LiveMachine.{LiveMachine}
+use Rattle.monitor_machine.specs.Plans.{HasTwoFiles, needs_files, phase_by, phase_of}
+use Rattle.monitor_machine.specs.Replying.{calls_files}
+use Rattle.monitor_machine.specs.State.{IsGuestBy, IsLive}
+
+phase_one : (w : Option WorldValue) (g : Option Guest) (paused : Bool) → IsGuestBy w g → phase_by w paused ≡ machine.phase_by g paused
+phase_one None None paused is = refl
+phase_one (Some w) (Some g) true is = refl
+phase_one (Some w) (Some g) false is = refl
+phase_one (Some w) None paused is = absurd is
+phase_one None (Some g) paused is = absurd is
+
+pub phase_is : (live : LiveMachine) (m : Machine) → IsLive live m → phase_of live ≡ machine.phase_of m
+phase_is live m own =
+    phase_one live.guest m.guest live.paused own.guest_is ∙ ap (λ (b : Bool). machine.phase_by m.guest b) own.paused_is
+
+-- what the monitor decides is what the machine decides
+pub decided_is : (live : LiveMachine) (m : Machine) (request : Request) (it : ApiCall) → IsLive live m
+    → call_of request ≡ Ok it → decision (phase_of live) live.config live.ids it ≡ decided m (next.Request request)
+decided_is live m request it own asks =
+    ap (λ (p : Phase). decision p live.config live.ids it) (phase_is live m own)
+    ∙ ap (λ (c : Config). decision (machine.phase_of m) c live.ids it) own.config_is
+    ∙ ap (λ (i : Ids). decision (machine.phase_of m) m.config i it) own.ids_is
+    ∙ sym (ap (λ (r : Result ApiCall Refusal). r >>= λ x. decision (machine.phase_of m) m.config m.ids x) asks)
+
+-- ---- what a call asks for
+
+unless_ok : (o : Option Refusal) (due : Result Change Refusal) (c : Change) → unless o due ≡ Ok c → due ≡ Ok c
+unless_ok None due c is = is
+unless_ok (Some why) due c is = cc
+
+same_change : (a b : Change) → ◌≡◌ {A = Result Change Refusal} (Ok a) (Ok b) → a ≡ b
+same_change a b is = cc
+
+change_is : (p : Phase) (config : Config) (ids : Ids) (it : ApiCall) (c : Change) → decision p config ids it ≡ Ok c → change_of config it ≡ c
+change_is p config ids it c is =
+    same_change (change_of config it) c
+    (unless_ok (own_refusal p config ids it) (Ok (change_of config it)) c
+    (unless_ok (misplaced (when_allowed it) p) (unless (own_refusal p config ids it) (Ok (change_of config it))) c is))
+
+-- a create names two files
+pub two_files : (p : Phase) (config : Config) (ids : Ids) (it : ApiCall) (c : Change) → decision p config ids it ≡ Ok c
+    → (request : Request) → call_of request ≡ Ok it → HasTwoFiles c
+two_files p config ids it c is request asks = subst HasTwoFiles (change_is p config ids it c is) (by_call it asks)
+  where
+    by_call : (it : ApiCall) → call_of request ≡ Ok it → HasTwoFiles (change_of config it)
+    by_call (call.PutBootSource source) asks = tt
+    by_call (call.PutDrive drive) asks = tt
+    by_call (call.PatchDrive patch) asks = tt
+    by_call (call.PutMachineConfig machine) asks = tt
+    by_call (call.PatchMachineConfig patch) asks = tt
+    by_call (call.PutMetadata body) asks = tt
+    by_call (call.PatchMetadata patch) asks = tt
+    by_call call.InstanceStart asks = tt
+    by_call (call.PatchVm state) asks = tt
+    by_call (call.CreateSnapshot files) asks = (asked_is request (call.CreateSnapshot files) asks).2
+    by_call (call.LoadSnapshot load) asks = tt
+    by_call (call.Get part) asks = tt
+
+-- ---- which calls call the files
+
+pub no_files : (p : Phase) (config : Config) (ids : Ids) (it : ApiCall) (c : Change) → decision p config ids it ≡ Ok c
+    → (calls_files it ≡ true → ⊥) → needs_files c ≡ false
+no_files p config ids it c is never = ap needs_files (sym (change_is p config ids it c is)) ∙ by_call it never
+  where
+    no_path : (path : Option (List ℕ)) → (is_some path ≡ true → ⊥) → is_some path ≡ false
+    no_path None never = refl
+    no_path (Some name) never = absurd (never refl)
+
+    by_call : (it : ApiCall) → (calls_files it ≡ true → ⊥) → needs_files (change_of config it) ≡ false
+    by_call (call.PutBootSource source) never = refl
+    by_call (call.PutDrive drive) never = refl
+    by_call (call.PatchDrive patch) never = no_path patch.path_on_host never
+    by_call (call.PutMachineConfig machine) never = refl
+    by_call (call.PatchMachineConfig patch) never = refl
+    by_call (call.PutMetadata body) never = refl
+    by_call (call.PatchMetadata patch) never = refl
+    by_call call.InstanceStart never = absurd (never refl)
+    by_call (call.PatchVm state) never = refl
+    by_call (call.CreateSnapshot files) never = absurd (never refl)
+    by_call (call.LoadSnapshot load) never = absurd (never refl)
+    by_call (call.Get part) never = refl

@@ -1,0 +1,307 @@
+-- What a plan answers and leaves is what the machine does.
+use Rattle.std.proofs.Common.{◌≡◌, ℕ, Bool, true, false, not, refl, sym, ap, subst, ◌∙◌, List, [], Option, Some, None, Ok, Err, Result}
+use Rattle.std.specs.Prelude.{is_none, is_some}
+use Rattle.std.specs.FinMap.{get}
+use Rattle.vm_types.specs.Saved.{Saved}
+use Rattle.serde_json.specs.Data.{Data}
+use Rattle.refusals.specs.declared.refusal.Refusal.{Refusal}
+use Rattle.http_stream.specs.declared.request.Next.{Next}
+use Rattle.vm_outside.specs.Known.{FilesKnown}
+use Rattle.api_calls.specs.declared.call.VmState.TheVariants.{Paused, Resumed}
+use Rattle.metadata_store.specs.Store.{put}
+use Rattle.vm_config.specs.declared.config.Config.{Config}
+use Rattle.vm_config.specs.declared.config.Phase.{Phase}
+use Rattle.vm_config.specs.declared.change.Change.{Change}
+use Rattle.vm_config.specs.declared.change.Change.TheVariants as change
+use Rattle.vm_config.specs.Changes.{changed, takes_memory}
+use Rattle.vm_config.specs.Drives.{device_of}
+use Rattle.api_rules.specs.declared.answer.Answer.{Answer}
+use Rattle.api_rules.specs.Answers.{accepted, no_content}
+use Rattle.guest_devices.specs.declared.device.Device.{Device}
+use Rattle.flat_guest.specs.Guest.{Guest}
+use Rattle.flat_machine.specs.Outcome as flat
+use Rattle.flat_machine.specs.Machine.{AreFilesOf, Machine}
+use Rattle.flat_machine.specs.Machine as machine
+use Rattle.flat_snapshot.specs.Found.{Snapshot}
+use Rattle.flat_machine.specs.Requests.{Fails, LeavesBy, RequestStep, Restores, Stores, allowed, answer_by, carried, configured, disk_of}
+use Rattle.flat_machine.specs.Requests.{halted, patched_drive, respond, retold, sectors_of, started_from}
+use Rattle.vm_world.specs.Worlds.{WorldValue}
+use Rattle.vm_world.proofs.Events.{restarted}
+use Rattle.monitor_plans.specs.declared.plan.Plan.{Plan}
+use Rattle.monitor_plans.specs.declared.plan.Plan.TheVariants as plan
+use Rattle.monitor_plans.specs.Plans.{plan_answer}
+use Rattle.monitor_machine.specs.declared.machine.LiveMachine.{LiveMachine}
+use Rattle.monitor_machine.specs.Plans.{IsKept, IsPlan, PlanLeaves, Resizes, answer_of, halted_world, is_plain, paused_by, phase_of, plan_outcome, reads_files, world_by}
+use Rattle.monitor_machine.specs.Replying.{left_by, outcome_by}
+use Rattle.monitor_machine.specs.State.{IsGuestBy, IsLive, IsMachine}
+use Rattle.monitor_machine.proofs.Deciding.{phase_is}
+
+answer_is : (it : Plan) (live : LiveMachine) (m : Machine) → IsLive live m
+    → answer_of it live ≡ plan_answer it m.id (machine.phase_of m) m.config m.metadata
+answer_is it live m own =
+    ap (λ (i : List ℕ). plan_answer it i (phase_of live) live.config live.metadata) own.id_is
+    ∙ ap (λ (p : Phase). plan_answer it m.id p live.config live.metadata) (phase_is live m own)
+    ∙ ap (λ (c : Config). plan_answer it m.id (machine.phase_of m) c live.metadata) own.config_is
+    ∙ ap (λ (d : Data). plan_answer it m.id (machine.phase_of m) m.config d) own.metadata_is
+
+abbrev pub Does : Plan → Machine → Next → Answer → LiveMachine → FilesKnown → Type 0
+Does it m given answer after known =
+    (n : Machine) × RequestStep (outcome_by (plan_outcome it) [] known) given m (respond given answer) n
+    × IsMachine after known n
+
+-- an answer of the machine, whose change leaves n
+pub answered : (live : LiveMachine) (known : FilesKnown) (m n : Machine) (given : Next) (made : Result Change Refusal) (answer : Answer)
+    (kept : List Device) → allowed m given ≡ made → answer ≡ answer_by m made → LeavesBy m made kept n
+    → RequestStep (flat.Outcome.Answered kept) given m (respond given answer) n
+answered live known m n given made answer kept asks is leaves = (
+  ap (respond given) (is ∙ ap (answer_by m) (sym asks)),
+  subst (λ (r : Result Change Refusal). LeavesBy m r kept n) (sym asks) leaves,
+)
+
+-- what a change other than a start leaves
+abbrev guest_by : Change → Bool → Option Guest → Option Guest
+guest_by (change.State Paused) paused guest = halted paused guest
+guest_by it paused guest = guest
+
+abbrev plainly : Machine → Change → Machine
+plainly m it = record m {
+  config = changed m.config it;
+  guest = guest_by it m.paused m.guest;
+  paused = paused_by it m.paused;
+}
+
+halted_is : (paused : Bool) (w : Option WorldValue) (g : Option Guest) → IsGuestBy w g
+    → IsGuestBy (halted_world paused w) (halted paused g)
+halted_is true w g is = is
+halted_is false None None is = is
+halted_is false (Some w) (Some g) is = restarted w g is
+halted_is false (Some w) None is = absurd is
+halted_is false None (Some g) is = absurd is
+
+left_is : (it : Change) (paused : Bool) (w : Option WorldValue) (g : Option Guest) → IsGuestBy w g
+    → IsGuestBy (world_by it paused w) (guest_by it paused g)
+left_is (change.State Paused) paused w g is = halted_is paused w g is
+left_is (change.State Resumed) paused w g is = is
+left_is (change.BootSource source) paused w g is = is
+left_is (change.PutDrive drive) paused w g is = is
+left_is (change.PatchDrive patch) paused w g is = is
+left_is (change.MachineConfig machine) paused w g is = is
+left_is (change.PutMetadata body) paused w g is = is
+left_is (change.PatchMetadata patch) paused w g is = is
+left_is change.Start paused w g is = is
+left_is (change.CreateSnapshot files) paused w g is = is
+left_is (change.LoadSnapshot load) paused w g is = is
+left_is (change.Tell part) paused w g is = is
+
+-- a drive whose file stays tells its device nothing
+not_retold : (path : Option (List ℕ)) (number : Option ℕ) (saved : Saved) (g : Option Guest) → is_none path ≡ true
+    → retold path number saved g ≡ g
+not_retold None number saved g none = refl
+not_retold (Some path) number saved g none = cc
+
+plain_leaves : (m : Machine) (it : Change) → is_plain it ≡ true → LeavesBy m (Ok it) [] (plainly m it)
+plain_leaves m (change.BootSource source) plain = (refl, refl)
+plain_leaves m (change.PutDrive drive) plain = cc
+plain_leaves m (change.PatchDrive patch) plain =
+    let same = not_retold patch.path_on_host (device_of m.config.drives patch.drive_id) m.saved m.guest plain in
+    (refl, λ i. record m { config = changed m.config (change.PatchDrive patch); guest = sym same i })
+plain_leaves m (change.MachineConfig machine) plain = (refl, refl)
+plain_leaves m (change.PutMetadata body) plain = cc
+plain_leaves m (change.PatchMetadata patch) plain = cc
+plain_leaves m change.Start plain = cc
+plain_leaves m (change.State Paused) plain = (refl, refl)
+plain_leaves m (change.State Resumed) plain = (refl, refl)
+plain_leaves m (change.CreateSnapshot files) plain = cc
+plain_leaves m (change.LoadSnapshot load) plain = cc
+plain_leaves m (change.Tell part) plain = (refl, refl)
+
+-- and takes no memory
+plain_free : (it : Change) → is_plain it ≡ true → takes_memory it ≡ false
+plain_free (change.BootSource source) plain = refl
+plain_free (change.PutDrive drive) plain = cc
+plain_free (change.PatchDrive patch) plain = refl
+plain_free (change.MachineConfig machine) plain = refl
+plain_free (change.PutMetadata body) plain = refl
+plain_free (change.PatchMetadata patch) plain = refl
+plain_free change.Start plain = refl
+plain_free (change.State state) plain = refl
+plain_free (change.CreateSnapshot files) plain = refl
+plain_free (change.LoadSnapshot load) plain = refl
+plain_free (change.Tell part) plain = refl
+
+-- where a drive has another file its device is told in both
+retold_is : (device number : Option ℕ) (sectors : ℕ) (path : Option (List ℕ)) (name : List ℕ) (saved : Saved) (w v : Option WorldValue) (g : Option Guest)
+    → path ≡ Some name → device ≡ number → sectors ≡ sectors_of (get saved name) → IsGuestBy w g → Resizes device sectors w v
+    → IsGuestBy v (retold path number saved g)
+retold_is device number sectors path name saved w v g named same size is told =
+    subst (λ (o : Option (List ℕ)). IsGuestBy v (retold o number saved g)) (sym named)
+    (by_device number w v g is (subst (λ (n : ℕ). Resizes number n w v) size (subst (λ (o : Option ℕ). Resizes o sectors w v) same told)))
+  where
+    by_device : (number : Option ℕ) (w v : Option WorldValue) (g : Option Guest) → IsGuestBy w g
+        → Resizes number (sectors_of (get saved name)) w v → IsGuestBy v (retold (Some name) number saved g)
+    by_device None w v g is told = subst (λ (o : Option WorldValue). IsGuestBy o g) (sym told) is
+    by_device (Some k) None v None is told = subst (λ (o : Option WorldValue). IsGuestBy o None) (sym told) tt
+    by_device (Some k) None v (Some g) is told = absurd is
+    by_device (Some k) (Some w) v None is told = absurd is
+    by_device (Some k) (Some w) None (Some g) is told = absurd told
+    by_device (Some k) (Some w) (Some v) (Some g) is told = told g is
+
+-- what is stored leaves the machine with it
+keeps : (it : Change) (m : Machine) (kept : Data) → IsKept kept m it
+    → LeavesBy m (Ok it) [] (record m { metadata = kept }) × (accepted it m.id (machine.phase_of m) m.config m.metadata ≡ no_content)
+keeps (change.PutMetadata body) m kept is =
+    ((refl, subst (λ (due : Result Data Refusal). Stores due m (record m { metadata = kept })) (sym is) refl), refl)
+keeps (change.PatchMetadata patch) m kept is =
+    ((refl, subst (λ (due : Result Data Refusal). Stores due m (record m { metadata = kept })) (sym is) refl), refl)
+keeps (change.BootSource source) m kept is = absurd is
+keeps (change.PutDrive drive) m kept is = absurd is
+keeps (change.PatchDrive patch) m kept is = absurd is
+keeps (change.MachineConfig machine) m kept is = absurd is
+keeps change.Start m kept is = absurd is
+keeps (change.State state) m kept is = absurd is
+keeps (change.CreateSnapshot files) m kept is = absurd is
+keeps (change.LoadSnapshot load) m kept is = absurd is
+keeps (change.Tell part) m kept is = absurd is
+
+-- a start, a load or another file for a drive leaves the files as they were
+given_path : (path : Option (List ℕ)) → is_some path ≡ true → (name : List ℕ) × (path ≡ Some name)
+given_path None given = cc
+given_path (Some name) given = (name, refl)
+
+fails_alone : (it : Change) (m : Machine) (known : FilesKnown) → AreFilesOf known m → reads_files it ≡ true
+    → Fails m it (left_by known) m
+fails_alone (change.BootSource source) m known files reads = cc
+fails_alone (change.PutDrive drive) m known files reads = cc
+fails_alone (change.PatchDrive patch) m known files reads =
+    let named = given_path patch.path_on_host reads in
+    (named.0, named.1, (λ i. record { saved = files.saved_is i; calls = files.calls_is i }), refl)
+fails_alone (change.MachineConfig machine) m known files reads = cc
+fails_alone (change.PutMetadata body) m known files reads = cc
+fails_alone (change.PatchMetadata patch) m known files reads = cc
+fails_alone change.Start m known files reads = (λ i. record { saved = files.saved_is i; calls = files.calls_is i }, refl)
+fails_alone (change.State state) m known files reads = cc
+fails_alone (change.CreateSnapshot names) m known files reads = cc
+fails_alone (change.LoadSnapshot load) m known files reads = (λ i. record { saved = files.saved_is i; calls = files.calls_is i }, refl)
+fails_alone (change.Tell part) m known files reads = cc
+
+-- what comes of a plan that leaves this
+pub plan_does : (it : Plan) (live after : LiveMachine) (known : FilesKnown) (m : Machine) (given : Next) → IsMachine live known m
+    → IsPlan it m given → PlanLeaves it live after → Does it m given (answer_of it live) after known
+plan_does (plan.Refused why) live after known m given is asks leaves = (
+  m,
+  answered live known m m given (Err why) _ [] asks (answer_is (plan.Refused why) live m is.own) (refl, refl),
+  subst (λ (l : LiveMachine). IsMachine l known m) (sym leaves) is,
+)
+plan_does (plan.Changes it) live after known m given is (asks, plain) leaves = (
+  plainly m it,
+  answered live known m (plainly m it) given (Ok it) _ [] asks (answer_is (plan.Changes it) live m is.own) (plain_leaves m it plain),
+  subst (λ (l : LiveMachine). IsMachine l known (plainly m it)) (sym (leaves (plain_free it plain))) (record {
+    own = record {
+      id_is = is.own.id_is;
+      ids_is = is.own.ids_is;
+      config_is = ap (λ (k : Config). changed k it) is.own.config_is;
+      metadata_is = is.own.metadata_is;
+      guest_is =
+          subst (λ (b : Bool). IsGuestBy (world_by it live.paused live.guest) (guest_by it b m.guest)) is.own.paused_is
+          (left_is it live.paused live.guest m.guest is.own.guest_is);
+      paused_is = ap (λ (b : Bool). paused_by it b) is.own.paused_is;
+    };
+    files = record { saved_is = is.files.saved_is; calls_is = is.files.calls_is };
+  }),
+)
+plan_does (plan.Drives drives) live after known m given is (drive, asks, put) leaves =
+    let n : Machine = configured m (change.PutDrive drive) in (
+      n,
+      answered live known m n given (Ok (change.PutDrive drive)) _ [] asks (answer_is (plan.Drives drives) live m is.own) (refl, refl),
+      subst (λ (l : LiveMachine). IsMachine l known n) (sym leaves) (record {
+        own = record {
+          id_is = is.own.id_is;
+          ids_is = is.own.ids_is;
+          config_is = λ i. record (is.own.config_is i) { drives = put i; configured = true };
+          metadata_is = is.own.metadata_is;
+          guest_is = is.own.guest_is;
+          paused_is = is.own.paused_is;
+        };
+        files = record { saved_is = is.files.saved_is; calls_is = is.files.calls_is };
+      }),
+    )
+plan_does (plan.Resizes r) live after known m given is asks leaves =
+    let it : Change = change.PatchDrive r.patch in
+    let n : Machine = configured (patched_drive m r.patch) it in (
+      n,
+      answered live known m n given (Ok it) _ [] asks.asks (answer_is (plan.Resizes r) live m is.own) (refl, refl),
+      subst (λ (l : LiveMachine). IsMachine l known n) (sym leaves.rest) (record {
+        own = record {
+          id_is = is.own.id_is;
+          ids_is = is.own.ids_is;
+          config_is = ap (λ (k : Config). changed k it) is.own.config_is;
+          metadata_is = is.own.metadata_is;
+          guest_is = retold_is r.device (device_of m.config.drives r.patch.drive_id) r.sectors r.patch.path_on_host asks.path m.saved
+              live.guest after.guest m.guest asks.path_is asks.device_is asks.sectors_is is.own.guest_is leaves.world;
+          paused_is = is.own.paused_is;
+        };
+        files = record { saved_is = is.files.saved_is; calls_is = is.files.calls_is };
+      }),
+    )
+plan_does (plan.Stores kept) live after known m given is (it, asks, stores) leaves =
+    let left = keeps it m kept stores in (
+      record m { metadata = kept },
+      answered live known m (record m { metadata = kept }) given (Ok it) _ [] asks (sym left.1) left.0,
+      subst (λ (l : LiveMachine). IsMachine l known (record m { metadata = kept })) (sym leaves) (record {
+        own = record {
+          id_is = is.own.id_is;
+          ids_is = is.own.ids_is;
+          config_is = is.own.config_is;
+          metadata_is = refl;
+          guest_is = is.own.guest_is;
+          paused_is = is.own.paused_is;
+        };
+        files = record { saved_is = is.files.saved_is; calls_is = is.files.calls_is };
+      }),
+    )
+plan_does (plan.Starts w) live after known m given is (asks, image, there, world) leaves =
+    let n : Machine = configured (started_from (Some image) (disk_of m) m) change.Start in (
+      n,
+      answered live known m n given (Ok change.Start) _ [] asks (answer_is (plan.Starts w) live m is.own)
+          (refl, ap (λ (o : Option (List ℕ)). configured (started_from o (disk_of m) m) change.Start) (sym there)),
+      subst (λ (l : LiveMachine). IsMachine l known n) (sym leaves) (record {
+        own = record {
+          id_is = is.own.id_is;
+          ids_is = is.own.ids_is;
+          config_is = ap (λ (k : Config). changed k change.Start) is.own.config_is;
+          metadata_is = is.own.metadata_is;
+          guest_is = world;
+          paused_is = refl;
+        };
+        files = record { saved_is = is.files.saved_is; calls_is = is.files.calls_is };
+      }),
+    )
+plan_does (plan.Restores r) live after known m given is asks leaves =
+    let n : Machine = carried m asks.load asks.it in (
+      n,
+      answered live known m n given (Ok (change.LoadSnapshot asks.load)) _ [] asks.asks
+          (answer_is (plan.Restores r) live m is.own)
+          (refl, subst (λ (f : Result Snapshot Refusal). Restores f m asks.load n) (sym asks.there) refl),
+      subst (λ (l : LiveMachine). IsMachine l known n) (sym leaves) (record {
+        own = record {
+          id_is = is.own.id_is;
+          ids_is = λ i. record {
+            lineage = (is.own.ids_is i).lineage;
+            base = Some (asks.goes_on.identity_is i);
+            next = asks.goes_on.next_is i;
+          };
+          config_is = asks.goes_on.config_is;
+          metadata_is = refl;
+          guest_is = asks.goes_on.guest_is;
+          paused_is = ap not asks.resumes_is;
+        };
+        files = record { saved_is = is.files.saved_is; calls_is = is.files.calls_is };
+      }),
+    )
+plan_does plan.FilesFailed live after known m given is (it, asks, reads) leaves = (
+  m,
+  (it, asks, fails_alone it m known is.files reads, refl),
+  subst (λ (l : LiveMachine). IsMachine l known m) (sym leaves) is,
+)
+plan_does plan.NoMemory live after known m given is asks leaves =
+    (m, (refl, refl), subst (λ (l : LiveMachine). IsMachine l known m) (sym leaves) is)

@@ -1,0 +1,186 @@
+-- The files of the drives, asked one after another.
+use Rattle.std.proofs.Common.{◌≡◌, ℕ, zero, suc, ◌+◌, ◌-◌, ◌≤◌, nat_le, min, Bool, true, false, not, ◌&&◌, cond, refl, sym, ap, ◌∙◌, List, [], ◌∷◌, ◌++◌, Some, None, length, map, take, drop, replicate, slice_get, arith, add-one}
+use Rattle.std.specs.Prelude.{is_some}
+use Rattle.std.specs.FinMap.{get}
+use Rattle.std.specs.List.{filter, list_all}
+use Rattle.std.proofs.lemmas.Bool.{leb-false, leb-true}
+use Rattle.std.proofs.lemmas.List.{append-nil, drop-replicate, length-append, map-append, take-append-le, take-replicate}
+use Rattle.std.proofs.lemmas.List.Filters.{length-filter_both}
+use Rattle.std.proofs.lemmas.List.Folds.{list_all-append}
+use Rattle.std.proofs.Math.Seq.{take-append-add, take-length}
+use Rattle.vm_types.specs.Saved.{Saved}
+use Rattle.vm_outside.specs.Filing.{SameFiles}
+use Rattle.vm_outside.specs.Known.{FilesKnown, Lasts, Tells}
+use Rattle.api_calls.specs.declared.call.Drive.{Drive}
+use Rattle.vm_config.specs.Drives.{in_order, is_root}
+use Rattle.guest_devices.specs.declared.drive.NewDrive.{NewDrive}
+use Rattle.flat_machine.specs.Requests.{drive_from, have_files}
+use Rattle.monitor_plans.specs.declared.drives.DriveFiles.{DriveFiles}
+
+-- the first elements, with the next or without one
+one_more : {A : Type 0} (xs : List A) (i : ℕ) (x : A) → slice_get xs i ≡ Some x → take (suc i) xs ≡ take i xs ++ x ∷ []
+one_more [] i x is = cc
+one_more (y ∷ xs) zero x is = cc
+one_more {A} (y ∷ xs) (suc i) x is = ap (λ (l : List A). y ∷ l) (one_more xs i x is)
+
+no_more : {A : Type 0} (xs : List A) (i : ℕ) → slice_get xs i ≡ None → take (suc i) xs ≡ take i xs
+no_more [] zero is = refl
+no_more [] (suc i) is = refl
+no_more (y ∷ xs) zero is = cc
+no_more {A} (y ∷ xs) (suc i) is = ap (λ (l : List A). y ∷ l) (no_more xs i is)
+
+swap : (a b c : Bool) → (a && (b && c)) ≡ (b && (a && c))
+swap true b c = refl
+swap false true c = refl
+swap false false c = refl
+
+-- each element is in one of two parts
+both_step : {A : Type 0} (p : A → Bool) (x : A) (t : Bool) (a b xs : List A) → list_all p (a ++ b) ≡ list_all p xs
+    → list_all p (cond t (x ∷ a) a ++ cond (not t) (x ∷ b) b) ≡ (p x && list_all p xs)
+both_step p x true a b xs more = ap (λ r. p x && r) more
+both_step p x false a b xs more =
+    list_all-append p a (x ∷ b) ∙ swap (list_all p a) (p x) (list_all p b)
+    ∙ ap (λ r. p x && r) (sym (list_all-append p a b) ∙ more)
+
+all_both : {A : Type 0} (p q : A → Bool) (xs : List A)
+    → list_all p (filter q xs ++ filter (λ d. not (q d)) xs) ≡ list_all p xs
+all_both p q [] = refl
+all_both p q (x ∷ xs) = both_step p x (q x) (filter q xs) (filter (λ d. not (q d)) xs) xs (all_both p q xs)
+
+-- one element more
+all_one : {A : Type 0} (p : A → Bool) (xs : List A) (x : A) → list_all p (xs ++ x ∷ []) ≡ (list_all p xs && p x)
+all_one p xs x = list_all-append p xs (x ∷ []) ∙ ap (λ r. list_all p xs && r) (and_true (p x))
+  where
+    and_true : (b : Bool) → (b && true) ≡ b
+    and_true true = refl
+    and_true false = refl
+
+-- the bytes of an id: its own, cut or with zeros behind them
+cut : (id : List ℕ) (n : ℕ) → n ≤ length id → take n id ++ drop n (replicate n 0) ≡ take n (id ++ replicate n 0)
+cut id n fit =
+    let none : n - n ≡ 0 = omega arith in
+    ap (λ (l : List ℕ). take n id ++ l) (drop-replicate n n 0 ∙ ap (λ (m : ℕ). replicate m 0) none)
+    ∙ append-nil (take n id) ∙ sym (take-append-le n id (replicate n 0) fit)
+
+filled : (id : List ℕ) (n : ℕ) → length id ≤ n
+    → take (length id) id ++ drop (length id) (replicate n 0) ≡ take n (id ++ replicate n 0)
+filled id n fit =
+    let more : length id + (n - length id) ≡ n = omega arith in
+    ap (λ (l : List ℕ). l ++ drop (length id) (replicate n 0)) (take-length id)
+    ∙ ap (λ (l : List ℕ). id ++ l) (drop-replicate (length id) n 0
+    ∙ sym (take-replicate (n - length id) n 0 (omega arith)))
+    ∙ sym (take-append-add id (replicate n 0) (n - length id))
+    ∙ ap (λ (m : ℕ). take m (id ++ replicate n 0)) more
+
+pub cut_or_filled : (id : List ℕ) (k n : ℕ) → k ≡ min (length id) n
+    → take k id ++ drop k (replicate n 0) ≡ take n (id ++ replicate n 0)
+cut_or_filled id k n is = by_test (nat_le n (length id)) refl
+  where
+    by_test : (t : Bool) → nat_le n (length id) ≡ t → take k id ++ drop k (replicate n 0) ≡ take n (id ++ replicate n 0)
+    by_test true fits =
+        let same : k ≡ n = omega (arith, leb-true n (length id) fits) in
+        ap (λ (m : ℕ). take m id ++ drop m (replicate n 0)) same ∙ cut id n (leb-true n (length id) fits)
+    by_test false short =
+        let less = leb-false n (length id) short in
+        let same : k ≡ length id = omega (arith, less) in
+        ap (λ (m : ℕ). take m id ++ drop m (replicate n 0)) same ∙ filled id n (omega (arith, less))
+
+-- ---- the drives as devices
+
+module _ (saved : Saved) (drives : List Drive) where
+  -- what was asked of the first of them
+  abbrev pub drives_to : ℕ → List NewDrive
+  drives_to i = map (drive_from saved) (take i (in_order drives))
+
+  abbrev pub there_to : ℕ → Bool
+  there_to i = have_files (take i (in_order drives)) saved
+
+  abbrev pub has_file : Drive → Bool
+  has_file d = is_some (get saved d.path_on_host)
+
+  drive_more : (i : ℕ) (d : Drive) (before after : List NewDrive) → slice_get (in_order drives) i ≡ Some d
+      → before ≡ drives_to i → after ≡ before ++ drive_from saved d ∷ [] → after ≡ drives_to (i + 1)
+  drive_more i d before after is so_far more =
+      more ∙ ap (λ (l : List NewDrive). l ++ drive_from saved d ∷ []) so_far
+      ∙ sym (map-append (drive_from saved) (take i (in_order drives)) (d ∷ []))
+      ∙ ap (map (drive_from saved)) (sym (one_more (in_order drives) i d is) ∙ ap (λ (n : ℕ). take n (in_order drives)) (sym (add-one i)))
+
+  there_more : (i : ℕ) (d : Drive) (before after : Bool) → slice_get (in_order drives) i ≡ Some d
+      → before ≡ there_to i → after ≡ (before && has_file d) → after ≡ there_to (i + 1)
+  there_more i d before after is so_far more =
+      more ∙ ap (λ (b : Bool). b && has_file d) so_far
+      ∙ sym (all_one has_file (take i (in_order drives)) d)
+      ∙ ap (list_all has_file) (sym (one_more (in_order drives) i d is) ∙ ap (λ (n : ℕ). take n (in_order drives)) (sym (add-one i)))
+
+  -- there is no device of this number
+  none_more : (i : ℕ) → slice_get (in_order drives) i ≡ None → take (i + 1) (in_order drives) ≡ take i (in_order drives)
+  none_more i is = ap (λ (n : ℕ). take n (in_order drives)) (add-one i) ∙ no_more (in_order drives) i is
+
+  -- all of them were asked
+  whole : take (length drives) (in_order drives) ≡ in_order drives
+  whole =
+      let many : length (in_order drives) ≡ length drives =
+      length-append (filter is_root drives) (filter (λ d. not (is_root d)) drives)
+      ∙ length-filter_both is_root (λ d. not (is_root d)) (λ d. refl) drives in
+      ap (λ (n : ℕ). take n (in_order drives)) (sym many) ∙ take-length (in_order drives)
+
+  all_drives : (found : List NewDrive) → found ≡ drives_to (length drives) → found ≡ map (drive_from saved) (in_order drives)
+  all_drives found is = is ∙ ap (map (drive_from saved)) whole
+
+  all_there : (there : Bool) → there ≡ there_to (length drives) → there ≡ have_files drives saved
+  all_there there is = is ∙ ap (list_all has_file) whole ∙ all_both has_file is_root drives
+
+-- the first of them were asked, which left the files as they were
+pub record HasAsked (drives : List Drive) (before now : FilesKnown) (found : DriveFiles) (i : ℕ) : Type 0 where
+  pub drives_are : Tells before.health → found.drives.items ≡ drives_to before.saved drives i
+  pub there_is : Tells before.health → found.are_there ≡ there_to before.saved drives i
+  pub same : Tells before.health → SameFiles before now
+  pub kept : now.health.faults ≡ before.health.faults
+  pub lasts : Lasts before.health now.health
+
+pub one_asked : (drives : List Drive) (before mid now : FilesKnown) (found after : DriveFiles) (i : ℕ) (d : Drive)
+    → HasAsked drives before mid found i → Some d ≡ slice_get (in_order drives) i
+    → (Tells mid.health → after.drives.items ≡ found.drives.items ++ drive_from mid.saved d ∷ [])
+    → (Tells mid.health → after.are_there ≡ (found.are_there && has_file mid.saved drives d))
+    → (Tells mid.health → SameFiles mid now) → now.health.faults ≡ mid.health.faults → Lasts mid.health now.health
+    → HasAsked drives before now after (i + 1)
+one_asked drives before mid now found after i d so_far is drive there same kept lasts = record {
+  drives_are = λ told.
+      let on = so_far.lasts.still told in let held = (so_far.same told).saved in
+      drive_more before.saved drives i d found.drives.items after.drives.items (sym is) (so_far.drives_are told)
+      (drive on ∙ ap (λ (s : Saved). found.drives.items ++ drive_from s d ∷ []) held);
+  there_is = λ told.
+      let on = so_far.lasts.still told in let held = (so_far.same told).saved in
+      there_more before.saved drives i d found.are_there after.are_there (sym is) (so_far.there_is told)
+      (there on ∙ ap (λ (s : Saved). found.are_there && has_file s drives d) held);
+  same = λ told.
+      let first = so_far.same told in let second = same (so_far.lasts.still told) in
+      record { saved = second.saved ∙ first.saved; calls = second.calls ∙ first.calls };
+  kept = kept ∙ so_far.kept;
+  lasts = record {
+    still = λ told. lasts.still (so_far.lasts.still told);
+    later = let x = so_far.lasts.later in let y = lasts.later in omega (arith, x, y);
+  };
+}
+
+-- there is no device of this number, and nothing was asked
+pub none_asked : (drives : List Drive) (before now : FilesKnown) (found : DriveFiles) (i : ℕ) → HasAsked drives before now found i
+    → None ≡ slice_get (in_order drives) i → HasAsked drives before now found (i + 1)
+none_asked drives before now found i so_far is =
+    let more : take i (in_order drives) ≡ take (i + 1) (in_order drives) = sym (none_more before.saved drives i (sym is)) in
+    record {
+      drives_are = λ told. so_far.drives_are told ∙ ap (map (drive_from before.saved)) more;
+      there_is = λ told. so_far.there_is told ∙ ap (λ (l : List Drive). have_files l before.saved) more;
+      same = so_far.same;
+      kept = so_far.kept;
+      lasts = so_far.lasts;
+    }
+
+-- every one was
+pub all_asked : (drives : List Drive) (before now : FilesKnown) (found : DriveFiles) (i : ℕ) → HasAsked drives before now found i
+    → i ≡ length drives → Tells before.health
+    → (found.drives.items ≡ map (drive_from before.saved) (in_order drives)) × (found.are_there ≡ have_files drives before.saved)
+all_asked drives before now found i so_far all told = (
+  all_drives before.saved drives found.drives.items (so_far.drives_are told ∙ ap (drives_to before.saved drives) all),
+  all_there before.saved drives found.are_there (so_far.there_is told ∙ ap (there_to before.saved drives) all),
+)

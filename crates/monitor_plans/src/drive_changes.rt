@@ -1,0 +1,81 @@
+// What a PUT and a PATCH of a drive come to.
+ghost use Rattle.std.specs.Prelude.{◌≡◌, ℕ, true, List, None, Some, is_some};
+ghost use Rattle.std.specs.FinMap.{get};
+ghost use Rattle.vm_types.specs.Saved.{Saved};
+ghost use Rattle.vm_outside.specs.Filing.{SameFiles};
+ghost use Rattle.vm_outside.specs.Known.{Lasts, Tells};
+ghost use Rattle.flat_machine.specs.Requests.{sectors_of};
+ghost use Rattle.monitor_plans.specs.DriveChanges.{DrivesGive, PatchGives};
+ghost use Rattle.monitor_plans.specs.Plans.{PlanCause};
+
+use crate::drives::sectors_of;
+use crate::plan::Plan;
+use api_calls::{Drive, DrivePatch};
+use api_rules::{Change, Config};
+use refusals::Refusal;
+use std::alloc::Global;
+use vm_outside::Files;
+
+/// Another file of a drive.
+#[derive(Drop)]
+pub struct Resize {
+    /// What is replaced of the drive: the name of its file, which is there.
+    pub patch: DrivePatch,
+    /// The number of the device that the drive is.
+    pub device: Option<u8>,
+    /// How many whole sectors of 512 bytes the file has.
+    pub sectors: u64,
+}
+
+/// What comes of a PUT of a drive that the machine allows.
+pub fn put_drive(alloc: Global, config: &Config, drive: Drive) -> Plan
+    ensures gives { DrivesGive result config.now drive }
+    ensures cause { (n : ℕ) → PlanCause result n n }
+{
+    match config.with_drive(alloc, drive) {
+        Ok(drives) => Plan::Drives(drives),
+        Err(_) => Plan::NoMemory,
+    }
+}
+
+/// What comes of a PATCH of a drive that the machine allows, by the file that it names, if it names one.
+pub fn patch_drive<F: Files>(config: &Config, patch: DrivePatch, files: &mut F) -> Plan
+    ensures gives { Tells (F.known files.old).health → PatchGives result config.now patch (F.known files.old).saved }
+    ensures same { Tells (F.known files.old).health → SameFiles (F.known files.old) (F.known files.new) }
+    ensures cause { PlanCause result (F.known files.old).health.faults (F.known files.new).health.faults }
+    ensures uncalled { patch.path_on_host ≡ None →
+        (F.known files.new).health.faults ≡ (F.known files.old).health.faults }
+    ensures lasts { Lasts (F.known files.old).health (F.known files.new).health }
+{
+    let Some(path) = &patch.path_on_host else {
+        return Plan::Changes(Change::PatchDrive(patch));
+    };
+    let Ok(size) = files.size(path.as_str()) else {
+        return Plan::FilesFailed;
+    };
+    match size {
+        None => Plan::Refused(Refusal::NoSuchFile),
+        Some(_) => other_file(config, patch, sectors_of(size)),
+    }
+}
+
+// What comes of another file, which has so many sectors. No configuration comes to a device of a number past 255.
+fn other_file(config: &Config, patch: DrivePatch, sectors: u64) -> Plan
+    ensures gives { (saved : Saved) (path : List ℕ) → patch.path_on_host ≡ Some path →
+        is_some (get saved path) ≡ true → sectors ≡ sectors_of (get saved path) →
+        PatchGives result config.now patch saved }
+    ensures cause { (n : ℕ) → PlanCause result n n }
+{
+    let device = match config.drives.device_number(patch.drive_id.as_str()) {
+        None => None,
+        Some(number) => match u8::try_from(number) {
+            Ok(number) => Some(number),
+            Err(_) => return Plan::NoMemory,
+        },
+    };
+    Plan::Resizes(Resize {
+        patch,
+        device,
+        sectors,
+    })
+}
