@@ -3,7 +3,7 @@
 
 use firecracker_cli::{ServeOutside, firecracker_main};
 use host_real::{
-    RandomWords, SocketConn, SocketListener, SystemClock, TraceFile, keep_freed_memory,
+    DiskFiles, RandomWords, SocketConn, SocketListener, SystemClock, TraceFile, keep_freed_memory,
 };
 use monitor_cli::{NoWords, Outside};
 use outside_real::{Folder, Reading, Writing};
@@ -21,7 +21,7 @@ fn main(rt: HostRuntime) -> ExitCode {
     };
     let mut with = ServeOutside {
         host: Host {
-            disk: (),
+            disk: DiskFiles::new(&rt),
             link: (),
             vsock: (),
             clock: SystemClock::new(&rt),
@@ -31,7 +31,7 @@ fn main(rt: HostRuntime) -> ExitCode {
         trace: TraceFile::new(&rt),
     };
     let words = words(&rt).map_err(|e| why(&e));
-    let exit = firecracker_main::<_, _, _, _, _, SocketConn, _, _, _>(
+    let exit = firecracker_main::<_, _, _, _, _, _, SocketConn, _, _, _>(
         &rt,
         rt.alloc(),
         words,

@@ -14,6 +14,7 @@ use Rattle.flat_trace.specs.Showing.Out.{Quiet}
 use Rattle.monitor_core.specs.declared.monitor.Monitor.{Monitor}
 use Rattle.monitor_core.specs.State.{IsMonitor}
 use Rattle.monitor_running.specs.Reached.{known}
+use Rattle.monitor_running.proofs.Disks.{rests_same}
 use Rattle.monitor_serving.specs.Connections as connections
 use Rattle.monitor_serving.specs.Connections.{EndCause, HasServed, Place, place}
 use Rattle.monitor_serving.specs.Views.{Hosts, hosts}
@@ -36,12 +37,15 @@ module _ (id : List ℕ) (before : ServeKnown) where
     acts = [];
     outs = [];
     at = start;
-    clock = before.hosts.slices.clock;
+    host = before.hosts.slices.host;
     since = [];
     ran = record {
       took = told ∙ sym (append-nil before.hosts.slices.trace.took);
       run = (refl, refl);
-      asked = record { still = λ t. t; are = λ t. refl };
+      asked = record {
+        clock = record { still = λ t. t; are = λ t. refl };
+        disk = rests_same before.hosts.slices.host.disk;
+      };
       ended = ended;
     };
     unshown = [];
@@ -63,8 +67,9 @@ module _ (id : List ℕ) (before : ServeKnown) where
       → IsDrawn before.hosts.slices.trace.took old trace.took new → IsMonitor old before.hosts.files start
       → listener.ended ≡ before.listener.ended
       → HasServed (start_at id before) before.listener.ended
-      (place new (hosts (known trace before.hosts.slices.sink before.hosts.slices.clock) before.hosts.files) listener)
+      (place new (hosts (known trace before.hosts.slices.sink before.hosts.slices.host) before.hosts.files) listener)
   begun old new trace listener drawn is same =
+      let disk = before.hosts.slices.host.disk in
       let m : Machine = record start { ids = record start.ids { lineage = drawn.lineage } } in record {
         flat = m;
         talk = [];
@@ -78,7 +83,10 @@ module _ (id : List ℕ) (before : ServeKnown) where
             run = (Quiet, m, [], refl, (refl, (refl, (refl, refl))), (refl, refl));
             sink = sym (append-nil before.hosts.slices.sink.taken);
             talks = refl;
-            asked = record { still = λ t. t; are = λ t. refl };
+            asked = record {
+              clock = record { still = λ t. t; are = λ t. refl };
+              disk = (disk, rests_same disk, rests_same disk);
+            };
           };
         };
         ended = same;

@@ -45,7 +45,7 @@ draw_told object.Files before now trace lasts cause = absurd (cause at_rest)
 -- the sink is called once more
 module _ (before : ServeKnown) (mid : Hosts) (words : WordsKnown) (listener : ListenerKnown) (sink : SinkKnown) where
   abbrev behind : ServeKnown
-  behind = serve_known (hosts (known mid.slices.trace sink mid.slices.clock) mid.files) words listener
+  behind = serve_known (hosts (known mid.slices.trace sink mid.slices.host) mid.files) words listener
 
   pub still_told : (exit : Exit) → Lasts mid.slices.sink.health sink.health → ServeCause exit before (serve_known mid words listener)
       → ServeCause exit before behind

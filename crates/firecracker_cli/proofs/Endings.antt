@@ -31,7 +31,7 @@ line_taken text old new (Err why) (n, less, took) = (take n text, drop n text, t
 module _ (id : List ℕ) (before : ServeKnown) (mid : Hosts) (monitor : Monitor) (listener : ListenerKnown) (words : WordsKnown) where
   -- where the sink took more
   abbrev now_with : SinkKnown → ServeKnown
-  now_with sink = serve_known (hosts (known mid.slices.trace sink mid.slices.clock) mid.files) words listener
+  now_with sink = serve_known (hosts (known mid.slices.trace sink mid.slices.host) mid.files) words listener
 
   pub served_all : (it : HasServed (start_at id before) before.listener.ended (place monitor mid listener)) (sink : SinkKnown)
       → sink.taken ≡ mid.slices.sink.taken ++ closing_line it.flat → ServedAll id before (now_with sink)
@@ -63,7 +63,7 @@ module _ (id : List ℕ) (before : ServeKnown) (mid : Hosts) (monitor : Monitor)
         acts = r.acts;
         outs = r.outs;
         at = it.flat;
-        clock = mid.slices.clock;
+        host = mid.slices.host;
         since = it.since;
         ran = record { took = r.added; run = r.run; asked = r.asked; ended = it.ended };
         taken = mid.slices.sink.taken;
@@ -83,7 +83,7 @@ module _ (id : List ℕ) (before : ServeKnown) (mid : Hosts) (monitor : Monitor)
         acts = r.acts;
         outs = r.outs;
         at = it.at;
-        clock = it.clock;
+        host = it.host;
         since = it.since;
         ran = record { took = r.added; run = r.run; asked = r.asked; ended = it.ended };
         unshown = it.unshown;
@@ -102,7 +102,7 @@ module _ (id : List ℕ) (before : ServeKnown) (mid : Hosts) (monitor : Monitor)
         acts = cut.acts;
         outs = cut.outs;
         at = cut.at;
-        clock = cut.clock;
+        host = cut.host;
         since = cut.since;
         ran = record { took = cut.ran.took; run = cut.ran.run; asked = cut.ran.asked; ended = cut.ran.ended };
         taken = mid.slices.sink.taken;
@@ -133,7 +133,7 @@ module _ (id : List ℕ) (before : ServeKnown) (mid : Hosts) (monitor : Monitor)
 
 module _ (id : List ℕ) (before : ServeKnown) (mid : Hosts) (words : WordsKnown) (listener : ListenerKnown) where
   abbrev told_with : SinkKnown → ServeKnown
-  told_with sink = serve_known (hosts (known mid.slices.trace sink mid.slices.clock) mid.files) words listener
+  told_with sink = serve_known (hosts (known mid.slices.trace sink mid.slices.host) mid.files) words listener
 
   pub with_line : {E : Type 0} (exit : Exit) (sink : SinkKnown) (result : Result (Unit {0}) E) → last_text exit ≡ last_line exit
       → Cut id before (serve_known mid words listener)
@@ -143,7 +143,7 @@ module _ (id : List ℕ) (before : ServeKnown) (mid : Hosts) (words : WordsKnown
         acts = cut.acts;
         outs = cut.outs;
         at = cut.at;
-        clock = cut.clock;
+        host = cut.host;
         since = cut.since;
         ran = record { took = cut.ran.took; run = cut.ran.run; asked = cut.ran.asked; ended = cut.ran.ended };
         taken = mid.slices.sink.taken;

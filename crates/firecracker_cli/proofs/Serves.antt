@@ -21,7 +21,7 @@ pub serves : {E : Type 0} (exit : Exit) (id : List ℕ) (before : ServeKnown) (m
     → ServeCause exit before (serve_known mid words listener) → ServersLast before (serve_known mid words listener)
     → (Tells mid.slices.sink.health → TakesAll mid.slices.sink.taken sink.taken result (last_line exit))
     → (IsQuiet exit → sink ≡ mid.slices.sink) → Called mid.slices.sink.health sink.health result
-    → Serves exit id before (serve_known (hosts (known mid.slices.trace sink mid.slices.clock) mid.files) words listener)
+    → Serves exit id before (serve_known (hosts (known mid.slices.trace sink mid.slices.host) mid.files) words listener)
 serves exit id before mid words listener sink result so_far told lasts takes quiet called =
     let still = still_told before mid words listener sink exit called.lasts told in record {
       served = λ tells.

@@ -4,16 +4,14 @@ use Rattle.std.specs.Prelude.{ℕ, ◌≡◌, List, [], ◌++◌, if◌then◌el
 use Rattle.vm_types.specs.Causes.{Rose}
 use Rattle.vm_types.specs.declared.exit.Exit.{Exit}
 use Rattle.vm_types.specs.declared.exit.Object.TheVariants as object
-use Rattle.vm_host.specs.Telling.{ClockKnown}
 use Rattle.vm_outside.specs.Known.{Lasts, Tells}
 use Rattle.serve_host.specs.Drawing.{WordsKnown}
 use Rattle.serve_host.specs.Listening.{Ended, ListenerKnown}
 use Rattle.script_output.specs.Output.{last_line, off_line}
 use Rattle.flat_machine.specs.Machine.{AreFilesOf, Machine, is_off, new_machine}
 use Rattle.flat_machine.specs.Run.{Act}
-use Rattle.flat_trace.specs.Events.{answers_in}
 use Rattle.flat_trace.specs.Showing.{Out, Run, items_of, said, shown}
-use Rattle.slice_runner.specs.Runs.{HasAnswered}
+use Rattle.monitor_running.specs.Asked.{HostAnswered, HostKnown}
 use Rattle.monitor_serving.specs.Connections.{AreTold, AreToldInPart}
 use Rattle.monitor_serving.specs.Views.{AllLast, AllTell, Hosts}
 
@@ -45,12 +43,14 @@ pub record NoneFailed (before now : ServeKnown) : Type 0 where
   pub listener : Rose before.listener.health.faults now.listener.health.faults → ⊥
 
 -- A machine of this id that has not started did these acts, which the trace took, and showed this. The connections that
--- are over since, the newest first, are those on which it was said. The timer was given the clock's answers.
-pub record TraceRan (id : List ℕ) (before now : ServeKnown) (clock : ClockKnown) (acts : List Act) (outs : List Out)
+-- are over since, the newest first, are those on which it was said. The timer was given the clock's answers, and each device
+-- its disk's.
+pub record TraceRan (id : List ℕ) (before now : ServeKnown) (host : HostKnown) (acts : List Act) (outs : List Out)
     (last : Machine) (since : List Ended) : Type 0 where
   pub took : now.hosts.slices.trace.took ≡ before.hosts.slices.trace.took ++ items_of acts
   pub run : Run acts (new_machine id before.hosts.files.saved before.hosts.files.calls) outs last
-  pub asked : HasAnswered before.hosts.slices.clock (answers_in (items_of acts)) clock
+  pub asked : HostAnswered acts (new_machine id before.hosts.files.saved before.hosts.files.calls) outs last run
+      before.hosts.slices.host host
   pub ended : now.listener.ended ≡ since ++ before.listener.ended
 
 -- the sink's last line: where the guest is off, this is told
@@ -64,7 +64,7 @@ pub record ServedAll (id : List ℕ) (before now : ServeKnown) : Type 0 where
   pub outs : List Out
   pub last : Machine
   pub since : List Ended
-  pub ran : TraceRan id before now now.hosts.slices.clock acts outs last since
+  pub ran : TraceRan id before now now.hosts.slices.host acts outs last since
   pub sink : now.hosts.slices.sink.taken ≡ before.hosts.slices.sink.taken ++ (shown outs ++ closing_line last)
   pub told : AreTold (said outs) since
   pub files : AreFilesOf now.hosts.files last
@@ -81,9 +81,9 @@ pub record ServedPart (exit : Exit) (id : List ℕ) (before now : ServeKnown) : 
   pub acts : List Act
   pub outs : List Out
   pub at : Machine
-  pub clock : ClockKnown
+  pub host : HostKnown
   pub since : List Ended
-  pub ran : TraceRan id before now clock acts outs at since
+  pub ran : TraceRan id before now host acts outs at since
   pub taken : List ℕ
   pub unshown : List ℕ
   pub line : List ℕ

@@ -4,7 +4,7 @@ use Rattle.vm_types.specs.Causes.{Rose}
 use Rattle.vm_types.specs.declared.exit.Exit.{Exit}
 use Rattle.vm_types.specs.declared.exit.Object.{Object}
 use Rattle.vm_types.specs.declared.exit.Object.TheVariants as object
-use Rattle.vm_host.specs.Telling.{ClockKnown}
+use Rattle.monitor_running.specs.Asked.{HostKnown}
 use Rattle.vm_outside.specs.Known.{FilesKnown, Health}
 use Rattle.serve_host.specs.Listening.{Ended}
 use Rattle.script_text.specs.declared.item.Item.{Item}
@@ -33,9 +33,9 @@ pub record Cut (id : List ℕ) (before now : ServeKnown) : Type 0 where
   pub acts : List Act
   pub outs : List Out
   pub at : Machine
-  pub clock : ClockKnown
+  pub host : HostKnown
   pub since : List Ended
-  pub ran : TraceRan id before now clock acts outs at since
+  pub ran : TraceRan id before now host acts outs at since
   pub unshown : List ℕ
   pub front : now.hosts.slices.sink.taken ++ unshown ≡ before.hosts.slices.sink.taken ++ shown outs
   pub told : AreToldInPart (said outs) since

@@ -2,12 +2,12 @@
 ghost use Rattle.std.specs.Prelude.{◌≡◌, ℕ, IfErr, List, OnErr, OnOk};
 ghost use Rattle.vm_outside.specs.Known.{Called, FilesKnown, Health, Lasts, Tells};
 ghost use Rattle.vm_outside.specs.Passing.{TakesAll};
-ghost use Rattle.vm_host.specs.Telling.{ClockKnown};
 ghost use Rattle.serve_host.specs.Drawing.{WordsKnown};
 ghost use Rattle.serve_host.specs.Listening.{ListenerKnown};
 ghost use Rattle.serve_host.specs.Tracing.{TraceKnown};
 ghost use Rattle.flat_machine.specs.Machine.{Machine, new_machine};
 ghost use Rattle.monitor_core.specs.State.{IsMonitor};
+ghost use Rattle.monitor_running.specs.Asked.{HostKnown, host_known};
 ghost use Rattle.monitor_running.specs.Reached.{known};
 ghost use Rattle.monitor_serving.specs.Connections.{place};
 ghost use Rattle.monitor_serving.specs.Views.{hosts};
@@ -32,7 +32,7 @@ use serve_host::{Conn, Listener, Trace, Words};
 use std::alloc::Global;
 use std::sync::Wait;
 use std::thread::Threads;
-use vm_host::Clock;
+use vm_host::{Clock, Disk};
 use vm_outside::{Failed, Files, Sink, write_all};
 use vm_types::{Exit, Object, TextList};
 
@@ -116,9 +116,9 @@ fn exit_of(served: &Served) -> Exit
 // Where serving came to its end, tells the sink that the guest is off, if it is.
 fn close<K: Sink>(exit: Exit, monitor: &Monitor, sink: &mut K) -> Exit
     ensures so_far { Tells (K.known sink.old).health → (id : List ℕ) (before : ServeKnown) (trace : TraceKnown)
-        (clock : ClockKnown) (files : FilesKnown) (words : WordsKnown) (listener : ListenerKnown) →
-        LeftBy exit id before (place monitor.now (hosts (known trace (K.known sink.old) clock) files) listener) →
-        ServedSoFar result id before (serve_known (hosts (known trace (K.known sink.new) clock) files) words listener) }
+        (host : HostKnown) (files : FilesKnown) (words : WordsKnown) (listener : ListenerKnown) →
+        LeftBy exit id before (place monitor.now (hosts (known trace (K.known sink.old) host) files) listener) →
+        ServedSoFar result id before (serve_known (hosts (known trace (K.known sink.new) host) files) words listener) }
     ensures stays { StaysOr exit result (K.known sink.old).health (K.known sink.new).health }
     ensures lasts { Lasts (K.known sink.old).health (K.known sink.new).health }
 {
@@ -133,6 +133,7 @@ fn close<K: Sink>(exit: Exit, monitor: &Monitor, sink: &mut K) -> Exit
 
 // Connections until serving ends, and that the guest is off, on a machine that has not started.
 fn serve_on<
+    D: Disk,
     C: Clock,
     N: Conn + Send,
     F: Files,
@@ -149,26 +150,26 @@ fn serve_on<
     mut monitor: Monitor,
     files: &mut F,
     sink: &mut K,
-    with: &mut ServeOutside<C, W, M, T>,
+    with: &mut ServeOutside<D, C, W, M, T>,
 ) -> Exit
     ensures so_far { ServersTell
-        (serve_known (hosts (known (T.known with.old.trace) (K.known sink.old) (C.known with.old.host.clock))
+        (serve_known (hosts (known (T.known with.old.trace) (K.known sink.old) (host_known C.known D.known with.old.host))
         (F.known files.old)) (W.known with.old.words) (M.known with.old.listener)) →
         (id : List ℕ) → ((known : FilesKnown) → IsMonitor monitor known (new_machine id known.saved known.calls)) →
         ServedSoFar result id
-        (serve_known (hosts (known (T.known with.old.trace) (K.known sink.old) (C.known with.old.host.clock))
+        (serve_known (hosts (known (T.known with.old.trace) (K.known sink.old) (host_known C.known D.known with.old.host))
         (F.known files.old)) (W.known with.old.words) (M.known with.old.listener))
-        (serve_known (hosts (known (T.known with.new.trace) (K.known sink.new) (C.known with.new.host.clock))
+        (serve_known (hosts (known (T.known with.new.trace) (K.known sink.new) (host_known C.known D.known with.new.host))
         (F.known files.new)) (W.known with.new.words) (M.known with.new.listener)) }
     ensures told { ServeCause result
-        (serve_known (hosts (known (T.known with.old.trace) (K.known sink.old) (C.known with.old.host.clock))
+        (serve_known (hosts (known (T.known with.old.trace) (K.known sink.old) (host_known C.known D.known with.old.host))
         (F.known files.old)) (W.known with.old.words) (M.known with.old.listener))
-        (serve_known (hosts (known (T.known with.new.trace) (K.known sink.new) (C.known with.new.host.clock))
+        (serve_known (hosts (known (T.known with.new.trace) (K.known sink.new) (host_known C.known D.known with.new.host))
         (F.known files.new)) (W.known with.new.words) (M.known with.new.listener)) }
     ensures lasts { ServersLast
-        (serve_known (hosts (known (T.known with.old.trace) (K.known sink.old) (C.known with.old.host.clock))
+        (serve_known (hosts (known (T.known with.old.trace) (K.known sink.old) (host_known C.known D.known with.old.host))
         (F.known files.old)) (W.known with.old.words) (M.known with.old.listener))
-        (serve_known (hosts (known (T.known with.new.trace) (K.known sink.new) (C.known with.new.host.clock))
+        (serve_known (hosts (known (T.known with.new.trace) (K.known sink.new) (host_known C.known D.known with.new.host))
         (F.known files.new)) (W.known with.new.words) (M.known with.new.listener)) }
 {
     if let Err(object) = open(words, &mut with.listener, &mut with.trace) {
@@ -193,6 +194,7 @@ fn serve_on<
 
 // Serves a machine of the id that the words give, all but the last line.
 fn run_serve<
+    D: Disk,
     C: Clock,
     N: Conn + Send,
     F: Files,
@@ -208,25 +210,25 @@ fn run_serve<
     steps: u32,
     files: &mut F,
     sink: &mut K,
-    with: &mut ServeOutside<C, W, M, T>,
+    with: &mut ServeOutside<D, C, W, M, T>,
 ) -> Exit
     ensures so_far { ServersTell
-        (serve_known (hosts (known (T.known with.old.trace) (K.known sink.old) (C.known with.old.host.clock))
+        (serve_known (hosts (known (T.known with.old.trace) (K.known sink.old) (host_known C.known D.known with.old.host))
         (F.known files.old)) (W.known with.old.words) (M.known with.old.listener)) →
         ServedSoFar result words.entry.id.now
-        (serve_known (hosts (known (T.known with.old.trace) (K.known sink.old) (C.known with.old.host.clock))
+        (serve_known (hosts (known (T.known with.old.trace) (K.known sink.old) (host_known C.known D.known with.old.host))
         (F.known files.old)) (W.known with.old.words) (M.known with.old.listener))
-        (serve_known (hosts (known (T.known with.new.trace) (K.known sink.new) (C.known with.new.host.clock))
+        (serve_known (hosts (known (T.known with.new.trace) (K.known sink.new) (host_known C.known D.known with.new.host))
         (F.known files.new)) (W.known with.new.words) (M.known with.new.listener)) }
     ensures told { ServeCause result
-        (serve_known (hosts (known (T.known with.old.trace) (K.known sink.old) (C.known with.old.host.clock))
+        (serve_known (hosts (known (T.known with.old.trace) (K.known sink.old) (host_known C.known D.known with.old.host))
         (F.known files.old)) (W.known with.old.words) (M.known with.old.listener))
-        (serve_known (hosts (known (T.known with.new.trace) (K.known sink.new) (C.known with.new.host.clock))
+        (serve_known (hosts (known (T.known with.new.trace) (K.known sink.new) (host_known C.known D.known with.new.host))
         (F.known files.new)) (W.known with.new.words) (M.known with.new.listener)) }
     ensures lasts { ServersLast
-        (serve_known (hosts (known (T.known with.old.trace) (K.known sink.old) (C.known with.old.host.clock))
+        (serve_known (hosts (known (T.known with.old.trace) (K.known sink.old) (host_known C.known D.known with.old.host))
         (F.known files.old)) (W.known with.old.words) (M.known with.old.listener))
-        (serve_known (hosts (known (T.known with.new.trace) (K.known sink.new) (C.known with.new.host.clock))
+        (serve_known (hosts (known (T.known with.new.trace) (K.known sink.new) (host_known C.known D.known with.new.host))
         (F.known files.new)) (W.known with.new.words) (M.known with.new.listener)) }
 {
     let Ok(id) = TextList::copy_of(alloc, words.id) else {
@@ -245,6 +247,7 @@ fn run_serve<
 /// a slice part. `OutOfMemory`: there was no memory. Files that fail are answered 500, and a connection that fails ends
 /// alone.
 pub fn serve_main<
+    D: Disk,
     C: Clock,
     N: Conn + Send,
     F: Files,
@@ -260,12 +263,12 @@ pub fn serve_main<
     steps: u32,
     files: &mut F,
     sink: &mut K,
-    with: &mut ServeOutside<C, W, M, T>,
+    with: &mut ServeOutside<D, C, W, M, T>,
 ) -> Exit
     ensures { Serves result words.entry.id.now
-        (serve_known (hosts (known (T.known with.old.trace) (K.known sink.old) (C.known with.old.host.clock))
+        (serve_known (hosts (known (T.known with.old.trace) (K.known sink.old) (host_known C.known D.known with.old.host))
         (F.known files.old)) (W.known with.old.words) (M.known with.old.listener))
-        (serve_known (hosts (known (T.known with.new.trace) (K.known sink.new) (C.known with.new.host.clock))
+        (serve_known (hosts (known (T.known with.new.trace) (K.known sink.new) (host_known C.known D.known with.new.host))
         (F.known files.new)) (W.known with.new.words) (M.known with.new.listener)) }
 {
     let exit = run_serve(rt, alloc, words, steps, files, sink, with);

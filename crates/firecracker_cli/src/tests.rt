@@ -3,7 +3,9 @@
 use crate::outside::ServeOutside;
 use crate::serve_words::ServeWords;
 use crate::serving::serve_main;
-use host_mem::{MemoryCaller, MemoryClock, MemoryConn, MemoryTrace, Numbers, SteadyWords};
+use host_mem::{
+    MemoryCaller, MemoryClock, MemoryConn, MemoryDisk, MemoryTrace, Numbers, SteadyWords,
+};
 use monitor_cli::{DEFAULT_ID, Outside, replay_main};
 use outside_mem::{Failing, MemoryFiles, MemorySink, SteadySource};
 use script_text::{Item, write_item};
@@ -137,11 +139,11 @@ fn clock(alloc: Global) -> Result<MemoryClock, AllocError> {
     Ok(MemoryClock::new(Numbers::new(moments)))
 }
 
-type With = ServeOutside<MemoryClock, SteadyWords, Door, MemoryTrace>;
+type With = ServeOutside<MemoryDisk, MemoryClock, SteadyWords, Door, MemoryTrace>;
 
 fn objects(alloc: Global) -> Result<With, AllocError> {
     let host = Host {
-        disk: (),
+        disk: MemoryDisk::new(Vec::new(alloc), Failing::new(Vec::new(alloc))),
         link: (),
         vsock: (),
         clock: clock(alloc)?,

@@ -2,6 +2,7 @@
 ghost use Rattle.std.specs.Prelude.{◌≡◌, IfErr, IfOk, None, Some, map, string_bytes};
 ghost use Rattle.monitor_cli.specs.Command.{Commanded, Wordless};
 ghost use Rattle.monitor_cli.specs.Known.{all_known};
+ghost use Rattle.monitor_running.specs.Asked.{host_known};
 ghost use Rattle.monitor_running.specs.Reached.{known};
 ghost use Rattle.monitor_serving.specs.Views.{hosts};
 ghost use Rattle.firecracker_cli.specs.ServeWords.{ServeWords, serve_words};
@@ -15,7 +16,7 @@ use serve_host::{Conn, Listener, Trace, Words};
 use std::alloc::Global;
 use std::sync::Wait;
 use std::thread::Threads;
-use vm_host::Clock;
+use vm_host::{Clock, Disk};
 use vm_outside::{Files, Sink, Source};
 use vm_types::Exit;
 
@@ -30,6 +31,7 @@ pub fn firecracker_main<
     I: Source,
     O: Sink,
     F: Files,
+    D: Disk,
     C: Clock,
     W: Words,
     N: Conn + Send,
@@ -41,7 +43,7 @@ pub fn firecracker_main<
     alloc: Global,
     words: Result<Vec<String>, NoWords>,
     out: &mut Outside<I, O, F>,
-    with: &mut ServeOutside<C, W, M, T>,
+    with: &mut ServeOutside<D, C, W, M, T>,
 ) -> Exit
     ensures replay { IfOk words (λ words. serve_words (map string_bytes words.items) ≡ None →
         Commanded (map string_bytes words.items) result
@@ -49,9 +51,9 @@ pub fn firecracker_main<
         (all_known (I.known out.new.source) (O.known out.new.sink) (F.known out.new.files))) }
     ensures serve { IfOk words (λ words. (it : ServeWords) → serve_words (map string_bytes words.items) ≡ Some it →
         Serves result it.id
-        (serve_known (hosts (known (T.known with.old.trace) (O.known out.old.sink) (C.known with.old.host.clock))
+        (serve_known (hosts (known (T.known with.old.trace) (O.known out.old.sink) (host_known C.known D.known with.old.host))
         (F.known out.old.files)) (W.known with.old.words) (M.known with.old.listener))
-        (serve_known (hosts (known (T.known with.new.trace) (O.known out.new.sink) (C.known with.new.host.clock))
+        (serve_known (hosts (known (T.known with.new.trace) (O.known out.new.sink) (host_known C.known D.known with.new.host))
         (F.known out.new.files)) (W.known with.new.words) (M.known with.new.listener))) }
     ensures wordless { IfErr words (λ why. Wordless why result
         (all_known (I.known out.old.source) (O.known out.old.sink) (F.known out.old.files))

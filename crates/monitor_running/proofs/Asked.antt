@@ -23,7 +23,7 @@ use Rattle.timer_trace.proofs.Traces as timer_traces
 use Rattle.device_trace.specs.Acts.{is_disk_call}
 use Rattle.guest_devices.specs.Devices.{BlockIs, FlatDevice, device_calls}
 use Rattle.guest_devices.proofs.Soundness.{want_host}
-use Rattle.flat_guest.specs.Guest.{Guest, Wants, WantsFrom, WantsOf, layout_of}
+use Rattle.flat_guest.specs.Guest.{Guest, Wants, WantsFrom, WantsOf, layout_of, whole_pages}
 use Rattle.flat_guest.specs.Places.{place_of}
 use Rattle.flat_guest.specs.Sound.{IsSound}
 use Rattle.flat_guest.proofs.Soundness.{sound_next}
@@ -75,7 +75,7 @@ device_asks : (g : Guest) (k : ℕ) (o : Option FlatDevice) (act : OutOp) → Is
 device_asks g k None act sound is wants = absurd wants
 device_asks g k (Some d) act sound is wants =
     let own = sound.devices_on.each k d is in
-    disk_calls d act (want_host k own.0 d (Op.Out act) own.1 wants)
+    disk_calls d act (want_host k (whole_pages g.memory) d (Op.Out act) own wants)
 
 abbrev pub Asks : ActorId → OutOp → Type 0
 Asks actor act =

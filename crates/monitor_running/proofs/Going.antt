@@ -33,7 +33,7 @@ plain (PlaceId.Port k) g actor op given reply out answer = answer.0
 plain PlaceId.Board g actor op given reply out answer = answer.0
 plain PlaceId.Out g actor op given reply out answer = out answer
 
-given_is : (there : Layout) (g : Guest) (actor : ActorId) (op : Op) (given : Option Reply) (reply : Reply)
+pub given_is : (there : Layout) (g : Guest) (actor : ActorId) (op : Op) (given : Option Reply) (reply : Reply)
     → Answers (place_of there op) g actor op given reply → given ≡ given_of op reply
 given_is there g actor (Op.Out act) given reply answer = answer.0
 given_is there g actor (Op.Read at len) given reply answer =
@@ -51,7 +51,7 @@ given_is there g actor (Op.Port port act) given reply answer =
 given_is there g actor (Op.Board act) given reply answer = answer.0
 given_is there g actor Op.Idle given reply answer = answer.0
 
-step_told : (g h : Guest) (event : Event) (e : Entry) → FlatStep g event e h → FlatStep g (event_of e) e h
+pub step_told : (g h : Guest) (event : Event) (e : Entry) → FlatStep g event e h → FlatStep g (event_of e) e h
 step_told g h event e step =
     let same : event.reply ≡ given_of e.op e.reply =
     given_is (layout_of g) g e.actor e.op event.reply e.reply
@@ -63,7 +63,7 @@ step_told g h event e step =
       after = step.after;
     }
 
-leads_more : (es : List Entry) (g h k : Guest) (e : Entry) → Leads g es h → FlatStep h (event_of e) e k → Leads g (es ++ e ∷ []) k
+pub leads_more : (es : List Entry) (g h k : Guest) (e : Entry) → Leads g es h → FlatStep h (event_of e) e k → Leads g (es ++ e ∷ []) k
 leads_more [] g h k e leads step = (k, subst (λ (x : Guest). FlatStep x (event_of e) e k) (sym leads) step, refl)
 leads_more (d ∷ es) g h k e leads step = (leads.0, leads.1, leads_more es leads.0 h k e leads.2 step)
 

@@ -1,30 +1,52 @@
--- Runs one behind another, and what they show.
-use Rattle.std.proofs.Common.{◌≡◌, ℕ, List, [], ◌∷◌, ◌++◌, refl, sym, ap, ◌∙◌, subst, append_assoc, append-nil}
+-- Runs one behind another, what they show, and what they ask.
+use Rattle.std.proofs.Common.{◌≡◌, ℕ, List, [], ◌∷◌, ◌++◌, refl, sym, ap, ◌∙◌, subst, append_assoc, append-nil, Option, Some, None}
 use Rattle.vm_types.specs.declared.ids.ActorId.{ActorId}
 use Rattle.script_text.specs.declared.item.HostReply.TheVariants as given
 use Rattle.script_text.specs.declared.item.Item.{Item}
 use Rattle.script_text.specs.declared.item.Item.TheVariants as item
-use Rattle.vm_host.specs.Telling.{AreNext, ClockKnown, later}
+use Rattle.vm_host.specs.Storing.{DiskKnown}
+use Rattle.vm_host.specs.Telling.{AreNext, ClockKnown, Lasts, later}
+use Rattle.flat_guest.specs.Guest.{Guest}
 use Rattle.slice_runner.specs.Runs.{HasAnswered}
-use Rattle.flat_machine.specs.Machine.{Machine}
+use Rattle.flat_machine.specs.Machine.{Machine, running}
 use Rattle.flat_machine.specs.Run.{Act}
 use Rattle.flat_trace.specs.Events.{answer_by, answers_in}
+use Rattle.monitor_running.specs.Asked.{DisksAnswered, HostAnswered, HostKnown, ItemAsks}
+use Rattle.monitor_running.specs.Devices.{DiskRests}
 use Rattle.monitor_running.specs.Reached.{Reached, Seen, Start}
+use Rattle.monitor_running.proofs.Disks.{asks_later, rests_more, rests_same}
 use Rattle.flat_trace.specs.Showing.{Out, Run, items_of, said, said_by, shown, shown_by}
 
-run_append : (acts more : List Act) (m n k : Machine) (outs next : List Out) → Run acts m outs n → Run more n next k
-    → Run (acts ++ more) m (outs ++ next) k
-run_append [] more m n k outs next first behind =
-    subst (λ (x : Machine). Run more x (outs ++ next) k) (sym first.1)
-    (subst (λ (l : List Out). Run more n (l ++ next) k) (sym first.0) behind)
-run_append (act ∷ acts) more m n k outs next first behind = (
-  first.0,
-  first.1,
-  first.2 ++ next,
-  ap (λ (l : List Out). l ++ next) first.3,
-  first.4,
-  run_append acts more first.1 n k first.2 next first.5 behind,
-)
+-- disks that rest before they are asked
+
+item_later : (it : Item) (guest : Option Guest) (a b c : DiskKnown) → DiskRests a b → ItemAsks it guest b c → ItemAsks it guest a c
+item_later (item.Reply actor reply) (Some g) a b c rests then =
+    (then.0, then.1, then.2, then.3, asks_later then.0 actor then.1 a b c rests then.4)
+item_later (item.Reply actor reply) None a b c rests then = rests_more a b c rests then
+item_later it guest a b c rests then = rests_more a b c rests then
+
+disks_later : (acts : List Act) (m : Machine) (outs : List Out) (n : Machine) (run : Run acts m outs n) (a b c : DiskKnown)
+    → DiskRests a b → DisksAnswered acts m outs n run b c → DisksAnswered acts m outs n run a c
+disks_later [] m outs n run a b c rests then = rests_more a b c rests then
+disks_later (act ∷ acts) m outs n run a b c rests then =
+    (then.0, item_later act.item (running m) a b then.0 rests then.1, then.2)
+
+-- a run in which disks were asked
+abbrev Joint : List Act → Machine → List Out → Machine → DiskKnown → DiskKnown → Type 0
+Joint acts m outs n old now = (run : Run acts m outs n) × DisksAnswered acts m outs n run old now
+
+run_append : (acts more : List Act) (m n k : Machine) (outs next : List Out) (old mid now : DiskKnown) → Joint acts m outs n old mid
+    → Joint more n next k mid now → Joint (acts ++ more) m (outs ++ next) k old now
+run_append [] more m n k outs next old mid now first behind =
+    subst (λ (x : Machine). Joint more x (outs ++ next) k old now) (sym first.0.1)
+    (subst (λ (l : List Out). Joint more n (l ++ next) k old now) (sym first.0.0)
+    (behind.0, disks_later more n next k behind.0 old mid now first.1 behind.1))
+run_append (act ∷ acts) more m n k outs next old mid now first behind =
+    let run = first.0 in
+    let rest = run_append acts more run.1 n k run.2 next first.1.0 mid now (run.5, first.1.2) behind in (
+      (run.0, run.1, run.2 ++ next, ap (λ (l : List Out). l ++ next) run.3, run.4, rest.0),
+      (first.1.0, first.1.1, rest.1),
+    )
 
 shown_append : (a b : List Out) → shown (a ++ b) ≡ shown a ++ shown b
 shown_append [] b = refl
@@ -96,36 +118,56 @@ answered_first start now xs ys all = (
 
 -- more acts, which were told, shown, said and asked for
 pub goes_with : (s : Start) (old now : Seen) (m n : Machine) (talk : List Out) (acts : List Act) (outs : List Out)
-    → Reached s old m talk → Run acts m outs n → now.took ≡ old.took ++ items_of acts → now.taken ≡ old.taken ++ shown outs
-    → HasAnswered old.clock (answers_in (items_of acts)) now.clock → Reached s now n (talk ++ said outs)
+    → Reached s old m talk → (run : Run acts m outs n) → now.took ≡ old.took ++ items_of acts → now.taken ≡ old.taken ++ shown outs
+    → HostAnswered acts m outs n run old.host now.host → Reached s now n (talk ++ said outs)
 goes_with s old now m n talk acts outs r run told sunk asked = record {
   acts = r.acts ++ acts;
   outs = r.outs ++ outs;
   added =
       told ∙ ap (λ (l : List Item). l ++ items_of acts) r.added ∙ append_assoc s.seen.took (items_of r.acts) (items_of acts)
       ∙ ap (λ (l : List Item). s.seen.took ++ l) (sym (items_append r.acts acts));
-  run = run_append r.acts acts s.flat m n r.outs outs r.run run;
+  run = joint.0;
   sink =
       sunk ∙ ap (λ (l : List ℕ). l ++ shown outs) r.sink ∙ append_assoc s.seen.taken (shown r.outs) (shown outs)
       ∙ ap (λ (l : List ℕ). s.seen.taken ++ l) (sym (shown_append r.outs outs));
   talks =
       ap (λ (l : List Out). l ++ said outs) r.talks ∙ append_assoc s.talk (said r.outs) (said outs)
       ∙ ap (λ (l : List Out). s.talk ++ l) (sym (said_append r.outs outs));
-  asked = subst (λ (l : List ℕ). HasAnswered s.seen.clock l now.clock)
-      (sym (ap answers_in (items_append r.acts acts) ∙ answers_append (items_of r.acts) (items_of acts)))
-      (answered_append s.seen.clock old.clock now.clock (answers_in (items_of r.acts)) (answers_in (items_of acts)) r.asked asked);
+  asked = record {
+    clock = subst (λ (l : List ℕ). HasAnswered s.seen.host.clock l now.host.clock)
+        (sym (ap answers_in (items_append r.acts acts) ∙ answers_append (items_of r.acts) (items_of acts)))
+        (answered_append s.seen.host.clock old.host.clock now.host.clock (answers_in (items_of r.acts)) (answers_in (items_of acts))
+        r.asked.clock asked.clock);
+    disk = joint.1;
+  };
 }
+  where
+    joint : Joint (r.acts ++ acts) s.flat (r.outs ++ outs) n s.seen.host.disk now.host.disk
+    joint =
+        run_append r.acts acts s.flat m n r.outs outs s.seen.host.disk old.host.disk now.host.disk (r.run, r.asked.disk)
+        (run, asked.disk)
 
 -- which are said on no connection
 pub goes_by : (s : Start) (old now : Seen) (m n : Machine) (talk : List Out) (acts : List Act) (outs : List Out)
-    → Reached s old m talk → Run acts m outs n → now.took ≡ old.took ++ items_of acts → now.taken ≡ old.taken ++ shown outs
-    → said outs ≡ [] → HasAnswered old.clock (answers_in (items_of acts)) now.clock → Reached s now n talk
+    → Reached s old m talk → (run : Run acts m outs n) → now.took ≡ old.took ++ items_of acts → now.taken ≡ old.taken ++ shown outs
+    → said outs ≡ [] → HostAnswered acts m outs n run old.host now.host → Reached s now n talk
 goes_by s old now m n talk acts outs r run told sunk unsaid asked =
     subst (λ (t : List Out). Reached s now n t) (ap (λ (l : List Out). talk ++ l) unsaid ∙ append-nil talk)
     (goes_with s old now m n talk acts outs r run told sunk asked)
 
--- a clock that was asked nothing
+-- a clock and disks that are asked nothing
+pub record HostRests (old now : HostKnown) : Type 0 where
+  pub clock : Lasts old.clock now.clock
+  pub disk : DiskRests old.disk now.disk
+
+pub host_same : (host : HostKnown) → HostRests host host
+host_same host = record { clock = record { still = λ tells. tells; same = λ tells. refl }; disk = rests_same host.disk }
+
 pub rests : (s : Start) (old now : Seen) (m : Machine) (talk : List Out) → Reached s old m talk → now.took ≡ old.took
-    → now.taken ≡ old.taken → HasAnswered old.clock [] now.clock → Reached s now m talk
-rests s old now m talk r told sunk asked =
-    goes_by s old now m m talk [] [] r (refl, refl) (told ∙ sym (append-nil old.took)) (sunk ∙ sym (append-nil old.taken)) refl asked
+    → now.taken ≡ old.taken → HostRests old.host now.host → Reached s now m talk
+rests s old now m talk r told sunk rest =
+    goes_by s old now m m talk [] [] r (refl, refl) (told ∙ sym (append-nil old.took)) (sunk ∙ sym (append-nil old.taken)) refl
+    (record {
+      clock = record { still = λ tells. rest.clock.still tells; are = λ tells. rest.clock.same tells };
+      disk = rest.disk;
+    })

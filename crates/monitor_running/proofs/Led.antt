@@ -6,7 +6,7 @@ use Rattle.vm_types.specs.declared.reply.Reply.{Reply}
 use Rattle.script_text.specs.declared.item.Item.{Item}
 use Rattle.script_text.specs.declared.item.Item.TheVariants as item
 use Rattle.board_table.specs.Board.{Board}
-use Rattle.flat_guest.specs.Guest.{Guest}
+use Rattle.flat_guest.specs.Guest.{Guest, Wants}
 use Rattle.flat_guest.specs.Steps.{FlatStep}
 use Rattle.flat_machine.specs.Given.{reply_given}
 use Rattle.flat_machine.specs.Items.{Answers}
@@ -22,7 +22,11 @@ use Rattle.vm_types.specs.declared.op.OutOp.{OutOp}
 use Rattle.vm_types.specs.declared.op.OutOp.TheVariants.{DiskFlush, DiskRead, DiskWrite}
 use Rattle.vm_types.specs.Fits.{out_fits}
 use Rattle.flat_trace.specs.Events.{drain_items, event_acts, event_items, host_reply, item_by, item_of, quiet_act}
+use Rattle.vm_host.specs.Storing.{DiskKnown}
+use Rattle.monitor_running.specs.Asked.{DisksAnswered, ItemAsks}
+use Rattle.monitor_running.specs.Devices.{AsksDisk, DiskWasAsked}
 use Rattle.monitor_running.specs.Items.{drained_world}
+use Rattle.monitor_running.proofs.Disks.{rests_same}
 use Rattle.flat_trace.specs.Showing.{HasEvent, Out, Run, TraceStep, items_of, said, shown}
 use Rattle.flat_trace.specs.Showing.Out.{Quiet, Shown}
 
@@ -106,6 +110,18 @@ module _ (m : Machine) (g mid : Guest) (e : Entry) (sound : IsSound g) (runs : r
   pub told : TraceStep (item_of e) [] m Quiet (with_guest m mid)
   told = told_by e.op refl
 
+  asks_by : (op : Op) → e.op ≡ op → (old now : DiskKnown) → AsksDisk op e.actor e.reply old now
+      → ItemAsks (item_by op e.actor e.reply) (running m) old now
+  asks_by (Op.Out act) is old now asks =
+      let reads : reply_given (host_reply e.reply) ≡ Some e.reply =
+      given_again e act (is_asking g (event_of e) e mid act sound step is) in
+      subst (λ (o : Option Guest). ItemAsks (item.Reply e.actor (host_reply e.reply)) o old now) (sym runs)
+      (Op.Out act, e.reply, subst (λ (o : Op). Wants g e.actor o) is step.want, reads, asks)
+  asks_by op is old now asks = asks
+
+  pub asks : (old now : DiskKnown) → AsksDisk e.op e.actor e.reply old now → ItemAsks (item_of e) (running m) old now
+  asks old now asked = asks_by e.op refl old now asked
+
 -- ---- events
 
 abbrev pub quiets : List Entry → List Out
@@ -134,6 +150,19 @@ events_run (e ∷ es) m g h sound runs leads = (
   refl,
   told m g leads.0 e sound runs leads.1,
   events_run es (with_guest m leads.0) leads.0 h (sound_next g (event_of e) e leads.0 sound leads.1) (still_runs m g leads.0 runs) leads.2,
+)
+
+-- and the disks were asked in it what they were asked in the events
+pub events_answered : (es : List Entry) (m : Machine) (g h : Guest) (sound : IsSound g) (runs : running m ≡ Some g) (leads : Leads g es h)
+    (old now : DiskKnown) → DiskWasAsked old es now
+    → DisksAnswered (event_acts es) m (quiets es) (with_guest m h) (events_run es m g h sound runs leads) old now
+unfolding events_run
+events_answered [] m g h sound runs leads old now was = was
+events_answered (e ∷ es) m g h sound runs leads old now was = (
+  was.0,
+  asks m g leads.0 e sound runs leads.1 old was.0 was.1,
+  events_answered es (with_guest m leads.0) leads.0 h (sound_next g (event_of e) e leads.0 sound leads.1) (still_runs m g leads.0 runs) leads.2
+      was.0 now was.2,
 )
 
 -- the first of the events, and the others
@@ -182,6 +211,12 @@ drain_run m h [] is =
     (refl, ap (λ (c : List ℕ). with_guest m (record h { board = record h.board { console = c } })) (sym is))
 drain_run m h (byte ∷ bytes) is =
     (Shown (byte ∷ bytes), with_guest m (drained_guest h), [], refl, (ap Shown is, (refl, (refl, refl))), (refl, refl))
+
+-- which asks no disk
+pub drain_answered : (m : Machine) (h : Guest) (bytes : List ℕ) (run : Run (drain_acts bytes) (with_guest m h) (drain_outs bytes) (with_guest m (drained_guest h)))
+    (disk : DiskKnown) → DisksAnswered (drain_acts bytes) (with_guest m h) (drain_outs bytes) (with_guest m (drained_guest h)) run disk disk
+drain_answered m h [] run disk = rests_same disk
+drain_answered m h (byte ∷ bytes) run disk = (disk, rests_same disk, rests_same disk)
 
 pub drained_is : (w : WorldValue) (g : Guest) → IsWorld w g → IsWorld (drained_world w) (drained_guest g)
 drained_is w g is = record {

@@ -1,4 +1,6 @@
+pub mod Acting
 pub mod Asked
+pub mod Disks
 pub mod Going
 pub mod Joins
 pub mod Led

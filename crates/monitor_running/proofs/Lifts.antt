@@ -3,7 +3,6 @@ use Rattle.std.proofs.Common.{◌≡◌, ℕ, ◌≤◌, Bool, true, false, refl
 use Rattle.vm_types.specs.Causes.{Rose}
 use Rattle.vm_outside.specs.Known.{FilesKnown, Health, SinkKnown}
 use Rattle.vm_outside.specs.Known as objects
-use Rattle.vm_host.specs.Telling.{ClockKnown, Lasts}
 use Rattle.serve_host.specs.Tracing.{TraceKnown}
 use Rattle.flat_guest.specs.Guest.{Guest}
 use Rattle.flat_machine.specs.Machine.{Machine, is_off, running_by}
@@ -13,10 +12,11 @@ use Rattle.monitor_machine.specs.Running.{resting_world, running_world}
 use Rattle.monitor_machine.specs.State.{IsGuestBy, IsLive, IsMachine}
 use Rattle.monitor_running.specs.declared.ran.Ran.{Ran}
 use Rattle.monitor_running.specs.declared.ran.Ran.TheVariants as ran
+use Rattle.monitor_running.specs.Asked.{HostKnown}
 use Rattle.monitor_running.specs.Ran.{HasFault, IsRunning, RanOn, Went}
 use Rattle.monitor_running.specs.Reached.{Keeps, KeepsAs, Kept, Known, Reached, Seen, Start, known, seen}
 use Rattle.flat_trace.specs.Showing.{Out}
-use Rattle.monitor_running.proofs.Joins.{rests}
+use Rattle.monitor_running.proofs.Joins.{HostRests, rests}
 use Rattle.monitor_running.proofs.Led.{guest_is}
 
 -- ---- what an object told, call after call
@@ -56,7 +56,7 @@ module _ {B : Type 0} (Is : B → Machine → Type 0) (old mid now : Seen) (b c 
       let k = keeps s m talk is r in
       let n = on s k.flat talk k.is k.reached in record {
         told = n.told;
-        clock = n.clock;
+        host = n.host;
         reached = n.reached;
         more = n.more;
         outs = n.outs;
@@ -75,7 +75,7 @@ module _ {B : Type 0} (Is : B → Machine → Type 0) (old mid now : Seen) (b c 
   ran_on (Some (ran.Torn torn journals histories)) on = record {
     world = on.world;
     slice = on.slice;
-    clock = on.clock;
+    host = on.host;
     kept = λ s m talk is r.
         let k = keeps s m talk is r in
         let n = on.kept s k.flat talk k.is k.reached in
@@ -90,13 +90,9 @@ keeps_same Is old now b same s m talk is r =
 
 -- but that a clock rested
 pub keeps_resting : {B : Type 0} (Is : B → Machine → Type 0) (old now : Seen) (b : B) → now.took ≡ old.took → now.taken ≡ old.taken
-    → Lasts old.clock now.clock → Keeps Is old b now b
-keeps_resting Is old now b told sunk lasts s m talk is r = record {
-  flat = m;
-  is = is;
-  beside = refl;
-  reached = rests s old now m talk r told sunk (record { still = λ tells. lasts.still tells; are = λ tells. lasts.same tells });
-}
+    → HostRests old.host now.host → Keeps Is old b now b
+keeps_resting Is old now b told sunk rest s m talk is r =
+    record { flat = m; is = is; beside = refl; reached = rests s old now m talk r told sunk rest }
 
 -- ---- the world of a machine
 
@@ -165,7 +161,7 @@ module _ (live after : LiveMachine) (old now : Seen) (w v : WorldValue) (some : 
   lift (Some ran.TraceFailed) on = λ s m talk is r.
       let n = on s m talk (runs_as live m w some moving is) r in record {
         told = n.told;
-        clock = n.clock;
+        host = n.host;
         reached = n.reached;
         more = n.more;
         outs = n.outs;
@@ -183,7 +179,7 @@ module _ (live after : LiveMachine) (old now : Seen) (w v : WorldValue) (some : 
   lift (Some (ran.Torn torn journals histories)) on = record {
     world = on.world;
     slice = on.slice;
-    clock = on.clock;
+    host = on.host;
     kept = λ s m talk is r. on.kept s m talk (runs_as live m w some moving is) r;
   }
   lift (Some ran.OutOfMemory) on = lift_keeps on
@@ -198,10 +194,10 @@ keeps_as off old now live after keeps is_so s m talk is r =
 -- ---- a machine, of which a slice is made or none
 
 -- nothing happened but that a clock rested
-pub went_resting : {B : Type 0} (Is : B → Machine → Type 0) (trace : TraceKnown) (sink : SinkKnown) (asked now : ClockKnown)
-    (b c : B) → c ≡ b → Lasts asked now → Went Is None (known trace sink asked) b (known trace sink now) c
-went_resting Is trace sink asked now b c same lasts = record {
-  ran = λ t k. rw same (keeps_resting Is (seen (known trace sink asked)) (seen (known trace sink now)) b refl refl lasts);
+pub went_resting : {B : Type 0} (Is : B → Machine → Type 0) (trace : TraceKnown) (sink : SinkKnown) (asked now : HostKnown)
+    (b c : B) → c ≡ b → HostRests asked now → Went Is None (known trace sink asked) b (known trace sink now) c
+went_resting Is trace sink asked now b c same rest = record {
+  ran = λ t k. rw same (keeps_resting Is (seen (known trace sink asked)) (seen (known trace sink now)) b refl refl rest);
   fault = tt;
   trace_lasts = lasts_same trace.health;
   sink_lasts = lasts_same sink.health;

@@ -10,7 +10,9 @@ use Rattle.vm_outside.specs.Known as objects
 use Rattle.vm_outside.specs.Passing.{TakesPart}
 use Rattle.serve_host.specs.Tracing.{TraceKnown}
 use Rattle.script_text.specs.declared.item.Item.{Item}
-use Rattle.vm_host.specs.Telling.{ClockKnown, Lasts}
+use Rattle.vm_host.specs.declared.host.Host.{Host}
+use Rattle.vm_host.specs.Storing.{DiskKnown}
+use Rattle.vm_host.specs.Telling.{ClockKnown}
 use Rattle.board_table.specs.Board.{Board}
 use Rattle.flat_guest.specs.Guest.{Guest}
 use Rattle.flat_machine.specs.Machine.{Machine, running}
@@ -21,7 +23,7 @@ use Rattle.stamp_merge.specs.declared.journal.Journal.{Journal}
 use Rattle.slice_runner.specs.declared.slice.SliceError.{SliceError}
 use Rattle.slice_runner.specs.declared.slice.SliceError.TheVariants as error
 use Rattle.slice_runner.specs.Ended.{HasFailed}
-use Rattle.slice_runner.specs.Slices.{ClockWasAsked, IsSerial, IsTornSlice, Leads}
+use Rattle.slice_runner.specs.Slices.{ClockWasAsked, IsSerial, IsThere, IsTornSlice, Leads}
 use Rattle.monitor_running.specs.declared.ran.Ran.{Ran}
 use Rattle.monitor_running.specs.declared.ran.Ran.TheVariants as ran
 use Rattle.monitor_running.specs.declared.telling.Untold.{Untold}
@@ -29,17 +31,26 @@ use Rattle.monitor_running.specs.declared.telling.Untold.TheVariants as untold
 use Rattle.flat_trace.specs.Events.{answers_in, drain_items, event_acts, event_items, needs_room}
 use Rattle.monitor_running.specs.Items.{DrainStops, Drains, HasDrained, TellStops, TellsPart, TellsSlice, drained_world}
 use Rattle.monitor_running.specs.Ran.{HasFault, IsRunning, IsTornOff, RanOn, Went, end_by, slice_end}
-use Rattle.monitor_running.specs.Waiting.{HasGone}
+use Rattle.monitor_running.specs.Waiting.{HasGone, makers, turns}
+use Rattle.monitor_running.specs.Asked.{HostKnown}
+use Rattle.monitor_running.specs.Devices.{DiskWasAsked, IsDevices}
 use Rattle.monitor_running.specs.Reached.{Ahead, GetsAhead, IsCut, Keeps, Known, Reached, Seen, Start, known}
 use Rattle.flat_trace.specs.Showing.{Out}
 use Rattle.flat_guest.specs.Sound.{IsSound}
 use Rattle.monitor_running.proofs.Asked.{answers_same, roomy}
 use Rattle.monitor_running.proofs.Sound.{sound_led, world_sound}
-use Rattle.monitor_running.proofs.Joins.{answered_first, answers_append, goes_by, rests}
-use Rattle.monitor_running.proofs.Led.{acts_items, drain_acts, drain_outs, drain_run, drain_says, drain_shows, drain_told, drained_guest, drained_is, events_run, items_split, leads_split, quiets, quiets_say, quiets_show, still_runs, with_guest}
+use Rattle.monitor_running.proofs.Disks.{asked_split, clock_rests, unasked_there, unasked_turns}
+use Rattle.monitor_running.proofs.Joins.{HostRests, answered_first, answers_append, goes_by, host_same, rests}
+use Rattle.monitor_running.proofs.Led.{acts_items, drain_acts, drain_answered, drain_outs, drain_run, drain_says, drain_shows, drain_told, drained_guest, drained_is, events_answered, events_run, items_split, leads_split, quiets, quiets_say, quiets_show, still_runs, with_guest}
 
-abbrev seen_by : List Item → List ℕ → ClockKnown → Seen
-seen_by took taken clock = record { took = took; taken = taken; clock = clock }
+abbrev seen_by : List Item → List ℕ → HostKnown → Seen
+seen_by took taken host = record { took = took; taken = taken; host = host }
+
+-- events that lead from each guest that the world was to one that it is, in which the clock and the disks answered
+abbrev pub HostGone : List Entry → WorldValue → WorldValue → HostKnown → HostKnown → Type 0
+HostGone es old new asked now =
+    (g : Guest) → IsWorld old g
+    → ((h : Guest) × Leads g es h × IsWorld new h) × ClockWasAsked asked.clock es now.clock × DiskWasAsked asked.disk es now.disk
 
 -- a clock that answered in the events
 pub was_asked : (asked now : ClockKnown) (es : List Entry) (g h : Guest) → IsSound g → ClockWasAsked asked es now
@@ -81,8 +92,8 @@ told_then (Err why) es w v took mid now taken all told drains = stops_then why e
 
 -- ---- a slice whose events lead from the guest of each machine that the world was
 
-module _ (s : Start) (m : Machine) (talk : List Out) (took : List Item) (taken : List ℕ) (asked now : ClockKnown)
-    (w v : WorldValue) (es : List Entry) (gone : HasGone es w v asked now) (is : IsRunning w m)
+module _ (s : Start) (m : Machine) (talk : List Out) (took : List Item) (taken : List ℕ) (asked now : HostKnown)
+    (w v : WorldValue) (es : List Entry) (gone : HostGone es w v asked now) (is : IsRunning w m)
     (r : Reached s (seen_by took taken asked) m talk) where
   abbrev old : Seen
   old = seen_by took taken asked
@@ -96,16 +107,20 @@ module _ (s : Start) (m : Machine) (talk : List Out) (took : List Item) (taken :
   after_runs : running after ≡ Some led.0
   after_runs = still_runs m is.0 led.0 is.1
 
-  all_asked : HasAnswered asked (answers_in (event_items es)) now
-  all_asked = was_asked asked now es is.0 led.0 (world_sound w is.0 is.2) (gone is.0 is.2).1 led.1
+  all_asked : HasAnswered asked.clock (answers_in (event_items es)) now.clock
+  all_asked = was_asked asked.clock now.clock es is.0 led.0 (world_sound w is.0 is.2) (gone is.0 is.2).1 led.1
 
   -- all events are told
   events_told : Reached s (seen_by (took ++ event_items es) taken now) after talk
   events_told =
+      let sound = world_sound w is.0 is.2 in
       goes_by s old (seen_by (took ++ event_items es) taken now) m after talk (event_acts es) (quiets es) r
-      (events_run es m is.0 led.0 (world_sound w is.0 is.2) is.1 led.1) (ap (λ (l : List Item). took ++ l) (sym (acts_items es)))
+      (events_run es m is.0 led.0 sound is.1 led.1) (ap (λ (l : List Item). took ++ l) (sym (acts_items es)))
       (sym (append-nil taken) ∙ ap (λ (l : List ℕ). taken ++ l) (sym (quiets_show es))) (quiets_say es)
-      (subst (λ (l : List Item). HasAnswered asked (answers_in l) now) (sym (acts_items es)) all_asked)
+      (record {
+        clock = subst (λ (l : List Item). HasAnswered asked.clock (answers_in l) now.clock) (sym (acts_items es)) all_asked;
+        disk = events_answered es m is.0 led.0 sound is.1 led.1 asked.disk now.disk (gone is.0 is.2).2;
+      })
 
   -- and a drain
   console_is : v.board.console ≡ led.0.board.console
@@ -121,9 +136,12 @@ module _ (s : Start) (m : Machine) (talk : List Out) (took : List Item) (taken :
       (sym (append_assoc took (event_items es) (drain_items bytes))
       ∙ ap (λ (l : List Item). (took ++ event_items es) ++ l) (sym (drain_told bytes)))
       (ap (λ (l : List ℕ). taken ++ l) (sym (drain_shows bytes))) (drain_says bytes)
-      (subst (λ (l : List Item). HasAnswered now (answers_in l) now) (sym (drain_told bytes)) (unasked bytes))
+      (record {
+        clock = subst (λ (l : List Item). HasAnswered now.clock (answers_in l) now.clock) (sym (drain_told bytes)) (unasked bytes);
+        disk = drain_answered m led.0 bytes (drain_run m led.0 bytes console_is) now.disk;
+      })
     where
-      unasked : (bytes : List ℕ) → HasAnswered now (answers_in (drain_items bytes)) now
+      unasked : (bytes : List ℕ) → HasAnswered now.clock (answers_in (drain_items bytes)) now.clock
       unasked [] = record { still = λ tells. tells; are = λ tells. refl }
       unasked (b ∷ bytes) = record { still = λ tells. tells; are = λ tells. refl }
 
@@ -140,23 +158,34 @@ module _ (s : Start) (m : Machine) (talk : List Out) (took : List Item) (taken :
       let parts = leads_split n es is.0 led.0 led.1 in
       let answers : answers_in (event_items es) ≡ answers_in (event_items (take n es)) ++ answers_in (event_items (drop n es)) =
       ap answers_in (items_split n es) ∙ answers_append (event_items (take n es)) (event_items (drop n es)) in
-      let clocks = answered_first asked now (answers_in (event_items (take n es))) (answers_in (event_items (drop n es)))
-      (subst (λ (l : List ℕ). HasAnswered asked l now) answers all_asked) in
-      let front : Seen = seen_by (took ++ event_items (take n es)) taken clocks.0 in record {
+      let clocks = answered_first asked.clock now.clock (answers_in (event_items (take n es))) (answers_in (event_items (drop n es)))
+      (subst (λ (l : List ℕ). HasAnswered asked.clock l now.clock) answers all_asked) in
+      let disks = asked_split n es asked.disk now.disk (gone is.0 is.2).2 in
+      let mid : HostKnown = record { clock = clocks.0; disk = disks.0 } in
+      let front : Seen = seen_by (took ++ event_items (take n es)) taken mid in
+      let sound = world_sound w is.0 is.2 in
+      let led_sound = sound_led (take n es) is.0 parts.0 sound parts.1 in
+      let runs = still_runs m is.0 parts.0 is.1 in record {
         told = with_guest m parts.0;
-        clock = clocks.0;
+        host = mid;
         reached =
             goes_by s old front m (with_guest m parts.0) talk (event_acts (take n es)) (quiets (take n es)) r
-            (events_run (take n es) m is.0 parts.0 (world_sound w is.0 is.2) is.1 parts.1) (ap (λ (l : List Item). took ++ l) (sym (acts_items (take n es))))
+            (events_run (take n es) m is.0 parts.0 sound is.1 parts.1) (ap (λ (l : List Item). took ++ l) (sym (acts_items (take n es))))
             (sym (append-nil taken) ∙ ap (λ (l : List ℕ). taken ++ l) (sym (quiets_show (take n es)))) (quiets_say (take n es))
-            (subst (λ (l : List Item). HasAnswered asked (answers_in l) clocks.0) (sym (acts_items (take n es))) clocks.1);
+            (record {
+              clock = subst (λ (l : List Item). HasAnswered asked.clock (answers_in l) clocks.0) (sym (acts_items (take n es))) clocks.1;
+              disk = events_answered (take n es) m is.0 parts.0 sound is.1 parts.1 asked.disk disks.0 disks.1;
+            });
         more = event_acts (drop n es);
         outs = quiets (drop n es);
         flat = after;
-        ahead = events_run (drop n es) (with_guest m parts.0) parts.0 led.0 (sound_led (take n es) is.0 parts.0 (world_sound w is.0 is.2) parts.1) (still_runs m is.0 parts.0 is.1) parts.2;
+        ahead = events_run (drop n es) (with_guest m parts.0) parts.0 led.0 led_sound runs parts.2;
         unshown = quiets_show (drop n es);
         unsaid = quiets_say (drop n es);
-        asked = subst (λ (l : List Item). HasAnswered clocks.0 (answers_in l) now) (sym (acts_items (drop n es))) clocks.2;
+        asked = record {
+          clock = subst (λ (l : List Item). HasAnswered clocks.0 (answers_in l) now.clock) (sym (acts_items (drop n es))) clocks.2;
+          disk = events_answered (drop n es) (with_guest m parts.0) parts.0 led.0 led_sound runs parts.2 disks.0 now.disk disks.2;
+        };
         is = (led.0, after_runs, led.2);
         beside = refl;
       }
@@ -164,32 +193,51 @@ module _ (s : Start) (m : Machine) (talk : List Out) (took : List Item) (taken :
 -- ---- what is left of a slice, told to its end or not
 
 -- what a slice says of its events
-pub slice_gone : (es : List Entry) (w v : WorldValue) (asked now : ClockKnown) → IsSerial w es v → ClockWasAsked asked es now
-    → HasGone es w v asked now
-slice_gone es w v asked now serial was g is = (serial g is, was)
+pub slice_gone : (es : List Entry) (w v : WorldValue) (asked now : HostKnown) → IsSerial w es v
+    → All (λ (e : Entry). IsThere (length w.harts) e.actor) es → ClockWasAsked asked.clock es now.clock → now.disk ≡ asked.disk
+    → HostGone es w v asked now
+slice_gone es w v asked now serial there was same g is =
+    (serial g is, was, rw same (unasked_there (length w.harts) es asked.disk there))
 
-pub slice_told : (took took' : List Item) (taken taken' : List ℕ) (asked mid now : ClockKnown) (w v u : WorldValue) (es : List Entry)
-    → HasGone es w v asked mid → HasDrained v took (event_items es) u took' → taken' ≡ taken ++ v.board.console → Lasts mid now
+-- the disks of a host of which the clock alone is asked
+pub same_disk : {D L V C : Type 0} (known : D → DiskKnown) (first last : Host D L V C) → last ≡ record first { clock = last.clock }
+    → known last.disk ≡ known first.disk
+same_disk {D} {L} {V} {C} known first last is = ap (λ (h : Host D L V C). known h.disk) is
+
+-- what a wait says
+pub wait_gone : (es : List Entry) (w v : WorldValue) (asked now : ClockKnown) (disk : DiskKnown) → HasGone es w v asked now
+    → ((g : Guest) → IsWorld w g → makers es ≡ turns (length w.harts))
+    → HostGone es w v (record { clock = asked; disk = disk }) (record { clock = now; disk = disk })
+wait_gone es w v asked now disk gone made g is =
+    ((gone g is).0, (gone g is).1, unasked_turns (length w.harts) es disk (made g is))
+
+-- and what the devices' events say
+pub devices_gone : (es : List Entry) (w v : WorldValue) (clock : ClockKnown) (asked now : DiskKnown) → IsSerial w es v
+    → ((g : Guest) → IsWorld w g → All IsDevices es) → ((g : Guest) → IsWorld w g → DiskWasAsked asked es now)
+    → HostGone es w v (record { clock = clock; disk = asked }) (record { clock = clock; disk = now })
+devices_gone es w v clock asked now serial made was g is = (serial g is, clock_rests clock es (made g is), was g is)
+
+pub slice_told : (took took' : List Item) (taken taken' : List ℕ) (asked mid now : HostKnown) (w v u : WorldValue) (es : List Entry)
+    → HostGone es w v asked mid → HasDrained v took (event_items es) u took' → taken' ≡ taken ++ v.board.console → HostRests mid now
     → Keeps IsRunning (seen_by took taken asked) w (seen_by took' taken' now) u
-slice_told took took' taken taken' asked mid now w v u es gone drained sunk lasts s m talk is r =
+slice_told took took' taken taken' asked mid now w v u es gone drained sunk rest s m talk is r =
     let all = drain_told_too s m talk took taken asked mid w v es gone is r in
     let h = led s m talk took taken asked mid w v es gone is r in
     let last : Seen = seen_by (took ++ (event_items es ++ drain_items v.board.console)) (taken ++ v.board.console) mid in record {
       flat = with_guest m (drained_guest h.0);
       is = drained_runs s m talk took taken asked mid w v es gone is r u drained.world;
       beside = refl;
-      reached = rests s last (seen_by took' taken' now) (with_guest m (drained_guest h.0)) talk all drained.told sunk
-          (record { still = λ tells. lasts.still tells; are = λ tells. lasts.same tells });
+      reached = rests s last (seen_by took' taken' now) (with_guest m (drained_guest h.0)) talk all drained.told sunk rest;
     }
 
-pub slice_ahead : (took took' : List Item) (taken taken' : List ℕ) (asked now : ClockKnown) (w v u : WorldValue) (es : List Entry)
-    → HasGone es w v asked now → u ≡ v → TellsPart took es took' → taken' ≡ taken
+pub slice_ahead : (took took' : List Item) (taken taken' : List ℕ) (asked now : HostKnown) (w v u : WorldValue) (es : List Entry)
+    → HostGone es w v asked now → u ≡ v → TellsPart took es took' → taken' ≡ taken
     → GetsAhead IsRunning (seen_by took taken asked) w (seen_by took' taken' now) u
 slice_ahead took took' taken taken' asked now w v u es gone same part sunk s m talk is r =
     rw (same, part.1, sunk) (part_told s m talk took taken asked now w v es gone is r part.0)
 
-pub slice_cut : (took took' : List Item) (taken taken' : List ℕ) (asked now : ClockKnown) (w v u : WorldValue) (es : List Entry)
-    → HasGone es w v asked now → HasDrained v took (event_items es) u took' → TakesPart taken taken' v.board.console
+pub slice_cut : (took took' : List Item) (taken taken' : List ℕ) (asked now : HostKnown) (w v u : WorldValue) (es : List Entry)
+    → HostGone es w v asked now → HasDrained v took (event_items es) u took' → TakesPart taken taken' v.board.console
     → IsCut IsRunning (seen_by took taken asked) w (seen_by took' taken' now) u
 slice_cut took took' taken taken' asked now w v u es gone drained part s m talk is r =
     let bytes = v.board.console in
@@ -197,19 +245,18 @@ slice_cut took took' taken taken' asked now w v u es gone drained part s m talk 
     ap (λ (l : List ℕ). l ++ drop part.0 bytes) part.2 ∙ append_assoc taken (take part.0 bytes) (drop part.0 bytes)
     ∙ ap (λ (l : List ℕ). taken ++ l) (take-append-drop part.0 bytes) in (
       drop part.0 bytes,
-      slice_told took took' taken (taken' ++ drop part.0 bytes) asked now now w v u es gone drained whole
-          (record { still = λ tells. tells; same = λ tells. refl }) s m talk is r,
+      slice_told took took' taken (taken' ++ drop part.0 bytes) asked now now w v u es gone drained whole (host_same now) s m talk is r,
     )
 
-pub slice_short : (took took' : List Item) (taken taken' : List ℕ) (asked now : ClockKnown) (w v u : WorldValue) (es : List Entry)
-    → HasGone es w v asked now → (All (λ e. needs_room e ≡ false) es → ⊥)
+pub slice_short : (took took' : List Item) (taken taken' : List ℕ) (asked now : HostKnown) (w v u : WorldValue) (es : List Entry)
+    → HostGone es w v asked now → (All (λ e. needs_room e ≡ false) es → ⊥)
     → Keeps IsRunning (seen_by took taken asked) w (seen_by took' taken' now) u
 slice_short took took' taken taken' asked now w v u es gone short s m talk is r =
     let h = (gone is.0 is.2).0 in
     absurd (short (All-from_recursion (λ (e : Entry). needs_room e ≡ false) es (roomy es is.0 h.0 (world_sound w is.0 is.2) h.1)))
 
-pub slice_stops : (why : Untold) (took took' : List Item) (taken taken' : List ℕ) (asked now : ClockKnown) (w v u : WorldValue)
-    (es : List Entry) → HasGone es w v asked now → TellStops why es v took taken u took' taken'
+pub slice_stops : (why : Untold) (took took' : List Item) (taken taken' : List ℕ) (asked now : HostKnown) (w v u : WorldValue)
+    (es : List Entry) → HostGone es w v asked now → TellStops why es v took taken u took' taken'
     → RanOn IsRunning (Some (end_by why)) (seen_by took taken asked) w (seen_by took' taken' now) u
 slice_stops untold.Trace took took' taken taken' asked now w v u es gone stops =
     slice_ahead took took' taken taken' asked now w v u es gone stops.0 stops.1 stops.2
@@ -218,38 +265,35 @@ slice_stops untold.Sink took took' taken taken' asked now w v u es gone stops =
 slice_stops untold.OutOfMemory took took' taken taken' asked now w v u es gone stops =
     slice_short took took' taken taken' asked now w v u es gone stops
 
-pub slice_torn : (took : List Item) (taken : List ℕ) (asked now : ClockKnown) (w : WorldValue) (torn : Torn)
+pub slice_torn : (took : List Item) (taken : List ℕ) (asked now : HostKnown) (w : WorldValue) (torn : Torn)
     (journals : List Journal) (histories : List History) → IsTornSlice w torn journals histories
     → IsTornOff IsRunning (seen_by took taken asked) w (seen_by took taken now) torn journals histories
 slice_torn took taken asked now w torn journals histories is_torn = record {
   world = w;
   slice = is_torn;
-  clock = asked;
+  host = asked;
   kept = λ s m talk is r. record { flat = m; is = is; beside = refl; reached = r };
 }
 
-pub slice_none : (took : List Item) (taken : List ℕ) (asked now : ClockKnown) (w v : WorldValue) → v ≡ w → now ≡ asked
+pub slice_none : (took : List Item) (taken : List ℕ) (asked now : HostKnown) (w v : WorldValue) → v ≡ w → now ≡ asked
     → Keeps IsRunning (seen_by took taken asked) w (seen_by took taken now) v
 slice_none took taken asked now w v same unasked s m talk is r = record {
   flat = m;
   is = subst (λ (x : WorldValue). IsRunning x m) (sym same) is;
   beside = refl;
-  reached = subst (λ (k : ClockKnown). Reached s (seen_by took taken k) m talk) (sym unasked) r;
+  reached = subst (λ (k : HostKnown). Reached s (seen_by took taken k) m talk) (sym unasked) r;
 }
 
 -- ---- the same, as the ends have it
 
-pub clock_same : (clock : ClockKnown) → Lasts clock clock
-clock_same clock = record { still = λ tells. tells; same = λ tells. refl }
-
 lasts_same : (told : Health) → objects.Lasts told told
 lasts_same told = record { still = λ tells. tells; later = omega arith }
 
-pub went_told : (trace traced : TraceKnown) (sink sunk : SinkKnown) (asked mid now : ClockKnown) (w v u : WorldValue)
-    (es told : List Entry) → told ≡ es → HasGone es w v asked mid
+pub went_told : (trace traced : TraceKnown) (sink sunk : SinkKnown) (asked mid now : HostKnown) (w v u : WorldValue)
+    (es told : List Entry) → told ≡ es → HostGone es w v asked mid
     → (objects.Tells trace.health → objects.Tells sink.health
     → HasDrained v trace.took (event_items told) u traced.took × (sunk.taken ≡ sink.taken ++ v.board.console))
-    → objects.Lasts trace.health traced.health → objects.Lasts sink.health sunk.health → Lasts mid now
+    → objects.Lasts trace.health traced.health → objects.Lasts sink.health sunk.health → HostRests mid now
     → Went IsRunning None (known trace sink asked) w (known traced sunk now) u
 went_told trace traced sink sunk asked mid now w v u es told same gone went trace_lasts sink_lasts rests = record {
   ran = λ t k.
@@ -267,8 +311,8 @@ fault_of untold.Trace before now trace sink = trace refl
 fault_of untold.Sink before now trace sink = sink refl
 fault_of untold.OutOfMemory before now trace sink = tt
 
-pub went_untold : (end : Ran) (why : Untold) (trace traced : TraceKnown) (sink sunk : SinkKnown) (asked now : ClockKnown)
-    (w v u : WorldValue) (es told : List Entry) → end ≡ end_by why → told ≡ es → HasGone es w v asked now
+pub went_untold : (end : Ran) (why : Untold) (trace traced : TraceKnown) (sink sunk : SinkKnown) (asked now : HostKnown)
+    (w v u : WorldValue) (es told : List Entry) → end ≡ end_by why → told ≡ es → HostGone es w v asked now
     → (objects.Tells trace.health → objects.Tells sink.health → TellStops why told v trace.took sink.taken u traced.took sunk.taken)
     → (why ≡ untold.Trace → Rose trace.health.faults traced.health.faults)
     → (why ≡ untold.Sink → Rose sink.health.faults sunk.health.faults)
@@ -285,29 +329,30 @@ went_untold end why trace traced sink sunk asked now w v u es told is same gone 
   sink_lasts = sink_lasts;
 }
 
--- no slice
-failed_by : {Q : Type 0} (why : SliceError) (trace : TraceKnown) (sink : SinkKnown) (asked now : ClockKnown) (w v : WorldValue)
-    (begun ended : List Q) → HasFailed w v asked now begun ended why
+-- no slice, and no disk was asked
+failed_by : {Q : Type 0} (why : SliceError) (trace : TraceKnown) (sink : SinkKnown) (asked now : HostKnown) (w v : WorldValue)
+    (begun ended : List Q) → now.disk ≡ asked.disk → HasFailed w v asked.clock now.clock begun ended why
     → Went IsRunning (Some (slice_end why)) (known trace sink asked) w (known trace sink now) v
-failed_by (error.Torn torn journals histories) trace sink asked now w v begun ended failed = record {
+failed_by (error.Torn torn journals histories) trace sink asked now w v begun ended same failed = record {
   ran = λ t k. slice_torn trace.took sink.taken asked now w torn journals.items histories.items failed.0;
   fault = tt;
   trace_lasts = lasts_same trace.health;
   sink_lasts = lasts_same sink.health;
 }
-failed_by error.OutOfMemory trace sink asked now w v begun ended failed = record {
-  ran = λ t k. slice_none trace.took sink.taken asked now w v failed.0 failed.1;
+failed_by error.OutOfMemory trace sink asked now w v begun ended same failed = record {
+  ran = λ t k. slice_none trace.took sink.taken asked now w v failed.0 (λ j. record { clock = failed.1 j; disk = same j });
   fault = tt;
   trace_lasts = lasts_same trace.health;
   sink_lasts = lasts_same sink.health;
 }
 
-pub went_failed : {Q : Type 0} (end : Ran) (why : SliceError) (trace : TraceKnown) (sink : SinkKnown) (asked now : ClockKnown)
-    (w v : WorldValue) (begun ended : List Q) → end ≡ slice_end why → HasFailed w v asked now begun ended why
+pub went_failed : {Q : Type 0} (end : Ran) (why : SliceError) (trace : TraceKnown) (sink : SinkKnown) (asked now : HostKnown)
+    (w v : WorldValue) (begun ended : List Q) → end ≡ slice_end why → now.disk ≡ asked.disk
+    → HasFailed w v asked.clock now.clock begun ended why
     → Went IsRunning (Some end) (known trace sink asked) w (known trace sink now) v
-went_failed end why trace sink asked now w v begun ended is failed =
+went_failed end why trace sink asked now w v begun ended is same failed =
     subst (λ (r : Ran). Went IsRunning (Some r) (known trace sink asked) w (known trace sink now) v) (sym is)
-    (failed_by why trace sink asked now w v begun ended failed)
+    (failed_by why trace sink asked now w v begun ended same failed)
 
 -- neither is an end by the gate
 pub unclosed_failed : (end : Ran) (why : SliceError) → end ≡ slice_end why → Some end ≡ Some ran.Closed → ⊥

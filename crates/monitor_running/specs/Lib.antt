@@ -1,3 +1,5 @@
+pub mod Asked
+pub mod Devices
 pub mod Items
 pub mod Passes
 pub mod Ran

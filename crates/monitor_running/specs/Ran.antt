@@ -3,7 +3,6 @@ use Rattle.std.specs.Prelude.{◌≡◌, true, false, List, Option, Some, None}
 use Rattle.vm_types.specs.Causes.{Rose}
 use Rattle.vm_types.specs.declared.torn.Torn.{Torn}
 use Rattle.vm_outside.specs.Known.{Lasts, Tells}
-use Rattle.vm_host.specs.Telling.{ClockKnown}
 use Rattle.stamp_merge.specs.declared.history.History.{History}
 use Rattle.stamp_merge.specs.declared.journal.Journal.{Journal}
 use Rattle.flat_guest.specs.Guest.{Guest}
@@ -16,6 +15,7 @@ use Rattle.monitor_running.specs.declared.ran.Ran.{Ran}
 use Rattle.monitor_running.specs.declared.ran.Ran.TheVariants as ran
 use Rattle.monitor_running.specs.declared.telling.Untold.{Untold}
 use Rattle.monitor_running.specs.declared.telling.Untold.TheVariants as untold
+use Rattle.monitor_running.specs.Asked.{HostKnown}
 use Rattle.monitor_running.specs.Reached.{GetsAhead, IsCut, Keeps, KeepsAs, Kept, Known, Reached, Seen, Start, seen}
 use Rattle.flat_trace.specs.Showing.{Out}
 
@@ -28,9 +28,9 @@ pub record IsTornOff {B : Type 0} (Is : B → Machine → Type 0) (old : Seen) (
     (journals : List Journal) (histories : List History) : Type 0 where
   pub world : WorldValue
   pub slice : IsTornSlice world torn journals histories
-  pub clock : ClockKnown
+  pub host : HostKnown
   pub kept : (s : Start) (m : Machine) (talk : List Out) → Is b m → Reached s old m talk
-      → Kept IsRunning s m (record now { clock = clock }) world talk
+      → Kept IsRunning s m (record now { host = host }) world talk
 
 -- by how slices ended, if they did
 abbrev pub RanOn : {B : Type 0} → (B → Machine → Type 0) → Option Ran → Seen → B → Seen → B → Type 0

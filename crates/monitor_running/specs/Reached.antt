@@ -3,30 +3,28 @@ use Rattle.std.specs.Prelude.{ℕ, ◌≡◌, Bool, List, [], ◌++◌}
 use Rattle.script_text.specs.declared.item.Item.{Item}
 use Rattle.serve_host.specs.Tracing.{TraceKnown}
 use Rattle.vm_outside.specs.Known.{SinkKnown}
-use Rattle.vm_host.specs.Telling.{ClockKnown}
-use Rattle.slice_runner.specs.Runs.{HasAnswered}
 use Rattle.flat_machine.specs.Machine.{Machine, is_off}
 use Rattle.flat_machine.specs.Run.{Act}
-use Rattle.flat_trace.specs.Events.{answers_in}
 use Rattle.flat_trace.specs.Showing.{Out, Run, items_of, said, shown}
+use Rattle.monitor_running.specs.Asked.{HostAnswered, HostKnown}
 
--- what is known of the trace, the sink and the clock
+-- what is known of the trace, the sink, and the clock and the disks
 pub record Known : Type 0 where
   pub trace : TraceKnown
   pub sink : SinkKnown
-  pub clock : ClockKnown
+  pub host : HostKnown
 
-abbrev pub known : TraceKnown → SinkKnown → ClockKnown → Known
-known trace sink clock = record { trace = trace; sink = sink; clock = clock }
+abbrev pub known : TraceKnown → SinkKnown → HostKnown → Known
+known trace sink host = record { trace = trace; sink = sink; host = host }
 
--- the items that the trace took, the bytes that the sink took, and what is known of the clock
+-- the items that the trace took, the bytes that the sink took, and what is known of the clock and the disks
 pub record Seen : Type 0 where
   pub took : List Item
   pub taken : List ℕ
-  pub clock : ClockKnown
+  pub host : HostKnown
 
 abbrev pub seen : Known → Seen
-seen k = record { took = k.trace.took; taken = k.sink.taken; clock = k.clock }
+seen k = record { took = k.trace.took; taken = k.sink.taken; host = k.host }
 
 -- where everything was at some start, what was said on connections among it
 pub record Start : Type 0 where
@@ -34,7 +32,8 @@ pub record Start : Type 0 where
   pub flat : Machine
   pub talk : List Out
 
--- since then the trace took all that happened, and all that this shows was taken; the timer was given the clock's answers
+-- since then the trace took all that happened, and all that this shows was taken; the timer was given the clock's answers,
+-- and each device its disk's
 pub record Reached (s : Start) (now : Seen) (m : Machine) (talk : List Out) : Type 0 where
   pub acts : List Act
   pub outs : List Out
@@ -42,7 +41,7 @@ pub record Reached (s : Start) (now : Seen) (m : Machine) (talk : List Out) : Ty
   pub run : Run acts s.flat outs m
   pub sink : now.taken ≡ s.seen.taken ++ shown outs
   pub talks : talk ≡ s.talk ++ said outs
-  pub asked : HasAnswered s.seen.clock (answers_in (items_of acts)) now.clock
+  pub asked : HostAnswered acts s.flat outs m run s.seen.host now.host
 
 -- a body b that is the machine after what happened, which is m but for its guest
 pub record Kept {B : Type 0} (Is : B → Machine → Type 0) (s : Start) (m : Machine) (now : Seen) (b : B) (talk : List Out) :
@@ -56,15 +55,15 @@ pub record Kept {B : Type 0} (Is : B → Machine → Type 0) (s : Start) (m : Ma
 pub record Ahead {B : Type 0} (Is : B → Machine → Type 0) (s : Start) (m : Machine) (now : Seen) (b : B) (talk : List Out) :
     Type 0 where
   pub told : Machine
-  pub clock : ClockKnown
-  pub reached : Reached s (record now { clock = clock }) told talk
+  pub host : HostKnown
+  pub reached : Reached s (record now { host = host }) told talk
   pub more : List Act
   pub outs : List Out
   pub flat : Machine
   pub ahead : Run more told outs flat
   pub unshown : shown outs ≡ []
   pub unsaid : said outs ≡ []
-  pub asked : HasAnswered clock (answers_in (items_of more)) now.clock
+  pub asked : HostAnswered more told outs flat ahead host now.host
   pub is : Is b flat
   pub beside : flat ≡ record m { guest = flat.guest }
 

@@ -2,12 +2,14 @@
 //!
 //! `run_once` makes one slice of a machine (`slice_runner`), and `run_while` one after another until a gate is closed.
 //! Each event goes to the trace as an item, in the order of the slice, and what the console holds after a slice goes to
-//! the sink, its item to the trace first. Where every hart waits a few events are made in place of a slice (`waiting`).
-//! So what the trace took is a run of the flat machine that leaves the machine and shows what the sink took, and where
-//! slices end early the sink took a front of what the trace says. `flat_trace` has what an item of a trace does,
-//! `specs/Reached.antt` what is kept, and `specs/Ran.antt` how slices go and end.
+//! the sink, its item to the trace first. Before each slice the devices act, and their disks answer them (`devices`); where
+//! every hart waits a few events are made in place of a slice (`waiting`). So what the trace took is a run of the flat
+//! machine that leaves the machine and shows what the sink took, and where slices end early the sink took a front of what
+//! the trace says. `flat_trace` has what an item of a trace does, `specs/Reached.antt` what is kept, `specs/Asked.antt` what
+//! the clock and the disks were asked, and `specs/Ran.antt` how slices go and end.
 #![tactic(auto)]
 
+mod devices;
 mod ran;
 mod running;
 mod telling;
@@ -15,5 +17,6 @@ mod telling;
 mod tests;
 mod waiting;
 
+pub use devices::run_devices;
 pub use ran::Ran;
 pub use running::{run_once, run_while};

@@ -5,8 +5,10 @@ ghost use Rattle.monitor_machine.specs.State.{IsLive};
 ghost use Rattle.monitor_running.specs.declared.ran.Ran.TheVariants as ran;
 ghost use Rattle.monitor_running.specs.Passes.{ArePassed};
 ghost use Rattle.monitor_running.specs.Ran.{IsRunning, Went, end_by, slice_end};
+ghost use Rattle.monitor_running.specs.Asked.{host_known};
 ghost use Rattle.monitor_running.specs.Reached.{Known, known};
 
+use crate::devices::{MOST_DEVICES, run_devices};
 use crate::ran::Ran;
 use crate::telling::{Untold, tell_slice};
 use crate::waiting::{all_wait, pass_time};
@@ -17,7 +19,7 @@ use slice_runner::{SliceError, run_slice};
 use std::alloc::Global;
 use std::sync::Wait;
 use std::thread::Threads;
-use vm_host::{Clock, Host};
+use vm_host::{Clock, Disk, Host};
 use vm_outside::Sink;
 use vm_world::World;
 
@@ -26,6 +28,13 @@ const MOST_HARTS: usize = 32;
 
 /// All actors of a slice together make at most so many steps, so that their journals take some 45 MiB at most.
 const MOST_STEPS: u32 = 65_536;
+
+/// Before a slice a device makes at most so many events, which move some 128 KiB between memory and a disk: the harts wait for
+/// no more of them.
+const MOST_EVENTS: u32 = 4_096;
+
+/// And all devices together so many, whose list takes some 4 MiB.
+const MOST_EVENTS_OF_ALL: u32 = 16_384;
 
 // Whether each actor of the world has a pass.
 fn has_passes(world: &World, passes: usize) -> bool
@@ -87,7 +96,7 @@ fn steps_each(world: &World, steps: u32) -> u32
 // One slice of a guest, its events and a drain.
 fn run_guest<
     Q: Send + Drop,
-    D,
+    D: Disk,
     L,
     V,
     C: Clock,
@@ -110,8 +119,8 @@ fn run_guest<
     requires passes { length world.old.harts + 1 ≤ length passes.old.items }
     requires serve { All (G.serves gate.now) passes.old.items }
     ensures went { Went IsRunning result
-        (known (T.known trace.old) (K.known sink.old) (C.known host.old.clock)) world.old
-        (known (T.known trace.new) (K.known sink.new) (C.known host.new.clock)) world.new }
+        (known (T.known trace.old) (K.known sink.old) (host_known C.known D.known host.old)) world.old
+        (known (T.known trace.new) (K.known sink.new) (host_known C.known D.known host.new)) world.new }
     ensures passes { ArePassed (G.serves gate.now) G.tally result passes.old.items passes.new.items }
     ensures unclosed { result ≢ Some ran.Closed }
 {
@@ -126,34 +135,74 @@ fn run_guest<
     None
 }
 
-// Time passes, and the clock rests.
-fn wait<C: Clock, T: Trace, K: Sink>(
+// So many events of each device that is there.
+fn events_each(world: &World) -> u32
+    ensures { result ≤ 4096 }
+{
+    let devices = world.devices().len().clamp(1, MOST_DEVICES) as u32;
+    MOST_EVENTS.min(MOST_EVENTS_OF_ALL / devices)
+}
+
+// The devices act, and a drain.
+fn act<D: Disk, L, V, C: Clock, T: Trace, K: Sink>(
     alloc: Global,
     world: &mut World,
-    clock: &mut C,
+    host: &mut Host<D, L, V, C>,
     trace: &mut T,
     sink: &mut K,
 ) -> Option<Ran>
-    requires { length world.old.harts ≤ 32 }
     ensures went { Went IsRunning result
-        (known (T.known trace.old) (K.known sink.old) (C.known clock.old)) world.old
-        (known (T.known trace.new) (K.known sink.new) (C.known clock.new)) world.new }
+        (known (T.known trace.old) (K.known sink.old) (host_known C.known D.known host.old)) world.old
+        (known (T.known trace.new) (K.known sink.new) (host_known C.known D.known host.new)) world.new }
     ensures unclosed { result ≢ Some ran.Closed }
 {
-    let Ok(events) = pass_time(alloc, world, clock) else {
+    let each = events_each(world);
+    let Ok(events) = run_devices(alloc, world, &mut host.disk, each) else {
         return Some(Ran::OutOfMemory);
     };
     if let Err(why) = tell_slice(alloc, events.as_slice(), world, trace, sink) {
         return Some(end_by(why));
     }
-    clock.rest();
     None
 }
 
-// One slice, where each actor has a pass and a hart has something to do; else time passes.
+// The clock rests, where every hart waits still.
+fn rest_where_all_wait<C: Clock>(world: &World, clock: &mut C)
+    ensures { clocks.Lasts (C.known clock.old) (C.known clock.new) }
+{
+    if world.hart_count() <= MOST_HARTS && all_wait(world) {
+        clock.rest();
+    }
+}
+
+// Time passes, and the clock rests where that woke no hart.
+fn wait<D: Disk, L, V, C: Clock, T: Trace, K: Sink>(
+    alloc: Global,
+    world: &mut World,
+    host: &mut Host<D, L, V, C>,
+    trace: &mut T,
+    sink: &mut K,
+) -> Option<Ran>
+    requires { length world.old.harts ≤ 32 }
+    ensures went { Went IsRunning result
+        (known (T.known trace.old) (K.known sink.old) (host_known C.known D.known host.old)) world.old
+        (known (T.known trace.new) (K.known sink.new) (host_known C.known D.known host.new)) world.new }
+    ensures unclosed { result ≢ Some ran.Closed }
+{
+    let Ok(events) = pass_time(alloc, world, &mut host.clock) else {
+        return Some(Ran::OutOfMemory);
+    };
+    if let Err(why) = tell_slice(alloc, events.as_slice(), world, trace, sink) {
+        return Some(end_by(why));
+    }
+    rest_where_all_wait(world, &mut host.clock);
+    None
+}
+
+// One slice, where each hart and the timer has a pass and a hart has something to do; else time passes.
 fn run_or_wait<
     Q: Send + Drop,
-    D,
+    D: Disk,
     L,
     V,
     C: Clock,
@@ -174,8 +223,8 @@ fn run_or_wait<
 ) -> Option<Ran>
     requires { All (G.serves gate.now) passes.old.items }
     ensures went { Went IsRunning result
-        (known (T.known trace.old) (K.known sink.old) (C.known host.old.clock)) world.old
-        (known (T.known trace.new) (K.known sink.new) (C.known host.new.clock)) world.new }
+        (known (T.known trace.old) (K.known sink.old) (host_known C.known D.known host.old)) world.old
+        (known (T.known trace.new) (K.known sink.new) (host_known C.known D.known host.new)) world.new }
     ensures passes { ArePassed (G.serves gate.now) G.tally result passes.old.items passes.new.items }
     ensures unclosed { result ≢ Some ran.Closed }
 {
@@ -184,23 +233,59 @@ fn run_or_wait<
         return None;
     }
     if all_wait(world) {
-        return wait(alloc, world, &mut host.clock, trace, sink);
+        return wait(alloc, world, host, trace, sink);
     }
     run_guest(rt, alloc, world, host, gate, passes, steps, trace, sink)
 }
 
+// The devices act, and then the harts and the timer.
+fn run_world<
+    Q: Send + Drop,
+    D: Disk,
+    L,
+    V,
+    C: Clock,
+    G: Gate<Pass = Q> + Sync,
+    T: Trace,
+    K: Sink,
+    R: Threads + Wait + Sync,
+>(
+    rt: &R,
+    alloc: Global,
+    world: &mut World,
+    host: &mut Host<D, L, V, C>,
+    gate: &G,
+    passes: &mut Vec<Q>,
+    steps: u32,
+    trace: &mut T,
+    sink: &mut K,
+) -> Option<Ran>
+    requires { All (G.serves gate.now) passes.old.items }
+    ensures went { Went IsRunning result
+        (known (T.known trace.old) (K.known sink.old) (host_known C.known D.known host.old)) world.old
+        (known (T.known trace.new) (K.known sink.new) (host_known C.known D.known host.new)) world.new }
+    ensures passes { ArePassed (G.serves gate.now) G.tally result passes.old.items passes.new.items }
+    ensures unclosed { result ≢ Some ran.Closed }
+{
+    if let Some(end) = act(alloc, world, host, trace, sink) {
+        return Some(end);
+    }
+    run_or_wait(rt, alloc, world, host, gate, passes, steps, trace, sink)
+}
+
 /// One slice of a machine, of `steps` steps at most of each actor, and 65,536 of all of them. An actor asks the gate with a
-/// pass of its own before each step. Answers why slices end, or `None` where they may go on; it is `Off` where the guest is off, of which no slice is
-/// made. That the gate is closed is no end here.
+/// pass of its own before each step. Before the slice the devices act without the gate (`run_devices`), each of them 4,096
+/// events at most, and all of them 16,384. Answers why slices end, or `None` where they may go on; it is `Off` where the
+/// guest is off, of which no slice is made. That the gate is closed is no end here.
 ///
 /// Each event goes to the trace, as `step ACTOR 1`, or `reply ACTOR R` with the answer of a host object; then, where the
 /// console holds anything, `console` goes there too, and then what it held goes to the sink, as it is. Where every hart waits,
-/// two events of the timer and of each hart are made in place of a slice, without the gate, and the clock rests. It rests too
-/// where no guest runs, and where there are fewer passes than actors or more harts than a slice has (no start and no load
-/// makes so many). Nothing is said of time.
+/// two events of the timer and of each hart are made in place of a slice, without the gate, and where all of them wait still,
+/// the clock rests. It rests too where no guest runs, and where there are fewer passes than actors or more harts than a
+/// slice has (no start and no load makes so many). Nothing is said of time.
 pub fn run_once<
     Q: Send + Drop,
-    D,
+    D: Disk,
     L,
     V,
     C: Clock,
@@ -221,8 +306,8 @@ pub fn run_once<
 ) -> Option<Ran>
     requires { All (G.serves gate.now) passes.old.items }
     ensures went { Went IsLive result
-        (known (T.known trace.old) (K.known sink.old) (C.known host.old.clock)) machine.old
-        (known (T.known trace.new) (K.known sink.new) (C.known host.new.clock)) machine.new }
+        (known (T.known trace.old) (K.known sink.old) (host_known C.known D.known host.old)) machine.old
+        (known (T.known trace.new) (K.known sink.new) (host_known C.known D.known host.new)) machine.new }
     ensures passes { ArePassed (G.serves gate.now) G.tally result passes.old.items passes.new.items }
     ensures unclosed { result ≢ Some ran.Closed }
 {
@@ -233,7 +318,7 @@ pub fn run_once<
         host.clock.rest();
         return None;
     };
-    let end = run_or_wait(
+    let end = run_world(
         rt, alloc, &mut world, host, gate, passes, steps, trace, sink,
     );
     machine.put_guest(world);
@@ -255,7 +340,7 @@ fn end_of_closed(machine: &LiveMachine) -> Ran
 /// `Closed` is answered where the guest is on, and `Off` where it is off.
 pub fn run_while<
     Q: Send + Drop,
-    D,
+    D: Disk,
     L,
     V,
     C: Clock,
@@ -277,8 +362,8 @@ pub fn run_while<
     requires some { 0 < length passes.old.items }
     requires serve { All (G.serves gate.now) passes.old.items }
     ensures went { Went IsLive (Some result)
-        (known (T.known trace.old) (K.known sink.old) (C.known host.old.clock)) machine.old
-        (known (T.known trace.new) (K.known sink.new) (C.known host.new.clock)) machine.new }
+        (known (T.known trace.old) (K.known sink.old) (host_known C.known D.known host.old)) machine.old
+        (known (T.known trace.new) (K.known sink.new) (host_known C.known D.known host.new)) machine.new }
     ensures passes { ArePassed (G.serves gate.now) G.tally (Some result) passes.old.items passes.new.items }
 {
     for _ in rt.forever() {

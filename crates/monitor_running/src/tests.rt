@@ -12,7 +12,7 @@ use std::alloc::{AllocError, Global};
 use std::sync::Wait;
 use std::test::Fail;
 use std::thread::Threads;
-use vm_host::{Clock, Host};
+use vm_host::{Clock, Disk, Host};
 use vm_outside::{Failed, Sink};
 use vm_types::{ActorId, ByteList, PlaceId, TextList};
 use vm_world::World;
@@ -36,9 +36,33 @@ impl Clock for Ticks {
     fn rest(&mut self) {}
 }
 
-fn host() -> Host<(), (), (), Ticks> {
+// Disks that nobody asks.
+#[derive(Drop)]
+struct NoDisks;
+
+impl Disk for NoDisks {
+    ghost use Rattle.std.specs.Prelude.{false, []};
+
+    ghost known = { λ disk. record { health = record { tells = false; faults = 0 }; held = λ n. [] } };
+
+    fn attach(&mut self, device: u8, name: &str) {}
+
+    fn read(&mut self, device: u8, sector: u64, part: u8) -> Result<[u8; 64], Failed> {
+        Ok([0; 64])
+    }
+
+    fn write(&mut self, device: u8, sector: u64, part: u8, bytes: &[u8; 64]) -> Result<(), Failed> {
+        Ok(())
+    }
+
+    fn flush(&mut self, device: u8) -> Result<(), Failed> {
+        Ok(())
+    }
+}
+
+fn host() -> Host<NoDisks, (), (), Ticks> {
     Host {
-        disk: (),
+        disk: NoDisks,
         link: (),
         vsock: (),
         clock: Ticks { moment: 0 },
@@ -111,7 +135,7 @@ fn machine_of(alloc: Global, image: &[u8]) -> Result<LiveMachine, Fail> {
         tree: &[],
     };
     let mut machine = LiveMachine::new(alloc, TextList::copy_of(alloc, "two harts")?);
-    machine.put_guest(World::start(alloc, 2, 4, &loads)?);
+    machine.put_guest(World::start(alloc, 2, 4, &loads, &[])?);
     Ok(machine)
 }
 

@@ -3,7 +3,7 @@ use Rattle.std.proofs.Common.{◌≡◌, ℕ, refl, sym, ap, subst, ◌≤◌, L
 use Rattle.vm_types.specs.Causes.{Rose}
 use Rattle.vm_types.specs.declared.exit.Object.{Object}
 use Rattle.vm_types.specs.declared.exit.Object.TheVariants as object
-use Rattle.vm_host.specs.Telling.{ClockKnown}
+use Rattle.monitor_running.specs.Asked.{HostKnown}
 use Rattle.vm_outside.specs.Known.{FilesKnown, Health, Lasts, SinkKnown}
 use Rattle.serve_host.specs.Passing.{ConnKnown}
 use Rattle.serve_host.specs.declared.listener.Accepted.{Accepted}
@@ -52,24 +52,24 @@ module _ (monitor now_monitor : Monitor) (machine : LiveMachine) (k now : Known)
     told = old.told;
   }
 
-  broke : (s : Start) (first : List Ended) (old : HasServed s first old_place) (at : Machine) (clock : ClockKnown) (unshown : List ℕ)
-      → Reached s (record (seen now) { taken = now.sink.taken ++ unshown; clock = clock }) at old.talk → BrokeOff s first new_place
-  broke s first old at clock unshown reached = record {
+  broke : (s : Start) (first : List Ended) (old : HasServed s first old_place) (at : Machine) (host : HostKnown) (unshown : List ℕ)
+      → Reached s (record (seen now) { taken = now.sink.taken ++ unshown; host = host }) at old.talk → BrokeOff s first new_place
+  broke s first old at host unshown reached = record {
     at = at;
     talk = old.talk;
     since = old.since;
-    clock = clock;
+    host = host;
     unshown = unshown;
     reached = reached;
     ended = old.ended;
     told = in_part old.talk old.since old.told;
   }
 
-  all_shown : (s : Start) (first : List Ended) (old : HasServed s first old_place) (at : Machine) (clock : ClockKnown)
-      → Reached s (record (seen now) { clock = clock }) at old.talk → BrokeOff s first new_place
-  all_shown s first old at clock reached =
-      broke s first old at clock []
-      (subst (λ (l : List ℕ). Reached s (record (seen now) { taken = l; clock = clock }) at old.talk) (sym (append-nil now.sink.taken)) reached)
+  all_shown : (s : Start) (first : List Ended) (old : HasServed s first old_place) (at : Machine) (host : HostKnown)
+      → Reached s (record (seen now) { host = host }) at old.talk → BrokeOff s first new_place
+  all_shown s first old at host reached =
+      broke s first old at host []
+      (subst (λ (l : List ℕ). Reached s (record (seen now) { taken = l; host = host }) at old.talk) (sym (append-nil now.sink.taken)) reached)
 
   pub ran_alone : (it : Option Ran) → RanOn IsLive it (seen k) monitor.machine (seen now) machine → (it ≡ Some ran.Closed → ⊥)
       → Goes (alone_end it) old_place new_place
@@ -78,16 +78,16 @@ module _ (monitor now_monitor : Monitor) (machine : LiveMachine) (k now : Known)
   ran_alone (Some ran.Off) on never = λ s first old.
       let it = on s old.flat old.talk old.stands.is.own.live old.stands.reached in (kept s first old it.0, it.1)
   ran_alone (Some ran.TraceFailed) on never = λ s first old.
-      let it = on s old.flat old.talk old.stands.is.own.live old.stands.reached in all_shown s first old it.told it.clock it.reached
+      let it = on s old.flat old.talk old.stands.is.own.live old.stands.reached in all_shown s first old it.told it.host it.reached
   ran_alone (Some ran.SinkFailed) on never = λ s first old.
-      let it = on s old.flat old.talk old.stands.is.own.live old.stands.reached in broke s first old it.1.flat now.clock it.0 it.1.reached
+      let it = on s old.flat old.talk old.stands.is.own.live old.stands.reached in broke s first old it.1.flat now.host it.0 it.1.reached
   ran_alone (Some (ran.Torn torn journals histories)) on never = (
     (on.world, on.slice),
     λ s first old.
-        let it = on.kept s old.flat old.talk old.stands.is.own.live old.stands.reached in all_shown s first old it.flat on.clock it.reached,
+        let it = on.kept s old.flat old.talk old.stands.is.own.live old.stands.reached in all_shown s first old it.flat on.host it.reached,
   )
   ran_alone (Some ran.OutOfMemory) on never = λ s first old.
-      let it = on s old.flat old.talk old.stands.is.own.live old.stands.reached in all_shown s first old it.flat now.clock it.reached
+      let it = on s old.flat old.talk old.stands.is.own.live old.stands.reached in all_shown s first old it.flat now.host it.reached
 
 pub alone_cause : (it : Option Ran) (old new : Hosts) (listener : Health) → HasFault it old.slices new.slices
     → GoCause (alone_end it) old new listener listener
@@ -100,18 +100,18 @@ alone_cause (Some (ran.Torn torn journals histories)) old new listener fault = t
 alone_cause (Some ran.OutOfMemory) old new listener fault = tt
 
 -- the trace failed, or there was no memory, before anything happened
-pub breaks_idle : (s : Start) (first : List Ended) (monitor : Monitor) (trace told : TraceKnown) (sink : SinkKnown) (clock : ClockKnown)
+pub breaks_idle : (s : Start) (first : List Ended) (monitor : Monitor) (trace told : TraceKnown) (sink : SinkKnown) (host : HostKnown)
     (files : FilesKnown) (listener : ListenerKnown) → told.took ≡ trace.took
-    → HasServed s first (place monitor (hosts (known trace sink clock) files) listener)
-    → BrokeOff s first (place monitor (hosts (known told sink clock) files) listener)
-breaks_idle s first monitor trace told sink clock files listener same old = record {
+    → HasServed s first (place monitor (hosts (known trace sink host) files) listener)
+    → BrokeOff s first (place monitor (hosts (known told sink host) files) listener)
+breaks_idle s first monitor trace told sink host files listener same old = record {
   at = old.flat;
   talk = old.talk;
   since = old.since;
-  clock = clock;
+  host = host;
   unshown = [];
-  reached = subst (λ (l : List ℕ). Reached s (record { took = told.took; taken = l; clock = clock }) old.flat old.talk) (sym (append-nil sink.taken))
-      (subst (λ (i : List Item). Reached s (record { took = i; taken = sink.taken; clock = clock }) old.flat old.talk) (sym same) old.stands.reached);
+  reached = subst (λ (l : List ℕ). Reached s (record { took = told.took; taken = l; host = host }) old.flat old.talk) (sym (append-nil sink.taken))
+      (subst (λ (i : List Item). Reached s (record { took = i; taken = sink.taken; host = host }) old.flat old.talk) (sym same) old.stands.reached);
   ended = old.ended;
   told = in_part old.talk old.since old.told;
 }
@@ -150,13 +150,13 @@ pub same_place : (monitor : Monitor) (hosts : Hosts) (a b : ListenerKnown) → b
 same_place monitor hosts a b same =
     ap (λ (l : List Ended). record { monitor = monitor; hosts = hosts; ended = l }) (sym same)
 
-pub breaks_on_accept : (monitor : Monitor) (trace : TraceKnown) (sink : SinkKnown) (clock : ClockKnown) (files : FilesKnown)
+pub breaks_on_accept : (monitor : Monitor) (trace : TraceKnown) (sink : SinkKnown) (host : HostKnown) (files : FilesKnown)
     (a b : ListenerKnown) → b.ended ≡ a.ended → (s : Start) (first : List Ended)
-    → HasServed s first (place monitor (hosts (known trace sink clock) files) a)
-    → BrokeOff s first (place monitor (hosts (known trace sink clock) files) b)
-breaks_on_accept monitor trace sink clock files a b same s first old =
-    subst (λ (p : Place). BrokeOff s first p) (same_place monitor (hosts (known trace sink clock) files) a b same)
-    (breaks_idle s first monitor trace trace sink clock files a refl old)
+    → HasServed s first (place monitor (hosts (known trace sink host) files) a)
+    → BrokeOff s first (place monitor (hosts (known trace sink host) files) b)
+breaks_on_accept monitor trace sink host files a b same s first old =
+    subst (λ (p : Place). BrokeOff s first p) (same_place monitor (hosts (known trace sink host) files) a b same)
+    (breaks_idle s first monitor trace trace sink host files a refl old)
 
 rose_still : (i j : ℕ) → i ≤ j → Rose i i → Rose i j
 rose_still i j later rose = omega (arith, later, rose)

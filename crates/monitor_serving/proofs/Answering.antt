@@ -1,7 +1,7 @@
 -- What comes of bytes that a connection gave, by how they are answered.
 use Rattle.std.proofs.Common.{◌≡◌, ℕ, inl, inr, true, false, refl, ap, ◌∙◌, List, [], ◌∷◌, ◌++◌, take, drop, append-nil, append_assoc, Result, Ok, Err, arith}
 use Rattle.std.proofs.lemmas.List.{take-append-drop}
-use Rattle.vm_host.specs.Telling.{ClockKnown}
+use Rattle.monitor_running.specs.Asked.{HostKnown}
 use Rattle.vm_outside.specs.Known.{Called, FilesKnown, Lasts, SinkKnown, Tells}
 use Rattle.vm_outside.specs.Passing.{TakesAll}
 use Rattle.serve_host.specs.Passing.{ConnKnown, Gives, Waits}
@@ -20,49 +20,49 @@ use Rattle.monitor_serving.proofs.Pieces.{was_answered, was_cut, was_ignored, wa
 still : (conn now : ConnKnown) → now ≡ conn → Waits conn now
 still conn now same = record { gave = ap (λ (c : ConnKnown). c.gave) same; left = ap (λ (c : ConnKnown). c.left) same }
 
-module _ (monitor after : Monitor) (trace told : TraceKnown) (sink : SinkKnown) (clock : ClockKnown) (files left : FilesKnown)
+module _ (monitor after : Monitor) (trace told : TraceKnown) (sink : SinkKnown) (host : HostKnown) (files left : FilesKnown)
     (before conn now : ConnKnown) (bytes : List ℕ) (came : Gives before conn bytes) (untaken : conn.took ≡ before.took) where
   -- the trace failed
   pub untold : told.took ≡ trace.took
-      → BreaksOff (view monitor (hosts (known trace sink clock) files) before) (view after (hosts (known told sink clock) left) conn)
+      → BreaksOff (view monitor (hosts (known trace sink host) files) before) (view after (hosts (known told sink host) left) conn)
   untold same s m talk stands =
-      was_untold s m talk bytes trace told sink clock files left monitor after before conn same stands.reached came untaken
+      was_untold s m talk bytes trace told sink host files left monitor after before conn same stands.reached came untaken
 
   module _ (is_told : told.took ≡ trace.took ++ item.Bytes bytes ∷ []) where
     -- the guest is off
     pub ignored : (off : (m : Machine) → IsMonitor monitor files m → is_off m ≡ true)
-        → GoesOff (view monitor (hosts (known trace sink clock) files) before) (view monitor (hosts (known told sink clock) files) conn)
+        → GoesOff (view monitor (hosts (known trace sink host) files) before) (view monitor (hosts (known told sink host) files) conn)
     ignored off s m talk stands = (
-      was_ignored s m talk bytes trace told sink clock files files monitor monitor before conn conn is_told stands.reached came untaken
+      was_ignored s m talk bytes trace told sink host files files monitor monitor before conn conn is_told stands.reached came untaken
           (still conn conn refl) (off m stands.is) stands.is refl,
       off m stands.is,
     )
 
     module _ (on : (m : Machine) → IsMonitor monitor files m → is_off m ≡ false) where
       -- there was no memory
-      pub short : BreaksOff (view monitor (hosts (known trace sink clock) files) before) (view after (hosts (known told sink clock) left) conn)
+      pub short : BreaksOff (view monitor (hosts (known trace sink host) files) before) (view after (hosts (known told sink host) left) conn)
       short s m talk stands =
-          was_cut s m talk bytes trace told sink clock files left monitor after before conn conn is_told stands.reached came untaken
+          was_cut s m talk bytes trace told sink host files left monitor after before conn conn is_told stands.reached came untaken
           (still conn conn refl) (on m stands.is) refl
 
       module _ (text : List ℕ) (tells : Tells files.health) (hears : HearGoes bytes text monitor after files left) (waits : Waits conn now) where
         -- all was sent
         pub sent : now.took ≡ conn.took ++ text
-            → GoesOn (view monitor (hosts (known trace sink clock) files) before) (view after (hosts (known told sink clock) left) now)
+            → GoesOn (view monitor (hosts (known trace sink host) files) before) (view after (hosts (known told sink host) left) now)
         sent took s m talk stands =
             let h = hears.went tells m stands.is in
-            was_answered s m talk bytes trace told sink clock files left monitor after before conn now is_told stands.reached came untaken
+            was_answered s m talk bytes trace told sink host files left monitor after before conn now is_told stands.reached came untaken
             waits hears.outcomes hears.responses h.0 text [] (on m stands.is) h.1 h.2 hears.writes (append-nil now.took ∙ took)
 
         -- and then the connection is over; where a write failed it lacks the rest
         pub over : {E : Type 0} (result : Result (Unit {0}) E) → TakesAll conn.took now.took result text
             → Called conn.health now.health result → Lasts before.health conn.health
-            → EndsConnection (view monitor (hosts (known trace sink clock) files) before) (view after (hosts (known told sink clock) left) now)
+            → EndsConnection (view monitor (hosts (known trace sink host) files) before) (view after (hosts (known told sink host) left) now)
         over (Ok done) took called lasts s m talk stands = ([], sent took s m talk stands, inl refl)
         over (Err why) (n, less, took) called lasts s m talk stands =
             let h = hears.went tells m stands.is in (
               drop n text,
-              was_answered s m talk bytes trace told sink clock files left monitor after before conn now is_told stands.reached came untaken
+              was_answered s m talk bytes trace told sink host files left monitor after before conn now is_told stands.reached came untaken
                   waits hears.outcomes hears.responses h.0 text (drop n text) (on m stands.is) h.1 h.2 hears.writes
                   (ap (λ (l : List ℕ). l ++ drop n text) took ∙ append_assoc conn.took (take n text) (drop n text)
                   ∙ ap (λ (l : List ℕ). conn.took ++ l) (take-append-drop n text)),

@@ -6,16 +6,18 @@ use Rattle.vm_types.specs.declared.exit.Object.{Object}
 use Rattle.serve_host.specs.Passing.{ConnKnown}
 use Rattle.serve_host.specs.Tracing.{TraceKnown}
 use Rattle.serve_host.specs.Listening.{Ended, IsFresh, ListenerKnown, ended_of}
-use Rattle.vm_host.specs.Telling.{ClockKnown}
 use Rattle.vm_outside.specs.Known.{FilesKnown, SinkKnown}
 use Rattle.http_stream.specs.Conversation.{new_connection}
 use Rattle.script_text.specs.declared.item.Item.TheVariants as item
 use Rattle.flat_machine.specs.Machine.{Machine, is_off}
-use Rattle.flat_trace.specs.Showing.{Out, given, replied}
+use Rattle.flat_machine.specs.Run.{Act}
+use Rattle.flat_trace.specs.Showing.{Out, Run, given, replied}
 use Rattle.flat_trace.specs.Showing.Out.{Opened}
 use Rattle.monitor_core.specs.declared.monitor.Monitor.{Monitor}
 use Rattle.monitor_core.specs.State.{IsMonitor}
+use Rattle.monitor_running.specs.Asked.{HostKnown}
 use Rattle.monitor_running.specs.Reached.{Start, known, seen}
+use Rattle.monitor_running.proofs.Disks.{rests_same}
 use Rattle.monitor_running.proofs.Joins.{goes_with}
 use Rattle.monitor_serving.specs.declared.served.Served.{Served as End}
 use Rattle.monitor_serving.specs.declared.served.Served.TheVariants as served
@@ -46,25 +48,28 @@ failed_once unsent fresh conn is (inr rose) = inr (rose_once fresh.health.faults
 
 -- ---- a new connection
 
-module _ (s : Start) (first : List Ended) (monitor opened : Monitor) (trace told : TraceKnown) (sink : SinkKnown) (clock : ClockKnown)
+module _ (s : Start) (first : List Ended) (monitor opened : Monitor) (trace told : TraceKnown) (sink : SinkKnown) (host : HostKnown)
     (files : FilesKnown) (listener : ListenerKnown)
     (is_told : told.took ≡ trace.took ++ item.Connect ∷ [])
     (opens : (m : Machine) → IsMonitor monitor files m → IsMonitor opened files (record m { connection = new_connection }))
-    (old : HasServed s first (place monitor (hosts (known trace sink clock) files) listener)) where
-  abbrev pub stands_opened : Stands s opened (hosts (known told sink clock) files) (record old.flat { connection = new_connection })
+    (old : HasServed s first (place monitor (hosts (known trace sink host) files) listener)) where
+  abbrev pub stands_opened : Stands s opened (hosts (known told sink host) files) (record old.flat { connection = new_connection })
       (old.talk ++ Opened ∷ [])
   stands_opened = record {
     is = opens old.flat old.stands.is;
-    reached = goes_with s (seen (known trace sink clock)) (seen (known told sink clock)) old.flat
-        (record old.flat { connection = new_connection }) old.talk (record { item = item.Connect; outcomes = [] } ∷ []) (Opened ∷ [])
-        old.stands.reached (Opened, record old.flat { connection = new_connection }, [], refl, (refl, (refl, (refl, refl))), (refl, refl))
-        is_told (sym (append-nil sink.taken)) (unasked clock);
+    reached =
+        let act : Act = record { item = item.Connect; outcomes = [] } in
+        let next : Machine = record old.flat { connection = new_connection } in
+        let run : Run (act ∷ []) old.flat (Opened ∷ []) next = (Opened, next, [], refl, (refl, (refl, (refl, refl))), (refl, refl)) in
+        goes_with s (seen (known trace sink host)) (seen (known told sink host)) old.flat next old.talk (act ∷ []) (Opened ∷ [])
+        old.stands.reached run is_told (sym (append-nil sink.taken))
+        (unasked act old.flat (Opened ∷ []) next run host refl (rests_same host.disk));
   }
 
   module _ (fresh conn : ConnKnown) (is_fresh : IsFresh fresh) (monitor_now : Monitor) (now : Hosts) (left : ListenerKnown)
       (given_back : left.ended ≡ ended_of conn ∷ listener.ended) where
     abbrev pub before : View
-    before = view opened (hosts (known told sink clock) files) fresh
+    before = view opened (hosts (known told sink host) files) fresh
 
     abbrev pub after : View
     after = view monitor_now now conn
@@ -97,7 +102,7 @@ module _ (s : Start) (first : List Ended) (monitor opened : Monitor) (trace told
       at = broke.at;
       talk = (old.talk ++ Opened ∷ []) ++ broke.heard;
       since = ended_of conn ∷ old.since;
-      clock = broke.clock;
+      host = broke.host;
       unshown = broke.unshown;
       reached = broke.reached;
       ended = ended_since;
@@ -125,24 +130,24 @@ module _ (s : Start) (first : List Ended) (monitor opened : Monitor) (trace told
         is_broken (ends s (record old.flat { connection = new_connection }) (old.talk ++ Opened ∷ []) stands_opened)
 
 -- by which end
-pub one_served : (monitor opened : Monitor) (trace told : TraceKnown) (sink : SinkKnown) (clock : ClockKnown) (files : FilesKnown)
+pub one_served : (monitor opened : Monitor) (trace told : TraceKnown) (sink : SinkKnown) (host : HostKnown) (files : FilesKnown)
     (listener : ListenerKnown) → told.took ≡ trace.took ++ item.Connect ∷ []
     → ((m : Machine) → IsMonitor monitor files m → IsMonitor opened files (record m { connection = new_connection }))
     → (fresh conn : ConnKnown) → IsFresh fresh → (now_monitor : Monitor) (now : Hosts) (left : ListenerKnown)
     → left.ended ≡ ended_of conn ∷ listener.ended → (end : End)
-    → ServedAs end (view opened (hosts (known told sink clock) files) fresh) (view now_monitor now conn)
-    → Serves end (place monitor (hosts (known trace sink clock) files) listener) (place now_monitor now left)
-one_served monitor opened trace told sink clock files listener is_told opens fresh conn is_fresh now_monitor now left back end ends =
+    → ServedAs end (view opened (hosts (known told sink host) files) fresh) (view now_monitor now conn)
+    → Serves end (place monitor (hosts (known trace sink host) files) listener) (place now_monitor now left)
+one_served monitor opened trace told sink host files listener is_told opens fresh conn is_fresh now_monitor now left back end ends =
     by_end end ends
   where
-    broken : BreaksOff (view opened (hosts (known told sink clock) files) fresh) (view now_monitor now conn)
-        → (s : Start) (first : List Ended) → HasServed s first (place monitor (hosts (known trace sink clock) files) listener)
+    broken : BreaksOff (view opened (hosts (known told sink host) files) fresh) (view now_monitor now conn)
+        → (s : Start) (first : List Ended) → HasServed s first (place monitor (hosts (known trace sink host) files) listener)
         → BrokeOff s first (place now_monitor now left)
     broken breaks s first old =
-        ended_broken s first monitor opened trace told sink clock files listener is_told opens old fresh conn is_fresh now_monitor now left back breaks
+        ended_broken s first monitor opened trace told sink host files listener is_told opens old fresh conn is_fresh now_monitor now left back breaks
 
-    by_fault : (name : Object) → ServedAs (served.Fault name) (view opened (hosts (known told sink clock) files) fresh) (view now_monitor now conn)
-        → Serves (served.Fault name) (place monitor (hosts (known trace sink clock) files) listener) (place now_monitor now left)
+    by_fault : (name : Object) → ServedAs (served.Fault name) (view opened (hosts (known told sink host) files) fresh) (view now_monitor now conn)
+        → Serves (served.Fault name) (place monitor (hosts (known trace sink host) files) listener) (place now_monitor now left)
     by_fault object.Trace ends = broken ends
     by_fault object.Sink ends = broken ends
     by_fault object.Source ends = absurd ends
@@ -150,12 +155,12 @@ one_served monitor opened trace told sink clock files listener is_told opens fre
     by_fault object.Listener ends = absurd ends
     by_fault object.Words ends = absurd ends
 
-    by_end : (e : End) → ServedAs e (view opened (hosts (known told sink clock) files) fresh) (view now_monitor now conn)
-        → Serves e (place monitor (hosts (known trace sink clock) files) listener) (place now_monitor now left)
+    by_end : (e : End) → ServedAs e (view opened (hosts (known told sink host) files) fresh) (view now_monitor now conn)
+        → Serves e (place monitor (hosts (known trace sink host) files) listener) (place now_monitor now left)
     by_end served.Ended ends = λ s first old.
-        ended_well s first monitor opened trace told sink clock files listener is_told opens old fresh conn is_fresh now_monitor now left back ends
+        ended_well s first monitor opened trace told sink host files listener is_told opens old fresh conn is_fresh now_monitor now left back ends
     by_end served.Off ends = λ s first old.
-        ended_off s first monitor opened trace told sink clock files listener is_told opens old fresh conn is_fresh now_monitor now left back ends
+        ended_off s first monitor opened trace told sink host files listener is_told opens old fresh conn is_fresh now_monitor now left back ends
     by_end (served.Fault name) ends = by_fault name ends
     by_end (served.Torn torn journals histories) ends = (ends.0, broken ends.1)
     by_end served.OutOfMemory ends = broken ends

@@ -1,5 +1,6 @@
 pub mod Alone
 pub mod Answering
+pub mod Attaching
 pub mod Connections
 pub mod Pieces
 pub mod Settling

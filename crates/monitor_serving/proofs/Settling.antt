@@ -20,7 +20,7 @@ use Rattle.monitor_serving.proofs.Turns.{rose_after}
 pub breaks_idle : (v : View) → BreaksOff v v
 breaks_idle v s m talk stands = record {
   at = m;
-  clock = v.hosts.slices.clock;
+  host = v.hosts.slices.host;
   unshown = [];
   heard = [];
   unsent = [];

@@ -1,6 +1,6 @@
 -- What slices leave of a connection that is served beside them.
 use Rattle.std.proofs.Common.{◌≡◌, ℕ, refl, sym, ap, ◌∙◌, subst, List, [], ◌++◌, take, Option, Some, None, append-nil}
-use Rattle.vm_host.specs.Telling.{ClockKnown}
+use Rattle.monitor_running.specs.Asked.{HostKnown}
 use Rattle.serve_host.specs.Passing.{ConnKnown}
 use Rattle.flat_machine.specs.Machine.{Machine}
 use Rattle.flat_trace.specs.Showing.{Out}
@@ -81,27 +81,27 @@ came_unsaid heard.Nothing old new buf came took =
 
 module _ (monitor now : Monitor) (machine : LiveMachine) (old new : Hosts) (conn left : ConnKnown) (unsaid : List ℕ)
     (talked : Talked conn left [] [] unsaid) where
-  broke_at : (s : Start) (talk : List Out) (at : Machine) (clock : ClockKnown) (unshown : List ℕ)
-      → Reached s (record (seen new.slices) { taken = new.slices.sink.taken ++ unshown; clock = clock }) at talk
+  broke_at : (s : Start) (talk : List Out) (at : Machine) (host : HostKnown) (unshown : List ℕ)
+      → Reached s (record (seen new.slices) { taken = new.slices.sink.taken ++ unshown; host = host }) at talk
       → Broke s (view monitor old conn) (view now new left) talk
-  broke_at s talk at clock unshown reached = record {
+  broke_at s talk at host unshown reached = record {
     at = at;
-    clock = clock;
+    host = host;
     unshown = unshown;
     heard = [];
     unsent = [];
     unsaid = unsaid;
     talked = talked;
-    reached = subst (λ (t : List Out). Reached s (record (seen new.slices) { taken = new.slices.sink.taken ++ unshown; clock = clock }) at t)
+    reached = subst (λ (t : List Out). Reached s (record (seen new.slices) { taken = new.slices.sink.taken ++ unshown; host = host }) at t)
         (sym (append-nil talk)) reached;
   }
 
   -- all that was shown was taken
-  all_shown : (s : Start) (talk : List Out) (at : Machine) (clock : ClockKnown)
-      → Reached s (record (seen new.slices) { clock = clock }) at talk → Broke s (view monitor old conn) (view now new left) talk
-  all_shown s talk at clock reached =
-      broke_at s talk at clock []
-      (subst (λ (l : List ℕ). Reached s (record (seen new.slices) { taken = l; clock = clock }) at talk) (sym (append-nil new.slices.sink.taken)) reached)
+  all_shown : (s : Start) (talk : List Out) (at : Machine) (host : HostKnown)
+      → Reached s (record (seen new.slices) { host = host }) at talk → Broke s (view monitor old conn) (view now new left) talk
+  all_shown s talk at host reached =
+      broke_at s talk at host []
+      (subst (λ (l : List ℕ). Reached s (record (seen new.slices) { taken = l; host = host }) at talk) (sym (append-nil new.slices.sink.taken)) reached)
 
   abbrev served_as : Option Served → Type 0
   served_as None = Unit {0}
@@ -114,18 +114,18 @@ module _ (monitor now : Monitor) (machine : LiveMachine) (old new : Hosts) (conn
   slices_broke ran.TraceFailed end on is =
       subst (λ (o : Option Served). served_as o) is
       (λ s m talk stands.
-      let a = on s m talk stands.is.own.live stands.reached in all_shown s talk a.told a.clock a.reached)
+      let a = on s m talk stands.is.own.live stands.reached in all_shown s talk a.told a.host a.reached)
   slices_broke ran.SinkFailed end on is =
       subst (λ (o : Option Served). served_as o) is
       (λ s m talk stands.
-      let a = on s m talk stands.is.own.live stands.reached in broke_at s talk a.1.flat new.slices.clock a.0 a.1.reached)
+      let a = on s m talk stands.is.own.live stands.reached in broke_at s talk a.1.flat new.slices.host a.0 a.1.reached)
   slices_broke (ran.Torn torn journals histories) end on is =
       subst (λ (o : Option Served). served_as o) is (
         (on.world, on.slice),
         (λ s m talk stands.
-            let k = on.kept s m talk stands.is.own.live stands.reached in all_shown s talk k.flat on.clock k.reached),
+            let k = on.kept s m talk stands.is.own.live stands.reached in all_shown s talk k.flat on.host k.reached),
       )
   slices_broke ran.OutOfMemory end on is =
       subst (λ (o : Option Served). served_as o) is
       (λ s m talk stands.
-      let k = on s m talk stands.is.own.live stands.reached in all_shown s talk k.flat new.slices.clock k.reached)
+      let k = on s m talk stands.is.own.live stands.reached in all_shown s talk k.flat new.slices.host k.reached)

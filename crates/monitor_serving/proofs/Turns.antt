@@ -61,13 +61,13 @@ module _ (s : Start) (a b c : View) (talk : List Out) (first : Continues s a b t
   pub broke_on : Broke s b c (talk ++ first.heard) → Broke s a c talk
   broke_on more = record {
     at = more.at;
-    clock = more.clock;
+    host = more.host;
     unshown = more.unshown;
     heard = first.heard ++ more.heard;
     unsent = more.unsent;
     unsaid = more.unsaid;
     talked = talked_on a.conn b.conn c.conn first.heard more.heard more.unsent more.unsaid first.talked more.talked;
-    reached = subst (λ (t : List Out). Reached s (record (seen c.hosts.slices) { taken = c.hosts.slices.sink.taken ++ more.unshown; clock = more.clock }) more.at t)
+    reached = subst (λ (t : List Out). Reached s (record (seen c.hosts.slices) { taken = c.hosts.slices.sink.taken ++ more.unshown; host = more.host }) more.at t)
         (append_assoc talk first.heard more.heard) more.reached;
   }
 

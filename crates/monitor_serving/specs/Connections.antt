@@ -1,6 +1,6 @@
 -- Connections one after another: what each gave and took is what was said on it.
 use Rattle.std.specs.Prelude.{ℕ, ◌≡◌, ◌⊎◌, ◌<◌, true, List, [], ◌∷◌, ◌++◌, Option, Some, None}
-use Rattle.vm_host.specs.Telling.{ClockKnown}
+use Rattle.monitor_running.specs.Asked.{HostKnown}
 use Rattle.vm_outside.specs.Known.{Health}
 use Rattle.vm_types.specs.Causes.{Rose}
 use Rattle.vm_types.specs.declared.exit.Object.TheVariants as object
@@ -63,9 +63,9 @@ pub record BrokeOff (s : Start) (first : List Ended) (now : Place) : Type 0 wher
   pub at : Machine
   pub talk : List Out
   pub since : List Ended
-  pub clock : ClockKnown
+  pub host : HostKnown
   pub unshown : List ℕ
-  pub reached : Reached s (record (seen now.hosts.slices) { taken = now.hosts.slices.sink.taken ++ unshown; clock = clock }) at talk
+  pub reached : Reached s (record (seen now.hosts.slices) { taken = now.hosts.slices.sink.taken ++ unshown; host = host }) at talk
   pub ended : now.ended ≡ since ++ first
   pub told : AreToldInPart talk since
 

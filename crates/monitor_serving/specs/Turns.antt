@@ -4,7 +4,7 @@ use Rattle.std.specs.Prelude.{ℕ, ◌≡◌, ◌⊎◌, true, List, [], ◌++�
 use Rattle.vm_types.specs.Causes.{Rose}
 use Rattle.vm_types.specs.declared.exit.Object.TheVariants as object
 use Rattle.vm_types.specs.declared.torn.Torn.{Torn}
-use Rattle.vm_host.specs.Telling.{ClockKnown}
+use Rattle.monitor_running.specs.Asked.{HostKnown}
 use Rattle.stamp_merge.specs.declared.history.History.{History}
 use Rattle.stamp_merge.specs.declared.journal.Journal.{Journal}
 use Rattle.vm_world.specs.Worlds.{WorldValue}
@@ -23,17 +23,17 @@ pub record Continues (s : Start) (old new : View) (talk : List Out) (unsent : Li
   pub talked : Talked old.conn new.conn heard unsent []
   pub stands : Stands s new.monitor new.hosts flat (talk ++ heard)
 
--- Serving broke off. What the trace took leads to some machine, and the clock's answers in it to some clock. Of what that
+-- Serving broke off. What the trace took leads to some machine, and the answers in it to some clock and disks. Of what that
 -- shows the sink and the connection took a front, and of the bytes that came the trace has a front.
 pub record Broke (s : Start) (old new : View) (talk : List Out) : Type 0 where
   pub at : Machine
-  pub clock : ClockKnown
+  pub host : HostKnown
   pub unshown : List ℕ
   pub heard : List Out
   pub unsent : List ℕ
   pub unsaid : List ℕ
   pub talked : Talked old.conn new.conn heard unsent unsaid
-  pub reached : Reached s (record (seen new.hosts.slices) { taken = new.hosts.slices.sink.taken ++ unshown; clock = clock }) at (talk ++ heard)
+  pub reached : Reached s (record (seen new.hosts.slices) { taken = new.hosts.slices.sink.taken ++ unshown; host = host }) at (talk ++ heard)
 
 -- However the machine got here, and whatever was said before: nothing is missing
 abbrev pub GoesOn : View → View → Type 0

@@ -3,6 +3,7 @@ ghost use Rattle.std.specs.Prelude.{◌≡◌, Some, length};
 ghost use Rattle.vm_outside.specs.Known.{Lasts, Tells};
 ghost use Rattle.monitor_machine.specs.State.{IsLive};
 ghost use Rattle.monitor_running.specs.Ran.{Went};
+ghost use Rattle.monitor_running.specs.Asked.{host_known};
 ghost use Rattle.monitor_running.specs.Reached.{known};
 ghost use Rattle.monitor_serving.specs.Hearing.{HeardCause, HearsBy, IsWithin};
 ghost use Rattle.monitor_serving.specs.Passes.{ArePasses};
@@ -15,11 +16,11 @@ use serve_host::{Conn, Trace};
 use std::alloc::Global;
 use std::sync::Wait;
 use std::thread::{Threads, join_mut};
-use vm_host::{Clock, Host};
+use vm_host::{Clock, Disk, Host};
 use vm_outside::Sink;
 
 /// Slices until something is heard of the connection, or they end by themselves. Whichever ends first closes the gate.
-pub fn run_beside<C: Clock, N: Conn + Send, T: Trace, K: Sink, R: Threads + Wait + Sync>(
+pub fn run_beside<D: Disk, C: Clock, N: Conn + Send, T: Trace, K: Sink, R: Threads + Wait + Sync>(
     rt: &R,
     alloc: Global,
     gate: &FlagGate,
@@ -27,7 +28,7 @@ pub fn run_beside<C: Clock, N: Conn + Send, T: Trace, K: Sink, R: Threads + Wait
     reader: &mut Pass,
     steps: u32,
     machine: &mut LiveMachine,
-    host: &mut Host<(), (), (), C>,
+    host: &mut Host<D, (), (), C>,
     trace: &mut T,
     sink: &mut K,
     conn: &mut N,
@@ -43,8 +44,8 @@ pub fn run_beside<C: Clock, N: Conn + Send, T: Trace, K: Sink, R: Threads + Wait
     ensures conn_lasts { Lasts (N.known conn.old).health (N.known conn.new).health }
     ensures room { length buf.new.items ≡ length buf.old.items }
     ensures went { Went IsLive (Some result.1)
-        (known (T.known trace.old) (K.known sink.old) (C.known host.old.clock)) machine.old
-        (known (T.known trace.new) (K.known sink.new) (C.known host.new.clock)) machine.new }
+        (known (T.known trace.old) (K.known sink.old) (host_known C.known D.known host.old)) machine.old
+        (known (T.known trace.new) (K.known sink.new) (host_known C.known D.known host.new)) machine.new }
     ensures reader { reader.new.0 ≡ gate.now }
     ensures passes { ArePasses gate.now passes.new.items }
 {
@@ -70,8 +71,8 @@ pub fn run_beside<C: Clock, N: Conn + Send, T: Trace, K: Sink, R: Threads + Wait
     let mut run = || -> Ran
         requires { ArePasses also_gate.now passes.now.items }
         ensures went { Went IsLive (Some result)
-            (known (T.known trace.entry.now) (K.known sink.entry.now) (C.known host.entry.now.clock)) machine.entry.now
-            (known (T.known trace.exit.now) (K.known sink.exit.now) (C.known host.exit.now.clock)) machine.exit.now }
+            (known (T.known trace.entry.now) (K.known sink.entry.now) (host_known C.known D.known host.entry.now)) machine.entry.now
+            (known (T.known trace.exit.now) (K.known sink.exit.now) (host_known C.known D.known host.exit.now)) machine.exit.now }
         ensures passes { ArePasses also_gate.entry.now passes.exit.now.items }
     {
         let ran = run_while(

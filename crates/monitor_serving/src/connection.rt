@@ -4,6 +4,7 @@ ghost use Rattle.vm_outside.specs.Known.{Lasts, Tells};
 ghost use Rattle.monitor_serving.specs.Causes.{ServedCause};
 ghost use Rattle.monitor_serving.specs.Passes.{ArePasses};
 ghost use Rattle.monitor_serving.specs.Turns.{ServedAs};
+ghost use Rattle.monitor_running.specs.Asked.{host_known};
 ghost use Rattle.monitor_running.specs.Reached.{known};
 ghost use Rattle.monitor_serving.specs.Views.{AllLast, AllTell, hosts, view};
 
@@ -15,14 +16,22 @@ use serve_host::{Conn, Trace};
 use std::alloc::Global;
 use std::sync::Wait;
 use std::thread::Threads;
-use vm_host::{Clock, Host};
+use vm_host::{Clock, Disk, Host};
 use vm_outside::{Files, Sink};
 
 /// A pass for each of 32 harts and the timer, one for who asks before each slice, and one for the reader.
 pub(crate) const PASSES: usize = 35;
 
 // Turns until the connection is over.
-fn serve_turns<C: Clock, N: Conn + Send, F: Files, T: Trace, K: Sink, R: Threads + Wait + Sync>(
+fn serve_turns<
+    D: Disk,
+    C: Clock,
+    N: Conn + Send,
+    F: Files,
+    T: Trace,
+    K: Sink,
+    R: Threads + Wait + Sync,
+>(
     rt: &R,
     alloc: Global,
     gate: &FlagGate,
@@ -31,28 +40,29 @@ fn serve_turns<C: Clock, N: Conn + Send, F: Files, T: Trace, K: Sink, R: Threads
     steps: u32,
     monitor: &mut Monitor,
     files: &mut F,
-    host: &mut Host<(), (), (), C>,
+    host: &mut Host<D, (), (), C>,
     conn: &mut N,
     trace: &mut T,
     sink: &mut K,
 ) -> Served
     requires reader { reader.old.0 ≡ gate.now }
     requires passes { ArePasses gate.now passes.old.items }
-    ensures served { AllTell (hosts (known (T.known trace.old) (K.known sink.old) (C.known host.old.clock)) (F.known files.old)) →
+    ensures served { AllTell (hosts (known (T.known trace.old) (K.known sink.old) (host_known C.known D.known host.old))
+        (F.known files.old)) →
         Tells (N.known conn.old).health →
         ServedAs result
-        (view monitor.old (hosts (known (T.known trace.old) (K.known sink.old) (C.known host.old.clock)) (F.known files.old))
+        (view monitor.old (hosts (known (T.known trace.old) (K.known sink.old) (host_known C.known D.known host.old)) (F.known files.old))
         (N.known conn.old))
-        (view monitor.new (hosts (known (T.known trace.new) (K.known sink.new) (C.known host.new.clock)) (F.known files.new))
+        (view monitor.new (hosts (known (T.known trace.new) (K.known sink.new) (host_known C.known D.known host.new)) (F.known files.new))
         (N.known conn.new)) }
     ensures cause { ServedCause result
-        (view monitor.old (hosts (known (T.known trace.old) (K.known sink.old) (C.known host.old.clock)) (F.known files.old))
+        (view monitor.old (hosts (known (T.known trace.old) (K.known sink.old) (host_known C.known D.known host.old)) (F.known files.old))
         (N.known conn.old))
-        (view monitor.new (hosts (known (T.known trace.new) (K.known sink.new) (C.known host.new.clock)) (F.known files.new))
+        (view monitor.new (hosts (known (T.known trace.new) (K.known sink.new) (host_known C.known D.known host.new)) (F.known files.new))
         (N.known conn.new)) }
     ensures lasts { AllLast
-        (hosts (known (T.known trace.old) (K.known sink.old) (C.known host.old.clock)) (F.known files.old))
-        (hosts (known (T.known trace.new) (K.known sink.new) (C.known host.new.clock)) (F.known files.new)) }
+        (hosts (known (T.known trace.old) (K.known sink.old) (host_known C.known D.known host.old)) (F.known files.old))
+        (hosts (known (T.known trace.new) (K.known sink.new) (host_known C.known D.known host.new)) (F.known files.new)) }
     ensures conn_lasts { Lasts (N.known conn.old).health (N.known conn.new).health }
 {
     for _ in rt.forever() {
@@ -72,6 +82,7 @@ fn serve_turns<C: Clock, N: Conn + Send, F: Files, T: Trace, K: Sink, R: Threads
 /// is over where it was read to its end, where its bytes are no request, which is answered and closes it, and where a call
 /// on it fails. No fault of the files ends it: that is answered 500.
 pub fn serve_connection<
+    D: Disk,
     C: Clock,
     N: Conn + Send,
     F: Files,
@@ -84,26 +95,27 @@ pub fn serve_connection<
     steps: u32,
     monitor: &mut Monitor,
     files: &mut F,
-    host: &mut Host<(), (), (), C>,
+    host: &mut Host<D, (), (), C>,
     conn: &mut N,
     trace: &mut T,
     sink: &mut K,
 ) -> Served
-    ensures served { AllTell (hosts (known (T.known trace.old) (K.known sink.old) (C.known host.old.clock)) (F.known files.old)) →
+    ensures served { AllTell (hosts (known (T.known trace.old) (K.known sink.old) (host_known C.known D.known host.old))
+        (F.known files.old)) →
         Tells (N.known conn.old).health →
         ServedAs result
-        (view monitor.old (hosts (known (T.known trace.old) (K.known sink.old) (C.known host.old.clock)) (F.known files.old))
+        (view monitor.old (hosts (known (T.known trace.old) (K.known sink.old) (host_known C.known D.known host.old)) (F.known files.old))
         (N.known conn.old))
-        (view monitor.new (hosts (known (T.known trace.new) (K.known sink.new) (C.known host.new.clock)) (F.known files.new))
+        (view monitor.new (hosts (known (T.known trace.new) (K.known sink.new) (host_known C.known D.known host.new)) (F.known files.new))
         (N.known conn.new)) }
     ensures cause { ServedCause result
-        (view monitor.old (hosts (known (T.known trace.old) (K.known sink.old) (C.known host.old.clock)) (F.known files.old))
+        (view monitor.old (hosts (known (T.known trace.old) (K.known sink.old) (host_known C.known D.known host.old)) (F.known files.old))
         (N.known conn.old))
-        (view monitor.new (hosts (known (T.known trace.new) (K.known sink.new) (C.known host.new.clock)) (F.known files.new))
+        (view monitor.new (hosts (known (T.known trace.new) (K.known sink.new) (host_known C.known D.known host.new)) (F.known files.new))
         (N.known conn.new)) }
     ensures lasts { AllLast
-        (hosts (known (T.known trace.old) (K.known sink.old) (C.known host.old.clock)) (F.known files.old))
-        (hosts (known (T.known trace.new) (K.known sink.new) (C.known host.new.clock)) (F.known files.new)) }
+        (hosts (known (T.known trace.old) (K.known sink.old) (host_known C.known D.known host.old)) (F.known files.old))
+        (hosts (known (T.known trace.new) (K.known sink.new) (host_known C.known D.known host.new)) (F.known files.new)) }
     ensures conn_lasts { Lasts (N.known conn.old).health (N.known conn.new).health }
 {
     let Ok((gate, mut passes)) = FlagGate::new(alloc, PASSES) else {

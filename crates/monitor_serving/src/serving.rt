@@ -4,6 +4,7 @@ ghost use Rattle.serve_host.specs.Listening.{IsFresh, ListenerKnown};
 ghost use Rattle.vm_outside.specs.Known.{FilesKnown, Health, Lasts, Tells};
 ghost use Rattle.monitor_serving.specs.Connections.{EndCause, GoCause, Goes, Serves, going, place};
 ghost use Rattle.monitor_serving.specs.Passes.{ArePasses};
+ghost use Rattle.monitor_running.specs.Asked.{host_known};
 ghost use Rattle.monitor_running.specs.Reached.{known};
 ghost use Rattle.monitor_serving.specs.Views.{AllLast, AllTell, hosts};
 
@@ -17,13 +18,14 @@ use serve_host::{Accepted, Conn, Listener, Trace};
 use std::alloc::Global;
 use std::sync::Wait;
 use std::thread::Threads;
-use vm_host::{Clock, Host};
+use vm_host::{Clock, Disk, Host};
 use vm_outside::{Failed, Files, Sink};
 use vm_types::Object;
 
 // Serves a connection that was accepted, and gives it back to the listener. Where the trace fails before, the connection is
 // let go.
 fn serve_one<
+    D: Disk,
     C: Clock,
     N: Conn + Send,
     F: Files,
@@ -37,26 +39,27 @@ fn serve_one<
     steps: u32,
     monitor: &mut Monitor,
     files: &mut F,
-    host: &mut Host<(), (), (), C>,
+    host: &mut Host<D, (), (), C>,
     listener: &mut M,
     trace: &mut T,
     sink: &mut K,
     mut conn: N,
 ) -> Served
-    ensures serves { AllTell (hosts (known (T.known trace.old) (K.known sink.old) (C.known host.old.clock)) (F.known files.old)) →
+    ensures serves { AllTell (hosts (known (T.known trace.old) (K.known sink.old) (host_known C.known D.known host.old))
+        (F.known files.old)) →
         Tells (M.known listener.old).health → IsFresh (N.known conn) →
         Serves result
-        (place monitor.old (hosts (known (T.known trace.old) (K.known sink.old) (C.known host.old.clock)) (F.known files.old))
+        (place monitor.old (hosts (known (T.known trace.old) (K.known sink.old) (host_known C.known D.known host.old)) (F.known files.old))
         (M.known listener.old))
-        (place monitor.new (hosts (known (T.known trace.new) (K.known sink.new) (C.known host.new.clock)) (F.known files.new))
+        (place monitor.new (hosts (known (T.known trace.new) (K.known sink.new) (host_known C.known D.known host.new)) (F.known files.new))
         (M.known listener.new)) }
     ensures cause { EndCause result
-        (hosts (known (T.known trace.old) (K.known sink.old) (C.known host.old.clock)) (F.known files.old))
-        (hosts (known (T.known trace.new) (K.known sink.new) (C.known host.new.clock)) (F.known files.new))
+        (hosts (known (T.known trace.old) (K.known sink.old) (host_known C.known D.known host.old)) (F.known files.old))
+        (hosts (known (T.known trace.new) (K.known sink.new) (host_known C.known D.known host.new)) (F.known files.new))
         (M.known listener.old).health (M.known listener.new).health }
     ensures lasts { AllLast
-        (hosts (known (T.known trace.old) (K.known sink.old) (C.known host.old.clock)) (F.known files.old))
-        (hosts (known (T.known trace.new) (K.known sink.new) (C.known host.new.clock)) (F.known files.new)) }
+        (hosts (known (T.known trace.old) (K.known sink.old) (host_known C.known D.known host.old)) (F.known files.old))
+        (hosts (known (T.known trace.new) (K.known sink.new) (host_known C.known D.known host.new)) (F.known files.new)) }
     ensures listener_lasts { Lasts (M.known listener.old).health (M.known listener.new).health }
 {
     let Ok(()) = trace.add(&Item::Connect) else {
@@ -81,12 +84,12 @@ fn going(end: Served) -> Option<Served>
 }
 
 // A slice while nobody is connected, or a rest where nothing can run.
-fn run_alone<C: Clock, T: Trace, K: Sink, R: Threads + Wait + Sync>(
+fn run_alone<D: Disk, C: Clock, T: Trace, K: Sink, R: Threads + Wait + Sync>(
     rt: &R,
     alloc: Global,
     steps: u32,
     monitor: &mut Monitor,
-    host: &mut Host<(), (), (), C>,
+    host: &mut Host<D, (), (), C>,
     gate: &FlagGate,
     passes: &mut Vec<Pass>,
     trace: &mut T,
@@ -94,13 +97,13 @@ fn run_alone<C: Clock, T: Trace, K: Sink, R: Threads + Wait + Sync>(
 ) -> Option<Served>
     requires { ArePasses gate.now passes.old.items }
     ensures goes { (files : FilesKnown) (listener : ListenerKnown) →
-        AllTell (hosts (known (T.known trace.old) (K.known sink.old) (C.known host.old.clock)) files) →
+        AllTell (hosts (known (T.known trace.old) (K.known sink.old) (host_known C.known D.known host.old)) files) →
         Goes result
-        (place monitor.old (hosts (known (T.known trace.old) (K.known sink.old) (C.known host.old.clock)) files) listener)
-        (place monitor.new (hosts (known (T.known trace.new) (K.known sink.new) (C.known host.new.clock)) files) listener) }
+        (place monitor.old (hosts (known (T.known trace.old) (K.known sink.old) (host_known C.known D.known host.old)) files) listener)
+        (place monitor.new (hosts (known (T.known trace.new) (K.known sink.new) (host_known C.known D.known host.new)) files) listener) }
     ensures cause { (files : FilesKnown) (listener : Health) → GoCause result
-        (hosts (known (T.known trace.old) (K.known sink.old) (C.known host.old.clock)) files)
-        (hosts (known (T.known trace.new) (K.known sink.new) (C.known host.new.clock)) files) listener listener }
+        (hosts (known (T.known trace.old) (K.known sink.old) (host_known C.known D.known host.old)) files)
+        (hosts (known (T.known trace.new) (K.known sink.new) (host_known C.known D.known host.new)) files) listener listener }
     ensures trace_lasts { Lasts (T.known trace.old).health (T.known trace.new).health }
     ensures sink_lasts { Lasts (K.known sink.old).health (K.known sink.new).health }
     ensures passes { ArePasses gate.now passes.new.items }
@@ -120,6 +123,7 @@ fn run_alone<C: Clock, T: Trace, K: Sink, R: Threads + Wait + Sync>(
 
 // A connection, where one has come, or a slice.
 fn serve_next<
+    D: Disk,
     C: Clock,
     N: Conn + Send,
     F: Files,
@@ -135,26 +139,27 @@ fn serve_next<
     steps: u32,
     monitor: &mut Monitor,
     files: &mut F,
-    host: &mut Host<(), (), (), C>,
+    host: &mut Host<D, (), (), C>,
     listener: &mut M,
     trace: &mut T,
     sink: &mut K,
 ) -> Option<Served>
     requires { ArePasses gate.now passes.old.items }
-    ensures goes { AllTell (hosts (known (T.known trace.old) (K.known sink.old) (C.known host.old.clock)) (F.known files.old)) →
+    ensures goes { AllTell (hosts (known (T.known trace.old) (K.known sink.old) (host_known C.known D.known host.old))
+        (F.known files.old)) →
         Tells (M.known listener.old).health →
         Goes result
-        (place monitor.old (hosts (known (T.known trace.old) (K.known sink.old) (C.known host.old.clock)) (F.known files.old))
+        (place monitor.old (hosts (known (T.known trace.old) (K.known sink.old) (host_known C.known D.known host.old)) (F.known files.old))
         (M.known listener.old))
-        (place monitor.new (hosts (known (T.known trace.new) (K.known sink.new) (C.known host.new.clock)) (F.known files.new))
+        (place monitor.new (hosts (known (T.known trace.new) (K.known sink.new) (host_known C.known D.known host.new)) (F.known files.new))
         (M.known listener.new)) }
     ensures cause { GoCause result
-        (hosts (known (T.known trace.old) (K.known sink.old) (C.known host.old.clock)) (F.known files.old))
-        (hosts (known (T.known trace.new) (K.known sink.new) (C.known host.new.clock)) (F.known files.new))
+        (hosts (known (T.known trace.old) (K.known sink.old) (host_known C.known D.known host.old)) (F.known files.old))
+        (hosts (known (T.known trace.new) (K.known sink.new) (host_known C.known D.known host.new)) (F.known files.new))
         (M.known listener.old).health (M.known listener.new).health }
     ensures lasts { AllLast
-        (hosts (known (T.known trace.old) (K.known sink.old) (C.known host.old.clock)) (F.known files.old))
-        (hosts (known (T.known trace.new) (K.known sink.new) (C.known host.new.clock)) (F.known files.new)) }
+        (hosts (known (T.known trace.old) (K.known sink.old) (host_known C.known D.known host.old)) (F.known files.old))
+        (hosts (known (T.known trace.new) (K.known sink.new) (host_known C.known D.known host.new)) (F.known files.new)) }
     ensures listener_lasts { Lasts (M.known listener.old).health (M.known listener.new).health }
     ensures passes { ArePasses gate.now passes.new.items }
 {
@@ -172,6 +177,7 @@ fn serve_next<
 
 // Connections, with slices between them, until serving ends.
 fn serve_all<
+    D: Disk,
     C: Clock,
     N: Conn + Send,
     F: Files,
@@ -187,26 +193,27 @@ fn serve_all<
     steps: u32,
     monitor: &mut Monitor,
     files: &mut F,
-    host: &mut Host<(), (), (), C>,
+    host: &mut Host<D, (), (), C>,
     listener: &mut M,
     trace: &mut T,
     sink: &mut K,
 ) -> Served
     requires { ArePasses gate.now passes.old.items }
-    ensures serves { AllTell (hosts (known (T.known trace.old) (K.known sink.old) (C.known host.old.clock)) (F.known files.old)) →
+    ensures serves { AllTell (hosts (known (T.known trace.old) (K.known sink.old) (host_known C.known D.known host.old))
+        (F.known files.old)) →
         Tells (M.known listener.old).health →
         Serves result
-        (place monitor.old (hosts (known (T.known trace.old) (K.known sink.old) (C.known host.old.clock)) (F.known files.old))
+        (place monitor.old (hosts (known (T.known trace.old) (K.known sink.old) (host_known C.known D.known host.old)) (F.known files.old))
         (M.known listener.old))
-        (place monitor.new (hosts (known (T.known trace.new) (K.known sink.new) (C.known host.new.clock)) (F.known files.new))
+        (place monitor.new (hosts (known (T.known trace.new) (K.known sink.new) (host_known C.known D.known host.new)) (F.known files.new))
         (M.known listener.new)) }
     ensures cause { EndCause result
-        (hosts (known (T.known trace.old) (K.known sink.old) (C.known host.old.clock)) (F.known files.old))
-        (hosts (known (T.known trace.new) (K.known sink.new) (C.known host.new.clock)) (F.known files.new))
+        (hosts (known (T.known trace.old) (K.known sink.old) (host_known C.known D.known host.old)) (F.known files.old))
+        (hosts (known (T.known trace.new) (K.known sink.new) (host_known C.known D.known host.new)) (F.known files.new))
         (M.known listener.old).health (M.known listener.new).health }
     ensures lasts { AllLast
-        (hosts (known (T.known trace.old) (K.known sink.old) (C.known host.old.clock)) (F.known files.old))
-        (hosts (known (T.known trace.new) (K.known sink.new) (C.known host.new.clock)) (F.known files.new)) }
+        (hosts (known (T.known trace.old) (K.known sink.old) (host_known C.known D.known host.old)) (F.known files.old))
+        (hosts (known (T.known trace.new) (K.known sink.new) (host_known C.known D.known host.new)) (F.known files.new)) }
     ensures listener_lasts { Lasts (M.known listener.old).health (M.known listener.new).health }
 {
     for _ in rt.forever() {
@@ -224,6 +231,7 @@ fn serve_all<
 /// or fails ends alone. Between two of them the machine runs in slices of `steps` steps at most of each actor, and where
 /// nothing can run the clock rests.
 pub fn serve<
+    D: Disk,
     C: Clock,
     N: Conn + Send,
     F: Files,
@@ -237,25 +245,26 @@ pub fn serve<
     steps: u32,
     monitor: &mut Monitor,
     files: &mut F,
-    host: &mut Host<(), (), (), C>,
+    host: &mut Host<D, (), (), C>,
     listener: &mut M,
     trace: &mut T,
     sink: &mut K,
 ) -> Served
-    ensures serves { AllTell (hosts (known (T.known trace.old) (K.known sink.old) (C.known host.old.clock)) (F.known files.old)) →
+    ensures serves { AllTell (hosts (known (T.known trace.old) (K.known sink.old) (host_known C.known D.known host.old))
+        (F.known files.old)) →
         Tells (M.known listener.old).health →
         Serves result
-        (place monitor.old (hosts (known (T.known trace.old) (K.known sink.old) (C.known host.old.clock)) (F.known files.old))
+        (place monitor.old (hosts (known (T.known trace.old) (K.known sink.old) (host_known C.known D.known host.old)) (F.known files.old))
         (M.known listener.old))
-        (place monitor.new (hosts (known (T.known trace.new) (K.known sink.new) (C.known host.new.clock)) (F.known files.new))
+        (place monitor.new (hosts (known (T.known trace.new) (K.known sink.new) (host_known C.known D.known host.new)) (F.known files.new))
         (M.known listener.new)) }
     ensures cause { EndCause result
-        (hosts (known (T.known trace.old) (K.known sink.old) (C.known host.old.clock)) (F.known files.old))
-        (hosts (known (T.known trace.new) (K.known sink.new) (C.known host.new.clock)) (F.known files.new))
+        (hosts (known (T.known trace.old) (K.known sink.old) (host_known C.known D.known host.old)) (F.known files.old))
+        (hosts (known (T.known trace.new) (K.known sink.new) (host_known C.known D.known host.new)) (F.known files.new))
         (M.known listener.old).health (M.known listener.new).health }
     ensures lasts { AllLast
-        (hosts (known (T.known trace.old) (K.known sink.old) (C.known host.old.clock)) (F.known files.old))
-        (hosts (known (T.known trace.new) (K.known sink.new) (C.known host.new.clock)) (F.known files.new)) }
+        (hosts (known (T.known trace.old) (K.known sink.old) (host_known C.known D.known host.old)) (F.known files.old))
+        (hosts (known (T.known trace.new) (K.known sink.new) (host_known C.known D.known host.new)) (F.known files.new)) }
     ensures listener_lasts { Lasts (M.known listener.old).health (M.known listener.new).health }
 {
     let Ok((gate, mut passes)) = FlagGate::new(alloc, PASSES) else {

@@ -3,12 +3,12 @@ ghost use Rattle.std.specs.Prelude.{◌≡◌, ◌⊎◌, ◌++◌, ◌∷◌, [
 ghost use Rattle.script_text.specs.declared.item.Item.TheVariants as item;
 ghost use Rattle.serve_host.specs.Passing.{ConnKnown, Waits};
 ghost use Rattle.serve_host.specs.Tracing.{TraceKnown};
-ghost use Rattle.vm_host.specs.Telling.{ClockKnown};
 ghost use Rattle.vm_outside.specs.Known.{Called, Lasts, SinkKnown, Tells};
 ghost use Rattle.monitor_serving.specs.Causes.{AnswerCause, ReplyCause, TurnedCause};
 ghost use Rattle.monitor_serving.specs.Hearing.{Gave, HeardCause, HearsBy, IsWithin, bytes_in};
 ghost use Rattle.monitor_serving.specs.Passes.{ArePasses};
 ghost use Rattle.monitor_serving.specs.Turns.{TurnedAs};
+ghost use Rattle.monitor_running.specs.Asked.{HostKnown, host_known};
 ghost use Rattle.monitor_running.specs.Reached.{known};
 ghost use Rattle.monitor_serving.specs.Views.{AllLast, AllTell, Hosts, hosts, view};
 
@@ -23,7 +23,7 @@ use serve_host::{Conn, Trace, put_all};
 use std::alloc::Global;
 use std::sync::Wait;
 use std::thread::Threads;
-use vm_host::{Clock, Host};
+use vm_host::{Clock, Disk, Host};
 use vm_outside::{Failed, Files, Sink};
 use vm_types::{ByteList, Object};
 
@@ -62,11 +62,11 @@ fn reply<N: Conn, F: Files>(
     conn: &mut N,
     bytes: &[u8],
 ) -> Option<Served>
-    ensures replied { (trace told : TraceKnown) (sink : SinkKnown) (clock : ClockKnown) (before : ConnKnown) →
+    ensures replied { (trace told : TraceKnown) (sink : SinkKnown) (host : HostKnown) (before : ConnKnown) →
         told.took ≡ trace.took ++ item.Bytes bytes.now ∷ [] → Tells (F.known files.old).health →
         Tells (N.known conn.old).health → Gave before (N.known conn.old) bytes.now →
-        TurnedAs result (view monitor.old (hosts (known trace sink clock) (F.known files.old)) before)
-        (view monitor.new (hosts (known told sink clock) (F.known files.new)) (N.known conn.new)) }
+        TurnedAs result (view monitor.old (hosts (known trace sink host) (F.known files.old)) before)
+        (view monitor.new (hosts (known told sink host) (F.known files.new)) (N.known conn.new)) }
     ensures cause { IfSome result (λ end. ReplyCause end monitor.new (N.known conn.old) (N.known conn.new)) }
     ensures files_last { Lasts (F.known files.old).health (F.known files.new).health }
     ensures conn_lasts { Lasts (N.known conn.old).health (N.known conn.new).health }
@@ -94,11 +94,11 @@ fn answer<N: Conn, F: Files, T: Trace>(
     trace: &mut T,
     piece: Vec<u8>,
 ) -> Option<Served>
-    ensures answered { (sink : SinkKnown) (clock : ClockKnown) (before : ConnKnown) →
-        AllTell (hosts (known (T.known trace.old) sink clock) (F.known files.old)) → Tells (N.known conn.old).health →
+    ensures answered { (sink : SinkKnown) (host : HostKnown) (before : ConnKnown) →
+        AllTell (hosts (known (T.known trace.old) sink host) (F.known files.old)) → Tells (N.known conn.old).health →
         Gave before (N.known conn.old) piece.items →
-        TurnedAs result (view monitor.old (hosts (known (T.known trace.old) sink clock) (F.known files.old)) before)
-        (view monitor.new (hosts (known (T.known trace.new) sink clock) (F.known files.new)) (N.known conn.new)) }
+        TurnedAs result (view monitor.old (hosts (known (T.known trace.old) sink host) (F.known files.old)) before)
+        (view monitor.new (hosts (known (T.known trace.new) sink host) (F.known files.new)) (N.known conn.new)) }
     ensures cause { IfSome result (λ end. AnswerCause end monitor.new (T.known trace.old).health (T.known trace.new).health
         (N.known conn.old) (N.known conn.new)) }
     ensures trace_lasts { Lasts (T.known trace.old).health (T.known trace.new).health }
@@ -145,12 +145,12 @@ fn settle<N: Conn, F: Files, T: Trace>(
     mut piece: Vec<u8>,
 ) -> Option<Served>
     requires { IsWithin heard (length piece.items) }
-    ensures settled { (sink : SinkKnown) (clock : ClockKnown) (before : ConnKnown) →
-        AllTell (hosts (known (T.known trace.old) sink clock) (F.known files.old)) → Tells (N.known conn.old).health →
+    ensures settled { (sink : SinkKnown) (host : HostKnown) (before : ConnKnown) →
+        AllTell (hosts (known (T.known trace.old) sink host) (F.known files.old)) → Tells (N.known conn.old).health →
         HearsBy heard before (N.known conn.old) piece.items → (N.known conn.old).took ≡ before.took →
         Lasts before.health (N.known conn.old).health →
-        TurnedAs result (view monitor.old (hosts (known (T.known trace.old) sink clock) (F.known files.old)) before)
-        (view monitor.new (hosts (known (T.known trace.new) sink clock) (F.known files.new)) (N.known conn.new)) }
+        TurnedAs result (view monitor.old (hosts (known (T.known trace.old) sink host) (F.known files.old)) before)
+        (view monitor.new (hosts (known (T.known trace.new) sink host) (F.known files.new)) (N.known conn.new)) }
     ensures cause { IfSome result (λ end. (before : ConnKnown) → Lasts before.health (N.known conn.old).health →
         (Tells before.health → HearsBy heard before (N.known conn.old) piece.items) →
         HeardCause heard before.health.faults (N.known conn.old).health.faults →
@@ -170,8 +170,17 @@ fn settle<N: Conn, F: Files, T: Trace>(
     }
 }
 
-/// Slices until something is heard of the connection, which is answered then. `None` where the connection goes on.
-pub fn turn<C: Clock, N: Conn + Send, F: Files, T: Trace, K: Sink, R: Threads + Wait + Sync>(
+/// Slices until something is heard of the connection, which is answered then; what was answered may have changed which files
+/// the disks are, and they are attached. `None` where the connection goes on.
+pub fn turn<
+    D: Disk,
+    C: Clock,
+    N: Conn + Send,
+    F: Files,
+    T: Trace,
+    K: Sink,
+    R: Threads + Wait + Sync,
+>(
     rt: &R,
     alloc: Global,
     gate: &FlagGate,
@@ -180,28 +189,29 @@ pub fn turn<C: Clock, N: Conn + Send, F: Files, T: Trace, K: Sink, R: Threads + 
     steps: u32,
     monitor: &mut Monitor,
     files: &mut F,
-    host: &mut Host<(), (), (), C>,
+    host: &mut Host<D, (), (), C>,
     conn: &mut N,
     trace: &mut T,
     sink: &mut K,
 ) -> Option<Served>
     requires reader { reader.old.0 ≡ gate.now }
     requires passes { ArePasses gate.now passes.old.items }
-    ensures turned { AllTell (hosts (known (T.known trace.old) (K.known sink.old) (C.known host.old.clock)) (F.known files.old)) →
+    ensures turned { AllTell (hosts (known (T.known trace.old) (K.known sink.old) (host_known C.known D.known host.old))
+        (F.known files.old)) →
         Tells (N.known conn.old).health →
         TurnedAs result
-        (view monitor.old (hosts (known (T.known trace.old) (K.known sink.old) (C.known host.old.clock)) (F.known files.old))
+        (view monitor.old (hosts (known (T.known trace.old) (K.known sink.old) (host_known C.known D.known host.old)) (F.known files.old))
         (N.known conn.old))
-        (view monitor.new (hosts (known (T.known trace.new) (K.known sink.new) (C.known host.new.clock)) (F.known files.new))
+        (view monitor.new (hosts (known (T.known trace.new) (K.known sink.new) (host_known C.known D.known host.new)) (F.known files.new))
         (N.known conn.new)) }
     ensures cause { TurnedCause result
-        (view monitor.old (hosts (known (T.known trace.old) (K.known sink.old) (C.known host.old.clock)) (F.known files.old))
+        (view monitor.old (hosts (known (T.known trace.old) (K.known sink.old) (host_known C.known D.known host.old)) (F.known files.old))
         (N.known conn.old))
-        (view monitor.new (hosts (known (T.known trace.new) (K.known sink.new) (C.known host.new.clock)) (F.known files.new))
+        (view monitor.new (hosts (known (T.known trace.new) (K.known sink.new) (host_known C.known D.known host.new)) (F.known files.new))
         (N.known conn.new)) }
     ensures lasts { AllLast
-        (hosts (known (T.known trace.old) (K.known sink.old) (C.known host.old.clock)) (F.known files.old))
-        (hosts (known (T.known trace.new) (K.known sink.new) (C.known host.new.clock)) (F.known files.new)) }
+        (hosts (known (T.known trace.old) (K.known sink.old) (host_known C.known D.known host.old)) (F.known files.old))
+        (hosts (known (T.known trace.new) (K.known sink.new) (host_known C.known D.known host.new)) (F.known files.new)) }
     ensures conn_lasts { Lasts (N.known conn.old).health (N.known conn.new).health }
     ensures reader { reader.new.0 ≡ gate.now }
     ensures passes { ArePasses gate.now passes.new.items }
@@ -226,6 +236,10 @@ pub fn turn<C: Clock, N: Conn + Send, F: Files, T: Trace, K: Sink, R: Threads + 
     );
     match end_of(ran) {
         Some(end) => Some(end),
-        None => settle(monitor, files, conn, trace, heard, piece),
+        None => {
+            let end = settle(monitor, files, conn, trace, heard, piece);
+            monitor.attach_disks(&mut host.disk);
+            end
+        }
     }
 }

@@ -1,4 +1,5 @@
 use Rattle.std.proofs.Common.{ap}
+use Rattle.monitor_running.specs.Asked.{host_known}
 use Rattle.monitor_running.specs.Reached.{known}
 use Rattle.monitor_serving.specs.Views.{Hosts, hosts}
 use Rattle.firecracker_cli.specs.Serving.{ServeKnown, serve_known}
@@ -10,10 +11,10 @@ returns g c =
     let ran = c.run_serve-exit.ensures in
     let wrote = c.write_last.ensures in
     let with = c.run_serve-exit.new.with in
-    let before : ServeKnown = serve_known (hosts (known (g.T.Trace.known c.args.with.now.trace) (g.K.Sink.known c.args.sink.now) (g.C.Clock.known c.args.with.now.host.clock))
+    let before : ServeKnown = serve_known (hosts (known (g.T.Trace.known c.args.with.now.trace) (g.K.Sink.known c.args.sink.now) (host_known g.C.Clock.known g.D.Disk.known c.args.with.now.host))
     (g.F.Files.known c.args.files.now)) (g.W.Words.known c.args.with.now.words) (g.M.Listener.known c.args.with.now.listener) in
     let mid : Hosts = hosts (known (g.T.Trace.known with.trace) (g.K.Sink.known c.run_serve-exit.new.sink)
-    (g.C.Clock.known with.host.clock)) (g.F.Files.known c.run_serve-exit.new.files) in
+    (host_known g.C.Clock.known g.D.Disk.known with.host)) (g.F.Files.known c.run_serve-exit.new.files) in
     serves c.run_serve-exit.result c.args.words.id.now before mid (g.W.Words.known with.words) (g.M.Listener.known with.listener)
     (g.K.Sink.known c.write_last.new.sink) c.write_last.result ran.so_far ran.told ran.lasts wrote.takes
     (λ is. ap g.K.Sink.known (wrote.quiet is)) wrote.called

@@ -1,5 +1,6 @@
 use Rattle.std.proofs.Common.{sym}
 use Rattle.monitor_machine.specs.State.{IsLive}
+use Rattle.monitor_running.proofs.Disks.{rests_same}
 use Rattle.monitor_running.proofs.Lifts.{nothing_taken, slice_lifted, went_off, went_resting}
 use Rattle.monitor_running.proofs.running.run_once.Goals as goal
 
@@ -10,9 +11,9 @@ pub returns-in_default-clause-went : goal.returns-in_default-clause-went
 returns-in_default-clause-went g c =
     went_resting IsLive _ _ _ _ _ _
     (nothing_taken c.args.machine.now c.take_running.new.self (sym c.in_default.ensures.running) c.in_default.ensures.left)
-    c.rest.ensures
+    (record { clock = c.rest.ensures; disk = rests_same _ })
 
 pub returns-clause-went : goal.returns-clause-went
 returns-clause-went g c =
     slice_lifted c.args.machine.now c.take_running.new.self c.put_guest.new.self _ _ _ _ (sym c.in-Some.ensures.running)
-    c.in-Some.ensures.left c.put_guest.ensures c.run_or_wait-end.result c.run_or_wait-end.ensures.went
+    c.in-Some.ensures.left c.put_guest.ensures c.run_world-end.result c.run_world-end.ensures.went

@@ -1,4 +1,5 @@
 use Rattle.vm_outside.specs.Known.{Lasts, Tells}
+use Rattle.monitor_running.specs.Asked.{host_known}
 use Rattle.monitor_running.specs.Reached.{known}
 use Rattle.monitor_serving.specs.declared.served.Served.TheVariants as served
 use Rattle.monitor_serving.specs.Connections.{Serves, place}
@@ -9,8 +10,8 @@ use Rattle.monitor_serving.proofs.serving.serve_all.Given as goal
 abbrev pub invariant-loop : goal.invariant-loop
 invariant-loop g l =
     let before : Hosts =
-    hosts (known (g.T.Trace.known l.fn.trace) (g.K.Sink.known l.fn.sink) (g.C.Clock.known l.fn.host.clock)) (g.F.Files.known l.fn.files) in
-    let now : Hosts = hosts (known (g.T.Trace.known l.trace) (g.K.Sink.known l.sink) (g.C.Clock.known l.host.clock)) (g.F.Files.known l.files) in
+    hosts (known (g.T.Trace.known l.fn.trace) (g.K.Sink.known l.fn.sink) (host_known g.C.Clock.known g.D.Disk.known l.fn.host)) (g.F.Files.known l.fn.files) in
+    let now : Hosts = hosts (known (g.T.Trace.known l.trace) (g.K.Sink.known l.sink) (host_known g.C.Clock.known g.D.Disk.known l.host)) (g.F.Files.known l.files) in
     let M = g.M.Listener in
     record {
       can : (goal.iterator-loop g).can_next l.iterator';

@@ -1,4 +1,5 @@
 use Rattle.std.proofs.Common.{Option, subst, sym}
+use Rattle.monitor_running.specs.Asked.{host_known}
 use Rattle.monitor_running.specs.Reached.{known}
 use Rattle.monitor_serving.specs.declared.served.Served.{Served}
 use Rattle.monitor_serving.specs.Connections.{Goes, Place, Serves, place}
@@ -8,15 +9,15 @@ use Rattle.monitor_serving.proofs.serving.serve_next.Goals as goal
 
 pub returns-in-Err-clause-goes : goal.returns-in-Err-clause-goes
 returns-in-Err-clause-goes g c = λ tell tells.
-    breaks_on_accept c.args.monitor.now (g.T.Trace.known c.args.trace.now) (g.K.Sink.known c.args.sink.now) (g.C.Clock.known c.args.host.now.clock)
+    breaks_on_accept c.args.monitor.now (g.T.Trace.known c.args.trace.now) (g.K.Sink.known c.args.sink.now) (host_known g.C.Clock.known g.D.Disk.known c.args.host.now)
     (g.F.Files.known c.args.files.now) (g.M.Listener.known c.args.listener.now) (g.M.Listener.known c.accept.new.self) (c.accept.ensures.same tells)
 
 pub returns-in-Ok-NotYet-clause-cause : goal.returns-in-Ok-NotYet-clause-cause
 returns-in-Ok-NotYet-clause-cause g c =
     cause_unheard c.run_alone.result
-    (hosts (known (g.T.Trace.known c.args.trace.now) (g.K.Sink.known c.args.sink.now) (g.C.Clock.known c.args.host.now.clock))
+    (hosts (known (g.T.Trace.known c.args.trace.now) (g.K.Sink.known c.args.sink.now) (host_known g.C.Clock.known g.D.Disk.known c.args.host.now))
     (g.F.Files.known c.args.files.now))
-    (hosts (known (g.T.Trace.known c.run_alone.new.trace) (g.K.Sink.known c.run_alone.new.sink) (g.C.Clock.known c.run_alone.new.host.clock))
+    (hosts (known (g.T.Trace.known c.run_alone.new.trace) (g.K.Sink.known c.run_alone.new.sink) (host_known g.C.Clock.known g.D.Disk.known c.run_alone.new.host))
     (g.F.Files.known c.args.files.now))
     (g.M.Listener.known c.args.listener.now).health (g.M.Listener.known c.accept.new.self).health c.accept.ensures.called.lasts
     (c.run_alone.ensures.cause (g.F.Files.known c.args.files.now) (g.M.Listener.known c.args.listener.now).health)
@@ -25,9 +26,9 @@ pub returns-in-Ok-Conn-clause-goes : goal.returns-in-Ok-Conn-clause-goes
 returns-in-Ok-Conn-clause-goes g c =
     let M = g.M.Listener in
     let one = c.serve_one in
-    let start : Hosts = hosts (known (g.T.Trace.known c.args.trace.now) (g.K.Sink.known c.args.sink.now) (g.C.Clock.known c.args.host.now.clock))
+    let start : Hosts = hosts (known (g.T.Trace.known c.args.trace.now) (g.K.Sink.known c.args.sink.now) (host_known g.C.Clock.known g.D.Disk.known c.args.host.now))
     (g.F.Files.known c.args.files.now) in
-    let after : Place = place one.new.monitor (hosts (known (g.T.Trace.known one.new.trace) (g.K.Sink.known one.new.sink) (g.C.Clock.known one.new.host.clock))
+    let after : Place = place one.new.monitor (hosts (known (g.T.Trace.known one.new.trace) (g.K.Sink.known one.new.sink) (host_known g.C.Clock.known g.D.Disk.known one.new.host))
     (g.F.Files.known one.new.files)) (M.known one.new.listener) in
     λ tell tells.
     subst (λ (end : Option Served). Goes end (place c.args.monitor.now start (M.known c.args.listener.now)) after) (sym c.going.ensures)

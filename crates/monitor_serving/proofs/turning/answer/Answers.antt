@@ -6,7 +6,7 @@ returns-in_default-clause-answered g c =
     let T = g.T.Trace.known in
     let F = g.F.Files.known in
     let N = g.N.Conn.known in
-    λ sink clock before tell tells gave.
-    untold c.args.monitor.now c.args.monitor.now (T c.args.trace.now) (T c.tell_bytes.new.trace) sink clock (F c.args.files.now)
+    λ sink host before tell tells gave.
+    untold c.args.monitor.now c.args.monitor.now (T c.args.trace.now) (T c.tell_bytes.new.trace) sink host (F c.args.files.now)
     (F c.args.files.now) before (N c.args.conn.now) (N c.args.conn.now) c.args.piece.items gave.came gave.untaken
     (c.in_default.ensures.untold tell.trace)

@@ -7,8 +7,8 @@ pub returns-then-is_off-clause-replied : goal.returns-then-is_off-clause-replied
 returns-then-is_off-clause-replied g c =
     let F = g.F.Files.known in
     let N = g.N.Conn.known in
-    λ trace told sink clock before is_told files_tell tells gave.
-    ignored c.args.monitor.now c.args.monitor.now trace told sink clock (F c.args.files.now) (F c.args.files.now) before (N c.args.conn.now)
+    λ trace told sink host before is_told files_tell tells gave.
+    ignored c.args.monitor.now c.args.monitor.now trace told sink host (F c.args.files.now) (F c.args.files.now) before (N c.args.conn.now)
     (N c.args.conn.now) c.args.bytes.now gave.came gave.untaken is_told
     (λ m is. sym (c.is_off.ensures (F c.args.files.now) m is) ∙ c.if-is_off.true)
 
@@ -16,8 +16,8 @@ pub returns-in_default-clause-replied : goal.returns-in_default-clause-replied
 returns-in_default-clause-replied g c =
     let F = g.F.Files.known in
     let N = g.N.Conn.known in
-    λ trace told sink clock before is_told files_tell tells gave.
-    short c.args.monitor.now c.hear.new.self trace told sink clock (F c.args.files.now) (F c.hear.new.files) before (N c.args.conn.now)
+    λ trace told sink host before is_told files_tell tells gave.
+    short c.args.monitor.now c.hear.new.self trace told sink host (F c.args.files.now) (F c.hear.new.files) before (N c.args.conn.now)
     (N c.args.conn.now) c.args.bytes.now gave.came gave.untaken is_told
     (λ m is. sym (c.is_off.ensures (F c.args.files.now) m is) ∙ c.if-is_off.false)
 
@@ -25,8 +25,8 @@ pub returns-in_default-put_all-clause-replied : goal.returns-in_default-put_all-
 returns-in_default-put_all-clause-replied g c =
     let F = g.F.Files.known in
     let N = g.N.Conn.known in
-    λ trace told sink clock before is_told files_tell tells gave.
-    over c.args.monitor.now c.hear.new.self trace told sink clock (F c.args.files.now) (F c.hear.new.files) before (N c.args.conn.now)
+    λ trace told sink host before is_told files_tell tells gave.
+    over c.args.monitor.now c.hear.new.self trace told sink host (F c.args.files.now) (F c.hear.new.files) before (N c.args.conn.now)
     (N c.put_all.new.conn) c.args.bytes.now gave.came gave.untaken is_told
     (λ m is. sym (c.is_off.ensures (F c.args.files.now) m is) ∙ c.if-is_off.false)
     c.in-Ok.text files_tell c.in-Ok.ensures.goes (c.put_all.ensures.waits tells) c.put_all.result
@@ -38,8 +38,8 @@ pub returns-then-is_failed-clause-replied : goal.returns-then-is_failed-clause-r
 returns-then-is_failed-clause-replied g c =
     let F = g.F.Files.known in
     let N = g.N.Conn.known in
-    λ trace told sink clock before is_told files_tell tells gave.
-    over c.args.monitor.now c.hear.new.self trace told sink clock (F c.args.files.now) (F c.hear.new.files) before (N c.args.conn.now)
+    λ trace told sink host before is_told files_tell tells gave.
+    over c.args.monitor.now c.hear.new.self trace told sink host (F c.args.files.now) (F c.hear.new.files) before (N c.args.conn.now)
     (N c.put_all.new.conn) c.args.bytes.now gave.came gave.untaken is_told
     (λ m is. sym (c.is_off.ensures (F c.args.files.now) m is) ∙ c.if-is_off.false)
     c.in-Ok.text files_tell c.in-Ok.ensures.goes (c.put_all.ensures.waits tells) c.put_all.result
@@ -51,8 +51,8 @@ pub returns-clause-replied : goal.returns-clause-replied
 returns-clause-replied g c =
     let F = g.F.Files.known in
     let N = g.N.Conn.known in
-    λ trace told sink clock before is_told files_tell tells gave.
-    sent c.args.monitor.now c.hear.new.self trace told sink clock (F c.args.files.now) (F c.hear.new.files) before (N c.args.conn.now)
+    λ trace told sink host before is_told files_tell tells gave.
+    sent c.args.monitor.now c.hear.new.self trace told sink host (F c.args.files.now) (F c.hear.new.files) before (N c.args.conn.now)
     (N c.put_all.new.conn) c.args.bytes.now gave.came gave.untaken is_told
     (λ m is. sym (c.is_off.ensures (F c.args.files.now) m is) ∙ c.if-is_off.false)
     c.in-Ok.text files_tell c.in-Ok.ensures.goes (c.put_all.ensures.waits tells)

@@ -1,0 +1,93 @@
+-- One event more of a device.
+use Rattle.std.proofs.Common.{◌≡◌, ℕ, refl, sym, subst, List, [], ◌∷◌, ◌++◌, MatchBool, Option, Some, None}
+use Rattle.std.proofs.lemmas.List.Elements.{All-push, All-from_recursion}
+use Rattle.vm_types.specs.declared.ids.ActorId.{ActorId}
+use Rattle.vm_types.specs.declared.ids.PlaceId.{PlaceId}
+use Rattle.vm_types.specs.declared.entry.Entry.{Entry}
+use Rattle.vm_types.specs.declared.entry.Event.{Event}
+use Rattle.vm_types.specs.declared.op.Op.{Op}
+use Rattle.vm_types.specs.declared.reply.Reply.{Reply}
+use Rattle.vm_host.specs.Storing.{DiskKnown}
+use Rattle.flat_guest.specs.Guest.{Guest, Wants, layout_of}
+use Rattle.flat_guest.specs.Steps.{Answers, FlatStep, guest_after}
+use Rattle.flat_guest.proofs.Determined.{wants_one}
+use Rattle.vm_world.specs.Refusing.{refusal_of}
+use Rattle.vm_world.specs.Worlds.{IsWorld, MakesEvent, WorldValue}
+use Rattle.slice_runner.specs.Slices.{given_of}
+use Rattle.monitor_running.specs.Devices.{AsksDisk, DiskReplies, DiskRests, HaveActed, IsDevices, IsGivenByDisk}
+use Rattle.monitor_running.proofs.Disks.{asked_more, rests_of, rests_same}
+use Rattle.monitor_running.proofs.Going.{given_is, leads_more, step_told}
+
+-- nothing was done so far
+pub acted_none : (w : WorldValue) (disk : DiskKnown) → HaveActed [] w w disk disk
+acted_none w disk = record {
+  serial = λ g is. (g, refl, is);
+  made = λ g is. All-from_recursion IsDevices [] tt;
+  answered = λ g is. rests_same disk;
+}
+
+some_same : (x y : Reply) → Some x ≡ Some y → x ≡ y
+some_same x y is = cc
+
+-- what is given is the disk's reply, and what is not asks none
+asks_by : (k : ℕ) (op : Op) (given : Option Reply) (reply : Reply) (old now : DiskKnown) → IsGivenByDisk k op old given now
+    → given ≡ given_of op reply → AsksDisk op (ActorId.Device k) reply old now
+asks_by k (Op.Out act) (Some r) reply old now it is =
+    subst (λ (b : _). MatchBool b (DiskReplies k act reply old now) (DiskRests old now)) (sym it.0)
+    (subst (λ (x : Reply). DiskReplies k act x old now) (some_same r reply is) it.2)
+asks_by k (Op.Out act) None reply old now it is = let never = is in cc
+asks_by k op None reply old now it is = rests_of old now it
+asks_by k op (Some r) reply old now it is = absurd it
+
+module _ (first w : WorldValue) (asked old now : DiskKnown) (es : List Entry) (k : ℕ) (op : Op) (given : Option Reply)
+    (wants : (g : Guest) → IsWorld w g → Wants g (ActorId.Device k) op) (was_given : IsGivenByDisk k op old given now)
+    (acted : HaveActed es first w asked old) where
+  abbrev event : Event
+  event = record { actor = ActorId.Device k; reply = given }
+
+  asks : (h n : Guest) (e : Entry) → IsWorld w h → FlatStep h event e n → AsksDisk e.op e.actor e.reply old now
+  asks h n e is step =
+      let same : e.op ≡ op =
+      wants_one h (ActorId.Device k) e.op op (subst (λ (a : ActorId). Wants h a e.op) step.actor step.want) (wants h is) in
+      let told : given ≡ given_of e.op e.reply =
+      given_is (layout_of h) h e.actor e.op given e.reply
+      (subst (λ (p : PlaceId). Answers p h e.actor e.op given e.reply) step.place step.answer) in
+      subst (λ (a : ActorId). AsksDisk e.op a e.reply old now) (sym step.actor)
+      (asks_by k e.op given e.reply old now
+      (subst (λ (o : Op). IsGivenByDisk k o old given now) (sym same) was_given) told)
+
+  pub acted_more : (v : WorldValue) (e : Entry) → MakesEvent w event e v → HaveActed (es ++ e ∷ []) first v asked now
+  acted_more v e made = record {
+    serial = λ g is.
+        let before = acted.serial g is in
+        let h : Guest = before.0 in
+        let step = made.step h before.2 in (
+          guest_after h e,
+          leads_more es g h (guest_after h e) e before.1 (step_told h (guest_after h e) event e step),
+          made.stays h before.2,
+        );
+    made = λ g is.
+        let before = acted.serial g is in
+        All-push IsDevices es e (acted.made g is) (k, (made.step before.0 before.2).actor);
+    answered = λ g is.
+        let before = acted.serial g is in
+        asked_more es e asked old now (acted.answered g is)
+        (asks before.0 (guest_after before.0 e) e before.2 (made.step before.0 before.2));
+  }
+
+  unasked : (given : Option Reply) (op : Op) → IsGivenByDisk k op old given now
+      → ((h : Guest) → IsWorld w h → refusal_of op given ≡ None → ⊥) → (h : Guest) → IsWorld w h → now ≡ old
+  unasked None op it never h is = it
+  unasked (Some r) (Op.Out act) it never h is = absurd (never h is (rw it.1 refl))
+  unasked (Some r) op it never h is = absurd it
+
+  -- where it is refused no disk was asked
+  pub acted_still : (v : WorldValue) → v ≡ w → ((h : Guest) → IsWorld w h → refusal_of op given ≡ None → ⊥)
+      → HaveActed es first v asked now
+  acted_still v same never = record {
+    serial = λ g is. rw same (acted.serial g is);
+    made = λ g is. acted.made g is;
+    answered = λ g is.
+        let before = acted.serial g is in
+        rw (unasked given op was_given never before.0 before.2) (acted.answered g is);
+  }

@@ -1,0 +1,15 @@
+use Rattle.std.proofs.Common.{refl}
+use Rattle.monitor_running.proofs.devices.flush.Goals as goal
+
+pub returns-in-Err-clause-given : goal.returns-in-Err-clause-given
+returns-in-Err-clause-given g c =
+    let call = c.in-Err.ensures in (
+      refl,
+      refl,
+      record {
+        lasts = call.called.lasts;
+        failed = λ is. call.called.failed;
+        kept = λ not. absurd (not refl);
+        held = λ tells. call.same tells;
+      },
+    )

@@ -1,0 +1,14 @@
+use Rattle.std.proofs.Common.{arith}
+use Rattle.monitor_running.proofs.Disks.{lasts_more}
+use Rattle.monitor_running.proofs.devices.run_devices.Goals as goal
+
+pub loop-number-preserved : goal.loop-number-preserved
+loop-number-preserved g c =
+    let before = c.loop-number.invariant in
+    let after = c.run_device.ensures in record {
+      acted = after.acted c.args.world.now (g.D.Disk.known c.args.disk.now) before.acted;
+      lasts = lasts_more _ _ _ before.lasts after.lasts;
+      none = λ is. let less = c.loop-number-test.true in absurd (omega (arith, is, less));
+      most = omega (arith, after.most, before.most);
+      room = omega (arith, after.room, before.room);
+    }

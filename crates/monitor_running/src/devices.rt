@@ -1,0 +1,201 @@
+// Between slices: the devices act, one after another.
+ghost use Rattle.std.specs.Prelude.{
+  ℕ,
+  ◌≡◌,
+  ◌+◌,
+  ◌<◌,
+  ◌≤◌,
+  ◌↔◌,
+  true,
+  [],
+  All,
+  IfErr,
+  IfOk,
+  IfSome,
+  IsOkAnd,
+  IsSome,
+  OnErr,
+  length,
+  vec_capacity,
+  vec_len,
+};
+ghost use Rattle.vm_types.specs.declared.op.Op.TheVariants.{Idle, Out};
+ghost use Rattle.vm_types.specs.declared.op.OutOp.TheVariants as out;
+ghost use Rattle.vm_outside.specs.Known.{Lasts};
+ghost use Rattle.vm_host.specs.Storing.{DiskKnown};
+ghost use Rattle.flat_guest.specs.Guest.{Guest};
+ghost use Rattle.vm_world.specs.Worlds.{IsWorld, WorldValue};
+ghost use Rattle.slice_runner.specs.Slices.{IsSerial};
+ghost use Rattle.monitor_running.specs.Devices.{CanBeAsked, DiskWasAsked, HaveActed, IsDevices, IsGivenByDisk};
+
+use std::alloc::{AllocError, Global};
+use vm_host::Disk;
+use vm_outside::Failed;
+use vm_types::{ActorId, Entry, Op, OutOp, Piece, Reply};
+use vm_world::World;
+
+/// A guest has at most so many devices, one at each port.
+pub const MOST_DEVICES: usize = 16;
+
+/// A sector of a disk has so many parts.
+const PARTS: u64 = 8;
+
+// The bytes of a part, if these are as many.
+fn part_of(piece: &Piece) -> Option<[u8; 64]>
+    ensures bytes { IfSome result (λ bytes. bytes ≡ piece.now) }
+    ensures all { length piece.now ≡ 64 → IsSome result }
+{
+    if piece.len() != 64 {
+        return None;
+    }
+    let mut bytes = [0; 64];
+    bytes.copy_from_slice(piece.as_slice());
+    Some(bytes)
+}
+
+fn read<D: Disk>(disk: &mut D, device: u8, sector: u64, part: u64) -> Option<Reply>
+    ensures given { IsGivenByDisk device (Out (out.DiskRead sector part)) (D.known disk.old) result (D.known disk.new) }
+    ensures asked { part < 8 → IsSome result }
+    ensures lasts { Lasts (D.known disk.old).health (D.known disk.new).health }
+{
+    if part >= PARTS {
+        return None;
+    }
+    match disk.read(device, sector, part as u8) {
+        Ok(bytes) => Some(Reply::Bytes(Piece::from_slice(&bytes))),
+        Err(Failed) => Some(Reply::Failed),
+    }
+}
+
+fn write<D: Disk>(disk: &mut D, device: u8, sector: u64, part: u64, piece: &Piece) -> Option<Reply>
+    ensures given { IsGivenByDisk device (Out (out.DiskWrite sector part piece.now)) (D.known disk.old) result (D.known disk.new) }
+    ensures asked { part < 8 → length piece.now ≡ 64 → IsSome result }
+    ensures lasts { Lasts (D.known disk.old).health (D.known disk.new).health }
+{
+    if part >= PARTS {
+        return None;
+    }
+    let bytes = part_of(piece)?;
+    match disk.write(device, sector, part as u8, &bytes) {
+        Ok(()) => Some(Reply::Done),
+        Err(Failed) => Some(Reply::Failed),
+    }
+}
+
+fn flush<D: Disk>(disk: &mut D, device: u8) -> Reply
+    ensures given { IsGivenByDisk device (Out out.DiskFlush) (D.known disk.old) (Some result) (D.known disk.new) }
+    ensures lasts { Lasts (D.known disk.old).health (D.known disk.new).health }
+{
+    match disk.flush(device) {
+        Ok(()) => Reply::Done,
+        Err(Failed) => Reply::Failed,
+    }
+}
+
+// What a device's disk answers an op that calls it. `None` where it calls no disk, or one as no disk is called: no device
+// asks for a part that a sector has not, or writes another number of bytes than a part has.
+fn ask_disk<D: Disk>(disk: &mut D, device: u8, op: &Op) -> Option<Reply>
+    ensures given { IsGivenByDisk device op.now (D.known disk.old) result (D.known disk.new) }
+    ensures asked { CanBeAsked op.now → IsSome result }
+    ensures lasts { Lasts (D.known disk.old).health (D.known disk.new).health }
+{
+    match op {
+        Op::Out(OutOp::DiskRead { sector, part }) => read(disk, device, *sector, *part),
+        Op::Out(
+            OutOp::DiskWrite {
+                sector,
+                part,
+                piece,
+            },
+        ) => write(disk, device, *sector, *part, piece),
+        Op::Out(OutOp::DiskFlush) => Some(flush(disk, device)),
+        _ => None,
+    }
+}
+
+fn is_wait(op: &Op) -> bool
+    ensures { (result ≡ true) ↔ (op.now ≡ Idle) }
+{
+    matches!(op, Op::Idle)
+}
+
+// The next event of a device, which is given its disk's answer where it asks for that. Whether one was made, and no wait.
+fn step_device<D: Disk>(
+    world: &mut World,
+    device: u8,
+    disk: &mut D,
+    events: &mut Vec<Entry>,
+) -> bool
+    requires { vec_len events.old + 1 ≤ vec_capacity events.old }
+    ensures acted { (first : WorldValue) (asked : DiskKnown) →
+        HaveActed events.old.items first world.old asked (D.known disk.old) →
+        HaveActed events.new.items first world.new asked (D.known disk.new) }
+    ensures lasts { Lasts (D.known disk.old).health (D.known disk.new).health }
+    ensures room { vec_capacity events.new ≡ vec_capacity events.old }
+    ensures most { vec_len events.new ≤ vec_len events.old + 1 }
+{
+    let actor = ActorId::Device(device);
+    let Some(op) = world.want(actor) else {
+        return false;
+    };
+    let waits = is_wait(&op);
+    let given = ask_disk(disk, device, &op);
+    match world.step(actor, given) {
+        Ok(entry) => {
+            events.push_reserved(entry);
+            !waits
+        }
+        Err(_) => false,
+    }
+}
+
+// Events of a device, until it has waited or so many are made.
+fn run_device<D: Disk>(
+    world: &mut World,
+    device: u8,
+    disk: &mut D,
+    most: u32,
+    events: &mut Vec<Entry>,
+)
+    requires { vec_len events.old + most ≤ vec_capacity events.old }
+    ensures acted { (first : WorldValue) (asked : DiskKnown) →
+        HaveActed events.old.items first world.old asked (D.known disk.old) →
+        HaveActed events.new.items first world.new asked (D.known disk.new) }
+    ensures lasts { Lasts (D.known disk.old).health (D.known disk.new).health }
+    ensures room { vec_capacity events.new ≡ vec_capacity events.old }
+    ensures most { vec_len events.new ≤ vec_len events.old + most }
+{
+    for _made in 0..most {
+        if !step_device(world, device, disk, events) {
+            return;
+        }
+    }
+}
+
+/// Events of each device, in order of their numbers: of each until it has waited, which is made too, or `most` are made.
+/// What a device asks of its disk is answered by that, `Failed` where the call fails. Room for all of them is made first;
+/// where there is no device none is needed. Nothing is said of how far a device gets.
+///
+/// Errors: want of memory, which leaves everything as it was.
+pub fn run_devices<D: Disk>(
+    alloc: Global,
+    world: &mut World,
+    disk: &mut D,
+    most: u32,
+) -> Result<Vec<Entry>, AllocError>
+    ensures gone { IfOk result (λ events. IsSerial world.old events.items world.new) }
+    ensures made { IfOk result (λ events. (g : Guest) → IsWorld world.old g → All IsDevices events.items) }
+    ensures asked { IfOk result (λ events. (g : Guest) → IsWorld world.old g →
+        DiskWasAsked (D.known disk.old) events.items (D.known disk.new)) }
+    ensures none { world.old.devices ≡ [] → IsOkAnd result (λ events. events.items ≡ []) }
+    ensures lasts { Lasts (D.known disk.old).health (D.known disk.new).health }
+    ensures world { OnErr result (world.new ≡ world.old) }
+    ensures disk { OnErr result (D.known disk.new ≡ D.known disk.old) }
+{
+    let devices = world.devices().len().min(MOST_DEVICES);
+    let mut events = Vec::with_capacity(alloc, devices * most as usize)?;
+    for number in 0..devices {
+        run_device(world, number as u8, disk, most, &mut events);
+    }
+    Ok(events)
+}
