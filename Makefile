@@ -14,6 +14,7 @@ build:
 test:
 	@.ci/run
 
-# Every script whose output is stored, with the proved program over real files, and each way to fail.
+# Every script whose output is stored, with the proved program over real files, and each way to fail; and a snapshot at each
+# event of a disk's requests.
 examples: build
-	@examples/check
+	@examples/check && examples/disk/sweep
