@@ -47,6 +47,7 @@ pub fn run_beside<D: Disk, C: Clock, N: Conn + Send, T: Trace, K: Sink, R: Threa
         (known (T.known trace.old) (K.known sink.old) (host_known C.known D.known host.old)) machine.old
         (known (T.known trace.new) (K.known sink.new) (host_known C.known D.known host.new)) machine.new }
     ensures reader { reader.new.0 ≡ gate.now }
+    ensures opened { reader.new.1.openings ≡ reader.old.1.openings }
     ensures passes { ArePasses gate.now passes.new.items }
 {
     let mut read = || -> Heard
@@ -61,6 +62,7 @@ pub fn run_beside<D: Disk, C: Clock, N: Conn + Send, T: Trace, K: Sink, R: Threa
         ensures lasts { Lasts (N.known conn.entry.now).health (N.known conn.exit.now).health }
         ensures room { length buf.exit.now.items ≡ length buf.entry.now.items }
         ensures reader { reader.exit.now.0 ≡ gate.entry.now }
+        ensures opened { reader.exit.now.1.openings ≡ reader.entry.now.1.openings }
     {
         let heard = listen(rt, gate, reader, conn, buf);
         gate.close(reader);

@@ -50,6 +50,7 @@ pub fn listen<N: Conn, R: Wait>(
     ensures cause { HeardCause result (N.known conn.old).health.faults (N.known conn.new).health.faults }
     ensures lasts { Lasts (N.known conn.old).health (N.known conn.new).health }
     ensures pass { pass.new.0 ≡ gate.now }
+    ensures opened { pass.new.1.openings ≡ pass.old.1.openings }
     ensures room { length buf.new.items ≡ length buf.old.items }
 {
     for _ in rt.forever() {

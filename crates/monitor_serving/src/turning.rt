@@ -1,5 +1,5 @@
 // A turn: slices until something is heard, and its answers.
-ghost use Rattle.std.specs.Prelude.{◌≡◌, ◌⊎◌, ◌++◌, ◌∷◌, [], length, IfOk, IfSome, None, OnErr, OnOk, Some};
+ghost use Rattle.std.specs.Prelude.{◌≡◌, ◌⊎◌, ◌+◌, ◌++◌, ◌∷◌, [], length, IfOk, IfSome, None, OnErr, OnOk, Some};
 ghost use Rattle.script_text.specs.declared.item.Item.TheVariants as item;
 ghost use Rattle.serve_host.specs.Passing.{ConnKnown, Waits};
 ghost use Rattle.serve_host.specs.Tracing.{TraceKnown};
@@ -171,7 +171,8 @@ fn settle<N: Conn, F: Files, T: Trace>(
 }
 
 /// Slices until something is heard of the connection, which is answered then; what was answered may have changed which files
-/// the disks are, and they are attached. `None` where the connection goes on.
+/// the disks are, and they are attached. Each turn opens the gate once, which the one before it closed. `None` where the
+/// connection goes on.
 pub fn turn<
     D: Disk,
     C: Clock,
@@ -214,6 +215,7 @@ pub fn turn<
         (hosts (known (T.known trace.new) (K.known sink.new) (host_known C.known D.known host.new)) (F.known files.new)) }
     ensures conn_lasts { Lasts (N.known conn.old).health (N.known conn.new).health }
     ensures reader { reader.new.0 ≡ gate.now }
+    ensures opened { reader.new.1.openings ≡ reader.old.1.openings + 1 }
     ensures passes { ArePasses gate.now passes.new.items }
 {
     gate.open(reader);

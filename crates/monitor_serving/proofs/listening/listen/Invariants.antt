@@ -14,5 +14,6 @@ invariant-loop g l =
       kept : (N.known l.conn).health.faults ≡ (N.known l.fn.conn).health.faults;
       lasts : Lasts (N.known l.fn.conn).health (N.known l.conn).health;
       pass : l.pass.0 ≡ l.gate;
+      opened : l.pass.1.openings ≡ l.fn.pass.1.openings;
       room : length l.buf.items ≡ length l.fn.buf.items;
     }
