@@ -15,16 +15,18 @@ use Rattle.snap_diff.specs.Diffs.{IsDiffFile}
 use Rattle.snap_diff.specs.Headers as diffs
 use Rattle.snapshot_merge.specs.Memories.{IsMemoryFile}
 use Rattle.flat_guest.specs.Guest.{Guest, unwritten}
+use Rattle.flat_snapshot.specs.Carried.{carried_guest}
 use Rattle.flat_snapshot.specs.Files.{diff_file, head_of, memory_file, saved_pages, state_file}
 use Rattle.flat_snapshot.specs.Unwritten.{KeepsUnwritten}
 use Rattle.flat_snapshot.proofs.Diffs.{diff_of_both, is_file, written_few}
 use Rattle.flat_snapshot.proofs.Loaded.{memory_is, new_valid}
+use Rattle.flat_snapshot.proofs.Unwritten.{keeps_joined, keeps_same}
 use Rattle.flat_machine.specs.Between.{GoesOn, NoCreate, SomeCreate}
 use Rattle.flat_machine.specs.Machine.{Machine}
 use Rattle.flat_machine.specs.Requests.{created, parent_in, parent_of}
 use Rattle.flat_machine.proofs.Between.{run_on}
 use Rattle.flat_machine.proofs.Carries.{created_is}
-use Rattle.snapshot_chain.specs.Chains.{DiffsLead, Follows, IsSaving, Saving, diff_since, identity_of, memory_of, memory_text, state_text, steps_of}
+use Rattle.snapshot_chain.specs.Chains.{DiffsLead, Follows, IsLoaded, IsSaving, Saving, diff_since, identity_of, memory_of, memory_text, state_text, steps_of}
 
 -- ---- what stands under the two names
 
@@ -102,37 +104,62 @@ module _ (s : Saving) (parent : Identity) (is : IsSaving snapshot.Diff s) (base 
       (all_three (is_numbered parent) (is_numbered (identity_of s)) (is_same parent (identity_of s)) numbered is.saved.numbered (differs parent (identity_of s) other))
       is.whole
 
+-- ---- a machine that goes on from a create
+
+-- its memory is the one that was saved, of which nothing is written, and no number up to that one is given again
+record GoesFrom (first : Saving) (start : Machine) : Type 0 where
+  pub guest : Guest
+  pub there : start.guest ≡ Some guest
+  pub keeps : KeepsUnwritten (unwritten first.guest) guest
+  pub next : start.ids.next ≡ first.before.ids.next + 1
+
+left_goes : (type : SnapshotType) (first : Saving) (start : Machine) → IsSaving type first → start ≡ first.after → GoesFrom first start
+left_goes type first start of is =
+    let left = is ∙ after_is type first of in
+    record {
+      guest = unwritten first.guest;
+      there = ap (λ (m : Machine). m.guest) left;
+      keeps = keeps_same (unwritten first.guest) (unwritten first.guest) refl;
+      next = ap (λ (m : Machine). m.ids.next) left;
+    }
+
+loaded_goes : (first : Saving) (start : Machine) → IsLoaded first start → GoesFrom first start
+loaded_goes first start (k, load, is) = record {
+  guest = carried_guest first.copy first.guest.memory.bytes;
+  there = ap (λ (m : Machine). m.guest) is;
+  keeps = record { size = refl; unwritten = λ i none. none; pages = λ i none. refl };
+  next = ap (λ (m : Machine). m.ids.next) is;
+}
+
+goes_from : (type : SnapshotType) (first : Saving) (start : Machine) → IsSaving type first → (start ≡ first.after) ⊎ IsLoaded first start → GoesFrom first start
+goes_from type first start of (inl same) = left_goes type first start of same
+goes_from type first start of (inr loaded) = loaded_goes first start loaded
+
 -- ---- a diff that follows another create
 
 some_same : {A : Type 0} (a b : A) → Some a ≡ Some b → a ≡ b
 some_same a b is = cc
 
 module _ (type : SnapshotType) (first s : Saving) (of : IsSaving type first) (is : IsSaving snapshot.Diff s) (follows : Follows first s) where
-  left : first.after ≡ created first.before first.guest first.asked.files (parent_in first.before first.asked) first.copy
-  left = after_is type first of
+  start : GoesFrom first follows.start
+  start = goes_from type first follows.start of follows.from
 
-  on : GoesOn (unwritten first.guest) first.after s.before
-  on = run_on follows.acts first.after s.before follows.text (unwritten first.guest) (ap (λ (m : Machine). m.guest) left) follows.ran
-
-  pub base_is : s.before.ids.base ≡ Some (identity_of first)
-  base_is = follows.base ∙ ap (λ (m : Machine). m.ids.base) left
-
-  next_is : first.after.ids.next ≡ first.before.ids.next + 1
-  next_is = ap (λ (m : Machine). m.ids.next) left
+  on : GoesOn start.guest follows.start s.before
+  on = run_on follows.acts follows.start s.before follows.text start.guest start.there follows.ran
 
   pub is_other : identity_of first ≢ identity_of s
   is_other same =
       let number : first.before.ids.next ≡ s.before.ids.next = ap (λ (i : Identity). i.number) same in
       let rise = on.numbers in
-      let next = next_is in
+      let next = start.next in
       omega (arith, number, rise, next)
 
-  by_since : NoCreate first.after s.before (unwritten first.guest) on.guest ⊎ SomeCreate first.after s.before → KeepsUnwritten (unwritten first.guest) on.guest
-  by_since (inl none) = none.keeps
+  by_since : NoCreate follows.start s.before start.guest on.guest ⊎ SomeCreate follows.start s.before → KeepsUnwritten (unwritten first.guest) on.guest
+  by_since (inl none) = keeps_joined (unwritten first.guest) start.guest on.guest start.keeps none.keeps
   by_since (inr some) =
-      let number : some.base.number ≡ first.before.ids.next = ap (λ (i : Identity). i.number) (some_same some.base (identity_of first) (sym some.base_is ∙ base_is)) in
+      let number : some.base.number ≡ first.before.ids.next = ap (λ (i : Identity). i.number) (some_same some.base (identity_of first) (sym some.base_is ∙ follows.base)) in
       let new = some.new in
-      let next = next_is in
+      let next = start.next in
       absurd (omega (arith, number, new, next))
 
   keeps : KeepsUnwritten (unwritten first.guest) s.guest

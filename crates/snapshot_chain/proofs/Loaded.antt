@@ -21,8 +21,8 @@ use Rattle.flat_snapshot.specs.Found.{Snapshot, found}
 use Rattle.flat_snapshot.proofs.Loaded.{found_in}
 use Rattle.flat_machine.specs.Machine.{Machine}
 use Rattle.flat_machine.specs.Requests.{Leaves, Restores, carried}
-use Rattle.snapshot_chain.specs.Chains.{DiffsLead, IsSaving, Saving, diff_since, identity_of, memory_of, memory_text, state_text, steps_of}
-use Rattle.snapshot_chain.proofs.Created.{base_is, diff_is_file, diff_text, full_file, full_text, identity_fits, is_other, lead, state_is}
+use Rattle.snapshot_chain.specs.Chains.{DiffsLead, IsSaving, Saving, diff_since, identity_of, memory_of, memory_text, snapshot_of, state_text, steps_of}
+use Rattle.snapshot_chain.proofs.Created.{diff_is_file, diff_text, full_file, full_text, identity_fits, is_other, lead, state_is}
 
 -- ---- the files of the diffs
 
@@ -45,7 +45,7 @@ are_files type first last [] (file ∷ files) of led texts = absurd cc
 are_files type first last (s ∷ savings) [] of led texts = absurd cc
 are_files type first last (s ∷ savings) (file ∷ files) of (is, follows, rest) texts =
     let parent : Identity = identity_of first in
-    let base = base_is type first s of is follows in
+    let base = follows.base in
     let fits = identity_fits first.copy.pages parent of.fits in
     let other = is_other type first s of is follows in
     let text = diff_text s parent is base fits of.saved.numbered other in
@@ -91,12 +91,11 @@ module _ (first last : Saving) (savings : List Saving) (base : List ℕ) (files 
 
     pub loads_last : (k p : Machine) (load : SnapshotLoad) → get k.saved load.files.mem_file_path ≡ Some merged → get k.saved load.files.snapshot_path ≡ state_text last
         → Leaves k (change.LoadSnapshot load) p
-        → p ≡ carried k load (record { identity = identity_of last; copy = last.copy; bytes = last.guest.memory.bytes })
+        → p ≡ carried k load (snapshot_of last)
     loads_last k p load memory_there state_there loads =
         let of = last_type snapshot.Full first last savings is led in
         let file = merged_file in
-        let snapshot : Snapshot = record { identity = identity_of last; copy = last.copy; bytes = last.guest.memory.bytes } in
-        let finds : found k.saved load.files ≡ Ok snapshot =
+        let finds : found k.saved load.files ≡ Ok (snapshot_of last) =
         found_in k.saved load.files (identity_of last) last.copy last.guest.memory.bytes file.head of.1.saved file.holds.fits file.holds.valid file.settled file.holds.pages
         file.holds.identity file.holds.whole (state_there ∙ state_is of.0 last of.1) (memory_there ∙ ap (λ (t : List ℕ). Some t) file.holds.bytes) in
         subst (λ (r : Result Snapshot Refusal). Restores r k load p) finds loads

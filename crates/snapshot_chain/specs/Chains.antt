@@ -1,8 +1,9 @@
--- Creates of one machine: a full one, and diffs, each since the one before.
-use Rattle.std.specs.Prelude.{◌≡◌, ◌≢◌, ℕ, ◌*◌, List, [], ◌∷◌, length, Option, Some}
+-- A full create, and diffs, each since the create before: of one machine, or of machines that loaded what was made.
+use Rattle.std.specs.Prelude.{◌≡◌, ◌≢◌, ◌⊎◌, ℕ, ◌*◌, List, [], ◌∷◌, length, Option, Some}
 use Rattle.std.specs.FinMap.{get}
 use Rattle.vm_types.specs.declared.identity.Identity.{Identity}
 use Rattle.api_calls.specs.declared.call.SnapshotCreate.{SnapshotCreate}
+use Rattle.api_calls.specs.declared.call.SnapshotLoad.{SnapshotLoad}
 use Rattle.api_calls.specs.declared.call.SnapshotType.{SnapshotType}
 use Rattle.api_calls.specs.declared.call.SnapshotType.TheVariants as snapshot
 use Rattle.guest_memory.specs.Ram.{page_size}
@@ -13,8 +14,9 @@ use Rattle.snap_state.specs.declared.copy.StateCopy.{StateCopy}
 use Rattle.snap_state.specs.Files.{IsSaved}
 use Rattle.flat_snapshot.specs.Copies.{IsCopyOf}
 use Rattle.flat_snapshot.specs.Files.{diff_in, memory_in}
+use Rattle.flat_snapshot.specs.Found.{Snapshot}
 use Rattle.flat_machine.specs.Machine.{Machine}
-use Rattle.flat_machine.specs.Requests.{Creates, next_identity}
+use Rattle.flat_machine.specs.Requests.{Creates, carried, next_identity}
 use Rattle.flat_machine.specs.Run.{Act, Run}
 
 -- ---- a create that was answered
@@ -57,14 +59,24 @@ memory_of s = memory_in (identity_of s) s.copy.pages s.guest
 abbrev pub diff_since : Identity → Saving → DiffCopy
 diff_since parent s = diff_in parent (identity_of s) s.copy.pages s.guest
 
+-- the snapshot that it made, which a load of its files finds
+abbrev pub snapshot_of : Saving → Snapshot
+snapshot_of s = record { identity = identity_of s; copy = s.copy; bytes = s.guest.memory.bytes }
+
 -- ---- several
 
--- the machine that the first left went on, and the first is still its base at the second
+-- a load of its snapshot left this machine: any machine's load, of its own files or of merged ones
+abbrev pub IsLoaded : Saving → Machine → Type 0
+IsLoaded s m = (k : Machine) × (load : SnapshotLoad) × (m ≡ carried k load (snapshot_of s))
+
+-- The machine that the first left went on, or one that had loaded its snapshot; and that is still the base at the second.
 pub record Follows (first second : Saving) : Type 0 where
+  pub start : Machine
+  pub from : (start ≡ first.after) ⊎ IsLoaded first start
   pub acts : List Act
   pub text : List ℕ
-  pub ran : Run acts first.after text second.before
-  pub base : second.before.ids.base ≡ first.after.ids.base
+  pub ran : Run acts start text second.before
+  pub base : second.before.ids.base ≡ Some (identity_of first)
 
 -- from a create by diffs, each of which follows the one before, to the last
 abbrev pub DiffsLead : Saving → List Saving → Saving → Type 0

@@ -22,6 +22,7 @@ ghost use Rattle.snapshot_chain.specs.Chains.{
   identity_of,
   memory_of,
   memory_text,
+  snapshot_of,
   state_text,
   steps_of,
 };
@@ -39,7 +40,8 @@ pub fn created_files()
         state_text s ≡ Some (state_file (identity_of s) s.copy) }
 {}
 
-/// Creates of diffs, each since the one before, find memories of which each is the one before overlaid with its diff.
+/// Creates of diffs, each since the one before, find memories of which each is the one before overlaid with its diff. Each
+/// is of the machine that made the one before and went on, or of one that loaded that.
 pub fn diffs_of_creates()
     ensures { (type : SnapshotType) (first last : Saving) (savings : List Saving) → IsSaving type first →
         DiffsLead first savings last → LeadBy (memory_of first) (steps_of first savings) (memory_of last) }
@@ -47,7 +49,9 @@ pub fn diffs_of_creates()
 
 /// The files of diffs, each since the one before, are merged in order into that of the full snapshot before them, as many
 /// as it has slots for. What is left, wherever it lies, and the last create's state file are loaded as the machine of that
-/// create: its guest, its configuration and its identity, and the bytes of all its pages.
+/// create: its guest, its configuration and its identity, and the bytes of all its pages. Each diff is of the machine that
+/// made the snapshot before it and went on, or of one in any process that loaded that, merged so far. Of each create it is
+/// asked that its copy is one that a state file can have, that its memory is all of its pages, and that its names differ.
 pub fn merged_then_load()
     ensures merges { (first last : Saving) (savings : List Saving) (base : List ℕ) (files : List (List ℕ)) →
         IsSaving snapshot.Full first → DiffsLead first savings last → length savings ≤ 100 →
@@ -60,5 +64,5 @@ pub fn merged_then_load()
         MergeAll base files merged →
         get k.saved load.files.mem_file_path ≡ Some merged → get k.saved load.files.snapshot_path ≡ state_text last →
         Leaves k (change.LoadSnapshot load) p →
-        p ≡ carried k load (record { identity = identity_of last; copy = last.copy; bytes = last.guest.memory.bytes }) }
+        p ≡ carried k load (snapshot_of last) }
 {}

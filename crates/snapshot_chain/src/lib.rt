@@ -1,5 +1,5 @@
 //! A full snapshot, the diffs since it, and their merge: what creates wrote is what merges read, and what they leave loads
-//! as the machine that was saved last.
+//! as the machine that was saved last, whichever processes it went through.
 //!
 //! `specs/Chains.antt` says which creates are a chain; `law` has what holds of every one. What a create and a load are is
 //! the flat machine's definition, what a merge leaves that of `snapshot_merge`.
