@@ -12,7 +12,7 @@ use Rattle.monitor_cli.specs.Taking.{TookText}
 use Rattle.monitor_cli.specs.Words.{replay_id}
 use Rattle.monitor_cli.specs.declared.words.NoWords.{NoWords}
 
--- `replay` is the one command so far
+-- the words of a replay
 abbrev pub is_command : List (List ℕ) → Bool
 is_command words = is_some (replay_id words)
 
