@@ -1,2 +1,5 @@
+mod Behind
+mod Boards
 pub mod Lines
+mod Off
 mod Scripts

@@ -1,6 +1,5 @@
 -- Items of a trace as lines of a script.
-use Rattle.std.proofs.Common.{◌≡◌, ℕ, zero, suc, ◌<◌, Bool, true, false, nat_lt, refl, sym, ap, ◌∙◌, subst, List, [], ◌∷◌, length, slice_get, Option, Some, None, MatchBool, inl, arith}
-use Rattle.std.proofs.lemmas.Bool.{lt-ltb}
+use Rattle.std.proofs.Common.{◌≡◌, ℕ, Bool, true, false, nat_lt, refl, sym, ap, ◌∙◌, subst, List, [], ◌∷◌, length, slice_get, Option, Some, None, MatchBool, inl}
 use Rattle.vm_types.specs.declared.ids.ActorId.{ActorId}
 use Rattle.vm_types.specs.declared.ids.PlaceId.{PlaceId}
 use Rattle.vm_types.specs.declared.entry.Step.{Step}
@@ -25,7 +24,7 @@ own_guest : (guest : Option Guest) (paused : Bool) (g : Guest) → running_by gu
 own_guest guest true g is = cc
 own_guest guest false g is = is
 
-guest_is : (m : Machine) (g : Guest) → running m ≡ Some g → m.guest ≡ Some g
+pub guest_is : (m : Machine) (g : Guest) → running m ≡ Some g → m.guest ≡ Some g
 guest_is m g is = own_guest m.guest m.paused g is
 
 there_from : (starts : List Regs) (k : ℕ) (o : Option Regs) (steps : List Step) (op : Op) → slice_get starts k ≡ o

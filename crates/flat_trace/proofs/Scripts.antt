@@ -1,5 +1,5 @@
 -- A trace as a script.
-use Rattle.std.proofs.Common.{◌≡◌, ℕ, Bool, true, false, refl, sym, ap, ◌∙◌, subst, List, [], ◌∷◌, ◌++◌}
+use Rattle.std.proofs.Common.{◌≡◌, ℕ, Bool, true, false, refl, sym, ap, ◌∙◌, subst, List, [], ◌∷◌}
 use Rattle.script_text.specs.declared.item.Item.{Item}
 use Rattle.script_text.specs.declared.item.Item.TheVariants as item
 use Rattle.flat_machine.specs.Items.{ItemStep}
@@ -28,8 +28,8 @@ hears_line bytes outcomes m n out false on (responses, is, talks) =
     shown_as (item.Bytes bytes) outcomes m n out (Heard bytes responses) (line_by (Heard bytes responses)) is refl
     (responses, talks, refl)
 
-step_line : (it : Item) (outcomes : List Outcome) (m n : Machine) (out : Out) → is_off m ≡ false → TraceStep it outcomes m out n
-    → Line it outcomes m out n
+pub step_line : (it : Item) (outcomes : List Outcome) (m n : Machine) (out : Out) → is_off m ≡ false
+    → TraceStep it outcomes m out n → Line it outcomes m out n
 step_line (item.Step actor count) outcomes m n out on (none, is, one, event) =
     shown_as (item.Step actor count) outcomes m n out Quiet [] is refl
     (subst (λ (c : ℕ). ItemStep (item.Step actor c) outcomes m [] n) (sym one)

@@ -1,5 +1,5 @@
 // What a script's line does that an item of a trace does.
-ghost use Rattle.std.specs.Prelude.{◌≡◌, ◌++◌, ℕ, List, [], false};
+ghost use Rattle.std.specs.Prelude.{◌≡◌, ◌++◌, ℕ, List, [], false, true};
 ghost use Rattle.vm_types.specs.declared.exit.Exit.{Exit};
 ghost use Rattle.vm_types.specs.declared.ids.ActorId.{ActorId};
 ghost use Rattle.script_text.specs.declared.item.HostReply.{HostReply};
@@ -9,6 +9,7 @@ ghost use Rattle.flat_machine.specs.Machine.{Machine, is_off};
 ghost use Rattle.flat_machine.specs.Replay.{IsReplay, closed, closing, judged_script};
 ghost use Rattle.flat_machine.specs.Run.{Act, OnBefore, lines_done};
 ghost use Rattle.flat_machine.specs.Run as script;
+ghost use Rattle.flat_trace.specs.Replays.{ReplaysToOff};
 ghost use Rattle.flat_trace.specs.Showing.{Out, Quiet, Run, TraceStep, lines};
 
 /// Where the guest is on, an event's item is the script's line `step ACTOR 1` that writes nothing.
@@ -25,11 +26,17 @@ pub fn line_of_reply()
 
 /// A trace is a script, as long as the guest is on before each of its items: the run of its lines leaves the same machine,
 /// and writes the lines of what the trace showed, each response and each drain of the console. So the replay of a script of
-/// these lines gives the same answers and the same console, and ends as a script does that is done.
+/// these lines gives the same answers and the same console, and ends as a script does that is done. Where the guest turned
+/// itself off, items may stand behind the event that did so, as its slice went on and the console was drained: the replay
+/// ends at that event, and it writes all lines that the trace showed, and last what the console held and that the guest is
+/// off.
 pub fn trace_replays()
     ensures run { (acts : List Act) (m n : Machine) (outs : List Out) → OnBefore acts m → Run acts m outs n →
         script.Run acts m (lines outs) n }
     ensures replay { (text : List ℕ) (acts : List Act) (m n : Machine) (outs : List Out) →
         judged_script text ≡ lines_done acts → OnBefore acts m → Run acts m outs n →
         IsReplay text m acts Exit.Done (lines outs ++ closing Exit.Done n) (closed Exit.Done n) }
+    ensures off { (text : List ℕ) (acts : List Act) (m n : Machine) (outs : List Out) →
+        judged_script text ≡ lines_done acts → is_off n ≡ true → Run acts m outs n →
+        ReplaysToOff text m acts (lines outs ++ closing Exit.Done n) }
 {}

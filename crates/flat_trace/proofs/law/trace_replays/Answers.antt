@@ -1,4 +1,5 @@
 use Rattle.std.proofs.Common.{refl, sym, ◌∙◌, inl, [], append-nil}
+use Rattle.flat_trace.proofs.Off.{off_replays}
 use Rattle.flat_trace.proofs.Scripts.{run_lines}
 use Rattle.flat_trace.proofs.law.trace_replays.Goals as goal
 
@@ -15,3 +16,6 @@ returns-clause-replay c = λ script acts m n outs judged on run. record {
   writes = refl;
   leaves = refl;
 }
+
+pub returns-clause-off : goal.returns-clause-off
+returns-clause-off c = off_replays
