@@ -1,7 +1,8 @@
--- The replay of a trace in which the guest turned itself off.
+-- A trace in which the guest turned itself off, and one in which it did not.
 use Rattle.std.proofs.Common.{◌≡◌, ℕ, Bool, true, false, refl, sym, ap, ◌∙◌, subst, List, [], ◌∷◌, ◌++◌, inr, append_assoc}
 use Rattle.std.proofs.lemmas.List.{map-append}
 use Rattle.vm_types.specs.declared.exit.Exit.{Exit}
+use Rattle.flat_machine.specs.Items.{ItemStep}
 use Rattle.flat_machine.specs.Machine.{Machine, drained, is_off}
 use Rattle.flat_machine.specs.Replay.{closing, judged_script}
 use Rattle.flat_machine.specs.Run.{Act, OnBefore, lines_done}
@@ -11,6 +12,14 @@ use Rattle.flat_trace.specs.Showing.{Out, Run, line_by, lines}
 use Rattle.flat_trace.specs.Replays.{ReplaysToOff}
 use Rattle.flat_trace.proofs.Behind.{drain_off, run_closes}
 use Rattle.flat_trace.proofs.Scripts.{step_line}
+
+-- the guest is on before an act, and before those that follow where it leads
+on_first : (act : Act) (acts : List Act) (m mid : Machine) (text : List ℕ) → is_off m ≡ false
+    → ItemStep act.item act.outcomes m text mid → OnBefore acts mid → OnBefore (act ∷ acts) m
+on_first act acts m mid text on step more = (
+  on,
+  λ other k leads. subst (OnBefore acts) (item_one act.item act.outcomes m mid k text other step leads).1 more,
+)
 
 -- up to the act that turned the guest off
 record Front (acts : List Act) (m : Machine) (text : List ℕ) : Type 0 where
@@ -47,11 +56,7 @@ off_front (act ∷ acts) false m n outs is off (out, mid, rest, split, step, mor
       answers = line_by out ++ later.answers;
       last = later.last;
       parts = ap (λ (l : List Act). act ∷ l) later.parts;
-      on = (
-        is,
-        λ text k other. subst (λ (q : Machine). OnBefore later.front q)
-            (item_one act.item act.outcomes m mid k (line_by out) text line other).1 later.on,
-      );
+      on = on_first act later.front m mid (line_by out) is line later.on;
       ran = (line_by out, mid, later.answers, line, later.ran, refl);
       off = later.off;
       writes = ap (λ (os : List Out). lines os ++ closing Exit.Done n) split
@@ -83,3 +88,15 @@ off_replays text acts m n outs judged off run =
         leaves = refl;
       };
     }
+
+on_by : (acts : List Act) (off : Bool) (m n : Machine) (outs : List Out) → is_off m ≡ off → is_off n ≡ false
+    → Run acts m outs n → OnBefore acts m
+on_by [] off m n outs is on run = tt
+on_by (act ∷ acts) true m n outs is on run =
+    let both : true ≡ false = sym (run_closes (act ∷ acts) m n outs is run).0 ∙ on in cc
+on_by (act ∷ acts) false m n outs is on (out, mid, rest, split, step, more) =
+    on_first act acts m mid (line_by out) is (step_line act.item act.outcomes m mid out is step)
+    (on_by acts (is_off mid) mid n rest refl on more)
+
+pub on_before : (acts : List Act) (m n : Machine) (outs : List Out) → is_off n ≡ false → Run acts m outs n → OnBefore acts m
+on_before acts m n outs on run = on_by acts (is_off m) m n outs refl on run

@@ -27,9 +27,9 @@ pub fn line_of_reply()
 /// A trace is a script, as long as the guest is on before each of its items: the run of its lines leaves the same machine,
 /// and writes the lines of what the trace showed, each response and each drain of the console. So the replay of a script of
 /// these lines gives the same answers and the same console, and ends as a script does that is done. Where the guest turned
-/// itself off, items may stand behind the event that did so, as its slice went on and the console was drained: the replay
-/// ends at that event, and it writes all lines that the trace showed, and last what the console held and that the guest is
-/// off.
+/// itself off, items may stand behind the event that did so, as its slice goes on and the console is drained. The replay
+/// ends at that event, and it too writes all lines that the trace showed, and last what the console held and that the guest
+/// is off. Where the guest is on in the end, it was on before each item, so each trace is one or the other.
 pub fn trace_replays()
     ensures run { (acts : List Act) (m n : Machine) (outs : List Out) → OnBefore acts m → Run acts m outs n →
         script.Run acts m (lines outs) n }
@@ -39,4 +39,5 @@ pub fn trace_replays()
     ensures off { (text : List ℕ) (acts : List Act) (m n : Machine) (outs : List Out) →
         judged_script text ≡ lines_done acts → is_off n ≡ true → Run acts m outs n →
         ReplaysToOff text m acts (lines outs ++ closing Exit.Done n) }
+    ensures on { (acts : List Act) (m n : Machine) (outs : List Out) → is_off n ≡ false → Run acts m outs n → OnBefore acts m }
 {}

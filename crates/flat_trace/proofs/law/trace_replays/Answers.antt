@@ -1,5 +1,5 @@
 use Rattle.std.proofs.Common.{refl, sym, ◌∙◌, inl, [], append-nil}
-use Rattle.flat_trace.proofs.Off.{off_replays}
+use Rattle.flat_trace.proofs.Off.{off_replays, on_before}
 use Rattle.flat_trace.proofs.Scripts.{run_lines}
 use Rattle.flat_trace.proofs.law.trace_replays.Goals as goal
 
@@ -19,3 +19,6 @@ returns-clause-replay c = λ script acts m n outs judged on run. record {
 
 pub returns-clause-off : goal.returns-clause-off
 returns-clause-off c = off_replays
+
+pub returns-clause-on : goal.returns-clause-on
+returns-clause-on c = on_before
