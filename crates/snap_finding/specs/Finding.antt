@@ -1,11 +1,15 @@
 -- What an answer is of what the flat machine finds.
-use Rattle.std.specs.Prelude.{◌≡◌, ℕ, List, length, take, Option, Some, None, Result, Ok, Err}
+use Rattle.std.specs.Prelude.{◌≡◌, ℕ, ◌+◌, ◌==◌, if◌then◌else◌, List, length, take, drop}
+use Rattle.std.specs.Prelude.{Option, Some, None, Result, Ok, Err}
+use Rattle.std.specs.Int.{w32, from_le_bytes}
 use Rattle.vm_types.specs.Causes.{Rose}
 use Rattle.vm_types.specs.declared.identity.Identity.{Identity}
 use Rattle.refusals.specs.declared.refusal.Refusal.{Refusal}
 use Rattle.refusals.specs.declared.refusal.Refusal.TheVariants as refusal
 use Rattle.guest_pages.specs.Pages.{flat_of}
 use Rattle.file_format.specs.declared.error.DecodeError.{DecodeError}
+use Rattle.file_format.specs.Starts.{is_closed, is_other}
+use Rattle.snap_state.specs.Files as state
 use Rattle.snap_state.specs.declared.copy.StateCopy.{StateCopy}
 use Rattle.snap_state.specs.declared.file.Saved.{Saved}
 use Rattle.flat_snapshot.specs.Found.{Snapshot, memory_front}
@@ -23,8 +27,27 @@ Answers of (Err OutOfMemory) found = Unit {0}
 abbrev pub state_of : Saved → Identity × StateCopy
 state_of s = (s.identity, s.copy)
 
+abbrev pub size_of : ℕ → ℕ
+size_of size = size
+
 abbrev pub nothing_of : Unit {0} → Unit {0}
 nothing_of u = tt
+
+-- how many bytes the body of a state file has, as its header says: the number of 32 bits at byte 12
+abbrev pub said_length : List ℕ → ℕ
+said_length front = from_le_bytes w32 (take 4 (drop 12 front))
+
+-- A state file of this size, by its first 32 bytes or all of a shorter one: the refusal that they tell, or its size, which
+-- is what the header says.
+abbrev pub size_judged : ℕ → List ℕ → Result ℕ Refusal
+size_judged size front =
+    if is_closed 32 front then Err refusal.GateClosed
+    else (if is_other state.magic front then Err refusal.WrongMagic
+    else (if said_length front + 32 == size then Ok size else Err refusal.BadField))
+
+abbrev pub size_found : Option (List ℕ) → Result ℕ Refusal
+size_found None = Err refusal.NoSuchFile
+size_found (Some given) = size_judged (length given) (take 32 given)
 
 -- what the front of a memory file is found as, or that there is none
 abbrev pub front_found : Identity → ℕ → Option (List ℕ) → Result (Unit {0}) Refusal

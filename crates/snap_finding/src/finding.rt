@@ -7,11 +7,12 @@ ghost use Rattle.snap_state.specs.Files.{IsSaved};
 ghost use Rattle.vm_outside.specs.Filing.{SameFiles};
 ghost use Rattle.vm_outside.specs.Known.{Lasts, Tells};
 ghost use Rattle.flat_snapshot.specs.Found.{found, state_found};
-ghost use Rattle.snap_finding.specs.Finding.{Answers, FindCause, front_found, nothing_of, snapshot_of, state_of};
+ghost use Rattle.snap_finding.specs.Finding.{Answers, FindCause, front_found, nothing_of};
+ghost use Rattle.snap_finding.specs.Finding.{size_found, size_of, snapshot_of, state_of};
 
-use crate::judging::{judge_memory, judge_state};
+use crate::judging::{judge_memory, judge_start, judge_state};
 use api_calls::SnapshotFiles;
-use gate_file::{FileError, read_file, read_start};
+use gate_file::{FileError, read_front, read_start};
 use guest_pages::PageSet;
 use refusals::Refusal;
 use snap_restore::load_pages;
@@ -21,6 +22,8 @@ use vm_outside::Files;
 use vm_types::Identity;
 
 const HEADER_SIZE: u64 = 4096;
+
+const STATE_HEADER: u64 = 32;
 
 /// A snapshot that was found.
 #[derive(Drop)]
@@ -39,7 +42,23 @@ pub enum FindError {
     OutOfMemory,
 }
 
-// What the state file of this name holds.
+// The size of the state file of this name, where its first bytes don't refuse it.
+fn find_size<F: Files>(alloc: Global, files: &mut F, name: &str) -> Result<u64, FindError>
+    ensures finds { Tells (F.known files.old).health →
+        Answers size_of result (size_found (get (F.known files.old).saved name.now)) }
+    ensures same { Tells (F.known files.old).health → SameFiles (F.known files.old) (F.known files.new) }
+    ensures cause { FindCause result (F.known files.old).health.faults (F.known files.new).health.faults }
+    ensures lasts { Lasts (F.known files.old).health (F.known files.new).health }
+{
+    match read_start(alloc, files, name, STATE_HEADER) {
+        Ok(Some(start)) => judge_start(start.size, &start.bytes),
+        Ok(None) => Err(FindError::Refused(Refusal::NoSuchFile)),
+        Err(FileError::Fault) => Err(FindError::Fault),
+        Err(FileError::OutOfMemory) => Err(FindError::OutOfMemory),
+    }
+}
+
+// What the state file of this name holds. It is read whole only where its header says that it has so many bytes.
 fn find_state<F: Files>(alloc: Global, files: &mut F, name: &str) -> Result<Saved, FindError>
     ensures finds { Tells (F.known files.old).health →
         Answers state_of result (state_found (get (F.known files.old).saved name.now)) }
@@ -48,9 +67,12 @@ fn find_state<F: Files>(alloc: Global, files: &mut F, name: &str) -> Result<Save
     ensures cause { FindCause result (F.known files.old).health.faults (F.known files.new).health.faults }
     ensures lasts { Lasts (F.known files.old).health (F.known files.new).health }
 {
-    match read_file(alloc, files, name) {
-        Ok(Some(bytes)) => judge_state(alloc, &bytes),
-        Ok(None) => Err(FindError::Refused(Refusal::NoSuchFile)),
+    let size = match find_size(alloc, files, name) {
+        Ok(size) => size,
+        Err(why) => return Err(why),
+    };
+    match read_front(alloc, files, name, size) {
+        Ok(bytes) => judge_state(alloc, &bytes),
         Err(FileError::Fault) => Err(FindError::Fault),
         Err(FileError::OutOfMemory) => Err(FindError::OutOfMemory),
     }

@@ -1,11 +1,12 @@
 // What the bytes of a file are found as.
-ghost use Rattle.std.specs.Prelude.{◌≡◌, ℕ, IfOk};
+ghost use Rattle.std.specs.Prelude.{◌≡◌, ◌≤◌, ℕ, length, IfOk};
 ghost use Rattle.snap_state.specs.Files.{IsSaved};
 ghost use Rattle.flat_snapshot.specs.Found.{memory_front, memory_judged, state_in};
-ghost use Rattle.snap_finding.specs.Finding.{Answers, FindCause, nothing_of, refused_by, state_of};
+ghost use Rattle.snap_finding.specs.Finding.{Answers, FindCause, nothing_of, refused_by};
+ghost use Rattle.snap_finding.specs.Finding.{said_length, size_judged, size_of, state_of};
 
 use crate::finding::FindError;
-use file_format::DecodeError;
+use file_format::{DecodeError, is_closed, is_other};
 use refusals::Refusal;
 use snap_memory::MemHeader;
 use snap_state::{Saved, decode};
@@ -16,6 +17,11 @@ const HEADER_SIZE: u64 = 4096;
 
 const PAGE: u64 = 4096;
 
+const STATE_HEADER: usize = 32;
+
+/// "RVFCSTA", and version 1.
+const STATE_MAGIC: [u8; 11] = [82, 86, 70, 67, 83, 84, 65, 1, 0, 0, 0];
+
 fn refused_by(why: DecodeError) -> FindError
     ensures { result ≡ refused_by why }
 {
@@ -25,6 +31,31 @@ fn refused_by(why: DecodeError) -> FindError
         DecodeError::BadField => FindError::Refused(Refusal::BadField),
         DecodeError::OutOfMemory => FindError::OutOfMemory,
     }
+}
+
+// How many bytes the body of a state file has, as its header says.
+fn said_length(front: &[u8]) -> u32
+    requires { 16 ≤ length front.now }
+    ensures { result ≡ said_length front.now }
+{
+    u32::from_le_bytes([front[12], front[13], front[14], front[15]])
+}
+
+/// The first bytes of a state file of this size, which is told where they don't refuse it.
+pub fn judge_start(size: u64, front: &[u8]) -> Result<u64, FindError>
+    ensures judged { Answers size_of result (size_judged size front.now) }
+    ensures cause { (n : ℕ) → FindCause result n n }
+{
+    if is_closed(front, STATE_HEADER) {
+        return Err(FindError::Refused(Refusal::GateClosed));
+    }
+    if is_other(front, &STATE_MAGIC) {
+        return Err(FindError::Refused(Refusal::WrongMagic));
+    }
+    if size != said_length(front) as u64 + STATE_HEADER as u64 {
+        return Err(FindError::Refused(Refusal::BadField));
+    }
+    Ok(size)
 }
 
 /// The bytes of a state file.
