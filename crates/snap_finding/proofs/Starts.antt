@@ -1,7 +1,7 @@
 -- A state file that its first bytes and its size refuse is refused so as a whole.
-use Rattle.std.proofs.Common.{◌≡◌, ℕ, zero, suc, ◌+◌, ◌≤◌, Bool, true, false, not, ltb, get_or, ◌&&◌, ◌==◌, cond, if◌then◌else◌, List, [], ◌∷◌, length, take, drop, length-drop, Option, Some, None, Result, Ok, Err, refl, sym, ap, subst, ◌∙◌, arith, inl, inr}
+use Rattle.std.proofs.Common.{◌≡◌, ℕ, zero, suc, ◌+◌, ◌≤◌, Bool, true, false, not, eqb, ltb, get_or, ◌&&◌, ◌==◌, nat_le, cond, if◌then◌else◌, List, [], ◌∷◌, length, take, drop, length-drop, Option, Some, None, Result, Ok, Err, refl, sym, ap, subst, ◌∙◌, arith, inl, inr}
 use Rattle.std.proofs.Math.Seq.{take-length}
-use Rattle.std.proofs.lemmas.Bool.{cases_lt, eqb-true, eqb-false, ltb-false, le-ltb, lt-ltb, or_parts, false_from_ne_true}
+use Rattle.std.proofs.lemmas.Bool.{and_from, and_parts, cases_lt, eqb-true, eq-eqb, le-leb, ltb-false, le-ltb, lt-ltb, or_parts, false_from_ne_true}
 use Rattle.std.proofs.lemmas.List.{drop-take, length-take}
 use Rattle.std.proofs.lemmas.Option.{option_and_then_some}
 use Rattle.std.specs.Int.{w32, from_le_bytes}
@@ -14,15 +14,17 @@ use Rattle.file_format.specs.Starts.{is_closed, is_other}
 use Rattle.snap_state.specs.declared.copy.StateCopy.{StateCopy}
 use Rattle.snap_state.specs.Copies.{state_copy}
 use Rattle.snap_state.specs.Files as state
+use Rattle.snap_state.specs.Valid.{is_valid}
 use Rattle.snap_state.specs.declared.file.Saved.{Saved}
 use Rattle.vm_outside.specs.Filing.{IsReadAt}
 use Rattle.std.specs.Option.{option_and_then, option_map}
 use Rattle.std.specs.Str.{bytes_eq}
 use Rattle.gate_file.specs.Reading.{start_of}
 use Rattle.flat_snapshot.specs.Found.{state_found, state_in, state_read}
+use Rattle.snap_finding.proofs.Longest.{accepted_short}
 use Rattle.snap_finding.specs.declared.finding.FindError.{FindError}
 use Rattle.snap_finding.specs.declared.finding.FindError.TheVariants.{Refused, Fault, OutOfMemory}
-use Rattle.snap_finding.specs.Finding.{Answers, said_length, size_found, size_judged, size_of, state_of}
+use Rattle.snap_finding.specs.Finding.{Answers, most_bytes, said_length, size_found, size_judged, size_of, state_of}
 
 take_less : (n m : ℕ) (xs : List ℕ) → n ≤ m → take n (take m xs) ≡ take n xs
 take_less zero m xs le = refl
@@ -75,33 +77,45 @@ read_said rest read is =
     ap (λ (r : (ℕ × (Identity × StateCopy)) × List ℕ). r.0.0) (sym same)
     ∙ said_of (ltb (length rest) 4) (from_le_bytes w32 (take 4 rest), drop 4 rest) x of_length))
 
-not_accepted : (left counted numbered valid : Bool) → counted ≡ false → (left && counted && numbered && valid) ≡ false
-not_accepted true counted numbered valid is = ap (λ (b : Bool). b && numbered && valid) is
-not_accepted false counted numbered valid is = refl
+module _ (given : List ℕ) (opens : is_closed 32 given ≡ false) (read : (ℕ × (Identity × StateCopy)) × List ℕ)
+    (reads : state.contents.reads (drop 12 given) ≡ Some read) where
+  abbrev accepts : Bool
+  accepts = state.is_accepted (length (drop 12 given)) (length read.1) read.0.0 read.0.1.0 read.0.1.1
 
-module _ (given : List ℕ) (opens : is_closed 32 given ≡ false) (differs : (said_length given + 32 == length given) ≡ false) where
-  other_size : (said_length given + 20 == length (drop 12 given)) ≡ false
-  other_size =
-      false_from_ne_true _ (λ same.
+  -- what is accepted has the size that the header says, and one that a state file may have
+  may_be : accepts ≡ true → ((said_length given + 32 == length given) && nat_le (length given) most_bytes) ≡ true
+  may_be is =
       let long : 32 ≤ length given = ltb-false _ _ (or_parts _ _ opens).0 in
-      let counted : said_length given + 20 ≡ length (drop 12 given) = eqb-true _ _ same in
-      eqb-false _ _ differs (omega (arith, long, counted, length-drop 12 given)))
+      let counted : read.0.0 + 20 ≡ length (drop 12 given) =
+      eqb-true _ _ (and_parts (eqb (length read.1) 0) _ (and_parts _ _ (and_parts _ (is_valid read.0.1.1) is).0).0).1 in
+      and_from (said_length given + 32 == length given) (nat_le (length given) most_bytes)
+      (eq-eqb _ _ (omega (arith, long, counted, length-drop 12 given, read_said (drop 12 given) read reads)))
+      (le-leb _ _ (omega (arith, length-drop 12 given, accepted_short (drop 12 given) read reads is)))
 
+module _ (given : List ℕ) (opens : is_closed 32 given ≡ false)
+    (refuses : ((said_length given + 32 == length given) && nat_le (length given) most_bytes) ≡ false) where
   bad_read : (o : Option ((ℕ × (Identity × StateCopy)) × List ℕ)) → state.contents.reads (drop 12 given) ≡ o
       → state_read (length (drop 12 given)) o ≡ Err refusal.BadField
   bad_read None is = refl
   bad_read (Some read) is =
       ap (λ (b : Bool). if b then Ok read.0.1 else Err refusal.BadField)
-      (not_accepted _ _ _ _ (ap (λ (n : ℕ). n + 20 == length (drop 12 given)) (read_said (drop 12 given) read is) ∙ other_size))
+      (false_from_ne_true (accepts given opens read is) (λ accepted. let may = may_be given opens read is accepted in absurd cc))
 
   bad_size : state_read (length (drop 12 given)) (state.contents.reads (drop 12 given)) ≡ Err refusal.BadField
   bad_size = bad_read (state.contents.reads (drop 12 given)) refl
 
 -- ---- the whole file
 
+abbrev by_tests : Bool → Bool → Bool → ℕ → Result ℕ Refusal
+by_tests closed other fits size =
+    if closed then Err refusal.GateClosed
+    else (if other then Err refusal.WrongMagic
+    else (if fits then Ok size else Err refusal.BadField))
+
+-- what the tests refuse is refused so, if what they let through is read alone
 tests_refuse : (closed other fits : Bool) (size : ℕ) (rest : Result (Identity × StateCopy) Refusal) (why : Refusal)
     → (closed ≡ false → fits ≡ false → rest ≡ Err refusal.BadField)
-    → ◌≡◌ {A = Result ℕ Refusal} (if closed then Err refusal.GateClosed else (if other then Err refusal.WrongMagic else (if fits then Ok size else Err refusal.BadField))) (Err why)
+    → by_tests closed other fits size ≡ Err why
     → (if closed then Err refusal.GateClosed else (if other then Err refusal.WrongMagic else rest)) ≡ Err why
 tests_refuse true other fits size rest why bad is =
     let same : refusal.GateClosed ≡ why = cc in ap Err same
@@ -117,7 +131,8 @@ judged_whole given = rw (front_closed given, front_other given, front_said given
 
 pub size_refused : (given : List ℕ) (why : Refusal) → size_judged (length given) (take 32 given) ≡ Err why → state_in given ≡ Err why
 size_refused given why is =
-    tests_refuse (is_closed 32 given) (is_other state.magic given) (said_length given + 32 == length given) (length given)
+    tests_refuse (is_closed 32 given) (is_other state.magic given)
+    ((said_length given + 32 == length given) && nat_le (length given) most_bytes) (length given)
     (state_read (length (drop 12 given)) (state.contents.reads (drop 12 given))) why (bad_size given) (sym (judged_whole given) ∙ is)
 
 -- ---- as it is answered
@@ -130,7 +145,7 @@ size_err o Fault is = tt
 size_err o OutOfMemory is = tt
 
 judged_size : (closed other fits : Bool) (is_size size : ℕ)
-    → ◌≡◌ {A = Result ℕ Refusal} (if closed then Err refusal.GateClosed else (if other then Err refusal.WrongMagic else (if fits then Ok is_size else Err refusal.BadField))) (Ok size)
+    → by_tests closed other fits is_size ≡ Ok size
     → is_size ≡ size
 judged_size true other fits is_size size is = absurd cc
 judged_size false true fits is_size size is = absurd cc

@@ -1,5 +1,5 @@
 -- What an answer is of what the flat machine finds.
-use Rattle.std.specs.Prelude.{◌≡◌, ℕ, ◌+◌, ◌==◌, if◌then◌else◌, List, length, take, drop}
+use Rattle.std.specs.Prelude.{◌≡◌, ℕ, ◌+◌, ◌==◌, nat_le, ◌&&◌, if◌then◌else◌, List, length, take, drop}
 use Rattle.std.specs.Prelude.{Option, Some, None, Result, Ok, Err}
 use Rattle.std.specs.Int.{w32, from_le_bytes}
 use Rattle.vm_types.specs.Causes.{Rose}
@@ -37,13 +37,17 @@ nothing_of u = tt
 abbrev pub said_length : List ℕ → ℕ
 said_length front = from_le_bytes w32 (take 4 (drop 12 front))
 
+-- no state file is longer, by the rules of a copy: most of it are reservations, one for a page and a hart at most
+abbrev pub most_bytes : ℕ
+most_bytes = 0x800_0000
+
 -- A state file of this size, by its first 32 bytes or all of a shorter one: the refusal that they tell, or its size, which
 -- is what the header says.
 abbrev pub size_judged : ℕ → List ℕ → Result ℕ Refusal
 size_judged size front =
     if is_closed 32 front then Err refusal.GateClosed
     else (if is_other state.magic front then Err refusal.WrongMagic
-    else (if said_length front + 32 == size then Ok size else Err refusal.BadField))
+    else (if (said_length front + 32 == size) && nat_le size most_bytes then Ok size else Err refusal.BadField))
 
 abbrev pub size_found : Option (List ℕ) → Result ℕ Refusal
 size_found None = Err refusal.NoSuchFile

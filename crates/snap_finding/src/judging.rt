@@ -19,6 +19,9 @@ const PAGE: u64 = 4096;
 
 const STATE_HEADER: usize = 32;
 
+/// No state file is longer.
+const MOST_BYTES: u64 = 0x800_0000;
+
 /// "RVFCSTA", and version 1.
 const STATE_MAGIC: [u8; 11] = [82, 86, 70, 67, 83, 84, 65, 1, 0, 0, 0];
 
@@ -52,7 +55,7 @@ pub fn judge_start(size: u64, front: &[u8]) -> Result<u64, FindError>
     if is_other(front, &STATE_MAGIC) {
         return Err(FindError::Refused(Refusal::WrongMagic));
     }
-    if size != said_length(front) as u64 + STATE_HEADER as u64 {
+    if size != said_length(front) as u64 + STATE_HEADER as u64 || MOST_BYTES < size {
         return Err(FindError::Refused(Refusal::BadField));
     }
     Ok(size)

@@ -1,0 +1,260 @@
+-- A state file has at most 2^27 bytes, by the rules of a copy.
+use Rattle.std.proofs.Common.{◌≡◌, ℕ, ◌+◌, ◌*◌, ◌≤◌, ◌<◌, Bool, true, false, ◌&&◌, ◌||◌, eqb, ltb, leb, if◌then◌else◌, List, [], ◌∷◌, length, Option, Some, None, refl, ap, arith, codes}
+use Rattle.std.proofs.lemmas.Bool.{and_parts, eqb-true, leb-true, ltb-true}
+use Rattle.std.proofs.lemmas.Option.{option_and_then_some}
+use Rattle.std.proofs.lemmas.Slice.Eq.{bytes_eq-Decides}
+use Rattle.std.specs.List.{list_all}
+use Rattle.std.specs.Str.{bytes_eq}
+use Rattle.vm_types.specs.declared.identity.Identity.{Identity}
+use Rattle.api_calls.specs.declared.call.CacheType.{CacheType}
+use Rattle.api_calls.specs.declared.call.CacheType.TheVariants.{Unsafe, Writeback}
+use Rattle.api_calls.specs.declared.call.Drive.{Drive}
+use Rattle.api_calls.specs.Form.{is_id, is_path}
+use Rattle.file_format.specs.Kinds.{fixed, flag, number16, number64, text}
+use Rattle.file_format.specs.Identities.{identity}
+use Rattle.file_format.specs.Whole.{counted}
+use Rattle.snap_devices.specs.Ports.{port}
+use Rattle.snap_devices.specs.Devices.{device}
+use Rattle.snap_state.specs.declared.board.SavedBoard.{SavedBoard}
+use Rattle.snap_state.specs.declared.configuration.BootSource.{BootSource}
+use Rattle.snap_state.specs.declared.configuration.Configuration.{Configuration}
+use Rattle.snap_state.specs.declared.copy.Reservation.{Reservation}
+use Rattle.snap_state.specs.declared.copy.StateCopy.{StateCopy}
+use Rattle.snap_state.specs.Boards.{board}
+use Rattle.snap_state.specs.Configured as configured
+use Rattle.snap_state.specs.Copies as copies
+use Rattle.snap_state.specs.Drives as drives
+use Rattle.snap_state.specs.Files as state
+use Rattle.snap_state.specs.Harts.{hart}
+use Rattle.snap_state.specs.HartStates.{hart_state}
+use Rattle.snap_state.specs.Valid.{are_drives, are_paths, has_devices, has_machine, is_before, is_board, is_drive, is_machine, is_reserved, is_rising, is_source, is_valid, rises_from}
+use Rattle.snap_finding.proofs.Sizes.{device_within, hart_state_within, hart_within, port_within}
+use Rattle.snap_finding.proofs.Within.{Within, within16, within32, within64, flag_within, zeros_within, constant_within, just_within, pair_within, made_within, passing_within, optional_most, optional_within, total, total-pass, list_within, each_within, counted_within, bytes_within, text_within}
+
+-- ---- the configuration
+
+abbrev source_most : BootSource → ℕ
+source_most b = (4 + length b.kernel_image_path) + (optional_most (λ path. 4 + length path) b.initrd_path + (4 + length b.boot_args))
+
+source_within : Within configured.boot_source.reads source_most
+unfolding configured.boot_source
+source_within = made_within _ source_most (λ a. omega arith) (pair_within text_within (pair_within (optional_within text text_within) text_within))
+
+cache_takes : (name : List ℕ) (first second : Bool) (left : List ℕ) (v : CacheType) (rest : List ℕ)
+    → bytes_eq name (codes "Unsafe") ≡ first → bytes_eq name (codes "Writeback") ≡ second
+    → (drives.only (if first then Some Unsafe else (if second then Some Writeback else None))).reads left ≡ Some (v, rest)
+    → length name + length left ≤ 9 + length rest
+cache_takes name true second left v rest is other reads =
+    omega (arith, ap length ((bytes_eq-Decides name (codes "Unsafe")).0 is), (just_within Unsafe 0).at left v rest reads)
+cache_takes name false true left v rest other is reads =
+    omega (arith, ap length ((bytes_eq-Decides name (codes "Writeback")).0 is), (just_within Writeback 0).at left v rest reads)
+cache_takes name false false left v rest other another reads = absurd cc
+
+cache_within : Within drives.cache.reads (λ _. 13)
+unfolding drives.cache
+cache_within = record {
+  at = λ given v rest is.
+      option_and_then_some (λ (x : List ℕ × List ℕ). (drives.only (drives.cache_named x.0)).reads x.1) (text.reads given) (v, rest) is
+      (λ x ex ey. omega (arith, text_within.at given x.0 x.1 ex, cache_takes x.0 _ _ x.1 v rest refl refl ey));
+}
+
+abbrev drive_most : Drive → ℕ
+drive_most d = (4 + length d.drive_id) + ((4 + length d.path_on_host) + 16)
+
+drive_within : Within drives.drive.reads drive_most
+unfolding drives.drive
+drive_within =
+    made_within _ drive_most (λ a. omega arith)
+    (pair_within text_within (pair_within text_within (pair_within flag_within (pair_within flag_within (pair_within cache_within (zeros_within 1))))))
+
+abbrev configuration_most : Configuration → ℕ
+configuration_most c = (1 + (source_most c.boot_source + ((4 + total drive_most c.drives) + 5))) + 20
+
+fixed_within : (expected : List ℕ) → Within (fixed expected).reads (λ _. length expected)
+unfolding fixed
+fixed_within expected = constant_within expected _ (length expected) (omega arith)
+
+configuration_within : Within configured.configuration.reads configuration_most
+unfolding configured.configuration
+configuration_within =
+    made_within _ configuration_most (λ a. omega arith)
+    (pair_within
+    (pair_within (fixed_within (1 ∷ [])) (pair_within source_within (pair_within (list_within drives.drive drive_within) (zeros_within 5))))
+    (pair_within within64 (pair_within within64 (pair_within (zeros_within 1) (pair_within flag_within (zeros_within 2))))))
+
+-- ---- the copy
+
+abbrev board_most : SavedBoard → ℕ
+board_most b =
+    2 + ((4 + 2 * length b.enables) + ((4 + 1 * length b.software) + ((4 + 8 * length b.deadlines) + ((4 + 17 * length b.states) + (4 + length b.console)))))
+
+board_within : Within board.reads board_most
+unfolding board
+board_within =
+    made_within _ board_most (λ a. omega arith)
+    (pair_within within16
+    (pair_within (each_within 2 number16 within16)
+    (pair_within (each_within 1 flag flag_within)
+    (pair_within (each_within 8 number64 within64)
+    (pair_within (each_within 17 hart_state hart_state_within) bytes_within)))))
+
+reservation_within : Within copies.reservation.reads (λ _. 12)
+unfolding copies.reservation
+reservation_within = made_within _ _ (λ a. omega arith) (pair_within within32 (pair_within within32 within32))
+
+few_devices : Within copies.devices.reads (λ ds. 4 + 10274 * length ds)
+unfolding copies.devices
+few_devices =
+    passing_within _ (λ ds. 4 + 10274 * length ds) (λ v is. omega arith)
+    (each_within 10274 (counted device) (counted_within 10270 device device_within))
+
+abbrev copy_most : StateCopy → ℕ
+copy_most c =
+    (configuration_most c.configuration + 13)
+    + (board_most c.board
+    + ((4 + 328 * length c.harts)
+    + ((4 + 153 * length c.ports) + ((4 + 10274 * length c.devices) + (4 + 12 * length c.reservations)))))
+
+copy_within : Within copies.state_copy.reads copy_most
+unfolding copies.state_copy
+copy_within =
+    made_within _ copy_most (λ a. omega arith)
+    (pair_within
+    (pair_within configuration_within (pair_within within32 (pair_within flag_within within64)))
+    (pair_within board_within
+    (pair_within (each_within 328 hart hart_within)
+    (pair_within (each_within 153 (counted port) (counted_within 149 port port_within))
+    (pair_within few_devices (each_within 12 copies.reservation reservation_within))))))
+
+identity_within : Within identity.reads (λ _. 16)
+unfolding identity
+identity_within = made_within _ _ (λ a. omega arith) (pair_within within64 within64)
+
+pub contents_within : Within state.contents.reads (λ r. 4 + (16 + copy_most r.1.1))
+contents_within = pair_within within32 (pair_within identity_within copy_within)
+
+-- ---- reservations: one for a page and a hart, in their order
+
+-- where a reservation stands in that order, among those of 32 harts
+abbrev key : Reservation → ℕ
+key r = 32 * r.page + r.hart
+
+is_in : (pages harts : ℕ) (r : Reservation) → is_reserved pages harts r ≡ true → (r.page < pages) × (r.hart < harts)
+is_in pages harts r is =
+    let first = and_parts (ltb r.page pages) (ltb r.hart harts) (and_parts _ _ (and_parts _ _ is).0).0 in
+    (ltb-true _ _ first.0, ltb-true _ _ first.1)
+
+before_by : (a b : Reservation) (lower same : Bool) → ltb a.page b.page ≡ lower → eqb a.page b.page ≡ same
+    → (lower || (same && ltb a.hart b.hart)) ≡ true → a.hart < 32 → key a < key b
+before_by a b true same is also before low = omega (arith, low, ltb-true a.page b.page is)
+before_by a b false true is also before low = omega (arith, eqb-true a.page b.page also, ltb-true a.hart b.hart before)
+before_by a b false false is also before low = absurd cc
+
+rising_few : (pages harts : ℕ) → harts ≤ 32 → (a : Reservation) (others : List Reservation) → is_reserved pages harts a ≡ true
+    → list_all (is_reserved pages harts) others ≡ true → rises_from a others ≡ true → key a + length others < 32 * pages
+rising_few pages harts few a [] is all rises =
+    let at = is_in pages harts a is in
+    omega (arith, few, at.0, at.1)
+rising_few pages harts few a (b ∷ others) is all rises =
+    let here = is_in pages harts a is in
+    let next = and_parts (is_reserved pages harts b) (list_all (is_reserved pages harts) others) all in
+    let rest = and_parts (is_before a b) (rises_from b others) rises in
+    omega (arith, before_by a b _ _ refl refl rest.0 (omega (arith, few, here.1)), rising_few pages harts few b others next.0 next.1 rest.1)
+
+few_reservations : (pages harts : ℕ) → harts ≤ 32 → (rs : List Reservation) → list_all (is_reserved pages harts) rs ≡ true
+    → is_rising rs ≡ true → length rs ≤ 32 * pages
+few_reservations pages harts few [] all rises = omega arith
+few_reservations pages harts few (a ∷ others) all rises =
+    let first = and_parts (is_reserved pages harts a) (list_all (is_reserved pages harts) others) all in
+    omega (arith, rising_few pages harts few a others first.0 first.1 rises)
+
+-- ---- the other rules, part by part
+
+path_short : (path : List ℕ) → is_path path ≡ true → length path ≤ 4095
+path_short path is = leb-true _ _ (and_parts _ _ (and_parts _ _ is).0).1
+
+id_short : (id : List ℕ) → is_id id ≡ true → length id ≤ 64
+id_short id is = leb-true _ _ (and_parts _ _ (and_parts _ _ is).0).1
+
+paths_short : (path : Option (List ℕ)) → are_paths path ≡ true → optional_most (λ p. 4 + length p) path ≤ 4100
+paths_short None is = omega arith
+paths_short (Some path) is = omega (arith, path_short path is)
+
+source_short : (b : BootSource) → is_source b ≡ true → source_most b ≤ 10251
+source_short b is =
+    let args = and_parts _ (leb (length b.boot_args) 2048) is in
+    let paths = and_parts (is_path b.kernel_image_path) (are_paths b.initrd_path) args.0 in
+    omega (arith, leb-true _ _ args.1, path_short b.kernel_image_path paths.0, paths_short b.initrd_path paths.1)
+
+drive_short : (d : Drive) → is_drive d ≡ true → drive_most d ≤ 4183
+drive_short d is =
+    let parts = and_parts (is_id d.drive_id) (is_path d.path_on_host) is in
+    omega (arith, id_short d.drive_id parts.0, path_short d.path_on_host parts.1)
+
+drives_short : (ds : List Drive) → are_drives ds ≡ true → (length ds ≤ 16) × (total drive_most ds ≤ 4183 * length ds)
+drives_short ds is =
+    let parts = and_parts (leb (length ds) 16) (list_all is_drive ds) (and_parts _ _ (and_parts _ _ is).0).0 in
+    (leb-true _ _ parts.0, total-pass drive_most is_drive 4183 drive_short ds parts.1)
+
+board_short : (harts : ℕ) (b : SavedBoard) → harts ≤ 32 → is_board harts b ≡ true → board_most b ≤ 5014
+board_short harts b few is =
+    let console = and_parts _ (leb (length b.console) 4096) is in
+    let states = and_parts _ (eqb (length b.states) harts) console.0 in
+    let deadlines = and_parts _ (eqb (length b.deadlines) harts) states.0 in
+    let both = and_parts (eqb (length b.enables) harts) (eqb (length b.software) harts) deadlines.0 in
+    omega (arith, few, leb-true _ _ console.1, eqb-true _ _ states.1, eqb-true _ _ deadlines.1, eqb-true _ _ both.0, eqb-true _ _ both.1)
+
+machine_small : (c : StateCopy) → has_machine c c.configuration.machine ≡ true → (c.configuration.machine.vcpu_count ≤ 32) × (c.pages ≤ 262144)
+machine_small c is =
+    let m = c.configuration.machine in
+    let both = and_parts (is_machine m) (eqb c.pages (256 * m.mem_size_mib)) (and_parts _ _ is).0 in
+    let most = and_parts _ (leb m.mem_size_mib 1024) both.0 in
+    let least = and_parts _ (leb 4 m.mem_size_mib) most.0 in
+    let harts = and_parts _ (leb m.vcpu_count 32) least.0 in
+    (leb-true _ _ harts.1, omega (arith, eqb-true _ _ both.1, leb-true _ _ most.1))
+
+devices_few : (c : StateCopy) → has_devices c ≡ true
+    → (length c.ports ≡ length c.configuration.drives) × (length c.devices ≡ length c.configuration.drives)
+devices_few c is =
+    let both = and_parts (eqb (length c.ports) (length c.configuration.drives)) (eqb (length c.devices) (length c.configuration.drives))
+    (and_parts _ _ (and_parts _ _ is).0).0 in
+    (eqb-true _ _ both.0, eqb-true _ _ both.1)
+
+-- ---- all of it
+
+copy_short : (c : StateCopy) → is_valid c ≡ true → copy_most c ≤ 134217600
+unfolding is_valid
+copy_short c is =
+    let harts_there = c.configuration.machine.vcpu_count in
+    let rising = and_parts _ (is_rising c.reservations) is in
+    let reserved = and_parts _ (list_all (is_reserved c.pages harts_there) c.reservations) rising.0 in
+    let devices = and_parts _ (has_devices c) reserved.0 in
+    let harts = and_parts _ _ devices.0 in
+    let count = and_parts _ (eqb (length c.harts) harts_there) harts.0 in
+    let boards = and_parts _ (is_board harts_there c.board) count.0 in
+    let machine = and_parts _ (has_machine c c.configuration.machine) boards.0 in
+    let configured = and_parts (is_source c.configuration.boot_source) (are_drives c.configuration.drives) machine.0 in
+    let small = machine_small c machine.1 in
+    let few = devices_few c devices.1 in
+    let drives = drives_short c.configuration.drives configured.1 in
+    omega (
+      arith,
+      source_short c.configuration.boot_source configured.0,
+      drives.0,
+      drives.1,
+      small.0,
+      small.1,
+      few.0,
+      few.1,
+      board_short harts_there c.board small.0 boards.1,
+      eqb-true _ _ count.1,
+      few_reservations c.pages harts_there small.0 c.reservations reserved.1 rising.1,
+    )
+
+-- what is behind gate and magic of a file that is accepted
+pub accepted_short : (rest : List ℕ) (read : (ℕ × (Identity × StateCopy)) × List ℕ) → state.contents.reads rest ≡ Some read
+    → state.is_accepted (length rest) (length read.1) read.0.0 read.0.1.0 read.0.1.1 ≡ true → length rest ≤ 134217620
+accepted_short rest read reads is =
+    let valid = and_parts _ (is_valid read.0.1.1) is in
+    let counted = and_parts (eqb (length read.1) 0) (eqb (read.0.0 + 20) (length rest)) (and_parts _ _ valid.0).0 in
+    omega (arith, contents_within.at rest read.0 read.1 reads, copy_short read.0.1.1 valid.1, eqb-true _ _ counted.0)
