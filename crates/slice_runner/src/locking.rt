@@ -1,5 +1,6 @@
 // Lists of places under locks of their own, and back.
 ghost use Rattle.std.specs.Prelude.{◌≡◌, ◌+◌, ◌≤◌, [], length, vec_len, vec_capacity};
+ghost use Rattle.slice_runner.specs.declared.listed.Listed.{Listed as ListedValue};
 ghost use Rattle.slice_runner.specs.Locks.{AreLocksOf, AreOpen, CameHome, most_of};
 
 use crate::listed::Listed;
@@ -33,21 +34,18 @@ pub fn lock_all<P: Place, K: Openings<P>>(
 /// Every place of a list back from under its lock, and its history behind those that came before, into room that
 /// was made before. It takes no memory.
 pub fn unlock_all<P: Place, K: Openings<P>>(
-    listed: Listed,
     locks: Vec<Locked<P, K>>,
     places: &mut Vec<P>,
     histories: &mut Vec<History>,
 )
-    requires locks { AreLocksOf listed locks.items }
     requires empty { places.old.items ≡ [] }
     requires room { (length locks.items ≤ vec_capacity places.old)
         × (vec_len histories.old + length locks.items ≤ vec_capacity histories.old) }
-    ensures home { CameHome P.touch P.value K.opening listed (length locks.items) places.new.items
-        histories.old.items histories.new.items }
+    ensures home { (listed : ListedValue) → AreLocksOf listed locks.items → CameHome P.touch P.value K.opening listed
+        (length locks.items) places.new.items histories.old.items histories.new.items }
     ensures room { vec_capacity histories.new ≡ vec_capacity histories.old }
     ensures len { vec_len histories.new ≡ vec_len histories.old + length locks.items }
 {
-    let _listed = listed;
     let mut rest = locks.into_iter();
     while let Some(lock) = rest.next() {
         let id = lock.id();

@@ -142,8 +142,8 @@ impl<K: Openings<Page>, M: Openings<Port>, L: Openings<Board>> Locks<K, M, L> {
             ports: port_locks,
             board,
         } = self;
-        unlock_all(Listed::Pages, page_locks, pages, histories);
-        unlock_all(Listed::Ports, port_locks, ports, histories);
+        unlock_all(page_locks, pages, histories);
+        unlock_all(port_locks, ports, histories);
         unlock_board(board, histories)
     }
 }
