@@ -1,6 +1,7 @@
 -- One after another, from one list to another.
-use Rattle.std.proofs.Common.{◌≡◌, ℕ, suc, ◌+◌, refl, sym, ap, ◌∙◌, subst, arith, List, [], ◌∷◌, ◌++◌, length, map, All}
-use Rattle.std.proofs.lemmas.List.Elements.{All-append, All-from_recursion}
+use Rattle.std.proofs.Common.{◌≡◌, ℕ, suc, ◌+◌, refl, sym, ap, ◌∙◌, subst, arith, List, [], ◌∷◌, ◌++◌, length, length-append, map, All}
+use Rattle.std.specs.List.{AllByRecursion}
+use Rattle.std.proofs.lemmas.List.Elements.{All-append, All-from_recursion, recursion_from_All}
 use Rattle.vm_types.specs.declared.ids.ActorId.{ActorId}
 use Rattle.slice_runner.specs.declared.worker.HartWorker.{HartWorker}
 use Rattle.slice_runner.specs.Runs.{Begins}
@@ -56,3 +57,20 @@ begin_more {Q} n ws now w so_far one items =
 pub none_left : {A : Type 0} (xs : List A) → length xs ≡ 0 → xs ≡ []
 none_left [] is = refl
 none_left (x ∷ xs) is = absurd (omega (arith, is))
+
+-- the last of a list is taken
+last_and_rest : {A : Type 0} (P : A → Type 0) (xs : List A) (x : A) → AllByRecursion P (xs ++ x ∷ []) → P x × AllByRecursion P xs
+last_and_rest P [] x h = (h.0, tt)
+last_and_rest P (y ∷ xs) x h = let rest = last_and_rest P xs x h.1 in (rest.0, (h.0, rest.1))
+
+taken : {A : Type 0} (P : A → Type 0) (all xs : List A) (x : A) → all ≡ xs ++ x ∷ [] → All P all → P x × AllByRecursion P xs
+taken P all xs x is h = last_and_rest P xs x (recursion_from_All P (xs ++ x ∷ []) (subst (All P) is h))
+
+pub last_one : {A : Type 0} (P : A → Type 0) (all xs : List A) (x : A) → all ≡ xs ++ x ∷ [] → All P all → P x
+last_one P all xs x is h = (taken P all xs x is h).0
+
+pub all_but_last : {A : Type 0} (P : A → Type 0) (all xs : List A) (x : A) → all ≡ xs ++ x ∷ [] → All P all → All P xs
+all_but_last P all xs x is h = All-from_recursion P xs (taken P all xs x is h).1
+
+pub fewer_by_one : {A : Type 0} (all xs : List A) (x : A) → all ≡ xs ++ x ∷ [] → length all ≡ length xs + 1
+fewer_by_one all xs x is = omega (arith, ap length is, length-append xs (x ∷ []))

@@ -27,24 +27,19 @@ fn track_of<Q>(id: ActorId, pass: Q, journal: Vec<Entry>) -> Track<Q>
     }
 }
 
-// One of these, all of which are empty and have room for so many entries.
-fn take_blank(journals: &mut Vec<Vec<Entry>>, n: u32) -> Vec<Entry>
-    requires some { 0 < length journals.old.items }
-    requires blank { All (λ journal. (journal.items ≡ []) × (n ≤ vec_capacity journal)) journals.old.items }
-    ensures empty { result.items ≡ [] }
-    ensures room { n ≤ vec_capacity result }
-    ensures left { length journals.new.items + 1 ≡ length journals.old.items }
-    ensures blank { All (λ journal. (journal.items ≡ []) × (n ≤ vec_capacity journal)) journals.new.items }
+// The last of these journals.
+fn take_journal(journals: &mut Vec<Vec<Entry>>) -> Vec<Entry>
+    requires { 0 < length journals.old.items }
+    ensures { journals.old.items ≡ journals.new.items ++ result ∷ [] }
 {
     let Some(journal) = journals.pop() else {
         unreachable!()
     };
-    let _n = n;
     journal
 }
 
-/// The timer and the harts go to work, each with the pass at its place and with room for `n` entries; passes that are
-/// left go to `left`. It takes no memory.
+/// The timer and the harts go to work, each with the pass at its place and with a journal; passes that are left go to
+/// `left`. It takes no memory.
 pub fn staff<Q: Drop>(
     timer: Timer,
     harts: Vec<Hart>,
@@ -52,21 +47,21 @@ pub fn staff<Q: Drop>(
     mut journals: Vec<Vec<Entry>>,
     workers: &mut Vec<HartWorker<Q>>,
     left: &mut Vec<Q>,
-    n: u32,
 ) -> TimerWorker<Q>
     requires harts { length harts.items ≤ 32 }
     requires passes { length harts.items + 1 ≤ length passes.items }
     requires journals { length journals.items ≡ length harts.items + 1 }
-    requires blank { All (λ journal. (journal.items ≡ []) × (n ≤ vec_capacity journal)) journals.items }
+    requires blank { All (λ journal. journal.items ≡ []) journals.items }
     requires empty { (workers.old.items ≡ []) × (left.old.items ≡ []) }
     requires room { (length harts.items ≤ vec_capacity workers.old) × (length passes.items ≤ vec_capacity left.old) }
-    ensures { AreStaffed n timer harts.items passes.items result workers.new.items left.new.items }
+    ensures { (n : ℕ) → All (λ journal. n ≤ vec_capacity journal) journals.items →
+        AreStaffed n timer harts.items passes.items result workers.new.items left.new.items }
 {
     let mut passes = passes.into_iter();
     let Some(pass) = passes.next() else {
         unreachable!()
     };
-    let track = track_of(ActorId::Timer, pass, take_blank(&mut journals, n));
+    let track = track_of(ActorId::Timer, pass, take_journal(&mut journals));
     let first = TimerWorker { timer, track };
     let mut number = 0;
     let mut rest = harts.into_iter();
@@ -74,7 +69,7 @@ pub fn staff<Q: Drop>(
         let Some(pass) = passes.next() else {
             unreachable!()
         };
-        let track = track_of(ActorId::Hart(number), pass, take_blank(&mut journals, n));
+        let track = track_of(ActorId::Hart(number), pass, take_journal(&mut journals));
         workers.push_reserved(HartWorker { hart, track });
         number += 1;
     }

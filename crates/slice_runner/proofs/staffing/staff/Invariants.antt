@@ -1,4 +1,4 @@
-use Rattle.std.proofs.Common.{◌≡◌, ◌+◌, ◌≤◌, ◌++◌, ◌∷◌, [], length, vec_len, vec_capacity, All}
+use Rattle.std.proofs.Common.{ℕ, ◌≡◌, ◌+◌, ◌≤◌, ◌++◌, ◌∷◌, [], length, vec_len, vec_capacity, All}
 use Rattle.std.specs.Vec.Iter.{into_iter_items, into_iter_len}
 use Rattle.vm_types.specs.declared.ids.ActorId.{ActorId}
 use Rattle.slice_runner.specs.Runs.{Begins}
@@ -9,17 +9,18 @@ abbrev pub invariant-loop-hart : goal.invariant-loop-hart
 invariant-loop-hart g l = record {
   timer : l.first.timer ≡ l.fn.timer;
   first : l.first.track.id ≡ ActorId.Timer;
-  begins : Begins l.n l.first.track;
+  begins : (n : ℕ) → All (λ journal. n ≤ vec_capacity journal) l.fn.journals.items → Begins n l.first.track;
   harts : harts_of l.workers.items ++ into_iter_items l.rest ≡ l.fn.harts.items;
   passes : l.first.track.pass ∷ (passes_of l.workers.items ++ into_iter_items l.passes) ≡ l.fn.passes.items;
   numbered : AreNumbered 0 l.workers.items;
-  begin : All (λ w. Begins l.n w.track) l.workers.items;
+  begin : (n : ℕ) → All (λ journal. n ≤ vec_capacity journal) l.fn.journals.items → All (λ w. Begins n w.track) l.workers.items;
   number : l.number ≡ vec_len l.workers;
   harts_left : l.number + length (into_iter_items l.rest) ≡ length l.fn.harts.items;
   passes_left : length (into_iter_items l.rest) ≤ length (into_iter_items l.passes);
   fewer : length (into_iter_items l.passes) ≤ length l.fn.passes.items;
   journals : length l.journals.items ≡ length (into_iter_items l.rest);
-  blank : All (λ journal. (journal.items ≡ []) × (l.n ≤ vec_capacity journal)) l.journals.items;
+  blank : All (λ journal. journal.items ≡ []) l.journals.items;
+  hold : (n : ℕ) → All (λ journal. n ≤ vec_capacity journal) l.fn.journals.items → All (λ journal. n ≤ vec_capacity journal) l.journals.items;
   room : length l.fn.harts.items ≤ vec_capacity l.workers;
 }
 
