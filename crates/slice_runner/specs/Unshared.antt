@@ -1,5 +1,5 @@
 -- A slice over the parts of a world that hands out no events.
-use Rattle.std.specs.Prelude.{◌≡◌, List}
+use Rattle.std.specs.Prelude.{◌≡◌, ◌≤◌, ◌^◌, List, length}
 use Rattle.vm_types.specs.declared.entry.Entry.{Entry}
 use Rattle.guest_pages.specs.Flat.{ArePages}
 use Rattle.stamp_merge.specs.declared.history.History.{History}
@@ -33,3 +33,9 @@ abbrev pub IsUnshared : {Q : Type 0} → WorldValue → ClockKnown → ClockKnow
 IsUnshared old asked now before after (unshared.Parted p) = IsTornSlice old p.torn p.journals.items p.histories.items
 IsUnshared old asked now before after (unshared.OutOfMemory parts) =
     (world_of parts ≡ old) × ArePages 0 parts.pages.items × (now ≡ asked) × (after ≡ before)
+
+-- where the parts are handed out, a world can be made of them
+abbrev pub AreParts : Unshared → Type 0
+AreParts (unshared.Parted p) = Unit {0}
+AreParts (unshared.OutOfMemory parts) =
+    ArePages 0 parts.pages.items × (length parts.pages.items ≤ 2 ^ 28) × (length parts.ports.items ≤ 16)

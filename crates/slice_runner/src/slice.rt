@@ -2,8 +2,9 @@
 ghost use Rattle.std.specs.Prelude.{◌≡◌, ◌+◌, ◌≤◌, [], length, All, IfErr, IfOk, OnOk};
 ghost use Rattle.vm_world.specs.Worlds.{world_with};
 ghost use Rattle.slice_runner.specs.Slices.{AreStamps, ClockWasAsked, IsSerial, IsThere, MarksFollow};
-ghost use Rattle.slice_runner.specs.Ended.{HasFailed};
+ghost use Rattle.slice_runner.specs.Ended.{GaveUp, HasFailed};
 ghost use Rattle.slice_runner.specs.Stops.{AreStopped};
+ghost use Rattle.slice_runner.specs.Unshared.{AreParts};
 
 use crate::room::Room;
 use crate::sharing::{Parted, Shared, Unshared, share};
@@ -40,6 +41,30 @@ pub enum SliceError {
     OutOfMemory,
 }
 
+// Why a slice hands out no events. Without memory the world has its parts again.
+fn give_up(world: &mut World, unshared: Unshared) -> SliceError
+    requires { AreParts unshared }
+    ensures { GaveUp unshared world.old world.new result }
+{
+    match unshared {
+        Unshared::Parted(
+            Parted {
+                torn,
+                journals,
+                histories,
+            },
+        ) => SliceError::Torn {
+            torn,
+            journals,
+            histories,
+        },
+        Unshared::OutOfMemory(parts) => {
+            *world = World::with_parts(parts);
+            SliceError::OutOfMemory
+        }
+    }
+}
+
 /// So many steps at most of each hart, all of them side by side, each in a thread of its own; and of the timer in this
 /// one, but no more than a round of it, so that guest time goes on from slice to slice. Before each step the actor asks the
 /// gate with its pass, the one at its place, where the timer comes first and then the harts by their numbers; an actor
@@ -67,7 +92,7 @@ pub fn run_slice<
     host: &mut Host<D, L, V, C>,
     gate: &G,
     passes: &mut Vec<Q>,
-    n: u32,
+    steps: u32,
 ) -> Result<Slice, SliceError>
     requires harts { length world.old.harts ≤ 32 }
     requires passes { length world.old.harts + 1 ≤ length passes.old.items }
@@ -77,7 +102,7 @@ pub fn run_slice<
     ensures stamps { IfOk result (λ slice. AreStamps slice.events.items) }
     ensures marks { IfOk result (λ slice. MarksFollow world.old.pages slice.events.items world.new.pages) }
     ensures stops { IfOk result (λ slice.
-        AreStopped G.tally n slice.events.items world.new slice.stops.items passes.old.items passes.new.items) }
+        AreStopped G.tally steps slice.events.items world.new slice.stops.items passes.old.items passes.new.items) }
     ensures clock { IfOk result (λ slice.
         ClockWasAsked (C.known host.old.clock) slice.events.items (C.known host.new.clock)) }
     ensures devices { OnOk result (world.new.devices ≡ world.old.devices) }
@@ -90,7 +115,7 @@ pub fn run_slice<
     let pages = world.pages().len();
     let ports = world.ports().len();
     let harts = world.hart_count();
-    let Ok(room) = Room::<Q>::new(alloc, pages, ports, harts, passes.len(), n) else {
+    let Ok(room) = Room::<Q>::new(alloc, pages, ports, harts, passes.len(), steps) else {
         return Err(SliceError::OutOfMemory);
     };
     let Ok(board) = Board::new(alloc, 0) else {
@@ -105,7 +130,7 @@ pub fn run_slice<
         passes,
         parts,
         room,
-        n,
+        steps,
     ) {
         Ok(shared) => {
             let Shared {
@@ -116,21 +141,6 @@ pub fn run_slice<
             *world = World::with_parts(parts);
             Ok(Slice { events, stops })
         }
-        Err(Unshared::Parted(parted)) => {
-            let Parted {
-                torn,
-                journals,
-                histories,
-            } = parted;
-            Err(SliceError::Torn {
-                torn,
-                journals,
-                histories,
-            })
-        }
-        Err(Unshared::OutOfMemory(parts)) => {
-            *world = World::with_parts(parts);
-            Err(SliceError::OutOfMemory)
-        }
+        Err(unshared) => Err(give_up(world, unshared)),
     }
 }
