@@ -19,6 +19,6 @@ pub use disk_files::DiskFiles;
 pub use kept_memory::keep_freed_memory;
 pub use random_words::RandomWords;
 pub use socket_conn::SocketConn;
-pub use socket_listener::SocketListener;
+pub use socket_listener::{SocketListener, as_accepted};
 pub use system_clock::SystemClock;
 pub use trace_file::TraceFile;

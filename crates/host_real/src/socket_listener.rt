@@ -1,5 +1,5 @@
 // A listener on a Unix socket.
-ghost use Rattle.std.specs.Prelude.{◌≡◌};
+ghost use Rattle.std.specs.Prelude.{◌≡◌, Err, IfErr};
 
 use crate::socket_conn::SocketConn;
 use crate::socket_file::SocketFile;
@@ -7,8 +7,17 @@ use outside_real::counted::counted;
 use serve_host::{Accepted, Listener};
 use std::io::ErrorKind;
 use std::net::Net;
+use std::os::unix::net::UnixStream;
 use std::{io, rt};
 use vm_outside::Failed;
+
+// Linux's numbers of failures that have no kind: too many files are open in the system or in the process, and no room for
+// what a socket holds.
+const ENFILE: i32 = 23;
+
+const EMFILE: i32 = 24;
+
+const ENOBUFS: i32 = 105;
 
 /// Listens on a socket under a name in the file system. A socket on which nobody listens is replaced, one in use is a
 /// failure. The file is removed when the listener is let go. Connections never end to come.
@@ -64,9 +73,28 @@ fn accept_now<R: rt::Files>(open: &Option<SocketFile<'_, R>>) -> io::Result<Acce
     let Some(file) = open else {
         return Err(io::Error::from(ErrorKind::NotConnected));
     };
-    match file.listener.accept() {
-        Ok((stream, _)) => Ok(Accepted::Conn(SocketConn::new(stream)?)),
-        Err(e) if e.kind() == ErrorKind::WouldBlock => Ok(Accepted::NotYet),
+    as_accepted(file.listener.accept().map(|(stream, _)| stream))
+}
+
+/// What came of the system's accept. A connection that can't be prepared ends alone, as one does that its client has
+/// given up; and where there is no room for one more, it is asked for again later.
+pub fn as_accepted(came: io::Result<UnixStream>) -> io::Result<Accepted<SocketConn>>
+    ensures { IfErr result (λ e. came ≡ Err e) }
+{
+    match came {
+        Ok(stream) => Ok(match SocketConn::new(stream) {
+            Ok(conn) => Accepted::Conn(conn),
+            Err(_) => Accepted::NotYet,
+        }),
+        Err(e) if passes(&e) => Ok(Accepted::NotYet),
         Err(e) => Err(e),
+    }
+}
+
+// Whether the failure says nothing against the listener.
+fn passes(e: &io::Error) -> bool {
+    match e.kind() {
+        ErrorKind::WouldBlock | ErrorKind::ConnectionAborted | ErrorKind::OutOfMemory => true,
+        _ => matches!(e.raw_os_error(), Some(ENFILE | EMFILE | ENOBUFS)),
     }
 }
