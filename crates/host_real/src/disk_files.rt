@@ -56,7 +56,11 @@ impl<'a, R: rt::Files + AllocGlobal> Disk for DiskFiles<'a, R> {
       held = λ n. [];
     } };
 
+    /// Under the name that the device has already nothing is done, and no memory is taken.
     fn attach(&mut self, device: u8, name: &str) {
+        if name_of(&self.names, device) == name {
+            return;
+        }
         self.names.retain(|named| named.device != device);
         let _kept = keep(self.rt, &mut self.names, device, name);
     }
