@@ -65,6 +65,14 @@ impl Trace for MemoryTrace {
         }
         Ok(())
     }
+
+    /// It holds nothing back.
+    fn finish(&mut self) -> Result<(), Failed> {
+        if self.failing.fails() {
+            return Err(Failed);
+        }
+        Ok(())
+    }
 }
 
 fn push_copy(alloc: Global, took: &mut Vec<Item>, item: &Item) -> Result<(), AllocError>

@@ -22,3 +22,4 @@ pub use socket_conn::SocketConn;
 pub use socket_listener::{SocketListener, as_accepted};
 pub use system_clock::SystemClock;
 pub use trace_file::TraceFile;
+pub use trace_lines::TraceLines;

@@ -11,11 +11,11 @@ use vm_outside::Failed;
 
 /// Writes each item as a line of a script, and hands it to the system before anything that it shows is shown (`TraceLines`).
 /// Opening it takes the place of a file that was there. Before that nothing is kept. An item that there is no memory for is
-/// a failure.
+/// a failure. Where the system doesn't take a line, the lines of events that were held back before it are lost with it.
 #[derive(Drop)]
 pub struct TraceFile<'a, R: rt::Files> {
     rt: &'a R,
-    lines: Option<TraceLines<R>>,
+    lines: Option<TraceLines<R::File>>,
     faults: u64,
 }
 
@@ -44,7 +44,9 @@ impl<'a, R: rt::Files + AllocGlobal> Trace for TraceFile<'a, R> {
 
     ghost known = { λ t. record { health = untold t.faults; took = [] } };
 
+    /// The trace before it, if there is one, is finished first.
     fn open(&mut self, path: &str) -> Result<(), Failed> {
+        self.finish()?;
         let file = counted(&mut self.faults, File::create(self.rt, path))?;
         self.lines = Some(TraceLines::new(self.rt.alloc(), file));
         Ok(())
@@ -55,5 +57,12 @@ impl<'a, R: rt::Files + AllocGlobal> Trace for TraceFile<'a, R> {
             return Ok(());
         };
         counted(&mut self.faults, lines.add(self.rt.alloc(), item))
+    }
+
+    fn finish(&mut self) -> Result<(), Failed> {
+        let Some(lines) = &mut self.lines else {
+            return Ok(());
+        };
+        counted(&mut self.faults, lines.finish())
     }
 }

@@ -126,6 +126,10 @@ impl Trace for Player<'_> {
         }
         Ok(())
     }
+
+    fn finish(&mut self) -> Result<(), Failed> {
+        Ok(())
+    }
 }
 
 fn machine_of(alloc: Global, image: &[u8]) -> Result<LiveMachine, Fail> {

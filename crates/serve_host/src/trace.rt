@@ -22,4 +22,9 @@ pub trait Trace: Drop {
         ensures adds { Tells (known self.old).health →
             Adds (known self.old).took (known self.new).took result item.now }
         ensures called { Called (known self.old).health (known self.new).health result };
+
+    /// Puts what it holds still where it is kept, and takes nothing.
+    fn finish(&mut self) -> Result<(), Failed>
+        ensures same { Tells (known self.old).health → (known self.new).took ≡ (known self.old).took }
+        ensures called { Called (known self.old).health (known self.new).health result };
 }
