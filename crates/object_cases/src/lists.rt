@@ -19,12 +19,18 @@ pub fn print(rt: &HostRuntime) -> io::Result<()> {
 }
 
 fn print_trace(rt: &HostRuntime) -> io::Result<()> {
-    let calls = [1].to_vec(rt.alloc())?;
+    let calls = [1, 4].to_vec(rt.alloc())?;
     let mut trace = MemoryTrace::new(rt.alloc(), Failing::new(calls));
     show(rt, "trace: open", &trace.open("t"))?;
     show(rt, "trace: add", &added(&mut trace, Item::Console))?;
     let bytes = ByteList::copy_of(rt.alloc(), b"ab")?;
     show(rt, "trace: add", &added(&mut trace, Item::Bytes { bytes }))?;
+    print_taken(rt, &trace)?;
+    show(rt, "trace: finish", &[trace.finish(), trace.finish()])?;
+    print_taken(rt, &trace)
+}
+
+fn print_taken(rt: &HostRuntime, trace: &MemoryTrace) -> io::Result<()> {
     let counts = (trace.took().len(), trace.faults());
     show(rt, "trace: took, failed", &counts)
 }

@@ -6,12 +6,15 @@
 //! are tried. What is made there is removed.
 #![tactic(auto)]
 
+mod accepts;
+mod addresses;
 mod commands;
 mod conns;
 mod cut_off;
 mod devices;
 mod folders;
 mod gates;
+mod lines;
 mod lists;
 mod merges;
 mod orders;
@@ -31,6 +34,9 @@ fn main(rt: HostRuntime) -> io::Result<()> {
     folders::print(&rt)?;
     steps::print(&rt)?;
     sockets::print(&rt)?;
+    addresses::print(&rt)?;
+    accepts::print(&rt)?;
+    lines::print(&rt)?;
     stored::print(&rt)?;
     merges::print(&rt)?;
     cut_off::print(&rt)?;

@@ -10,9 +10,12 @@ use vm_types::ActorId;
 
 pub fn print(rt: &HostRuntime) -> io::Result<()> {
     print_trace(rt)?;
+    print_next(rt)?;
+    print_full(rt)?;
     fs::remove_file(rt, "trace")?;
     fs::write(rt, "disk", [7; 1024].as_slice())?;
     print_disk(rt, &mut DiskFiles::new(rt))?;
+    print_attached(rt, &mut DiskFiles::new(rt))?;
     print_written(rt)?;
     fs::remove_file(rt, "disk")?;
     let mut words = RandomWords::new(rt);
@@ -35,14 +38,56 @@ fn print_trace(rt: &HostRuntime) -> io::Result<()> {
 
 fn print_added(rt: &HostRuntime, trace: &mut TraceFile<'_, HostRuntime>) -> io::Result<()> {
     show(rt, "trace file: add", &added(trace, Item::Console))?;
+    show(rt, "trace file: finish", &trace.finish())?;
     show(rt, "trace file: open", &trace.open("trace"))?;
     show(rt, "trace file: add", &added(trace, Item::Connect))?;
-    let step = Item::Step {
+    let last = added(trace, step());
+    show(rt, "trace file: add, failed", &(last, trace.faults()))
+}
+
+fn step() -> Item {
+    Item::Step {
         actor: ActorId::Timer,
         count: 2,
-    };
-    let last = added(trace, step);
-    show(rt, "trace file: add, failed", &(last, trace.faults()))
+    }
+}
+
+// A line is held back; it is written where the trace is finished, and where another one is opened.
+fn print_next(rt: &HostRuntime) -> io::Result<()> {
+    let mut trace = TraceFile::new(rt);
+    show(rt, "next trace: open", &trace.open("trace"))?;
+    show(rt, "next trace: add", &added(&mut trace, step()))?;
+    show(rt, "next trace: finish", &trace.finish())?;
+    print_lines(rt)?;
+    show(rt, "next trace: add", &added(&mut trace, step()))?;
+    show(rt, "next trace: open", &trace.open("/dev/null"))?;
+    print_lines(rt)
+}
+
+// What can't be written is told once, and isn't tried again.
+fn print_full(rt: &HostRuntime) -> io::Result<()> {
+    let mut trace = TraceFile::new(rt);
+    show(rt, "trace on a full disk: open", &trace.open("/dev/full"))?;
+    show(rt, "trace on a full disk: add", &added(&mut trace, step()))?;
+    print_finished(rt, &mut trace)?;
+    print_finished(rt, &mut trace)?;
+    show(rt, "trace on a full disk: add", &added(&mut trace, step()))?;
+    let shown = added(&mut trace, Item::Console);
+    show(rt, "trace on a full disk: add", &shown)?;
+    print_finished(rt, &mut trace)?;
+    show(rt, "trace on a full disk: add", &added(&mut trace, step()))?;
+    let other = trace.open("trace");
+    show(rt, "trace on a full disk: open", &other)?;
+    print_finished(rt, &mut trace)
+}
+
+fn print_finished(rt: &HostRuntime, trace: &mut TraceFile<'_, HostRuntime>) -> io::Result<()> {
+    let done = trace.finish();
+    show(
+        rt,
+        "trace on a full disk: finish, failed",
+        &(done, trace.faults()),
+    )
 }
 
 fn print_lines(rt: &HostRuntime) -> io::Result<()> {
@@ -59,6 +104,16 @@ fn print_disk(rt: &HostRuntime, disk: &mut DiskFiles<'_, HostRuntime>) -> io::Re
         print_part(rt, disk, part)?;
     }
     show(rt, "disk file: failed", &disk.faults())
+}
+
+// The same name again, one of no file, and the first again.
+fn print_attached(rt: &HostRuntime, disk: &mut DiskFiles<'_, HostRuntime>) -> io::Result<()> {
+    for name in ["disk", "disk", "none", "disk", ""] {
+        disk.attach(2, name);
+        let read = part_of(disk.read(2, 1, 2));
+        println!(rt; "disk file: attached {name:?} => {read:?}")?;
+    }
+    Ok(())
 }
 
 // A device, a sector, and a part of it.
