@@ -5,17 +5,17 @@ use Rattle.vm_outside.specs.Known.{Health}
 use Rattle.vm_types.specs.Causes.{Rose}
 use Rattle.vm_types.specs.declared.exit.Object.TheVariants as object
 use Rattle.serve_host.specs.Listening.{Ended, ListenerKnown}
-use Rattle.flat_machine.specs.Machine.{Machine, is_off}
+use Rattle.flat_machine.specs.Machine.{AreFilesOf, Machine, is_off}
 use Rattle.flat_trace.specs.Showing.{Out, given, replied}
 use Rattle.flat_trace.specs.Showing.Out.{Opened}
 use Rattle.monitor_core.specs.declared.monitor.Monitor.{Monitor}
 use Rattle.monitor_running.specs.Reached.{Reached, Start, seen}
 use Rattle.monitor_serving.specs.declared.served.Served.{Served as End}
 use Rattle.monitor_serving.specs.declared.served.Served.TheVariants as served
-use Rattle.monitor_serving.specs.Turns.{IsTorn}
-use Rattle.monitor_serving.specs.Views.{AreHeard, Hosts, Stands}
+use Rattle.monitor_serving.specs.Turns.{IsTorn, MayLack}
+use Rattle.monitor_serving.specs.Views.{AreHeard, HasClosed, Hosts, Stands}
 
--- A connection that is over, as the last of what was said: it gave the bytes that were heard, and behind them the unsaid
+-- A connection that was given back, as the last of what was said: it gave the bytes that were heard, and behind them the unsaid
 -- ones, and took the replies but for the unsent ones.
 pub record WasSaid (talk before : List Out) (ended : Ended) (unsent unsaid : List ℕ) : Type 0 where
   pub heard : List Out
@@ -24,22 +24,33 @@ pub record WasSaid (talk before : List Out) (ended : Ended) (unsent unsaid : Lis
   pub gave : ended.gave ≡ given heard ++ unsaid
   pub took : ended.took ++ unsent ≡ replied heard
 
--- All that was said is what these connections, the newest first, gave and took. One on which a call failed may lack an end
--- of its replies.
+-- it was over: nothing was left of it, or bytes that are no request were answered, or a call on it failed
+abbrev pub WasOver : List Out → Ended → Type 0
+WasOver heard ended = (ended.left ≡ []) ⊎ HasClosed heard ⊎ (0 < ended.faults)
+
+-- All that was said is what these connections, the newest first, gave and took, and each was over. One on which a call
+-- failed may lack an end of its replies.
 abbrev pub AreTold : List Out → List Ended → Type 0
 AreTold talk [] = talk ≡ []
 AreTold talk (ended ∷ others) =
+    (before : List Out) × (unsent : List ℕ) × (said : WasSaid talk before ended unsent [])
+    × ((unsent ≡ []) ⊎ (0 < ended.faults)) × WasOver said.heard ended × AreTold before others
+
+-- the last of them may not have been over: the guest turned itself off meanwhile
+abbrev pub AreToldOff : List Out → List Ended → Type 0
+AreToldOff talk [] = talk ≡ []
+AreToldOff talk (ended ∷ others) =
     (before : List Out) × (unsent : List ℕ) × WasSaid talk before ended unsent []
     × ((unsent ≡ []) ⊎ (0 < ended.faults)) × AreTold before others
 
--- the last of them may lack more: serving broke off in it
+-- or it may lack more: serving broke off in it
 abbrev pub AreToldInPart : List Out → List Ended → Type 0
 AreToldInPart talk [] = talk ≡ []
 AreToldInPart talk (ended ∷ others) =
     (before : List Out) × (unsent : List ℕ) × (unsaid : List ℕ) × WasSaid talk before ended unsent unsaid
     × AreTold before others
 
--- the monitor between two connections, what is known of the host objects, and the connections that are over
+-- the monitor between two connections, what is known of the host objects, and the connections that were given back
 pub record Place : Type 0 where
   pub monitor : Monitor
   pub hosts : Hosts
@@ -48,7 +59,8 @@ pub record Place : Type 0 where
 abbrev pub place : Monitor → Hosts → ListenerKnown → Place
 place monitor hosts listener = record { monitor = monitor; hosts = hosts; ended = listener.ended }
 
--- all that happened since a start, at which these connections were over, is in the trace, and all that it shows was taken
+-- All that happened since a start, before which these connections were given back, is in the trace, and all that it shows
+-- was taken.
 pub record HasServed (s : Start) (first : List Ended) (now : Place) : Type 0 where
   pub flat : Machine
   pub talk : List Out
@@ -57,9 +69,19 @@ pub record HasServed (s : Start) (first : List Ended) (now : Place) : Type 0 whe
   pub ended : now.ended ≡ since ++ first
   pub told : AreTold talk since
 
--- Serving broke off. What the trace took leads to some machine; of what that shows, the sink and the last connection took a
--- front.
-pub record BrokeOff (s : Start) (first : List Ended) (now : Place) : Type 0 where
+-- the same where the guest turned itself off
+pub record HasGone (s : Start) (first : List Ended) (now : Place) : Type 0 where
+  pub flat : Machine
+  pub talk : List Out
+  pub since : List Ended
+  pub stands : Stands s now.monitor now.hosts flat talk
+  pub ended : now.ended ≡ since ++ first
+  pub told : AreToldOff talk since
+  pub off : is_off flat ≡ true
+
+-- Serving broke off. What the trace took leads to some machine, whose files are there; of what that shows, the sink and the
+-- last connection took a front.
+pub record BrokeOff (end : End) (s : Start) (first : List Ended) (now : Place) : Type 0 where
   pub at : Machine
   pub talk : List Out
   pub since : List Ended
@@ -68,15 +90,17 @@ pub record BrokeOff (s : Start) (first : List Ended) (now : Place) : Type 0 wher
   pub reached : Reached s (record (seen now.hosts.slices) { taken = now.hosts.slices.sink.taken ++ unshown; host = host }) at talk
   pub ended : now.ended ≡ since ++ first
   pub told : AreToldInPart talk since
+  pub shown : MayLack end unshown
+  pub files : AreFilesOf now.hosts.files at
 
 abbrev pub Serves : End → Place → Place → Type 0
 Serves served.Ended old new = (s : Start) (first : List Ended) → HasServed s first old → HasServed s first new
-Serves served.Off old new =
-    (s : Start) (first : List Ended) → HasServed s first old → (it : HasServed s first new) × (is_off it.flat ≡ true)
+Serves served.Off old new = (s : Start) (first : List Ended) → HasServed s first old → HasGone s first new
 Serves (served.Torn torn journals histories) old new =
     IsTorn torn journals.items histories.items
-    × ((s : Start) (first : List Ended) → HasServed s first old → BrokeOff s first new)
-Serves end old new = (s : Start) (first : List Ended) → HasServed s first old → BrokeOff s first new
+    × ((s : Start) (first : List Ended) → HasServed s first old
+    → BrokeOff (served.Torn torn journals histories) s first new)
+Serves end old new = (s : Start) (first : List Ended) → HasServed s first old → BrokeOff end s first new
 
 -- why serving ends: no connection comes any more, the guest is off, or the named object's count rose
 abbrev pub EndCause : End → Hosts → Hosts → Health → Health → Type 0

@@ -9,23 +9,30 @@ use Rattle.stamp_merge.specs.declared.history.History.{History}
 use Rattle.stamp_merge.specs.declared.journal.Journal.{Journal}
 use Rattle.vm_world.specs.Worlds.{WorldValue}
 use Rattle.slice_runner.specs.Slices.{IsTornSlice}
-use Rattle.flat_machine.specs.Machine.{Machine, is_off}
+use Rattle.flat_machine.specs.Machine.{AreFilesOf, Machine, is_off}
 use Rattle.flat_trace.specs.Showing.{Out}
 use Rattle.monitor_running.specs.Reached.{Reached, Start, seen}
 use Rattle.monitor_serving.specs.declared.served.Served.{Served}
 use Rattle.monitor_serving.specs.declared.served.Served.TheVariants as served
-use Rattle.monitor_serving.specs.Views.{Stands, Talked, View}
+use Rattle.monitor_serving.specs.Views.{HasClosed, Stands, Talked, View}
 
--- All that happened since is in the trace, and all that this shows was taken, but for these bytes of replies.
+-- All that happened since is in the trace, and all that this shows was taken, but for these bytes of replies. Where the
+-- connection has failed since, an answer ended it.
 pub record Continues (s : Start) (old new : View) (talk : List Out) (unsent : List ℕ) : Type 0 where
   pub flat : Machine
   pub heard : List Out
   pub talked : Talked old.conn new.conn heard unsent []
+  pub closed : new.monitor.front.failed ≡ true → (old.monitor.front.failed ≡ true) ⊎ HasClosed heard
   pub stands : Stands s new.monitor new.hosts flat (talk ++ heard)
 
--- Serving broke off. What the trace took leads to some machine, and the answers in it to some clock and disks. Of what that
--- shows the sink and the connection took a front, and of the bytes that came the trace has a front.
-pub record Broke (s : Start) (old new : View) (talk : List Out) : Type 0 where
+-- what the sink lacks of what is shown, it lacks because a call on it failed
+abbrev pub MayLack : Served → List ℕ → Type 0
+MayLack (served.Fault object.Sink) unshown = Unit {0}
+MayLack end unshown = unshown ≡ []
+
+-- Serving broke off. What the trace took leads to some machine, whose files are there, and the answers in it to some clock and
+-- disks. Of what that shows the sink and the connection took a front, and of the bytes that came the trace has a front.
+pub record Broke (end : Served) (s : Start) (old new : View) (talk : List Out) : Type 0 where
   pub at : Machine
   pub host : HostKnown
   pub unshown : List ℕ
@@ -33,6 +40,8 @@ pub record Broke (s : Start) (old new : View) (talk : List Out) : Type 0 where
   pub unsent : List ℕ
   pub unsaid : List ℕ
   pub talked : Talked old.conn new.conn heard unsent unsaid
+  pub shown : MayLack end unshown
+  pub files : AreFilesOf new.hosts.files at
   pub reached : Reached s (record (seen new.hosts.slices) { taken = new.hosts.slices.sink.taken ++ unshown; host = host }) at (talk ++ heard)
 
 -- However the machine got here, and whatever was said before: nothing is missing
@@ -53,9 +62,9 @@ GoesOff old new =
     (s : Start) (m : Machine) (talk : List Out) → Stands s old.monitor old.hosts m talk
     → (on : Continues s old new talk []) × (is_off on.flat ≡ true)
 
-abbrev pub BreaksOff : View → View → Type 0
-BreaksOff old new =
-    (s : Start) (m : Machine) (talk : List Out) → Stands s old.monitor old.hosts m talk → Broke s old new talk
+abbrev pub BreaksOff : Served → View → View → Type 0
+BreaksOff end old new =
+    (s : Start) (m : Machine) (talk : List Out) → Stands s old.monitor old.hosts m talk → Broke end s old new talk
 
 -- the slice whose journals and histories part
 abbrev pub IsTorn : Torn → List Journal → List History → Type 0
@@ -65,11 +74,12 @@ IsTorn torn journals histories = (world : WorldValue) × IsTornSlice world torn 
 abbrev pub ServedAs : Served → View → View → Type 0
 ServedAs served.Ended old new = EndsConnection old new
 ServedAs served.Off old new = GoesOff old new
-ServedAs (served.Fault object.Trace) old new = BreaksOff old new
-ServedAs (served.Fault object.Sink) old new = BreaksOff old new
+ServedAs (served.Fault object.Trace) old new = BreaksOff (served.Fault object.Trace) old new
+ServedAs (served.Fault object.Sink) old new = BreaksOff (served.Fault object.Sink) old new
 ServedAs (served.Fault other) old new = ⊥
-ServedAs (served.Torn torn journals histories) old new = IsTorn torn journals.items histories.items × BreaksOff old new
-ServedAs served.OutOfMemory old new = BreaksOff old new
+ServedAs (served.Torn torn journals histories) old new =
+    IsTorn torn journals.items histories.items × BreaksOff (served.Torn torn journals histories) old new
+ServedAs served.OutOfMemory old new = BreaksOff served.OutOfMemory old new
 
 -- a turn: it goes on, or has come to an end
 abbrev pub TurnedAs : Option Served → View → View → Type 0

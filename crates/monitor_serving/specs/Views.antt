@@ -1,5 +1,6 @@
 -- Where everything is while connections are served.
-use Rattle.std.specs.Prelude.{ℕ, ◌≡◌, List, [], ◌∷◌, ◌++◌}
+use Rattle.std.specs.Prelude.{ℕ, ◌≡◌, Bool, true, false, List, [], ◌∷◌, ◌++◌}
+use Rattle.std.specs.List.{list_any}
 use Rattle.vm_outside.specs.Known.{FilesKnown, Lasts, Tells}
 use Rattle.serve_host.specs.Passing.{ConnKnown}
 use Rattle.flat_machine.specs.Machine.{Machine}
@@ -48,6 +49,15 @@ abbrev pub AreHeard : List Out → Type 0
 AreHeard [] = Unit {0}
 AreHeard (Heard bytes responses ∷ outs) = AreHeard outs
 AreHeard (out ∷ outs) = ⊥
+
+-- an answer that ends the connection is given to these bytes
+abbrev pub closes : Out → Bool
+closes (Heard bytes responses) = list_any (λ response. response.closes) responses
+closes out = false
+
+-- one is among what was said
+abbrev pub HasClosed : List Out → Type 0
+HasClosed outs = list_any closes outs ≡ true
 
 -- This was heard of a connection. It gave the bytes, and behind them the unsaid ones; it took the replies, but for the
 -- unsent ones at their end.
