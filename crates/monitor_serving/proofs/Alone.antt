@@ -1,5 +1,5 @@
 -- Slices while nobody is connected, and one end behind another.
-use Rattle.std.proofs.Common.{◌≡◌, ℕ, refl, sym, ap, subst, ◌≤◌, List, [], ◌++◌, append-nil, Option, Some, None, arith}
+use Rattle.std.proofs.Common.{◌≡◌, ℕ, true, refl, sym, ap, subst, ◌≤◌, List, [], ◌++◌, append-nil, Option, Some, None, arith}
 use Rattle.vm_types.specs.Causes.{Rose}
 use Rattle.vm_types.specs.declared.exit.Object.{Object}
 use Rattle.vm_types.specs.declared.exit.Object.TheVariants as object
@@ -11,7 +11,7 @@ use Rattle.serve_host.specs.declared.listener.Accepted.TheVariants as accepted
 use Rattle.serve_host.specs.Listening.{ComesFresh, Ended, IsFresh, ListenerKnown}
 use Rattle.serve_host.specs.Tracing.{TraceKnown}
 use Rattle.script_text.specs.declared.item.Item.{Item}
-use Rattle.flat_machine.specs.Machine.{Machine}
+use Rattle.flat_machine.specs.Machine.{Machine, is_off}
 use Rattle.monitor_machine.specs.declared.machine.LiveMachine.{LiveMachine}
 use Rattle.monitor_machine.specs.State.{IsLive}
 use Rattle.monitor_core.specs.declared.monitor.Monitor.{Monitor}
@@ -22,10 +22,12 @@ use Rattle.monitor_running.specs.Ran.{HasFault, RanOn}
 use Rattle.monitor_running.specs.Reached.{Kept, Known, Reached, Start, known, seen}
 use Rattle.monitor_serving.specs.declared.served.Served.{Served as End}
 use Rattle.monitor_serving.specs.declared.served.Served.TheVariants as served
-use Rattle.monitor_serving.specs.Connections.{BrokeOff, EndCause, GoCause, Goes, HasServed, Place, Serves, going, place}
+use Rattle.monitor_serving.specs.Connections.{BrokeOff, EndCause, GoCause, Goes, HasGone, HasServed, Place, Serves, going, place}
 use Rattle.monitor_serving.specs.Ends.{alone_end}
+use Rattle.monitor_serving.specs.Turns.{MayLack}
 use Rattle.monitor_serving.specs.Views.{AllLast, Hosts, hosts}
-use Rattle.monitor_serving.proofs.Connections.{in_part}
+use Rattle.monitor_serving.proofs.Connections.{in_off, in_part}
+use Rattle.monitor_serving.proofs.Filing.{SameFiled, filed, filed_ahead, filed_beside, run_filed}
 use Rattle.monitor_serving.proofs.Slices.{monitor_kept}
 use Rattle.monitor_serving.proofs.Turns.{rose_after}
 
@@ -52,9 +54,10 @@ module _ (monitor now_monitor : Monitor) (machine : LiveMachine) (k now : Known)
     told = old.told;
   }
 
-  broke : (s : Start) (first : List Ended) (old : HasServed s first old_place) (at : Machine) (host : HostKnown) (unshown : List ℕ)
-      → Reached s (record (seen now) { taken = now.sink.taken ++ unshown; host = host }) at old.talk → BrokeOff s first new_place
-  broke s first old at host unshown reached = record {
+  broke : (end : End) (s : Start) (first : List Ended) (old : HasServed s first old_place) (at : Machine) (host : HostKnown)
+      (unshown : List ℕ) → MayLack end unshown → SameFiled old.flat at
+      → Reached s (record (seen now) { taken = now.sink.taken ++ unshown; host = host }) at old.talk → BrokeOff end s first new_place
+  broke end s first old at host unshown shown same reached = record {
     at = at;
     talk = old.talk;
     since = old.since;
@@ -63,31 +66,50 @@ module _ (monitor now_monitor : Monitor) (machine : LiveMachine) (k now : Known)
     reached = reached;
     ended = old.ended;
     told = in_part old.talk old.since old.told;
+    shown = shown;
+    files = filed files files old.flat at refl same old.stands.is.files;
   }
 
-  all_shown : (s : Start) (first : List Ended) (old : HasServed s first old_place) (at : Machine) (host : HostKnown)
-      → Reached s (record (seen now) { host = host }) at old.talk → BrokeOff s first new_place
-  all_shown s first old at host reached =
-      broke s first old at host []
+  all_shown : (end : End) (s : Start) (first : List Ended) (old : HasServed s first old_place) (at : Machine) (host : HostKnown)
+      → MayLack end [] → SameFiled old.flat at → Reached s (record (seen now) { host = host }) at old.talk → BrokeOff end s first new_place
+  all_shown end s first old at host shown same reached =
+      broke end s first old at host [] shown same
       (subst (λ (l : List ℕ). Reached s (record (seen now) { taken = l; host = host }) at old.talk) (sym (append-nil now.sink.taken)) reached)
+
+  gone : (s : Start) (first : List Ended) (it : HasServed s first new_place) → is_off it.flat ≡ true → HasGone s first new_place
+  gone s first it off = record {
+    flat = it.flat;
+    talk = it.talk;
+    since = it.since;
+    stands = it.stands;
+    ended = it.ended;
+    told = in_off it.talk it.since it.told;
+    off = off;
+  }
 
   pub ran_alone : (it : Option Ran) → RanOn IsLive it (seen k) monitor.machine (seen now) machine → (it ≡ Some ran.Closed → ⊥)
       → Goes (alone_end it) old_place new_place
   ran_alone None on never = λ s first old. kept s first old (on s old.flat old.talk old.stands.is.own.live old.stands.reached)
   ran_alone (Some ran.Closed) on never = absurd (never refl)
   ran_alone (Some ran.Off) on never = λ s first old.
-      let it = on s old.flat old.talk old.stands.is.own.live old.stands.reached in (kept s first old it.0, it.1)
+      let it = on s old.flat old.talk old.stands.is.own.live old.stands.reached in gone s first (kept s first old it.0) it.1
   ran_alone (Some ran.TraceFailed) on never = λ s first old.
-      let it = on s old.flat old.talk old.stands.is.own.live old.stands.reached in all_shown s first old it.told it.host it.reached
+      let it = on s old.flat old.talk old.stands.is.own.live old.stands.reached in
+      all_shown (served.Fault object.Trace) s first old it.told it.host refl
+      (filed_ahead old.flat it.told it.flat (filed_beside old.flat it.flat it.beside) (run_filed it.more it.told it.outs it.flat it.ahead it.unsaid))
+      it.reached
   ran_alone (Some ran.SinkFailed) on never = λ s first old.
-      let it = on s old.flat old.talk old.stands.is.own.live old.stands.reached in broke s first old it.1.flat now.host it.0 it.1.reached
+      let it = on s old.flat old.talk old.stands.is.own.live old.stands.reached in
+      broke (served.Fault object.Sink) s first old it.1.flat now.host it.0 tt (filed_beside old.flat it.1.flat it.1.beside) it.1.reached
   ran_alone (Some (ran.Torn torn journals histories)) on never = (
     (on.world, on.slice),
     λ s first old.
-        let it = on.kept s old.flat old.talk old.stands.is.own.live old.stands.reached in all_shown s first old it.flat on.host it.reached,
+        let it = on.kept s old.flat old.talk old.stands.is.own.live old.stands.reached in
+        all_shown (served.Torn torn journals histories) s first old it.flat on.host refl (filed_beside old.flat it.flat it.beside) it.reached,
   )
   ran_alone (Some ran.OutOfMemory) on never = λ s first old.
-      let it = on s old.flat old.talk old.stands.is.own.live old.stands.reached in all_shown s first old it.flat now.host it.reached
+      let it = on s old.flat old.talk old.stands.is.own.live old.stands.reached in
+      all_shown served.OutOfMemory s first old it.flat now.host refl (filed_beside old.flat it.flat it.beside) it.reached
 
 pub alone_cause : (it : Option Ran) (old new : Hosts) (listener : Health) → HasFault it old.slices new.slices
     → GoCause (alone_end it) old new listener listener
@@ -100,11 +122,11 @@ alone_cause (Some (ran.Torn torn journals histories)) old new listener fault = t
 alone_cause (Some ran.OutOfMemory) old new listener fault = tt
 
 -- the trace failed, or there was no memory, before anything happened
-pub breaks_idle : (s : Start) (first : List Ended) (monitor : Monitor) (trace told : TraceKnown) (sink : SinkKnown) (host : HostKnown)
+pub breaks_idle : (end : End) → MayLack end [] → (s : Start) (first : List Ended) (monitor : Monitor) (trace told : TraceKnown) (sink : SinkKnown) (host : HostKnown)
     (files : FilesKnown) (listener : ListenerKnown) → told.took ≡ trace.took
     → HasServed s first (place monitor (hosts (known trace sink host) files) listener)
-    → BrokeOff s first (place monitor (hosts (known told sink host) files) listener)
-breaks_idle s first monitor trace told sink host files listener same old = record {
+    → BrokeOff end s first (place monitor (hosts (known told sink host) files) listener)
+breaks_idle end shown s first monitor trace told sink host files listener same old = record {
   at = old.flat;
   talk = old.talk;
   since = old.since;
@@ -114,6 +136,8 @@ breaks_idle s first monitor trace told sink host files listener same old = recor
       (subst (λ (i : List Item). Reached s (record { took = i; taken = sink.taken; host = host }) old.flat old.talk) (sym same) old.stands.reached);
   ended = old.ended;
   told = in_part old.talk old.since old.told;
+  shown = shown;
+  files = old.stands.is.files;
 }
 
 -- ---- one behind another
@@ -153,10 +177,10 @@ same_place monitor hosts a b same =
 pub breaks_on_accept : (monitor : Monitor) (trace : TraceKnown) (sink : SinkKnown) (host : HostKnown) (files : FilesKnown)
     (a b : ListenerKnown) → b.ended ≡ a.ended → (s : Start) (first : List Ended)
     → HasServed s first (place monitor (hosts (known trace sink host) files) a)
-    → BrokeOff s first (place monitor (hosts (known trace sink host) files) b)
+    → BrokeOff (served.Fault object.Listener) s first (place monitor (hosts (known trace sink host) files) b)
 breaks_on_accept monitor trace sink host files a b same s first old =
-    subst (λ (p : Place). BrokeOff s first p) (same_place monitor (hosts (known trace sink host) files) a b same)
-    (breaks_idle s first monitor trace trace sink host files a refl old)
+    subst (λ (p : Place). BrokeOff (served.Fault object.Listener) s first p) (same_place monitor (hosts (known trace sink host) files) a b same)
+    (breaks_idle (served.Fault object.Listener) refl s first monitor trace trace sink host files a refl old)
 
 rose_still : (i j : ℕ) → i ≤ j → Rose i i → Rose i j
 rose_still i j later rose = omega (arith, later, rose)

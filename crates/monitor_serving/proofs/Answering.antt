@@ -1,5 +1,5 @@
 -- What comes of bytes that a connection gave, by how they are answered.
-use Rattle.std.proofs.Common.{◌≡◌, ℕ, inl, inr, true, false, refl, ap, ◌∙◌, List, [], ◌∷◌, ◌++◌, take, drop, append-nil, append_assoc, Result, Ok, Err, arith}
+use Rattle.std.proofs.Common.{◌≡◌, ℕ, inl, inr, true, false, refl, sym, ap, ◌∙◌, subst, List, [], ◌∷◌, ◌++◌, take, drop, append-nil, append_assoc, Result, Ok, Err, arith}
 use Rattle.std.proofs.lemmas.List.{take-append-drop}
 use Rattle.monitor_running.specs.Asked.{HostKnown}
 use Rattle.vm_outside.specs.Known.{Called, FilesKnown, Lasts, SinkKnown, Tells}
@@ -7,11 +7,15 @@ use Rattle.vm_outside.specs.Passing.{TakesAll}
 use Rattle.serve_host.specs.Passing.{ConnKnown, Gives, Waits}
 use Rattle.serve_host.specs.Tracing.{TraceKnown}
 use Rattle.script_text.specs.declared.item.Item.TheVariants as item
-use Rattle.flat_machine.specs.Machine.{Machine, is_off}
+use Rattle.vm_types.specs.declared.exit.Object.TheVariants as object
+use Rattle.response_form.specs.declared.form.ResponseForm.TheVariants.{Http}
+use Rattle.flat_machine.specs.Machine.{AreFilesOf, Machine, is_off}
 use Rattle.monitor_core.specs.declared.monitor.Monitor.{Monitor}
 use Rattle.monitor_core.specs.Hearing.{HearGoes}
 use Rattle.monitor_core.specs.State.{IsMonitor}
+use Rattle.monitor_core.specs.Talking.{HasHalted}
 use Rattle.monitor_running.specs.Reached.{known}
+use Rattle.monitor_serving.specs.declared.served.Served.TheVariants as served
 use Rattle.monitor_serving.specs.Turns.{BreaksOff, EndsConnection, GoesOff, GoesOn}
 use Rattle.monitor_serving.specs.Views.{hosts, view}
 use Rattle.monitor_serving.proofs.Pieces.{was_answered, was_cut, was_ignored, was_untold}
@@ -23,10 +27,12 @@ still conn now same = record { gave = ap (λ (c : ConnKnown). c.gave) same; left
 module _ (monitor after : Monitor) (trace told : TraceKnown) (sink : SinkKnown) (host : HostKnown) (files left : FilesKnown)
     (before conn now : ConnKnown) (bytes : List ℕ) (came : Gives before conn bytes) (untaken : conn.took ≡ before.took) where
   -- the trace failed
-  pub untold : told.took ≡ trace.took
-      → BreaksOff (view monitor (hosts (known trace sink host) files) before) (view after (hosts (known told sink host) left) conn)
-  untold same s m talk stands =
+  pub untold : told.took ≡ trace.took → left ≡ files
+      → BreaksOff (served.Fault object.Trace) (view monitor (hosts (known trace sink host) files) before)
+      (view after (hosts (known told sink host) left) conn)
+  untold same filed s m talk stands =
       was_untold s m talk bytes trace told sink host files left monitor after before conn same stands.reached came untaken
+      (subst (λ f. AreFilesOf f m) (sym filed) stands.is.files)
 
   module _ (is_told : told.took ≡ trace.took ++ item.Bytes bytes ∷ []) where
     -- the guest is off
@@ -34,16 +40,18 @@ module _ (monitor after : Monitor) (trace told : TraceKnown) (sink : SinkKnown) 
         → GoesOff (view monitor (hosts (known trace sink host) files) before) (view monitor (hosts (known told sink host) files) conn)
     ignored off s m talk stands = (
       was_ignored s m talk bytes trace told sink host files files monitor monitor before conn conn is_told stands.reached came untaken
-          (still conn conn refl) (off m stands.is) stands.is refl,
+          (still conn conn refl) stands.is (off m stands.is) stands.is refl refl,
       off m stands.is,
     )
 
     module _ (on : (m : Machine) → IsMonitor monitor files m → is_off m ≡ false) where
       -- there was no memory
-      pub short : BreaksOff (view monitor (hosts (known trace sink host) files) before) (view after (hosts (known told sink host) left) conn)
-      short s m talk stands =
+      pub short : Tells files.health → HasHalted Http bytes monitor after files left
+          → BreaksOff served.OutOfMemory (view monitor (hosts (known trace sink host) files) before)
+          (view after (hosts (known told sink host) left) conn)
+      short tells halts s m talk stands =
           was_cut s m talk bytes trace told sink host files left monitor after before conn conn is_told stands.reached came untaken
-          (still conn conn refl) (on m stands.is) refl
+          (still conn conn refl) stands.is (on m stands.is) refl tells halts
 
       module _ (text : List ℕ) (tells : Tells files.health) (hears : HearGoes bytes text monitor after files left) (waits : Waits conn now) where
         -- all was sent
@@ -52,7 +60,7 @@ module _ (monitor after : Monitor) (trace told : TraceKnown) (sink : SinkKnown) 
         sent took s m talk stands =
             let h = hears.went tells m stands.is in
             was_answered s m talk bytes trace told sink host files left monitor after before conn now is_told stands.reached came untaken
-            waits hears.outcomes hears.responses h.0 text [] (on m stands.is) h.1 h.2 hears.writes (append-nil now.took ∙ took)
+            waits stands.is hears.outcomes hears.responses h.0 text [] (on m stands.is) h.1 h.2 hears.writes (append-nil now.took ∙ took)
 
         -- and then the connection is over; where a write failed it lacks the rest
         pub over : {E : Type 0} (result : Result (Unit {0}) E) → TakesAll conn.took now.took result text
@@ -63,7 +71,7 @@ module _ (monitor after : Monitor) (trace told : TraceKnown) (sink : SinkKnown) 
             let h = hears.went tells m stands.is in (
               drop n text,
               was_answered s m talk bytes trace told sink host files left monitor after before conn now is_told stands.reached came untaken
-                  waits hears.outcomes hears.responses h.0 text (drop n text) (on m stands.is) h.1 h.2 hears.writes
+                  waits stands.is hears.outcomes hears.responses h.0 text (drop n text) (on m stands.is) h.1 h.2 hears.writes
                   (ap (λ (l : List ℕ). l ++ drop n text) took ∙ append_assoc conn.took (take n text) (drop n text)
                   ∙ ap (λ (l : List ℕ). conn.took ++ l) (take-append-drop n text)),
               inr (let rose = called.failed in let later = lasts.later in omega (arith, rose, later)),

@@ -1,5 +1,5 @@
 -- Disks that are attached, which are asked nothing.
-use Rattle.std.proofs.Common.{◌≡◌, ℕ, refl, List, [], ◌++◌, Option, Some, None}
+use Rattle.std.proofs.Common.{ℕ, refl, List, [], ◌++◌, Option, Some, None}
 use Rattle.vm_types.specs.declared.exit.Object.{Object}
 use Rattle.vm_types.specs.declared.exit.Object.TheVariants as object
 use Rattle.vm_outside.specs.Known.{FilesKnown, SinkKnown}
@@ -13,7 +13,7 @@ use Rattle.monitor_running.specs.Reached.{Start, known, seen}
 use Rattle.monitor_running.proofs.Joins.{HostRests, rests}
 use Rattle.monitor_serving.specs.declared.served.Served.{Served}
 use Rattle.monitor_serving.specs.declared.served.Served.TheVariants as served
-use Rattle.monitor_serving.specs.Turns.{Broke, BreaksOff, Continues, GoesOn, ServedAs, TurnedAs}
+use Rattle.monitor_serving.specs.Turns.{BreaksOff, Continues, GoesOn, ServedAs, TurnedAs}
 use Rattle.monitor_serving.specs.Views.{Stands, View, hosts, view}
 
 module _ (a : View) (monitor : Monitor) (trace : TraceKnown) (sink : SinkKnown) (old new : HostKnown) (files : FilesKnown)
@@ -35,14 +35,15 @@ module _ (a : View) (monitor : Monitor) (trace : TraceKnown) (sink : SinkKnown) 
     flat = on.flat;
     heard = on.heard;
     talked = on.talked;
+    closed = on.closed;
     stands = still_stands s on.flat (talk ++ on.heard) on.stands;
   }
 
   goes_on : GoesOn a b → GoesOn a c
   goes_on on s m talk stands = went_on s talk [] (on s m talk stands)
 
-  breaks_off : BreaksOff a b → BreaksOff a c
-  breaks_off off s m talk stands =
+  breaks_off : (end : Served) → BreaksOff end a b → BreaksOff end a c
+  breaks_off end off s m talk stands =
       let it = off s m talk stands in record {
         at = it.at;
         host = it.host;
@@ -51,12 +52,14 @@ module _ (a : View) (monitor : Monitor) (trace : TraceKnown) (sink : SinkKnown) 
         unsent = it.unsent;
         unsaid = it.unsaid;
         talked = it.talked;
+        shown = it.shown;
+        files = it.files;
         reached = it.reached;
       }
 
   by_fault : (name : Object) → ServedAs (served.Fault name) a b → ServedAs (served.Fault name) a c
-  by_fault object.Trace it = breaks_off it
-  by_fault object.Sink it = breaks_off it
+  by_fault object.Trace it = breaks_off (served.Fault object.Trace) it
+  by_fault object.Sink it = breaks_off (served.Fault object.Sink) it
   by_fault object.Source it = absurd it
   by_fault object.Files it = absurd it
   by_fault object.Listener it = absurd it
@@ -68,8 +71,8 @@ module _ (a : View) (monitor : Monitor) (trace : TraceKnown) (sink : SinkKnown) 
   served_as served.Off it = λ s m talk stands.
       let e = it s m talk stands in (went_on s talk [] e.0, e.1)
   served_as (served.Fault name) it = by_fault name it
-  served_as (served.Torn torn journals histories) it = (it.0, breaks_off it.1)
-  served_as served.OutOfMemory it = breaks_off it
+  served_as (served.Torn torn journals histories) it = (it.0, breaks_off (served.Torn torn journals histories) it.1)
+  served_as served.OutOfMemory it = breaks_off served.OutOfMemory it
 
   pub attached : (end : Option Served) → TurnedAs end a b → TurnedAs end a c
   attached None it = goes_on it

@@ -1,5 +1,5 @@
 -- A connection that is over, behind those before it.
-use Rattle.std.proofs.Common.{◌≡◌, ℕ, ◌⊎◌, inl, inr, ◌<◌, true, refl, sym, ap, ◌∙◌, List, [], ◌∷◌, ◌++◌, append-nil, append_assoc, arith}
+use Rattle.std.proofs.Common.{◌≡◌, ℕ, ◌⊎◌, inl, inr, ◌<◌, true, false, refl, sym, ap, ◌∙◌, List, [], ◌∷◌, ◌++◌, append-nil, append_assoc, arith}
 use Rattle.vm_types.specs.Causes.{Rose}
 use Rattle.vm_types.specs.declared.exit.Object.TheVariants as object
 use Rattle.vm_types.specs.declared.exit.Object.{Object}
@@ -8,8 +8,9 @@ use Rattle.serve_host.specs.Tracing.{TraceKnown}
 use Rattle.serve_host.specs.Listening.{Ended, IsFresh, ListenerKnown, ended_of}
 use Rattle.vm_outside.specs.Known.{FilesKnown, SinkKnown}
 use Rattle.http_stream.specs.Conversation.{new_connection}
+use Rattle.http_stream.specs.Stream.{Connection}
 use Rattle.script_text.specs.declared.item.Item.TheVariants as item
-use Rattle.flat_machine.specs.Machine.{Machine, is_off}
+use Rattle.flat_machine.specs.Machine.{Machine}
 use Rattle.flat_machine.specs.Run.{Act}
 use Rattle.flat_trace.specs.Showing.{Out, Run, given, replied}
 use Rattle.flat_trace.specs.Showing.Out.{Opened}
@@ -21,13 +22,14 @@ use Rattle.monitor_running.proofs.Disks.{rests_same}
 use Rattle.monitor_running.proofs.Joins.{goes_with}
 use Rattle.monitor_serving.specs.declared.served.Served.{Served as End}
 use Rattle.monitor_serving.specs.declared.served.Served.TheVariants as served
-use Rattle.monitor_serving.specs.Connections.{AreTold, AreToldInPart, BrokeOff, HasServed, Place, Serves, WasSaid, place}
-use Rattle.monitor_serving.specs.Turns.{Broke, BreaksOff, Continues, EndsConnection, GoesOff, ServedAs}
-use Rattle.monitor_serving.specs.Views.{Hosts, Stands, Talked, View, hosts, view}
+use Rattle.monitor_serving.specs.Causes.{IsOver, ServedCause}
+use Rattle.monitor_serving.specs.Connections.{AreTold, AreToldInPart, AreToldOff, BrokeOff, HasGone, HasServed, Place, Serves, WasOver, WasSaid, place}
+use Rattle.monitor_serving.specs.Turns.{BreaksOff, EndsConnection, GoesOff, ServedAs}
+use Rattle.monitor_serving.specs.Views.{HasClosed, Hosts, Stands, Talked, View, hosts, view}
 use Rattle.monitor_serving.proofs.Pieces.{unasked}
 
 -- the connection is as it was accepted, and then as it is given back
-pub was_said : (talk : List Out) (fresh conn : ConnKnown) (heard : List Out) (unsent unsaid : List ℕ) → IsFresh fresh
+abbrev pub was_said : (talk : List Out) (fresh conn : ConnKnown) (heard : List Out) (unsent unsaid : List ℕ) → IsFresh fresh
     → Talked fresh conn heard unsent unsaid
     → WasSaid ((talk ++ Opened ∷ []) ++ heard) talk (ended_of conn) unsent unsaid
 was_said talk fresh conn heard unsent unsaid is talked = record {
@@ -46,12 +48,26 @@ pub failed_once : (unsent : List ℕ) (fresh conn : ConnKnown) → IsFresh fresh
 failed_once unsent fresh conn is (inl none) = inl none
 failed_once unsent fresh conn is (inr rose) = inr (rose_once fresh.health.faults conn.health.faults is.faults rose)
 
+-- why it was over
+was_over : (opened now : Monitor) (fresh conn : ConnKnown) (heard : List Out) → IsFresh fresh → opened.front ≡ new_connection
+    → (now.front.failed ≡ true → (opened.front.failed ≡ true) ⊎ HasClosed heard) → IsOver now fresh conn
+    → WasOver heard (ended_of conn)
+was_over opened now fresh conn heard is new closed (inl left) = inl (left is.tells)
+was_over opened now fresh conn heard is new closed (inr (inr rose)) =
+    inr (inr (rose_once fresh.health.faults conn.health.faults is.faults rose))
+was_over opened now fresh conn heard is new closed (inr (inl failed)) = inr (inl (by_answer (closed failed)))
+  where
+    by_answer : (opened.front.failed ≡ true) ⊎ HasClosed heard → HasClosed heard
+    by_answer (inl before) = absurd (let on : false ≡ true = sym (ap (λ (c : Connection). c.failed) new) ∙ before in cc)
+    by_answer (inr it) = it
+
 -- ---- a new connection
 
 module _ (s : Start) (first : List Ended) (monitor opened : Monitor) (trace told : TraceKnown) (sink : SinkKnown) (host : HostKnown)
     (files : FilesKnown) (listener : ListenerKnown)
     (is_told : told.took ≡ trace.took ++ item.Connect ∷ [])
     (opens : (m : Machine) → IsMonitor monitor files m → IsMonitor opened files (record m { connection = new_connection }))
+    (new : opened.front ≡ new_connection)
     (old : HasServed s first (place monitor (hosts (known trace sink host) files) listener)) where
   abbrev pub stands_opened : Stands s opened (hosts (known told sink host) files) (record old.flat { connection = new_connection })
       (old.talk ++ Opened ∷ [])
@@ -80,92 +96,106 @@ module _ (s : Start) (first : List Ended) (monitor opened : Monitor) (trace told
     pub ended_since : left.ended ≡ (ended_of conn ∷ old.since) ++ first
     ended_since = given_back ∙ ap (λ (l : List Ended). ended_of conn ∷ l) old.ended
 
-    abbrev pub is_over : (unsent : List ℕ) → Continues s before after (old.talk ++ Opened ∷ []) unsent
-        → (unsent ≡ []) ⊎ Rose fresh.health.faults conn.health.faults → HasServed s first end_place
-    is_over unsent on cut = record {
-      flat = on.flat;
-      talk = (old.talk ++ Opened ∷ []) ++ on.heard;
-      since = ended_of conn ∷ old.since;
-      stands = on.stands;
-      ended = ended_since;
-      told = (
-        old.talk,
-        unsent,
-        was_said old.talk fresh conn on.heard unsent [] is_fresh on.talked,
-        failed_once unsent fresh conn is_fresh cut,
-        old.told,
-      );
-    }
-
-    is_broken : Broke s before after (old.talk ++ Opened ∷ []) → BrokeOff s first end_place
-    is_broken broke = record {
-      at = broke.at;
-      talk = (old.talk ++ Opened ∷ []) ++ broke.heard;
-      since = ended_of conn ∷ old.since;
-      host = broke.host;
-      unshown = broke.unshown;
-      reached = broke.reached;
-      ended = ended_since;
-      told = (
-        old.talk,
-        broke.unsent,
-        broke.unsaid,
-        was_said old.talk fresh conn broke.heard broke.unsent broke.unsaid is_fresh broke.talked,
-        old.told,
-      );
-    }
-
-    pub ended_well : EndsConnection before after → HasServed s first end_place
-    ended_well ends =
+    pub ended_well : EndsConnection before after → IsOver monitor_now fresh conn → HasServed s first end_place
+    ended_well ends over =
         let e = ends s (record old.flat { connection = new_connection }) (old.talk ++ Opened ∷ []) stands_opened in
-        is_over e.0 e.1 e.2
+        let on = e.1 in record {
+          flat = on.flat;
+          talk = (old.talk ++ Opened ∷ []) ++ on.heard;
+          since = ended_of conn ∷ old.since;
+          stands = on.stands;
+          ended = ended_since;
+          told = (
+            old.talk,
+            e.0,
+            was_said old.talk fresh conn on.heard e.0 [] is_fresh on.talked,
+            failed_once e.0 fresh conn is_fresh e.2,
+            was_over opened monitor_now fresh conn on.heard is_fresh new on.closed over,
+            old.told,
+          );
+        }
 
-    pub ended_off : GoesOff before after → (it : HasServed s first end_place) × (is_off it.flat ≡ true)
+    pub ended_off : GoesOff before after → HasGone s first end_place
     ended_off ends =
         let e = ends s (record old.flat { connection = new_connection }) (old.talk ++ Opened ∷ []) stands_opened in
-        (is_over [] e.0 (inl refl), e.1)
+        let on = e.0 in record {
+          flat = on.flat;
+          talk = (old.talk ++ Opened ∷ []) ++ on.heard;
+          since = ended_of conn ∷ old.since;
+          stands = on.stands;
+          ended = ended_since;
+          told = (old.talk, [], was_said old.talk fresh conn on.heard [] [] is_fresh on.talked, inl refl, old.told);
+          off = e.1;
+        }
 
-    pub ended_broken : BreaksOff before after → BrokeOff s first end_place
-    ended_broken ends =
-        is_broken (ends s (record old.flat { connection = new_connection }) (old.talk ++ Opened ∷ []) stands_opened)
+    pub ended_broken : (end : End) → BreaksOff end before after → BrokeOff end s first end_place
+    ended_broken end ends =
+        let broke = ends s (record old.flat { connection = new_connection }) (old.talk ++ Opened ∷ []) stands_opened in record {
+          at = broke.at;
+          talk = (old.talk ++ Opened ∷ []) ++ broke.heard;
+          since = ended_of conn ∷ old.since;
+          host = broke.host;
+          unshown = broke.unshown;
+          reached = broke.reached;
+          ended = ended_since;
+          told = (
+            old.talk,
+            broke.unsent,
+            broke.unsaid,
+            was_said old.talk fresh conn broke.heard broke.unsent broke.unsaid is_fresh broke.talked,
+            old.told,
+          );
+          shown = broke.shown;
+          files = broke.files;
+        }
 
 -- by which end
-pub one_served : (monitor opened : Monitor) (trace told : TraceKnown) (sink : SinkKnown) (host : HostKnown) (files : FilesKnown)
-    (listener : ListenerKnown) → told.took ≡ trace.took ++ item.Connect ∷ []
-    → ((m : Machine) → IsMonitor monitor files m → IsMonitor opened files (record m { connection = new_connection }))
-    → (fresh conn : ConnKnown) → IsFresh fresh → (now_monitor : Monitor) (now : Hosts) (left : ListenerKnown)
-    → left.ended ≡ ended_of conn ∷ listener.ended → (end : End)
-    → ServedAs end (view opened (hosts (known told sink host) files) fresh) (view now_monitor now conn)
-    → Serves end (place monitor (hosts (known trace sink host) files) listener) (place now_monitor now left)
-one_served monitor opened trace told sink host files listener is_told opens fresh conn is_fresh now_monitor now left back end ends =
-    by_end end ends
-  where
-    broken : BreaksOff (view opened (hosts (known told sink host) files) fresh) (view now_monitor now conn)
-        → (s : Start) (first : List Ended) → HasServed s first (place monitor (hosts (known trace sink host) files) listener)
-        → BrokeOff s first (place now_monitor now left)
-    broken breaks s first old =
-        ended_broken s first monitor opened trace told sink host files listener is_told opens old fresh conn is_fresh now_monitor now left back breaks
+module _ (monitor opened : Monitor) (trace told : TraceKnown) (sink : SinkKnown) (host : HostKnown) (files : FilesKnown)
+    (listener : ListenerKnown) (is_told : told.took ≡ trace.took ++ item.Connect ∷ [])
+    (opens : (m : Machine) → IsMonitor monitor files m → IsMonitor opened files (record m { connection = new_connection }))
+    (new : opened.front ≡ new_connection) (fresh conn : ConnKnown) (is_fresh : IsFresh fresh) (now_monitor : Monitor) (now : Hosts)
+    (left : ListenerKnown) (back : left.ended ≡ ended_of conn ∷ listener.ended) where
+  abbrev start : Place
+  start = place monitor (hosts (known trace sink host) files) listener
 
-    by_fault : (name : Object) → ServedAs (served.Fault name) (view opened (hosts (known told sink host) files) fresh) (view now_monitor now conn)
-        → Serves (served.Fault name) (place monitor (hosts (known trace sink host) files) listener) (place now_monitor now left)
-    by_fault object.Trace ends = broken ends
-    by_fault object.Sink ends = broken ends
-    by_fault object.Source ends = absurd ends
-    by_fault object.Files ends = absurd ends
-    by_fault object.Listener ends = absurd ends
-    by_fault object.Words ends = absurd ends
+  abbrev from : View
+  from = view opened (hosts (known told sink host) files) fresh
 
-    by_end : (e : End) → ServedAs e (view opened (hosts (known told sink host) files) fresh) (view now_monitor now conn)
-        → Serves e (place monitor (hosts (known trace sink host) files) listener) (place now_monitor now left)
-    by_end served.Ended ends = λ s first old.
-        ended_well s first monitor opened trace told sink host files listener is_told opens old fresh conn is_fresh now_monitor now left back ends
-    by_end served.Off ends = λ s first old.
-        ended_off s first monitor opened trace told sink host files listener is_told opens old fresh conn is_fresh now_monitor now left back ends
-    by_end (served.Fault name) ends = by_fault name ends
-    by_end (served.Torn torn journals histories) ends = (ends.0, broken ends.1)
-    by_end served.OutOfMemory ends = broken ends
+  abbrev to : View
+  to = view now_monitor now conn
+
+  broken : (end : End) → BreaksOff end from to → (s : Start) (first : List Ended) → HasServed s first start
+      → BrokeOff end s first (place now_monitor now left)
+  broken end breaks s first old =
+      ended_broken s first monitor opened trace told sink host files listener is_told opens new old fresh conn is_fresh now_monitor now left back
+      end breaks
+
+  by_fault : (name : Object) → ServedAs (served.Fault name) from to → Serves (served.Fault name) start (place now_monitor now left)
+  by_fault object.Trace ends = broken (served.Fault object.Trace) ends
+  by_fault object.Sink ends = broken (served.Fault object.Sink) ends
+  by_fault object.Source ends = absurd ends
+  by_fault object.Files ends = absurd ends
+  by_fault object.Listener ends = absurd ends
+  by_fault object.Words ends = absurd ends
+
+  pub one_served : (end : End) → ServedAs end from to → ServedCause end from to → Serves end start (place now_monitor now left)
+  one_served served.Ended ends over = λ s first old.
+      ended_well s first monitor opened trace told sink host files listener is_told opens new old fresh conn is_fresh now_monitor now left back
+      ends over
+  one_served served.Off ends cause = λ s first old.
+      ended_off s first monitor opened trace told sink host files listener is_told opens new old fresh conn is_fresh now_monitor now left back
+      ends
+  one_served (served.Fault name) ends cause = by_fault name ends
+  one_served (served.Torn torn journals histories) ends cause =
+      (ends.0, broken (served.Torn torn journals histories) ends.1)
+  one_served served.OutOfMemory ends cause = broken served.OutOfMemory ends
 
 -- what was told whole was told in part
 pub in_part : (talk : List Out) (since : List Ended) → AreTold talk since → AreToldInPart talk since
 in_part talk [] told = told
-in_part talk (ended ∷ others) (before, unsent, said, cut, told) = (before, unsent, [], said, told)
+in_part talk (ended ∷ others) (before, unsent, said, cut, over, told) = (before, unsent, [], said, told)
+
+-- and is so where the guest is off
+pub in_off : (talk : List Out) (since : List Ended) → AreTold talk since → AreToldOff talk since
+in_off talk [] told = told
+in_off talk (ended ∷ others) (before, unsent, said, cut, over, told) = (before, unsent, said, cut, told)

@@ -1,7 +1,10 @@
 pub mod Alone
 pub mod Answering
 pub mod Attaching
+pub mod Closing
 pub mod Connections
+pub mod Filing
+pub mod Halting
 pub mod Pieces
 pub mod Settling
 pub mod Slices

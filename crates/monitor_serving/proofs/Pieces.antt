@@ -1,33 +1,31 @@
 -- What comes of bytes that a connection gave.
-use Rattle.std.proofs.Common.{◌≡◌, ℕ, Bool, true, false, refl, sym, ap, ◌∙◌, subst, List, [], ◌∷◌, ◌++◌, append-nil}
-use Rattle.vm_outside.specs.Known.{FilesKnown, SinkKnown}
-use Rattle.refusals.specs.declared.refusal.Refusal.TheVariants as refusal
-use Rattle.api_rules.specs.Answers.{refused}
+use Rattle.std.proofs.Common.{◌≡◌, ℕ, Bool, true, false, inl, refl, sym, ap, ◌∙◌, subst, List, [], ◌∷◌, ◌++◌, append-nil}
+use Rattle.vm_types.specs.declared.exit.Object.TheVariants as object
+use Rattle.vm_outside.specs.Known.{FilesKnown, SinkKnown, Tells}
 use Rattle.serve_host.specs.Passing.{ConnKnown, Gives, Waits}
 use Rattle.serve_host.specs.Tracing.{TraceKnown}
 use Rattle.script_text.specs.declared.item.Item.TheVariants as item
-use Rattle.http_stream.specs.declared.request.Next.{Next}
-use Rattle.http_stream.specs.Conversation.{arrived}
-use Rattle.http_stream.proofs.ConversationLemmas.{each, some_conversation}
 use Rattle.response_form.specs.declared.form.ResponseForm.TheVariants.{Http}
 use Rattle.response_form.specs.Responses.{Response, all_written}
 use Rattle.flat_machine.specs.Items.{Talks}
-use Rattle.flat_machine.specs.Machine.{Machine, is_off, running}
+use Rattle.flat_machine.specs.Machine.{AreFilesOf, Machine, is_off, running}
 use Rattle.flat_machine.specs.Outcome.{Outcome}
-use Rattle.flat_machine.specs.Outcome.Outcome.{NoMemory}
-use Rattle.flat_machine.specs.Requests.{RequestStep, respond}
 use Rattle.flat_machine.specs.Run.{Act}
 use Rattle.flat_trace.specs.Events.{answers_in}
 use Rattle.flat_trace.specs.Showing.{Hears, Out, Run, TraceStep}
 use Rattle.flat_trace.specs.Showing.Out.{Heard}
 use Rattle.monitor_core.specs.declared.monitor.Monitor.{Monitor}
 use Rattle.monitor_core.specs.State.{IsMonitor}
+use Rattle.monitor_core.specs.Talking.{HasHalted}
 use Rattle.monitor_running.specs.Asked.{HostAnswered, HostKnown, ItemAsks}
 use Rattle.monitor_running.specs.Reached.{Reached, Start, known, seen}
 use Rattle.monitor_running.proofs.Disks.{rests_same}
 use Rattle.monitor_running.proofs.Joins.{goes_with}
+use Rattle.monitor_serving.specs.declared.served.Served.TheVariants as served
 use Rattle.monitor_serving.specs.Turns.{Broke, Continues}
 use Rattle.monitor_serving.specs.Views.{Talked, hosts, view}
+use Rattle.monitor_serving.proofs.Closing.{heard_closes}
+use Rattle.monitor_serving.proofs.Halting.{halted_talk}
 
 -- a clock and disks that are asked nothing by an item
 pub unasked : (act : Act) (m : Machine) (outs : List Out) (n : Machine) (run : Run (act ∷ []) m outs n) (host : HostKnown)
@@ -36,16 +34,6 @@ unasked act m outs n run host none asks = record {
   clock = rw none (record { still = λ tells. tells; are = λ tells. refl });
   disk = (host.disk, asks, rests_same host.disk);
 }
-
--- whatever is due can be answered, if only by 503
-pub some_talk : (bytes : List ℕ) (m : Machine)
-    → (outcomes : List Outcome) × (responses : List Response) × (n : Machine) × Talks bytes outcomes m responses n
-some_talk bytes m =
-    let answers : (due : Next) (m : Machine) → Unit {0}
-    → (said : List Response) × (n : Machine) × RequestStep NoMemory due m said n × Unit {0} =
-    λ due m kept. (respond due (refused refusal.OutOfMemory), m, (refl, refl), tt) in
-    let all = some_conversation RequestStep NoMemory (λ m. Unit {0}) answers (arrived m.connection bytes) m tt in
-    (each all.0 NoMemory, all.1, record all.3 { connection = all.2 }, (all.2, all.3, all.4, refl))
 
 module _ (s : Start) (m : Machine) (talk : List Out) (bytes : List ℕ) (trace told : TraceKnown) (sink : SinkKnown) (host : HostKnown)
     (is_told : told.took ≡ trace.took ++ item.Bytes bytes ∷ []) (reached : Reached s (seen (known trace sink host)) m talk) where
@@ -91,7 +79,8 @@ said_on before now bytes text unsent responses gave took is = record {
 module _ (s : Start) (m : Machine) (talk : List Out) (bytes : List ℕ) (trace told : TraceKnown) (sink : SinkKnown) (host : HostKnown)
     (files left : FilesKnown) (monitor after : Monitor) (before conn now : ConnKnown)
     (is_told : told.took ≡ trace.took ++ item.Bytes bytes ∷ []) (reached : Reached s (seen (known trace sink host)) m talk)
-    (came : Gives before conn bytes) (untaken : conn.took ≡ before.took) (waits : Waits conn now) where
+    (came : Gives before conn bytes) (untaken : conn.took ≡ before.took) (waits : Waits conn now)
+    (was : IsMonitor monitor files m) where
   pub gave : now.gave ≡ before.gave ++ bytes
   gave = waits.gave ∙ came.gave
 
@@ -104,6 +93,7 @@ module _ (s : Start) (m : Machine) (talk : List Out) (bytes : List ℕ) (trace t
     flat = n;
     heard = Heard bytes responses ∷ [];
     talked = said_on before now bytes text unsent responses gave (took ∙ ap (λ (l : List ℕ). l ++ text) untaken) written;
+    closed = heard_closes monitor after files left m n bytes outcomes responses was is talks;
     stands = record {
       is = is;
       reached = was_heard s m talk bytes trace told sink host is_told reached outcomes responses n on talks;
@@ -111,21 +101,23 @@ module _ (s : Start) (m : Machine) (talk : List Out) (bytes : List ℕ) (trace t
   }
 
   -- the guest is off, and nothing is answered
-  abbrev pub was_ignored : is_off m ≡ true → IsMonitor after left m → now.took ≡ conn.took
+  abbrev pub was_ignored : is_off m ≡ true → IsMonitor after left m → after ≡ monitor → now.took ≡ conn.took
       → Continues s (view monitor (hosts (known trace sink host) files) before) (view after (hosts (known told sink host) left) now) talk []
-  was_ignored off is took = record {
+  was_ignored off is same took = record {
     flat = m;
     heard = Heard bytes [] ∷ [];
     talked = said_on before now bytes [] [] [] gave
         (append-nil now.took ∙ took ∙ untaken ∙ sym (append-nil before.took)) refl;
+    closed = λ failed. inl (subst (λ (x : Monitor). x.front.failed ≡ true) same failed);
     stands = record { is = is; reached = was_dropped s m talk bytes trace told sink host is_told reached off };
   }
 
-  -- there was no memory to answer
-  pub was_cut : is_off m ≡ false → now.took ≡ conn.took
-      → Broke s (view monitor (hosts (known trace sink host) files) before) (view after (hosts (known told sink host) left) now) talk
-  was_cut on took =
-      let t = some_talk bytes m in
+  -- there was no memory to answer: some of it was answered, and the rest could be by 503
+  pub was_cut : is_off m ≡ false → now.took ≡ conn.took → Tells files.health → HasHalted Http bytes monitor after files left
+      → Broke served.OutOfMemory s (view monitor (hosts (known trace sink host) files) before)
+      (view after (hosts (known told sink host) left) now) talk
+  was_cut on took tells halts =
+      let t = halted_talk bytes monitor after files left m tells was halts in
       let said = said_on before now bytes (all_written Http t.1) (all_written Http t.1) t.1 gave
       (ap (λ (l : List ℕ). l ++ all_written Http t.1) (took ∙ untaken)) refl in record {
         at = t.2;
@@ -135,6 +127,8 @@ module _ (s : Start) (m : Machine) (talk : List Out) (bytes : List ℕ) (trace t
         unsent = all_written Http t.1;
         unsaid = [];
         talked = said;
+        shown = refl;
+        files = t.4;
         reached = subst (λ (l : List ℕ). Reached s (record { took = told.took; taken = l; host = host }) t.2 (talk ++ Heard bytes t.1 ∷ []))
             (sym (append-nil sink.taken)) (was_heard s m talk bytes trace told sink host is_told reached t.0 t.1 t.2 on t.3);
       }
@@ -142,9 +136,10 @@ module _ (s : Start) (m : Machine) (talk : List Out) (bytes : List ℕ) (trace t
 -- the trace failed, and has nothing of the bytes
 pub was_untold : (s : Start) (m : Machine) (talk : List Out) (bytes : List ℕ) (trace now : TraceKnown) (sink : SinkKnown) (host : HostKnown)
     (files left : FilesKnown) (monitor after : Monitor) (before conn : ConnKnown) → now.took ≡ trace.took
-    → Reached s (seen (known trace sink host)) m talk → Gives before conn bytes → conn.took ≡ before.took
-    → Broke s (view monitor (hosts (known trace sink host) files) before) (view after (hosts (known now sink host) left) conn) talk
-was_untold s m talk bytes trace now sink host files left monitor after before conn same reached came untaken = record {
+    → Reached s (seen (known trace sink host)) m talk → Gives before conn bytes → conn.took ≡ before.took → AreFilesOf left m
+    → Broke (served.Fault object.Trace) s (view monitor (hosts (known trace sink host) files) before)
+    (view after (hosts (known now sink host) left) conn) talk
+was_untold s m talk bytes trace now sink host files left monitor after before conn same reached came untaken filed = record {
   at = m;
   host = host;
   unshown = [];
@@ -156,6 +151,8 @@ was_untold s m talk bytes trace now sink host files left monitor after before co
     gave = came.gave;
     took = append-nil conn.took ∙ untaken ∙ sym (append-nil before.took);
   };
+  shown = refl;
+  files = filed;
   reached = subst (λ (l : List ℕ). Reached s (record { took = now.took; taken = l; host = host }) m (talk ++ []))
       (sym (append-nil sink.taken))
       (subst (λ (t : List Out). Reached s (seen (known now sink host)) m t) (sym (append-nil talk))

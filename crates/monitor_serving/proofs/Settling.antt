@@ -1,5 +1,5 @@
 -- A turn: slices, and then what was heard beside them.
-use Rattle.std.proofs.Common.{◌≡◌, ℕ, sym, subst, List, [], ◌++◌, append-nil, Option, Some, None, IfSome}
+use Rattle.std.proofs.Common.{◌≡◌, ℕ, refl, sym, subst, List, [], ◌++◌, append-nil, Option, Some, None, IfSome}
 use Rattle.vm_types.specs.declared.exit.Object.TheVariants as object
 use Rattle.vm_outside.specs.Known.{Health, Lasts}
 use Rattle.flat_trace.specs.Showing.{Out}
@@ -17,7 +17,7 @@ use Rattle.monitor_serving.proofs.Slices.{untouched}
 use Rattle.monitor_serving.proofs.Turns.{rose_after}
 
 -- nothing happened, and there is no memory to go on
-pub breaks_idle : (v : View) → BreaksOff v v
+pub breaks_idle : (v : View) → BreaksOff served.OutOfMemory v v
 breaks_idle v s m talk stands = record {
   at = m;
   host = v.hosts.slices.host;
@@ -26,6 +26,8 @@ breaks_idle v s m talk stands = record {
   unsent = [];
   unsaid = [];
   talked = untouched v.conn;
+  shown = refl;
+  files = stands.is.files;
   reached = subst (λ (l : List ℕ). Reached s (record (seen v.hosts.slices) { taken = l }) m (talk ++ []))
       (sym (append-nil v.hosts.slices.sink.taken))
       (subst (λ (t : List Out). Reached s (seen v.hosts.slices) m t) (sym (append-nil talk)) stands.reached);

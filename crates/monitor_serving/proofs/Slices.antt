@@ -1,8 +1,9 @@
 -- What slices leave of a connection that is served beside them.
-use Rattle.std.proofs.Common.{◌≡◌, ℕ, refl, sym, ap, ◌∙◌, subst, List, [], ◌++◌, take, Option, Some, None, append-nil}
+use Rattle.std.proofs.Common.{◌≡◌, ℕ, refl, sym, ap, ◌∙◌, subst, inl, List, [], ◌++◌, take, Option, Some, None, append-nil}
 use Rattle.monitor_running.specs.Asked.{HostKnown}
 use Rattle.serve_host.specs.Passing.{ConnKnown}
-use Rattle.flat_machine.specs.Machine.{Machine}
+use Rattle.vm_types.specs.declared.exit.Object.TheVariants as object
+use Rattle.flat_machine.specs.Machine.{AreFilesOf, Machine}
 use Rattle.flat_trace.specs.Showing.{Out}
 use Rattle.monitor_machine.specs.declared.machine.LiveMachine.{LiveMachine}
 use Rattle.monitor_machine.specs.State.{IsLive}
@@ -11,14 +12,16 @@ use Rattle.monitor_core.specs.State.{IsMonitor}
 use Rattle.monitor_running.specs.declared.ran.Ran.{Ran}
 use Rattle.monitor_running.specs.declared.ran.Ran.TheVariants as ran
 use Rattle.monitor_running.specs.Ran.{RanOn}
-use Rattle.monitor_running.specs.Reached.{Kept, Reached, Start, seen}
+use Rattle.monitor_running.specs.Reached.{Ahead, Kept, Reached, Start, seen}
 use Rattle.monitor_serving.specs.declared.served.Served.{Served}
+use Rattle.monitor_serving.specs.declared.served.Served.TheVariants as served
 use Rattle.monitor_serving.specs.declared.listening.Heard.{Heard}
 use Rattle.monitor_serving.specs.declared.listening.Heard.TheVariants as heard
 use Rattle.monitor_serving.specs.Ends.{end_of}
 use Rattle.monitor_serving.specs.Hearing.{HearsBy}
-use Rattle.monitor_serving.specs.Turns.{Broke, GoesOn, ServedAs}
+use Rattle.monitor_serving.specs.Turns.{Broke, Continues, GoesOn, MayLack, ServedAs}
 use Rattle.monitor_serving.specs.Views.{Hosts, Stands, Talked, View, view}
+use Rattle.monitor_serving.proofs.Filing.{filed, filed_ahead, filed_beside, run_filed}
 
 -- nothing was said on a connection that is as it was
 pub untouched : (conn : ConnKnown) → Talked conn conn [] [] []
@@ -49,15 +52,25 @@ module _ (monitor : Monitor) (machine : LiveMachine) (old new : Hosts) (conn : C
     reached = subst (λ (t : List Out). Reached s (seen new.slices) k.flat t) (sym (append-nil talk)) k.reached;
   }
 
+  abbrev went_on : (s : Start) (m : Machine) (talk : List Out) → IsMonitor monitor old.files m
+      → Kept IsLive s m (seen new.slices) machine talk → Continues s (view monitor old conn) after talk []
+  went_on s m talk is k = record {
+    flat = k.flat;
+    heard = [];
+    talked = untouched conn;
+    closed = λ failed. inl failed;
+    stands = kept_stands s m talk is k;
+  }
+
   -- the gate was closed, or the guest is off: nothing is missing
   pub slices_on : (ran : Ran) → RanOn IsLive (Some ran) (seen old.slices) monitor.machine (seen new.slices) machine → end_of ran ≡ None
       → GoesOn (view monitor old conn) after
   slices_on ran.Closed on none = λ s m talk stands.
       let k = on s m talk stands.is.own.live stands.reached in
-      record { flat = k.0.flat; heard = []; talked = untouched conn; stands = kept_stands s m talk stands.is k.0 }
+      went_on s m talk stands.is k.0
   slices_on ran.Off on none = λ s m talk stands.
       let k = on s m talk stands.is.own.live stands.reached in
-      record { flat = k.0.flat; heard = []; talked = untouched conn; stands = kept_stands s m talk stands.is k.0 }
+      went_on s m talk stands.is k.0
   slices_on ran.TraceFailed on none = cc
   slices_on ran.SinkFailed on none = cc
   slices_on (ran.Torn torn journals histories) on none = cc
@@ -80,11 +93,11 @@ came_unsaid heard.Nothing old new buf came took =
     record { only = tt; gave = came.gave ∙ sym (append-nil old.gave); took = append-nil new.took ∙ took ∙ sym (append-nil old.took) }
 
 module _ (monitor now : Monitor) (machine : LiveMachine) (old new : Hosts) (conn left : ConnKnown) (unsaid : List ℕ)
-    (talked : Talked conn left [] [] unsaid) where
-  broke_at : (s : Start) (talk : List Out) (at : Machine) (host : HostKnown) (unshown : List ℕ)
-      → Reached s (record (seen new.slices) { taken = new.slices.sink.taken ++ unshown; host = host }) at talk
-      → Broke s (view monitor old conn) (view now new left) talk
-  broke_at s talk at host unshown reached = record {
+    (talked : Talked conn left [] [] unsaid) (files_same : new.files ≡ old.files) where
+  broke_at : (end : Served) (s : Start) (talk : List Out) (at : Machine) (host : HostKnown) (unshown : List ℕ) → MayLack end unshown
+      → AreFilesOf new.files at → Reached s (record (seen new.slices) { taken = new.slices.sink.taken ++ unshown; host = host }) at talk
+      → Broke end s (view monitor old conn) (view now new left) talk
+  broke_at end s talk at host unshown shown files reached = record {
     at = at;
     host = host;
     unshown = unshown;
@@ -92,16 +105,29 @@ module _ (monitor now : Monitor) (machine : LiveMachine) (old new : Hosts) (conn
     unsent = [];
     unsaid = unsaid;
     talked = talked;
+    shown = shown;
+    files = files;
     reached = subst (λ (t : List Out). Reached s (record (seen new.slices) { taken = new.slices.sink.taken ++ unshown; host = host }) at t)
         (sym (append-nil talk)) reached;
   }
 
   -- all that was shown was taken
-  all_shown : (s : Start) (talk : List Out) (at : Machine) (host : HostKnown)
-      → Reached s (record (seen new.slices) { host = host }) at talk → Broke s (view monitor old conn) (view now new left) talk
-  all_shown s talk at host reached =
-      broke_at s talk at host []
+  all_shown : (end : Served) (s : Start) (talk : List Out) (at : Machine) (host : HostKnown) → MayLack end [] → AreFilesOf new.files at
+      → Reached s (record (seen new.slices) { host = host }) at talk → Broke end s (view monitor old conn) (view now new left) talk
+  all_shown end s talk at host shown files reached =
+      broke_at end s talk at host [] shown files
       (subst (λ (l : List ℕ). Reached s (record (seen new.slices) { taken = l; host = host }) at talk) (sym (append-nil new.slices.sink.taken)) reached)
+
+  -- the files are those of a machine that differs in its guest alone
+  beside : (m n : Machine) → AreFilesOf old.files m → n ≡ record m { guest = n.guest } → AreFilesOf new.files n
+  beside m n files is = filed old.files new.files m n files_same (filed_beside m n is) files
+
+  -- and of one that further events lead to it
+  ahead : (s : Start) (m : Machine) (talk : List Out) → AreFilesOf old.files m
+      → (a : Ahead IsLive s m (seen new.slices) machine talk) → AreFilesOf new.files a.told
+  ahead s m talk files a =
+      filed old.files new.files m a.told files_same
+      (filed_ahead m a.told a.flat (filed_beside m a.flat a.beside) (run_filed a.more a.told a.outs a.flat a.ahead a.unsaid)) files
 
   abbrev served_as : Option Served → Type 0
   served_as None = Unit {0}
@@ -114,18 +140,22 @@ module _ (monitor now : Monitor) (machine : LiveMachine) (old new : Hosts) (conn
   slices_broke ran.TraceFailed end on is =
       subst (λ (o : Option Served). served_as o) is
       (λ s m talk stands.
-      let a = on s m talk stands.is.own.live stands.reached in all_shown s talk a.told a.host a.reached)
+      let a = on s m talk stands.is.own.live stands.reached in
+      all_shown (served.Fault object.Trace) s talk a.told a.host refl (ahead s m talk stands.is.files a) a.reached)
   slices_broke ran.SinkFailed end on is =
       subst (λ (o : Option Served). served_as o) is
       (λ s m talk stands.
-      let a = on s m talk stands.is.own.live stands.reached in broke_at s talk a.1.flat new.slices.host a.0 a.1.reached)
+      let a = on s m talk stands.is.own.live stands.reached in
+      broke_at (served.Fault object.Sink) s talk a.1.flat new.slices.host a.0 tt (beside m a.1.flat stands.is.files a.1.beside) a.1.reached)
   slices_broke (ran.Torn torn journals histories) end on is =
       subst (λ (o : Option Served). served_as o) is (
         (on.world, on.slice),
         (λ s m talk stands.
-            let k = on.kept s m talk stands.is.own.live stands.reached in all_shown s talk k.flat on.host k.reached),
+            let k = on.kept s m talk stands.is.own.live stands.reached in
+            all_shown (served.Torn torn journals histories) s talk k.flat on.host refl (beside m k.flat stands.is.files k.beside) k.reached),
       )
   slices_broke ran.OutOfMemory end on is =
       subst (λ (o : Option Served). served_as o) is
       (λ s m talk stands.
-      let k = on s m talk stands.is.own.live stands.reached in all_shown s talk k.flat new.slices.host k.reached)
+      let k = on s m talk stands.is.own.live stands.reached in
+      all_shown served.OutOfMemory s talk k.flat new.slices.host refl (beside m k.flat stands.is.files k.beside) k.reached)

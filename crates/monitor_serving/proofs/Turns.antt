@@ -12,7 +12,8 @@ use Rattle.monitor_serving.specs.declared.served.Served.{Served}
 use Rattle.monitor_serving.specs.declared.served.Served.TheVariants as served
 use Rattle.monitor_serving.specs.Causes.{ServedCause, TurnedCause}
 use Rattle.monitor_serving.specs.Turns.{Broke, BreaksOff, Continues, GoesOn, ServedAs, TurnedAs}
-use Rattle.monitor_serving.specs.Views.{AllLast, AreHeard, Hosts, Stands, Talked, View}
+use Rattle.monitor_serving.specs.Views.{AllLast, AreHeard, HasClosed, Hosts, Stands, Talked, View, closes}
+use Rattle.monitor_serving.proofs.Closing.{any_first, any_more}
 
 -- ---- what was said
 
@@ -47,6 +48,15 @@ talked_on a b c first more unsent unsaid x y = record {
       ∙ ap (λ (l : List ℕ). a.took ++ l) (sym (replied_append first more));
 }
 
+-- a connection that has failed since was closed in either of two
+closed_first : {P : Type 0} (a b : List Out) → P ⊎ HasClosed a → P ⊎ HasClosed (a ++ b)
+closed_first a b (inl before) = inl before
+closed_first a b (inr closed) = inr (any_first closes a b closed)
+
+pub closed_on : {P Q : Type 0} (a b : List Out) → (Q → P ⊎ HasClosed a) → Q ⊎ HasClosed b → P ⊎ HasClosed (a ++ b)
+closed_on a b first (inl before) = closed_first a b (first before)
+closed_on a b first (inr closed) = inr (any_more closes a b closed)
+
 -- ---- one view, and then another
 
 module _ (s : Start) (a b c : View) (talk : List Out) (first : Continues s a b talk []) where
@@ -55,11 +65,12 @@ module _ (s : Start) (a b c : View) (talk : List Out) (first : Continues s a b t
     flat = more.flat;
     heard = first.heard ++ more.heard;
     talked = talked_on a.conn b.conn c.conn first.heard more.heard unsent [] first.talked more.talked;
+    closed = λ failed. closed_on first.heard more.heard first.closed (more.closed failed);
     stands = subst (λ (t : List Out). Stands s c.monitor c.hosts more.flat t) (append_assoc talk first.heard more.heard) more.stands;
   }
 
-  pub broke_on : Broke s b c (talk ++ first.heard) → Broke s a c talk
-  broke_on more = record {
+  pub broke_on : (end : Served) → Broke end s b c (talk ++ first.heard) → Broke end s a c talk
+  broke_on end more = record {
     at = more.at;
     host = more.host;
     unshown = more.unshown;
@@ -67,6 +78,8 @@ module _ (s : Start) (a b c : View) (talk : List Out) (first : Continues s a b t
     unsent = more.unsent;
     unsaid = more.unsaid;
     talked = talked_on a.conn b.conn c.conn first.heard more.heard more.unsent more.unsaid first.talked more.talked;
+    shown = more.shown;
+    files = more.files;
     reached = subst (λ (t : List Out). Reached s (record (seen c.hosts.slices) { taken = c.hosts.slices.sink.taken ++ more.unshown; host = more.host }) more.at t)
         (append_assoc talk first.heard more.heard) more.reached;
   }
@@ -79,9 +92,9 @@ module _ (a b c : View) (on : GoesOn a b) (conn_lasts : Lasts a.conn.health b.co
   goes_on more s m talk stands =
       let w = on s m talk stands in went_on s a b c talk w [] (more s w.flat (talk ++ w.heard) w.stands)
 
-  breaks_on : BreaksOff b c → BreaksOff a c
-  breaks_on more s m talk stands =
-      let w = on s m talk stands in broke_on s a b c talk w (more s w.flat (talk ++ w.heard) w.stands)
+  breaks_on : (end : Served) → BreaksOff end b c → BreaksOff end a c
+  breaks_on end more s m talk stands =
+      let w = on s m talk stands in broke_on s a b c talk w end (more s w.flat (talk ++ w.heard) w.stands)
 
   unsent_on : (unsent : List ℕ) → (unsent ≡ []) ⊎ Rose b.conn.health.faults c.conn.health.faults
       → (unsent ≡ []) ⊎ Rose a.conn.health.faults c.conn.health.faults
@@ -89,8 +102,8 @@ module _ (a b c : View) (on : GoesOn a b) (conn_lasts : Lasts a.conn.health b.co
   unsent_on unsent (inr rose) = inr (rose_after a.conn.health.faults b.conn.health.faults c.conn.health.faults conn_lasts.later rose)
 
   by_fault : (name : Object) → ServedAs (served.Fault name) b c → ServedAs (served.Fault name) a c
-  by_fault object.Trace more = breaks_on more
-  by_fault object.Sink more = breaks_on more
+  by_fault object.Trace more = breaks_on (served.Fault object.Trace) more
+  by_fault object.Sink more = breaks_on (served.Fault object.Sink) more
   by_fault object.Source more = absurd more
   by_fault object.Files more = absurd more
   by_fault object.Listener more = absurd more
@@ -104,8 +117,8 @@ module _ (a b c : View) (on : GoesOn a b) (conn_lasts : Lasts a.conn.health b.co
       let w = on s m talk stands in
       let e = more s w.flat (talk ++ w.heard) w.stands in (went_on s a b c talk w [] e.0, e.1)
   served_on (served.Fault name) more = by_fault name more
-  served_on (served.Torn torn journals histories) more = (more.0, breaks_on more.1)
-  served_on served.OutOfMemory more = breaks_on more
+  served_on (served.Torn torn journals histories) more = (more.0, breaks_on (served.Torn torn journals histories) more.1)
+  served_on served.OutOfMemory more = breaks_on served.OutOfMemory more
 
   pub turned_on : (end : Option Served) → TurnedAs end b c → TurnedAs end a c
   turned_on None more = goes_on more

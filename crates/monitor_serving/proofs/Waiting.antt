@@ -32,6 +32,7 @@ module _ (monitor : Monitor) (hosts : Hosts) (before conn : ConnKnown) (waits : 
       gave = waits.gave ∙ sym (append-nil before.gave);
       took = append-nil conn.took ∙ untaken ∙ sym (append-nil before.took);
     };
+    closed = λ failed. inl failed;
     stands = subst (λ (t : List Out). Stands s monitor hosts m t) (sym (append-nil talk)) stands;
   }
 

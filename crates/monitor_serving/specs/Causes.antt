@@ -1,5 +1,5 @@
 -- Why serving a connection ends.
-use Rattle.std.specs.Prelude.{◌≡◌, ◌⊎◌, true, List, [], Option, Some, None}
+use Rattle.std.specs.Prelude.{◌≡◌, ◌⊎◌, true, [], Option, Some, None}
 use Rattle.vm_types.specs.Causes.{Rose}
 use Rattle.vm_types.specs.declared.exit.Object.TheVariants as object
 use Rattle.vm_outside.specs.Known.{Health, Tells}

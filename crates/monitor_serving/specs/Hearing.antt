@@ -1,5 +1,5 @@
 -- What the reader beside the slices heard.
-use Rattle.std.specs.Prelude.{ℕ, ◌≡◌, ◌<◌, ◌≤◌, List, [], length, take}
+use Rattle.std.specs.Prelude.{ℕ, ◌≡◌, ◌<◌, ◌≤◌, List, [], take}
 use Rattle.vm_types.specs.Causes.{Rose}
 use Rattle.vm_outside.specs.Known.{Lasts}
 use Rattle.script_text.specs.declared.item.Item.{Item}

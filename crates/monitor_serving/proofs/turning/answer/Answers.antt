@@ -1,3 +1,4 @@
+use Rattle.std.proofs.Common.{refl}
 use Rattle.monitor_serving.proofs.Answering.{untold}
 use Rattle.monitor_serving.proofs.turning.answer.Goals as goal
 
@@ -9,4 +10,4 @@ returns-in_default-clause-answered g c =
     λ sink host before tell tells gave.
     untold c.args.monitor.now c.args.monitor.now (T c.args.trace.now) (T c.tell_bytes.new.trace) sink host (F c.args.files.now)
     (F c.args.files.now) before (N c.args.conn.now) (N c.args.conn.now) c.args.piece.items gave.came gave.untaken
-    (c.in_default.ensures.untold tell.trace)
+    (c.in_default.ensures.untold tell.trace) refl

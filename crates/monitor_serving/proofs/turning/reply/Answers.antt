@@ -19,7 +19,7 @@ returns-in_default-clause-replied g c =
     λ trace told sink host before is_told files_tell tells gave.
     short c.args.monitor.now c.hear.new.self trace told sink host (F c.args.files.now) (F c.hear.new.files) before (N c.args.conn.now)
     (N c.args.conn.now) c.args.bytes.now gave.came gave.untaken is_told
-    (λ m is. sym (c.is_off.ensures (F c.args.files.now) m is) ∙ c.if-is_off.false)
+    (λ m is. sym (c.is_off.ensures (F c.args.files.now) m is) ∙ c.if-is_off.false) files_tell c.in_default.ensures.stops
 
 pub returns-in_default-put_all-clause-replied : goal.returns-in_default-put_all-clause-replied
 returns-in_default-put_all-clause-replied g c =

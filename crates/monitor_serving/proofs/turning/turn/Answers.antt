@@ -25,7 +25,7 @@ returns-in-Some-clause-turned g c =
     λ tell tells.
     slices_broke c.args.monitor.now (record c.args.monitor.now { machine = ran.new.machine }) ran.new.machine (hosts before files) (hosts after files)
     conn now (unsaid_by ran.result.0 ran.new.buf.items)
-    (came_unsaid ran.result.0 conn now ran.new.buf.items (ran.ensures.heard tells) (ran.ensures.took tells)) ran.result.1 c.in-Some.end
+    (came_unsaid ran.result.0 conn now ran.new.buf.items (ran.ensures.heard tells) (ran.ensures.took tells)) refl ran.result.1 c.in-Some.end
     (subst (λ (m : LiveMachine). RanOn IsLive (Some ran.result.1) (seen before) m (seen after) ran.new.machine) c.machine.ensures.value
     (ran.ensures.went.ran tell.trace tell.sink))
     (sym c.end_of.ensures ∙ c.in-Some.is)
