@@ -1,7 +1,11 @@
 -- Connections one after another: what each gave and took is what was said on it.
 use Rattle.std.specs.Prelude.{ℕ, ◌≡◌, ◌⊎◌, ◌<◌, true, List, [], ◌∷◌, ◌++◌, Option, Some, None}
 use Rattle.monitor_running.specs.Asked.{HostKnown}
-use Rattle.vm_outside.specs.Known.{Health}
+use Rattle.vm_host.specs.declared.host.Host.{Host}
+use Rattle.vm_host.specs.Storing.{DiskKnown}
+use Rattle.vm_host.specs.Telling.{ClockKnown}
+use Rattle.vm_outside.specs.Known.{FilesKnown, Health, SinkKnown}
+use Rattle.serve_host.specs.Tracing.{TraceKnown}
 use Rattle.vm_types.specs.Causes.{Rose}
 use Rattle.vm_types.specs.declared.exit.Object.TheVariants as object
 use Rattle.serve_host.specs.Listening.{Ended, ListenerKnown}
@@ -9,11 +13,11 @@ use Rattle.flat_machine.specs.Machine.{AreFilesOf, Machine, is_off}
 use Rattle.flat_trace.specs.Showing.{Out, given, replied}
 use Rattle.flat_trace.specs.Showing.Out.{Opened}
 use Rattle.monitor_core.specs.declared.monitor.Monitor.{Monitor}
-use Rattle.monitor_running.specs.Reached.{Reached, Start, seen}
+use Rattle.monitor_running.specs.Reached.{Reached, Start}
 use Rattle.monitor_serving.specs.declared.served.Served.{Served as End}
 use Rattle.monitor_serving.specs.declared.served.Served.TheVariants as served
 use Rattle.monitor_serving.specs.Turns.{IsTorn, MayLack}
-use Rattle.monitor_serving.specs.Views.{AreHeard, HasClosed, Hosts, Stands}
+use Rattle.monitor_serving.specs.Views.{AreHeard, HasClosed, Hosts, Stands, hosts_of, seen_with}
 
 -- A connection that was given back, as the last of what was said: it gave the bytes that were heard, and behind them the unsaid
 -- ones, and took the replies but for the unsent ones.
@@ -59,6 +63,11 @@ pub record Place : Type 0 where
 abbrev pub place : Monitor → Hosts → ListenerKnown → Place
 place monitor hosts listener = record { monitor = monitor; hosts = hosts; ended = listener.ended }
 
+abbrev pub place_of : {T K C D F M L V : Type 0} → (T → TraceKnown) → (K → SinkKnown) → (C → ClockKnown) → (D → DiskKnown)
+    → (F → FilesKnown) → (M → ListenerKnown) → Monitor → T → K → Host D L V C → F → M → Place
+place_of of_trace of_sink of_clock of_disk of_files of_listener monitor trace sink host files listener =
+    place monitor (hosts_of of_trace of_sink of_clock of_disk of_files trace sink host files) (of_listener listener)
+
 -- All that happened since a start, before which these connections were given back, is in the trace, and all that it shows
 -- was taken.
 pub record HasServed (s : Start) (first : List Ended) (now : Place) : Type 0 where
@@ -87,7 +96,7 @@ pub record BrokeOff (end : End) (s : Start) (first : List Ended) (now : Place) :
   pub since : List Ended
   pub host : HostKnown
   pub unshown : List ℕ
-  pub reached : Reached s (record (seen now.hosts.slices) { taken = now.hosts.slices.sink.taken ++ unshown; host = host }) at talk
+  pub reached : Reached s (seen_with now.hosts.slices unshown host) at talk
   pub ended : now.ended ≡ since ++ first
   pub told : AreToldInPart talk since
   pub shown : MayLack end unshown

@@ -11,10 +11,10 @@ use Rattle.vm_world.specs.Worlds.{WorldValue}
 use Rattle.slice_runner.specs.Slices.{IsTornSlice}
 use Rattle.flat_machine.specs.Machine.{AreFilesOf, Machine, is_off}
 use Rattle.flat_trace.specs.Showing.{Out}
-use Rattle.monitor_running.specs.Reached.{Reached, Start, seen}
+use Rattle.monitor_running.specs.Reached.{Reached, Start}
 use Rattle.monitor_serving.specs.declared.served.Served.{Served}
 use Rattle.monitor_serving.specs.declared.served.Served.TheVariants as served
-use Rattle.monitor_serving.specs.Views.{HasClosed, Stands, Talked, View}
+use Rattle.monitor_serving.specs.Views.{HasClosed, Stands, Talked, View, seen_with}
 
 -- All that happened since is in the trace, and all that this shows was taken, but for these bytes of replies. Where the
 -- connection has failed since, an answer ended it.
@@ -42,7 +42,7 @@ pub record Broke (end : Served) (s : Start) (old new : View) (talk : List Out) :
   pub talked : Talked old.conn new.conn heard unsent unsaid
   pub shown : MayLack end unshown
   pub files : AreFilesOf new.hosts.files at
-  pub reached : Reached s (record (seen new.hosts.slices) { taken = new.hosts.slices.sink.taken ++ unshown; host = host }) at (talk ++ heard)
+  pub reached : Reached s (seen_with new.hosts.slices unshown host) at (talk ++ heard)
 
 -- However the machine got here, and whatever was said before: nothing is missing
 abbrev pub GoesOn : View → View → Type 0

@@ -1,14 +1,19 @@
 -- Where everything is while connections are served.
 use Rattle.std.specs.Prelude.{ℕ, ◌≡◌, Bool, true, false, List, [], ◌∷◌, ◌++◌}
 use Rattle.std.specs.List.{list_any}
-use Rattle.vm_outside.specs.Known.{FilesKnown, Lasts, Tells}
+use Rattle.vm_host.specs.declared.host.Host.{Host}
+use Rattle.vm_host.specs.Storing.{DiskKnown}
+use Rattle.vm_host.specs.Telling.{ClockKnown}
+use Rattle.vm_outside.specs.Known.{FilesKnown, Lasts, SinkKnown, Tells}
 use Rattle.serve_host.specs.Passing.{ConnKnown}
+use Rattle.serve_host.specs.Tracing.{TraceKnown}
 use Rattle.flat_machine.specs.Machine.{Machine}
 use Rattle.flat_trace.specs.Showing.{Out, given, replied}
 use Rattle.flat_trace.specs.Showing.Out.{Heard}
 use Rattle.monitor_core.specs.declared.monitor.Monitor.{Monitor}
 use Rattle.monitor_core.specs.State.{IsMonitor}
-use Rattle.monitor_running.specs.Reached.{Known, Reached, Start, seen}
+use Rattle.monitor_running.specs.Asked.{HostKnown, host_known}
+use Rattle.monitor_running.specs.Reached.{Known, Reached, Seen, Start, known, seen}
 
 -- what is known of the host objects: those of slices, and the files
 pub record Hosts : Type 0 where
@@ -17,6 +22,17 @@ pub record Hosts : Type 0 where
 
 abbrev pub hosts : Known → FilesKnown → Hosts
 hosts slices files = record { slices = slices; files = files }
+
+-- of these objects, by what each of their types tells
+abbrev pub known_of : {T K C D L V : Type 0} → (T → TraceKnown) → (K → SinkKnown) → (C → ClockKnown) → (D → DiskKnown)
+    → T → K → Host D L V C → Known
+known_of of_trace of_sink of_clock of_disk trace sink host =
+    known (of_trace trace) (of_sink sink) (host_known of_clock of_disk host)
+
+abbrev pub hosts_of : {T K C D F L V : Type 0} → (T → TraceKnown) → (K → SinkKnown) → (C → ClockKnown) → (D → DiskKnown)
+    → (F → FilesKnown) → T → K → Host D L V C → F → Hosts
+hosts_of of_trace of_sink of_clock of_disk of_files trace sink host files =
+    hosts (known_of of_trace of_sink of_clock of_disk trace sink host) (of_files files)
 
 -- those that can fail tell their content
 pub record AllTell (hosts : Hosts) : Type 0 where
@@ -39,10 +55,19 @@ pub record View : Type 0 where
 abbrev pub view : Monitor → Hosts → ConnKnown → View
 view monitor hosts conn = record { monitor = monitor; hosts = hosts; conn = conn }
 
+abbrev pub view_of : {T K C D F N L V : Type 0} → (T → TraceKnown) → (K → SinkKnown) → (C → ClockKnown) → (D → DiskKnown)
+    → (F → FilesKnown) → (N → ConnKnown) → Monitor → T → K → Host D L V C → F → N → View
+view_of of_trace of_sink of_clock of_disk of_files of_conn monitor trace sink host files conn =
+    view monitor (hosts_of of_trace of_sink of_clock of_disk of_files trace sink host files) (of_conn conn)
+
 -- the monitor is the machine after all that happened since the start, which the trace has
 pub record Stands (s : Start) (monitor : Monitor) (hosts : Hosts) (m : Machine) (talk : List Out) : Type 0 where
   pub is : IsMonitor monitor hosts.files m
   pub reached : Reached s (seen hosts.slices) m talk
+
+-- what was seen, were these bytes taken too, with what is known of a clock and disks
+abbrev pub seen_with : Known → List ℕ → HostKnown → Seen
+seen_with slices unshown host = record (seen slices) { taken = slices.sink.taken ++ unshown; host = host }
 
 -- all of it was heard of the connection that is open
 abbrev pub AreHeard : List Out → Type 0

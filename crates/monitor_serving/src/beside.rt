@@ -3,10 +3,9 @@ ghost use Rattle.std.specs.Prelude.{◌≡◌, Some, length};
 ghost use Rattle.vm_outside.specs.Known.{Lasts, Tells};
 ghost use Rattle.monitor_machine.specs.State.{IsLive};
 ghost use Rattle.monitor_running.specs.Ran.{Went};
-ghost use Rattle.monitor_running.specs.Asked.{host_known};
-ghost use Rattle.monitor_running.specs.Reached.{known};
 ghost use Rattle.monitor_serving.specs.Hearing.{HeardCause, HearsBy, IsWithin};
 ghost use Rattle.monitor_serving.specs.Passes.{ArePasses};
+ghost use Rattle.monitor_serving.specs.Views.{known_of};
 
 use crate::listening::{Heard, listen};
 use monitor_machine::LiveMachine;
@@ -44,8 +43,8 @@ pub fn run_beside<D: Disk, C: Clock, N: Conn + Send, T: Trace, K: Sink, R: Threa
     ensures conn_lasts { Lasts (N.known conn.old).health (N.known conn.new).health }
     ensures room { length buf.new.items ≡ length buf.old.items }
     ensures went { Went IsLive (Some result.1)
-        (known (T.known trace.old) (K.known sink.old) (host_known C.known D.known host.old)) machine.old
-        (known (T.known trace.new) (K.known sink.new) (host_known C.known D.known host.new)) machine.new }
+        (known_of T.known K.known C.known D.known trace.old sink.old host.old) machine.old
+        (known_of T.known K.known C.known D.known trace.new sink.new host.new) machine.new }
     ensures reader { reader.new.0 ≡ gate.now }
     ensures opened { reader.new.1.openings ≡ reader.old.1.openings }
     ensures passes { ArePasses gate.now passes.new.items }
@@ -73,8 +72,8 @@ pub fn run_beside<D: Disk, C: Clock, N: Conn + Send, T: Trace, K: Sink, R: Threa
     let mut run = || -> Ran
         requires { ArePasses also_gate.now passes.now.items }
         ensures went { Went IsLive (Some result)
-            (known (T.known trace.entry.now) (K.known sink.entry.now) (host_known C.known D.known host.entry.now)) machine.entry.now
-            (known (T.known trace.exit.now) (K.known sink.exit.now) (host_known C.known D.known host.exit.now)) machine.exit.now }
+            (known_of T.known K.known C.known D.known trace.entry.now sink.entry.now host.entry.now) machine.entry.now
+            (known_of T.known K.known C.known D.known trace.exit.now sink.exit.now host.exit.now) machine.exit.now }
         ensures passes { ArePasses also_gate.entry.now passes.exit.now.items }
     {
         let ran = run_while(

@@ -4,9 +4,7 @@ ghost use Rattle.vm_outside.specs.Known.{Lasts, Tells};
 ghost use Rattle.monitor_serving.specs.Causes.{ServedCause};
 ghost use Rattle.monitor_serving.specs.Passes.{ArePasses};
 ghost use Rattle.monitor_serving.specs.Turns.{ServedAs};
-ghost use Rattle.monitor_running.specs.Asked.{host_known};
-ghost use Rattle.monitor_running.specs.Reached.{known};
-ghost use Rattle.monitor_serving.specs.Views.{AllLast, AllTell, hosts, view};
+ghost use Rattle.monitor_serving.specs.Views.{AllLast, AllTell, hosts_of, view_of};
 
 use crate::served::Served;
 use crate::turning::turn;
@@ -47,22 +45,16 @@ fn serve_turns<
 ) -> Served
     requires reader { reader.old.0 ≡ gate.now }
     requires passes { ArePasses gate.now passes.old.items }
-    ensures served { AllTell (hosts (known (T.known trace.old) (K.known sink.old) (host_known C.known D.known host.old))
-        (F.known files.old)) →
-        Tells (N.known conn.old).health →
-        ServedAs result
-        (view monitor.old (hosts (known (T.known trace.old) (K.known sink.old) (host_known C.known D.known host.old)) (F.known files.old))
-        (N.known conn.old))
-        (view monitor.new (hosts (known (T.known trace.new) (K.known sink.new) (host_known C.known D.known host.new)) (F.known files.new))
-        (N.known conn.new)) }
+    ensures served { AllTell (hosts_of T.known K.known C.known D.known F.known trace.old sink.old host.old files.old) →
+        Tells (N.known conn.old).health → ServedAs result
+        (view_of T.known K.known C.known D.known F.known N.known monitor.old trace.old sink.old host.old files.old conn.old)
+        (view_of T.known K.known C.known D.known F.known N.known monitor.new trace.new sink.new host.new files.new conn.new) }
     ensures cause { ServedCause result
-        (view monitor.old (hosts (known (T.known trace.old) (K.known sink.old) (host_known C.known D.known host.old)) (F.known files.old))
-        (N.known conn.old))
-        (view monitor.new (hosts (known (T.known trace.new) (K.known sink.new) (host_known C.known D.known host.new)) (F.known files.new))
-        (N.known conn.new)) }
+        (view_of T.known K.known C.known D.known F.known N.known monitor.old trace.old sink.old host.old files.old conn.old)
+        (view_of T.known K.known C.known D.known F.known N.known monitor.new trace.new sink.new host.new files.new conn.new) }
     ensures lasts { AllLast
-        (hosts (known (T.known trace.old) (K.known sink.old) (host_known C.known D.known host.old)) (F.known files.old))
-        (hosts (known (T.known trace.new) (K.known sink.new) (host_known C.known D.known host.new)) (F.known files.new)) }
+        (hosts_of T.known K.known C.known D.known F.known trace.old sink.old host.old files.old)
+        (hosts_of T.known K.known C.known D.known F.known trace.new sink.new host.new files.new) }
     ensures conn_lasts { Lasts (N.known conn.old).health (N.known conn.new).health }
 {
     for _ in rt.forever() {
@@ -100,22 +92,16 @@ pub fn serve_connection<
     trace: &mut T,
     sink: &mut K,
 ) -> Served
-    ensures served { AllTell (hosts (known (T.known trace.old) (K.known sink.old) (host_known C.known D.known host.old))
-        (F.known files.old)) →
-        Tells (N.known conn.old).health →
-        ServedAs result
-        (view monitor.old (hosts (known (T.known trace.old) (K.known sink.old) (host_known C.known D.known host.old)) (F.known files.old))
-        (N.known conn.old))
-        (view monitor.new (hosts (known (T.known trace.new) (K.known sink.new) (host_known C.known D.known host.new)) (F.known files.new))
-        (N.known conn.new)) }
+    ensures served { AllTell (hosts_of T.known K.known C.known D.known F.known trace.old sink.old host.old files.old) →
+        Tells (N.known conn.old).health → ServedAs result
+        (view_of T.known K.known C.known D.known F.known N.known monitor.old trace.old sink.old host.old files.old conn.old)
+        (view_of T.known K.known C.known D.known F.known N.known monitor.new trace.new sink.new host.new files.new conn.new) }
     ensures cause { ServedCause result
-        (view monitor.old (hosts (known (T.known trace.old) (K.known sink.old) (host_known C.known D.known host.old)) (F.known files.old))
-        (N.known conn.old))
-        (view monitor.new (hosts (known (T.known trace.new) (K.known sink.new) (host_known C.known D.known host.new)) (F.known files.new))
-        (N.known conn.new)) }
+        (view_of T.known K.known C.known D.known F.known N.known monitor.old trace.old sink.old host.old files.old conn.old)
+        (view_of T.known K.known C.known D.known F.known N.known monitor.new trace.new sink.new host.new files.new conn.new) }
     ensures lasts { AllLast
-        (hosts (known (T.known trace.old) (K.known sink.old) (host_known C.known D.known host.old)) (F.known files.old))
-        (hosts (known (T.known trace.new) (K.known sink.new) (host_known C.known D.known host.new)) (F.known files.new)) }
+        (hosts_of T.known K.known C.known D.known F.known trace.old sink.old host.old files.old)
+        (hosts_of T.known K.known C.known D.known F.known trace.new sink.new host.new files.new) }
     ensures conn_lasts { Lasts (N.known conn.old).health (N.known conn.new).health }
 {
     let Ok((gate, mut passes)) = FlagGate::new(alloc, PASSES) else {

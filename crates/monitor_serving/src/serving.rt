@@ -2,11 +2,9 @@
 ghost use Rattle.std.specs.Prelude.{◌≡◌};
 ghost use Rattle.serve_host.specs.Listening.{IsFresh, ListenerKnown};
 ghost use Rattle.vm_outside.specs.Known.{FilesKnown, Health, Lasts, Tells};
-ghost use Rattle.monitor_serving.specs.Connections.{EndCause, GoCause, Goes, Serves, going, place};
+ghost use Rattle.monitor_serving.specs.Connections.{EndCause, GoCause, Goes, Serves, going, place, place_of};
 ghost use Rattle.monitor_serving.specs.Passes.{ArePasses};
-ghost use Rattle.monitor_running.specs.Asked.{host_known};
-ghost use Rattle.monitor_running.specs.Reached.{known};
-ghost use Rattle.monitor_serving.specs.Views.{AllLast, AllTell, hosts};
+ghost use Rattle.monitor_serving.specs.Views.{AllLast, AllTell, hosts, hosts_of, known_of};
 
 use crate::connection::{PASSES, serve_connection};
 use crate::served::{Served, alone_end};
@@ -45,21 +43,19 @@ fn serve_one<
     sink: &mut K,
     mut conn: N,
 ) -> Served
-    ensures serves { AllTell (hosts (known (T.known trace.old) (K.known sink.old) (host_known C.known D.known host.old))
-        (F.known files.old)) →
-        Tells (M.known listener.old).health → IsFresh (N.known conn) →
-        Serves result
-        (place monitor.old (hosts (known (T.known trace.old) (K.known sink.old) (host_known C.known D.known host.old)) (F.known files.old))
-        (M.known listener.old))
-        (place monitor.new (hosts (known (T.known trace.new) (K.known sink.new) (host_known C.known D.known host.new)) (F.known files.new))
-        (M.known listener.new)) }
+    ensures serves { AllTell (hosts_of T.known K.known C.known D.known F.known trace.old sink.old host.old files.old) →
+        Tells (M.known listener.old).health → IsFresh (N.known conn) → Serves result
+        (place_of T.known K.known C.known D.known F.known M.known
+        monitor.old trace.old sink.old host.old files.old listener.old)
+        (place_of T.known K.known C.known D.known F.known M.known
+        monitor.new trace.new sink.new host.new files.new listener.new) }
     ensures cause { EndCause result
-        (hosts (known (T.known trace.old) (K.known sink.old) (host_known C.known D.known host.old)) (F.known files.old))
-        (hosts (known (T.known trace.new) (K.known sink.new) (host_known C.known D.known host.new)) (F.known files.new))
+        (hosts_of T.known K.known C.known D.known F.known trace.old sink.old host.old files.old)
+        (hosts_of T.known K.known C.known D.known F.known trace.new sink.new host.new files.new)
         (M.known listener.old).health (M.known listener.new).health }
     ensures lasts { AllLast
-        (hosts (known (T.known trace.old) (K.known sink.old) (host_known C.known D.known host.old)) (F.known files.old))
-        (hosts (known (T.known trace.new) (K.known sink.new) (host_known C.known D.known host.new)) (F.known files.new)) }
+        (hosts_of T.known K.known C.known D.known F.known trace.old sink.old host.old files.old)
+        (hosts_of T.known K.known C.known D.known F.known trace.new sink.new host.new files.new) }
     ensures listener_lasts { Lasts (M.known listener.old).health (M.known listener.new).health }
 {
     let Ok(()) = trace.add(&Item::Connect) else {
@@ -97,13 +93,13 @@ fn run_alone<D: Disk, C: Clock, T: Trace, K: Sink, R: Threads + Wait + Sync>(
 ) -> Option<Served>
     requires { ArePasses gate.now passes.old.items }
     ensures goes { (files : FilesKnown) (listener : ListenerKnown) →
-        AllTell (hosts (known (T.known trace.old) (K.known sink.old) (host_known C.known D.known host.old)) files) →
+        AllTell (hosts (known_of T.known K.known C.known D.known trace.old sink.old host.old) files) →
         Goes result
-        (place monitor.old (hosts (known (T.known trace.old) (K.known sink.old) (host_known C.known D.known host.old)) files) listener)
-        (place monitor.new (hosts (known (T.known trace.new) (K.known sink.new) (host_known C.known D.known host.new)) files) listener) }
+        (place monitor.old (hosts (known_of T.known K.known C.known D.known trace.old sink.old host.old) files) listener)
+        (place monitor.new (hosts (known_of T.known K.known C.known D.known trace.new sink.new host.new) files) listener) }
     ensures cause { (files : FilesKnown) (listener : Health) → GoCause result
-        (hosts (known (T.known trace.old) (K.known sink.old) (host_known C.known D.known host.old)) files)
-        (hosts (known (T.known trace.new) (K.known sink.new) (host_known C.known D.known host.new)) files) listener listener }
+        (hosts (known_of T.known K.known C.known D.known trace.old sink.old host.old) files)
+        (hosts (known_of T.known K.known C.known D.known trace.new sink.new host.new) files) listener listener }
     ensures trace_lasts { Lasts (T.known trace.old).health (T.known trace.new).health }
     ensures sink_lasts { Lasts (K.known sink.old).health (K.known sink.new).health }
     ensures passes { ArePasses gate.now passes.new.items }
@@ -145,21 +141,19 @@ fn serve_next<
     sink: &mut K,
 ) -> Option<Served>
     requires { ArePasses gate.now passes.old.items }
-    ensures goes { AllTell (hosts (known (T.known trace.old) (K.known sink.old) (host_known C.known D.known host.old))
-        (F.known files.old)) →
-        Tells (M.known listener.old).health →
-        Goes result
-        (place monitor.old (hosts (known (T.known trace.old) (K.known sink.old) (host_known C.known D.known host.old)) (F.known files.old))
-        (M.known listener.old))
-        (place monitor.new (hosts (known (T.known trace.new) (K.known sink.new) (host_known C.known D.known host.new)) (F.known files.new))
-        (M.known listener.new)) }
+    ensures goes { AllTell (hosts_of T.known K.known C.known D.known F.known trace.old sink.old host.old files.old) →
+        Tells (M.known listener.old).health → Goes result
+        (place_of T.known K.known C.known D.known F.known M.known
+        monitor.old trace.old sink.old host.old files.old listener.old)
+        (place_of T.known K.known C.known D.known F.known M.known
+        monitor.new trace.new sink.new host.new files.new listener.new) }
     ensures cause { GoCause result
-        (hosts (known (T.known trace.old) (K.known sink.old) (host_known C.known D.known host.old)) (F.known files.old))
-        (hosts (known (T.known trace.new) (K.known sink.new) (host_known C.known D.known host.new)) (F.known files.new))
+        (hosts_of T.known K.known C.known D.known F.known trace.old sink.old host.old files.old)
+        (hosts_of T.known K.known C.known D.known F.known trace.new sink.new host.new files.new)
         (M.known listener.old).health (M.known listener.new).health }
     ensures lasts { AllLast
-        (hosts (known (T.known trace.old) (K.known sink.old) (host_known C.known D.known host.old)) (F.known files.old))
-        (hosts (known (T.known trace.new) (K.known sink.new) (host_known C.known D.known host.new)) (F.known files.new)) }
+        (hosts_of T.known K.known C.known D.known F.known trace.old sink.old host.old files.old)
+        (hosts_of T.known K.known C.known D.known F.known trace.new sink.new host.new files.new) }
     ensures listener_lasts { Lasts (M.known listener.old).health (M.known listener.new).health }
     ensures passes { ArePasses gate.now passes.new.items }
 {
@@ -199,21 +193,19 @@ fn serve_all<
     sink: &mut K,
 ) -> Served
     requires { ArePasses gate.now passes.old.items }
-    ensures serves { AllTell (hosts (known (T.known trace.old) (K.known sink.old) (host_known C.known D.known host.old))
-        (F.known files.old)) →
-        Tells (M.known listener.old).health →
-        Serves result
-        (place monitor.old (hosts (known (T.known trace.old) (K.known sink.old) (host_known C.known D.known host.old)) (F.known files.old))
-        (M.known listener.old))
-        (place monitor.new (hosts (known (T.known trace.new) (K.known sink.new) (host_known C.known D.known host.new)) (F.known files.new))
-        (M.known listener.new)) }
+    ensures serves { AllTell (hosts_of T.known K.known C.known D.known F.known trace.old sink.old host.old files.old) →
+        Tells (M.known listener.old).health → Serves result
+        (place_of T.known K.known C.known D.known F.known M.known
+        monitor.old trace.old sink.old host.old files.old listener.old)
+        (place_of T.known K.known C.known D.known F.known M.known
+        monitor.new trace.new sink.new host.new files.new listener.new) }
     ensures cause { EndCause result
-        (hosts (known (T.known trace.old) (K.known sink.old) (host_known C.known D.known host.old)) (F.known files.old))
-        (hosts (known (T.known trace.new) (K.known sink.new) (host_known C.known D.known host.new)) (F.known files.new))
+        (hosts_of T.known K.known C.known D.known F.known trace.old sink.old host.old files.old)
+        (hosts_of T.known K.known C.known D.known F.known trace.new sink.new host.new files.new)
         (M.known listener.old).health (M.known listener.new).health }
     ensures lasts { AllLast
-        (hosts (known (T.known trace.old) (K.known sink.old) (host_known C.known D.known host.old)) (F.known files.old))
-        (hosts (known (T.known trace.new) (K.known sink.new) (host_known C.known D.known host.new)) (F.known files.new)) }
+        (hosts_of T.known K.known C.known D.known F.known trace.old sink.old host.old files.old)
+        (hosts_of T.known K.known C.known D.known F.known trace.new sink.new host.new files.new) }
     ensures listener_lasts { Lasts (M.known listener.old).health (M.known listener.new).health }
 {
     for _ in rt.forever() {
@@ -250,21 +242,19 @@ pub fn serve<
     trace: &mut T,
     sink: &mut K,
 ) -> Served
-    ensures serves { AllTell (hosts (known (T.known trace.old) (K.known sink.old) (host_known C.known D.known host.old))
-        (F.known files.old)) →
-        Tells (M.known listener.old).health →
-        Serves result
-        (place monitor.old (hosts (known (T.known trace.old) (K.known sink.old) (host_known C.known D.known host.old)) (F.known files.old))
-        (M.known listener.old))
-        (place monitor.new (hosts (known (T.known trace.new) (K.known sink.new) (host_known C.known D.known host.new)) (F.known files.new))
-        (M.known listener.new)) }
+    ensures serves { AllTell (hosts_of T.known K.known C.known D.known F.known trace.old sink.old host.old files.old) →
+        Tells (M.known listener.old).health → Serves result
+        (place_of T.known K.known C.known D.known F.known M.known
+        monitor.old trace.old sink.old host.old files.old listener.old)
+        (place_of T.known K.known C.known D.known F.known M.known
+        monitor.new trace.new sink.new host.new files.new listener.new) }
     ensures cause { EndCause result
-        (hosts (known (T.known trace.old) (K.known sink.old) (host_known C.known D.known host.old)) (F.known files.old))
-        (hosts (known (T.known trace.new) (K.known sink.new) (host_known C.known D.known host.new)) (F.known files.new))
+        (hosts_of T.known K.known C.known D.known F.known trace.old sink.old host.old files.old)
+        (hosts_of T.known K.known C.known D.known F.known trace.new sink.new host.new files.new)
         (M.known listener.old).health (M.known listener.new).health }
     ensures lasts { AllLast
-        (hosts (known (T.known trace.old) (K.known sink.old) (host_known C.known D.known host.old)) (F.known files.old))
-        (hosts (known (T.known trace.new) (K.known sink.new) (host_known C.known D.known host.new)) (F.known files.new)) }
+        (hosts_of T.known K.known C.known D.known F.known trace.old sink.old host.old files.old)
+        (hosts_of T.known K.known C.known D.known F.known trace.new sink.new host.new files.new) }
     ensures listener_lasts { Lasts (M.known listener.old).health (M.known listener.new).health }
 {
     let Ok((gate, mut passes)) = FlagGate::new(alloc, PASSES) else {

@@ -8,9 +8,9 @@ ghost use Rattle.monitor_serving.specs.Causes.{AnswerCause, ReplyCause, TurnedCa
 ghost use Rattle.monitor_serving.specs.Hearing.{Gave, HeardCause, HearsBy, IsWithin, bytes_in};
 ghost use Rattle.monitor_serving.specs.Passes.{ArePasses};
 ghost use Rattle.monitor_serving.specs.Turns.{TurnedAs};
-ghost use Rattle.monitor_running.specs.Asked.{HostKnown, host_known};
+ghost use Rattle.monitor_running.specs.Asked.{HostKnown};
 ghost use Rattle.monitor_running.specs.Reached.{known};
-ghost use Rattle.monitor_serving.specs.Views.{AllLast, AllTell, Hosts, hosts, view};
+ghost use Rattle.monitor_serving.specs.Views.{AllLast, AllTell, Hosts, hosts, hosts_of, view, view_of};
 
 use crate::beside::run_beside;
 use crate::listening::Heard;
@@ -197,22 +197,16 @@ pub fn turn<
 ) -> Option<Served>
     requires reader { reader.old.0 ≡ gate.now }
     requires passes { ArePasses gate.now passes.old.items }
-    ensures turned { AllTell (hosts (known (T.known trace.old) (K.known sink.old) (host_known C.known D.known host.old))
-        (F.known files.old)) →
-        Tells (N.known conn.old).health →
-        TurnedAs result
-        (view monitor.old (hosts (known (T.known trace.old) (K.known sink.old) (host_known C.known D.known host.old)) (F.known files.old))
-        (N.known conn.old))
-        (view monitor.new (hosts (known (T.known trace.new) (K.known sink.new) (host_known C.known D.known host.new)) (F.known files.new))
-        (N.known conn.new)) }
+    ensures turned { AllTell (hosts_of T.known K.known C.known D.known F.known trace.old sink.old host.old files.old) →
+        Tells (N.known conn.old).health → TurnedAs result
+        (view_of T.known K.known C.known D.known F.known N.known monitor.old trace.old sink.old host.old files.old conn.old)
+        (view_of T.known K.known C.known D.known F.known N.known monitor.new trace.new sink.new host.new files.new conn.new) }
     ensures cause { TurnedCause result
-        (view monitor.old (hosts (known (T.known trace.old) (K.known sink.old) (host_known C.known D.known host.old)) (F.known files.old))
-        (N.known conn.old))
-        (view monitor.new (hosts (known (T.known trace.new) (K.known sink.new) (host_known C.known D.known host.new)) (F.known files.new))
-        (N.known conn.new)) }
+        (view_of T.known K.known C.known D.known F.known N.known monitor.old trace.old sink.old host.old files.old conn.old)
+        (view_of T.known K.known C.known D.known F.known N.known monitor.new trace.new sink.new host.new files.new conn.new) }
     ensures lasts { AllLast
-        (hosts (known (T.known trace.old) (K.known sink.old) (host_known C.known D.known host.old)) (F.known files.old))
-        (hosts (known (T.known trace.new) (K.known sink.new) (host_known C.known D.known host.new)) (F.known files.new)) }
+        (hosts_of T.known K.known C.known D.known F.known trace.old sink.old host.old files.old)
+        (hosts_of T.known K.known C.known D.known F.known trace.new sink.new host.new files.new) }
     ensures conn_lasts { Lasts (N.known conn.old).health (N.known conn.new).health }
     ensures reader { reader.new.0 ≡ gate.now }
     ensures opened { reader.new.1.openings ≡ reader.old.1.openings + 1 }
