@@ -19,8 +19,9 @@ const EMFILE: i32 = 24;
 
 const ENOBUFS: i32 = 105;
 
-/// Listens on a socket under a name in the file system. A socket on which nobody listens is replaced, one in use is a
-/// failure. The file is removed when the listener is let go. Connections never end to come.
+/// Listens on a socket under a name in the file system. A socket on which nobody listens is replaced; one in use is a
+/// failure, and so is any other file. The socket's file is removed when the listener is let go, unless another one has its
+/// name by then. Connections never end to come.
 #[derive(Drop)]
 pub struct SocketListener<'a, R: rt::Files> {
     rt: &'a R,

@@ -10,7 +10,7 @@ use vm_outside::Failed;
 #[derive(Drop)]
 pub enum Accepted<C> {
     Conn(C),
-    /// No connection waits so far.
+    /// No connection waits so far, or none can be taken yet.
     NotYet,
     /// No connection comes any more.
     Ended,
