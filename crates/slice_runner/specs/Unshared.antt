@@ -14,6 +14,8 @@ use Rattle.vm_world.specs.Worlds.{WorldValue, world_with}
 use Rattle.slice_runner.specs.declared.sharing.Parted.{Parted}
 use Rattle.slice_runner.specs.declared.sharing.Unshared.{Unshared}
 use Rattle.slice_runner.specs.declared.sharing.Unshared.TheVariants as unshared
+use Rattle.slice_runner.specs.declared.slice.SliceError.{SliceError}
+use Rattle.slice_runner.specs.declared.slice.SliceError.TheVariants as error
 use Rattle.slice_runner.specs.Slices.{IsTornSlice}
 
 abbrev pub world_of : WorldParts → WorldValue
@@ -39,3 +41,8 @@ abbrev pub AreParts : Unshared → Type 0
 AreParts (unshared.Parted p) = Unit {0}
 AreParts (unshared.OutOfMemory parts) =
     ArePages 0 parts.pages.items × (length parts.pages.items ≤ 2 ^ 28) × (length parts.ports.items ≤ 16)
+
+-- journals and histories are handed on, and the world stays as it is; without memory it has its parts again
+abbrev pub GaveUp : Unshared → WorldValue → WorldValue → SliceError → Type 0
+GaveUp (unshared.Parted p) old new why = (new ≡ old) × (why ≡ error.Torn p.torn p.journals p.histories)
+GaveUp (unshared.OutOfMemory parts) old new why = (new ≡ world_of parts) × (why ≡ error.OutOfMemory)

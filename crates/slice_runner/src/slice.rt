@@ -2,9 +2,9 @@
 ghost use Rattle.std.specs.Prelude.{◌≡◌, ◌+◌, ◌≤◌, [], length, All, IfErr, IfOk, OnOk};
 ghost use Rattle.vm_world.specs.Worlds.{world_with};
 ghost use Rattle.slice_runner.specs.Slices.{AreStamps, ClockWasAsked, IsSerial, IsThere, MarksFollow};
-ghost use Rattle.slice_runner.specs.Ended.{GaveUp, HasFailed};
+ghost use Rattle.slice_runner.specs.Ended.{HasFailed};
 ghost use Rattle.slice_runner.specs.Stops.{AreStopped};
-ghost use Rattle.slice_runner.specs.Unshared.{AreParts};
+ghost use Rattle.slice_runner.specs.Unshared.{AreParts, GaveUp};
 
 use crate::room::Room;
 use crate::sharing::{Parted, Shared, Unshared, share};
