@@ -1,17 +1,17 @@
 -- Faults that are named, and counts that rose.
-use Rattle.std.proofs.Common.{true, arith}
+use Rattle.std.proofs.Common.{◌≡◌, inl, inr, true, sym, ◌∙◌, subst, arith}
 use Rattle.vm_types.specs.Causes.{Rose}
 use Rattle.vm_types.specs.declared.exit.Exit.{Exit}
 use Rattle.vm_types.specs.declared.exit.Object.{Object}
 use Rattle.vm_types.specs.declared.exit.Object.TheVariants as object
-use Rattle.vm_outside.specs.Known.{Health, Lasts, SinkKnown}
-use Rattle.serve_host.specs.Drawing.{WordsKnown}
-use Rattle.serve_host.specs.Listening.{ListenerKnown}
+use Rattle.vm_outside.specs.Known.{Health, Lasts}
 use Rattle.firecracker_cli.proofs.Rising.{later_rose, rose_later}
-use Rattle.monitor_running.specs.Reached.{known}
-use Rattle.monitor_serving.specs.Views.{Hosts, hosts}
-use Rattle.firecracker_cli.specs.Serving.{EndsWell, NoneFailed, ServeCause, ServeKnown, serve_known}
-use Rattle.firecracker_cli.specs.SoFar.{BeginCause}
+use Rattle.monitor_serving.specs.Connections.{EndCause}
+use Rattle.monitor_serving.specs.declared.served.Served.{Served}
+use Rattle.monitor_serving.specs.declared.served.Served.TheVariants as served
+use Rattle.firecracker_cli.specs.Serving.{EndsWell, NoneFailed, ServeCause, ServeKnown, ServersLast}
+use Rattle.firecracker_cli.specs.Closing.{CloseFault, EndsOr}
+use Rattle.firecracker_cli.specs.SoFar.{BeginCause, exit_of}
 
 -- a call of an object that had no part in it
 none_rose : Rose 0 0 → ⊥
@@ -42,25 +42,70 @@ draw_told object.Source before now trace lasts cause = absurd (cause at_rest)
 draw_told object.Sink before now trace lasts cause = absurd (cause at_rest)
 draw_told object.Files before now trace lasts cause = absurd (cause at_rest)
 
--- the sink is called once more
-module _ (before : ServeKnown) (mid : Hosts) (words : WordsKnown) (listener : ListenerKnown) (sink : SinkKnown) where
-  abbrev behind : ServeKnown
-  behind = serve_known (hosts (known mid.slices.trace sink mid.slices.host) mid.files) words listener
+-- what was told once
+pub still_told : (exit : Exit) (before mid now : ServeKnown) → ServersLast mid now → ServeCause exit before mid
+    → ServeCause exit before now
+still_told (Exit.Fault object.Trace) before mid now lasts cause =
+    rose_later before.hosts.slices.trace.health.faults mid.hosts.slices.trace.health.faults now.hosts.slices.trace.health.faults cause
+    lasts.hosts.trace.later
+still_told (Exit.Fault object.Sink) before mid now lasts cause =
+    rose_later before.hosts.slices.sink.health.faults mid.hosts.slices.sink.health.faults now.hosts.slices.sink.health.faults cause
+    lasts.hosts.sink.later
+still_told (Exit.Fault object.Listener) before mid now lasts cause =
+    rose_later before.listener.health.faults mid.listener.health.faults now.listener.health.faults cause lasts.listener.later
+still_told (Exit.Fault object.Words) before mid now lasts cause =
+    rose_later before.words.health.faults mid.words.health.faults now.words.health.faults cause lasts.words.later
+still_told (Exit.Fault object.Source) before mid now lasts cause = absurd cause
+still_told (Exit.Fault object.Files) before mid now lasts cause = absurd cause
+still_told Exit.Done before mid now lasts cause = tt
+still_told Exit.Usage before mid now lasts cause = absurd cause
+still_told (Exit.Script line) before mid now lasts cause = absurd cause
+still_told (Exit.Torn at) before mid now lasts cause = tt
+still_told Exit.OutOfMemory before mid now lasts cause = tt
 
-  pub still_told : (exit : Exit) → Lasts mid.slices.sink.health sink.health → ServeCause exit before (serve_known mid words listener)
-      → ServeCause exit before behind
-  still_told (Exit.Fault object.Sink) later cause =
-      rose_later before.hosts.slices.sink.health.faults mid.slices.sink.health.faults sink.health.faults cause later.later
-  still_told (Exit.Fault object.Trace) later cause = cause
-  still_told (Exit.Fault object.Listener) later cause = cause
-  still_told (Exit.Fault object.Words) later cause = cause
-  still_told (Exit.Fault object.Source) later cause = absurd cause
-  still_told (Exit.Fault object.Files) later cause = absurd cause
-  still_told Exit.Done later cause = tt
-  still_told Exit.Usage later cause = absurd cause
-  still_told (Exit.Script line) later cause = absurd cause
-  still_told (Exit.Torn at) later cause = tt
-  still_told Exit.OutOfMemory later cause = tt
+-- a fault with which serving ended
+end_told : (end : Served) (before old now : ServeKnown) → ServersLast before old
+    → EndCause end old.hosts now.hosts old.listener.health now.listener.health → ServeCause (exit_of end) before now
+end_told (served.Fault object.Trace) before old now lasts cause =
+    later_rose before.hosts.slices.trace.health.faults old.hosts.slices.trace.health.faults now.hosts.slices.trace.health.faults
+    lasts.hosts.trace.later cause
+end_told (served.Fault object.Sink) before old now lasts cause =
+    later_rose before.hosts.slices.sink.health.faults old.hosts.slices.sink.health.faults now.hosts.slices.sink.health.faults
+    lasts.hosts.sink.later cause
+end_told (served.Fault object.Listener) before old now lasts cause =
+    later_rose before.listener.health.faults old.listener.health.faults now.listener.health.faults lasts.listener.later cause
+end_told (served.Fault object.Source) before old now lasts cause = absurd cause
+end_told (served.Fault object.Files) before old now lasts cause = absurd cause
+end_told (served.Fault object.Words) before old now lasts cause = absurd cause
+end_told served.Ended before old now lasts cause = tt
+end_told served.Off before old now lasts cause = tt
+end_told (served.Torn torn journals histories) before old now lasts cause = tt
+end_told served.OutOfMemory before old now lasts cause = tt
+
+fault_told : (o : Object) (before mid now : ServeKnown) → ServersLast before mid
+    → CloseFault o mid.hosts.slices.trace.health now.hosts.slices.trace.health mid.hosts.slices.sink.health now.hosts.slices.sink.health
+    → ServeCause (Exit.Fault o) before now
+fault_told object.Trace before mid now lasts cause =
+    later_rose before.hosts.slices.trace.health.faults mid.hosts.slices.trace.health.faults now.hosts.slices.trace.health.faults
+    lasts.hosts.trace.later cause
+fault_told object.Sink before mid now lasts cause =
+    later_rose before.hosts.slices.sink.health.faults mid.hosts.slices.sink.health.faults now.hosts.slices.sink.health.faults
+    lasts.hosts.sink.later cause
+fault_told object.Source before mid now lasts cause = absurd cause
+fault_told object.Files before mid now lasts cause = absurd cause
+fault_told object.Words before mid now lasts cause = absurd cause
+fault_told object.Listener before mid now lasts cause = absurd cause
+
+-- how the command ends then
+pub close_told : (end : Served) (exit result : Exit) (before old mid now : ServeKnown) → exit ≡ exit_of end → ServersLast before old
+    → EndCause end old.hosts mid.hosts old.listener.health mid.listener.health → ServersLast before mid → ServersLast mid now
+    → EndsOr exit result mid.hosts.slices.trace.health now.hosts.slices.trace.health mid.hosts.slices.sink.health now.hosts.slices.sink.health
+    → ServeCause result before now
+close_told end exit result before old mid now same first cause served last (inl is) =
+    subst (λ (e : Exit). ServeCause e before now) (sym (is ∙ same))
+    (still_told (exit_of end) before mid now last (end_told end before old mid first cause))
+close_told end exit result before old mid now same first cause served last (inr (o, is, fault)) =
+    subst (λ (e : Exit). ServeCause e before now) (sym is) (fault_told o before mid now served fault)
 
 -- where no count rose
 pub ends_well : (exit : Exit) (before now : ServeKnown) → ServeCause exit before now → NoneFailed before now → EndsWell exit

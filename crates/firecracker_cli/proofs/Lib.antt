@@ -1,5 +1,7 @@
 pub mod Beginnings
 pub mod Causes
+pub mod Closings
 pub mod Endings
+pub mod Lineages
 pub mod Rising
 pub mod Serves

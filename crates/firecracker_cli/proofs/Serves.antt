@@ -7,7 +7,7 @@ use Rattle.serve_host.specs.Drawing.{WordsKnown}
 use Rattle.serve_host.specs.Listening.{ListenerKnown}
 use Rattle.script_output.specs.Output.{last_line}
 use Rattle.monitor_cli.specs.Taking.{IsQuiet}
-use Rattle.firecracker_cli.proofs.Rising.{lasts_more}
+use Rattle.firecracker_cli.proofs.Rising.{lasts_more, lasts_same}
 use Rattle.monitor_running.specs.Reached.{known}
 use Rattle.monitor_serving.specs.Views.{Hosts, hosts}
 use Rattle.firecracker_cli.specs.Serving.{ServeCause, ServeKnown, Serves, ServersLast, ServersTell, serve_known}
@@ -23,10 +23,16 @@ pub serves : {E : Type 0} (exit : Exit) (id : List ℕ) (before : ServeKnown) (m
     → (IsQuiet exit → sink ≡ mid.slices.sink) → Called mid.slices.sink.health sink.health result
     → Serves exit id before (serve_known (hosts (known mid.slices.trace sink mid.slices.host) mid.files) words listener)
 serves exit id before mid words listener sink result so_far told lasts takes quiet called =
-    let still = still_told before mid words listener sink exit called.lasts told in record {
+    let last : ServersLast (serve_known mid words listener) (serve_known (hosts (known mid.slices.trace sink mid.slices.host) mid.files) words listener) =
+    record {
+      hosts = record { trace = lasts_same mid.slices.trace.health; sink = called.lasts; files = lasts_same mid.files.health };
+      words = lasts_same words.health;
+      listener = lasts_same listener.health;
+    } in
+    let still = still_told exit before _ _ last told in record {
       served = λ tells.
-          ended_by id before mid words listener exit sink result (so_far tells) quiet
-          (takes (lasts.hosts.sink.still tells.hosts.sink));
+          ended_by id before mid words listener sink lasts.hosts.sink.later exit result (so_far tells) quiet
+          (takes (lasts.hosts.sink.still tells.hosts.sink)) called;
       told = still;
       complete = λ none. ends_well exit before _ still none;
       lasts = record {

@@ -1,3 +1,4 @@
+pub mod Closing
 pub mod Said
 pub mod ServeWords
 pub mod Serving

@@ -2,9 +2,10 @@
 //!
 //! `firecracker_main` judges the words and does the command. Of `serve` its contract is trace fidelity: what the trace
 //! took is a run of the flat machine, which shows what the connections and the sink took (`specs/Serving.antt`). Read
-//! `top` first, then `serving`.
+//! `top` first, then `serving`, and last `closing`.
 #![tactic(auto)]
 
+mod closing;
 mod outside;
 mod serve_words;
 mod serving;

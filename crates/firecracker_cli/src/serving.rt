@@ -1,27 +1,12 @@
 // The command `serve`.
 ghost use Rattle.std.specs.Prelude.{◌≡◌, ℕ, IfErr, List, OnErr, OnOk};
-ghost use Rattle.vm_outside.specs.Known.{Called, FilesKnown, Health, Lasts, Tells};
-ghost use Rattle.vm_outside.specs.Passing.{TakesAll};
-ghost use Rattle.serve_host.specs.Drawing.{WordsKnown};
-ghost use Rattle.serve_host.specs.Listening.{ListenerKnown};
-ghost use Rattle.serve_host.specs.Tracing.{TraceKnown};
-ghost use Rattle.flat_machine.specs.Machine.{Machine, new_machine};
+ghost use Rattle.vm_outside.specs.Known.{FilesKnown, Health, Lasts, Tells};
+ghost use Rattle.flat_machine.specs.Machine.{new_machine};
 ghost use Rattle.monitor_core.specs.State.{IsMonitor};
-ghost use Rattle.monitor_running.specs.Asked.{HostKnown, host_known};
-ghost use Rattle.monitor_running.specs.Reached.{known};
-ghost use Rattle.monitor_serving.specs.Connections.{place};
-ghost use Rattle.monitor_serving.specs.Views.{hosts};
-ghost use Rattle.firecracker_cli.specs.Serving.{
-  ServeCause,
-  ServeKnown,
-  Serves,
-  ServersLast,
-  ServersTell,
-  closing_line,
-  serve_known,
-};
-ghost use Rattle.firecracker_cli.specs.SoFar.{BeginCause, IsDrawn, LeftBy, ServedSoFar, StaysOr, exit_of};
+ghost use Rattle.firecracker_cli.specs.Serving.{ServeCause, Serves, ServersLast, ServersTell, serve_known_of};
+ghost use Rattle.firecracker_cli.specs.SoFar.{BeginCause, ServedSoFar, TakesLineage, exit_of};
 
+use crate::closing::close;
 use crate::outside::ServeOutside;
 use crate::serve_words::ServeWords;
 use monitor_cli::write_last;
@@ -33,10 +18,10 @@ use std::alloc::Global;
 use std::sync::Wait;
 use std::thread::Threads;
 use vm_host::{Clock, Disk};
-use vm_outside::{Failed, Files, Sink, write_all};
+use vm_outside::{Failed, Files, Sink};
 use vm_types::{Exit, Object, TextList};
 
-// Opens the trace, if one is kept, and listens.
+// Listens, and then opens the trace, if one is kept. Where another serves under this path, its trace is left as it is.
 fn open<N: Conn, M: Listener<N>, T: Trace>(
     words: ServeWords<'_>,
     listener: &mut M,
@@ -45,21 +30,22 @@ fn open<N: Conn, M: Listener<N>, T: Trace>(
     ensures took { Tells (T.known trace.old).health → (T.known trace.new).took ≡ (T.known trace.old).took }
     ensures ended { Tells (M.known listener.old).health →
         (M.known listener.new).ended ≡ (M.known listener.old).ended }
+    ensures unopened { IfErr result (λ object. object ≡ Object.Listener → trace.new ≡ trace.old) }
     ensures cause { IfErr result (λ object. (words : Health) → BeginCause object
         (T.known trace.old).health (T.known trace.new).health words words
         (M.known listener.old).health (M.known listener.new).health) }
     ensures trace_lasts { Lasts (T.known trace.old).health (T.known trace.new).health }
     ensures listener_lasts { Lasts (M.known listener.old).health (M.known listener.new).health }
 {
+    let Ok(()) = listener.listen(words.socket) else {
+        return Err(Object::Listener);
+    };
     if let Some(path) = words.trace {
         let Ok(()) = trace.open(path) else {
             return Err(Object::Trace);
         };
     }
-    match listener.listen(words.socket) {
-        Ok(()) => Ok(()),
-        Err(Failed) => Err(Object::Listener),
-    }
+    Ok(())
 }
 
 // Draws the lineage, which the trace has before anything else.
@@ -69,7 +55,8 @@ fn draw_lineage<W: Words, T: Trace>(
     monitor: &mut Monitor,
 ) -> Result<(), Object>
     ensures drawn { OnOk result (Tells (T.known trace.old).health →
-        IsDrawn (T.known trace.old).took monitor.old (T.known trace.new).took monitor.new) }
+        TakesLineage (W.known words.old) (T.known trace.old).took monitor.old
+        (W.known words.new) (T.known trace.new).took monitor.new) }
     ensures err { OnErr result ((Tells (T.known trace.old).health →
         (T.known trace.new).took ≡ (T.known trace.old).took) × (monitor.new ≡ monitor.old)) }
     ensures cause { IfErr result (λ object. (listener : Health) → BeginCause object
@@ -88,20 +75,7 @@ fn draw_lineage<W: Words, T: Trace>(
     Ok(())
 }
 
-// Tells the sink that the guest is off, where it is.
-fn write_off<K: Sink>(monitor: &Monitor, sink: &mut K) -> Result<(), Failed>
-    ensures takes { Tells (K.known sink.old).health →
-        (known : FilesKnown) (m : Machine) → IsMonitor monitor.now known m →
-        TakesAll (K.known sink.old).taken (K.known sink.new).taken result (closing_line m) }
-    ensures called { Called (K.known sink.old).health (K.known sink.new).health result }
-{
-    if monitor.is_off() {
-        return write_all(sink, b". off\n");
-    }
-    Ok(())
-}
-
-// How the command ends where serving ended so, but for a sink that fails at the last line.
+// How the command ends where serving ended so, but for a trace or a sink that fails at its end.
 fn exit_of(served: &Served) -> Exit
     ensures { result ≡ exit_of served.now }
 {
@@ -113,25 +87,7 @@ fn exit_of(served: &Served) -> Exit
     }
 }
 
-// Where serving came to its end, tells the sink that the guest is off, if it is.
-fn close<K: Sink>(exit: Exit, monitor: &Monitor, sink: &mut K) -> Exit
-    ensures so_far { Tells (K.known sink.old).health → (id : List ℕ) (before : ServeKnown) (trace : TraceKnown)
-        (host : HostKnown) (files : FilesKnown) (words : WordsKnown) (listener : ListenerKnown) →
-        LeftBy exit id before (place monitor.now (hosts (known trace (K.known sink.old) host) files) listener) →
-        ServedSoFar result id before (serve_known (hosts (known trace (K.known sink.new) host) files) words listener) }
-    ensures stays { StaysOr exit result (K.known sink.old).health (K.known sink.new).health }
-    ensures lasts { Lasts (K.known sink.old).health (K.known sink.new).health }
-{
-    match exit {
-        Exit::Done => match write_off(monitor, sink) {
-            Ok(()) => Exit::Done,
-            Err(Failed) => Exit::Fault(Object::Sink),
-        },
-        other => other,
-    }
-}
-
-// Connections until serving ends, and that the guest is off, on a machine that has not started.
+// Connections until serving ends, and what is told last, on a machine that has not started.
 fn serve_on<
     D: Disk,
     C: Clock,
@@ -153,24 +109,17 @@ fn serve_on<
     with: &mut ServeOutside<D, C, W, M, T>,
 ) -> Exit
     ensures so_far { ServersTell
-        (serve_known (hosts (known (T.known with.old.trace) (K.known sink.old) (host_known C.known D.known with.old.host))
-        (F.known files.old)) (W.known with.old.words) (M.known with.old.listener)) →
+        (serve_known_of T.known K.known C.known D.known F.known W.known M.known sink.old files.old with.old) →
         (id : List ℕ) → ((known : FilesKnown) → IsMonitor monitor known (new_machine id known.saved known.calls)) →
         ServedSoFar result id
-        (serve_known (hosts (known (T.known with.old.trace) (K.known sink.old) (host_known C.known D.known with.old.host))
-        (F.known files.old)) (W.known with.old.words) (M.known with.old.listener))
-        (serve_known (hosts (known (T.known with.new.trace) (K.known sink.new) (host_known C.known D.known with.new.host))
-        (F.known files.new)) (W.known with.new.words) (M.known with.new.listener)) }
+        (serve_known_of T.known K.known C.known D.known F.known W.known M.known sink.old files.old with.old)
+        (serve_known_of T.known K.known C.known D.known F.known W.known M.known sink.new files.new with.new) }
     ensures told { ServeCause result
-        (serve_known (hosts (known (T.known with.old.trace) (K.known sink.old) (host_known C.known D.known with.old.host))
-        (F.known files.old)) (W.known with.old.words) (M.known with.old.listener))
-        (serve_known (hosts (known (T.known with.new.trace) (K.known sink.new) (host_known C.known D.known with.new.host))
-        (F.known files.new)) (W.known with.new.words) (M.known with.new.listener)) }
+        (serve_known_of T.known K.known C.known D.known F.known W.known M.known sink.old files.old with.old)
+        (serve_known_of T.known K.known C.known D.known F.known W.known M.known sink.new files.new with.new) }
     ensures lasts { ServersLast
-        (serve_known (hosts (known (T.known with.old.trace) (K.known sink.old) (host_known C.known D.known with.old.host))
-        (F.known files.old)) (W.known with.old.words) (M.known with.old.listener))
-        (serve_known (hosts (known (T.known with.new.trace) (K.known sink.new) (host_known C.known D.known with.new.host))
-        (F.known files.new)) (W.known with.new.words) (M.known with.new.listener)) }
+        (serve_known_of T.known K.known C.known D.known F.known W.known M.known sink.old files.old with.old)
+        (serve_known_of T.known K.known C.known D.known F.known W.known M.known sink.new files.new with.new) }
 {
     if let Err(object) = open(words, &mut with.listener, &mut with.trace) {
         return Exit::Fault(object);
@@ -189,7 +138,7 @@ fn serve_on<
         &mut with.trace,
         sink,
     );
-    close(exit_of(&served), &monitor, sink)
+    close(exit_of(&served), &monitor, &mut with.trace, sink)
 }
 
 // Serves a machine of the id that the words give, all but the last line.
@@ -213,23 +162,16 @@ fn run_serve<
     with: &mut ServeOutside<D, C, W, M, T>,
 ) -> Exit
     ensures so_far { ServersTell
-        (serve_known (hosts (known (T.known with.old.trace) (K.known sink.old) (host_known C.known D.known with.old.host))
-        (F.known files.old)) (W.known with.old.words) (M.known with.old.listener)) →
+        (serve_known_of T.known K.known C.known D.known F.known W.known M.known sink.old files.old with.old) →
         ServedSoFar result words.entry.id.now
-        (serve_known (hosts (known (T.known with.old.trace) (K.known sink.old) (host_known C.known D.known with.old.host))
-        (F.known files.old)) (W.known with.old.words) (M.known with.old.listener))
-        (serve_known (hosts (known (T.known with.new.trace) (K.known sink.new) (host_known C.known D.known with.new.host))
-        (F.known files.new)) (W.known with.new.words) (M.known with.new.listener)) }
+        (serve_known_of T.known K.known C.known D.known F.known W.known M.known sink.old files.old with.old)
+        (serve_known_of T.known K.known C.known D.known F.known W.known M.known sink.new files.new with.new) }
     ensures told { ServeCause result
-        (serve_known (hosts (known (T.known with.old.trace) (K.known sink.old) (host_known C.known D.known with.old.host))
-        (F.known files.old)) (W.known with.old.words) (M.known with.old.listener))
-        (serve_known (hosts (known (T.known with.new.trace) (K.known sink.new) (host_known C.known D.known with.new.host))
-        (F.known files.new)) (W.known with.new.words) (M.known with.new.listener)) }
+        (serve_known_of T.known K.known C.known D.known F.known W.known M.known sink.old files.old with.old)
+        (serve_known_of T.known K.known C.known D.known F.known W.known M.known sink.new files.new with.new) }
     ensures lasts { ServersLast
-        (serve_known (hosts (known (T.known with.old.trace) (K.known sink.old) (host_known C.known D.known with.old.host))
-        (F.known files.old)) (W.known with.old.words) (M.known with.old.listener))
-        (serve_known (hosts (known (T.known with.new.trace) (K.known sink.new) (host_known C.known D.known with.new.host))
-        (F.known files.new)) (W.known with.new.words) (M.known with.new.listener)) }
+        (serve_known_of T.known K.known C.known D.known F.known W.known M.known sink.old files.old with.old)
+        (serve_known_of T.known K.known C.known D.known F.known W.known M.known sink.new files.new with.new) }
 {
     let Ok(id) = TextList::copy_of(alloc, words.id) else {
         return Exit::OutOfMemory;
@@ -266,10 +208,8 @@ pub fn serve_main<
     with: &mut ServeOutside<D, C, W, M, T>,
 ) -> Exit
     ensures { Serves result words.entry.id.now
-        (serve_known (hosts (known (T.known with.old.trace) (K.known sink.old) (host_known C.known D.known with.old.host))
-        (F.known files.old)) (W.known with.old.words) (M.known with.old.listener))
-        (serve_known (hosts (known (T.known with.new.trace) (K.known sink.new) (host_known C.known D.known with.new.host))
-        (F.known files.new)) (W.known with.new.words) (M.known with.new.listener)) }
+        (serve_known_of T.known K.known C.known D.known F.known W.known M.known sink.old files.old with.old)
+        (serve_known_of T.known K.known C.known D.known F.known W.known M.known sink.new files.new with.new) }
 {
     let exit = run_serve(rt, alloc, words, steps, files, sink, with);
     let last = exit;

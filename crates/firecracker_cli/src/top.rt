@@ -2,11 +2,8 @@
 ghost use Rattle.std.specs.Prelude.{◌≡◌, IfErr, IfOk, None, Some, map, string_bytes};
 ghost use Rattle.monitor_cli.specs.Command.{Commanded, Wordless};
 ghost use Rattle.monitor_cli.specs.Known.{all_known};
-ghost use Rattle.monitor_running.specs.Asked.{host_known};
-ghost use Rattle.monitor_running.specs.Reached.{known};
-ghost use Rattle.monitor_serving.specs.Views.{hosts};
 ghost use Rattle.firecracker_cli.specs.ServeWords.{ServeWords, serve_words};
-ghost use Rattle.firecracker_cli.specs.Serving.{Serves, serve_known};
+ghost use Rattle.firecracker_cli.specs.Serving.{Serves, serve_known_of};
 
 use crate::outside::ServeOutside;
 use crate::serve_words::serve_words;
@@ -51,10 +48,8 @@ pub fn firecracker_main<
         (all_known (I.known out.new.source) (O.known out.new.sink) (F.known out.new.files))) }
     ensures serve { IfOk words (λ words. (it : ServeWords) → serve_words (map string_bytes words.items) ≡ Some it →
         Serves result it.id
-        (serve_known (hosts (known (T.known with.old.trace) (O.known out.old.sink) (host_known C.known D.known with.old.host))
-        (F.known out.old.files)) (W.known with.old.words) (M.known with.old.listener))
-        (serve_known (hosts (known (T.known with.new.trace) (O.known out.new.sink) (host_known C.known D.known with.new.host))
-        (F.known out.new.files)) (W.known with.new.words) (M.known with.new.listener))) }
+        (serve_known_of T.known O.known C.known D.known F.known W.known M.known out.old.sink out.old.files with.old)
+        (serve_known_of T.known O.known C.known D.known F.known W.known M.known out.new.sink out.new.files with.new)) }
     ensures wordless { IfErr words (λ why. Wordless why result
         (all_known (I.known out.old.source) (O.known out.old.sink) (F.known out.old.files))
         (all_known (I.known out.new.source) (O.known out.new.sink) (F.known out.new.files))) }

@@ -2,7 +2,7 @@ use Rattle.std.proofs.Common.{ap}
 use Rattle.monitor_running.specs.Asked.{host_known}
 use Rattle.monitor_running.specs.Reached.{known}
 use Rattle.monitor_serving.specs.Views.{Hosts, hosts}
-use Rattle.firecracker_cli.specs.Serving.{ServeKnown, serve_known}
+use Rattle.firecracker_cli.specs.Serving.{ServeKnown, serve_known_of}
 use Rattle.firecracker_cli.proofs.Serves.{serves}
 use Rattle.firecracker_cli.proofs.serving.serve_main.Goals as goal
 
@@ -11,8 +11,8 @@ returns g c =
     let ran = c.run_serve-exit.ensures in
     let wrote = c.write_last.ensures in
     let with = c.run_serve-exit.new.with in
-    let before : ServeKnown = serve_known (hosts (known (g.T.Trace.known c.args.with.now.trace) (g.K.Sink.known c.args.sink.now) (host_known g.C.Clock.known g.D.Disk.known c.args.with.now.host))
-    (g.F.Files.known c.args.files.now)) (g.W.Words.known c.args.with.now.words) (g.M.Listener.known c.args.with.now.listener) in
+    let before : ServeKnown = serve_known_of g.T.Trace.known g.K.Sink.known g.C.Clock.known g.D.Disk.known g.F.Files.known g.W.Words.known
+    g.M.Listener.known c.args.sink.now c.args.files.now c.args.with.now in
     let mid : Hosts = hosts (known (g.T.Trace.known with.trace) (g.K.Sink.known c.run_serve-exit.new.sink)
     (host_known g.C.Clock.known g.D.Disk.known with.host)) (g.F.Files.known c.run_serve-exit.new.files) in
     serves c.run_serve-exit.result c.args.words.id.now before mid (g.W.Words.known with.words) (g.M.Listener.known with.listener)

@@ -1,7 +1,7 @@
 use Rattle.std.proofs.Common.{◌∙◌, Bool, [], ◌++◌, append-nil, ap, sym, subst, if◌then◌else◌}
 use Rattle.vm_outside.specs.Passing.{TakesAll}
 use Rattle.script_output.specs.Output.{off_line}
-use Rattle.firecracker_cli.proofs.serving.write_off.Goals as goal
+use Rattle.firecracker_cli.proofs.closing.write_off.Goals as goal
 
 pub returns-then-is_off-clause-takes : goal.returns-then-is_off-clause-takes
 returns-then-is_off-clause-takes g c = λ tells known m is.
