@@ -89,14 +89,14 @@ fn exit_of(served: &Served) -> Exit
 
 // Connections until serving ends, and what is told last, on a machine that has not started.
 fn serve_on<
-    D: Disk,
-    C: Clock,
-    N: Conn + Send,
+    D: Disk + Send,
+    C: Clock + Send,
+    N: Conn,
     F: Files,
     M: Listener<N>,
-    T: Trace,
+    T: Trace + Send,
     W: Words,
-    K: Sink,
+    K: Sink + Send,
     R: Threads + Wait + Sync,
 >(
     rt: &R,
@@ -143,14 +143,14 @@ fn serve_on<
 
 // Serves a machine of the id that the words give, all but the last line.
 fn run_serve<
-    D: Disk,
-    C: Clock,
-    N: Conn + Send,
+    D: Disk + Send,
+    C: Clock + Send,
+    N: Conn,
     F: Files,
     M: Listener<N>,
-    T: Trace,
+    T: Trace + Send,
     W: Words,
-    K: Sink,
+    K: Sink + Send,
     R: Threads + Wait + Sync,
 >(
     rt: &R,
@@ -189,14 +189,14 @@ fn run_serve<
 /// a slice part. `OutOfMemory`: there was no memory. Files that fail are answered 500, and a connection that fails ends
 /// alone.
 pub fn serve_main<
-    D: Disk,
-    C: Clock,
-    N: Conn + Send,
+    D: Disk + Send,
+    C: Clock + Send,
+    N: Conn,
     F: Files,
     M: Listener<N>,
-    T: Trace,
+    T: Trace + Send,
     W: Words,
-    K: Sink,
+    K: Sink + Send,
     R: Threads + Wait + Sync,
 >(
     rt: &R,

@@ -26,14 +26,14 @@ const STEPS: u32 = 24_576;
 /// that says so is all that is written.
 pub fn firecracker_main<
     I: Source,
-    O: Sink,
+    O: Sink + Send,
     F: Files,
-    D: Disk,
-    C: Clock,
+    D: Disk + Send,
+    C: Clock + Send,
     W: Words,
-    N: Conn + Send,
+    N: Conn,
     M: Listener<N>,
-    T: Trace,
+    T: Trace + Send,
     R: Threads + Wait + Sync,
 >(
     rt: &R,

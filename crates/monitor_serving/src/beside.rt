@@ -1,4 +1,4 @@
-// The reader in a thread of its own, and slices in this one.
+// Slices in a thread of their own, and the reader in this one.
 ghost use Rattle.std.specs.Prelude.{◌≡◌, Some, length};
 ghost use Rattle.vm_outside.specs.Known.{Lasts, Tells};
 ghost use Rattle.monitor_machine.specs.State.{IsLive};
@@ -18,8 +18,10 @@ use std::thread::{Threads, join_mut};
 use vm_host::{Clock, Disk, Host};
 use vm_outside::Sink;
 
-/// Slices until something is heard of the connection, or they end by themselves. Whichever ends first closes the gate.
-pub fn run_beside<D: Disk, C: Clock, N: Conn + Send, T: Trace, K: Sink, R: Threads + Wait + Sync>(
+/// Slices until something is heard of the connection, or they end by themselves. Whichever ends first closes the gate. Where no
+/// thread can be made for the slices, something is heard first, and they find the gate closed: the guest stands still, and
+/// requests are answered.
+pub fn run_beside<D: Disk + Send, C: Clock + Send, N: Conn, T: Trace + Send, K: Sink + Send, R: Threads + Wait + Sync>(
     rt: &R,
     alloc: Global,
     gate: &FlagGate,
@@ -82,5 +84,6 @@ pub fn run_beside<D: Disk, C: Clock, N: Conn + Send, T: Trace, K: Sink, R: Threa
         also_gate.close(&mut passes[0]);
         ran
     };
-    join_mut(rt, &mut read, &mut run)
+    let (ran, heard) = join_mut(rt, &mut run, &mut read);
+    (heard, ran)
 }

@@ -22,12 +22,12 @@ pub(crate) const PASSES: usize = 35;
 
 // Turns until the connection is over.
 fn serve_turns<
-    D: Disk,
-    C: Clock,
-    N: Conn + Send,
+    D: Disk + Send,
+    C: Clock + Send,
+    N: Conn,
     F: Files,
-    T: Trace,
-    K: Sink,
+    T: Trace + Send,
+    K: Sink + Send,
     R: Threads + Wait + Sync,
 >(
     rt: &R,
@@ -74,12 +74,12 @@ fn serve_turns<
 /// is over where it was read to its end, where its bytes are no request, which is answered and closes it, and where a call
 /// on it fails. No fault of the files ends it: that is answered 500.
 pub fn serve_connection<
-    D: Disk,
-    C: Clock,
-    N: Conn + Send,
+    D: Disk + Send,
+    C: Clock + Send,
+    N: Conn,
     F: Files,
-    T: Trace,
-    K: Sink,
+    T: Trace + Send,
+    K: Sink + Send,
     R: Threads + Wait + Sync,
 >(
     rt: &R,

@@ -23,13 +23,13 @@ use vm_types::Object;
 // Serves a connection that was accepted, and gives it back to the listener. Where the trace fails before, the connection is
 // let go.
 fn serve_one<
-    D: Disk,
-    C: Clock,
-    N: Conn + Send,
+    D: Disk + Send,
+    C: Clock + Send,
+    N: Conn,
     F: Files,
     M: Listener<N>,
-    T: Trace,
-    K: Sink,
+    T: Trace + Send,
+    K: Sink + Send,
     R: Threads + Wait + Sync,
 >(
     rt: &R,
@@ -119,13 +119,13 @@ fn run_alone<D: Disk, C: Clock, T: Trace, K: Sink, R: Threads + Wait + Sync>(
 
 // A connection, where one has come, or a slice.
 fn serve_next<
-    D: Disk,
-    C: Clock,
-    N: Conn + Send,
+    D: Disk + Send,
+    C: Clock + Send,
+    N: Conn,
     F: Files,
     M: Listener<N>,
-    T: Trace,
-    K: Sink,
+    T: Trace + Send,
+    K: Sink + Send,
     R: Threads + Wait + Sync,
 >(
     rt: &R,
@@ -171,13 +171,13 @@ fn serve_next<
 
 // Connections, with slices between them, until serving ends.
 fn serve_all<
-    D: Disk,
-    C: Clock,
-    N: Conn + Send,
+    D: Disk + Send,
+    C: Clock + Send,
+    N: Conn,
     F: Files,
     M: Listener<N>,
-    T: Trace,
-    K: Sink,
+    T: Trace + Send,
+    K: Sink + Send,
     R: Threads + Wait + Sync,
 >(
     rt: &R,
@@ -223,13 +223,13 @@ fn serve_all<
 /// or fails ends alone. Between two of them the machine runs in slices of `steps` steps at most of each actor, and where
 /// nothing can run the clock rests.
 pub fn serve<
-    D: Disk,
-    C: Clock,
-    N: Conn + Send,
+    D: Disk + Send,
+    C: Clock + Send,
+    N: Conn,
     F: Files,
     M: Listener<N>,
-    T: Trace,
-    K: Sink,
+    T: Trace + Send,
+    K: Sink + Send,
     R: Threads + Wait + Sync,
 >(
     rt: &R,

@@ -174,12 +174,12 @@ fn settle<N: Conn, F: Files, T: Trace>(
 /// the disks are, and they are attached. Each turn opens the gate once, which the one before it closed. `None` where the
 /// connection goes on.
 pub fn turn<
-    D: Disk,
-    C: Clock,
-    N: Conn + Send,
+    D: Disk + Send,
+    C: Clock + Send,
+    N: Conn,
     F: Files,
-    T: Trace,
-    K: Sink,
+    T: Trace + Send,
+    K: Sink + Send,
     R: Threads + Wait + Sync,
 >(
     rt: &R,
