@@ -11,7 +11,8 @@ use Rattle.flat_trace.specs.Events.{drain_items}
 use Rattle.firecracker_cli.specs.Serving.{closing_line}
 
 -- The trace has the item of a drain, if the console held anything, and the sink then took these bytes.
-pub record Drained (m : Machine) (text : List ℕ) (took : List Item) (taken : List ℕ) (now : List Item) (all : List ℕ) : Type 0 where
+pub record Drained (m : Machine) (text : List ℕ) (took : List Item) (taken : List ℕ) (now : List Item) (all : List ℕ) :
+    Type 0 where
   pub told : now ≡ took ++ drain_items (console_of m)
   pub shown : all ≡ taken ++ text
 
