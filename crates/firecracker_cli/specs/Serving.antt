@@ -87,8 +87,8 @@ AllTold last talk since = AreTold talk since ⊎ ((is_off last ≡ true) × AreT
 abbrev pub closing_line : Machine → List ℕ
 closing_line m = if is_off m then off_line else []
 
--- All that happened is in the trace, whose first act is the lineage, and all that it shows was taken: nothing that the guest
--- wrote is left. No connection comes any more, or the guest is off.
+-- Serving came to its end. All that happened is in the trace, whose first act is the lineage, and all that it shows was taken:
+-- nothing that the guest wrote is left.
 pub record ServedAll (id : List ℕ) (before now : ServeKnown) : Type 0 where
   pub acts : List Act
   pub outs : List Out

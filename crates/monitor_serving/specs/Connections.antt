@@ -111,7 +111,7 @@ Serves (served.Torn torn journals histories) old new =
     → BrokeOff (served.Torn torn journals histories) s first new)
 Serves end old new = (s : Start) (first : List Ended) → HasServed s first old → BrokeOff end s first new
 
--- why serving ends: no connection comes any more, the guest is off, or the named object's count rose
+-- a fault that is named rose in this call; why serving ended otherwise is not said here
 abbrev pub EndCause : End → Hosts → Hosts → Health → Health → Type 0
 EndCause (served.Fault object.Trace) old new before now = Rose old.slices.trace.health.faults new.slices.trace.health.faults
 EndCause (served.Fault object.Sink) old new before now = Rose old.slices.sink.health.faults new.slices.sink.health.faults
