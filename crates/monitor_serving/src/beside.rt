@@ -21,7 +21,14 @@ use vm_outside::Sink;
 /// Slices until something is heard of the connection, or they end by themselves. Whichever ends first closes the gate. Where no
 /// thread can be made for the slices, something is heard first, and they find the gate closed: the guest stands still, and
 /// requests are answered.
-pub fn run_beside<D: Disk + Send, C: Clock + Send, N: Conn, T: Trace + Send, K: Sink + Send, R: Threads + Wait + Sync>(
+pub fn run_beside<
+    D: Disk + Send,
+    C: Clock + Send,
+    N: Conn,
+    T: Trace + Send,
+    K: Sink + Send,
+    R: Threads + Wait + Sync,
+>(
     rt: &R,
     alloc: Global,
     gate: &FlagGate,
