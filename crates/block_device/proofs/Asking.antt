@@ -1,5 +1,5 @@
 -- Which acts a block device's script asks for.
-use Rattle.std.proofs.Common.{◌≡◌, ℕ, zero, suc, ◌+◌, ◌-◌, ◌/◌, ◌%◌, ◌^◌, ◌==◌, ◌&&◌, ◌||◌, not, nat_lt, refl, ◌∙◌, subst, Bool, true, false, if◌then◌else◌, List, [], ◌∷◌, length, Option, Some, None}
+use Rattle.std.proofs.Common.{◌≡◌, ℕ, zero, suc, ◌+◌, ◌-◌, ◌/◌, ◌%◌, ◌^◌, ◌==◌, ◌&&◌, ◌||◌, not, nat_lt, refl, ◌∙◌, Bool, true, false, if◌then◌else◌, List, [], length, Option, Some, None}
 use Rattle.vm_types.specs.declared.op.Op.TheVariants.{Read, Write}
 use Rattle.vm_types.specs.declared.port_look.PortLook.{PortLook}
 use Rattle.vm_types.specs.declared.reply.Reply.{Reply}
@@ -8,9 +8,10 @@ use Rattle.vm_types.specs.Fits.{Fits}
 use Rattle.device_trace.specs.Acts.{IsOwnAct, AsksOnly, is_disk_call}
 use Rattle.device_trace.specs.Doing.{Doing, and_then}
 use Rattle.device_trace.specs.Keeps.{Keeps}
-use Rattle.device_trace.specs.Script.{Script, Ends, Asks, perform}
-use Rattle.device_trace.specs.Traces.{Item, Did, Changed, root_op, root_next}
+use Rattle.device_trace.specs.Script.{Script, Ends, perform}
+use Rattle.device_trace.specs.Traces.{Item}
 use Rattle.device_trace.specs.States.{wants, stepped, changed_at, Leads, LeadsTo}
+use Rattle.device_trace.proofs.Leading.{wants_keeps, step_keeps, change_keeps, leads_keep}
 use Rattle.device_trace.proofs.Keeping.{keeps_if, keeps_then, stays_if, stays_perform}
 use Rattle.le_fields.specs.Fields.{field_at}
 use Rattle.vq_split.specs.declared.queue.Part.{Part}
@@ -27,7 +28,7 @@ use Rattle.block_device.specs.declared.data.BlockData.{BlockData}
 use Rattle.block_device.specs.declared.data.Due.{Due}
 use Rattle.block_device.specs.declared.data.Due.TheVariants as due
 use Rattle.block_device.specs.Service.{Request, service, served_as, status_written, used_of, done_status, io_error, unsupported, ok, units_in, units_out, unit_written, read_by, done_by, behind_header, behind_unit, is_range, kind_in, kind_out, kind_flush, kind_get_id}
-use Rattle.block_device.specs.Block.{Change, block_rules, begins, begins_at, walk_begun, walked, chain_served, request_served, request_of, chain_returned, given_back, round_broken, round_ended, round_begun, kicked_by, looked, was_reset}
+use Rattle.block_device.specs.Block.{Change, changed, block_rules, begins, begins_at, walk_begun, walked, chain_served, request_served, request_of, chain_returned, given_back, round_broken, round_ended, round_begun, kicked_by, looked, was_reset}
 use Rattle.block_device.specs.Block.Change.{Sectors}
 use Rattle.block_device.specs.Asks.{BlockAsks, IsBlockAct, IsAtPort, LeavesPort}
 
@@ -181,38 +182,28 @@ module _ (port : ℕ) where
   begins_ask due.Walk d is = begun_asks (queue_flaw d.queue) d is
   begins_ask due.Idle d is = ((tt, tt), λ e reply same fit. same ∙ is)
 
-  root_asks : (t : Script BlockData) → BlockAsks port t → IsBlockAct port (root_op t)
-  root_asks (Ends d) asks = (tt, tt)
-  root_asks (Asks d op on) asks = asks.0
+  opens : (d : BlockData) → d.port ≡ port → BlockAsks port (begins d)
+  opens d is = begins_ask d.due d is
 
-  root_on : (t : Script BlockData) (reply : Reply) → BlockAsks port t → Fits (root_op t) reply
-      → BlockAsks port (root_next t reply)
-  root_on (Ends d) reply asks fit = asks
-  root_on (Asks d op on) reply asks fit = asks.1 d reply refl fit
+  still : (c : Change) (d : BlockData) → d.port ≡ port → (changed c d).port ≡ port
+  still (Sectors n) d is = is
 
-  -- what is wanted is an act of the device, and so on with each fitting reply and each change
+  leaves : (c : Change) (d : BlockData) → LeavesPort d (changed c d)
+  leaves (Sectors n) d = refl
+
   pub wants_own : (t : Script BlockData) → BlockAsks port t → IsBlockAct port (wants block_rules t)
-  wants_own (Ends d) asks = root_asks (begins d) (begins_ask d.due d asks)
-  wants_own (Asks d op on) asks = asks.0
+  wants_own = wants_keeps begins changed (IsBlockAct port) (IsAtPort port) LeavesPort same_port port_on (tt, tt) opens still leaves
 
   pub step_asks : (t : Script BlockData) (reply : Reply) → BlockAsks port t → Fits (wants block_rules t) reply
       → BlockAsks port (stepped block_rules t reply)
-  step_asks (Ends d) reply asks fit = root_on (begins d) reply (begins_ask d.due d asks) fit
-  step_asks (Asks d op on) reply asks fit = asks.1 d reply refl fit
+  step_asks = step_keeps begins changed (IsBlockAct port) (IsAtPort port) LeavesPort same_port port_on (tt, tt) opens still leaves
 
-  pub change_asks : (t : Script BlockData) (c : Change) → BlockAsks port t
-      → BlockAsks port (changed_at block_rules c t)
-  change_asks (Ends d) (Sectors n) asks = asks
-  change_asks (Asks d op on) (Sectors n) asks = asks
+  pub change_asks : (t : Script BlockData) (c : Change) → BlockAsks port t → BlockAsks port (changed_at block_rules c t)
+  change_asks = change_keeps begins changed (IsBlockAct port) (IsAtPort port) LeavesPort same_port port_on (tt, tt) opens still leaves
 
   pub leads_ask : (t : Script BlockData) (items : List (Item Change)) (left : Script BlockData) → BlockAsks port t
       → Leads block_rules t items left → BlockAsks port left
-  leads_ask t [] left asks leads = subst (λ (x : Script BlockData). BlockAsks port x) leads asks
-  leads_ask t (Did a ∷ items) left asks leads =
-      leads_ask (stepped block_rules t a.reply) items left
-      (step_asks t a.reply asks (subst (λ op. Fits op a.reply) leads.0 leads.1)) leads.2
-  leads_ask t (Changed c ∷ items) left asks leads =
-      leads_ask (changed_at block_rules c t) items left (change_asks t c asks) leads
+  leads_ask = leads_keep begins changed (IsBlockAct port) (IsAtPort port) LeavesPort same_port port_on (tt, tt) opens still leaves
 
 pub asks : (start : BlockData) (items : List (Item Change)) (left : Script BlockData)
     → LeadsTo block_rules start items left → IsBlockAct start.port (wants block_rules left)

@@ -1,5 +1,5 @@
 -- What a block device's script touches.
-use Rattle.std.proofs.Common.{◌≡◌, ℕ, zero, suc, ◌+◌, ◌-◌, ◌/◌, ◌%◌, ◌^◌, ◌==◌, ◌<◌, ◌&&◌, ◌||◌, not, nat_lt, refl, sym, ap, ◌∙◌, subst, Bool, true, false, if◌then◌else◌, List, [], ◌∷◌, length, Option, Some, None}
+use Rattle.std.proofs.Common.{◌≡◌, ℕ, zero, suc, ◌+◌, ◌-◌, ◌/◌, ◌%◌, ◌^◌, ◌==◌, ◌<◌, ◌&&◌, ◌||◌, not, nat_lt, refl, sym, ap, ◌∙◌, subst, Bool, true, false, if◌then◌else◌, List, [], length, Option, Some, None}
 use Rattle.vm_types.specs.declared.port_look.PortLook.{PortLook}
 use Rattle.vm_types.specs.declared.reply.Reply.{Reply}
 use Rattle.vm_types.specs.declared.reply.Reply.TheVariants.{Bytes, Done, Port}
@@ -7,8 +7,9 @@ use Rattle.vm_types.specs.Fits.{Fits}
 use Rattle.device_trace.specs.Doing.{Doing}
 use Rattle.device_trace.specs.Keeps.{Keeps}
 use Rattle.device_trace.specs.Script.{Script, Ends, Asks, perform}
-use Rattle.device_trace.specs.Traces.{Item, Did, Changed, root_op, root_next}
+use Rattle.device_trace.specs.Traces.{Item}
 use Rattle.device_trace.specs.States.{wants, stepped, changed_at, Leads, LeadsTo}
+use Rattle.device_trace.proofs.Leading.{wants_keeps, step_keeps, change_keeps, leads_keep}
 use Rattle.device_trace.proofs.Keeping.{keeps_if, keeps_then, stays_if, stays_perform}
 use Rattle.le_fields.specs.Fields.{field_at}
 use Rattle.vq_split.specs.declared.queue.Queue.{Queue}
@@ -29,7 +30,7 @@ use Rattle.block_device.specs.declared.data.BlockData.{BlockData}
 use Rattle.block_device.specs.declared.data.Due.{Due}
 use Rattle.block_device.specs.declared.data.Due.TheVariants as due
 use Rattle.block_device.specs.Service.{Request, service, served_as, status_written, units_in, units_out, read_by, done_by, used_of, done_status, io_error, unsupported, ok, behind_header, behind_unit, is_range, kind_in, kind_out, kind_flush, kind_get_id}
-use Rattle.block_device.specs.Block.{Change, block_rules, begins, begins_at, walk_begun, walked, chain_served, request_served, request_of, chain_returned, given_back, round_broken, round_ended, round_begun, kicked_by, looked, was_reset}
+use Rattle.block_device.specs.Block.{Change, changed, block_rules, begins, begins_at, walk_begun, walked, chain_served, request_served, request_of, chain_returned, given_back, round_broken, round_ended, round_begun, kicked_by, looked, was_reset}
 use Rattle.block_device.specs.Block.Change.{Sectors}
 use Rattle.block_device.specs.Stays.{BlockStays, IsOfPages, LeavesQueue}
 
@@ -97,7 +98,7 @@ module _ (pages : ℕ) (few : pages < 2 ^ 32) where
       (λ e. fails))
       (λ d. status_keeps pages r.at unsupported 1 place))))
 
-  service_keeps : (r : Request) → AreInside pages r.writable → AreInside pages r.got.parts
+  pub service_keeps : (r : Request) → AreInside pages r.writable → AreInside pages r.got.parts
       → is_inside pages r.at 1 ≡ true → Keeps (IsInside pages) (Any {A = ℕ}) (service r)
   unfolding service
   service_keeps r to from place = served_keeps (field_at r.got.bytes 0 4) (field_at r.got.bytes 8 8) r to from place
@@ -202,28 +203,37 @@ begins_stay due.Look d few = (tt, λ e reply same fit. looked_pages reply e ∙ 
 begins_stay due.Walk d few = begun_stays (queue_flaw d.queue) d refl few
 begins_stay due.Idle d few = (tt, λ e reply same fit. ap (λ (q : Queue). q.pages) same)
 
-root_inside : (pages : ℕ) (t : Script BlockData) → BlockStays pages t → IsInside pages (root_op t)
-root_inside pages (Ends d) s = tt
-root_inside pages (Asks d op on) s = s.0
+module _ (pages : ℕ) (few : pages < 2 ^ 32) where
+  opens : (d : BlockData) → d.queue.pages ≡ pages → BlockStays pages (begins d)
+  opens d is = subst (λ n. BlockStays n (begins d)) is (begins_stay d.due d (subst (λ n. n < 2 ^ 32) (sym is) few))
 
-root_stays : (pages : ℕ) (t : Script BlockData) (reply : Reply) → BlockStays pages t → Fits (root_op t) reply
-    → BlockStays pages (root_next t reply)
-root_stays pages (Ends d) reply s fit = s
-root_stays pages (Asks d op on) reply s fit = s.1 d reply refl fit
+  still : (c : Change) (d : BlockData) → d.queue.pages ≡ pages → (changed c d).queue.pages ≡ pages
+  still (Sectors n) d is = is
 
-begins_of : (pages : ℕ) (d : BlockData) → pages < 2 ^ 32 → d.queue.pages ≡ pages → BlockStays pages (begins d)
-begins_of pages d few is =
-    subst (λ n. BlockStays n (begins d)) is (begins_stay d.due d (subst (λ n. n < 2 ^ 32) (sym is) few))
+  leaves : (c : Change) (d : BlockData) → LeavesQueue d (changed c d)
+  leaves (Sectors n) d = refl
+
+  inside_on : (t : Script BlockData) → BlockStays pages t → IsInside pages (wants block_rules t)
+  inside_on = wants_keeps begins changed (IsInside pages) (IsOfPages pages) LeavesQueue same_queue queue_on tt opens still leaves
+
+  step_on : (t : Script BlockData) (reply : Reply) → BlockStays pages t → Fits (wants block_rules t) reply
+      → BlockStays pages (stepped block_rules t reply)
+  step_on = step_keeps begins changed (IsInside pages) (IsOfPages pages) LeavesQueue same_queue queue_on tt opens still leaves
+
+  change_on : (t : Script BlockData) (c : Change) → BlockStays pages t → BlockStays pages (changed_at block_rules c t)
+  change_on = change_keeps begins changed (IsInside pages) (IsOfPages pages) LeavesQueue same_queue queue_on tt opens still leaves
+
+  leads_on : (t : Script BlockData) (items : List (Item Change)) (left : Script BlockData) → BlockStays pages t
+      → Leads block_rules t items left → BlockStays pages left
+  leads_on = leads_keep begins changed (IsInside pages) (IsOfPages pages) LeavesQueue same_queue queue_on tt opens still leaves
 
 pub wants_inside : (pages : ℕ) (t : Script BlockData) → pages < 2 ^ 32 → BlockStays pages t
     → IsInside pages (wants block_rules t)
-wants_inside pages (Ends d) few s = root_inside pages (begins d) (begins_of pages d few s)
-wants_inside pages (Asks d op on) few s = s.0
+wants_inside pages t few s = inside_on pages few t s
 
 pub step_stays : (pages : ℕ) (t : Script BlockData) (reply : Reply) → pages < 2 ^ 32 → BlockStays pages t
     → Fits (wants block_rules t) reply → BlockStays pages (stepped block_rules t reply)
-step_stays pages (Ends d) reply few s fit = root_stays pages (begins d) reply (begins_of pages d few s) fit
-step_stays pages (Asks d op on) reply few s fit = s.1 d reply refl fit
+step_stays pages t reply few s fit = step_on pages few t reply s fit
 
 pub change_stays : (pages : ℕ) (t : Script BlockData) (c : Change) → BlockStays pages t
     → BlockStays pages (changed_at block_rules c t)
@@ -232,12 +242,7 @@ change_stays pages (Asks d op on) (Sectors n) s = s
 
 pub leads_stay : (pages : ℕ) (t : Script BlockData) (items : List (Item Change)) (left : Script BlockData)
     → pages < 2 ^ 32 → BlockStays pages t → Leads block_rules t items left → BlockStays pages left
-leads_stay pages t [] left few s leads = subst (λ (x : Script BlockData). BlockStays pages x) leads s
-leads_stay pages t (Did a ∷ items) left few s leads =
-    leads_stay pages (stepped block_rules t a.reply) items left few
-    (step_stays pages t a.reply few s (subst (λ op. Fits op a.reply) leads.0 leads.1)) leads.2
-leads_stay pages t (Changed c ∷ items) left few s leads =
-    leads_stay pages (changed_at block_rules c t) items left few (change_stays pages t c s) leads
+leads_stay pages t items left few s leads = leads_on pages few t items left s leads
 
 pub stays : (start : BlockData) (items : List (Item Change)) (left : Script BlockData) → start.queue.pages < 2 ^ 32
     → LeadsTo block_rules start items left → IsInside start.queue.pages (wants block_rules left)

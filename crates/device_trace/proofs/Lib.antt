@@ -1,6 +1,7 @@
 pub mod Fitting
 pub mod Keeping
 pub mod Laws
+pub mod Leading
 pub mod Performs
 pub mod Rest
 pub mod Traces

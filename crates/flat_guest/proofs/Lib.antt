@@ -1,4 +1,5 @@
 pub mod Acting
+pub mod Alike
 pub mod Answering
 pub mod Changing
 pub mod Determined

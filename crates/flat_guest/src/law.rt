@@ -10,9 +10,10 @@ ghost use Rattle.guest_memory.specs.Boot.{Loads};
 ghost use Rattle.guest_devices.specs.declared.drive.NewDrive.{NewDrive};
 ghost use Rattle.flat_guest.specs.Changes.{resized};
 ghost use Rattle.flat_guest.specs.Guest.{Guest, Wants, is_actor};
+ghost use Rattle.flat_guest.specs.Same.{AreAlike};
 ghost use Rattle.flat_guest.specs.Sound.{IsSound};
 ghost use Rattle.flat_guest.specs.Start.{started, timer_restarted};
-ghost use Rattle.flat_guest.specs.Steps.{FlatStep, IsUnstamped, StepsBy, is_given};
+ghost use Rattle.flat_guest.specs.Steps.{FlatStep, IsUnstamped, StepsBy, guest_after, is_given};
 
 /// An event does one thing: its op, its place, its reply and the guest after it are determined.
 pub fn one_step()
@@ -47,4 +48,12 @@ pub fn some_step()
     ensures stays { (g h : Guest) (event : Event) (e : Entry) → IsSound g → FlatStep g event e h → IsSound h }
     ensures several { (count : ℕ) (g : Guest) (actor : ActorId) → IsSound g → is_actor g actor ≡ true →
         (es : List Entry) × (h : Guest) × StepsBy g actor count es h }
+{}
+
+/// Guests that are one body's take the same events, each with the same entry, and stay so.
+pub fn same_events()
+    ensures one { (g h k : Guest) (event : Event) (e : Entry) → AreAlike g h → FlatStep g event e k →
+        FlatStep h event e (guest_after h e) × AreAlike k (guest_after h e) }
+    ensures several { (g h k : Guest) (actor : ActorId) (count : ℕ) (es : List Entry) → AreAlike g h →
+        StepsBy g actor count es k → (l : Guest) × StepsBy h actor count es l × AreAlike k l }
 {}

@@ -67,7 +67,7 @@ place_fits : (h : SavedHart) → hart.Fits h → place.Fits h.place
 unfolding hart
 place_fits h fits = fits.1.1.1.1.1
 
-hart_leads : (pages : ℕ) (h : SavedHart) → is_hart pages h ≡ true → hart.Fits h
+pub hart_leads : (pages : ℕ) (h : SavedHart) → is_hart pages h ≡ true → hart.Fits h
     → LeadsTo (regs_of h) (steps_at h.place h.pc) (hart_of h)
 hart_leads pages h is fits = at_place h h.place refl (and_parts _ (asks h.place (regs_of h)) is).1 (place_fits h fits)
 
@@ -217,7 +217,7 @@ module _ (pages harts : ℕ) (few : harts ≤ hart_limit) where
 
 -- ---- the copy
 
-harts_fit : (c : StateCopy) → state_copy.Fits c → AllByRecursion hart.Fits c.harts
+pub harts_fit : (c : StateCopy) → state_copy.Fits c → AllByRecursion hart.Fits c.harts
 unfolding state_copy list_of
 harts_fit c fits = fits.1.1.0.1
 

@@ -1,3 +1,4 @@
+pub mod CarriedAlike
 pub mod Copied
 pub mod CopiedAgain
 pub mod GoesOn

@@ -1,16 +1,18 @@
 // What holds of every guest, and of every snapshot.
-ghost use Rattle.std.specs.Prelude.{◌≡◌, ◌≢◌, ◌≤◌, ◌*◌, ◌^◌, ◌⊎◌, ◌++◌, [], ℕ, Bool, List, IsTrue, IsErr, Ok, Err, Some, length};
+ghost use Rattle.std.specs.Prelude.{false, ◌≡◌, ◌≢◌, ◌≤◌, ◌*◌, ◌^◌, ◌⊎◌, ◌++◌, [], ℕ, Bool, List, IsTrue, IsErr, Ok, Err, Some, length};
 ghost use Rattle.std.specs.FinMap.{get, insert};
 ghost use Rattle.vm_types.specs.Saved.{Saved};
 ghost use Rattle.vm_types.specs.declared.entry.Entry.{Entry};
 ghost use Rattle.vm_types.specs.declared.entry.Event.{Event};
 ghost use Rattle.vm_types.specs.declared.identity.Identity.{Identity};
 ghost use Rattle.vm_types.specs.declared.ids.ActorId.{ActorId};
+ghost use Rattle.vm_types.specs.declared.ids.ActorId.TheVariants.{Timer};
 ghost use Rattle.refusals.specs.declared.refusal.Refusal.TheVariants as refusal;
 ghost use Rattle.api_calls.specs.declared.call.SnapshotFiles.{SnapshotFiles};
 ghost use Rattle.file_format.specs.Identities.{is_numbered};
 ghost use Rattle.gate_file.specs.Moments.{IsShut};
 ghost use Rattle.guest_memory.specs.Ram.{page_size};
+ghost use Rattle.guest_memory.specs.Reserved.{hart_limit};
 ghost use Rattle.snap_memory.specs.declared.header.MemHeader.{MemHeader};
 ghost use Rattle.snap_memory.specs.Headers.{header, identity_of, is_valid, new_header};
 ghost use Rattle.snap_diff.specs.Copies.{IsDiffOf};
@@ -22,6 +24,7 @@ ghost use Rattle.flat_snapshot.specs.Files.{diff_file, diff_in, memory_file, mem
 ghost use Rattle.flat_snapshot.specs.Found.{Snapshot, found};
 ghost use Rattle.vm_config.specs.declared.config.Config.{Config};
 ghost use Rattle.flat_guest.specs.Guest.{Guest, unwritten, whole_pages};
+ghost use Rattle.flat_guest.specs.Same.{AreAlike};
 ghost use Rattle.flat_guest.specs.Sound.{IsSound};
 ghost use Rattle.flat_guest.specs.Steps.{FlatStep, StepsBy};
 ghost use Rattle.snap_state.specs.declared.copy.StateCopy.{StateCopy};
@@ -117,4 +120,12 @@ pub fn diff_since()
     ensures made { (old new : Identity) (before pages : ℕ) (g h : Guest) → pages ≡ before →
         KeepsUnwritten (unwritten g) h →
         IsDiffOf (memory_in old before g) (memory_in new pages h) (diff_in old new pages h) }
+{}
+
+/// The guest that goes on from a snapshot is alike with the one that was saved, as it went on.
+pub fn goes_on_alike()
+    ensures { (config : Config) (g : Guest) (copy : StateCopy) (identity : Identity) → IsSound g → IsCopyOf config g copy →
+        IsSaved (record { identity = identity; copy = copy }) → length g.memory.bytes ≡ page_size * copy.pages →
+        g.board.off ≡ false → g.steps Timer ≡ [] → length g.memory.reserved ≡ hart_limit * copy.pages →
+        AreAlike (unwritten g) (carried_guest copy g.memory.bytes) }
 {}

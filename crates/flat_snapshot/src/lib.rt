@@ -7,6 +7,6 @@
 mod law;
 
 pub use law::{
-    copied_again, create_then_load, diff_since, goes_on, load_of_files, no_snapshot, one_copy_of,
-    unwritten_pages,
+    copied_again, create_then_load, diff_since, goes_on, goes_on_alike, load_of_files, no_snapshot,
+    one_copy_of, unwritten_pages,
 };

@@ -1,11 +1,11 @@
 -- What a crash leaves of one file, call by call.
-use Rattle.std.proofs.Common.{◌≡◌, ◌≢◌, ◌<◌, ◌≤◌, ◌⊎◌, ℕ, zero, suc, ◌+◌, max, List, [], ◌∷◌, ◌++◌, length, get_or, Option, Some, None, inl, inr, ⊎_elim, refl, sym, ◌∙◌, ap, subst, arith}
+use Rattle.std.proofs.Common.{◌≡◌, ◌≢◌, ◌<◌, ◌≤◌, ◌⊎◌, ℕ, suc, max, List, [], ◌∷◌, ◌++◌, length, get_or, Option, Some, None, inl, inr, ⊎_elim, refl, sym, ◌∙◌, ap, subst, arith}
 use Rattle.std.proofs.lemmas.List.{ext_get_or}
 use Rattle.std.proofs.lemmas.Bool.{cases_eq}
 use Rattle.vm_outside.specs.Calls.{FileCall}
-use Rattle.gate_file.specs.Crashes.{file_of, Disk, Torn, TornFile, Leaves, LeftBy, Left, LeftSince, Images}
-use Rattle.gate_file.specs.Gate.{close_calls, open_calls, write_calls, fill_calls}
-use Rattle.gate_file.specs.Moments.{IsShut, AreBehind, AsBefore, LeftInside}
+use Rattle.vm_outside.specs.Crashes.{Disk, TornFile, LeftBy, Left, LeftSince, Images}
+use Rattle.gate_file.specs.Gate.{open_calls, write_calls, fill_calls}
+use Rattle.gate_file.specs.Moments.{IsShut, AreBehind, LeftInside}
 
 abbrev Step : FileCall → (Disk → Type 0) → Disk → Type 0
 Step call before d = (old : Disk) × before old × LeftBy call old d
@@ -58,10 +58,10 @@ module _ (name : List ℕ) where
   closed_shut header d (text, is, some, gate) = shut_text header (d name) text is (inr (zero_gate (get_or text 0 0) gate))
 
   -- a write behind the gate leaves it closed
-  torn_closed : (at n : ℕ) (old new : Option (List ℕ)) (text : List ℕ) → 1 ≤ at → old ≡ Some text → 1 ≤ length text → get_or text 0 0 ≡ 0 → TornFile at n old new → (next : List ℕ) × (new ≡ Some next) × (1 ≤ length next) × (get_or next 0 0 ≡ 0)
-  torn_closed at n None new text behind is some gate torn = cc
-  torn_closed at n (Some old) None text behind is some gate torn = absurd torn
-  torn_closed at n (Some old) (Some next) text behind is some gate torn =
+  torn_closed : (at : ℕ) (bytes : List ℕ) (old new : Option (List ℕ)) (text : List ℕ) → 1 ≤ at → old ≡ Some text → 1 ≤ length text → get_or text 0 0 ≡ 0 → TornFile at bytes old new → (next : List ℕ) × (new ≡ Some next) × (1 ≤ length next) × (get_or next 0 0 ≡ 0)
+  torn_closed at bytes None new text behind is some gate torn = cc
+  torn_closed at bytes (Some old) None text behind is some gate torn = absurd torn
+  torn_closed at bytes (Some old) (Some next) text behind is some gate torn =
       let same : old ≡ text = cc in
       let long : length old ≡ length text = ap length same in
       let more = torn.no_shorter in
@@ -69,7 +69,7 @@ module _ (name : List ℕ) where
       (next, refl, omega arith, first ∙ ap (λ (l : List ℕ). get_or l 0 0) same ∙ gate)
 
   write_closed : (at : ℕ) (bytes : List ℕ) (old new : Disk) → 1 ≤ at → Closed old → LeftBy (FileCall.Writing name at bytes) old new → Closed new
-  write_closed at bytes old new behind (text, is, some, gate) left = torn_closed at (length bytes) (old name) (new name) text behind is some gate left.file
+  write_closed at bytes old new behind (text, is, some, gate) left = torn_closed at bytes (old name) (new name) text behind is some gate left.file
 
   -- from a closed gate on, writes behind it and a sync of what is closed
   closed_since : (before : Disk → Type 0) (ws : List (ℕ × List ℕ)) (rest : List ℕ) → AreBehind ws → ((d : Disk) → before d → Closed d) → (d : Disk) → LeftSince before (write_calls name ws ++ FileCall.Synced name (Some (0 ∷ rest)) ∷ []) d → Closed d
@@ -83,13 +83,13 @@ module _ (name : List ℕ) where
   made_shut header o most is = shut_text header o [] is (inl (omega arith))
 
   -- one byte over an empty file
-  first_shut : (header : ℕ) (old new : Option (List ℕ)) → 2 ≤ header → old ≡ Some [] → TornFile 0 1 old new → IsShut header new
+  first_shut : (header : ℕ) (old new : Option (List ℕ)) → 2 ≤ header → old ≡ Some [] → TornFile 0 (0 ∷ []) old new → IsShut header new
   first_shut header None new most is torn = cc
   first_shut header (Some old) None most is torn = absurd torn
   first_shut header (Some old) (Some next) most is torn =
       let same : old ≡ [] = cc in
       let none : length old ≡ 0 = ap length same in
-      let short = torn.no_longer in
+      let short : length next ≤ max (length old) 1 = torn.no_longer in
       inl (omega arith)
 
   -- while the file is made and filled it is as before or shut
@@ -110,7 +110,7 @@ module _ (name : List ℕ) where
   same_behind rest bs long each = ext_get_or 0 bs rest long (λ k lt. each k (omega arith))
 
   -- one byte over the gate
-  gate_torn : (header : ℕ) (rest : List ℕ) (old new : Option (List ℕ)) → old ≡ Some (0 ∷ rest) → TornFile 0 1 old new → IsShut header new ⊎ (new ≡ Some (1 ∷ rest))
+  gate_torn : (header : ℕ) (rest : List ℕ) (old new : Option (List ℕ)) → old ≡ Some (0 ∷ rest) → TornFile 0 (1 ∷ []) old new → IsShut header new ⊎ (new ≡ Some (1 ∷ rest))
   gate_torn header rest None new is torn = cc
   gate_torn header rest (Some old) None is torn = absurd torn
   gate_torn header rest (Some old) (Some []) is torn = inl (inr (zero_gate 0 refl))
@@ -118,7 +118,7 @@ module _ (name : List ℕ) where
       let same : old ≡ 0 ∷ rest = cc in
       let size : length old ≡ suc (length rest) = ap length same in
       let low = torn.no_shorter in
-      let high = torn.no_longer in
+      let high : length (b ∷ bs) ≤ max (length old) 1 = torn.no_longer in
       let behind : bs ≡ rest = same_behind rest bs (omega arith) (λ k lt. torn.stays (suc k) (omega arith) (inr (omega arith)) ∙ ap (λ (l : List ℕ). get_or l (suc k) 0) same) in
       ⊎_elim (λ one. inr (ap (λ (g : ℕ). Some (g ∷ bs)) one ∙ ap (λ (l : List ℕ). Some (1 ∷ l)) behind)) (λ other. inl (inr other)) (cases_eq b 1)
 

@@ -1,7 +1,7 @@
 -- A file behind a gate at every moment of its calls.
 use Rattle.std.specs.Prelude.{◌≡◌, ◌≢◌, ◌<◌, ◌≤◌, ◌⊎◌, ℕ, List, [], ◌∷◌, ◌++◌, length, Option, Some, None, slice_index}
 use Rattle.vm_outside.specs.Calls.{FileCall}
-use Rattle.gate_file.specs.Crashes.{Disk, Images, LeftSince}
+use Rattle.vm_outside.specs.Crashes.{Disk, Images, LeftSince}
 
 -- no such file, too short for a header of this size, or the gate isn't open
 abbrev pub IsShut : ℕ → Option (List ℕ) → Type 0

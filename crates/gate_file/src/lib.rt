@@ -15,7 +15,7 @@ mod whole;
 
 pub use file_error::FileError;
 pub use gate::{close_file, open_file};
-pub use law::any_moment;
+pub use law::{any_moment, any_pair, any_stage};
 pub use reading::{read_file, read_front, zeros};
 pub use starting::{FileStart, read_start};
 pub use whole::save_file;

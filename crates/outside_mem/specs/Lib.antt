@@ -1,3 +1,4 @@
 pub mod Logged
 pub mod Saving
 pub mod Writes
+pub mod Images

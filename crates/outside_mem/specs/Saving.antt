@@ -1,5 +1,5 @@
 -- What files hold after the events that they log, the newest first, and the calls that these are.
-use Rattle.std.specs.Prelude.{ℕ, List, [], ◌∷◌, ◌++◌}
+use Rattle.std.specs.Prelude.{ℕ, Bool, true, ◌&&◌, is_some, List, [], ◌∷◌, ◌++◌}
 use Rattle.std.specs.Option.{unwrap_or}
 use Rattle.std.specs.FinMap.{get, insert}
 use Rattle.vm_types.specs.Saved.{Saved, nothing_saved, written}
@@ -22,3 +22,10 @@ calls_of [] = []
 calls_of (Made name ∷ events) = calls_of events ++ FileCall.Making name ∷ FileCall.Made name ∷ []
 calls_of (Wrote name at bytes ∷ events) = calls_of events ++ FileCall.Writing name at bytes ∷ []
 calls_of (Synced name ∷ events) = calls_of events ++ FileCall.Synced name (get (saved_after events) name) ∷ []
+
+-- each write found its file
+abbrev pub found_theirs : List FileEvent → Bool
+found_theirs [] = true
+found_theirs (Made name ∷ events) = found_theirs events
+found_theirs (Wrote name at bytes ∷ events) = is_some (get (saved_after events) name) && found_theirs events
+found_theirs (Synced name ∷ events) = found_theirs events

@@ -3,7 +3,7 @@ ghost use Rattle.std.specs.Prelude.{◌≡◌, ◌∷◌, [], true, OnOk, OnErr,
 ghost use Rattle.std.specs.FinMap.{get, insert};
 ghost use Rattle.outside_mem.specs.Writes.{PutsAt};
 ghost use Rattle.vm_outside.specs.Filing.{IsReadAt};
-ghost use Rattle.outside_mem.specs.Saving.{saved_after};
+ghost use Rattle.outside_mem.specs.Saving.{found_theirs, saved_after};
 
 use crate::failing::Failing;
 use crate::file_event::FileEvent;
@@ -21,6 +21,7 @@ pub struct MemoryFiles {
     log: VecDeque<FileEvent>,
     failing: Failing,
     ghost kept: { files ≡ saved_after log.items },
+    ghost found: { found_theirs log.items ≡ true },
 }
 
 impl MemoryFiles {
@@ -73,12 +74,15 @@ impl Files for MemoryFiles {
     ghost use Rattle.std.specs.Prelude.{true};
     ghost use Rattle.outside_mem.specs.Logged.{logged};
     ghost use Rattle.outside_mem.specs.Saving.{calls_of};
+    ghost use Rattle.outside_mem.specs.Images.{image_of};
 
     ghost known = { λ f. record {
       health = record { tells = true; faults = f.failing };
       saved = f.files;
       calls = calls_of (logged f);
     } };
+
+    ghost image = { λ f tells. image_of f.log.items f.files f.kept f.found };
 
     fn size(&mut self, name: &str) -> Result<Option<u64>, Failed> {
         if self.failing.fails() {

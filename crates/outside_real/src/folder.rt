@@ -61,8 +61,11 @@ impl<'a, R: rt::Files + AllocGlobal> Files for Folder<'a, R> {
     ghost use Rattle.std.specs.Prelude.{[]};
     ghost use Rattle.outside_real.specs.Counting.{untold};
     ghost use Rattle.vm_types.specs.Saved.{nothing_saved};
+    ghost use Rattle.vm_outside.proofs.Imaging.{none_image};
 
     ghost known = { λ f. record { health = untold f.faults; saved = nothing_saved; calls = [] } };
+
+    ghost image = { λ f tells. none_image };
 
     fn size(&mut self, name: &str) -> Result<Option<u64>, Failed>
         ensures counts { CountsFailure (⟦<Folder<'a, R> as Files>⟧.known self.old).health.faults

@@ -19,12 +19,15 @@ struct LongFile {
 impl Files for LongFile {
     ghost use Rattle.std.specs.Prelude.{false, []};
     ghost use Rattle.vm_types.specs.Saved.{nothing_saved};
+    ghost use Rattle.vm_outside.proofs.Imaging.{none_image};
 
     ghost known = { λ f. record {
       health = record { tells = false; faults = 0 };
       saved = nothing_saved;
       calls = [];
     } };
+
+    ghost image = { λ f tells. none_image };
 
     fn size(&mut self, _name: &str) -> Result<Option<u64>, Failed> {
         Ok(Some(self.size))

@@ -1,3 +1,4 @@
 pub mod Both
 pub mod Runs
 pub mod Selecting
+pub mod Crashing

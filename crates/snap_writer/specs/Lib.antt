@@ -1,3 +1,4 @@
 pub mod Blocks
 pub mod Create
 pub mod Selected
+pub mod Moments

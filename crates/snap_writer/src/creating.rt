@@ -1,5 +1,9 @@
 // Both files of a snapshot.
-ghost use Rattle.std.specs.Prelude.{◌≡◌, ◌≢◌, ◌<◌, ◌^◌, length, OnErr, OnOk};
+ghost use Rattle.std.specs.Prelude.{◌≡◌, ◌≢◌, ◌<◌, ◌^◌, ◌∷◌, ◌++◌, Some, length, OnErr, OnOk};
+ghost use Rattle.vm_outside.specs.Crashes.{Disk, Images};
+ghost use Rattle.gate_file.specs.Pairs.{PairLeaves};
+ghost use Rattle.gate_file.specs.Stages.{LeftMeanwhile};
+ghost use Rattle.snap_writer.specs.Moments.{memory_target, state_target};
 ghost use Rattle.vm_outside.specs.Known.{Called, Tells};
 ghost use Rattle.snap_writer.specs.Blocks.{block_size};
 ghost use Rattle.snap_writer.specs.Create.{Creates, CreatesPart};
@@ -28,6 +32,13 @@ pub fn create<F: Files>(
     ensures begun { OnErr result (Tells (F.known files.old).health →
         CreatesPart memory.now head.now pages.now state.now body.now
         (F.known files.old) (F.known files.new)) }
+    ensures crash { Tells (F.known files.old).health → (disk : Disk) →
+        (left : LeftMeanwhile (F.known files.old).calls (F.known files.new).calls disk) →
+        PairLeaves (F.known files.old).calls (memory_target memory.now head.now pages.now)
+        (state_target state.now body.now) left.moment.done disk }
+    ensures lasting { OnOk result (Tells (F.known files.old).health → (disk : Disk) →
+        Images (F.known files.new).calls disk → (disk memory.now ≡ Some (1 ∷ head.now ++ pages.now))
+        × (disk state.now ≡ Some (1 ∷ body.now))) }
     ensures called { Called (F.known files.old).health (F.known files.new).health result }
 {
     write_files(files, pages, room.block(), head, body, state, memory)

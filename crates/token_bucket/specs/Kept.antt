@@ -1,7 +1,7 @@
 -- What a bucket keeps of its start and its needs.
-use Rattle.std.specs.Prelude.{◌≡◌, ℕ, ◌+◌, ◌-◌, ◌^◌, ◌<◌, ◌≤◌, true, false, List, ℤ, pos, negsuc}
+use Rattle.std.specs.Prelude.{◌≡◌, ℕ, ◌+◌, ◌-◌, ◌*◌, max, Bool, ◌^◌, ◌<◌, ◌≤◌, true, false, List, ℤ, pos, negsuc}
 use Rattle.token_bucket.specs.Rate.{Rate, full}
-use Rattle.token_bucket.specs.Allowance.{Start, Need, total, last_moment, NeverFall, owed, may_pass}
+use Rattle.token_bucket.specs.Allowance.{Start, Need, total, last_moment, NeverFall, fits, owed, may_pass}
 use Rattle.token_bucket.specs.declared.state.State.{State}
 
 -- a bucket as its callers see it
@@ -48,3 +48,17 @@ pub record IsWait (rate : Rate) (start : Start) (needs : List Need) (tokens wait
   pub none_before : (now : ℕ) → last_moment start needs ≤ now → now < wait →
       may_pass rate start needs tokens now ≡ false
   pub passes : wait < last_of_all → may_pass rate start needs tokens wait ≡ true
+
+-- what is owed at a moment, whether so many tokens pass then, and what is kept after them, by what is kept alone
+abbrev pub owes_at : Kept → ℕ → ℕ
+owes_at kept now = kept.owes - kept.rate.size * (max now kept.moment - kept.moment)
+
+abbrev pub takes : Kept → ℕ → ℕ → Bool
+takes kept tokens now = fits kept.rate (tokens - kept.burst) (owes_at kept now)
+
+abbrev pub took : Kept → ℕ → ℕ → Kept
+took kept tokens now = record kept {
+  burst = kept.burst - tokens;
+  owes = owes_at kept now + kept.rate.refill * (tokens - kept.burst);
+  moment = max now kept.moment;
+}

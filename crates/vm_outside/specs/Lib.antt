@@ -1,4 +1,5 @@
 pub mod Calls
+pub mod Crashes
 pub mod Filing
 pub mod Known
 pub mod Passing

@@ -9,11 +9,16 @@ ghost use Rattle.vm_outside.specs.Known.{Called, Tells};
 
 use crate::failed::Failed;
 
-/// Files, each under a name. Offsets and lengths are in bytes.
+/// Files, each under a name. Offsets and lengths are in bytes. The law `image` says that what reads give is one of the
+/// images that a crash may leave now.
 pub trait Files: Drop {
-    ghost use Rattle.vm_outside.specs.Known.{FilesKnown};
+    ghost use Rattle.std.specs.FinMap.{get};
+    ghost use Rattle.vm_outside.specs.Known.{FilesKnown, Tells};
+    ghost use Rattle.vm_outside.specs.Crashes.{Images};
 
     ghost known: { Self → FilesKnown };
+
+    ghost image: { (f : Self) → Tells (known f).health → Images (known f).calls (λ name. get (known f).saved name) };
 
     /// How long the file is, where there is one.
     fn size(&mut self, name: &str) -> Result<Option<u64>, Failed>

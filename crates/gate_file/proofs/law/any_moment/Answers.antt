@@ -1,5 +1,5 @@
 use Rattle.std.proofs.Common.{inl, inr, ⊎_elim, ◌++◌}
-use Rattle.gate_file.specs.Crashes.{Disk, Images, Left, NoFile}
+use Rattle.vm_outside.specs.Crashes.{Images, Left, NoFile}
 use Rattle.gate_file.specs.Gate.{open_calls, fill_calls}
 use Rattle.gate_file.proofs.Leaving.{of_front, split, left_then, fill_moments, filled, open_moments, opened}
 use Rattle.gate_file.proofs.law.any_moment.Goals as goal

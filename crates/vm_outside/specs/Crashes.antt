@@ -14,23 +14,28 @@ file_of (Synced name now) = name
 abbrev pub Disk : Type 0
 Disk = List ℕ → Option (List ℕ)
 
--- After a write of n bytes at an offset, and before a sync: any bytes in that range and past the old end, and past
--- the old end some may be cut off. Other bytes stay, and the file is no longer than its old end or the range's.
-pub record Torn (at n : ℕ) (old new : List ℕ) : Type 0 where
-  pub no_shorter : length old ≤ length new
-  pub no_longer : length new ≤ max (length old) (at + n)
-  pub stays : (k : ℕ) → k < length old → (k < at) ⊎ (at + n ≤ k) → slice_index new k ≡ slice_index old k
+-- each below 256
+abbrev pub IsBytes : List ℕ → Type 0
+IsBytes given = (i : ℕ) → slice_index given i < 256
 
-abbrev pub TornFile : ℕ → ℕ → Option (List ℕ) → Option (List ℕ) → Type 0
-TornFile at n (Some old) (Some new) = Torn at n old new
-TornFile at n None None = Unit {0}
-TornFile at n old new = ⊥
+-- After a write of these bytes at an offset, and before a sync: any bytes in their range and past the old end, and past
+-- the old end some may be cut off. Other bytes stay, and the file is no longer than its old end or the range's.
+pub record Torn (at : ℕ) (bytes old new : List ℕ) : Type 0 where
+  pub no_shorter : length old ≤ length new
+  pub no_longer : length new ≤ max (length old) (at + length bytes)
+  pub stays : (k : ℕ) → k < length old → (k < at) ⊎ (at + length bytes ≤ k) → slice_index new k ≡ slice_index old k
+  pub are_bytes : IsBytes bytes → IsBytes old → IsBytes new
+
+abbrev pub TornFile : ℕ → List ℕ → Option (List ℕ) → Option (List ℕ) → Type 0
+TornFile at bytes (Some old) (Some new) = Torn at bytes old new
+TornFile at bytes None None = Unit {0}
+TornFile at bytes old new = ⊥
 
 -- what a crash may leave of the file of a call, from what it might have left before
 abbrev pub Leaves : FileCall → Option (List ℕ) → Option (List ℕ) → Type 0
 Leaves (Making name) old new = (new ≡ old) ⊎ (new ≡ None) ⊎ (new ≡ Some [])
 Leaves (Made name) old new = new ≡ Some []
-Leaves (Writing name at bytes) old new = TornFile at (length bytes) old new
+Leaves (Writing name at bytes) old new = TornFile at bytes old new
 Leaves (Synced name now) old new = new ≡ now
 
 -- one call more: its file by that, and every other file as it might have been
