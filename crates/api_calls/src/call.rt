@@ -5,7 +5,7 @@ use metadata_store::Tree;
 use vm_types::TextList;
 
 /// What a GET tells.
-#[derive(Clone, Copy, Debug, PartialEq, Eq, Drop)]
+#[derive(Clone, Copy, Drop)]
 pub enum Part {
     /// GET /: the id of the machine, its phase and its version.
     Instance,
@@ -31,7 +31,7 @@ pub struct BootSource {
 }
 
 /// Whether a drive offers its guest to flush what it wrote (VIRTIO 1.2, 5.2.3).
-#[derive(Clone, Copy, Debug, PartialEq, Eq, Drop)]
+#[derive(Clone, Copy, Drop)]
 pub enum CacheType {
     /// It doesn't.
     Unsafe,
@@ -77,7 +77,7 @@ pub struct DrivePatch {
 }
 
 /// The machine itself. Simultaneous multithreading is always off.
-#[derive(Clone, Copy, Debug, PartialEq, Eq, Drop)]
+#[derive(Clone, Copy, Drop)]
 pub struct MachineConfig {
     /// The number of harts.
     pub vcpu_count: u64,
@@ -96,7 +96,7 @@ pub struct MachinePatch {
 }
 
 /// Whether a machine that has started is to stand still or to go on.
-#[derive(Clone, Copy, Debug, PartialEq, Eq, Drop)]
+#[derive(Clone, Copy, Drop)]
 pub enum VmState {
     Paused,
     Resumed,
@@ -110,7 +110,7 @@ pub struct SnapshotFiles {
 }
 
 /// Which pages a snapshot's memory file has.
-#[derive(Clone, Copy, Debug, PartialEq, Eq, Drop)]
+#[derive(Clone, Copy, Drop)]
 pub enum SnapshotType {
     /// All of them.
     Full,

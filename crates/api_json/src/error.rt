@@ -6,7 +6,7 @@ use refusals::Refusal;
 use std::alloc::AllocError;
 
 /// Why a request is no call: its first refusal, or there was no memory.
-#[derive(Clone, Copy, Debug, PartialEq, Eq, Drop)]
+#[derive(Clone, Copy, Drop)]
 pub enum ReadError {
     Refused(Refusal),
     OutOfMemory,

@@ -19,7 +19,7 @@ pub fn start_refusal(config: &Config) -> Option<Refusal>
 }
 
 /// What the files have under the name of the initial RAM disk.
-#[derive(Clone, Copy, Debug, PartialEq, Eq, Drop)]
+#[derive(Clone, Copy, PartialEq, Drop)]
 pub enum InitrdFile {
     /// No name is configured.
     Unnamed,

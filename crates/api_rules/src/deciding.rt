@@ -12,7 +12,7 @@ use refusals::Refusal;
 use vm_config::{Change, Config, Phase};
 
 /// When a call is allowed.
-#[derive(Clone, Copy, Debug, PartialEq, Eq, Drop)]
+#[derive(Clone, Copy, Drop)]
 pub enum When {
     BeforeBoot,
     AfterBoot,

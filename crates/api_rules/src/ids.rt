@@ -3,7 +3,7 @@
 use vm_types::Identity;
 
 /// What a process knows of its snapshots.
-#[derive(Clone, Copy, Debug, PartialEq, Eq, Drop)]
+#[derive(Clone, Copy, Drop)]
 pub struct Ids {
     /// The lineage of this process.
     pub lineage: u64,

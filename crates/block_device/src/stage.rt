@@ -17,7 +17,7 @@ pub const UNSUPPORTED: u8 = 2;
 /// The act that is wanted. `more` counts the units of 64 bytes behind this one. What is read begins at `sector`, `unit`
 /// units before this one; 2^26 units are as many as none, since the used length is modulo 2^32, and `sector` is then
 /// 2^23 further. What is written is `part`, below 8, of `sector`.
-#[derive(Clone, Copy, Debug, PartialEq, Eq, Drop)]
+#[derive(Clone, Copy, Drop)]
 pub enum ServiceStage {
     /// A unit is read from the disk.
     Read { sector: u64, unit: u64, more: u64 },

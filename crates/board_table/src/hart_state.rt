@@ -1,7 +1,7 @@
 // Whether a hart runs.
 
 /// The state of a hart as the board keeps it (SBI, "Hart State Management Extension").
-#[derive(Clone, Copy, Debug, PartialEq, Eq, Drop)]
+#[derive(Clone, Copy, Drop)]
 pub enum HartState {
     Started,
     Stopped,

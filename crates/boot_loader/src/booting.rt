@@ -13,7 +13,7 @@ use std::alloc::{AllocError, Global};
 const PAGES_OF_MIB: u32 = 256;
 
 /// Why there is no memory to start in.
-#[derive(Clone, Copy, Debug, PartialEq, Eq, Drop)]
+#[derive(Clone, Copy, Drop)]
 pub enum BootError {
     /// What is loaded does not fit.
     NoRoom,

@@ -13,14 +13,14 @@ use guest_pages::PageSet;
 use vm_types::GuestAddr;
 
 /// Where the guest begins, and where it finds its device tree.
-#[derive(Clone, Copy, Debug, PartialEq, Eq, Drop)]
+#[derive(Clone, Copy, Drop)]
 pub struct Start {
     pub pc: GuestAddr,
     pub tree: GuestAddr,
 }
 
 /// The image, the initial RAM disk and the device tree do not fit in memory.
-#[derive(Clone, Copy, Debug, PartialEq, Eq, Drop)]
+#[derive(Clone, Copy, Drop)]
 pub struct NoRoom;
 
 fn initrd_len(initrd: &Option<&[u8]>) -> Option<u64>

@@ -6,7 +6,7 @@ ghost use Rattle.dev_core.specs.Returning.{break_left};
 use vm_types::{BoardOp, Op, PortOp, Reply};
 
 /// The act that is wanted.
-#[derive(Clone, Copy, Debug, PartialEq, Eq, Drop)]
+#[derive(Clone, Copy, Drop)]
 pub enum BreakStage {
     /// The port is told.
     Port,

@@ -14,7 +14,7 @@ use std::alloc::{AllocError, Global};
 use vm_config::Config;
 
 /// Where the initial RAM disk stands in memory: its first address, and the one behind its last byte.
-#[derive(Clone, Copy, Debug, PartialEq, Eq, Drop)]
+#[derive(Clone, Copy, Drop)]
 pub struct InitrdPlace {
     pub start: u64,
     pub end: u64,

@@ -7,7 +7,7 @@ use refusals::Refusal;
 use std::alloc::{AllocError, AllocFailed};
 
 /// Why nothing was read.
-#[derive(Clone, Copy, Debug, PartialEq, Eq, Drop)]
+#[derive(Clone, Copy, Drop)]
 pub enum ReadError {
     /// The bytes encode nothing.
     Bad,
@@ -32,7 +32,7 @@ impl<T: Drop> From<AllocFailed<T>> for ReadError {
 }
 
 /// Why a file wasn't read: the first cause that fits.
-#[derive(Clone, Copy, Debug, PartialEq, Eq, Drop)]
+#[derive(Clone, Copy, Drop)]
 pub enum DecodeError {
     /// It is shorter than its header, or its gate is closed.
     GateClosed,

@@ -9,7 +9,7 @@ use vm_types::{GuestAddr, Op, PlaceId};
 
 /// What there is to act on, beside the board: so many bytes of RAM, and the ports of so many devices, by their
 /// numbers from 0.
-#[derive(Clone, Copy, Debug, PartialEq, Eq, Drop)]
+#[derive(Clone, Copy, Drop)]
 pub struct Layout {
     pub memory_size: usize,
     pub ports: u8,

@@ -1,7 +1,7 @@
 // Why a file is not read or written.
 
 /// Why a file is not read or written.
-#[derive(Clone, Copy, Debug, PartialEq, Eq, Drop)]
+#[derive(Clone, Copy, Drop)]
 pub enum FileError {
     /// A call on files failed, and was counted.
     Fault,

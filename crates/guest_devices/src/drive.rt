@@ -1,7 +1,7 @@
 // What a machine starts a block device with.
 
 /// What a machine starts a block device with (VIRTIO 1.2, 5.2).
-#[derive(Clone, Copy, Debug, PartialEq, Eq, Drop)]
+#[derive(Clone, Copy, Drop)]
 pub struct NewDrive {
     /// What GET_ID gives.
     pub drive_id: [u8; 20],

@@ -9,7 +9,7 @@ use vm_types::Shown;
 const IS_INTERRUPT: u64 = 0x8000_0000_0000_0000;
 
 /// An interrupt of a supervisor (privileged manual, supervisor part, "Supervisor Cause Register").
-#[derive(Clone, Copy, Debug, PartialEq, Eq, Drop)]
+#[derive(Clone, Copy, Drop)]
 pub enum Interrupt {
     Software,
     Timer,

@@ -12,7 +12,7 @@ const SECOND: u64 = 1_000_000_000;
 const LONGEST_LIFE: u64 = 21_600;
 
 /// A token that was given: its word, the moment of guest time in nanoseconds, and how many seconds it lives.
-#[derive(Clone, Copy, Debug, PartialEq, Eq, Drop)]
+#[derive(Clone, Copy, Drop)]
 pub struct Token {
     pub word: u64,
     pub made: u64,

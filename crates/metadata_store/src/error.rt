@@ -6,7 +6,7 @@ use refusals::Refusal;
 use std::alloc::AllocError;
 
 /// Why a store is not changed: the first refusal, or there was no memory.
-#[derive(Clone, Copy, Debug, PartialEq, Eq, Drop)]
+#[derive(Clone, Copy, Drop)]
 pub enum StoreError {
     Refused(Refusal),
     OutOfMemory,

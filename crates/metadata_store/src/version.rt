@@ -1,7 +1,7 @@
 // Which tokens a service asks for.
 
 /// The version of the metadata service that a guest is given.
-#[derive(Clone, Copy, Debug, PartialEq, Eq, Drop)]
+#[derive(Clone, Copy, Drop)]
 pub enum MetadataVersion {
     /// Every GET is answered.
     V1,

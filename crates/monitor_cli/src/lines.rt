@@ -12,7 +12,7 @@ use vm_outside::{Files, Sink};
 use vm_types::{Exit, TextList};
 
 /// Why no line is done any more.
-#[derive(Clone, Copy, Debug, PartialEq, Eq, Drop)]
+#[derive(Clone, Copy, Drop)]
 pub enum Paused {
     /// The guest is off.
     Off,

@@ -9,7 +9,7 @@ use command_words::{is_end, option_at};
 use vm_types::Exit;
 
 /// Why a command's words can't be had.
-#[derive(Clone, Copy, Debug, PartialEq, Eq, Drop)]
+#[derive(Clone, Copy, Drop)]
 pub enum NoWords {
     /// A word is no UTF-8 text.
     NotText,

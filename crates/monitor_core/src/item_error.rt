@@ -5,7 +5,7 @@ ghost use Rattle.monitor_core.specs.declared.item_error.ItemError.TheVariants.{O
 use std::alloc::AllocError;
 
 /// Why an item is not done to its end.
-#[derive(Clone, Copy, Debug, PartialEq, Eq, Drop)]
+#[derive(Clone, Copy, Drop)]
 pub enum ItemError {
     /// A call on the files failed, at a file line.
     FilesFailed,

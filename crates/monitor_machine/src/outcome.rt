@@ -2,7 +2,7 @@
 
 /// How a request went: answered by the machine; answered 500 because a call on the files failed; or answered 503 for
 /// want of memory, and then nothing has changed. The run goes on after each.
-#[derive(Clone, Copy, Debug, PartialEq, Eq, Drop)]
+#[derive(Clone, Copy, Drop)]
 pub enum Outcome {
     Answered,
     Failed,

@@ -16,7 +16,7 @@ use vm_types::Entry;
 use vm_world::World;
 
 /// What was not told to its end.
-#[derive(Clone, Copy, Debug, PartialEq, Eq, Drop)]
+#[derive(Clone, Copy, Drop)]
 pub enum Untold {
     Trace,
     Sink,

@@ -11,7 +11,7 @@ use std::sync::Wait;
 use vm_outside::Failed;
 
 /// What the reader heard.
-#[derive(Clone, Copy, Debug, PartialEq, Eq, Drop)]
+#[derive(Clone, Copy, Drop)]
 pub enum Heard {
     /// So many bytes, at the front of the buffer.
     Bytes(usize),

@@ -3,7 +3,7 @@ ghost use Rattle.std.specs.Prelude.{◌≡◌, ◌≤◌};
 ghost use Rattle.port_table.specs.Kinds as kinds;
 
 /// A device by its type (VIRTIO 1.2, 5).
-#[derive(Clone, Copy, Debug, PartialEq, Eq, Drop)]
+#[derive(Clone, Copy, Drop)]
 pub enum DeviceKind {
     Net,
     Block,
@@ -12,7 +12,7 @@ pub enum DeviceKind {
 }
 
 /// A feature that a device may offer (VIRTIO 1.2, 6 and "Feature bits" of each type).
-#[derive(Clone, Copy, Debug, PartialEq, Eq, Drop)]
+#[derive(Clone, Copy, Drop)]
 pub enum Feature {
     /// VIRTIO_F_VERSION_1, which each device offers.
     Version1,

@@ -3,7 +3,7 @@
 use crate::kind::DeviceKind;
 
 /// The registers of one queue (VIRTIO 1.2, 4.2.2).
-#[derive(Clone, Copy, Debug, PartialEq, Eq, Drop)]
+#[derive(Clone, Copy, Drop)]
 pub struct PortQueue {
     /// QueueDesc: the guest address of the descriptor table.
     pub descriptors: u64,
@@ -20,7 +20,7 @@ pub struct PortQueue {
 }
 
 /// A port between two acts (VIRTIO 1.2, 4.2.2): what kind of device has it, and its registers.
-#[derive(Clone, Copy, Debug, PartialEq, Eq, Drop)]
+#[derive(Clone, Copy, Drop)]
 pub struct PortState {
     /// DeviceFeatures: what the device offers, a bit a feature.
     pub offered: u64,

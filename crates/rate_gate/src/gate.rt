@@ -8,7 +8,7 @@ use token_bucket::Bucket;
 const OPS_NEED: u64 = 1;
 
 /// Whether a request passes.
-#[derive(Clone, Copy, PartialEq, Eq, Debug)]
+#[derive(Clone, Copy, Debug)]
 pub enum Pass {
     /// It passes, and both buckets gave what it needs.
     Go,

@@ -5,7 +5,7 @@ ghost use Rattle.rebase_cli.specs.Ends.{status_of};
 use refusals::Refusal;
 
 /// How a command ends.
-#[derive(Clone, Copy, Debug, PartialEq, Eq, Drop)]
+#[derive(Clone, Copy, Debug, Drop)]
 pub enum End {
     /// The diff is merged.
     Done,

@@ -6,7 +6,7 @@ use std::alloc::{AllocError, Global};
 use vm_types::ByteList;
 
 /// Why a call, a file or a merge is refused.
-#[derive(Clone, Copy, Debug, PartialEq, Eq, Drop)]
+#[derive(Clone, Copy, Debug, Drop)]
 pub enum Refusal {
     NoSuchPath,
     NoSuchMethod,

@@ -9,7 +9,7 @@ use std::alloc::{AllocError, Global};
 use vm_types::ByteList;
 
 /// In which form responses are written.
-#[derive(Clone, Copy, Debug, PartialEq, Eq, Drop)]
+#[derive(Clone, Copy, Drop)]
 pub enum ResponseForm {
     /// As a line of a script's output, `< S` or `< S BODY`.
     Line,

@@ -13,7 +13,7 @@ use vm_types::{AmoKind, BoardOp, Op, Piece};
 
 /// What a hart asks for: an `Op` without its 64 bytes. It is moved at every event, so numbers of eight bytes come
 /// first in each variant.
-#[derive(Clone, Copy, Debug, PartialEq, Eq, Drop)]
+#[derive(Clone, Copy, Drop)]
 pub enum HartOp {
     /// The instruction at `pc`.
     Fetch {

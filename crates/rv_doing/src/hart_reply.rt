@@ -11,7 +11,7 @@ use rv_rows::Width;
 use vm_types::{Reply, Shown};
 
 /// What a hart is answered: a `Reply` without its 64 bytes.
-#[derive(Clone, Copy, Debug, PartialEq, Eq, Drop)]
+#[derive(Clone, Copy, Drop)]
 pub enum HartReply {
     /// The access isn't inside RAM, a port or the board, or the place doesn't serve it.
     Fault,

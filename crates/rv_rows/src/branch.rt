@@ -1,7 +1,7 @@
 // When a branch is taken.
 
 /// When a conditional branch is taken (unprivileged manual, 2.5, "Conditional Branches").
-#[derive(Clone, Copy, Debug, PartialEq, Eq, Drop)]
+#[derive(Clone, Copy, Debug, Drop)]
 pub enum Condition {
     Eq,
     Ne,

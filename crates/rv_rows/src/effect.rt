@@ -8,7 +8,7 @@ use vm_types::AmoKind;
 
 /// What an instruction does, before any memory or CSR is asked. Where nothing else is said, the next instruction is
 /// the one behind it.
-#[derive(Clone, Copy, Debug, PartialEq, Eq, Drop)]
+#[derive(Clone, Copy, Debug, Drop)]
 pub enum Effect {
     /// rd gets the value.
     Put {

@@ -3,7 +3,7 @@ ghost use Rattle.std.specs.Prelude.{◌≡◌};
 ghost use Rattle.rv_rows.specs.Exceptions.{code};
 
 /// An exception (privileged manual, supervisor part, "Supervisor Cause Register").
-#[derive(Clone, Copy, Debug, PartialEq, Eq, Drop)]
+#[derive(Clone, Copy, Debug, Drop)]
 pub enum Exception {
     InstructionMisaligned,
     InstructionFault,

@@ -10,7 +10,7 @@ use crate::register::Register;
 use vm_types::AmoKind;
 
 /// An instruction. Immediates and offsets are sign-extended to 64 bits.
-#[derive(Clone, Copy, Debug, PartialEq, Eq, Drop)]
+#[derive(Clone, Copy, Debug, Drop)]
 pub enum Instr {
     Lui {
         rd: Register,

@@ -4,7 +4,7 @@ ghost use Rattle.rv_rows.specs.Loads.{load_width, width_bytes, atomic_width};
 
 /// How many bytes an access takes, of a store the low ones of its register: 1, 2, 4 or 8 (unprivileged manual, 2.6
 /// and 5.3). The instructions of the extension A take 4, or 8 where they are `wide` (chapter 8).
-#[derive(Clone, Copy, Debug, PartialEq, Eq, Drop)]
+#[derive(Clone, Copy, Debug, Drop)]
 pub enum Width {
     Byte,
     Half,
@@ -14,7 +14,7 @@ pub enum Width {
 
 /// How many bytes a load takes, 1, 2, 4 or 8, and whether it extends their sign or, in the unsigned forms, zeros
 /// (unprivileged manual, 2.6 and 5.3).
-#[derive(Clone, Copy, Debug, PartialEq, Eq, Drop)]
+#[derive(Clone, Copy, Debug, Drop)]
 pub enum LoadKind {
     Byte,
     Half,

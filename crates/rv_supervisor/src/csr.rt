@@ -6,7 +6,7 @@ use crate::regs::{Regs, Turn};
 use rv_rows::CsrAccess;
 
 /// A CSR that a hart keeps (privileged manual, supervisor part, "Supervisor CSRs").
-#[derive(Clone, Copy, Debug, PartialEq, Eq, Drop)]
+#[derive(Clone, Copy, Drop)]
 pub enum HartCsr {
     Sstatus,
     Sie,
@@ -19,7 +19,7 @@ pub enum HartCsr {
 }
 
 /// A CSR: one of the hart's, or one that the board keeps.
-#[derive(Clone, Copy, Debug, PartialEq, Eq, Drop)]
+#[derive(Clone, Copy, Drop)]
 pub enum Csr {
     Hart(HartCsr),
     Sip,

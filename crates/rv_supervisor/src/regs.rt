@@ -11,7 +11,7 @@ pub const A0: Register = Register::X10;
 pub const A1: Register = Register::X11;
 
 /// What a hart begins next.
-#[derive(Clone, Copy, Debug, PartialEq, Eq, Drop)]
+#[derive(Clone, Copy, Debug, Drop)]
 pub enum Turn {
     /// An instruction.
     Fetch,
@@ -27,7 +27,7 @@ pub enum Turn {
 
 /// A hart between two instructions. What the manual calls a register and isn't here reads 0 or stands elsewhere: x0 and
 /// satp read 0, sip and time are the board's.
-#[derive(Clone, Copy, Debug, PartialEq, Eq, Drop)]
+#[derive(Clone, Copy, Drop)]
 pub struct Regs {
     /// x1 to x31.
     pub x: [u64; 31],

@@ -17,7 +17,7 @@ const A7: Register = Register::X17;
 const NOT_SUPPORTED: u64 = 0xffff_ffff_ffff_fffe;
 
 /// A call's error and value (SBI, "Binary Encoding", `sbiret`).
-#[derive(Clone, Copy, Debug, PartialEq, Eq, Drop)]
+#[derive(Clone, Copy, Drop)]
 pub struct SbiReturn {
     /// 0, or the number of an error below 0 in two's complement.
     pub error: u64,
@@ -25,7 +25,7 @@ pub struct SbiReturn {
 }
 
 /// What an ECALL does.
-#[derive(Clone, Copy, Debug, PartialEq, Eq, Drop)]
+#[derive(Clone, Copy, Drop)]
 pub enum SbiStep {
     /// It ends at once, with this error in a0 and this value in a1.
     Now(SbiReturn),

@@ -3,7 +3,7 @@ ghost use Rattle.std.specs.Prelude.{◌≡◌};
 ghost use Rattle.sbi_calls.specs.Table.{call_of, is_extension};
 
 /// A call of the interface.
-#[derive(Clone, Copy, Debug, PartialEq, Eq, Drop)]
+#[derive(Clone, Copy, Drop)]
 pub enum SbiCall {
     ConsolePutchar,
     GetSpecVersion,

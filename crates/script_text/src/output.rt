@@ -7,7 +7,7 @@ use std::alloc::{AllocError, Global};
 use vm_types::ByteList;
 
 /// Why a line doesn't apply.
-#[derive(Clone, Copy, Debug, PartialEq, Eq, Drop)]
+#[derive(Clone, Copy, Drop)]
 pub enum Misfit {
     /// A step or a reply, while the guest doesn't run.
     NotRunning,

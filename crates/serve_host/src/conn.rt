@@ -7,7 +7,7 @@ ghost use Rattle.vm_outside.specs.Passing.{Writes};
 use vm_outside::Failed;
 
 /// What a read found.
-#[derive(Clone, Copy, Debug, PartialEq, Eq, Drop)]
+#[derive(Clone, Copy, Debug, Drop)]
 pub enum Got {
     /// So many bytes, at least one.
     Bytes(usize),

@@ -5,7 +5,7 @@ ghost use Rattle.slice_runner.specs.Locks.{most_of, name_of};
 use vm_types::PlaceId;
 
 /// What a list has: pages, or ports, by their numbers.
-#[derive(Clone, Copy, Debug, PartialEq, Eq, Drop)]
+#[derive(Clone, Copy, Drop)]
 pub enum Listed {
     Pages,
     Ports,

@@ -2,7 +2,7 @@
 use vm_types::ActorId;
 
 /// Why an actor makes no further step in a slice.
-#[derive(Clone, Copy, Debug, PartialEq, Eq, Drop)]
+#[derive(Clone, Copy, Debug, Drop)]
 pub enum Stop {
     /// It made as many steps as the slice has for each.
     Steps,
@@ -19,7 +19,7 @@ pub enum Stop {
 }
 
 /// An actor's stop.
-#[derive(Clone, Copy, Debug, PartialEq, Eq, Drop)]
+#[derive(Clone, Copy, Drop)]
 pub struct Stopped {
     pub actor: ActorId,
     pub stop: Stop,

@@ -19,7 +19,7 @@ const HEADER_SIZE: usize = 64;
 const MAGIC: [u8; 11] = [82, 86, 70, 67, 68, 73, 70, 1, 0, 0, 0];
 
 /// The header of a diff file.
-#[derive(Clone, Copy, Debug, PartialEq, Eq, Drop)]
+#[derive(Clone, Copy, Drop)]
 pub struct DiffHeader {
     /// How many pages of 4,096 bytes the memory has.
     pub pages: u32,

@@ -34,7 +34,7 @@ pub struct FoundSnapshot {
 }
 
 /// Why none was found.
-#[derive(Clone, Copy, Debug, PartialEq, Eq, Drop)]
+#[derive(Clone, Copy, Drop)]
 pub enum FindError {
     Refused(Refusal),
     /// A call on the files failed.

@@ -10,7 +10,7 @@ use std::alloc::{AllocError, Global};
 use vm_types::Identity;
 
 /// A snapshot that is merged into the file, or is being merged.
-#[derive(Clone, Copy, Debug, PartialEq, Eq, Drop)]
+#[derive(Clone, Copy, Drop)]
 pub struct Slot {
     pub identity: Identity,
     /// The slot counts where this is 1.

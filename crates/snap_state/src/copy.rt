@@ -12,7 +12,7 @@ use snap_devices::Saved;
 use std::alloc::{AllocError, Global};
 
 /// What one hart has reserved in one page: a granule of 8 bytes.
-#[derive(Clone, Copy, Debug, PartialEq, Eq, Drop)]
+#[derive(Clone, Copy, Drop)]
 pub struct Reservation {
     pub page: u32,
     pub hart: u32,

@@ -8,7 +8,7 @@ use rv_supervisor::{HartCsr, Regs, Turn, csr_value};
 use std::alloc::{AllocError, Global};
 
 /// Where a hart is.
-#[derive(Clone, Copy, Debug, PartialEq, Eq, Drop)]
+#[derive(Clone, Copy, Drop)]
 pub enum HartPlace {
     /// Before an instruction, or before a look that is due.
     Begin,

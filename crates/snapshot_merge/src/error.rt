@@ -2,7 +2,7 @@
 use refusals::Refusal;
 
 /// Why a merge is not done.
-#[derive(Clone, Copy, Debug, PartialEq, Eq, Drop)]
+#[derive(Clone, Copy, Drop)]
 pub enum RebaseError {
     /// By the first rule that fits. Nothing was written.
     Refused(Refusal),

@@ -18,7 +18,7 @@ use snap_memory::{MemHeader, Slot};
 const SLOTS: u32 = 100;
 
 /// What is left to do of a merge.
-#[derive(Clone, Copy, Debug, PartialEq, Eq, Drop)]
+#[derive(Clone, Copy, Drop)]
 pub enum Merge {
     /// All of it, by way of the slot of this number.
     Begin { slot: u32 },

@@ -9,7 +9,7 @@ use vm_types::{Actor, BoardOp, Op, OutOp, Reply, is_fit};
 
 /// The clock's last answer since the timer's start, and by how much guest time is still to advance for it, both in
 /// nanoseconds.
-#[derive(Clone, Copy, Debug, PartialEq, Eq, Drop)]
+#[derive(Clone, Copy, Drop)]
 pub struct Timer {
     pub last: Option<u64>,
     pub due: Option<u64>,

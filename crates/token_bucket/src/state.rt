@@ -1,5 +1,5 @@
 /// What a bucket has to keep of its past.
-#[derive(Clone, Copy, PartialEq, Eq, Debug)]
+#[derive(Clone, Copy)]
 pub struct State {
     /// Tokens of the one-time burst that are left.
     pub burst: u64,

@@ -8,7 +8,7 @@ use vm_outside::Failed;
 use vm_types::Piece;
 
 /// What happened at the host's end.
-#[derive(Clone, Copy, Debug, PartialEq, Eq, Drop)]
+#[derive(Clone, Copy, Debug, Drop)]
 pub enum HostEvent {
     Nothing,
     /// Somebody connected, and the connection has this number.
@@ -20,7 +20,7 @@ pub enum HostEvent {
 }
 
 /// What was done at the host's end.
-#[derive(Clone, Copy, Debug, PartialEq, Eq, Drop)]
+#[derive(Clone, Copy, Drop)]
 pub enum HostAct {
     /// A port was dialled, and a connection of this number came of it, or none.
     Dialled { port: u32, answer: Option<u32> },

@@ -5,7 +5,7 @@ ghost use Rattle.vm_world.specs.Refusing.{refusal_of};
 use vm_types::{Op, Reply, is_fit};
 
 /// Why an event isn't made.
-#[derive(Clone, Copy, Debug, PartialEq, Eq, Drop)]
+#[derive(Clone, Copy, Drop)]
 pub enum StepError {
     /// There is no such actor.
     NoActor,
@@ -18,11 +18,11 @@ pub enum StepError {
 }
 
 /// There is no such actor.
-#[derive(Clone, Copy, Debug, PartialEq, Eq, Drop)]
+#[derive(Clone, Copy, Drop)]
 pub struct NoActor;
 
 /// Not all of these bytes are RAM.
-#[derive(Clone, Copy, Debug, PartialEq, Eq, Drop)]
+#[derive(Clone, Copy, Drop)]
 pub struct NotRam;
 
 /// Why an op isn't done with what is given, if it isn't: a host object's reply is to be there, and to fit, exactly

@@ -8,7 +8,7 @@ use crate::fields::{is_inside, value16, value32, value64};
 use crate::queue::{Part, Queue, Why};
 
 /// A descriptor (VIRTIO 1.2, 2.7.5).
-#[derive(Clone, Copy, Debug, PartialEq, Eq, Drop)]
+#[derive(Clone, Copy, Drop)]
 pub struct Descriptor {
     pub at: u64,
     pub len: u32,

@@ -5,7 +5,7 @@ use std::marker::Model;
 
 /// A split queue (VIRTIO 1.2, 2.7): its size, the guest addresses of its three tables, and how many pages
 /// of RAM the guest has.
-#[derive(Clone, Copy, Debug, PartialEq, Eq, Drop)]
+#[derive(Clone, Copy, Drop)]
 pub struct Queue {
     pub descriptors: u64,
     pub available: u64,
@@ -15,7 +15,7 @@ pub struct Queue {
 }
 
 /// Why a queue is broken, in the order in which it is judged.
-#[derive(Clone, Copy, Debug, PartialEq, Eq, Drop)]
+#[derive(Clone, Copy, Drop)]
 pub enum Why {
     /// The size is no power of two up to 256.
     Size,
@@ -38,7 +38,7 @@ pub enum Why {
 }
 
 /// A part of a chain: a buffer of at least one byte inside RAM.
-#[derive(Clone, Copy, Debug, PartialEq, Eq, Drop)]
+#[derive(Clone, Copy, Drop)]
 pub struct Part {
     pub at: u64,
     pub len: u32,

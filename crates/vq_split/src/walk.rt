@@ -31,7 +31,7 @@ pub enum Walk {
 }
 
 /// The act that a walk wants.
-#[derive(Clone, Copy, Debug, PartialEq, Eq, Drop)]
+#[derive(Clone, Copy, Drop)]
 pub enum Stage {
     /// The available ring's index.
     Index,

@@ -28,7 +28,7 @@ use vm_world::World;
 const MOST_LEFT: u64 = 32;
 
 /// Why a world is not copied.
-#[derive(Clone, Copy, Debug, PartialEq, Eq, Drop)]
+#[derive(Clone, Copy, Drop)]
 pub enum CopyError {
     /// No state file can have its copy.
     Unsavable,
