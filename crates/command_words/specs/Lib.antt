@@ -1,1 +1,5 @@
+pub mod MachineId
 pub mod Options
+pub mod ReplayWords
+pub mod Said
+pub mod ServeWords

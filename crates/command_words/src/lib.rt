@@ -1,9 +1,15 @@
-//! The options behind a command's name: `--name VALUE` or `--name=VALUE`.
+//! The words of a command: the options behind its name, and what those of the program `firecracker` say.
 //!
-//! `option_at` reads the first of some words as an option and says which words are left; `is_end` says whether nothing is
-//! left that a command would have to read. Which options a command has, and that each stands once, is the command's.
+//! `option_at` reads the first of some words as an option, `--name VALUE` or `--name=VALUE`, and says which words are left;
+//! `is_end` says whether nothing is left that a command would have to read. Which options a command has, and that each
+//! stands once, is the command's: `replay_id` reads the words of `replay`, and `serve_words` those of `serve`.
 #![tactic(auto)]
 
+mod machine_id;
 mod options;
+mod replay_words;
+mod serve_words;
 
 pub use options::{GivenOption, is_end, option_at};
+pub use replay_words::replay_id;
+pub use serve_words::{ServeWords, serve_words};

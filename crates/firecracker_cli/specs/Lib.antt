@@ -1,5 +1,3 @@
 pub mod Closing
-pub mod Said
-pub mod ServeWords
 pub mod Serving
 pub mod SoFar

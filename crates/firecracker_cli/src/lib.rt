@@ -7,7 +7,6 @@
 
 mod closing;
 mod outside;
-mod serve_words;
 mod serving;
 #[cfg(test)]
 mod tests;

@@ -1,12 +1,12 @@
 // A machine of two harts, served over objects in memory in slices of 64 steps, and its trace replayed. What a trace has
 // is proved; that a guest comes to its end so, and that a replay of its trace answers the same, is shown here.
 use crate::outside::ServeOutside;
-use crate::serve_words::ServeWords;
 use crate::serving::serve_main;
+use command_words::ServeWords;
 use host_mem::{
     MemoryCaller, MemoryClock, MemoryConn, MemoryDisk, MemoryTrace, Numbers, SteadyWords,
 };
-use monitor_cli::{DEFAULT_ID, Outside, replay_main};
+use monitor_cli::{Outside, replay_main};
 use outside_mem::{Failing, MemoryFiles, MemorySink, SteadySource};
 use script_text::{Item, write_item};
 use serve_host::{Accepted, Conn, Got, Listener};
@@ -169,7 +169,7 @@ fn sink(alloc: Global) -> MemorySink {
 
 const WORDS: ServeWords<'static> = ServeWords {
     socket: "socket",
-    id: DEFAULT_ID,
+    id: "anonymous-instance",
     trace: Some("trace"),
 };
 

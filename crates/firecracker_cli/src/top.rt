@@ -1,13 +1,13 @@
 // The top call: a command's words, and what it does.
 ghost use Rattle.std.specs.Prelude.{◌≡◌, IfErr, IfOk, None, Some, map, string_bytes};
+ghost use Rattle.command_words.specs.ServeWords.{ServeWords, serve_words};
 ghost use Rattle.monitor_cli.specs.Command.{Commanded, Wordless};
 ghost use Rattle.monitor_cli.specs.Known.{all_known};
-ghost use Rattle.firecracker_cli.specs.ServeWords.{ServeWords, serve_words};
 ghost use Rattle.firecracker_cli.specs.Serving.{Serves, serve_known_of};
 
 use crate::outside::ServeOutside;
-use crate::serve_words::serve_words;
 use crate::serving::serve_main;
+use command_words::serve_words;
 use monitor_cli::{NoWords, Outside, refuse, replay_main};
 use serve_host::{Conn, Listener, Trace, Words};
 use std::alloc::Global;

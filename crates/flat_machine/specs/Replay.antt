@@ -1,5 +1,5 @@
 -- The replay of a whole script.
-use Rattle.std.specs.Prelude.{ℕ, ◌≡◌, ◌+◌, ◌^◌, nat_le, true, false, if◌then◌else◌, List, [], ◌∷◌, ◌++◌, length, take, codes, Option, None, ◌⊎◌}
+use Rattle.std.specs.Prelude.{ℕ, ◌≡◌, ◌+◌, ◌^◌, nat_le, true, false, if◌then◌else◌, List, [], ◌∷◌, ◌++◌, length, take, Option, None, ◌⊎◌}
 use Rattle.script_text.specs.declared.item.Item.{Item}
 use Rattle.vm_types.specs.declared.exit.Exit.{Exit}
 use Rattle.vm_types.specs.declared.exit.Exit.TheVariants.{Done, Script}
@@ -7,10 +7,6 @@ use Rattle.script_text.specs.Lines.{judged}
 use Rattle.script_output.specs.Output.{console_line, last_line, off_line}
 use Rattle.flat_machine.specs.Machine.{Machine, console_of, drained, is_off}
 use Rattle.flat_machine.specs.Run.{Act, OnBefore, Run, lines_done}
-
--- the id of a machine that is given none
-abbrev pub default_id : List ℕ
-default_id = codes "anonymous-instance"
 
 -- the most bytes that a script has
 abbrev pub longest_script : ℕ

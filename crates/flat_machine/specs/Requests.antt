@@ -30,8 +30,8 @@ use Rattle.vm_config.specs.declared.change.Change.TheVariants as change
 use Rattle.vm_config.specs.Changes.{changed}
 use Rattle.vm_config.specs.Drives.{device_of, in_order}
 use Rattle.api_rules.specs.declared.answer.Answer.{Answer}
-use Rattle.api_rules.specs.declared.ids.Ids.{Ids}
 use Rattle.api_rules.specs.Answers.{accepted, refused}
+use Rattle.api_rules.specs.Ids.{based, spent}
 use Rattle.api_rules.specs.declared.actions.InitrdFile.{InitrdFile}
 use Rattle.api_rules.specs.declared.actions.InitrdFile.TheVariants as initrd
 use Rattle.api_rules.specs.Table.{boot_refusal, decision, unless}
@@ -210,10 +210,6 @@ halted false (Some g) = Some (timer_restarted g)
 abbrev pub next_identity : Machine → Identity
 next_identity m = record { lineage = m.ids.lineage; number = m.ids.next }
 
--- its number is spent
-abbrev pub spent : Machine → Ids
-spent m = record m.ids { next = m.ids.next + 1 }
-
 -- a diff is one since the base
 abbrev pub parent_of : SnapshotType → Option Identity → Option Identity
 parent_of snapshot.Full base = None
@@ -230,7 +226,7 @@ created m g files parent copy = record m {
       (1 ∷ head_of parent (next_identity m) copy.pages g ++ saved_pages parent copy.pages g))
       files.snapshot_path (state_file (next_identity m) copy);
   calls = m.calls ++ calls_of files.mem_file_path files.snapshot_path parent (next_identity m) copy g;
-  ids = record (spent m) { base = Some (next_identity m) };
+  ids = based (next_identity m) (m.ids.next + 1) m.ids;
   guest = Some (unwritten g);
 }
 
@@ -245,7 +241,7 @@ Creates (Some g) m it kept n =
 -- its files. Whether dirty pages are tracked is said by the load. A snapshot has no metadata.
 abbrev pub carried : Machine → SnapshotLoad → Snapshot → Machine
 carried m load it = record m {
-  ids = record { lineage = m.ids.lineage; base = Some it.identity; next = it.identity.number + 1 };
+  ids = based it.identity (it.identity.number + 1) m.ids;
   config = carried_config load.track_dirty_pages it.copy.configuration;
   metadata = null;
   guest = Some (carried_guest it.copy it.bytes);
@@ -298,7 +294,7 @@ CreateFails (Some g) m it left n =
     → get left.saved name ≡ get m.saved name)
     × MakesFront (calls_of it.files.mem_file_path it.files.snapshot_path (parent_in m it) (next_identity m) copy g)
     m.calls left.calls
-    × (n ≡ record m { saved = left.saved; calls = left.calls; ids = spent m })
+    × (n ≡ record m { saved = left.saved; calls = left.calls; ids = spent (m.ids.next + 1) m.ids })
 
 -- a start, a load or another file for a drive changes nothing; no other change calls the files
 abbrev pub Fails : Machine → Change → Left → Machine → Type 0

@@ -9,6 +9,7 @@ use Rattle.script_text.specs.declared.item.Item.{Item}
 use Rattle.vm_outside.specs.Known.{Called, FilesKnown, SinkKnown, Tells}
 use Rattle.vm_outside.specs.Passing.{TakesAll}
 use Rattle.script_output.specs.Output.{last_line}
+use Rattle.command_words.specs.ReplayWords.{is_command, replay_id}
 use Rattle.flat_machine.specs.Machine.{AreFilesOf, Machine, new_machine}
 use Rattle.flat_machine.specs.Outcome.{AreAnswered, Outcome, failed_in, short_in}
 use Rattle.flat_machine.specs.Outcome.Outcome.{Answered, Failed, NoMemory}
@@ -16,13 +17,12 @@ use Rattle.flat_machine.specs.Replay.{judged_script}
 use Rattle.flat_machine.specs.Run.{Act, AllAnswered, failures, lines_done, shortages}
 use Rattle.flat_machine.specs.Stops.{stop_failures}
 use Rattle.monitor_cli.specs.Answering.{IsClosing}
-use Rattle.monitor_cli.specs.Command.{Commanded, IsWellFormed, Unbegun, Wordless, exit_of, is_command}
+use Rattle.monitor_cli.specs.Command.{Commanded, IsWellFormed, Unbegun, Wordless, exit_of}
 use Rattle.monitor_cli.specs.Known.{AllLast, AllTell, Caused, CausedSoFar, Known, NoneRose, SinkCause}
 use Rattle.monitor_cli.specs.Lines.{BeforeLast, IsRunsEnd}
 use Rattle.monitor_cli.specs.Replay.{Replayed}
 use Rattle.monitor_cli.specs.Taking.{IsQuiet, TookText}
-use Rattle.monitor_cli.specs.Words.{replay_id}
-use Rattle.monitor_cli.specs.declared.words.NoWords.{NoWords}
+use Rattle.monitor_cli.specs.declared.no_words.NoWords.{NoWords}
 use Rattle.monitor_cli.proofs.Counts.{lasts_more, sink_told}
 use Rattle.monitor_cli.proofs.Halting.{not_inside}
 use Rattle.monitor_cli.proofs.Parts.{told_text}

@@ -1,20 +1,16 @@
 -- What the program owes for its words.
-use Rattle.std.specs.Prelude.{◌≡◌, ◌↔◌, ◌⊎◌, ℕ, Bool, true, false, List, is_some, map, Some}
+use Rattle.std.specs.Prelude.{◌≡◌, ◌↔◌, ◌⊎◌, ℕ, true, false, List, map, Some}
 use Rattle.vm_types.specs.declared.exit.Exit.{Exit}
 use Rattle.script_text.specs.declared.item.Item.{Item}
 use Rattle.vm_outside.specs.Known.{Tells}
 use Rattle.script_output.specs.Output.{last_line}
+use Rattle.command_words.specs.ReplayWords.{is_command, replay_id}
 use Rattle.flat_machine.specs.Machine.{new_machine}
 use Rattle.flat_machine.specs.Replay.{judged_script}
 use Rattle.monitor_cli.specs.Known.{AllLast, AllTell, Known, NoneRose, Caused}
 use Rattle.monitor_cli.specs.Replay.{Replayed}
 use Rattle.monitor_cli.specs.Taking.{TookText}
-use Rattle.monitor_cli.specs.Words.{replay_id}
-use Rattle.monitor_cli.specs.declared.words.NoWords.{NoWords}
-
--- the words of a replay
-abbrev pub is_command : List (List ℕ) → Bool
-is_command words = is_some (replay_id words)
+use Rattle.monitor_cli.specs.declared.no_words.NoWords.{NoWords}
 
 -- each line of the script is an item, and it is no longer than a script may be
 abbrev pub IsWellFormed : List ℕ → Type 0

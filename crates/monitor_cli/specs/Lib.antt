@@ -6,4 +6,3 @@ pub mod Lines
 pub mod Reading
 pub mod Replay
 pub mod Taking
-pub mod Words

@@ -10,13 +10,13 @@ mod closing;
 mod items;
 mod last_line;
 mod lines;
+mod no_words;
 mod outside;
 mod replaying;
 mod script;
 mod top;
-mod words;
 
 pub use last_line::write_last;
+pub use no_words::NoWords;
 pub use outside::Outside;
 pub use top::{refuse, replay_main};
-pub use words::{DEFAULT_ID, NoWords, is_id};

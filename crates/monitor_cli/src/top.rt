@@ -1,16 +1,16 @@
 // The top call of a replay: its words, and what it does.
 ghost use Rattle.std.specs.Prelude.{◌≡◌, ◌≢◌, ◌↔◌, ℕ, List, Some, false, map, string_bytes};
+ghost use Rattle.command_words.specs.ReplayWords.{is_command, replay_id};
 ghost use Rattle.flat_machine.specs.Machine.{new_machine};
-ghost use Rattle.monitor_cli.specs.Command.{Commanded, Unbegun, is_command};
+ghost use Rattle.monitor_cli.specs.Command.{Commanded, Unbegun};
 ghost use Rattle.monitor_cli.specs.Known.{AllLast, AllTell, CausedSoFar, all_known};
 ghost use Rattle.monitor_cli.specs.Lines.{BeforeLast};
 ghost use Rattle.monitor_cli.specs.Taking.{IsQuiet};
-ghost use Rattle.monitor_cli.specs.Words.{replay_id};
 
 use crate::last_line::write_last;
 use crate::outside::Outside;
 use crate::replaying::replay;
-use crate::words::replay_id;
+use command_words::replay_id;
 use std::alloc::Global;
 use vm_outside::{Files, Sink, Source};
 use vm_types::{Exit, TextList};

@@ -20,6 +20,7 @@ use Rattle.vm_config.specs.declared.change.Change.{Change}
 use Rattle.vm_config.specs.declared.change.Change.TheVariants as change
 use Rattle.api_rules.specs.declared.ids.Ids.{Ids}
 use Rattle.api_rules.specs.Answers.{no_content, refused}
+use Rattle.api_rules.specs.Ids.{spent}
 use Rattle.response_form.specs.declared.form.ResponseForm.{ResponseForm}
 use Rattle.response_form.specs.Responses.{Response, written_as}
 use Rattle.guest_memory.specs.Memory.{Memory}
@@ -35,7 +36,7 @@ use Rattle.snap_writer.specs.Selected.{selected}
 use Rattle.monitor_plans.specs.Headings.{numbers_in}
 use Rattle.flat_machine.specs.Machine.{Machine}
 use Rattle.flat_machine.specs.Outcome as flat
-use Rattle.flat_machine.specs.Requests.{CreateFails, Creates, RequestStep, by_contents, created, decided, next_identity, parent_in, parent_of, respond, spent}
+use Rattle.flat_machine.specs.Requests.{CreateFails, Creates, RequestStep, by_contents, created, decided, next_identity, parent_in, parent_of, respond}
 use Rattle.vm_world.specs.Worlds.{IsWorld, WorldValue}
 use Rattle.vm_world.proofs.Events.{unwritten_is}
 use Rattle.monitor_plans.specs.Creating.{CreateGives}
@@ -43,9 +44,10 @@ use Rattle.monitor_plans.specs.declared.creating.Creation.{Creation}
 use Rattle.monitor_plans.specs.declared.plan.Plan.TheVariants as plan
 use Rattle.monitor_plans.specs.declared.plan.Task.{Task}
 use Rattle.monitor_plans.specs.declared.plan.Task.TheVariants as task
+use Rattle.create_end.specs.Marks.{unmarked_world}
 use Rattle.monitor_machine.specs.declared.machine.LiveMachine.{LiveMachine}
 use Rattle.monitor_machine.specs.declared.outcome.Outcome.{Outcome}
-use Rattle.monitor_machine.specs.Plans.{IsCreate, IsTask, created_after, failed_after, unmarked_world}
+use Rattle.monitor_machine.specs.Plans.{IsCreate, IsTask, created_after, failed_after}
 use Rattle.monitor_machine.specs.Replying.{Replies, left_by, open_response}
 use Rattle.monitor_machine.specs.State.{IsGuestBy, IsMachine}
 use Rattle.monitor_machine.proofs.Leaving.{answered}
@@ -160,7 +162,7 @@ module _ (c : Creation) (live : LiveMachine) (w : WorldValue) (known left : File
   )
 
   abbrev stopped : Machine
-  stopped = record m { saved = left.saved; calls = left.calls; ids = spent m }
+  stopped = record m { saved = left.saved; calls = left.calls; ids = spent (m.ids.next + 1) m.ids }
 
   pub create_fails : writes.CreatesPart c.names.mem_file_path c.head (written_of c w) c.names.snapshot_path c.body known left
       → RequestStep (flat.Outcome.Failed (left_by left)) given m (respond given (refused refusal.OutsideFailed)) stopped

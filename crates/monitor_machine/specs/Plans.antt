@@ -18,6 +18,7 @@ use Rattle.vm_config.specs.declared.change.Change.TheVariants as change
 use Rattle.vm_config.specs.Changes.{changed, takes_memory}
 use Rattle.vm_config.specs.Drives.{device_of, put_drive}
 use Rattle.api_rules.specs.declared.answer.Answer.{Answer}
+use Rattle.api_rules.specs.Ids.{based, spent}
 use Rattle.timer_trace.specs.States.{new_timer}
 use Rattle.guest_devices.specs.declared.device.Device.{Device}
 use Rattle.flat_guest.specs.Changes.{resized}
@@ -32,8 +33,8 @@ use Rattle.response_form.specs.declared.form.ResponseForm.{ResponseForm}
 use Rattle.response_form.specs.Responses.{Response, written_as}
 use Rattle.flat_machine.specs.Machine.{Machine}
 use Rattle.flat_machine.specs.Requests.{allowed, decided, disk_of, drives_from, image_of, loads_from, next_identity, parent_in, sectors_of}
-use Rattle.guest_pages.specs.Pages.{cleared}
 use Rattle.vm_world.specs.Worlds.{IsWorld, WorldValue}
+use Rattle.create_end.specs.Marks.{unmarked_world}
 use Rattle.monitor_plans.specs.declared.creating.Creation.{Creation}
 use Rattle.monitor_plans.specs.declared.drive_changes.Resize.{Resize}
 use Rattle.monitor_plans.specs.declared.restoring.Restored.{Restored}
@@ -219,7 +220,7 @@ plan_after (plan.Starts w) live =
     record live { config = changed live.config change.Start; guest = Some w; paused = false }
 plan_after (plan.Restores r) live =
     record live {
-      ids = record { lineage = live.ids.lineage; base = Some r.identity; next = r.next };
+      ids = based r.identity r.next live.ids;
       config = r.config;
       metadata = null;
       guest = Some r.guest;
@@ -246,20 +247,15 @@ PlanLeaves (plan.Changes it) live after = takes_memory it ≡ false → after �
 PlanLeaves (plan.Resizes r) live after = TakesFile r live after
 PlanLeaves it live after = after ≡ plan_after it live
 
--- a world of which no page is marked
-abbrev pub unmarked_world : Option WorldValue → Option WorldValue
-unmarked_world None = None
-unmarked_world (Some w) = Some (record w { pages = cleared w.pages })
-
 -- what is left where a snapshot was written, and where a call on the files failed: its number is spent
 abbrev pub created_after : Creation → LiveMachine → LiveMachine
 created_after c live = record live {
-  ids = record { lineage = live.ids.lineage; base = Some c.identity; next = c.next };
+  ids = based c.identity c.next live.ids;
   guest = unmarked_world live.guest;
 }
 
 abbrev pub failed_after : Creation → LiveMachine → LiveMachine
-failed_after c live = record live { ids = record live.ids { next = c.next } }
+failed_after c live = record live { ids = spent c.next live.ids }
 
 -- The plan's response, or where there was no memory for it the one that says so, came behind the text, and what it says
 -- is done.

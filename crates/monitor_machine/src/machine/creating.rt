@@ -13,6 +13,7 @@ ghost use Rattle.vm_outside.specs.Known.{Lasts, Tells};
 use crate::machine::LiveMachine;
 use crate::outcome::Outcome;
 use api_rules::done_answer;
+use create_end::end_create;
 use monitor_plans::{Creation, Plan, pages_of};
 use response_form::{ResponseForm, write_response};
 use snap_writer::create;
@@ -28,7 +29,7 @@ struct Texts {
 }
 
 impl LiveMachine {
-    ghost use Rattle.monitor_machine.specs.Plans.{HasPages, HasTwoNames, IsCreate, unmarked_world};
+    ghost use Rattle.monitor_machine.specs.Plans.{HasPages, HasTwoNames, IsCreate};
     ghost use Rattle.monitor_machine.specs.Replying.{Replies, open_response};
     ghost use Rattle.monitor_machine.specs.State.{IsMachine};
 
@@ -45,16 +46,6 @@ impl LiveMachine {
         let mut failed = ByteList::copy_of(self.alloc, text.as_slice())?;
         self.write_response(form, &Plan::FilesFailed, false, &mut failed)?;
         Ok(Texts { done, failed })
-    }
-
-    // No page of the guest is marked any more.
-    fn clear_marks(&mut self)
-        ensures { self.new ≡ record self.old { guest = unmarked_world self.old.guest } }
-    {
-        match &mut self.guest {
-            None => {}
-            Some(guest) => guest.clear_marks(),
-        }
     }
 
     // Answers a create, whose files are written by calls that take no memory. An `Err` changes nothing.
@@ -96,11 +87,15 @@ impl LiveMachine {
             creation.names.snapshot_path.as_str(),
             creation.names.mem_file_path.as_str(),
         );
-        self.ids.next = creation.next;
+        end_create(
+            written,
+            creation.identity,
+            creation.next,
+            &mut self.ids,
+            &mut self.guest,
+        );
         match written {
             Ok(()) => {
-                self.ids.base = Some(creation.identity);
-                self.clear_marks();
                 *text = texts.done;
                 Ok(Outcome::Answered)
             }

@@ -4,8 +4,7 @@ use Rattle.std.specs.Prelude.{is_some, not, option_and_then}
 use Rattle.std.specs.Option.{unwrap_or}
 use Rattle.std.specs.Str.{bytes_eq}
 use Rattle.command_words.specs.Options.{Given, is_end, option_at}
-use Rattle.flat_machine.specs.Replay.{default_id}
-use Rattle.monitor_cli.specs.Words.{is_id}
+use Rattle.command_words.specs.MachineId.{default_id, is_id}
 
 -- the values of options that were read, and the words behind them
 pub record ServeOptions : Type 0 where

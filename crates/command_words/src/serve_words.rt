@@ -1,11 +1,11 @@
 // The words of the command `serve`.
 ghost use Rattle.std.specs.Prelude.{◌≡◌, map, string_bytes};
 ghost use Rattle.std.specs.Option.{option_map};
-ghost use Rattle.firecracker_cli.specs.ServeWords.{all_read, next_option, options_in, serve_words, with_option};
-ghost use Rattle.firecracker_cli.specs.Said.{options_of, words_said};
+ghost use Rattle.command_words.specs.ServeWords.{all_read, next_option, options_in, serve_words, with_option};
+ghost use Rattle.command_words.specs.Said.{options_of, words_said};
 
-use command_words::{GivenOption, is_end, option_at};
-use monitor_cli::{DEFAULT_ID, is_id};
+use crate::machine_id::{DEFAULT_ID, is_id};
+use crate::options::{GivenOption, is_end, option_at};
 
 /// The values of options that were read, and the words behind them.
 #[derive(Clone, Copy, Drop)]
