@@ -1,8 +1,8 @@
 -- What was read of a command's words, as texts.
 use Rattle.std.specs.Prelude.{map, string_bytes}
 use Rattle.std.specs.Option.{option_map}
-use Rattle.command_words.specs.declared.serve_words.ServeOptions.{ServeOptions}
-use Rattle.command_words.specs.declared.serve_words.ServeWords.{ServeWords}
+use Rattle.command_words.specs.declared.serve.ServeOptions.{ServeOptions}
+use Rattle.command_words.specs.declared.serve.ServeWords.{ServeWords}
 use Rattle.command_words.specs.ServeWords as words
 
 abbrev pub options_of : ServeOptions → words.ServeOptions

@@ -7,9 +7,9 @@
 
 mod machine_id;
 mod options;
-mod replay_words;
-mod serve_words;
+mod replay;
+mod serve;
 
 pub use options::{GivenOption, is_end, option_at};
-pub use replay_words::replay_id;
-pub use serve_words::{ServeWords, serve_words};
+pub use replay::replay_id;
+pub use serve::{ServeWords, serve_words};
