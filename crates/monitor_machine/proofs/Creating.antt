@@ -1,5 +1,6 @@
 -- A create that is due does what the machine does.
-use Rattle.std.proofs.Common.{◌≡◌, ℕ, ◌+◌, List, [], ◌∷◌, ◌++◌, Option, Some, None, Ok, Result, refl, sym, ap, subst, ◌∙◌}
+use Rattle.std.specs.Prelude.{IfErr, IfOk}
+use Rattle.std.proofs.Common.{◌≡◌, ℕ, ◌+◌, List, [], ◌∷◌, ◌++◌, Option, Some, None, Ok, Err, Result, refl, sym, ap, subst, ◌∙◌}
 use Rattle.std.proofs.lemmas.List.{append-nil}
 use Rattle.std.specs.FinMap.{get, insert}
 use Rattle.vm_types.specs.Causes.{Rose}
@@ -9,6 +10,7 @@ use Rattle.api_calls.specs.declared.call.SnapshotFiles.{SnapshotFiles}
 use Rattle.vm_types.specs.Saved.{Saved}
 use Rattle.vm_outside.specs.Calls.{FileCall, MakesFront}
 use Rattle.vm_outside.specs.Known.{FilesKnown, Tells}
+use Rattle.vm_outside.specs.declared.failed.Failed.{Failed}
 use Rattle.refusals.specs.declared.refusal.Refusal.{Refusal}
 use Rattle.refusals.specs.declared.refusal.Refusal.TheVariants as refusal
 use Rattle.http_stream.specs.declared.request.Next.{Next}
@@ -20,7 +22,7 @@ use Rattle.vm_config.specs.declared.change.Change.{Change}
 use Rattle.vm_config.specs.declared.change.Change.TheVariants as change
 use Rattle.api_rules.specs.declared.ids.Ids.{Ids}
 use Rattle.api_rules.specs.Answers.{no_content, refused}
-use Rattle.api_rules.specs.Ids.{spent}
+use Rattle.api_rules.specs.Ids.{based, spent}
 use Rattle.response_form.specs.declared.form.ResponseForm.{ResponseForm}
 use Rattle.response_form.specs.Responses.{Response, written_as}
 use Rattle.guest_memory.specs.Memory.{Memory}
@@ -218,6 +220,21 @@ same_part memory head state body m h s b pages g known left em eh eg es eb part 
   calls = subst (λ (script : List FileCall). MakesFront script known.calls left.calls)
       (λ i. create_calls (em i) (eh i) (eg i) (es i) (eb i)) part.calls;
 }
+
+-- the end of a create leaves this of the machine
+pub ended_done : (c : Creation) (live : LiveMachine) (written : Result (Unit {0}) Failed) (ids : Ids) (guest : Option WorldValue) (v : Unit {0})
+    → written ≡ Ok v → IfOk written (λ _. (ids ≡ based c.identity c.next live.ids) × (guest ≡ unmarked_world live.guest))
+    → record live { ids = ids; guest = guest } ≡ created_after c live
+ended_done c live written ids guest v is ends =
+    let left = subst (λ (r : Result (Unit {0}) Failed). IfOk r (λ _. (ids ≡ based c.identity c.next live.ids) × (guest ≡ unmarked_world live.guest))) is ends in
+    λ i. record live { ids = left.0 i; guest = left.1 i }
+
+pub ended_failed : (c : Creation) (live : LiveMachine) (written : Result (Unit {0}) Failed) (ids : Ids) (guest : Option WorldValue) (why : Failed)
+    → written ≡ Err why → IfErr written (λ _. (ids ≡ spent c.next live.ids) × (guest ≡ live.guest))
+    → record live { ids = ids; guest = guest } ≡ failed_after c live
+ended_failed c live written ids guest why is ends =
+    let left = subst (λ (r : Result (Unit {0}) Failed). IfErr r (λ _. (ids ≡ spent c.next live.ids) × (guest ≡ live.guest))) is ends in
+    λ i. record live { ids = left.0 i; guest = left.1 i }
 
 -- what is due is answered so
 module _ (form : ResponseForm) (c : Creation) (live after : LiveMachine) (w : WorldValue) (text written : List ℕ) (known left : FilesKnown) (request : Request)
