@@ -25,11 +25,12 @@ use Rattle.flat_guest.specs.Body.{Body, IsGuest}
 use Rattle.flat_guest.specs.Same.{AreAlike}
 use Rattle.flat_guest.proofs.Marked.{none_marked}
 use Rattle.snap_state.specs.declared.copy.StateCopy.{StateCopy}
-use Rattle.snap_state.specs.Copy.{IsBegunByFetch, regs_of, saved_hart}
+use Rattle.snap_harts.specs.Copy.{IsBegunByFetch, regs_of, saved_hart}
 use Rattle.snap_state.specs.Files.{IsSaved}
-use Rattle.snap_state.specs.Harts.{hart}
+use Rattle.snap_harts.specs.Harts.{hart}
 use Rattle.snap_state.specs.Valid.{is_hart}
-use Rattle.snap_state.proofs.Parts.{board_back, hart_back}
+use Rattle.snap_harts.proofs.Harts.{hart_back}
+use Rattle.snap_state.proofs.Parts.{board_back}
 use Rattle.snap_state.proofs.Rules.{rules_of}
 use Rattle.flat_snapshot.specs.Copies.{AreHarts, AreKept, IsCopyOf, copy_of, reservations_from}
 use Rattle.flat_snapshot.specs.Carried.{carried_guest, hart_steps, resumed, slots_with, steps_at}

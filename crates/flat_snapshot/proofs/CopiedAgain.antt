@@ -23,15 +23,16 @@ use Rattle.rv_doing.specs.Doing.{asked}
 use Rattle.hart_trace.specs.Traces.{executes}
 use Rattle.hart_trace.specs.States.{LeadsTo}
 use Rattle.hart_trace.proofs.Traces.{leads_start}
-use Rattle.snap_state.specs.declared.hart.SavedHart.{SavedHart}
-use Rattle.snap_state.specs.declared.hart.HartPlace.{HartPlace}
-use Rattle.snap_state.specs.declared.hart.HartPlace.TheVariants.{Begin, BeginWaiting, Idle, IdleWaiting, Access}
+use Rattle.snap_harts.specs.declared.hart.SavedHart.{SavedHart}
+use Rattle.snap_harts.specs.declared.hart.HartPlace.{HartPlace}
+use Rattle.snap_harts.specs.declared.hart.HartPlace.TheVariants.{Begin, BeginWaiting, Idle, IdleWaiting, Access}
 use Rattle.snap_state.specs.declared.copy.Reservation.{Reservation}
 use Rattle.snap_state.specs.declared.copy.StateCopy.{StateCopy}
 use Rattle.snap_state.specs.Copies.{state_copy}
-use Rattle.snap_state.specs.Copy.{begun_at, hart_of, harts_of, regs_of, saved_hart, turn_of}
+use Rattle.snap_harts.specs.Copy.{begun_at, hart_of, regs_of, saved_hart, turn_of}
+use Rattle.snap_state.specs.Copy.{harts_of}
 use Rattle.snap_state.specs.Files.{IsSaved}
-use Rattle.snap_state.specs.Harts.{hart, place}
+use Rattle.snap_harts.specs.Harts.{hart, place}
 use Rattle.snap_state.specs.Valid.{are_devices, asks, is_before, is_device, is_hart, is_reserved, is_rising, rises_from}
 use Rattle.snap_state.proofs.Parts.{hart_again}
 use Rattle.snap_state.proofs.Rules.{attached, device_of, few_harts, rules_of}

@@ -21,11 +21,11 @@ use Rattle.guest_devices.proofs.Soundness.{resumed_sound}
 use Rattle.flat_guest.specs.Sound.{AreSoundDevices, IsSound}
 use Rattle.timer_trace.specs.States.{new_timer}
 use Rattle.timer_trace.proofs.Traces as timer_traces
-use Rattle.snap_state.specs.declared.hart.SavedHart.{SavedHart}
-use Rattle.snap_state.specs.declared.hart.HartPlace.{HartPlace}
-use Rattle.snap_state.specs.declared.hart.HartPlace.TheVariants.{Begin, BeginWaiting, Idle, IdleWaiting, Access}
+use Rattle.snap_harts.specs.declared.hart.SavedHart.{SavedHart}
+use Rattle.snap_harts.specs.declared.hart.HartPlace.{HartPlace}
+use Rattle.snap_harts.specs.declared.hart.HartPlace.TheVariants.{Begin, BeginWaiting, Idle, IdleWaiting, Access}
 use Rattle.snap_state.specs.declared.copy.StateCopy.{StateCopy}
-use Rattle.snap_state.specs.Copy.{regs_of, turn_of}
+use Rattle.snap_harts.specs.Copy.{regs_of, turn_of}
 use Rattle.snap_state.specs.Valid.{are_devices, is_device, is_valid}
 use Rattle.snap_state.proofs.Rules.{attached, device_of, few_pages, rules_of}
 use Rattle.flat_snapshot.specs.Carried.{carried_guest, hart_steps, resumed, steps_at}

@@ -13,12 +13,13 @@ use Rattle.guest_devices.specs.Devices.{FlatDevice, device_at}
 use Rattle.guest_devices.specs.Kept.{device_left}
 use Rattle.flat_guest.specs.Guest.{Guest, none_written}
 use Rattle.snap_state.specs.declared.configuration.Configuration.{Configuration}
-use Rattle.snap_state.specs.declared.hart.SavedHart.{SavedHart}
-use Rattle.snap_state.specs.declared.hart.HartPlace.{HartPlace}
-use Rattle.snap_state.specs.declared.hart.HartPlace.TheVariants.{Access}
+use Rattle.snap_harts.specs.declared.hart.SavedHart.{SavedHart}
+use Rattle.snap_harts.specs.declared.hart.HartPlace.{HartPlace}
+use Rattle.snap_harts.specs.declared.hart.HartPlace.TheVariants.{Access}
 use Rattle.snap_state.specs.declared.copy.Reservation.{Reservation}
 use Rattle.snap_state.specs.declared.copy.StateCopy.{StateCopy}
-use Rattle.snap_state.specs.Copy.{board_of, regs_of}
+use Rattle.snap_harts.specs.Copy.{regs_of}
+use Rattle.snap_state.specs.Copy.{board_of}
 
 -- the steps of a hart that goes on: none; or the fetch of the word whose access it wants
 abbrev pub steps_at : HartPlace → ℕ → List Step

@@ -16,7 +16,8 @@ use Rattle.flat_guest.specs.Guest.{Guest}
 use Rattle.snap_state.specs.declared.configuration.BootSource.{BootSource}
 use Rattle.snap_state.specs.declared.copy.Reservation.{Reservation}
 use Rattle.snap_state.specs.declared.copy.StateCopy.{StateCopy}
-use Rattle.snap_state.specs.Copy.{saved_board, saved_hart}
+use Rattle.snap_harts.specs.Copy.{saved_hart}
+use Rattle.snap_state.specs.Copy.{saved_board}
 
 -- the harts from this number on, each where its steps lead
 abbrev pub AreHarts : ℕ → List Regs → (ActorId → List Step) → List Hart → Type 0

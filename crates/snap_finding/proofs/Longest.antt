@@ -25,8 +25,8 @@ use Rattle.snap_state.specs.Configured as configured
 use Rattle.snap_state.specs.Copies as copies
 use Rattle.snap_state.specs.Drives as drives
 use Rattle.snap_state.specs.Files as state
-use Rattle.snap_state.specs.Harts.{hart}
-use Rattle.snap_state.specs.HartStates.{hart_state}
+use Rattle.snap_harts.specs.Harts.{hart}
+use Rattle.snap_harts.specs.HartStates.{hart_state}
 use Rattle.snap_state.specs.Valid.{are_drives, are_paths, has_devices, has_machine, is_before, is_board, is_drive, is_machine, is_reserved, is_rising, is_source, is_valid, rises_from}
 use Rattle.snap_finding.proofs.Sizes.{device_within, hart_state_within, hart_within, port_within}
 use Rattle.snap_finding.proofs.Within.{Within, within16, within32, within64, flag_within, zeros_within, constant_within, just_within, pair_within, made_within, passing_within, optional_most, optional_within, total, total-pass, list_within, each_within, counted_within, bytes_within, text_within}

@@ -2,7 +2,7 @@
 use Rattle.std.specs.Prelude.{refl}
 use Rattle.file_format.specs.Format.{Format}
 use Rattle.file_format.specs.Kinds.{number16, number64, flag, byte_list, list_of, ◌&◌, made_of}
-use Rattle.snap_state.specs.HartStates.{hart_state}
+use Rattle.snap_harts.specs.HartStates.{hart_state}
 use Rattle.snap_state.specs.declared.board.SavedBoard.{SavedBoard}
 
 -- the pending lines, bit k line k; of each hart the lines that it takes, its software bit, its deadline and its state;

@@ -9,7 +9,7 @@ use Rattle.snap_devices.specs.Ports.{port}
 use Rattle.snap_devices.specs.Devices.{device}
 use Rattle.snap_state.specs.Configured.{configuration}
 use Rattle.snap_state.specs.Boards.{board}
-use Rattle.snap_state.specs.Harts.{hart}
+use Rattle.snap_harts.specs.Harts.{hart}
 use Rattle.snap_state.specs.declared.copy.Reservation.{Reservation}
 use Rattle.snap_state.specs.declared.copy.StateCopy.{StateCopy}
 

@@ -1,8 +1,8 @@
 // The board of a machine that is on.
 ghost use Rattle.snap_state.specs.Boards.{board};
 
-use crate::hart_state::SavedHartState;
 use file_format::{Input, Items, ReadError, Stored};
+use snap_harts::SavedHartState;
 use std::alloc::{AllocError, Global};
 use vm_types::ByteList;
 

@@ -4,11 +4,11 @@ ghost use Rattle.snap_state.specs.Copies.{reservation, state_copy};
 use crate::board::SavedBoard;
 use crate::configuration::Configuration;
 use crate::devices::{read_devices, write_devices};
-use crate::hart::SavedHart;
 use file_format::{Counted, Input, Items, ReadError, Stored};
 use guest_devices::Device;
 use mmio_port::Port;
 use snap_devices::Saved;
+use snap_harts::SavedHart;
 use std::alloc::{AllocError, Global};
 
 /// What one hart has reserved in one page: a granule of 8 bytes.

@@ -4,9 +4,10 @@ ghost use Rattle.file_format.specs.Starts.{is_closed, is_other};
 ghost use Rattle.snap_state.specs.declared.file.Saved.{Saved};
 ghost use Rattle.board_table.specs.Board.{Board};
 ghost use Rattle.hart_trace.specs.States.{Hart};
-ghost use Rattle.snap_state.specs.declared.hart.SavedHart.{SavedHart};
+ghost use Rattle.snap_harts.specs.declared.hart.SavedHart.{SavedHart};
 ghost use Rattle.snap_state.specs.declared.board.SavedBoard.{SavedBoard};
-ghost use Rattle.snap_state.specs.Copy.{hart_of, saved_hart, IsBegunByFetch, board_at, saved_board};
+ghost use Rattle.snap_harts.specs.Copy.{hart_of, saved_hart, IsBegunByFetch};
+ghost use Rattle.snap_state.specs.Copy.{board_at, saved_board};
 ghost use Rattle.snap_state.specs.Files.{magic, Encodes};
 ghost use Rattle.snap_state.specs.Valid.{is_hart};
 

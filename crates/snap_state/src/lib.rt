@@ -2,9 +2,9 @@
 //! have written.
 //!
 //! `specs/Files.antt` says which bytes are a state file of which copy, over the formats of the parts: `Configured`,
-//! `HartStates`, `Boards`, `Harts`, `Copies`. `Valid` says which copies there are, a line a rule. `encode` writes the
-//! file of a copy; `decode` answers the one copy that the bytes are a file of, or the first refusal that fits.
-//! `specs/Copy.antt` says of which board and of which harts a copy is.
+//! `Boards`, `Copies`, and those of `snap_harts` and `snap_devices`. `Valid` says which copies there are, a line a rule.
+//! `encode` writes the file of a copy; `decode` answers the one copy that the bytes are a file of, or the first refusal
+//! that fits. `specs/Copy.antt` says of which board and of which harts a copy is.
 #![tactic(auto)]
 
 mod attached;
@@ -14,8 +14,6 @@ mod copy;
 mod devices;
 mod drives;
 mod file;
-mod hart;
-mod hart_state;
 mod law;
 mod valid;
 
@@ -24,7 +22,5 @@ pub use configuration::{BootSource, Configuration};
 pub use copy::{Reservation, StateCopy};
 pub use drives::SavedDrives;
 pub use file::{Saved, decode, encode};
-pub use hart::{HartPlace, SavedHart};
-pub use hart_state::SavedHartState;
 pub use law::{one_copy, one_of_each};
 pub use valid::is_valid;

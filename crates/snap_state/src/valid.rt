@@ -6,17 +6,17 @@ ghost use Rattle.api_calls.specs.Form.{is_path};
 ghost use Rattle.snap_state.specs.Valid.{are_paths, is_source, is_machine, is_board, is_counted, is_aligned};
 ghost use Rattle.snap_state.specs.Valid.{has_bits, is_granule, asks, is_placed, is_hart, is_reserved};
 ghost use Rattle.snap_state.specs.Valid.{is_before, is_rising, has_machine, has_devices, is_valid};
-ghost use Rattle.snap_state.specs.Copy.{regs_of};
+ghost use Rattle.snap_harts.specs.Copy.{regs_of};
 
 use crate::attached::{are_block_ports, are_devices, are_drives};
 use crate::board::SavedBoard;
 use crate::configuration::BootSource;
 use crate::copy::{Reservation, StateCopy};
-use crate::hart::{HartPlace, SavedHart};
 use api_calls::MachineConfig;
 use guest_memory::{PAGE_SIZE, RAM_START, is_ram};
 use rv_doing::{effect_of_word, wanted};
 use rv_supervisor::{HartCsr, Regs, csr_value};
+use snap_harts::{HartPlace, SavedHart};
 use vm_types::TextList;
 
 /// The bits of sie: software, timer and external interrupts.

@@ -13,7 +13,7 @@ use Rattle.guest_devices.specs.Devices.{DeviceLeads, DeviceLeft, FlatDevice}
 use Rattle.guest_devices.specs.Kept.{device_left, devices_left, is_kept}
 use Rattle.flat_guest.specs.Guest.{Guest, none_written}
 use Rattle.snap_state.specs.declared.copy.StateCopy.{StateCopy}
-use Rattle.snap_state.specs.Copy.{saved_hart}
+use Rattle.snap_harts.specs.Copy.{saved_hart}
 use Rattle.snap_state.specs.Valid.{is_hart, is_valid}
 use Rattle.snap_state.proofs.Rules.{Rules, rules_hold, rules_of}
 use Rattle.flat_snapshot.specs.Copies.{AreHarts, AreKept, IsCopyOf, copy_of}

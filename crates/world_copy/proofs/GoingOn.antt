@@ -24,11 +24,12 @@ use Rattle.guest_devices.specs.Kept.{device_left}
 use Rattle.guest_devices.proofs.Follows.{at_start}
 use Rattle.flat_guest.specs.Guest.{none_written}
 use Rattle.flat_guest.proofs.Marked.{none_marked}
-use Rattle.snap_state.specs.declared.hart.SavedHart.{SavedHart}
-use Rattle.snap_state.specs.declared.hart.HartPlace.{HartPlace}
-use Rattle.snap_state.specs.declared.hart.HartPlace.TheVariants.{Access}
+use Rattle.snap_harts.specs.declared.hart.SavedHart.{SavedHart}
+use Rattle.snap_harts.specs.declared.hart.HartPlace.{HartPlace}
+use Rattle.snap_harts.specs.declared.hart.HartPlace.TheVariants.{Access}
 use Rattle.snap_state.specs.declared.copy.StateCopy.{StateCopy}
-use Rattle.snap_state.specs.Copy.{board_at, regs_of, turn_of}
+use Rattle.snap_harts.specs.Copy.{regs_of, turn_of}
+use Rattle.snap_state.specs.Copy.{board_at}
 use Rattle.snap_state.specs.Valid.{is_valid}
 use Rattle.flat_snapshot.specs.Carried.{carried_guest, hart_steps, resumed, slots_with, steps_at}
 use Rattle.flat_snapshot.proofs.GoesOn.{devices_sound}

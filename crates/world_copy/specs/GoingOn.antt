@@ -1,8 +1,8 @@
 -- Harts that go on from their copies.
 use Rattle.std.specs.Prelude.{List, [], ◌∷◌}
 use Rattle.hart_trace.specs.States.{Hart, LeadsTo}
-use Rattle.snap_state.specs.declared.hart.SavedHart.{SavedHart}
-use Rattle.snap_state.specs.Copy.{regs_of}
+use Rattle.snap_harts.specs.declared.hart.SavedHart.{SavedHart}
+use Rattle.snap_harts.specs.Copy.{regs_of}
 use Rattle.flat_snapshot.specs.Carried.{steps_at}
 
 -- each is where the steps of its copy lead

@@ -4,20 +4,22 @@ ghost use Rattle.std.specs.List.{list_all};
 ghost use Rattle.guest_memory.specs.Reserved.{unreserved};
 ghost use Rattle.guest_pages.specs.Pages.{flat_of, marks_of};
 ghost use Rattle.hart_trace.specs.States.{LeadsTo};
-ghost use Rattle.snap_state.specs.declared.hart.HartPlace.TheVariants.{Access};
-ghost use Rattle.snap_state.specs.Copy.{board_at, hart_of, regs_of};
+ghost use Rattle.snap_harts.specs.declared.hart.HartPlace.TheVariants.{Access};
+ghost use Rattle.snap_harts.specs.Copy.{hart_of, regs_of};
+ghost use Rattle.snap_state.specs.Copy.{board_at};
 ghost use Rattle.snap_state.specs.Valid.{asks, is_board, is_hart, is_valid};
 ghost use Rattle.flat_snapshot.specs.Carried.{carried_guest, steps_at};
 ghost use Rattle.vm_world.specs.Worlds.{IsWorld};
 ghost use Rattle.world_copy.specs.GoingOn.{GoOn};
 
 use crate::attached::{devices_of, ports_of};
-use crate::reserving::reserve;
 use board_table::HartState;
 use guest_pages::PageSet;
 use hart_rv64::Hart;
 use line_board::{Board, HartParts};
-use snap_state::{HartPlace, SavedBoard, SavedHart, SavedHartState, StateCopy};
+use reservation_copy::reserve;
+use snap_harts::{HartPlace, SavedHart, SavedHartState};
+use snap_state::{SavedBoard, StateCopy};
 use std::alloc::{AllocError, Global};
 use vm_world::World;
 

@@ -8,7 +8,6 @@ mod attached;
 mod configuring;
 mod copying;
 mod going_on;
-mod reserving;
 
 pub use configuring::config_of;
 pub use copying::{CopyError, copy_world};

@@ -1,7 +1,7 @@
 use Rattle.std.proofs.Common.{sym, ap, ◌∙◌, List, map}
 use Rattle.std.specs.List.{list_all}
 use Rattle.hart_trace.specs.States.{Hart}
-use Rattle.snap_state.specs.Copy.{saved_hart}
+use Rattle.snap_harts.specs.Copy.{saved_hart}
 use Rattle.snap_state.specs.Valid.{is_hart}
 use Rattle.world_copy.proofs.Copied.{bad_harts, copied, unsavable}
 use Rattle.world_copy.proofs.copying.copy_world.Goals as goal

@@ -1,6 +1,6 @@
 use Rattle.std.proofs.Common.{sym, subst, ◌∙◌, Some}
 use Rattle.hart_trace.specs.States.{Hart, LeadsTo}
-use Rattle.snap_state.specs.Copy.{regs_of}
+use Rattle.snap_harts.specs.Copy.{regs_of}
 use Rattle.flat_snapshot.specs.Carried.{steps_at}
 use Rattle.world_copy.proofs.GoingOn.{leads_begun}
 use Rattle.world_copy.proofs.going_on.begun_hart.Goals as goal

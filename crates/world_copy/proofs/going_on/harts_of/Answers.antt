@@ -1,7 +1,7 @@
 use Rattle.std.proofs.Common.{sym, subst, ◌+◌, ◌∷◌, ◌++◌, [], List, take}
 use Rattle.std.proofs.lemmas.List.{take_more}
 use Rattle.hart_trace.specs.States.{Hart}
-use Rattle.snap_state.specs.declared.hart.SavedHart.{SavedHart}
+use Rattle.snap_harts.specs.declared.hart.SavedHart.{SavedHart}
 use Rattle.world_copy.specs.GoingOn.{GoOn}
 use Rattle.world_copy.proofs.GoingOn.{one_more}
 use Rattle.world_copy.proofs.going_on.harts_of.Goals as goal

@@ -3,7 +3,7 @@ use Rattle.std.specs.List.{list_all}
 use Rattle.guest_memory.specs.Ram.{page_size}
 use Rattle.guest_pages.specs.Pages.{flat_of}
 use Rattle.snap_state.specs.declared.copy.Reservation.{Reservation}
-use Rattle.snap_state.specs.declared.hart.SavedHart.{SavedHart}
+use Rattle.snap_harts.specs.declared.hart.SavedHart.{SavedHart}
 use Rattle.snap_state.specs.Valid.{is_hart, is_reserved}
 use Rattle.flat_snapshot.specs.Carried.{carried_guest, slots_with}
 use Rattle.vm_world.specs.Worlds.{IsWorld, WorldValue}

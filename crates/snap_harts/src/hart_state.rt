@@ -1,5 +1,5 @@
 // Whether a hart runs.
-ghost use Rattle.snap_state.specs.HartStates.{hart_state};
+ghost use Rattle.snap_harts.specs.HartStates.{hart_state};
 
 use board_table::HartState;
 use file_format::{Input, ReadError, Stored};

@@ -1,7 +1,7 @@
 use Rattle.std.proofs.Common.{◌≡◌, ◌++◌, drop}
 use Rattle.guest_pages.specs.Pages.{flat_of}
 use Rattle.flat_snapshot.specs.Copies.{reservations_from}
-use Rattle.world_copy.proofs.reserving.reservations_of.Given as goal
+use Rattle.reservation_copy.proofs.reserving.reservations_of.Given as goal
 
 abbrev pub invariant-loop-slot : goal.invariant-loop-slot
 invariant-loop-slot l =

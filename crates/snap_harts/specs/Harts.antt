@@ -4,9 +4,9 @@ use Rattle.std.proofs.Common.{sym, ap}
 use Rattle.file_format.specs.Format.{Format}
 use Rattle.file_format.specs.Kinds.{byte, number32, number64, flag, optional, times, just, nothing, variant, chosen_by}
 use Rattle.file_format.specs.Kinds.{◌&◌, made_of}
-use Rattle.snap_state.specs.declared.hart.SavedHart.{SavedHart}
-use Rattle.snap_state.specs.declared.hart.HartPlace.{HartPlace}
-use Rattle.snap_state.specs.declared.hart.HartPlace.TheVariants.{Begin, BeginWaiting, Idle, IdleWaiting, Access}
+use Rattle.snap_harts.specs.declared.hart.SavedHart.{SavedHart}
+use Rattle.snap_harts.specs.declared.hart.HartPlace.{HartPlace}
+use Rattle.snap_harts.specs.declared.hart.HartPlace.TheVariants.{Begin, BeginWaiting, Idle, IdleWaiting, Access}
 
 -- ---- where it is: a byte, and behind 4 the instruction's word
 

@@ -3,7 +3,7 @@ use Rattle.std.specs.List.{list_all}
 use Rattle.guest_pages.specs.Pages.{flat_of, marks_of}
 use Rattle.snap_state.specs.Valid.{is_reserved}
 use Rattle.flat_snapshot.specs.Carried.{slots_with}
-use Rattle.world_copy.proofs.reserving.reserve.Given as goal
+use Rattle.reservation_copy.proofs.reserving.reserve.Given as goal
 
 abbrev pub invariant-loop-first : goal.invariant-loop-first
 invariant-loop-first l = record {

@@ -1,7 +1,7 @@
 // A hart.
 ghost use Rattle.std.specs.Prelude.{◌≡◌, ◌≤◌};
-ghost use Rattle.snap_state.specs.Harts.{place, hart};
-ghost use Rattle.snap_state.specs.Copy.{turn_of, begun_at, regs_of, place_of, saved_hart};
+ghost use Rattle.snap_harts.specs.Harts.{place, hart};
+ghost use Rattle.snap_harts.specs.Copy.{turn_of, begun_at, regs_of, place_of, saved_hart};
 
 use file_format::{Input, ReadError, Stored};
 use rv_supervisor::{HartCsr, Regs, Turn, csr_value};

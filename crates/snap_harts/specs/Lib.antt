@@ -1,0 +1,3 @@
+pub mod HartStates
+pub mod Harts
+pub mod Copy
