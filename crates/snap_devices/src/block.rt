@@ -1,7 +1,7 @@
 // A block device.
 ghost use Rattle.std.specs.Prelude.{◌≡◌, OnOk};
 ghost use Rattle.file_format.specs.Reading.{Takes};
-ghost use Rattle.snap_devices.specs.Blocks.{block, block_data, block_fields, due};
+ghost use Rattle.snap_devices.specs.Blocks.{block, block_data, block_fields, due, due_code};
 
 use crate::queue::{read_begun, read_collect, read_parts, write_begun, write_collect, write_parts};
 use crate::saved::Saved;
@@ -11,16 +11,22 @@ use file_format::{Input, ReadError, Stored};
 use std::alloc::{AllocError, Global};
 use vq_split::Queue;
 
+fn due_code(due: Due) -> u8
+    ensures { result ≡ due_code due }
+{
+    match due {
+        Due::Look => 0,
+        Due::Walk => 1,
+        Due::Idle => 2,
+    }
+}
+
 #[tactic(auto, unfolding(crate::specs::Blocks::due, file_format::specs::Kinds::byte))]
 impl Stored for Saved<Due> {
     ghost format = { due };
 
     fn write(&self, out: &mut Vec<u8>) -> Result<(), AllocError> {
-        match self.value {
-            Due::Look => 0u8.write(out)?,
-            Due::Walk => 1u8.write(out)?,
-            Due::Idle => 2u8.write(out)?,
-        }
+        due_code(self.value).write(out)?;
         Ok(())
     }
 

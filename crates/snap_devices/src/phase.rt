@@ -1,5 +1,6 @@
 // Where a block device is.
-ghost use Rattle.snap_devices.specs.Phases.{break_stage, phase, return_stage};
+ghost use Rattle.std.specs.Prelude.{◌≡◌};
+ghost use Rattle.snap_devices.specs.Phases.{break_code, break_stage, phase, return_code, return_stage};
 ghost use Rattle.snap_devices.specs.Serving.{service, units};
 
 use crate::saved::Saved;
@@ -9,15 +10,21 @@ use file_format::{Input, ReadError, Stored};
 use std::alloc::{AllocError, Global};
 use std::marker::Model;
 
+fn break_code(stage: BreakStage) -> u8
+    ensures { result ≡ break_code stage }
+{
+    match stage {
+        BreakStage::Port => 0,
+        BreakStage::Line => 1,
+    }
+}
+
 #[tactic(auto, unfolding(crate::specs::Phases::break_stage, file_format::specs::Kinds::byte))]
 impl Stored for Saved<BreakStage> {
     ghost format = { break_stage };
 
     fn write(&self, out: &mut Vec<u8>) -> Result<(), AllocError> {
-        match self.value {
-            BreakStage::Port => 0u8.write(out)?,
-            BreakStage::Line => 1u8.write(out)?,
-        }
+        break_code(self.value).write(out)?;
         Ok(())
     }
 
@@ -31,18 +38,24 @@ impl Stored for Saved<BreakStage> {
     }
 }
 
+fn return_code(stage: ReturnStage) -> u8
+    ensures { result ≡ return_code stage }
+{
+    match stage {
+        ReturnStage::Pair => 0,
+        ReturnStage::Half => 1,
+        ReturnStage::Index => 2,
+        ReturnStage::Interrupt => 3,
+        ReturnStage::Line => 4,
+    }
+}
+
 #[tactic(auto, unfolding(crate::specs::Phases::return_stage, file_format::specs::Kinds::byte))]
 impl Stored for Saved<ReturnStage> {
     ghost format = { return_stage };
 
     fn write(&self, out: &mut Vec<u8>) -> Result<(), AllocError> {
-        match self.value {
-            ReturnStage::Pair => 0u8.write(out)?,
-            ReturnStage::Half => 1u8.write(out)?,
-            ReturnStage::Index => 2u8.write(out)?,
-            ReturnStage::Interrupt => 3u8.write(out)?,
-            ReturnStage::Line => 4u8.write(out)?,
-        }
+        return_code(self.value).write(out)?;
         Ok(())
     }
 

@@ -3,7 +3,7 @@ ghost use Rattle.std.specs.Prelude.{◌≡◌, OnOk, IfOk};
 ghost use Rattle.file_format.specs.Kinds.{times};
 ghost use Rattle.file_format.specs.Reading.{Takes};
 ghost use Rattle.file_format.specs.Whole.{IsDecoded, IsEncoding};
-ghost use Rattle.snap_devices.specs.Ports.{kind, port, port_fields, port_queue};
+ghost use Rattle.snap_devices.specs.Ports.{kind, kind_code, port, port_fields, port_queue};
 
 use crate::saved::Saved;
 use file_format::{Input, ReadError, Stored, decode, read_into, write_items};
@@ -11,17 +11,23 @@ use mmio_port::Port;
 use port_table::{DeviceKind, PortQueue, PortState};
 use std::alloc::{AllocError, Global};
 
+fn kind_code(kind: DeviceKind) -> u8
+    ensures { result ≡ kind_code kind }
+{
+    match kind {
+        DeviceKind::Net => 0,
+        DeviceKind::Block => 1,
+        DeviceKind::Balloon => 2,
+        DeviceKind::Vsock => 3,
+    }
+}
+
 #[tactic(auto, unfolding(crate::specs::Ports::kind, file_format::specs::Kinds::byte))]
 impl Stored for Saved<DeviceKind> {
     ghost format = { kind };
 
     fn write(&self, out: &mut Vec<u8>) -> Result<(), AllocError> {
-        match self.value {
-            DeviceKind::Net => 0u8.write(out)?,
-            DeviceKind::Block => 1u8.write(out)?,
-            DeviceKind::Balloon => 2u8.write(out)?,
-            DeviceKind::Vsock => 3u8.write(out)?,
-        }
+        kind_code(self.value).write(out)?;
         Ok(())
     }
 
