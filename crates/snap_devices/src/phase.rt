@@ -1,7 +1,8 @@
 // Where a block device is.
 ghost use Rattle.std.specs.Prelude.{◌≡◌};
-ghost use Rattle.snap_devices.specs.Phases.{break_code, break_stage, phase, return_code, return_stage};
-ghost use Rattle.snap_devices.specs.Serving.{service, units};
+ghost use Rattle.snap_devices.specs.Phases.{break_code, break_stage, phase, phase_code};
+ghost use Rattle.snap_devices.specs.Phases.{return_code, return_stage};
+ghost use Rattle.snap_devices.specs.Serving.{service, service_code, units};
 
 use crate::saved::Saved;
 use block_device::{Phase, ServiceStage};
@@ -105,45 +106,46 @@ impl Stored for Units {
     }
 }
 
+fn service_code(stage: ServiceStage) -> u8
+    ensures { result ≡ service_code stage }
+{
+    match stage {
+        ServiceStage::Read { .. } => 0,
+        ServiceStage::Put { .. } => 1,
+        ServiceStage::PutId => 2,
+        ServiceStage::Gather { .. } => 3,
+        ServiceStage::Disk { .. } => 4,
+        ServiceStage::Flush => 5,
+        ServiceStage::Status { .. } => 6,
+    }
+}
+
 #[tactic(auto, unfolding(crate::specs::Serving::service, file_format::specs::Kinds::byte))]
 impl Stored for Saved<ServiceStage> {
     ghost format = { service };
 
     fn write(&self, out: &mut Vec<u8>) -> Result<(), AllocError> {
+        service_code(self.value).write(out)?;
         match self.value {
-            ServiceStage::Read { sector, unit, more } => {
-                0u8.write(out)?;
-                Units { sector, unit, more }.write(out)?;
+            ServiceStage::Read { sector, unit, more } => Units { sector, unit, more }.write(out)?,
+            ServiceStage::Put { sector, unit, more } => Units { sector, unit, more }.write(out)?,
+            ServiceStage::Gather { sector, part, more } => Units {
+                sector,
+                unit: part,
+                more,
             }
-            ServiceStage::Put { sector, unit, more } => {
-                1u8.write(out)?;
-                Units { sector, unit, more }.write(out)?;
+            .write(out)?,
+            ServiceStage::Disk { sector, part, more } => Units {
+                sector,
+                unit: part,
+                more,
             }
-            ServiceStage::PutId => 2u8.write(out)?,
-            ServiceStage::Gather { sector, part, more } => {
-                3u8.write(out)?;
-                Units {
-                    sector,
-                    unit: part,
-                    more,
-                }
-                .write(out)?;
-            }
-            ServiceStage::Disk { sector, part, more } => {
-                4u8.write(out)?;
-                Units {
-                    sector,
-                    unit: part,
-                    more,
-                }
-                .write(out)?;
-            }
-            ServiceStage::Flush => 5u8.write(out)?,
+            .write(out)?,
             ServiceStage::Status { status, used } => {
-                6u8.write(out)?;
                 status.write(out)?;
                 used.write(out)?;
             }
+            ServiceStage::PutId | ServiceStage::Flush => {}
         }
         Ok(())
     }
@@ -186,30 +188,37 @@ impl Stored for Saved<ServiceStage> {
     }
 }
 
+fn phase_code(phase: Phase) -> u8
+    ensures { result ≡ phase_code phase }
+{
+    match phase {
+        Phase::Between => 0,
+        Phase::Break { .. } => 1,
+        Phase::Header { .. } => 2,
+        Phase::Serve { .. } => 3,
+        Phase::Return { .. } => 4,
+    }
+}
+
 #[tactic(auto, unfolding(crate::specs::Phases::phase, file_format::specs::Kinds::byte))]
 impl Stored for Saved<Phase> {
     ghost format = { phase };
 
     fn write(&self, out: &mut Vec<u8>) -> Result<(), AllocError> {
+        phase_code(self.value).write(out)?;
         match self.value {
-            Phase::Between => 0u8.write(out)?,
-            Phase::Break { stage } => {
-                1u8.write(out)?;
-                Saved { value: stage }.write(out)?;
-            }
+            Phase::Between => {}
+            Phase::Break { stage } => Saved { value: stage }.write(out)?,
             Phase::Header { len, head } => {
-                2u8.write(out)?;
                 len.write(out)?;
                 head.write(out)?;
             }
             Phase::Serve { at, stage, head } => {
-                3u8.write(out)?;
                 at.write(out)?;
                 Saved { value: stage }.write(out)?;
                 head.write(out)?;
             }
             Phase::Return { len, head, stage } => {
-                4u8.write(out)?;
                 len.write(out)?;
                 head.write(out)?;
                 Saved { value: stage }.write(out)?;

@@ -4,7 +4,8 @@ ghost use Rattle.std.specs.List.{AllByRecursion};
 ghost use Rattle.file_format.specs.Kinds.{optional};
 ghost use Rattle.file_format.specs.Readers.{put_all};
 ghost use Rattle.file_format.specs.Reading.{Takes};
-ghost use Rattle.snap_devices.specs.Queues.{are_few, collect, held, part, parts, queue, walk, walk_stage};
+ghost use Rattle.snap_devices.specs.Queues.{are_few, collect, held, part, parts, queue};
+ghost use Rattle.snap_devices.specs.Queues.{stage_code, walk, walk_stage};
 
 use crate::saved::Saved;
 use dev_core::{Collect, Gather, Held};
@@ -155,16 +156,25 @@ pub fn read_collect(alloc: Global, input: &mut Input) -> Result<Collect, ReadErr
     })
 }
 
+fn stage_code(stage: Stage) -> u8
+    ensures { result ≡ stage_code stage }
+{
+    match stage {
+        Stage::Index => 0,
+        Stage::Ring => 1,
+        Stage::Link { .. } => 2,
+    }
+}
+
 #[tactic(auto, unfolding(crate::specs::Queues::walk_stage, file_format::specs::Kinds::byte))]
 impl Stored for Saved<Stage> {
     ghost format = { walk_stage };
 
     fn write(&self, out: &mut Vec<u8>) -> Result<(), AllocError> {
+        stage_code(self.value).write(out)?;
         match self.value {
-            Stage::Index => 0u8.write(out)?,
-            Stage::Ring => 1u8.write(out)?,
+            Stage::Index | Stage::Ring => {}
             Stage::Link { head, at } => {
-                2u8.write(out)?;
                 head.write(out)?;
                 at.write(out)?;
             }

@@ -1,6 +1,6 @@
 // A hart.
 ghost use Rattle.std.specs.Prelude.{◌≡◌, ◌≤◌};
-ghost use Rattle.snap_harts.specs.Harts.{place, hart};
+ghost use Rattle.snap_harts.specs.Harts.{hart, place, place_code};
 ghost use Rattle.snap_harts.specs.Copy.{turn_of, begun_at, regs_of, place_of, saved_hart};
 
 use file_format::{Input, ReadError, Stored};
@@ -43,20 +43,28 @@ pub struct SavedHart {
     pub place: HartPlace,
 }
 
+fn place_code(place: HartPlace) -> u8
+    ensures { result ≡ place_code place }
+{
+    match place {
+        HartPlace::Begin => 0,
+        HartPlace::BeginWaiting => 1,
+        HartPlace::Idle => 2,
+        HartPlace::IdleWaiting => 3,
+        HartPlace::Access(_) => 4,
+    }
+}
+
 #[tactic(auto, unfolding(crate::specs::Harts::place, file_format::specs::Kinds::byte))]
 impl Stored for HartPlace {
     ghost format = { place };
 
     fn write(&self, out: &mut Vec<u8>) -> Result<(), AllocError> {
+        place_code(*self).write(out)?;
         match self {
-            HartPlace::Begin => 0u8.write(out)?,
-            HartPlace::BeginWaiting => 1u8.write(out)?,
-            HartPlace::Idle => 2u8.write(out)?,
-            HartPlace::IdleWaiting => 3u8.write(out)?,
-            HartPlace::Access(word) => {
-                4u8.write(out)?;
-                word.write(out)?;
-            }
+            HartPlace::Access(word) => word.write(out)?,
+            HartPlace::Begin | HartPlace::BeginWaiting => {}
+            HartPlace::Idle | HartPlace::IdleWaiting => {}
         }
         Ok(())
     }
