@@ -1,5 +1,5 @@
 // What the operations of RV64IMA compute at the edges of their operands, by the integers of the host: tables of
-// crates/rv_cases/data, values, branches and stored.
+// crates/machine_cases/data/instructions, values, branches and stored.
 // Usage: edges FAMILY, where FAMILY is one of these.
 #include <inttypes.h>
 #include <stdbool.h>

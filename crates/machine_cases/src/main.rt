@@ -1,104 +1,50 @@
-//! Prints what pages, boards, timers and harts answer to stored acts and replies, and where ops act, for the gate to
-//! compare with `stdout`. What they do is proved; the values here say that the definitions mean what the manuals say.
+//! Tells what instructions, ports, chains, pages, boards, timers and harts do, by tables, for the gate to compare with
+//! `stdout`. What they do is proved; the values here say that the definitions mean what the manuals say.
 //!
-//! A case is a line of a file of `data/`, whose README says how it is written. A new case is one more line there and
-//! one in `stdout`: it costs no proof.
+//! A table is a file of `data/`, and each of its lines is a case, as the README of its folder says. Those of
+//! instructions and ports have behind ` = ` what is wanted: a case is printed where its answer differs, and below them
+//! stands how many there are. Any other case is printed with its answer. The status is 1 where a case differs, or where
+//! a table has none. A new case is one more line of its table, and in `stdout` another line or number: it costs no
+//! proof.
 #![tactic(auto)]
 
-mod boards;
-mod harts;
-mod pages;
-mod places;
-mod reading;
-mod telling;
-mod timers;
+mod bench;
+mod chains;
+mod instructions;
+mod machines;
+mod ports;
+mod tables;
+mod told;
+mod words;
 
-use crate::harts::Trial;
-use guest_pages::Page;
-use line_board::Board;
-use std::alloc::{AllocError, Global};
+use crate::tables::{Subject, TABLES};
+use crate::told::{Told, tell_lines};
+use std::process::ExitCode;
 use std::{fs, io};
-use timer_trace::Timer;
 
-/// What a table is about.
-#[derive(Clone, Copy, Drop)]
-enum Kind {
-    Places,
-    Pages,
-    Boards,
-    Timers,
-    Harts,
-}
-
-const TABLES: [(&str, Kind); 5] = [
-    ("places", Kind::Places),
-    ("pages", Kind::Pages),
-    ("boards", Kind::Boards),
-    ("timers", Kind::Timers),
-    ("harts", Kind::Harts),
-];
-
-/// What the commands of a table are for, until one of them begins anew.
-#[derive(Drop)]
-struct Bench {
-    page: Page,
-    board: Board,
-    timer: Timer,
-    trial: Trial,
-}
-
-fn main(rt: HostRuntime) -> io::Result<()> {
-    for (table, kind) in TABLES {
-        print_table(&rt, table, kind)?;
+fn main(rt: HostRuntime) -> io::Result<ExitCode> {
+    let mut is_well = true;
+    for (table, subject) in TABLES {
+        let is_as_wanted = print_table(&rt, table, subject)?;
+        is_well = is_well && is_as_wanted;
     }
-    Ok(())
-}
-
-fn print_table(rt: &HostRuntime, table: &str, kind: Kind) -> io::Result<()> {
-    let mut bench = first_bench(rt.alloc())?;
-    for line in fs::read_to_string(rt, table)?.lines() {
-        if !line.starts_with('#') {
-            let told = told(rt.alloc(), &mut bench, kind, line)?;
-            println!(rt; "{line} => {told}")?;
-        }
-    }
-    Ok(())
-}
-
-fn first_bench(alloc: Global) -> Result<Bench, AllocError> {
-    Ok(Bench {
-        page: pages::first(alloc)?,
-        board: Board::new(alloc, 1)?,
-        timer: Timer::new(),
-        trial: Trial::new(alloc),
+    Ok(if is_well {
+        ExitCode::SUCCESS
+    } else {
+        ExitCode::FAILURE
     })
 }
 
-// What the commands of a line are answered.
-fn told(alloc: Global, bench: &mut Bench, kind: Kind, line: &str) -> Result<String, AllocError> {
-    let mut text = String::new(alloc);
-    for command in line.split("; ") {
-        if !text.is_empty() {
-            text.push_str("; ")?;
-        }
-        add(alloc, bench, kind, command, &mut text)?;
-    }
-    Ok(text)
+// Whether each case has the answer that is wanted.
+fn print_table(rt: &HostRuntime, table: &str, subject: Subject) -> io::Result<bool> {
+    let mut told = Told::new(rt.alloc());
+    tell_table(rt, table, subject, &mut told)?;
+    print!(rt; "{}", told.text())?;
+    Ok(told.is_as_wanted())
 }
 
-// Puts what a command is answered at the end.
-fn add(
-    alloc: Global,
-    bench: &mut Bench,
-    kind: Kind,
-    command: &str,
-    text: &mut String,
-) -> Result<(), AllocError> {
-    match kind {
-        Kind::Places => places::add(alloc, command, text),
-        Kind::Pages => pages::add(alloc, &mut bench.page, command, text),
-        Kind::Boards => boards::add(alloc, &mut bench.board, command, text),
-        Kind::Timers => timers::add(alloc, &mut bench.timer, command, text),
-        Kind::Harts => harts::add(alloc, &mut bench.trial, command, text),
-    }
+fn tell_table(rt: &HostRuntime, table: &str, subject: Subject, told: &mut Told) -> io::Result<()> {
+    let lines = fs::read_to_string(rt, table)?;
+    tell_lines(rt.alloc(), table, subject, lines.as_str(), told)?;
+    Ok(())
 }
