@@ -6,23 +6,18 @@ use http_stream::{HeaderList, Request};
 use std::alloc::{AllocError, Global};
 use vm_types::{ByteList, TextList};
 
-/// The name of the call of a method, a path and a body, for a drive with its fields, or the number of its refusal.
-pub fn told(alloc: Global, case: &str) -> Result<String, AllocError> {
+/// Puts the name of the call of a method, a path and a body at the end, for a drive with its fields, or the number of
+/// its refusal.
+pub fn add(alloc: Global, case: &str, text: &mut String) -> Result<(), AllocError> {
+    let request = request_from(alloc, case)?;
+    add_read(alloc, &request, text)
+}
+
+fn request_from(alloc: Global, case: &str) -> Result<Request, AllocError> {
     let (method, rest) = case.split_once(' ').unwrap_or((case, ""));
     let (path, body) = rest.split_once(' ').unwrap_or((rest, ""));
-    let request = request_of(
-        alloc,
-        method,
-        path,
-        ByteList::from_vec(joined(alloc, body)?),
-    )?;
-    match read(alloc, &request) {
-        Ok(ApiCall::PutDrive(drive)) => put_told(alloc, &drive),
-        Ok(ApiCall::PatchDrive(patch)) => patch_told(alloc, &patch),
-        Ok(call) => name(&call).to_string(alloc),
-        Err(ReadError::Refused(why)) => why.number().to_string(alloc),
-        Err(ReadError::OutOfMemory) => Err(AllocError),
-    }
+    let body = ByteList::from_vec(joined(alloc, body)?);
+    request_of(alloc, method, path, body)
 }
 
 fn joined(alloc: Global, pieces: &str) -> Result<Vec<u8>, AllocError> {
@@ -50,35 +45,66 @@ pub fn request_of(
     })
 }
 
-fn put_told(alloc: Global, drive: &Drive) -> Result<String, AllocError> {
-    let id = drive.drive_id.as_str();
-    let path = drive.path_on_host.as_str();
-    let root = if drive.is_root_device {
+fn add_read(alloc: Global, request: &Request, text: &mut String) -> Result<(), AllocError> {
+    match read(alloc, request) {
+        Ok(call) => add_call(&call, text),
+        Err(ReadError::Refused(why)) => write!(text, "{}", why.number()),
+        Err(ReadError::OutOfMemory) => Err(AllocError),
+    }
+}
+
+fn add_call(call: &ApiCall, text: &mut String) -> Result<(), AllocError> {
+    text.push_str(name(call))?;
+    match call {
+        ApiCall::PutDrive(drive) => add_put(drive, text),
+        ApiCall::PatchDrive(patch) => add_patch(patch, text),
+        _ => Ok(()),
+    }
+}
+
+fn add_put(drive: &Drive, text: &mut String) -> Result<(), AllocError> {
+    add_word(drive.drive_id.as_str(), text)?;
+    add_word(drive.path_on_host.as_str(), text)?;
+    add_word(root_word(drive), text)?;
+    add_word(access_word(drive), text)?;
+    add_word(cache_word(drive), text)
+}
+
+fn root_word(drive: &Drive) -> &'static str {
+    if drive.is_root_device {
         "root"
     } else {
         "other"
-    };
-    let access = if drive.is_read_only {
+    }
+}
+
+fn access_word(drive: &Drive) -> &'static str {
+    if drive.is_read_only {
         "read-only"
     } else {
         "read-write"
-    };
-    let cache = match drive.cache_type {
-        CacheType::Unsafe => "unsafe",
-        CacheType::Writeback => "writeback",
-    };
-    format!(in alloc; "drive-put {id} {path} {root} {access} {cache}")
+    }
 }
 
-fn patch_told(alloc: Global, patch: &DrivePatch) -> Result<String, AllocError> {
-    let id = patch.drive_id.as_str();
-    match &patch.path_on_host {
-        Some(path) => {
-            let path = path.as_str();
-            format!(in alloc; "drive-patch {id} {path}")
-        }
-        None => format!(in alloc; "drive-patch {id}"),
+fn cache_word(drive: &Drive) -> &'static str {
+    match drive.cache_type {
+        CacheType::Unsafe => "unsafe",
+        CacheType::Writeback => "writeback",
     }
+}
+
+fn add_patch(patch: &DrivePatch, text: &mut String) -> Result<(), AllocError> {
+    add_word(patch.drive_id.as_str(), text)?;
+    match &patch.path_on_host {
+        Some(path) => add_word(path.as_str(), text),
+        None => Ok(()),
+    }
+}
+
+// Puts a space and a word at the end.
+fn add_word(word: &str, text: &mut String) -> Result<(), AllocError> {
+    text.push(' ')?;
+    text.push_str(word)
 }
 
 fn name(call: &ApiCall) -> &'static str {

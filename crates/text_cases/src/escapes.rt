@@ -1,4 +1,4 @@
-// The bytes that a case stands for.
+// The bytes that a case stands for, and bytes as text.
 use std::alloc::{AllocError, Global};
 
 /// The text with the bytes that `\r`, `\n` and `\0` stand for.
@@ -31,4 +31,8 @@ fn repeated(alloc: Global, text: &[u8], count: u32) -> Result<Vec<u8>, AllocErro
         bytes.extend_from_slice(text)?;
     }
     Ok(bytes)
+}
+
+pub fn text_of(bytes: &[u8]) -> &str {
+    str::from_utf8(bytes).unwrap_or("no text")
 }

@@ -19,7 +19,6 @@ use metadata_service::Service;
 use metadata_store::{MetadataVersion, Store};
 use std::alloc::{AllocError, Global};
 use std::{fs, io};
-use vm_types::ByteList;
 
 /// What a case is.
 #[derive(Clone, Copy, Drop)]
@@ -52,56 +51,66 @@ const SERVICES: [(&str, MetadataVersion); 3] = [
 ];
 
 fn main(rt: HostRuntime) -> io::Result<()> {
+    let mut text = String::new(rt.alloc());
+    add_tables(&rt, &mut text)?;
+    print!(rt; "{text}")
+}
+
+fn add_tables(rt: &HostRuntime, text: &mut String) -> io::Result<()> {
     for (table, kind) in TABLES {
-        print_table(&rt, table, kind)?;
+        add_table(rt, table, kind, text)?;
     }
-    print_others(&rt)?;
+    add_others(rt.alloc(), text)?;
     let store = metadata::stored(rt.alloc());
     for (table, version) in SERVICES {
-        let mut service = Service::new(rt.alloc(), version);
-        print_turns(&rt, table, &mut service, &store)?;
+        add_turns(rt, table, version, &store, text)?;
     }
     Ok(())
 }
 
-fn print_turns(
+fn add_table(rt: &HostRuntime, table: &str, kind: Kind, text: &mut String) -> io::Result<()> {
+    let cases = fs::read_to_string(rt, table)?;
+    add_cases(rt.alloc(), kind, cases.as_str(), text)?;
+    Ok(())
+}
+
+fn add_cases(alloc: Global, kind: Kind, cases: &str, text: &mut String) -> Result<(), AllocError> {
+    for case in cases.lines() {
+        text.push_str(case)?;
+        text.push_str(" => ")?;
+        add(alloc, kind, case, text)?;
+        text.push('\n')?;
+    }
+    Ok(())
+}
+
+fn add(alloc: Global, kind: Kind, case: &str, text: &mut String) -> Result<(), AllocError> {
+    match kind {
+        Kind::Line => lines::add(alloc, case, text),
+        Kind::Script => scripts::add(alloc, case, text),
+        Kind::Stream => streams::add(alloc, case, text),
+        Kind::Peek => streams::add_peeked(alloc, case, text),
+        Kind::Call => calls::add(alloc, case, text),
+    }
+}
+
+fn add_turns(
     rt: &HostRuntime,
     table: &str,
-    service: &mut Service,
+    version: MetadataVersion,
     store: &Store,
+    text: &mut String,
 ) -> io::Result<()> {
-    for case in fs::read_to_string(rt, table)?.lines() {
-        let told = metadata::told(rt.alloc(), service, store, case)?;
-        println!(rt; "{case} => {told}")?;
-    }
+    let cases = fs::read_to_string(rt, table)?;
+    let mut service = Service::new(rt.alloc(), version);
+    metadata::add_turns(rt.alloc(), &mut service, store, cases.as_str(), text)?;
     Ok(())
 }
 
-fn print_table(rt: &HostRuntime, table: &str, kind: Kind) -> io::Result<()> {
-    for case in fs::read_to_string(rt, table)?.lines() {
-        let told = told(rt.alloc(), kind, case)?;
-        println!(rt; "{case} => {told}")?;
-    }
-    Ok(())
-}
-
-fn told(alloc: Global, kind: Kind, case: &str) -> Result<String, AllocError> {
-    match kind {
-        Kind::Line => lines::told(alloc, case),
-        Kind::Script => scripts::told(alloc, case),
-        Kind::Stream => streams::told(alloc, case),
-        Kind::Peek => streams::peeked(alloc, case),
-        Kind::Call => calls::told(alloc, case),
-    }
-}
-
-fn print_others(rt: &HostRuntime) -> io::Result<()> {
-    let mut text = String::new(rt.alloc());
-    written::add_stream(rt.alloc(), &mut text)?;
-    let mut bytes = ByteList::new(rt.alloc());
-    lines::add(rt.alloc(), &mut bytes)?;
-    refused::add(rt.alloc(), &mut bytes)?;
-    written::add(rt.alloc(), &mut bytes)?;
-    let written = str::from_utf8(bytes.as_slice()).unwrap_or("no text");
-    println!(rt; "{text}{written}")
+fn add_others(alloc: Global, text: &mut String) -> Result<(), AllocError> {
+    written::add_stream(alloc, text)?;
+    lines::add_others(alloc, text)?;
+    refused::add(alloc, text)?;
+    written::add(alloc, text)?;
+    text.push('\n')
 }

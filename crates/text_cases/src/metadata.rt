@@ -1,6 +1,6 @@
 // Requests to a metadata service, one after another.
 use crate::calls::request_of;
-use crate::escapes::counted;
+use crate::escapes::{counted, text_of};
 use http_stream::Request;
 use metadata_service::{Reply, Service};
 use metadata_store::{Store, Tree};
@@ -26,19 +26,37 @@ pub fn stored(alloc: Global) -> Store {
     }
 }
 
-/// The status and the body of the reply, of `COUNT*` such requests with rising words that of the last.
-pub fn told(
+/// Puts each case at the end with the reply of a service that is asked them one after another.
+pub fn add_turns(
+    alloc: Global,
+    service: &mut Service,
+    store: &Store,
+    cases: &str,
+    text: &mut String,
+) -> Result<(), AllocError> {
+    for case in cases.lines() {
+        text.push_str(case)?;
+        text.push_str(" => ")?;
+        add(alloc, service, store, case, text)?;
+        text.push('\n')?;
+    }
+    Ok(())
+}
+
+// The status and the body of the reply, of `COUNT*` such requests with rising words that of the last.
+fn add(
     alloc: Global,
     service: &mut Service,
     store: &Store,
     case: &str,
-) -> Result<String, AllocError> {
+    text: &mut String,
+) -> Result<(), AllocError> {
     let (count, case) = counted(case).unwrap_or((1, case));
     let turn = turn_of(alloc, case)?;
     for k in 1..count {
         answered(service, store, &turn, k)?;
     }
-    reply_told(alloc, &answered(service, store, &turn, count)?)
+    add_reply(&answered(service, store, &turn, count)?, text)
 }
 
 fn turn_of(alloc: Global, case: &str) -> Result<Turn, AllocError> {
@@ -78,7 +96,11 @@ fn answered(
     service.answer(store, &turn.request, turn.now, word)
 }
 
-fn reply_told(alloc: Global, reply: &Reply) -> Result<String, AllocError> {
-    let body = str::from_utf8(reply.body.as_slice()).unwrap_or("no text");
-    format!(in alloc; "{} {body:?}", reply.status)
+fn add_reply(reply: &Reply, text: &mut String) -> Result<(), AllocError> {
+    write!(
+        text,
+        "{} {:?}",
+        reply.status,
+        text_of(reply.body.as_slice())
+    )
 }

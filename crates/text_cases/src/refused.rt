@@ -1,7 +1,7 @@
 // What each refusal is answered with.
+use crate::escapes::text_of;
 use refusals::{Refusal, fault_text};
 use std::alloc::{AllocError, Global};
-use vm_types::ByteList;
 
 const ALL: [Refusal; 32] = [
     Refusal::NoSuchPath,
@@ -39,16 +39,20 @@ const ALL: [Refusal; 32] = [
 ];
 
 /// Puts the status and the body of each at the end.
-pub fn add(alloc: Global, text: &mut ByteList) -> Result<(), AllocError> {
+pub fn add(alloc: Global, text: &mut String) -> Result<(), AllocError> {
     for refusal in ALL {
-        text.append(match refusal.status() {
-            400 => b"400 ",
-            500 => b"500 ",
-            503 => b"503 ",
-            _ => b"??? ",
-        })?;
-        text.append(fault_text(alloc, refusal)?.as_slice())?;
-        text.append(b"\n")?;
+        text.push_str(status_word(refusal))?;
+        text.push_str(text_of(fault_text(alloc, refusal)?.as_slice()))?;
+        text.push('\n')?;
     }
     Ok(())
+}
+
+fn status_word(refusal: Refusal) -> &'static str {
+    match refusal.status() {
+        400 => "400 ",
+        500 => "500 ",
+        503 => "503 ",
+        _ => "??? ",
+    }
 }

@@ -1,5 +1,6 @@
 // What is only written: lines that are shown, replies and requests; and all requests of a stream.
-use crate::streams::request_told;
+use crate::escapes::text_of;
+use crate::streams::add_request;
 use http_front::{requests, write_reply, write_request};
 use http_stream::HeaderList;
 use script_text::{Misfit, memory_line, misfit_line, register_line, waits_line};
@@ -7,13 +8,13 @@ use std::alloc::{AllocError, Global};
 use vm_types::ByteList;
 
 /// The lines, replies and requests that are written.
-pub fn add(alloc: Global, text: &mut ByteList) -> Result<(), AllocError> {
+pub fn add(alloc: Global, text: &mut String) -> Result<(), AllocError> {
     add_lines(alloc, text)?;
     add_replies(alloc, text)?;
     add_requests(alloc, text)
 }
 
-fn add_lines(alloc: Global, text: &mut ByteList) -> Result<(), AllocError> {
+fn add_lines(alloc: Global, text: &mut String) -> Result<(), AllocError> {
     for why in [
         Misfit::NotRunning,
         Misfit::NoMachine,
@@ -22,14 +23,14 @@ fn add_lines(alloc: Global, text: &mut ByteList) -> Result<(), AllocError> {
         Misfit::NotWaiting,
         Misfit::Unfit,
     ] {
-        text.append(misfit_line(alloc, why)?.as_slice())?;
+        push(&misfit_line(alloc, why)?, text)?;
     }
-    text.append(waits_line(alloc, 90)?.as_slice())?;
-    text.append(register_line(alloc, 0x8020_0000)?.as_slice())?;
-    text.append(memory_line(alloc, b"\x6f\x00\xab")?.as_slice())
+    push(&waits_line(alloc, 90)?, text)?;
+    push(&register_line(alloc, 0x8020_0000)?, text)?;
+    push(&memory_line(alloc, b"\x6f\x00\xab")?, text)
 }
 
-fn add_replies(alloc: Global, text: &mut ByteList) -> Result<(), AllocError> {
+fn add_replies(alloc: Global, text: &mut String) -> Result<(), AllocError> {
     for (status, body, close) in [
         (204, "", false),
         (204, "ignored", true),
@@ -44,24 +45,22 @@ fn add_replies(alloc: Global, text: &mut ByteList) -> Result<(), AllocError> {
         (503, "x", false),
         (599, "x", false),
     ] {
-        text.append(write_reply(alloc, status, body.as_bytes(), close)?.as_slice())?;
-        text.append(b"\n")?;
+        push(&write_reply(alloc, status, body.as_bytes(), close)?, text)?;
+        text.push('\n')?;
     }
     Ok(())
 }
 
-fn add_requests(alloc: Global, text: &mut ByteList) -> Result<(), AllocError> {
-    let start = write_request(
-        alloc,
-        b"PUT",
-        b"/actions",
-        b"{\"action_type\":\"InstanceStart\"}",
-    )?;
-    text.append(start.as_slice())?;
-    text.append(b"\n")?;
-    let ask = write_request(alloc, b"GET", b"/", b"")?;
-    text.append(ask.as_slice())?;
-    text.append(b"\n")
+fn add_requests(alloc: Global, text: &mut String) -> Result<(), AllocError> {
+    let body = b"{\"action_type\":\"InstanceStart\"}";
+    push(&write_request(alloc, b"PUT", b"/actions", body)?, text)?;
+    text.push('\n')?;
+    push(&write_request(alloc, b"GET", b"/", b"")?, text)?;
+    text.push('\n')
+}
+
+fn push(bytes: &ByteList, text: &mut String) -> Result<(), AllocError> {
+    text.push_str(text_of(bytes.as_slice()))
 }
 
 /// Puts all requests of a stream in four pieces at the end, of which the third ends it, with the headers of the first.
@@ -70,7 +69,7 @@ pub fn add_stream(alloc: Global, text: &mut String) -> Result<(), AllocError> {
     let (found, front) = requests(alloc, &pieces)?;
     for request in &found {
         add_headers(&request.headers, text)?;
-        text.push_str(request_told(alloc, request)?.as_str())?;
+        add_request(request, text)?;
     }
     text.push_str(if front.is_failed() {
         "failed\n"
@@ -94,9 +93,9 @@ fn pieces(alloc: Global) -> Result<Vec<ByteList>, AllocError> {
 
 fn add_headers(headers: &HeaderList, text: &mut String) -> Result<(), AllocError> {
     for (name, value) in headers.as_slice() {
-        text.push_str(str::from_utf8(name.as_slice()).unwrap_or("no text"))?;
+        push(name, text)?;
         text.push('=')?;
-        text.push_str(str::from_utf8(value.as_slice()).unwrap_or("no text"))?;
+        push(value, text)?;
         text.push(';')?;
     }
     Ok(())
