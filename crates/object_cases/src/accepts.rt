@@ -1,5 +1,5 @@
 // What the system's accept may answer, by its error numbers, and what comes of that.
-use crate::showing::{found, show};
+use crate::showing::{Shown, found};
 use host_real::as_accepted;
 use std::fs::File;
 use std::io;
@@ -10,16 +10,28 @@ use vm_outside::Failed;
 /// EAGAIN, ENOMEM, ENFILE, EMFILE, ECONNABORTED and ENOBUFS pass; EBADF, EINVAL, ENOTSOCK and EOPNOTSUPP don't.
 const NUMBERS: [i32; 10] = [11, 12, 23, 24, 103, 105, 9, 22, 88, 95];
 
-pub fn print(rt: &HostRuntime) -> io::Result<()> {
+pub fn show(rt: &HostRuntime, shown: &mut Shown) -> io::Result<()> {
     for number in NUMBERS {
-        let what = what_of(Err(io::Error::from_raw_os_error(number)));
-        println!(rt; "accept: {number} => {what}")?;
+        show_number(number, shown);
     }
     let (_client, server) = UnixStream::pair(rt)?;
-    show(rt, "accept: a socket", &what_of(Ok(server)))?;
+    shown.show("accept: a socket", &what_of(Ok(server)));
+    show_file(rt, shown)
+}
+
+fn show_number(number: i32, shown: &mut Shown) {
+    shown.text("accept: ");
+    shown.value(&number);
+    shown.text(" => ");
+    shown.text(what_of(Err(io::Error::from_raw_os_error(number))));
+    shown.text("\n");
+}
+
+fn show_file(rt: &HostRuntime, shown: &mut Shown) -> io::Result<()> {
     let file = File::open(rt, "/dev/null")?;
     let none = UnixStream::from(OwnedFd::from(file));
-    show(rt, "accept: no socket", &what_of(Ok(none)))
+    shown.show("accept: no socket", &what_of(Ok(none)));
+    Ok(())
 }
 
 fn what_of(came: io::Result<UnixStream>) -> &'static str {

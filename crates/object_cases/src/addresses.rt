@@ -1,5 +1,5 @@
 // What stands at a name that is to be listened on, or takes it meanwhile.
-use crate::showing::{show, text_of};
+use crate::showing::{Shown, text_of};
 use host_real::SocketListener;
 use serve_host::Listener;
 use std::os::unix::fs::symlink;
@@ -8,54 +8,57 @@ use std::{fs, io};
 
 const NAME: &str = "address";
 
-pub fn print(rt: &HostRuntime) -> io::Result<()> {
-    print_file(rt)?;
+pub fn show(rt: &HostRuntime, shown: &mut Shown) -> io::Result<()> {
+    show_file(rt, shown)?;
     fs::create_dir(rt, NAME)?;
-    print_listen(rt, "a folder")?;
+    show_listen(rt, "address: a folder, failed", shown);
     fs::remove_dir(rt, NAME)?;
-    print_link(rt)?;
-    print_taken(rt)
+    show_link(rt, shown)?;
+    show_taken(rt, shown)
 }
 
 // A file stays as it is.
-fn print_file(rt: &HostRuntime) -> io::Result<()> {
+fn show_file(rt: &HostRuntime, shown: &mut Shown) -> io::Result<()> {
     fs::write(rt, NAME, "kept")?;
-    print_listen(rt, "a file")?;
-    print_held(rt)?;
+    show_listen(rt, "address: a file, failed", shown);
+    show_held(rt, shown)?;
     fs::remove_file(rt, NAME)
 }
 
 // A link stays, and the socket that it leads to, on which nobody listens.
-fn print_link(rt: &HostRuntime) -> io::Result<()> {
-    let left = UnixListener::bind(rt, "left")?;
-    drop(left);
+fn show_link(rt: &HostRuntime, shown: &mut Shown) -> io::Result<()> {
+    drop(UnixListener::bind(rt, "left")?);
     symlink(rt, "left", NAME)?;
-    print_listen(rt, "a link")?;
+    show_listen(rt, "address: a link, failed", shown);
     fs::remove_file(rt, NAME)?;
     fs::remove_file(rt, "left")
 }
 
 // A file that has taken the socket's name stays when the listener goes.
-fn print_taken(rt: &HostRuntime) -> io::Result<()> {
-    let mut listener = SocketListener::new(rt);
-    show(rt, "address: none", &listener.listen(NAME))?;
-    fs::remove_file(rt, NAME)?;
-    fs::write(rt, NAME, "other")?;
-    drop(listener);
-    print_held(rt)?;
+fn show_taken(rt: &HostRuntime, shown: &mut Shown) -> io::Result<()> {
+    take_name(rt, &mut SocketListener::new(rt), shown)?;
+    show_held(rt, shown)?;
     fs::remove_file(rt, NAME)
 }
 
-fn print_listen(rt: &HostRuntime, standing: &str) -> io::Result<()> {
-    let mut listener = SocketListener::new(rt);
-    let done = listener.listen(NAME);
-    println!(rt;
-        "address: {standing}, failed => {done:?} {}",
-        listener.faults()
-    )
+fn take_name(
+    rt: &HostRuntime,
+    listener: &mut SocketListener<'_, HostRuntime>,
+    shown: &mut Shown,
+) -> io::Result<()> {
+    shown.show("address: none", &listener.listen(NAME));
+    fs::remove_file(rt, NAME)?;
+    fs::write(rt, NAME, "other")
 }
 
-fn print_held(rt: &HostRuntime) -> io::Result<()> {
+fn show_listen(rt: &HostRuntime, done: &str, shown: &mut Shown) {
+    let mut listener = SocketListener::new(rt);
+    let came = listener.listen(NAME);
+    shown.show_two(done, &came, &listener.faults());
+}
+
+fn show_held(rt: &HostRuntime, shown: &mut Shown) -> io::Result<()> {
     let bytes = fs::read(rt, NAME)?;
-    show(rt, "address: holds", &text_of(&bytes))
+    shown.show("address: holds", &text_of(&bytes));
+    Ok(())
 }

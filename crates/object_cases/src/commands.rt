@@ -1,14 +1,20 @@
 // Words that are no command, and some that are one of files that there aren't.
 use crate::merges::files_failing;
+use crate::showing::Shown;
 use outside_mem::{Failing, MemorySink};
 use rebase_cli::{End, rebase_main};
 use std::alloc::{AllocError, Global};
 use std::{fs, io};
 
-pub fn print(rt: &HostRuntime) -> io::Result<()> {
-    for line in fs::read_to_string(rt, "commands")?.lines() {
-        let end = end_of(rt.alloc(), line)?;
-        println!(rt; "{line} => {end:?}")?;
+pub fn show(rt: &HostRuntime, shown: &mut Shown) -> io::Result<()> {
+    let lines = fs::read_to_string(rt, "commands")?;
+    show_lines(rt.alloc(), lines.as_str(), shown)?;
+    Ok(())
+}
+
+fn show_lines(alloc: Global, lines: &str, shown: &mut Shown) -> Result<(), AllocError> {
+    for line in lines.lines() {
+        shown.show(line, &end_of(alloc, line)?);
     }
     Ok(())
 }

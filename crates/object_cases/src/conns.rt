@@ -1,19 +1,14 @@
 // A connection in memory: it comes, speaks and ends. The third call on it fails.
-use crate::showing::{found, show, text_of};
+use crate::showing::{Shown, found, text_of};
 use host_mem::{MemoryCaller, MemoryConn, MemoryListener, Past};
 use outside_mem::Failing;
 use serve_host::{Accepted, Conn, Listener, put_all};
 use std::alloc::{AllocError, Global};
 use std::collections::VecDeque;
-use std::io;
 
-pub fn print(rt: &HostRuntime) -> io::Result<()> {
-    let mut listener = listener(rt.alloc())?;
-    show(rt, "conn: listen", &listener.listen("s"))?;
-    show(rt, "conn: accept", &found(&listener.accept()))?;
-    speak(rt, &mut listener)?;
-    print_past(rt, listener.ended())?;
-    show(rt, "conn: accept", &found(&listener.accept()))
+pub fn show(alloc: Global, shown: &mut Shown) -> Result<(), AllocError> {
+    show_listener(&mut listener(alloc)?, shown);
+    Ok(())
 }
 
 fn listener(alloc: Global) -> Result<MemoryListener, AllocError> {
@@ -31,40 +26,43 @@ fn caller(alloc: Global) -> Result<MemoryCaller, AllocError> {
     })
 }
 
+fn show_listener(listener: &mut MemoryListener, shown: &mut Shown) {
+    shown.show("conn: listen", &listener.listen("s"));
+    shown.show("conn: accept", &found(&listener.accept()));
+    speak(listener, shown);
+    show_past(listener.ended(), shown);
+    shown.show("conn: accept", &found(&listener.accept()));
+}
+
 // The next connection, which is then ended.
-fn speak(rt: &HostRuntime, listener: &mut MemoryListener) -> io::Result<()> {
-    let Ok(Accepted::Conn(mut conn)) = listener.accept() else {
-        return println!(rt; "conn: no connection");
-    };
-    print_reads(rt, &mut conn)?;
-    show(rt, "conn: put", &put_all(&mut conn, b"xyz"))?;
-    listener.end(conn);
-    Ok(())
+fn speak(listener: &mut MemoryListener, shown: &mut Shown) {
+    match listener.accept() {
+        Ok(Accepted::Conn(mut conn)) => {
+            show_reads(&mut conn, shown);
+            shown.show("conn: put", &put_all(&mut conn, b"xyz"));
+            listener.end(conn);
+        }
+        _ => shown.text("conn: no connection\n"),
+    }
 }
 
 // What each read gives, what the buffer has then, and how many calls have failed.
-fn print_reads(rt: &HostRuntime, conn: &mut MemoryConn) -> io::Result<()> {
+fn show_reads(conn: &mut MemoryConn, shown: &mut Shown) {
     let mut buf = [0; 4];
     for _ in 0..5 {
         let got = conn.read(&mut buf);
-        println!(rt;
-            "conn: read => {got:?} {:?} {}",
-            text_of(&buf),
-            conn.faults()
-        )?;
+        shown.show_bytes("conn: read", &got, &buf, conn.faults());
     }
-    Ok(())
 }
 
-fn print_past(rt: &HostRuntime, past: &Past) -> io::Result<()> {
+fn show_past(past: &Past, shown: &mut Shown) {
     match past {
-        Past::Nothing => println!(rt; "conn: none is over"),
-        Past::Conn { passed, faults, .. } => {
-            println!(rt;
-                "conn: over => {:?} {:?} {faults}",
-                text_of(passed.gave()),
-                text_of(passed.took())
-            )
-        }
+        Past::Nothing => shown.text("conn: none is over\n"),
+        Past::Conn { passed, faults, .. } => shown.show_bytes(
+            "conn: over",
+            &text_of(passed.gave()),
+            passed.took(),
+            *faults,
+        ),
     }
 }

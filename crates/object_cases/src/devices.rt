@@ -1,19 +1,18 @@
 // A disk, a link and a vsock host in memory, of which each has a call that fails.
-use crate::showing::{part_of, show, text_of};
+use crate::showing::{Shown, part_of, text_of};
 use host_mem::{Frame, MemoryDisk, MemoryLink, MemoryVsock, MemoryWire};
 use outside_mem::Failing;
 use std::alloc::{AllocError, Global};
 use std::collections::VecDeque;
-use std::io;
 use vm_host::{Disk, HostEvent, Link, VsockHost};
+use vm_outside::Failed;
 use vm_types::{ByteList, Piece};
 
-pub fn print(rt: &HostRuntime) -> io::Result<()> {
-    print_disk(rt, &mut disk(rt.alloc())?)?;
-    let mut link = link(rt.alloc())?;
-    print_taken(rt, &mut link)?;
-    print_sent(rt, &mut link)?;
-    print_vsock(rt, &mut vsock(rt.alloc())?)
+pub fn show(alloc: Global, shown: &mut Shown) -> Result<(), AllocError> {
+    show_disk(&mut disk(alloc)?, shown);
+    show_link(&mut link(alloc)?, shown);
+    show_vsock(&mut vsock(alloc)?, shown);
+    Ok(())
 }
 
 fn failing(alloc: Global, call: u64) -> Result<Failing, AllocError> {
@@ -26,13 +25,19 @@ fn disk(alloc: Global) -> Result<MemoryDisk, AllocError> {
     Ok(MemoryDisk::new(disks, failing(alloc, 1)?))
 }
 
-fn print_disk(rt: &HostRuntime, disk: &mut MemoryDisk) -> io::Result<()> {
-    show(rt, "disk: write", &disk.write(0, 1, 2, &[9; 64]))?;
-    for (device, sector, part) in [(0, 1, 2), (0, 1, 2), (0, 1, 1), (0, 1, 3), (1, 0, 0)] {
-        let read = part_of(disk.read(device, sector, part));
-        println!(rt; "disk: read {device} {sector} {part} => {read:?}")?;
-    }
-    show(rt, "disk: failed", &disk.faults())
+fn show_disk(disk: &mut MemoryDisk, shown: &mut Shown) {
+    shown.show("disk: write", &disk.write(0, 1, 2, &[9; 64]));
+    show_part("disk: read 0 1 2", disk, (0, 1, 2), shown);
+    show_part("disk: read 0 1 2", disk, (0, 1, 2), shown);
+    show_part("disk: read 0 1 1", disk, (0, 1, 1), shown);
+    show_part("disk: read 0 1 3", disk, (0, 1, 3), shown);
+    show_part("disk: read 1 0 0", disk, (1, 0, 0), shown);
+    shown.show("disk: failed", &disk.faults());
+}
+
+/// A part of a disk, which stands at a device, a sector and a number.
+pub fn show_part<D: Disk>(done: &str, disk: &mut D, at: (u8, u64, u8), shown: &mut Shown) {
+    shown.show(done, &part_of(disk.read(at.0, at.1, at.2)));
 }
 
 // One frame comes.
@@ -46,24 +51,28 @@ fn link(alloc: Global) -> Result<MemoryLink, AllocError> {
     Ok(MemoryLink::new(wires, failing(alloc, 5)?))
 }
 
-fn print_taken(rt: &HostRuntime, link: &mut MemoryLink) -> io::Result<()> {
-    show(rt, "link: take", &[link.take(0), link.take(0)])?;
-    for count in [6, 7] {
-        match link.part(0, 1, count) {
-            Ok(piece) => println!(rt; "link: part of {count} => {:?}", piece.as_slice())?,
-            Err(failed) => println!(rt; "link: part of {count} => {failed:?}")?,
-        }
-    }
-    Ok(())
+fn show_link(link: &mut MemoryLink, shown: &mut Shown) {
+    shown.show("link: take", &[link.take(0), link.take(0)]);
+    show_piece("link: part of 6", &link.part(0, 1, 6), shown);
+    show_piece("link: part of 7", &link.part(0, 1, 7), shown);
+    show_sent("link: send dropped", link, b"dropped", shown);
+    show_sent("link: send dropped", link, b"dropped", shown);
+    show_sent("link: send sent", link, b"sent", shown);
+    shown.show("link: end", &link.send_end(0));
+    shown.show("link: sent, failed", &(first_sent(link), link.faults()));
 }
 
-fn print_sent(rt: &HostRuntime, link: &mut MemoryLink) -> io::Result<()> {
-    for text in ["dropped", "dropped", "sent"] {
-        let sent = link.send_part(0, Piece::from_slice(text.as_bytes()));
-        println!(rt; "link: send {text} => {sent:?}")?;
+fn show_piece(done: &str, part: &Result<Piece, Failed>, shown: &mut Shown) {
+    match part {
+        Ok(piece) => shown.show(done, &piece.as_slice()),
+        Err(failed) => shown.show(done, failed),
     }
-    show(rt, "link: end", &link.send_end(0))?;
-    show(rt, "link: sent, failed", &(first_sent(link), link.faults()))
+}
+
+fn show_sent(done: &str, link: &mut MemoryLink, bytes: &[u8], shown: &mut Shown) {
+    let most = bytes.len().min(Piece::MOST);
+    let piece = Piece::from_slice(&bytes[..most]);
+    shown.show(done, &link.send_part(0, piece));
 }
 
 fn first_sent(link: &MemoryLink) -> Option<&str> {
@@ -78,11 +87,11 @@ fn vsock(alloc: Global) -> Result<MemoryVsock, AllocError> {
     Ok(MemoryVsock::new(alloc, coming, answers, failing(alloc, 4)?))
 }
 
-fn print_vsock(rt: &HostRuntime, vsock: &mut MemoryVsock) -> io::Result<()> {
-    show(rt, "vsock: next", &[vsock.next(), vsock.next()])?;
-    show(rt, "vsock: dial", &[vsock.dial(80), vsock.dial(81)])?;
-    show(rt, "vsock: send", &vsock.send(8, Piece::empty()))?;
-    show(rt, "vsock: close", &vsock.close(8))?;
+fn show_vsock(vsock: &mut MemoryVsock, shown: &mut Shown) {
+    shown.show("vsock: next", &[vsock.next(), vsock.next()]);
+    shown.show("vsock: dial", &[vsock.dial(80), vsock.dial(81)]);
+    shown.show("vsock: send", &vsock.send(8, Piece::empty()));
+    shown.show("vsock: close", &vsock.close(8));
     let counts = (vsock.done().len(), vsock.faults());
-    show(rt, "vsock: done, failed", &counts)
+    shown.show("vsock: done, failed", &counts);
 }

@@ -1,5 +1,5 @@
 // Files in a folder, what stands under a name but is no regular file, and the folder of a name.
-use crate::showing::text_of;
+use crate::showing::{Shown, text_of};
 use outside_real::{Folder, folder_of};
 use std::alloc::AllocError;
 use std::path::AsPath;
@@ -76,53 +76,63 @@ const CASES: [Case<'_>; 4] = [
     },
 ];
 
-pub fn print(rt: &HostRuntime) -> io::Result<()> {
+pub fn show(rt: &HostRuntime, shown: &mut Shown) -> io::Result<()> {
     for case in &CASES {
-        print_case(rt, &mut Folder::new(rt), case)?;
-        print_case(rt, &mut Folder::keeping_open(rt), case)?;
+        show_case(rt, &mut Folder::new(rt), case, shown)?;
+        show_case(rt, &mut Folder::keeping_open(rt), case, shown)?;
     }
     for name in ["/", "/dev/null", "/dev/null/below", "a\0b"] {
-        print_each(rt, name)?;
+        show_answers(rt, &mut Folder::new(rt), name, &EACH, shown)?;
     }
     for name in ["a", "a/b", "a/b/c", "/a", "./a", "../a"] {
-        println!(rt; "folder of {name} => {}", folder_of(name).path_text())?;
+        show_folder(name, shown);
     }
     Ok(())
 }
 
+fn show_folder(name: &str, shown: &mut Shown) {
+    shown.text("folder of ");
+    shown.text(name);
+    shown.text(" => ");
+    shown.text(folder_of(name).path_text());
+    shown.text("\n");
+}
+
 // The answers where there was no file but the one before, how many calls failed, and what the file holds then.
-fn print_case(
+fn show_case(
     rt: &HostRuntime,
     files: &mut Folder<'_, HostRuntime>,
     case: &Case<'_>,
+    shown: &mut Shown,
 ) -> io::Result<()> {
     if let Some(before) = case.before {
         fs::write(rt, NAME, before)?;
     }
-    print_answers(rt, files, NAME, case.calls)?;
-    let after = fs::read(rt, NAME)?;
-    println!(rt;
-        "files: failed, left => {} {:?}",
-        files.faults(),
-        text_of(&after)
-    )?;
+    show_answers(rt, files, NAME, case.calls, shown)?;
+    show_left(rt, files.faults(), shown)?;
     fs::remove_file(rt, NAME)
 }
 
-// The answers to each call on a name in a folder that nothing was done in.
-fn print_each(rt: &HostRuntime, name: &str) -> io::Result<()> {
-    print_answers(rt, &mut Folder::new(rt), name, &EACH)
+fn show_left(rt: &HostRuntime, faults: u64, shown: &mut Shown) -> io::Result<()> {
+    let after = fs::read(rt, NAME)?;
+    shown.show_two("files: failed, left", &faults, &text_of(&after));
+    Ok(())
 }
 
-fn print_answers(
+// The answers to each call on a name.
+fn show_answers(
     rt: &HostRuntime,
     files: &mut Folder<'_, HostRuntime>,
     name: &str,
     calls: &[Call<'_>],
+    shown: &mut Shown,
 ) -> io::Result<()> {
     let mut seen = Vec::new(rt.alloc());
     answer_all(&mut seen, files, name, calls)?;
-    println!(rt; "files: {name:?} => {:?}", text_of(&seen))
+    shown.text("files: ");
+    shown.value(&name);
+    shown.show("", &text_of(&seen));
+    Ok(())
 }
 
 // The answers, each behind a bar.

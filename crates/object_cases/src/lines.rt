@@ -1,5 +1,5 @@
 // Lines of a trace on a disk that is full for once.
-use crate::showing::text_of;
+use crate::showing::{Shown, text_of};
 use host_real::TraceLines;
 use script_text::Item;
 use std::alloc::{AllocError, Global};
@@ -59,20 +59,30 @@ const CASES: [Case<'_>; 5] = [
     (0, &[Call::Event, Call::Finish, Call::Event, Call::Conn]),
 ];
 
-/// Prints the answers, and what stands on the disk when the lines are let go.
-pub fn print(rt: &HostRuntime) -> io::Result<()> {
+/// The answers, and what stands on the disk when the lines are let go.
+pub fn show(alloc: Global, shown: &mut Shown) -> Result<(), AllocError> {
     for (room, calls) in &CASES {
         let mut disk = Filling {
-            took: Vec::new(rt.alloc()),
+            took: Vec::new(alloc),
             room: *room,
         };
-        let seen = answers(rt.alloc(), &mut disk, calls)?;
-        println!(rt;
-            "lines: {room} {calls:?} => {:?} {:?}",
-            text_of(&seen),
-            text_of(&disk.took)
-        )?;
+        show_case(alloc, &mut disk, calls, shown)?;
     }
+    Ok(())
+}
+
+fn show_case(
+    alloc: Global,
+    disk: &mut Filling,
+    calls: &[Call],
+    shown: &mut Shown,
+) -> Result<(), AllocError> {
+    shown.text("lines: ");
+    shown.value(&disk.room);
+    shown.text(" ");
+    shown.value(&calls);
+    let seen = answers(alloc, disk, calls)?;
+    shown.show_two("", &text_of(&seen), &text_of(&disk.took));
     Ok(())
 }
 

@@ -1,38 +1,41 @@
 // A trace, words and a clock in memory.
-use crate::showing::show;
+use crate::showing::Shown;
 use host_mem::{MemoryClock, MemoryTrace, MemoryWords, Numbers, SteadyWords};
 use outside_mem::Failing;
 use script_text::Item;
 use serve_host::{Trace, Words};
 use std::alloc::{AllocError, Global};
-use std::io;
 use vm_host::Clock;
 use vm_outside::Failed;
 use vm_types::ByteList;
 
-pub fn print(rt: &HostRuntime) -> io::Result<()> {
-    print_trace(rt)?;
-    show(rt, "words: three", &three_words(rt.alloc())?)?;
-    show(rt, "steady words: two", &two_words(rt.alloc())?)?;
-    let mut clock = MemoryClock::new(Numbers::new(Vec::new(rt.alloc())));
-    show(rt, "clock: now", &clock.now())
+pub fn show(alloc: Global, shown: &mut Shown) -> Result<(), AllocError> {
+    let bytes = ByteList::copy_of(alloc, b"ab")?;
+    show_trace(&mut trace(alloc)?, Item::Bytes { bytes }, shown);
+    shown.show("words: three", &three_words(alloc)?);
+    shown.show("steady words: two", &two_words(alloc)?);
+    let mut clock = MemoryClock::new(Numbers::new(Vec::new(alloc)));
+    shown.show("clock: now", &clock.now());
+    Ok(())
 }
 
-fn print_trace(rt: &HostRuntime) -> io::Result<()> {
-    let calls = [1, 4].to_vec(rt.alloc())?;
-    let mut trace = MemoryTrace::new(rt.alloc(), Failing::new(calls));
-    show(rt, "trace: open", &trace.open("t"))?;
-    show(rt, "trace: add", &added(&mut trace, Item::Console))?;
-    let bytes = ByteList::copy_of(rt.alloc(), b"ab")?;
-    show(rt, "trace: add", &added(&mut trace, Item::Bytes { bytes }))?;
-    print_taken(rt, &trace)?;
-    show(rt, "trace: finish", &[trace.finish(), trace.finish()])?;
-    print_taken(rt, &trace)
+fn trace(alloc: Global) -> Result<MemoryTrace, AllocError> {
+    let calls = [1, 4].to_vec(alloc)?;
+    Ok(MemoryTrace::new(alloc, Failing::new(calls)))
 }
 
-fn print_taken(rt: &HostRuntime, trace: &MemoryTrace) -> io::Result<()> {
+fn show_trace(trace: &mut MemoryTrace, bytes: Item, shown: &mut Shown) {
+    shown.show("trace: open", &trace.open("t"));
+    shown.show("trace: add", &added(trace, Item::Console));
+    shown.show("trace: add", &added(trace, bytes));
+    show_taken(trace, shown);
+    shown.show("trace: finish", &[trace.finish(), trace.finish()]);
+    show_taken(trace, shown);
+}
+
+fn show_taken(trace: &MemoryTrace, shown: &mut Shown) {
     let counts = (trace.took().len(), trace.faults());
-    show(rt, "trace: took, failed", &counts)
+    shown.show("trace: took, failed", &counts);
 }
 
 /// What a trace answers to an item.

@@ -24,23 +24,41 @@ mod steps;
 mod stored;
 mod streams;
 
+use crate::showing::Shown;
+use std::alloc::{AllocError, Global};
 use std::io;
 
 fn main(rt: HostRuntime) -> io::Result<()> {
-    conns::print(&rt)?;
-    lists::print(&rt)?;
-    devices::print(&rt)?;
-    streams::print(&rt)?;
-    folders::print(&rt)?;
-    steps::print(&rt)?;
-    sockets::print(&rt)?;
-    addresses::print(&rt)?;
-    accepts::print(&rt)?;
-    lines::print(&rt)?;
-    stored::print(&rt)?;
-    merges::print(&rt)?;
-    cut_off::print(&rt)?;
-    commands::print(&rt)?;
-    orders::print(&rt)?;
-    gates::print(&rt)
+    let mut shown = Shown::new(rt.alloc());
+    let done = show_all(&rt, &mut shown);
+    print!(rt; "{}", shown.whole()?)?;
+    done
+}
+
+fn show_all(rt: &HostRuntime, shown: &mut Shown) -> io::Result<()> {
+    show_in_memory(rt.alloc(), shown)?;
+    streams::show(rt, shown)?;
+    folders::show(rt, shown)?;
+    steps::show(shown);
+    sockets::show(rt, shown)?;
+    addresses::show(rt, shown)?;
+    accepts::show(rt, shown)?;
+    lines::show(rt.alloc(), shown)?;
+    stored::show(rt, shown)?;
+    show_merges(rt, shown)?;
+    orders::show(rt.alloc(), shown)?;
+    gates::show(shown);
+    Ok(())
+}
+
+fn show_in_memory(alloc: Global, shown: &mut Shown) -> Result<(), AllocError> {
+    conns::show(alloc, shown)?;
+    lists::show(alloc, shown)?;
+    devices::show(alloc, shown)
+}
+
+fn show_merges(rt: &HostRuntime, shown: &mut Shown) -> io::Result<()> {
+    merges::show(rt, shown)?;
+    cut_off::show(rt.alloc(), shown)?;
+    commands::show(rt, shown)
 }

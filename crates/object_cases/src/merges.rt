@@ -1,5 +1,5 @@
 // Files as another monitor writes them, merged in order and out of order.
-use crate::showing::{show, text_of};
+use crate::showing::{Shown, text_of};
 use outside_mem::{Failing, MemoryFiles, MemorySink};
 use rebase_cli::{End, rebase_main};
 use std::alloc::{AllocError, Global};
@@ -23,36 +23,49 @@ const BYTES: [usize; 11] = [
     64, 72, 80, 96, 104, 112, 113, 32_767, 32_768, 36_863, 36_864,
 ];
 
-pub fn print(rt: &HostRuntime) -> io::Result<()> {
+pub fn show(rt: &HostRuntime, shown: &mut Shown) -> io::Result<()> {
+    let lines = fs::read_to_string(rt, "merges")?;
     let mut files = files_failing(rt.alloc(), 999)?;
-    show(rt, "merge: fill", &fill(&mut files))?;
-    print_merges(rt, &mut files)?;
-    for at in BYTES {
-        println!(rt; "merge: byte {at} => {:?}", byte_at(&files, at))?;
-    }
+    shown.show("merge: fill", &fill(&mut files));
+    show_merges(rt.alloc(), &mut files, lines.as_str(), shown)?;
+    show_bytes(&files, shown);
     Ok(())
 }
 
 // Each line has the base and the diff.
-fn print_merges(rt: &HostRuntime, files: &mut MemoryFiles) -> io::Result<()> {
-    for line in fs::read_to_string(rt, "merges")?.lines() {
+fn show_merges(
+    alloc: Global,
+    files: &mut MemoryFiles,
+    lines: &str,
+    shown: &mut Shown,
+) -> Result<(), AllocError> {
+    for line in lines.lines() {
+        shown.text("merge: ");
+        shown.text(line);
         let (base, diff) = line.split_once(' ').unwrap_or((line, ""));
-        print_merge(rt, files, base, diff)?;
+        show_end(alloc, files, base, diff, shown)?;
     }
     Ok(())
 }
 
-fn print_merge(
-    rt: &HostRuntime,
+fn show_end(
+    alloc: Global,
     files: &mut MemoryFiles,
     base: &str,
     diff: &str,
-) -> io::Result<()> {
-    let (end, out) = merge(rt.alloc(), files, base, diff)?;
-    println!(rt;
-        "merge: {base} {diff} => {end:?} {:?}",
-        text_of(out.taken())
-    )
+    shown: &mut Shown,
+) -> Result<(), AllocError> {
+    let (end, out) = merge(alloc, files, base, diff)?;
+    shown.show_two("", &end, &text_of(out.taken()));
+    Ok(())
+}
+
+fn show_bytes(files: &MemoryFiles, shown: &mut Shown) {
+    for at in BYTES {
+        shown.text("merge: byte ");
+        shown.value(&at);
+        shown.show("", &byte_at(files, at));
+    }
 }
 
 fn byte_at(files: &MemoryFiles, at: usize) -> Option<u8> {

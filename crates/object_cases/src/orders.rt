@@ -1,13 +1,14 @@
 // An order, a comparison, and the laws at a place and an actor.
-use crate::showing::show;
+use crate::showing::Shown;
 use stamp_merge::{History, Layout, agreed_order, compare, one_clock, one_order, sort_all};
-use std::io;
+use std::alloc::{AllocError, Global};
 use vm_types::{Actor, ActorId, Entry, Op, Place, PlaceId, Reply};
 
-pub fn print(rt: &HostRuntime) -> io::Result<()> {
-    print_sorted(rt)?;
-    print_compared(rt)?;
-    print_laws(rt)
+pub fn show(alloc: Global, shown: &mut Shown) -> Result<(), AllocError> {
+    show_sorted(shown);
+    show_compared(alloc, shown)?;
+    show_laws(shown);
+    Ok(())
 }
 
 fn entry(stamp: u64, actor: ActorId, place: PlaceId) -> Entry {
@@ -26,7 +27,7 @@ fn of(stamp: u64, actor: ActorId) -> Entry {
 }
 
 // By stamp, and at one stamp the timer, the harts and the devices.
-fn print_sorted(rt: &HostRuntime) -> io::Result<()> {
+fn show_sorted(shown: &mut Shown) {
     let mut entries = [
         of(2, ActorId::Device(0)),
         of(1, ActorId::Hart(1)),
@@ -36,13 +37,12 @@ fn print_sorted(rt: &HostRuntime) -> io::Result<()> {
     ];
     sort_all(&mut entries);
     for entry in &entries {
-        show(rt, "sorted", entry)?;
+        shown.show("sorted", entry);
     }
-    Ok(())
 }
 
 // A history that agrees, and one that is torn where an entry is lost.
-fn print_compared(rt: &HostRuntime) -> io::Result<()> {
+fn show_compared(alloc: Global, shown: &mut Shown) -> Result<(), AllocError> {
     let layout = Layout { pages: 1, ports: 0 };
     let page = PlaceId::Page(0);
     let a = entry(1, ActorId::Hart(0), page);
@@ -51,12 +51,13 @@ fn print_compared(rt: &HostRuntime) -> io::Result<()> {
     let kept = [History {
         lock: page,
         kept: page,
-        entries: [a, c].to_vec(rt.alloc())?,
+        entries: [a, c].to_vec(alloc)?,
     }];
     let whole = compare(&[a, out, c], &kept, layout, &mut [7]);
-    show(rt, "compare: all entries", &whole)?;
+    shown.show("compare: all entries", &whole);
     let lost = compare(&[a, out], &kept, layout, &mut [7]);
-    show(rt, "compare: one is lost", &lost)
+    shown.show("compare: one is lost", &lost);
+    Ok(())
 }
 
 // Nothing that is acted on, and nobody that acts.
@@ -107,11 +108,11 @@ impl Actor for Nobody {
 }
 
 // The laws hold at a place and an actor.
-fn print_laws(rt: &HostRuntime) -> io::Result<()> {
+fn show_laws(shown: &mut Shown) {
     one_order::<Nothing, Nobody>();
     agreed_order::<Nothing, Nobody>();
     one_clock();
     let mut nobody = Nobody;
     nobody.give(Nothing.act(ActorId::Timer, &nobody.want()));
-    show(rt, "laws: nobody wants", &nobody.want())
+    shown.show("laws: nobody wants", &nobody.want());
 }

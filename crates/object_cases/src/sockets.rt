@@ -1,96 +1,108 @@
 // A socket, and a connection over it.
-use crate::showing::{found, show, text_of};
+use crate::showing::{Shown, found, text_of};
 use host_real::{SocketConn, SocketListener};
-use serve_host::{Accepted, Conn, Got, Listener, put_all};
+use serve_host::{Accepted, Conn, Listener, put_all};
 use std::io::{Read, Write};
 use std::os::unix::net::{UnixListener, UnixStream};
 use std::{fs, io};
 
 const NAME: &str = "socket";
 
-pub fn print(rt: &HostRuntime) -> io::Result<()> {
-    print_pair(rt)?;
+pub fn show(rt: &HostRuntime, shown: &mut Shown) -> io::Result<()> {
+    show_pair(rt, shown)?;
     // A socket is left there, where nobody listens.
-    let left = UnixListener::bind(rt, NAME)?;
-    drop(left);
-    print_taken_over(rt)?;
-    show(rt, "socket: stands at the end", &fs::exists(rt, NAME)?)
+    drop(UnixListener::bind(rt, NAME)?);
+    show_taken_over(rt, &mut SocketListener::new(rt), shown)?;
+    shown.show("socket: stands at the end", &fs::exists(rt, NAME)?);
+    Ok(())
 }
 
-fn print_pair(rt: &HostRuntime) -> io::Result<()> {
-    let (mut client, server) = UnixStream::pair(rt)?;
+fn show_pair(rt: &HostRuntime, shown: &mut Shown) -> io::Result<()> {
+    let (client, server) = UnixStream::pair(rt)?;
     let mut conn = SocketConn::new(server)?;
-    print_both_ways(rt, &mut client, &mut conn)?;
-    drop(client);
-    print_read(rt, &mut conn)?;
-    show(rt, "socket: failed", &conn.faults())?;
-    let more = conn.write(b"more");
-    show(
-        rt,
-        "socket: write after the end, failed",
-        &(more, conn.faults()),
-    )
+    show_both_ways(client, &mut conn, shown)?;
+    show_end(&mut conn, shown);
+    Ok(())
 }
 
-fn print_both_ways<C: Read + Write>(
-    rt: &HostRuntime,
-    client: &mut C,
+// The other end is closed then.
+fn show_both_ways<C: Read + Write + Drop>(
+    mut client: C,
     conn: &mut SocketConn,
+    shown: &mut Shown,
 ) -> io::Result<()> {
-    print_read(rt, conn)?;
+    show_read(conn, shown);
     client.write_all(b"ask")?;
-    show(rt, "socket: read of nothing", &conn.read(&mut []))?;
-    print_read(rt, conn)?;
-    show(rt, "socket: put", &put_all(conn, b"told"))?;
+    shown.show("socket: read of nothing", &conn.read(&mut []));
+    show_read(conn, shown);
+    shown.show("socket: put", &put_all(conn, b"told"));
     let mut buf = [0; 4];
     let count = client.read(&mut buf)?;
-    println!(rt;
-        "socket: the other end reads => {count} {:?}",
-        text_of(&buf)
-    )
+    shown.show_two("socket: the other end reads", &count, &text_of(&buf));
+    Ok(())
 }
 
-// What a read gives, what a buffer has then, and how many calls have failed.
-fn print_read<C: Conn>(rt: &HostRuntime, conn: &mut C) -> io::Result<()> {
+fn show_end(conn: &mut SocketConn, shown: &mut Shown) {
+    show_read(conn, shown);
+    shown.show("socket: failed", &conn.faults());
+    let more = conn.write(b"more");
+    shown.show(
+        "socket: write after the end, failed",
+        &(more, conn.faults()),
+    );
+}
+
+// What a read gives, and what a buffer has then.
+fn show_read(conn: &mut SocketConn, shown: &mut Shown) {
     let mut buf = [0; 4];
     let got = conn.read(&mut buf);
-    println!(rt; "socket: read => {got:?} {:?}", text_of(&buf))
+    shown.show_two("socket: read", &got, &text_of(&buf));
 }
 
-fn print_taken_over(rt: &HostRuntime) -> io::Result<()> {
-    let mut listener = SocketListener::new(rt);
-    show(rt, "socket: accept", &found(&listener.accept()))?;
-    show(rt, "socket: listen", &listener.listen(NAME))?;
-    show(rt, "socket: accept", &found(&listener.accept()))?;
-    print_client(rt, &mut listener)?;
-    let mut other = SocketListener::new(rt);
-    let second = other.listen(NAME);
-    show(
-        rt,
-        "socket: a second listens, failed",
-        &(second, other.faults()),
-    )?;
-    show(rt, "socket: the first failed", &listener.faults())?;
-    show(rt, "socket: stands", &fs::exists(rt, NAME)?)
-}
-
-// A client that connects, says a byte, and is ended.
-fn print_client(
+fn show_taken_over(
     rt: &HostRuntime,
     listener: &mut SocketListener<'_, HostRuntime>,
+    shown: &mut Shown,
 ) -> io::Result<()> {
-    let mut client = UnixStream::connect(rt, NAME)?;
+    shown.show("socket: accept", &found(&listener.accept()));
+    shown.show("socket: listen", &listener.listen(NAME));
+    shown.show("socket: accept", &found(&listener.accept()));
+    show_client(UnixStream::connect(rt, NAME)?, listener, shown)?;
+    show_second(&mut SocketListener::new(rt), shown);
+    shown.show("socket: the first failed", &listener.faults());
+    shown.show("socket: stands", &fs::exists(rt, NAME)?);
+    Ok(())
+}
+
+fn show_second(other: &mut SocketListener<'_, HostRuntime>, shown: &mut Shown) {
+    let second = other.listen(NAME);
+    shown.show(
+        "socket: a second listens, failed",
+        &(second, other.faults()),
+    );
+}
+
+// A client that is connected says a byte, and is ended.
+fn show_client<C: Read + Write + Drop>(
+    mut client: C,
+    listener: &mut SocketListener<'_, HostRuntime>,
+    shown: &mut Shown,
+) -> io::Result<()> {
     client.write_all(b"a")?;
+    show_accepted(listener, shown);
+    shown.show("socket: the client reads", &client.read(&mut [0; 2])?);
+    Ok(())
+}
+
+fn show_accepted(listener: &mut SocketListener<'_, HostRuntime>, shown: &mut Shown) {
     match listener.accept() {
         Ok(Accepted::Conn(conn)) => {
             let mut conn = sendable(conn);
-            let read = conn.read(&mut [0; 2]);
+            shown.show("socket: of a client", &conn.read(&mut [0; 2]));
             listener.end(conn);
-            show(rt, "socket: of a client", &read)?;
         }
-        _ => show(rt, "socket: no client", &Got::NotYet)?,
+        _ => shown.text("socket: no client\n"),
     }
-    show(rt, "socket: the client reads", &client.read(&mut [0; 2])?)
 }
 
 // A reader in another thread can have it.

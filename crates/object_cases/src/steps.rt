@@ -1,7 +1,7 @@
 // A file that gives or takes less at a time than it was asked to, or that a signal cuts off.
 ghost use Rattle.std.specs.Prelude.{◌≤◌, IfOk};
 
-use crate::showing::text_of;
+use crate::showing::{Shown, text_of};
 use outside_real::tries::{fill, flush, write_whole};
 use std::io;
 use std::io::{ErrorKind, Read, Write};
@@ -95,14 +95,25 @@ const CASES: [Case<'_>; 11] = [
     (Call::Flush, &[Step::Fail]),
 ];
 
-/// Prints of each call whether it is done, how many bytes have passed, and which.
-pub fn print(rt: &HostRuntime) -> io::Result<()> {
+/// Of each call whether it is done, how many bytes have passed, and which.
+pub fn show(shown: &mut Shown) {
     for (call, steps) in &CASES {
-        let (is_done, passed, bytes) = answer(*call, steps);
-        let bytes = text_of(&bytes[..passed.min(4)]);
-        println!(rt; "{call:?} {steps:?} => {is_done} {passed} {bytes:?}")?;
+        shown.value(call);
+        shown.text(" ");
+        shown.value(steps);
+        show_answer(*call, steps, shown);
     }
-    Ok(())
+}
+
+fn show_answer(call: Call, steps: &[Step], shown: &mut Shown) {
+    let (is_done, passed, bytes) = answer(call, steps);
+    shown.text(" => ");
+    shown.value(&is_done);
+    shown.text(" ");
+    shown.value(&passed);
+    shown.text(" ");
+    shown.value(&text_of(&bytes[..passed.min(4)]));
+    shown.text("\n");
 }
 
 fn answer(call: Call, steps: &[Step]) -> (bool, usize, [u8; 4]) {

@@ -1,6 +1,7 @@
 // A trace in a file, a disk in a file, random words and the system's clock.
+use crate::devices::show_part;
 use crate::lists::added;
-use crate::showing::{alike, part_of, show, text_of};
+use crate::showing::{Shown, alike, part_of, text_of};
 use host_real::{DiskFiles, RandomWords, SystemClock, TraceFile};
 use script_text::Item;
 use serve_host::{Trace, Words};
@@ -8,41 +9,33 @@ use std::{fs, io};
 use vm_host::{Clock, Disk};
 use vm_types::ActorId;
 
-pub fn print(rt: &HostRuntime) -> io::Result<()> {
-    print_trace(rt)?;
-    print_next(rt)?;
-    print_full(rt)?;
+pub fn show(rt: &HostRuntime, shown: &mut Shown) -> io::Result<()> {
+    show_trace(rt, shown)?;
+    show_next(rt, &mut TraceFile::new(rt), shown)?;
+    show_full(&mut TraceFile::new(rt), shown);
     fs::remove_file(rt, "trace")?;
-    fs::write(rt, "disk", [7; 1024].as_slice())?;
-    print_disk(rt, &mut DiskFiles::new(rt))?;
-    print_attached(rt, &mut DiskFiles::new(rt))?;
-    print_written(rt)?;
-    fs::remove_file(rt, "disk")?;
-    let mut words = RandomWords::new(rt);
-    let is_other = words.next() != words.next();
-    show(
-        rt,
-        "random words: differ, failed",
-        &(is_other, words.faults()),
-    )?;
-    show(rt, "system clock: later", &is_later(rt))
+    show_disks(rt, shown)?;
+    show_words(&mut RandomWords::new(rt), shown);
+    shown.show("system clock: later", &is_later(rt));
+    Ok(())
 }
 
-fn print_trace(rt: &HostRuntime) -> io::Result<()> {
+fn show_trace(rt: &HostRuntime, shown: &mut Shown) -> io::Result<()> {
     let mut trace = TraceFile::new(rt);
-    print_added(rt, &mut trace)?;
-    print_lines(rt)?;
+    show_added(&mut trace, shown);
+    let held = show_lines(rt, shown);
     drop(trace);
-    print_lines(rt)
+    held?;
+    show_lines(rt, shown)
 }
 
-fn print_added(rt: &HostRuntime, trace: &mut TraceFile<'_, HostRuntime>) -> io::Result<()> {
-    show(rt, "trace file: add", &added(trace, Item::Console))?;
-    show(rt, "trace file: finish", &trace.finish())?;
-    show(rt, "trace file: open", &trace.open("trace"))?;
-    show(rt, "trace file: add", &added(trace, Item::Connect))?;
+fn show_added(trace: &mut TraceFile<'_, HostRuntime>, shown: &mut Shown) {
+    shown.show("trace file: add", &added(trace, Item::Console));
+    shown.show("trace file: finish", &trace.finish());
+    shown.show("trace file: open", &trace.open("trace"));
+    shown.show("trace file: add", &added(trace, Item::Connect));
     let last = added(trace, step());
-    show(rt, "trace file: add, failed", &(last, trace.faults()))
+    shown.show("trace file: add, failed", &(last, trace.faults()));
 }
 
 fn step() -> Item {
@@ -53,79 +46,93 @@ fn step() -> Item {
 }
 
 // A line is held back; it is written where the trace is finished, and where another one is opened.
-fn print_next(rt: &HostRuntime) -> io::Result<()> {
-    let mut trace = TraceFile::new(rt);
-    show(rt, "next trace: open", &trace.open("trace"))?;
-    show(rt, "next trace: add", &added(&mut trace, step()))?;
-    show(rt, "next trace: finish", &trace.finish())?;
-    print_lines(rt)?;
-    show(rt, "next trace: add", &added(&mut trace, step()))?;
-    show(rt, "next trace: open", &trace.open("/dev/null"))?;
-    print_lines(rt)
+fn show_next(
+    rt: &HostRuntime,
+    trace: &mut TraceFile<'_, HostRuntime>,
+    shown: &mut Shown,
+) -> io::Result<()> {
+    shown.show("next trace: open", &trace.open("trace"));
+    shown.show("next trace: add", &added(trace, step()));
+    shown.show("next trace: finish", &trace.finish());
+    show_lines(rt, shown)?;
+    shown.show("next trace: add", &added(trace, step()));
+    shown.show("next trace: open", &trace.open("/dev/null"));
+    show_lines(rt, shown)
 }
 
 // What can't be written is told once, and isn't tried again.
-fn print_full(rt: &HostRuntime) -> io::Result<()> {
-    let mut trace = TraceFile::new(rt);
-    show(rt, "trace on a full disk: open", &trace.open("/dev/full"))?;
-    show(rt, "trace on a full disk: add", &added(&mut trace, step()))?;
-    print_finished(rt, &mut trace)?;
-    print_finished(rt, &mut trace)?;
-    show(rt, "trace on a full disk: add", &added(&mut trace, step()))?;
-    let shown = added(&mut trace, Item::Console);
-    show(rt, "trace on a full disk: add", &shown)?;
-    print_finished(rt, &mut trace)?;
-    show(rt, "trace on a full disk: add", &added(&mut trace, step()))?;
-    let other = trace.open("trace");
-    show(rt, "trace on a full disk: open", &other)?;
-    print_finished(rt, &mut trace)
+fn show_full(trace: &mut TraceFile<'_, HostRuntime>, shown: &mut Shown) {
+    shown.show("trace on a full disk: open", &trace.open("/dev/full"));
+    show_full_add(trace, step(), shown);
+    show_finished(trace, shown);
+    show_finished(trace, shown);
+    show_full_add(trace, step(), shown);
+    show_full_add(trace, Item::Console, shown);
+    show_finished(trace, shown);
+    show_full_add(trace, step(), shown);
+    shown.show("trace on a full disk: open", &trace.open("trace"));
+    show_finished(trace, shown);
 }
 
-fn print_finished(rt: &HostRuntime, trace: &mut TraceFile<'_, HostRuntime>) -> io::Result<()> {
+fn show_full_add(trace: &mut TraceFile<'_, HostRuntime>, item: Item, shown: &mut Shown) {
+    shown.show("trace on a full disk: add", &added(trace, item));
+}
+
+fn show_finished(trace: &mut TraceFile<'_, HostRuntime>, shown: &mut Shown) {
     let done = trace.finish();
-    show(
-        rt,
+    shown.show(
         "trace on a full disk: finish, failed",
         &(done, trace.faults()),
-    )
+    );
 }
 
-fn print_lines(rt: &HostRuntime) -> io::Result<()> {
+fn show_lines(rt: &HostRuntime, shown: &mut Shown) -> io::Result<()> {
     let lines = fs::read(rt, "trace")?;
-    show(rt, "trace file: holds", &text_of(&lines))
-}
-
-fn print_disk(rt: &HostRuntime, disk: &mut DiskFiles<'_, HostRuntime>) -> io::Result<()> {
-    print_part(rt, disk, (3, 0, 0))?;
-    disk.attach(3, "disk");
-    show(rt, "disk file: write", &disk.write(3, 1, 2, &[9; 64]))?;
-    show(rt, "disk file: flush", &disk.flush(3))?;
-    for part in [(3, 1, 1), (3, 1, 2), (3, 2, 0), (4, 0, 0), (3, u64::MAX, 7)] {
-        print_part(rt, disk, part)?;
-    }
-    show(rt, "disk file: failed", &disk.faults())
-}
-
-// The same name again, one of no file, and the first again.
-fn print_attached(rt: &HostRuntime, disk: &mut DiskFiles<'_, HostRuntime>) -> io::Result<()> {
-    for name in ["disk", "disk", "none", "disk", ""] {
-        disk.attach(2, name);
-        let read = part_of(disk.read(2, 1, 2));
-        println!(rt; "disk file: attached {name:?} => {read:?}")?;
-    }
+    shown.show("trace file: holds", &text_of(&lines));
     Ok(())
 }
 
-// A device, a sector, and a part of it.
-fn print_part<D: Disk>(rt: &HostRuntime, disk: &mut D, at: (u8, u64, u8)) -> io::Result<()> {
-    let read = part_of(disk.read(at.0, at.1, at.2));
-    println!(rt; "disk file: read {at:?} => {read:?}")
+fn show_disks(rt: &HostRuntime, shown: &mut Shown) -> io::Result<()> {
+    fs::write(rt, "disk", [7; 1024].as_slice())?;
+    show_disk(&mut DiskFiles::new(rt), shown);
+    show_attached(&mut DiskFiles::new(rt), shown);
+    show_written(rt, shown)?;
+    fs::remove_file(rt, "disk")
 }
 
-fn print_written(rt: &HostRuntime) -> io::Result<()> {
+fn show_disk(disk: &mut DiskFiles<'_, HostRuntime>, shown: &mut Shown) {
+    show_part("disk file: read (3, 0, 0)", disk, (3, 0, 0), shown);
+    disk.attach(3, "disk");
+    shown.show("disk file: write", &disk.write(3, 1, 2, &[9; 64]));
+    shown.show("disk file: flush", &disk.flush(3));
+    for part in [(3, 1, 1), (3, 1, 2), (3, 2, 0), (4, 0, 0), (3, u64::MAX, 7)] {
+        shown.text("disk file: read ");
+        shown.value(&part);
+        show_part("", disk, part, shown);
+    }
+    shown.show("disk file: failed", &disk.faults());
+}
+
+// The same name again, one of no file, and the first again.
+fn show_attached(disk: &mut DiskFiles<'_, HostRuntime>, shown: &mut Shown) {
+    for name in ["disk", "disk", "none", "disk", ""] {
+        shown.text("disk file: attached ");
+        shown.value(&name);
+        disk.attach(2, name);
+        shown.show("", &part_of(disk.read(2, 1, 2)));
+    }
+}
+
+fn show_written(rt: &HostRuntime, shown: &mut Shown) -> io::Result<()> {
     let bytes = fs::read(rt, "disk")?;
     let part = bytes.get(640..704).unwrap_or(&[]);
-    show(rt, "disk file: holds", &alike(part))
+    shown.show("disk file: holds", &alike(part));
+    Ok(())
+}
+
+fn show_words(words: &mut RandomWords<'_, HostRuntime>, shown: &mut Shown) {
+    let is_other = words.next() != words.next();
+    shown.show("random words: differ, failed", &(is_other, words.faults()));
 }
 
 fn is_later(rt: &HostRuntime) -> bool {

@@ -1,34 +1,27 @@
 // Reading from a file, and writing to a file and to a full disk, each through a buffer.
-use crate::showing::{show, text_of};
+use crate::showing::{Shown, text_of};
 use outside_real::{Reading, Writing};
 use std::fs::{File, OpenOptions};
 use std::io::BufWriter;
 use std::{fs, io};
 use vm_outside::{Failed, Sink, Source};
 
-pub fn print(rt: &HostRuntime) -> io::Result<()> {
-    print_read(rt)?;
+pub fn show(rt: &HostRuntime, shown: &mut Shown) -> io::Result<()> {
+    show_reads(&mut Reading::new(File::open(rt, "read")?), shown);
     let written = written(rt, File::create(rt, "written")?)?;
-    show(rt, "writing: taken, failed", &written)?;
-    let bytes = fs::read(rt, "written")?;
-    show(rt, "writing: the file", &text_of(&bytes))?;
+    shown.show("writing: taken, failed", &written);
+    show_written(rt, shown)?;
     fs::remove_file(rt, "written")?;
-    print_full(rt)
+    show_full(rt, shown)
 }
 
 // What each read gives, what the buffer has then, and how many calls have failed.
-fn print_read(rt: &HostRuntime) -> io::Result<()> {
-    let mut source = Reading::new(File::open(rt, "read")?);
+fn show_reads(source: &mut Reading<File>, shown: &mut Shown) {
     let mut buf = [0; 3];
     for _ in 0..3 {
         let read = source.read(&mut buf);
-        println!(rt;
-            "reading => {read:?} {:?} {}",
-            text_of(&buf),
-            source.faults()
-        )?;
+        shown.show_bytes("reading", &read, &buf, source.faults());
     }
-    Ok(())
 }
 
 fn written<F: io::Write + Drop>(
@@ -40,11 +33,15 @@ fn written<F: io::Write + Drop>(
     Ok((taken, sink.faults()))
 }
 
-fn print_full(rt: &HostRuntime) -> io::Result<()> {
+fn show_written(rt: &HostRuntime, shown: &mut Shown) -> io::Result<()> {
+    let bytes = fs::read(rt, "written")?;
+    shown.show("writing: the file", &text_of(&bytes));
+    Ok(())
+}
+
+fn show_full(rt: &HostRuntime, shown: &mut Shown) -> io::Result<()> {
     let full = OpenOptions::new().write(true).open(rt, "/dev/full")?;
-    show(
-        rt,
-        "writing to a full disk: taken, failed",
-        &written(rt, full)?,
-    )
+    let written = written(rt, full)?;
+    shown.show("writing to a full disk: taken, failed", &written);
+    Ok(())
 }
