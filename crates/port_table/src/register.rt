@@ -3,7 +3,7 @@ ghost use Rattle.std.specs.Prelude.{◌≡◌};
 ghost use Rattle.port_table.specs.Registers as registers;
 
 /// A register of a port by its name (VIRTIO 1.2, 4.2.2).
-#[derive(Clone, Copy, Debug, Drop)]
+#[derive(Clone, Copy, Drop)]
 pub enum Register {
     MagicValue,
     Version,
