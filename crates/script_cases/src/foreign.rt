@@ -12,7 +12,7 @@ use vm_outside::{Failed, Files};
 #[derive(Drop)]
 struct LongFile {
     size: u64,
-    start: [u8; 16],
+    start: &'static [u8; 16],
     reads: u64,
     most: usize,
 }
@@ -59,24 +59,24 @@ impl Files for LongFile {
 // As of a file with a hole: more than there is memory for.
 const HUGE: u64 = 0x1000_0000_0000_0000;
 
-const ROWS: [(&str, u64, [u8; 16]); 5] = [
-    ("zeros", HUGE, *b"\0\0\0\0\0\0\0\0\0\0\0\0\0\0\0\0"),
-    ("another magic", HUGE, *b"\x01disk image here"),
+const ROWS: [(&str, u64, &[u8; 16]); 5] = [
+    ("zeros", HUGE, b"\0\0\0\0\0\0\0\0\0\0\0\0\0\0\0\0"),
+    ("another magic", HUGE, b"\x01disk image here"),
     (
         "another version",
         HUGE,
-        *b"\x01RVFCSTA\x02\0\0\0\xe0\xff\xff\xff",
+        b"\x01RVFCSTA\x02\0\0\0\xe0\xff\xff\xff",
     ),
     (
         "another length",
         HUGE,
-        *b"\x01RVFCSTA\x01\0\0\0\xe0\xff\xff\xff",
+        b"\x01RVFCSTA\x01\0\0\0\xe0\xff\xff\xff",
     ),
     // Its header says its length, 2^32, which no state file has.
     (
         "its own length",
         0x1_0000_0000,
-        *b"\x01RVFCSTA\x01\0\0\0\xe0\xff\xff\xff",
+        b"\x01RVFCSTA\x01\0\0\0\xe0\xff\xff\xff",
     ),
 ];
 
@@ -110,11 +110,11 @@ fn with_of(alloc: Global, files: LongFile) -> Result<With, AllocError> {
 fn load_and_print<R: Print + AllocGlobal>(rt: &R, name: &str, with: &mut With) -> io::Result<()> {
     let words = words_of(rt.alloc(), "replay")?;
     let exit = replay_main(rt.alloc(), &words, with);
-    let most = with.files.most;
-    let reads = with.files.reads;
     println!(rt;
-        "a file of {name}: status {}, {:?}, most bytes read at once {most}, reads {reads}",
+        "a file of {name}: status {}, {:?}, most bytes read at once {}, reads {}",
         exit.status(),
-        text_of(with.sink.taken())
+        text_of(with.sink.taken()),
+        with.files.most,
+        with.files.reads
     )
 }
