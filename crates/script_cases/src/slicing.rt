@@ -96,10 +96,12 @@ pub fn print<R: Threads + Wait + Print + AllocGlobal + Sync>(rt: &R) -> io::Resu
 }
 
 fn print_row<R: Threads + Wait + Print + AllocGlobal + Sync>(rt: &R, row: &Row) -> io::Result<()> {
-    let (flag, mut passes) = FlagGate::new(rt.alloc(), 3)?;
+    let alloc = rt.alloc();
+    let (flag, mut passes) = FlagGate::new(alloc, 3)?;
     let gate = gate_of(flag, row);
-    let mut running = running_of(rt.alloc(), row, &gate)?;
-    run_and_print(rt, row.name, &mut running, &gate, &mut passes)
+    let mut machine = machine_of(alloc, row.image, row.made)?;
+    let mut player = player_of(alloc, row, &gate)?;
+    run_and_print(rt, row, &mut machine, &mut player, &gate, &mut passes)
 }
 
 // Closed from the start where no item is to come.
@@ -121,82 +123,45 @@ fn party(hart: u8, page: u32) -> Party {
     Party::of(ActorId::Hart(hart), PlaceId::Page(page))
 }
 
-/// A machine, what it is handed while it runs, and the trace that plays it.
-#[derive(Drop)]
-struct Running<'a> {
-    machine: LiveMachine,
-    host: Host<MemoryDisk, (), (), Ticks>,
-    sink: MemorySink,
-    player: Player<'a>,
-}
-
-fn running_of<'a>(alloc: Global, row: &Row, gate: &'a HoldGate) -> Result<Running<'a>, AllocError> {
-    let sink_fails = Failing::new(row.sink_fails.to_vec(alloc)?);
-    let player = player_of(alloc, row, gate)?;
-    let machine = machine_of(alloc, row.image, row.made)?;
-    Ok(Running {
-        machine,
-        host: host_of(alloc),
-        sink: MemorySink::new(alloc, usize::MAX, sink_fails),
-        player,
-    })
-}
-
 fn player_of<'a>(alloc: Global, row: &Row, gate: &'a HoldGate) -> Result<Player<'a>, AllocError> {
-    let fails = Failing::new(row.trace_fails.to_vec(alloc)?);
     let machine = machine_of(alloc, row.image, row.made)?;
+    let fails = Failing::new(row.trace_fails.to_vec(alloc)?);
     Ok(Player::new(alloc, machine, row.left, gate, fails))
-}
-
-// Without a disk.
-fn host_of(alloc: Global) -> Host<MemoryDisk, (), (), Ticks> {
-    Host {
-        disk: MemoryDisk::new(Vec::new(alloc), Failing::new(Vec::new(alloc))),
-        link: (),
-        vsock: (),
-        clock: Ticks::new(100),
-    }
 }
 
 fn run_and_print<R: Threads + Wait + Print + AllocGlobal + Sync>(
     rt: &R,
-    name: &str,
-    running: &mut Running<'_>,
+    row: &Row,
+    machine: &mut LiveMachine,
+    player: &mut Player<'_>,
     gate: &HoldGate,
     passes: &mut Vec<Pass>,
 ) -> io::Result<()>
     requires some { 0 < length passes.old.items }
     requires serve { All (λ pass. pass.0 ≡ gate.now.flag) passes.old.items }
 {
-    let end = run(rt, running, gate, passes);
-    println!(rt; "{name}: slices end => {end}")?;
-    println!(rt; "{name}: the meeting => {:?}", gate.meeting())?;
-    print_running(rt, name, running)?;
-    print_player(rt, name, running)
-}
-
-// Slices of 64 steps, and why they end.
-fn run<R: Threads + Wait + AllocGlobal + Sync>(
-    rt: &R,
-    running: &mut Running<'_>,
-    gate: &HoldGate,
-    passes: &mut Vec<Pass>,
-) -> &'static str
-    requires some { 0 < length passes.old.items }
-    requires serve { All (λ pass. pass.0 ≡ gate.now.flag) passes.old.items }
-{
+    let alloc = rt.alloc();
+    let mut host = Host {
+        disk: MemoryDisk::new(Vec::new(alloc), Failing::new(Vec::new(alloc))),
+        link: (),
+        vsock: (),
+        clock: Ticks::new(100),
+    };
+    let fails = Failing::new(row.sink_fails.to_vec(alloc)?);
+    let mut sink = MemorySink::new(alloc, usize::MAX, fails);
     let ran = run_while(
-        rt,
-        rt.alloc(),
-        &mut running.machine,
-        &mut running.host,
-        gate,
-        passes,
-        64,
-        &mut running.player,
-        &mut running.sink,
+        rt, alloc, machine, &mut host, gate, passes, 64, player, &mut sink,
     );
-    end_of(&ran)
+    println!(rt; "{}: slices end => {}", row.name, end_of(&ran))?;
+    println!(rt; "{}: the meeting => {:?}", row.name, gate.meeting())?;
+    let untold = host.clock.asked().wrapping_sub(player.moments());
+    println!(rt; "{}: moments that were not told => {untold}", row.name)?;
+    println!(rt;
+        "{}: the sink took => {:?}",
+        row.name,
+        text_of(sink.taken())
+    )?;
+    print_player(rt, row.name, machine, player)
 }
 
 fn end_of(ran: &Ran) -> &'static str {
@@ -210,23 +175,17 @@ fn end_of(ran: &Ran) -> &'static str {
     }
 }
 
-fn print_running<R: Print>(rt: &R, name: &str, running: &Running<'_>) -> io::Result<()> {
-    let asked = running.host.clock.asked();
-    let untold = asked.wrapping_sub(running.player.moments());
-    println!(rt; "{name}: moments that were not told => {untold}")?;
-    println!(rt;
-        "{name}: the sink took => {:?}",
-        text_of(running.sink.taken())
-    )?;
+fn print_player<R: Print>(
+    rt: &R,
+    name: &str,
+    machine: &mut LiveMachine,
+    player: &mut Player<'_>,
+) -> io::Result<()> {
     println!(rt;
         "{name}: the player answered => {:?}",
-        text_of(running.player.answered())
-    )
-}
-
-fn print_player<R: Print>(rt: &R, name: &str, running: &mut Running<'_>) -> io::Result<()> {
-    let world = running.machine.take_running();
-    match (world, running.player.machine.take_running()) {
+        text_of(player.answered())
+    )?;
+    match (machine.take_running(), player.machine.take_running()) {
         (Some(world), Some(other)) => print_worlds(rt, name, &world, &other),
         _ => println!(rt; "{name}: a machine has no world"),
     }
