@@ -13,6 +13,8 @@ mod devices;
 mod ran;
 mod running;
 mod telling;
+#[cfg(test)]
+mod tests;
 mod waiting;
 
 pub use devices::run_devices;

@@ -8,5 +8,7 @@
 
 mod finding;
 mod judging;
+#[cfg(test)]
+mod tests;
 
 pub use finding::{FindError, FoundSnapshot, find};
