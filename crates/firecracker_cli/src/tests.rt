@@ -180,7 +180,7 @@ fn is_served<R: Threads + Wait + Sync>(rt: &R, alloc: Global, with: &mut With) -
     };
     let mut sink = sink(alloc);
     let exit = serve_main(rt, alloc, WORDS, 64, &mut files, &mut sink, with);
-    exit == Exit::Done && sink.taken() == b"D. off\n".as_slice()
+    matches!(exit, Exit::Done) && sink.taken() == b"D. off\n".as_slice()
 }
 
 // The script that the items are.
@@ -203,7 +203,7 @@ fn is_replayed(alloc: Global, script: Vec<u8>, words: &[String]) -> bool {
         files,
     };
     let exit = replay_main(alloc, words, &mut out);
-    exit == Exit::Done && out.sink.taken() == REPLAYED
+    matches!(exit, Exit::Done) && out.sink.taken() == REPLAYED
 }
 
 #[test]

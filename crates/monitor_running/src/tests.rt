@@ -139,7 +139,8 @@ fn machine_of(alloc: Global, image: &[u8]) -> Result<LiveMachine, Fail> {
         tree: &[],
     };
     let mut machine = LiveMachine::new(alloc, TextList::copy_of(alloc, "two harts")?);
-    machine.put_guest(World::start(alloc, 2, 4, &loads, &[])?);
+    let world = World::start(alloc, 2, 4, &loads, &[]).map_err(|_| AllocError)?;
+    machine.put_guest(world);
     Ok(machine)
 }
 
@@ -242,6 +243,6 @@ fn two_harts_meet_while_they_run(rt: HostRuntime) -> Result<(), Fail> {
         gate: &gate,
     };
     assert!(rt; runs_and_plays(&rt, alloc, &mut machine, &mut player, &gate, &mut passes)?);
-    assert_eq!(rt; gate.meeting(), Some(Meeting::Met));
+    assert!(rt; matches!(gate.meeting(), Some(Meeting::Met)));
     Ok(())
 }
