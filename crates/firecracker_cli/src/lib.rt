@@ -8,8 +8,6 @@
 mod closing;
 mod outside;
 mod serving;
-#[cfg(test)]
-mod tests;
 mod top;
 
 pub use outside::ServeOutside;

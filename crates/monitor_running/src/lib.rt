@@ -13,8 +13,6 @@ mod devices;
 mod ran;
 mod running;
 mod telling;
-#[cfg(test)]
-mod tests;
 mod waiting;
 
 pub use devices::run_devices;

@@ -6,18 +6,34 @@
 //! program finds the cases where it runs, and prints a line for each. Its status is 1 where a case differs, and 2 where
 //! one can't be read.
 //!
-//! Before them it shows how the objects in memory cut bytes into pieces.
+//! Before them stand lines of what no contract says: that slices of a guest are made and end, and that a machine which plays
+//! their trace on one thread stands as they left theirs (`slicing`); that a guest which is served over objects in memory
+//! comes to its end, that the replay of its trace answers the same, and which object is named where a call of it fails
+//! (`serving`, `flushing`); how much of a file that is no state file a load reads (`foreign`); and how the objects in memory
+//! cut bytes into pieces. None of them depends on the schedule.
 //!
-//! Read `given` and `case`, what a case says; then `replaying`, and `difference` for what is compared.
+//! Read `given` and `case`, what a case says; then `replaying`, and `difference` for what is compared. Of what is served read
+//! `sessions` first.
 #![tactic(auto)]
 
 mod case;
 mod difference;
+mod doors;
+mod flushing;
+mod foreign;
 mod given;
 mod held;
+mod images;
 mod listing;
 mod pieces;
+mod playing;
 mod replaying;
+mod requests;
+mod serving;
+mod sessions;
+mod showing;
+mod slicing;
+mod ticking;
 
 use crate::case::{Case, read_case};
 use crate::difference::difference;
@@ -28,9 +44,11 @@ use anyhow::{Context, Result};
 use std::alloc::Global;
 use std::process::ExitCode;
 use std::rt::Files;
+use std::sync::Wait;
+use std::thread::Threads;
 
 fn main(rt: HostRuntime) -> ExitCode {
-    match replay_all(&rt) {
+    match print_all(&rt) {
         Ok(true) => ExitCode::SUCCESS,
         Ok(false) => ExitCode::FAILURE,
         Err(e) => {
@@ -38,6 +56,16 @@ fn main(rt: HostRuntime) -> ExitCode {
             ExitCode::from(2)
         }
     }
+}
+
+fn print_all<R: Threads + Wait + Files + Print + AllocGlobal + Clone + Drop + Sync>(
+    rt: &R,
+) -> Result<bool> {
+    slicing::print(rt)?;
+    serving::print(rt)?;
+    flushing::print(rt)?;
+    foreign::print(rt)?;
+    replay_all(rt)
 }
 
 // Whether each case comes to what is stored.

@@ -8,7 +8,5 @@
 
 mod finding;
 mod judging;
-#[cfg(test)]
-mod tests;
 
 pub use finding::{FindError, FoundSnapshot, find};

@@ -1,0 +1,172 @@
+// A trace that plays what it takes on a machine of its own.
+use boot_loader::Loads;
+use monitor_machine::LiveMachine;
+use outside_mem::Failing;
+use pause_gate::{Gate, HoldGate};
+use script_text::{HostReply, Item};
+use serve_host::Trace;
+use std::alloc::{AllocError, Global};
+use vm_outside::Failed;
+use vm_types::{ActorId, ByteList, PlaceId, TextList};
+use vm_world::World;
+
+/// Who decides a meeting with itself.
+pub const NOBODY: ActorId = ActorId::Device(0);
+
+/// Plays each item on its machine, and keeps the lines that it answers. After so many items it decides a meeting with
+/// itself, if the gate waits for one: then the gate is closed to whoever asks. It may fail to take the console's item.
+#[derive(Drop)]
+pub struct Player<'a> {
+    pub machine: LiveMachine,
+    answered: ByteList,
+    moments: u64,
+    left: u64,
+    gate: &'a HoldGate,
+    at_the_console: Failing,
+}
+
+impl<'a> Player<'a> {
+    pub fn new(
+        alloc: Global,
+        machine: LiveMachine,
+        left: u64,
+        gate: &'a HoldGate,
+        at_the_console: Failing,
+    ) -> Player<'a> {
+        Player {
+            machine,
+            answered: ByteList::new(alloc),
+            moments: 0,
+            left,
+            gate,
+            at_the_console,
+        }
+    }
+
+    /// The lines that its machine answered.
+    pub fn answered(&self) -> &[u8] {
+        self.answered.as_slice()
+    }
+
+    /// How many moments of the clock it took.
+    pub fn moments(&self) -> u64 {
+        self.moments
+    }
+}
+
+fn is_moment(item: &Item) -> bool {
+    match item {
+        Item::Reply { reply, .. } => matches!(reply, HostReply::Now { .. }),
+        _ => false,
+    }
+}
+
+// The line that the machine answers.
+fn play(machine: &mut LiveMachine, item: &Item) -> Result<ByteList, AllocError> {
+    match item {
+        Item::Step { actor, count } => machine.step(*actor, *count),
+        Item::Reply { actor, reply } => machine.reply(*actor, reply),
+        _ => machine.take_console(),
+    }
+}
+
+fn play_into(
+    machine: &mut LiveMachine,
+    item: &Item,
+    answered: &mut ByteList,
+) -> Result<(), AllocError> {
+    let line = play(machine, item)?;
+    answered.append(line.as_slice())
+}
+
+impl Trace for Player<'_> {
+    ghost use Rattle.std.specs.Prelude.{false, []};
+
+    ghost known = { λ t. record { health = record { tells = false; faults = t.at_the_console }; took = [] } };
+
+    fn open(&mut self, _path: &str) -> Result<(), Failed> {
+        Ok(())
+    }
+
+    fn add(&mut self, item: &Item) -> Result<(), Failed> {
+        if matches!(item, Item::Console) && self.at_the_console.fails() {
+            return Err(Failed);
+        }
+        if play_into(&mut self.machine, item, &mut self.answered).is_err() {
+            self.at_the_console.count();
+            return Err(Failed);
+        }
+        if is_moment(item) {
+            self.moments = self.moments.wrapping_add(1);
+        }
+        self.left = self.left.saturating_sub(1);
+        if self.left == 0 {
+            self.gate.inside(NOBODY, PlaceId::Out);
+        }
+        Ok(())
+    }
+
+    fn finish(&mut self) -> Result<(), Failed> {
+        Ok(())
+    }
+}
+
+/// A machine of two harts and 4 MiB that begins with this image, of which hart 0 has made so many steps.
+pub fn machine_of(alloc: Global, image: &[u8], made: u64) -> Result<LiveMachine, AllocError> {
+    let loads = Loads {
+        image,
+        initrd: None,
+        tree: &[],
+    };
+    let mut machine = LiveMachine::new(alloc, TextList::copy_of(alloc, "two harts")?);
+    let Ok(world) = World::start(alloc, 2, 4, &loads, &[]) else {
+        return Err(AllocError);
+    };
+    machine.put_guest(world);
+    machine.step(ActorId::Hart(0), made)?;
+    Ok(machine)
+}
+
+/// Whether both have the same registers, the same memory and the same console. Where a guest is off its registers may differ:
+/// the slice goes on for the other actors behind that, and a step that is played doesn't.
+pub fn are_alike(one: &World, other: &World) -> bool {
+    one.is_off() == other.is_off()
+        && (one.is_off() || have_same_registers(one, other))
+        && have_same_memory(one, other)
+        && one.console() == other.console()
+}
+
+fn have_same_registers(one: &World, other: &World) -> bool {
+    for hart in 0..2 {
+        for number in 0..33 {
+            if one.reg(hart, number) != other.reg(hart, number) {
+                return false;
+            }
+        }
+    }
+    true
+}
+
+fn have_same_memory(one: &World, other: &World) -> bool {
+    let mut bytes = [0; 4096];
+    let mut others = [0; 4096];
+    for page in 0..1024 {
+        let at = 0x8000_0000 + 4096 * page;
+        if one.read_memory(at, &mut bytes).is_err() || other.read_memory(at, &mut others).is_err() {
+            return false;
+        }
+        if bytes != others {
+            return false;
+        }
+    }
+    true
+}
+
+/// The doubleword there, if it is memory.
+pub fn word_at(world: &World, address: u64) -> Option<u64> {
+    let mut word = [0; 8];
+    match world.read_memory(address, &mut word) {
+        Ok(()) => Some(u64::from_le_bytes(word)),
+        Err(_) => None,
+    }
+}

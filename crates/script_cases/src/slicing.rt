@@ -1,0 +1,238 @@
+// Slices of 64 steps until a gate closes or the guest is off. What a trace has of them is proved; that slices are made and
+// end, and that a machine which plays the trace on one thread stands as they left theirs, is shown here.
+ghost use Rattle.std.specs.Prelude.{◌≡◌, ◌<◌, All, length};
+
+use crate::images::{ADDS_AND_ENDS, ADDS_TO_ONE_WORD, ENDS, GO_THEIR_WAYS, WRITES_AND_ENDS};
+use crate::playing::{NOBODY, Player, are_alike, machine_of, word_at};
+use crate::showing::text_of;
+use crate::ticking::Ticks;
+use host_mem::MemoryDisk;
+use monitor_machine::LiveMachine;
+use monitor_running::{Ran, run_while};
+use outside_mem::{Failing, MemorySink};
+use pause_gate::{FlagGate, Gate, HoldGate, Party, Pass};
+use std::alloc::{AllocError, Global};
+use std::io;
+use std::sync::Wait;
+use std::thread::Threads;
+use vm_host::Host;
+use vm_types::{ActorId, PlaceId};
+use vm_world::World;
+
+/// What runs, and when the gate is closed: after so many items, or when its two parties have met.
+#[derive(Clone, Copy, Drop)]
+struct Row {
+    name: &'static str,
+    image: &'static [u8],
+    made: u64,
+    left: u64,
+    meets: bool,
+    trace_fails: &'static [u64],
+    sink_fails: &'static [u64],
+}
+
+const ROWS: [Row; 6] = [
+    Row {
+        name: "slices of two harts that add",
+        image: &ADDS_TO_ONE_WORD,
+        made: 0,
+        left: 30_000,
+        meets: false,
+        trace_fails: &[],
+        sink_fails: &[],
+    },
+    Row {
+        name: "slices of two harts that meet",
+        image: &GO_THEIR_WAYS,
+        made: 9,
+        left: u64::MAX,
+        meets: true,
+        trace_fails: &[],
+        sink_fails: &[],
+    },
+    Row {
+        name: "slices until the guest is off",
+        image: &ADDS_AND_ENDS,
+        made: 0,
+        left: u64::MAX,
+        meets: false,
+        trace_fails: &[],
+        sink_fails: &[],
+    },
+    Row {
+        name: "slices with a trace that takes no console",
+        image: &WRITES_AND_ENDS,
+        made: 0,
+        left: u64::MAX,
+        meets: false,
+        trace_fails: &[0],
+        sink_fails: &[],
+    },
+    Row {
+        name: "slices with a sink that fails",
+        image: &WRITES_AND_ENDS,
+        made: 0,
+        left: u64::MAX,
+        meets: false,
+        trace_fails: &[],
+        sink_fails: &[0],
+    },
+    Row {
+        name: "slices at a closed gate, the guest off",
+        image: &ENDS,
+        made: 40,
+        left: 0,
+        meets: false,
+        trace_fails: &[],
+        sink_fails: &[],
+    },
+];
+
+pub fn print<R: Threads + Wait + Print + AllocGlobal + Sync>(rt: &R) -> io::Result<()> {
+    for row in ROWS {
+        print_row(rt, &row)?;
+    }
+    Ok(())
+}
+
+fn print_row<R: Threads + Wait + Print + AllocGlobal + Sync>(rt: &R, row: &Row) -> io::Result<()> {
+    let (flag, mut passes) = FlagGate::new(rt.alloc(), 3)?;
+    let gate = gate_of(flag, row);
+    let mut running = running_of(rt.alloc(), row, &gate)?;
+    run_and_print(rt, row.name, &mut running, &gate, &mut passes)
+}
+
+// Closed from the start where no item is to come.
+fn gate_of(flag: FlagGate, row: &Row) -> HoldGate
+    ensures { result.flag ≡ flag }
+{
+    if row.meets {
+        return HoldGate::new(flag, party(0, 7), party(1, 512), 100_000_000);
+    }
+    let nobody = Party::of(NOBODY, PlaceId::Out);
+    let gate = HoldGate::new(flag, nobody, party(0, 7), 0);
+    if row.left == 0 {
+        gate.inside(NOBODY, PlaceId::Out);
+    }
+    gate
+}
+
+fn party(hart: u8, page: u32) -> Party {
+    Party::of(ActorId::Hart(hart), PlaceId::Page(page))
+}
+
+/// A machine, what it is handed while it runs, and the trace that plays it.
+#[derive(Drop)]
+struct Running<'a> {
+    machine: LiveMachine,
+    host: Host<MemoryDisk, (), (), Ticks>,
+    sink: MemorySink,
+    player: Player<'a>,
+}
+
+fn running_of<'a>(alloc: Global, row: &Row, gate: &'a HoldGate) -> Result<Running<'a>, AllocError> {
+    let sink_fails = Failing::new(row.sink_fails.to_vec(alloc)?);
+    let player = player_of(alloc, row, gate)?;
+    let machine = machine_of(alloc, row.image, row.made)?;
+    Ok(Running {
+        machine,
+        host: host_of(alloc),
+        sink: MemorySink::new(alloc, usize::MAX, sink_fails),
+        player,
+    })
+}
+
+fn player_of<'a>(alloc: Global, row: &Row, gate: &'a HoldGate) -> Result<Player<'a>, AllocError> {
+    let fails = Failing::new(row.trace_fails.to_vec(alloc)?);
+    let machine = machine_of(alloc, row.image, row.made)?;
+    Ok(Player::new(alloc, machine, row.left, gate, fails))
+}
+
+// Without a disk.
+fn host_of(alloc: Global) -> Host<MemoryDisk, (), (), Ticks> {
+    Host {
+        disk: MemoryDisk::new(Vec::new(alloc), Failing::new(Vec::new(alloc))),
+        link: (),
+        vsock: (),
+        clock: Ticks::new(100),
+    }
+}
+
+fn run_and_print<R: Threads + Wait + Print + AllocGlobal + Sync>(
+    rt: &R,
+    name: &str,
+    running: &mut Running<'_>,
+    gate: &HoldGate,
+    passes: &mut Vec<Pass>,
+) -> io::Result<()>
+    requires some { 0 < length passes.old.items }
+    requires serve { All (λ pass. pass.0 ≡ gate.now.flag) passes.old.items }
+{
+    let end = run(rt, running, gate, passes);
+    println!(rt; "{name}: slices end => {end}")?;
+    println!(rt; "{name}: the meeting => {:?}", gate.meeting())?;
+    print_running(rt, name, running)?;
+    print_player(rt, name, running)
+}
+
+// Slices of 64 steps, and why they end.
+fn run<R: Threads + Wait + AllocGlobal + Sync>(
+    rt: &R,
+    running: &mut Running<'_>,
+    gate: &HoldGate,
+    passes: &mut Vec<Pass>,
+) -> &'static str
+    requires some { 0 < length passes.old.items }
+    requires serve { All (λ pass. pass.0 ≡ gate.now.flag) passes.old.items }
+{
+    let ran = run_while(
+        rt,
+        rt.alloc(),
+        &mut running.machine,
+        &mut running.host,
+        gate,
+        passes,
+        64,
+        &mut running.player,
+        &mut running.sink,
+    );
+    end_of(&ran)
+}
+
+fn end_of(ran: &Ran) -> &'static str {
+    match ran {
+        Ran::Closed => "closed",
+        Ran::Off => "off",
+        Ran::TraceFailed => "the trace failed",
+        Ran::SinkFailed => "the sink failed",
+        Ran::Torn { .. } => "torn",
+        Ran::OutOfMemory => "no memory",
+    }
+}
+
+fn print_running<R: Print>(rt: &R, name: &str, running: &Running<'_>) -> io::Result<()> {
+    let asked = running.host.clock.asked();
+    let untold = asked.wrapping_sub(running.player.moments());
+    println!(rt; "{name}: moments that were not told => {untold}")?;
+    println!(rt;
+        "{name}: the sink took => {:?}",
+        text_of(running.sink.taken())
+    )?;
+    println!(rt;
+        "{name}: the player answered => {:?}",
+        text_of(running.player.answered())
+    )
+}
+
+fn print_player<R: Print>(rt: &R, name: &str, running: &mut Running<'_>) -> io::Result<()> {
+    let world = running.machine.take_running();
+    match (world, running.player.machine.take_running()) {
+        (Some(world), Some(other)) => print_worlds(rt, name, &world, &other),
+        _ => println!(rt; "{name}: a machine has no world"),
+    }
+}
+
+fn print_worlds<R: Print>(rt: &R, name: &str, world: &World, other: &World) -> io::Result<()> {
+    println!(rt; "{name}: played alike => {}", are_alike(world, other))?;
+    println!(rt; "{name}: the word => {:?}", word_at(world, 0x8021_0018))
+}
