@@ -1,4 +1,4 @@
-// A connection in memory: it comes, speaks and ends. The third call on it fails.
+// Connections in memory: one comes, speaks and ends, and another ends at once. The third call on the first one fails.
 use crate::showing::{Shown, found, text_of};
 use host_mem::{MemoryCaller, MemoryConn, MemoryListener, Past};
 use outside_mem::Failing;
@@ -14,6 +14,7 @@ pub fn show(alloc: Global, shown: &mut Shown) -> Result<(), AllocError> {
 fn listener(alloc: Global) -> Result<MemoryListener, AllocError> {
     let mut callers = VecDeque::new(alloc);
     callers.push_back(caller(alloc)?)?;
+    callers.push_back(silent(alloc))?;
     Ok(MemoryListener::new(alloc, callers, Failing::new(Vec::new(alloc))))
 }
 
@@ -26,11 +27,25 @@ fn caller(alloc: Global) -> Result<MemoryCaller, AllocError> {
     })
 }
 
+// Says nothing.
+fn silent(alloc: Global) -> MemoryCaller {
+    MemoryCaller {
+        bytes: Vec::new(alloc),
+        sizes: Vec::new(alloc),
+        most: 1,
+        failing: Vec::new(alloc),
+    }
+}
+
 fn show_listener(listener: &mut MemoryListener, shown: &mut Shown) {
     shown.show("conn: listen", &listener.listen("s"));
     shown.show("conn: accept", &found(&listener.accept()));
     speak(listener, shown);
     show_past(listener.ended(), shown);
+    shown.show("conn: accept", &found(&listener.accept()));
+    end_next(listener, shown);
+    show_past(listener.ended(), shown);
+    show_before(listener.ended(), shown);
     shown.show("conn: accept", &found(&listener.accept()));
 }
 
@@ -42,6 +57,14 @@ fn speak(listener: &mut MemoryListener, shown: &mut Shown) {
             shown.show("conn: put", &put_all(&mut conn, b"xyz"));
             listener.end(conn);
         }
+        _ => shown.text("conn: no connection\n"),
+    }
+}
+
+// The next connection is ended at once.
+fn end_next(listener: &mut MemoryListener, shown: &mut Shown) {
+    match listener.accept() {
+        Ok(Accepted::Conn(conn)) => listener.end(conn),
         _ => shown.text("conn: no connection\n"),
     }
 }
@@ -64,5 +87,13 @@ fn show_past(past: &Past, shown: &mut Shown) {
             passed.took(),
             *faults,
         ),
+    }
+}
+
+// The connection that was over before the last one.
+fn show_before(past: &Past, shown: &mut Shown) {
+    match past {
+        Past::Nothing => shown.text("conn: none is over\n"),
+        Past::Conn { before, .. } => show_past(before, shown),
     }
 }

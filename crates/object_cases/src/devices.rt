@@ -1,4 +1,4 @@
-// A disk, a link and a vsock host in memory, of which each has a call that fails.
+// A disk that begins with 64 bytes, a link and a vsock host in memory, of which each has a call that fails.
 use crate::showing::{Shown, part_of, text_of};
 use host_mem::{Frame, MemoryDisk, MemoryLink, MemoryVsock, MemoryWire};
 use outside_mem::Failing;
@@ -21,7 +21,7 @@ fn failing(alloc: Global, call: u64) -> Result<Failing, AllocError> {
 
 fn disk(alloc: Global) -> Result<MemoryDisk, AllocError> {
     let mut disks = Vec::new(alloc);
-    disks.push(ByteList::new(alloc))?;
+    disks.push(ByteList::copy_of(alloc, &[3; 64])?)?;
     Ok(MemoryDisk::new(disks, failing(alloc, 1)?))
 }
 
@@ -30,6 +30,7 @@ fn show_disk(disk: &mut MemoryDisk, shown: &mut Shown) {
     show_part("disk: read 0 1 2", disk, (0, 1, 2), shown);
     show_part("disk: read 0 1 2", disk, (0, 1, 2), shown);
     show_part("disk: read 0 1 1", disk, (0, 1, 1), shown);
+    show_part("disk: read 0 0 0", disk, (0, 0, 0), shown);
     show_part("disk: read 0 1 3", disk, (0, 1, 3), shown);
     show_part("disk: read 1 0 0", disk, (1, 0, 0), shown);
     shown.show("disk: failed", &disk.faults());
@@ -92,6 +93,7 @@ fn show_vsock(vsock: &mut MemoryVsock, shown: &mut Shown) {
     shown.show("vsock: dial", &[vsock.dial(80), vsock.dial(81)]);
     shown.show("vsock: send", &vsock.send(8, Piece::empty()));
     shown.show("vsock: close", &vsock.close(8));
+    shown.show("vsock: next", &[vsock.next(), vsock.next()]);
     let counts = (vsock.done().len(), vsock.faults());
     shown.show("vsock: done, failed", &counts);
 }
