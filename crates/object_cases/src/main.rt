@@ -12,6 +12,7 @@ mod commands;
 mod conns;
 mod cut_off;
 mod devices;
+mod filing;
 mod folders;
 mod gates;
 mod lines;
@@ -54,6 +55,7 @@ fn show_all(rt: &HostRuntime, shown: &mut Shown) -> io::Result<()> {
 fn show_in_memory(alloc: Global, shown: &mut Shown) -> Result<(), AllocError> {
     conns::show(alloc, shown)?;
     lists::show(alloc, shown)?;
+    filing::show(alloc, shown)?;
     devices::show(alloc, shown)
 }
 

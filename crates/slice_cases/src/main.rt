@@ -1,7 +1,7 @@
 //! Prints what threads come to: slices of a world, locks that keep histories, and the gates that both ask.
 //!
-//! What a slice leaves and what an act does is proved. That the threads run, that steps and acts are made, and that two
-//! of them are held at once, is shown here. No line depends on the schedule.
+//! What a slice leaves and what an act does is proved. That the threads run, that steps and acts are made, why they end, and
+//! that two of them are held at once, is shown here. No line depends on the schedule.
 #![tactic(auto)]
 
 mod acts;
@@ -9,6 +9,7 @@ mod adding;
 mod gates;
 mod locks;
 mod meeting;
+mod stops;
 mod worlds;
 
 use std::io;
@@ -16,6 +17,7 @@ use std::io;
 fn main(rt: HostRuntime) -> io::Result<()> {
     adding::print(&rt)?;
     meeting::print(&rt)?;
+    stops::print(&rt)?;
     locks::print(&rt)?;
     gates::print(&rt)
 }

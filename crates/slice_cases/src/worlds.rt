@@ -1,5 +1,6 @@
 // Worlds of two harts, and a clock for their slices.
 use boot_loader::Loads;
+use guest_devices::NewDrive;
 use std::alloc::Global;
 use vm_host::{Clock, Host};
 use vm_types::{Entry, Op, is_same_op, is_same_place, is_same_reply};
@@ -34,12 +35,29 @@ pub fn host() -> Host<(), (), (), Ticks> {
 }
 
 pub fn two_harts(alloc: Global, image: &[u8]) -> Option<World> {
-    let loads = Loads {
+    World::start(alloc, 2, 4, &loads_of(image), &[]).ok()
+}
+
+/// The same with drives of 3 and of 5 sectors.
+pub fn two_drives(alloc: Global, image: &[u8]) -> Option<World> {
+    World::start(alloc, 2, 4, &loads_of(image), &[drive(3), drive(5)]).ok()
+}
+
+fn loads_of(image: &[u8]) -> Loads<'_> {
+    Loads {
         image,
         initrd: None,
         tree: &[],
-    };
-    World::start(alloc, 2, 4, &loads, &[]).ok()
+    }
+}
+
+fn drive(sectors: u64) -> NewDrive {
+    NewDrive {
+        drive_id: [0; 20],
+        sectors,
+        is_read_only: false,
+        offers_flush: false,
+    }
 }
 
 /// Whether each step, one after the other, is as its event says.

@@ -1,0 +1,97 @@
+// Why the harts stop in a slice, and what comes home behind it: the mark of a page, and each port at its place.
+ghost use Rattle.std.specs.Prelude.{◌≡◌, All};
+
+use crate::gates::pass_of;
+use crate::worlds::{host, two_drives};
+use pause_gate::{FlagGate, Pass};
+use slice_runner::{Slice, Stop, run_slice};
+use std::io;
+use std::sync::Wait;
+use std::thread::Threads;
+use vm_world::World;
+
+// Hart 0 writes to page 0, and then fills the console's ring. The other hart isn't started.
+const FILLS_THE_RING: [u8; 24] = [
+    0x97, 0x02, 0xe0, 0xff, 0x23, 0xa0, 0x52, 0x00, 0x93, 0x08, 0x10, 0x00, 0x13, 0x05, 0x40, 0x04,
+    0x73, 0x00, 0x00, 0x00, 0x6f, 0xf0, 0xdf, 0xff,
+];
+
+/// A slice at a closed gate, and one in which the ring is filled.
+pub fn print<R: Threads + Wait + Print + AllocGlobal + Sync>(rt: &R) -> io::Result<()> {
+    let (gate, mut passes) = FlagGate::new(rt.alloc(), 4)?;
+    let Some(mut world) = two_drives(rt.alloc(), &FILLS_THE_RING) else {
+        return println!(rt; "no world");
+    };
+    let Some(mut closer) = pass_of(&gate, &mut passes) else {
+        return println!(rt; "no pass");
+    };
+    gate.close(&mut closer);
+    print_slice(rt, "at a closed gate", &mut world, &gate, &mut passes)?;
+    gate.open(&mut closer);
+    print_slice(rt, "at an open one", &mut world, &gate, &mut passes)?;
+    print_world(rt, &world)
+}
+
+fn print_slice<R: Threads + Wait + Print + AllocGlobal + Sync>(
+    rt: &R,
+    place: &str,
+    world: &mut World,
+    gate: &FlagGate,
+    passes: &mut Vec<Pass>,
+) -> io::Result<()>
+    requires { All (λ pass. pass.0 ≡ gate.now) passes.old.items }
+    ensures { All (λ pass. pass.0 ≡ gate.now) passes.new.items }
+{
+    match slice_of(rt, world, gate, passes) {
+        Some(slice) => print_stops(rt, place, &slice),
+        None => println!(rt; "stops: no slice {place}"),
+    }
+}
+
+// Of 20,000 steps each, if there are enough passes.
+fn slice_of<R: Threads + Wait + AllocGlobal + Sync>(
+    rt: &R,
+    world: &mut World,
+    gate: &FlagGate,
+    passes: &mut Vec<Pass>,
+) -> Option<Slice>
+    requires { All (λ pass. pass.0 ≡ gate.now) passes.old.items }
+    ensures { All (λ pass. pass.0 ≡ gate.now) passes.new.items }
+{
+    if world.hart_count() > 32 || passes.len() <= world.hart_count() {
+        return None;
+    }
+    match run_slice(rt, rt.alloc(), world, &mut host(), gate, passes, 20_000) {
+        Ok(slice) => Some(slice),
+        Err(_) => None,
+    }
+}
+
+fn print_stops<R: Print>(rt: &R, place: &str, slice: &Slice) -> io::Result<()> {
+    let made = !slice.events.is_empty();
+    println!(rt; "stops {place}: a step is made => {made}")?;
+    println!(rt; "stops {place}: of hart 0 => {:?}", stop_of(slice, 1))?;
+    println!(rt; "stops {place}: of hart 1 => {:?}", stop_of(slice, 2))
+}
+
+// The timer's is the first.
+fn stop_of(slice: &Slice, number: usize) -> Option<Stop> {
+    Some(slice.stops.get(number)?.stop)
+}
+
+fn print_world<R: Print>(rt: &R, world: &World) -> io::Result<()> {
+    println!(rt; "home: bytes in the ring => {}", world.console().len())?;
+    println!(rt; "home: page 0 is marked => {}", is_marked(world))?;
+    println!(rt; "home: sectors of port 0 => {:?}", sectors_of(world, 0))?;
+    println!(rt; "home: sectors of port 1 => {:?}", sectors_of(world, 1))
+}
+
+fn is_marked(world: &World) -> bool {
+    let pages = world.pages();
+    pages.len() > 0 && pages.page(0).is_marked()
+}
+
+// The lowest byte of its capacity.
+fn sectors_of(world: &World, number: usize) -> Option<u8> {
+    Some(world.ports().get(number)?.state().config[0])
+}
