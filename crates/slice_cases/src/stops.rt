@@ -43,9 +43,10 @@ fn print_slice<R: Threads + Wait + Print + AllocGlobal + Sync>(
     ensures { All (λ pass. pass.0 ≡ gate.now) passes.new.items }
 {
     match slice_of(rt, world, gate, passes) {
-        Some(slice) => print_stops(rt, place, &slice),
-        None => println!(rt; "stops: no slice {place}"),
+        Some(slice) => print_stops(rt, place, &slice)?,
+        None => println!(rt; "stops: no slice {place}")?,
     }
+    print_ports(rt, place, world)
 }
 
 // Of 20,000 steps each, if there are enough passes.
@@ -79,11 +80,20 @@ fn stop_of(slice: &Slice, number: usize) -> Option<Stop> {
     Some(slice.stops.get(number)?.stop)
 }
 
+fn print_ports<R: Print>(rt: &R, place: &str, world: &World) -> io::Result<()> {
+    println!(rt;
+        "home {place}: sectors of port 0 => {:?}",
+        sectors_of(world, 0)
+    )?;
+    println!(rt;
+        "home {place}: sectors of port 1 => {:?}",
+        sectors_of(world, 1)
+    )
+}
+
 fn print_world<R: Print>(rt: &R, world: &World) -> io::Result<()> {
     println!(rt; "home: bytes in the ring => {}", world.console().len())?;
-    println!(rt; "home: page 0 is marked => {}", is_marked(world))?;
-    println!(rt; "home: sectors of port 0 => {:?}", sectors_of(world, 0))?;
-    println!(rt; "home: sectors of port 1 => {:?}", sectors_of(world, 1))
+    println!(rt; "home: page 0 is marked => {}", is_marked(world))
 }
 
 fn is_marked(world: &World) -> bool {
