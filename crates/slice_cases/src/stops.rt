@@ -2,12 +2,13 @@
 ghost use Rattle.std.specs.Prelude.{◌≡◌, All};
 
 use crate::gates::pass_of;
-use crate::worlds::{host, two_drives};
+use crate::worlds::{host, two_drives, two_harts};
 use pause_gate::{FlagGate, Pass};
 use slice_runner::{Slice, Stop, run_slice};
 use std::io;
 use std::sync::Wait;
 use std::thread::Threads;
+use vm_types::ActorId;
 use vm_world::World;
 
 // Hart 0 writes to page 0, and then fills the console's ring. The other hart isn't started.
@@ -16,8 +17,28 @@ const FILLS_THE_RING: [u8; 24] = [
     0x73, 0x00, 0x00, 0x00, 0x6f, 0xf0, 0xdf, 0xff,
 ];
 
-/// A slice at a closed gate, and one in which the ring is filled.
+// Hart 0 turns the machine off.
+const ENDS: [u8; 28] = [
+    0xb7, 0x58, 0x52, 0x53, 0x93, 0x88, 0x48, 0x35, 0x13, 0x05, 0x00, 0x00, 0x93, 0x05, 0x00, 0x00,
+    0x73, 0x00, 0x00, 0x00, 0x73, 0x00, 0x50, 0x10, 0x6f, 0xf0, 0xdf, 0xff,
+];
+
+/// How far a hart runs, and two slices: at a closed gate, and one in which the ring is filled.
 pub fn print<R: Threads + Wait + Print + AllocGlobal + Sync>(rt: &R) -> io::Result<()> {
+    print_off(rt)?;
+    print_slices(rt)
+}
+
+// Five instructions are fetched, and one of them is a call.
+fn print_off<R: Print + AllocGlobal>(rt: &R) -> io::Result<()> {
+    let Some(mut world) = two_harts(rt.alloc(), &ENDS) else {
+        return println!(rt; "no world");
+    };
+    let made = world.run(ActorId::Hart(0), 100).ok();
+    println!(rt; "off: events of a hundred => {made:?}")
+}
+
+fn print_slices<R: Threads + Wait + Print + AllocGlobal + Sync>(rt: &R) -> io::Result<()> {
     let (gate, mut passes) = FlagGate::new(rt.alloc(), 4)?;
     let Some(mut world) = two_drives(rt.alloc(), &FILLS_THE_RING) else {
         return println!(rt; "no world");
@@ -93,7 +114,12 @@ fn print_ports<R: Print>(rt: &R, place: &str, world: &World) -> io::Result<()> {
 
 fn print_world<R: Print>(rt: &R, world: &World) -> io::Result<()> {
     println!(rt; "home: bytes in the ring => {}", world.console().len())?;
-    println!(rt; "home: page 0 is marked => {}", is_marked(world))
+    println!(rt; "home: page 0 is marked => {}", is_marked(world))?;
+    println!(rt; "home: the port of device 1 => {:?}", port_of(world, 1))
+}
+
+fn port_of(world: &World, number: usize) -> Option<u8> {
+    Some(world.devices().get(number)?.port())
 }
 
 fn is_marked(world: &World) -> bool {
