@@ -1,5 +1,5 @@
 -- The page that has the bytes of a word, and the acts on it.
-use Rattle.std.proofs.Common.{◌≡◌, ℕ, ◌+◌, ◌*◌, ◌-◌, ◌/◌, ◌%◌, ◌<◌, ◌≤◌, nat_le, Bool, true, false, cond, ◌&&◌, List, length, get_or, set, refl, sym, ap, ◌∙◌, subst, arith, ◌⊎◌, inl, inr}
+use Rattle.std.proofs.Common.{◌≡◌, ℕ, ◌+◌, ◌*◌, ◌-◌, ◌/◌, ◌%◌, ◌<◌, ◌≤◌, nat_le, Bool, true, false, cond, ◌&&◌, List, length, take, drop, get_or, set, refl, sym, ap, ◌∙◌, subst, arith, ◌⊎◌, inl, inr}
 use Rattle.std.proofs.lemmas.Bool.{le-leb}
 use Rattle.vm_types.specs.declared.ids.ActorId.{ActorId}
 use Rattle.vm_types.specs.declared.ids.PlaceId.{PlaceId}
@@ -11,7 +11,7 @@ use Rattle.rv_rows.specs.declared.memory.Width.{Width}
 use Rattle.rv_rows.specs.Loads.{width_bytes}
 use Rattle.guest_memory.specs.Ram.{ram_start, page_size, page_offset, is_ram}
 use Rattle.guest_memory.specs.Route.{page_of}
-use Rattle.guest_pages.specs.Pages.{PageValue, is_within, page_read, page_written, page_touch, flat_of, marks_of}
+use Rattle.guest_pages.specs.Pages.{PageValue, is_within, page_start, page_read, page_written, page_touch, flat_of, marks_of}
 use Rattle.guest_pages.specs.Marks.{marks_after}
 use Rattle.guest_pages.specs.Flat.{IsPage, ArePages}
 use Rattle.guest_pages.specs.Words.{read_of, write_of, at_place, served, pages_at, place_among}
@@ -27,6 +27,13 @@ found size n at len whole start some below inside =
     let c : nat_le (at - ram_start + len) size ≡ true = le-leb (at - ram_start + len) size (omega arith) in
     let d : nat_le ((at - ram_start) % 4096 + len) 4096 ≡ true = le-leb ((at - ram_start) % 4096 + len) 4096 inside in
     rw (a, b, c, d) refl
+
+-- the word at most 4,092 bytes behind where a page begins
+pub found_behind : (size n number at : ℕ) → size ≡ 4096 * n → number < n → page_start number ≤ at → at ≤ page_start number + 4092
+    → page_of size at 4 ≡ PlaceId.Page number
+found_behind size n number at whole there from to =
+    let same : (at - ram_start) / 4096 ≡ number = omega arith in
+    found size n at 4 whole (omega arith) (omega arith) (omega arith) (omega arith) ∙ ap PlaceId.Page same
 
 pub missed : (size n at len : ℕ) → size ≡ 4096 * n → 1 ≤ len → (n ≤ (at - ram_start) / 4096) ⊎ (4096 < (at - ram_start) % 4096 + len)
     → page_of size at len ≡ PlaceId.Out
@@ -64,6 +71,11 @@ module _ (value pages : List PageValue) (i : ℕ) (old : PageValue) (view : valu
 
   pub is_in_page : (at len : ℕ) → page_of (length (flat_of value).bytes) at len ≡ PlaceId.Page i → is_within old.number 4096 at len ≡ true
   is_in_page at len place = is_inside 4096 at len refl place
+
+  -- what stands at an offset is what is read there
+  pub offset_read : (at offset len : ℕ) → offset ≡ at - page_start i → take len (drop offset old.bytes) ≡ page_read old at len
+  offset_read at offset len is =
+      ap (λ (k : ℕ). take len (drop k old.bytes)) (is ∙ ap (λ (k : ℕ). at - page_start k) (sym is_page.numbered))
 
   pub word_read : (at word : ℕ) (width : Width) → page_of (length (flat_of value).bytes) at (width_bytes width) ≡ PlaceId.Page i → bytes_of (width_bytes width) word ≡ page_read old at (width_bytes width)
       → (actor : ActorId) → Bytes (bytes_of (width_bytes width) word) ≡ (served value actor (read_of width at)).0

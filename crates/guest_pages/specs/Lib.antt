@@ -1,3 +1,4 @@
+pub mod Code
 pub mod Fitting
 pub mod Flat
 pub mod Marks

@@ -14,4 +14,4 @@ mod word_bytes;
 
 pub use law::marks_follow_acts;
 pub use page::Page;
-pub use page_set::PageSet;
+pub use page_set::{CodePage, PageSet};

@@ -1,5 +1,5 @@
 // One page of guest memory.
-ghost use Rattle.std.specs.Prelude.{◌≡◌, ◌≤◌, ◌<◌, ◌+◌, ◌*◌, ◌%◌, true, length, replicate, IfOk, is_some};
+ghost use Rattle.std.specs.Prelude.{◌≡◌, ◌≤◌, ◌<◌, ◌+◌, ◌-◌, ◌*◌, ◌%◌, true, drop, length, replicate, take, IfOk, is_some};
 ghost use Rattle.std.specs.List.{count_by};
 ghost use Rattle.vm_types.specs.declared.op.Op.{Op};
 ghost use Rattle.guest_memory.specs.Reserved.{slots_after};
@@ -8,7 +8,7 @@ ghost use Rattle.le_fields.specs.Fields.{bytes_of};
 ghost use Rattle.rv_rows.specs.Loads.{width_bytes};
 ghost use Rattle.guest_pages.specs.Pages.{PageValue, filled, is_within, new_page, page_holding, page_read, page_reserving, page_start, page_touch, page_word, page_written, patched, unmarked};
 
-use crate::word_bytes::{put_word, word_in};
+use crate::word_bytes::{put_word, single_at, word_in};
 use amo_table::amo_value;
 use guest_memory::{
     HART_LIMIT, PAGE_SIZE, RAM_START, end_written, granule_of, held_by, hold, is_granule, put,
@@ -181,6 +181,16 @@ fn page_start(number: u32) -> u64
     RAM_START + 4096 * number as u64
 }
 
+// Where in the page of this number an address of it is: a page begins at a multiple of its size, so the number isn't read.
+#[inline(always)]
+fn offset_in(_number: u32, at: GuestAddr) -> usize
+    requires from { page_start _number ≤ at }
+    requires below { at < page_start _number + 4096 }
+    ensures { result ≡ at - page_start _number }
+{
+    (at % 4096) as usize
+}
+
 // Whether these bytes, one at least, are in the page of this number.
 fn is_within(number: u32, at: GuestAddr, len: usize) -> bool
     ensures { result ≡ is_within number 4096 at len }
@@ -236,6 +246,16 @@ impl Page {
         put(bytes, offset, piece);
     }
 
+    /// The word of four bytes at an offset, the lowest byte first.
+    #[inline]
+    pub fn word_at(&self, offset: usize) -> u32
+        requires { offset ≤ 4092 }
+        ensures { bytes_of 4 result ≡ take 4 (drop offset self.now.bytes) }
+    {
+        let bytes: &[u8; 4096] = &self.held.bytes;
+        single_at(bytes, offset)
+    }
+
     /// The word of this width at an address, the lowest byte first.
     #[inline]
     pub fn read_word(&self, at: GuestAddr, width: Width) -> u64
@@ -243,7 +263,7 @@ impl Page {
         ensures { bytes_of (width_bytes width) result ≡ page_read self.now at (width_bytes width) }
     {
         let bytes: &[u8; 4096] = &self.held.bytes;
-        word_in(bytes, (at - page_start(self.number)) as usize, width)
+        word_in(bytes, offset_in(self.number, at), width)
     }
 
     /// Writes the low bytes of a word, the lowest first, and marks the page.
@@ -253,7 +273,7 @@ impl Page {
         ensures { self.new ≡ page_written self.old writer at (bytes_of (width_bytes width) word) }
     {
         self.begin_write(writer, at, width.bytes());
-        let offset = (at - page_start(self.number)) as usize;
+        let offset = offset_in(self.number, at);
         let bytes: &mut [u8; 4096] = &mut self.held.bytes;
         put_word(bytes, offset, word, width);
     }

@@ -9,9 +9,11 @@ ghost use Rattle.guest_pages.specs.Pages.{new_pages, page_holding, page_touch, u
 ghost use Rattle.guest_pages.specs.Marks.{marked_from, marks_after};
 ghost use Rattle.guest_pages.specs.Words.{pages_at, place_among, read_of, read_reply, served, write_of, write_reply};
 
+mod code;
 mod parting;
 
 use crate::page::Page;
+pub use code::CodePage;
 use guest_memory::{PAGE_SIZE, RAM_START};
 use rv_rows::Width;
 use std::alloc::{AllocError, Global};
@@ -128,6 +130,7 @@ impl PageSet {
             pages_at (place_among self.old (write_of width at word)) d self.old writer (write_of width at word) }
         ensures marks { marks_of self.new ≡ marks_after (place_among self.old (write_of width at word))
             (marks_of self.old) (write_of width at word) (write_reply result) }
+        ensures left { result ≡ false → self.new ≡ self.old }
         ensures count { length self.new ≡ length self.old }
     {
         let Some(number) = self.find(at, width.bytes()) else {

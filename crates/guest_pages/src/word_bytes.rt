@@ -16,7 +16,9 @@ fn half_at(bytes: &[u8], offset: usize) -> u16
     u16::from_le_bytes(word)
 }
 
-fn single_at(bytes: &[u8], offset: usize) -> u32
+/// The word of four bytes at an offset, the lowest byte first.
+#[inline]
+pub fn single_at(bytes: &[u8], offset: usize) -> u32
     requires { offset + 4 ≤ length bytes.now }
     ensures { bytes_of 4 result ≡ take 4 (drop offset bytes.now) }
 {

@@ -1,15 +1,13 @@
--- A hart that is to fetch its next instruction from RAM.
-use Rattle.std.specs.Prelude.{ℕ, ◌≡◌, nat_lt, false, None}
+-- A hart that is to fetch its next instruction.
+use Rattle.std.specs.Prelude.{ℕ, ◌≡◌, None}
 use Rattle.vm_types.specs.declared.reply.Reply.{Reply}
 use Rattle.le_fields.specs.Fields.{bytes_of}
-use Rattle.guest_memory.specs.Ram.{ram_start}
 use Rattle.rv_supervisor.specs.declared.regs.Turn.{Turn}
 use Rattle.hart_trace.specs.States.{Hart}
 
 pub record IsFetching (h : Hart) : Type 0 where
   pub between : h.begun ≡ None
   pub turn : h.regs.turn ≡ Turn.Fetch
-  pub ram : nat_lt h.regs.pc ram_start ≡ false
 
 -- the reply to its fetch, which has the low bytes of this word
 abbrev pub fetch_reply : ℕ → Reply

@@ -1,3 +1,4 @@
 pub mod Begun
 pub mod Fetching
+pub mod Lending
 pub mod Start

@@ -2,11 +2,38 @@
 // choice by the function fields, for whoever reads the operands first.
 ghost use Rattle.std.specs.Prelude.{◌≡◌, MatchOption, None, Some};
 ghost use Rattle.rv_decode.specs.Functions.{funct3, funct7, opcode};
-ghost use Rattle.rv_rows.specs.Table.{i_type, instr_of, r_type, shift, word_shift};
-ghost use Rattle.rv_rows.specs.declared.instr.Instr.TheVariants.{Alu, AluImm, MulDiv};
+ghost use Rattle.rv_rows.specs.Table.{b_type, i_type, instr_of, r_type, s_type, shift, word_shift};
+ghost use Rattle.rv_rows.specs.declared.instr.Instr.TheVariants.{Alu, AluImm, Branch, Load, MulDiv, Store};
 
 use crate::functions;
-use rv_rows::{AluOp, MulDivOp};
+use rv_rows::{AluOp, Condition, LoadKind, MulDivOp, Width};
+
+/// LOAD, opcode 0x03.
+#[tactic(auto, using(crate::proofs::Opcodes::loads))]
+pub fn load_kind(word: u32) -> Option<LoadKind>
+    requires { opcode word ≡ 0x03 }
+    ensures { MatchOption result (instr_of word ≡ None) (λ kind. instr_of word ≡ Some (i_type (Load kind) word)) }
+{
+    functions::load_kind(word)
+}
+
+/// STORE, opcode 0x23.
+#[tactic(auto, using(crate::proofs::Opcodes::stores))]
+pub fn store_width(word: u32) -> Option<Width>
+    requires { opcode word ≡ 0x23 }
+    ensures { MatchOption result (instr_of word ≡ None) (λ width. instr_of word ≡ Some (s_type (Store width) word)) }
+{
+    functions::store_width(word)
+}
+
+/// BRANCH, opcode 0x63.
+#[tactic(auto, using(crate::proofs::Opcodes::branches))]
+pub fn branch_condition(word: u32) -> Option<Condition>
+    requires { opcode word ≡ 0x63 }
+    ensures { MatchOption result (instr_of word ≡ None) (λ condition. instr_of word ≡ Some (b_type (Branch condition) word)) }
+{
+    functions::branch_condition(word)
+}
 
 /// OP-IMM, opcode 0x13, where it is no shift.
 #[tactic(auto, using(crate::proofs::Opcodes::immediates))]

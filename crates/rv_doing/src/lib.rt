@@ -6,7 +6,8 @@
 //! and replies of harts in few bytes.
 //!
 //! What is frequent has shorter ways, which say the same: `run_plain` does a word that computes, jumps or branches as it is
-//! decoded, and `Load` and `Store` are words whose access is made at once.
+//! decoded, and `plain_at` does so where the pc and the count are held beside the registers; `load_kind` and `store_width` say
+//! what a word loads or stores, for whoever makes the access at once.
 #![tactic(auto)]
 
 mod access;
@@ -19,8 +20,8 @@ mod replies;
 mod sbi;
 mod values;
 
-pub use access::{Load, Store};
+pub use access::{load_kind, store_width};
 pub use hart_op::HartOp;
 pub use hart_reply::HartReply;
 pub use instruction::{effect_of_word, perform, wanted};
-pub use plain::run_plain;
+pub use plain::{plain_at, run_plain};

@@ -10,7 +10,7 @@ use rv_decode::operations;
 use rv_rows::fields::{i_immediate, shift_amount, word_shift_amount};
 
 /// OP-IMM, by the value of rs1. `None` where the word is illegal.
-#[inline]
+#[inline(always)]
 #[tactic(auto, unfolding(crate::specs::Does::does))]
 pub fn of_immediate(word: u32, a: u64) -> Option<u64>
     requires { opcode word ≡ 0x13 }
@@ -34,7 +34,7 @@ pub fn of_immediate(word: u32, a: u64) -> Option<u64>
 }
 
 /// OP-IMM-32, by the value of rs1. `None` where the word is illegal.
-#[inline]
+#[inline(always)]
 #[tactic(auto, unfolding(crate::specs::Does::does))]
 pub fn of_word_immediate(word: u32, a: u64) -> Option<u64>
     requires { opcode word ≡ 0x1b }
@@ -55,7 +55,7 @@ pub fn of_word_immediate(word: u32, a: u64) -> Option<u64>
 }
 
 /// OP, by the values of rs1 and rs2. `None` where the word is illegal.
-#[inline]
+#[inline(always)]
 #[tactic(auto, unfolding(crate::specs::Does::does))]
 pub fn of_operation(word: u32, a: u64, b: u64) -> Option<u64>
     requires { opcode word ≡ 0x33 }
@@ -79,7 +79,7 @@ pub fn of_operation(word: u32, a: u64, b: u64) -> Option<u64>
 }
 
 /// OP-32, by the values of rs1 and rs2. `None` where the word is illegal.
-#[inline]
+#[inline(always)]
 #[tactic(auto, unfolding(crate::specs::Does::does))]
 pub fn of_word_operation(word: u32, a: u64, b: u64) -> Option<u64>
     requires { opcode word ≡ 0x3b }

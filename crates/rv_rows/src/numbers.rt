@@ -10,19 +10,17 @@ pub fn low_word(n: u64) -> u32
     (n % 0x1_0000_0000) as u32
 }
 
-/// A number of `width` bits, its sign extended to 64 bits.
+/// A number of `width` bits, its sign extended to 64 bits: it is shifted to the top, and back with its sign.
 #[inline]
+#[tactic(auto, using(crate::proofs::Signs::extended_by_shifts))]
 pub fn sign_extended(width: u32, n: u64) -> u64
     requires some { 0 < width }
     requires not_all { width < 64 }
     requires of_width { n < 2 ^ width }
     ensures { result ≡ sign_extended width n }
 {
-    if n < 1 << (width - 1) {
-        n
-    } else {
-        n.wrapping_sub(1 << width)
-    }
+    let unused = 64 - width;
+    ((n << unused).cast_signed() >> unused).cast_unsigned()
 }
 
 /// A number of 32 bits, its sign extended to 64 bits.

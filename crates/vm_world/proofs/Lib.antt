@@ -2,3 +2,4 @@ mod Beginning
 pub mod Events
 mod Listed
 pub mod Running
+pub mod Bursting

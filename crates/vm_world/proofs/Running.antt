@@ -1,6 +1,6 @@
 -- What the hart's small ops are answered is what its ops are answered.
-use Rattle.std.proofs.Common.{◌≡◌, ℕ, zero, suc, ◌+◌, ◌-◌, ◌≤◌, nat_le, nat_lt, Bool, true, false, cond, ◌&&◌, List, [], ◌∷◌, Option, Some, None, length, slice_get, slice_set, refl, sym, ap, subst, ◌∙◌, inl, inr, arith, ◌<◌, if◌then◌else◌}
-use Rattle.std.proofs.lemmas.Bool.{leb-true, ltb-false, ltb-true}
+use Rattle.std.proofs.Common.{◌≡◌, ℕ, zero, suc, ◌+◌, ◌-◌, ◌≤◌, nat_le, nat_lt, Bool, true, false, cond, ◌&&◌, List, [], ◌∷◌, Option, Some, None, length, slice_get, slice_set, refl, sym, ap, subst, ◌∙◌, inl, inr, arith, ◌<◌, if◌then◌else◌, ◌⊎◌}
+use Rattle.std.proofs.lemmas.Bool.{cases_lt, leb-true, ltb-false, ltb-true}
 use Rattle.vm_types.specs.declared.ids.ActorId.{ActorId}
 use Rattle.vm_types.specs.declared.ids.PlaceId.{PlaceId}
 use Rattle.vm_types.specs.declared.op.Op.{Op}
@@ -38,7 +38,7 @@ use Rattle.flat_guest.proofs.Soundness.{none_given}
 use Rattle.flat_guest.proofs.Stepping.{entry_of, has_made_none}
 use Rattle.vm_world.specs.Answering.{Advances, Goes, IsAnswered, place_with}
 use Rattle.vm_world.specs.Worlds.{MakesEvent, WorldValue, body_of, place_in, world_with}
-use Rattle.vm_world.proofs.Events.{HasRun, event_made, run_more}
+use Rattle.vm_world.proofs.Events.{HasEnded, HasRun, event_made, run_more}
 
 -- each reply that a place gives fits the op, so it has few bytes
 pub none_unfit : (pages : List PageValue) (board : Board) (ports : List PortState) (actor : ActorId) (op : HartOp) (whole : Op) (reply : Reply) → whole ≡ op_of op → is_hart_op (op_of op) ≡ true
@@ -306,3 +306,28 @@ some_more k pages mid later board between after ports among behind first hart ne
     let count : made + 1 + 1 ≡ made + n = omega (arith, by.0) in
     subst (λ (m : ℕ). HasRun (ActorId.Hart k) (world_with pages board ports timer harts devices) m
     (world_with later after behind timer (slice_set harts k next) devices)) count two
+
+-- one more of a hart and pages that were left as they were
+pub one_later : (k : ℕ) (pages mid same later : List PageValue) (board between after : Board) (ports among behind : List PortState)
+    (first hart still next : Hart) (made : ℕ) (timer : Timer) (harts : List Hart) (devices : List Device)
+    → slice_get harts k ≡ Some first
+    → HasRun (ActorId.Hart k) (world_with pages board ports timer harts devices) made
+    (world_with mid between among timer (slice_set harts k hart) devices)
+    → between.off ≡ false → (same ≡ mid) × (still ≡ hart)
+    → Advances same between among still (ActorId.Hart k) later after behind next
+    → HasRun (ActorId.Hart k) (world_with pages board ports timer harts devices) (made + 1)
+    (world_with later after behind timer (slice_set harts k next) devices)
+one_later k pages mid same later board between after ports among behind first hart still next made timer harts devices there has on left by =
+    one_more k pages mid later board between after ports among behind first hart next made timer harts devices there has on
+    (subst (λ (h : Hart). Advances mid between among h (ActorId.Hart k) later after behind next) left.1
+    (subst (λ (p : List PageValue). Advances p between among still (ActorId.Hart k) later after behind next) left.0 by))
+
+-- where the guest is off, all were made or no further one is
+off_by : (k made count : ℕ) (w : WorldValue) → w.board.off ≡ true → (made < count) ⊎ (count ≤ made) → made ≤ count
+    → (made ≡ count) ⊎ ((made < count) × HasEnded (ActorId.Hart k) w)
+off_by k made count w off (inl less) within = inr (less, inl off)
+off_by k made count w off (inr all) within = inl (omega (arith, all, within))
+
+pub off_at : (k made count : ℕ) (w : WorldValue) → made ≤ count → w.board.off ≡ true
+    → (made ≡ count) ⊎ ((made < count) × HasEnded (ActorId.Hart k) w)
+off_at k made count w within off = off_by k made count w off (cases_lt made count) within

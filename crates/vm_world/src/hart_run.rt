@@ -14,13 +14,14 @@ ghost use Rattle.flat_guest.specs.Steps.{port_after, port_reply};
 ghost use Rattle.vm_world.specs.Answering.{Advances, Goes, IsAnswered, is_low};
 ghost use Rattle.vm_world.specs.Worlds.{Runs, world_with};
 
+use crate::burst::run_burst;
 use flat_guest::{Layout, place};
 use guest_memory::{PAGE_SIZE, RAM_START};
 use guest_pages::PageSet;
 use hart_rv64::Hart;
 use line_board::Board;
 use mmio_port::Port;
-use rv_doing::{HartOp, HartReply, Load};
+use rv_doing::{HartOp, HartReply};
 use rv_rows::Width;
 use vm_types::{ActorId, BoardOp, Op, Place, PlaceId, Reply};
 
@@ -157,72 +158,6 @@ fn advance(
     hart.goes_on(reply);
 }
 
-// What a load reads, where RAM has it.
-#[inline]
-fn read_load(pages: &PageSet, load: Load) -> Option<u64>
-    ensures ram { IfSome result (λ read. nat_lt load.address ram_start ≡ false) }
-    ensures read { IfSome result (λ read. (actor : ActorId) →
-        read_reply (load_width load.kind) (Some read)
-        ≡ (served pages.now actor (read_of (load_width load.kind) load.address)).0) }
-{
-    if load.address < RAM_START {
-        return None;
-    }
-    pages.read_word(load.address, load.kind.width())
-}
-
-// The next events of the hart of this number, of which so many are left, and how many they are: an instruction with its
-// load or store, where RAM has both, or else one event.
-#[inline]
-fn advance_some(
-    pages: &mut PageSet,
-    board: &mut Board,
-    ports: &mut Vec<Port>,
-    hart: &mut Hart,
-    number: u8,
-    left: u64,
-) -> u64
-    requires small { length pages.old ≤ 2 ^ 28 }
-    requires few { length ports.old.items ≤ 16 }
-    requires some { 1 ≤ left }
-    ensures events { Goes pages.old board.old ports.old.items hart.old (ActorId.Hart number) result
-        pages.new board.new ports.new.items hart.new }
-    ensures some { 1 ≤ result }
-    ensures within { result ≤ left }
-    ensures count { length pages.new ≡ length pages.old }
-    ensures many { length ports.new.items ≡ length ports.old.items }
-{
-    let Some(pc) = hart.fetches() else {
-        advance(pages, board, ports, hart, number);
-        return 1;
-    };
-    let Some(word) = pages.read_word(pc, Width::Word) else {
-        advance(pages, board, ports, hart, number);
-        return 1;
-    };
-    if left > 1 {
-        if let Some(load) = hart.load(word) {
-            if let Some(read) = read_load(pages, load) {
-                hart.loads(load, read);
-                return 2;
-            }
-        } else if let Some(store) = hart.store(word) {
-            if store.address >= RAM_START {
-                let is_made = pages.write_word(
-                    ActorId::Hart(number),
-                    store.address,
-                    store.value,
-                    store.width,
-                );
-                hart.stores(store, is_made);
-                return 2;
-            }
-        }
-    }
-    hart.begins(word);
-    1
-}
-
 /// Events of the hart of this number, and how many there were. Whatever the timer, the other harts and the devices are, they
 /// stay.
 #[inline(never)]
@@ -244,11 +179,18 @@ pub fn run_hart(
     ensures many { length ports.new.items ≡ length ports.old.items }
 {
     let mut made = 0;
+    if board.is_off() {
+        return made;
+    }
     while made < count {
-        if board.is_off() {
-            return made;
+        made += run_burst(pages, hart, number, count - made);
+        if made < count {
+            advance(pages, board, ports, hart, number);
+            made += 1;
+            if board.is_off() {
+                return made;
+            }
         }
-        made += advance_some(pages, board, ports, hart, number, count - made);
     }
     made
 }

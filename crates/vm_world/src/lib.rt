@@ -7,6 +7,7 @@
 #![tactic(auto)]
 
 mod actors;
+mod burst;
 mod drives;
 mod hart_run;
 mod memory;

@@ -1,4 +1,4 @@
-use Rattle.std.proofs.Common.{◌-◌, ◌≤◌, ◌≡◌, List, Some, length, slice_get, slice_set}
+use Rattle.std.proofs.Common.{◌-◌, ◌≤◌, ◌≡◌, false, List, Some, length, slice_get, slice_set}
 use Rattle.vm_types.specs.declared.ids.ActorId.{ActorId}
 use Rattle.hart_trace.specs.States.{Hart}
 use Rattle.timer_trace.specs.declared.timer.Timer.{Timer}
@@ -10,6 +10,7 @@ use Rattle.vm_world.proofs.hart_run.run_hart.Given as goal
 abbrev pub invariant-loop-made : goal.invariant-loop-made
 invariant-loop-made l = record {
   within : l.made ≤ l.count;
+  on : l.board.off ≡ false;
   has : (timer : Timer) (harts : List Hart) (devices : List Device) → slice_get harts l.number ≡ Some l.fn.hart
       → HasRun (ActorId.Hart l.number) (world_with l.fn.pages l.fn.board l.fn.ports.items timer harts devices) l.made
       (world_with l.pages l.board l.ports.items timer (slice_set harts l.number l.hart) devices);

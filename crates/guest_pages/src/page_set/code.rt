@@ -1,0 +1,49 @@
+// Words of instructions, of which most are in the page of the one before.
+ghost use Rattle.std.specs.Prelude.{◌≡◌, ◌≤◌, IfSome, length, Some};
+ghost use Rattle.vm_types.specs.declared.ids.ActorId.{ActorId as Actor};
+ghost use Rattle.guest_memory.specs.Ram.{ram_start};
+ghost use Rattle.rv_rows.specs.declared.memory.Width.{Width};
+
+use super::PageSet;
+use guest_memory::RAM_START;
+use vm_types::GuestAddr;
+
+/// A page that has instructions: its number, and the address of its first byte.
+#[derive(Clone, Copy, Drop)]
+pub struct CodePage {
+    pub number: usize,
+    pub start: GuestAddr,
+}
+
+impl PageSet {
+    ghost use Rattle.guest_pages.specs.Code.{IsCode};
+    ghost use Rattle.guest_pages.specs.Words.{read_of, read_reply, served};
+
+    /// The page that has all four bytes of the word at an address, or `None` where none has.
+    #[inline]
+    pub fn code_page(&self, at: GuestAddr) -> Option<CodePage>
+        ensures { IfSome result (λ code. IsCode code (length self.now)) }
+    {
+        let _pages = &self.pages;
+        let number = self.find(at, 4)?;
+        Some(CodePage {
+            number,
+            start: RAM_START + 4096 * number as u64,
+        })
+    }
+
+    /// The word at an address in this page, the lowest byte first, or `None` where the page hasn't all four bytes of it.
+    #[inline(always)]
+    pub fn code_word(&self, code: CodePage, at: GuestAddr) -> Option<u32>
+        requires { IsCode code (length self.now) }
+        ensures ram { IfSome result (λ word. ram_start ≤ at) }
+        ensures word { IfSome result (λ word. (actor : Actor) →
+            read_reply Width.Word (Some word) ≡ (served self.now actor (read_of Width.Word at)).0) }
+    {
+        let offset = at.wrapping_sub(code.start);
+        if offset > 4092 {
+            return None;
+        }
+        Some(self.pages[code.number].word_at(offset as usize))
+    }
+}

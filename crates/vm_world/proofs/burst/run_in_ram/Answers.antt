@@ -1,0 +1,41 @@
+use Rattle.std.proofs.Common.{◌≡◌, ℕ, ◌+◌, sym, ap, subst, ◌∙◌, arith}
+use Rattle.vm_types.specs.declared.ids.ActorId.{ActorId}
+use Rattle.guest_pages.specs.Code.{IsCode}
+use Rattle.hart_trace.specs.States.{fresh}
+use Rattle.rv_supervisor.specs.declared.regs.Regs.{Regs}
+use Rattle.vm_world.specs.Bursts.{Bursts, counted}
+use Rattle.vm_world.specs.declared.burst.Ended.TheVariants.{Accessed, Went}
+use Rattle.vm_world.proofs.Bursting.{burst_goes}
+use Rattle.vm_world.proofs.burst.run_in_ram.Goals as goal
+
+pub loop-done-preserved-in-Went : goal.loop-done-preserved-in-Went
+loop-done-preserved-in-Went c =
+    let count : c.loop-done.regs.count ≡ c.args.regs.now.count = ap (λ (t : Regs). t.count) c.loop-done.invariant.kept in
+    record {
+      within = omega (arith, c.loop-done-test.true);
+      few = omega (arith, c.loop-done.invariant.few);
+      kept = c.go_on.ensures.kept ∙ ap (λ (t : Regs). record t { x = c.go_on.new.regs.x }) c.loop-done.invariant.kept;
+      code = subst (λ (n : ℕ). IsCode c.fetch.new.code n) (sym c.go_on.ensures.count) c.fetch.ensures.code;
+      gone = subst (λ (n : ℕ). Bursts c.args.pages.now (fresh c.args.regs.now) (ActorId.Hart c.args.number) (c.loop-done.done + 1 + n) c.go_on.new.pages
+          (fresh (counted (c.loop-done.done + 1) c.in-Went.next c.go_on.new.regs))) (omega arith)
+          (burst_goes c.args.pages.now c.loop-done.pages c.go_on.new.pages (fresh c.args.regs.now) (ActorId.Hart c.args.number)
+          c.loop-done.done c.loop-done.accesses c.loop-done.pc c.in-Some-go_on.ended (Went c.in-Went.next) c.loop-done.regs c.go_on.new.regs
+          c.in-Went.is c.loop-done.invariant.gone (omega (arith, c.loop-done-test.true, c.requires.before_look, count))
+          (ap (λ (t : Regs). t.turn) c.loop-done.invariant.kept ∙ c.requires.fetching) c.go_on.ensures.kept c.in-Some-go_on.ensures.goes);
+      many = c.go_on.ensures.count ∙ c.loop-done.invariant.many;
+    }
+
+pub loop-done-preserved : goal.loop-done-preserved
+loop-done-preserved c =
+    let count : c.loop-done.regs.count ≡ c.args.regs.now.count = ap (λ (t : Regs). t.count) c.loop-done.invariant.kept in
+    record {
+      within = omega (arith, c.loop-done-test.true);
+      few = omega (arith, c.loop-done.invariant.few);
+      kept = c.go_on.ensures.kept ∙ ap (λ (t : Regs). record t { x = c.go_on.new.regs.x }) c.loop-done.invariant.kept;
+      code = subst (λ (n : ℕ). IsCode c.fetch.new.code n) (sym c.go_on.ensures.count) c.fetch.ensures.code;
+      gone = (burst_goes c.args.pages.now c.loop-done.pages c.go_on.new.pages (fresh c.args.regs.now) (ActorId.Hart c.args.number)
+          c.loop-done.done c.loop-done.accesses c.loop-done.pc c.in-Some-go_on.ended Accessed c.loop-done.regs c.go_on.new.regs
+          c.in-Accessed.is c.loop-done.invariant.gone (omega (arith, c.loop-done-test.true, c.requires.before_look, count))
+          (ap (λ (t : Regs). t.turn) c.loop-done.invariant.kept ∙ c.requires.fetching) c.go_on.ensures.kept c.in-Some-go_on.ensures.goes);
+      many = c.go_on.ensures.count ∙ c.loop-done.invariant.many;
+    }

@@ -1,0 +1,19 @@
+use Rattle.std.proofs.Common.{◌+◌, ◌-◌, ◌≤◌, ◌≡◌, length}
+use Rattle.vm_types.specs.declared.ids.ActorId.{ActorId}
+use Rattle.guest_pages.specs.Code.{IsCode}
+use Rattle.hart_trace.specs.States.{fresh}
+use Rattle.vm_world.specs.Bursts.{Bursts, counted}
+use Rattle.vm_world.proofs.burst.run_in_ram.Given as goal
+
+abbrev pub invariant-loop-done : goal.invariant-loop-done
+invariant-loop-done l = record {
+  within : l.done ≤ l.most;
+  few : l.accesses ≤ l.done;
+  kept : l.regs ≡ record l.fn.regs { x = l.regs.x };
+  code : IsCode l.code (length l.pages);
+  gone : Bursts l.fn.pages (fresh l.fn.regs) (ActorId.Hart l.number) (l.done + l.accesses) l.pages (fresh (counted l.done l.pc l.regs));
+  many : length l.pages ≡ length l.fn.pages;
+}
+
+abbrev pub decreases-loop-done : goal.decreases-loop-done
+decreases-loop-done l = l.most - l.done
