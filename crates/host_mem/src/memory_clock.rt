@@ -29,5 +29,5 @@ impl Clock for MemoryClock {
         self.moments.next()
     }
 
-    fn rest(&mut self) {}
+    fn rest(&mut self, _most: u64) {}
 }

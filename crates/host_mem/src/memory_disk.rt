@@ -70,6 +70,8 @@ impl Disk for MemoryDisk {
         Ok(())
     }
 
+    fn settle(&mut self) {}
+
     fn flush(&mut self, device: u8) -> Result<(), Failed> {
         if self.failing.fails() {
             return Err(Failed);

@@ -7,6 +7,7 @@ use script_text::Item;
 use serve_host::Trace;
 use std::alloc::{AllocError, Global};
 use vm_outside::Failed;
+use vm_types::ActorId;
 
 /// Takes copies of items, under any path. That there is no memory is a failure.
 #[derive(Drop)]
@@ -64,6 +65,18 @@ impl Trace for MemoryTrace {
             return Err(Failed);
         }
         Ok(())
+    }
+
+    /// Each item is a call of its own among those that may fail.
+    fn add_steps(&mut self, actor: ActorId, count: u64) -> Result<(), Failed> {
+        for _taken in 0..count {
+            self.add(&Item::Step { actor, count: 1 })?;
+        }
+        Ok(())
+    }
+
+    fn is_heard(&self) -> bool {
+        true
     }
 
     /// It holds nothing back.

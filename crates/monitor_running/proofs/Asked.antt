@@ -55,6 +55,10 @@ no_hart (Some start) steps act wants =
     differ : true ≡ false → ⊥
     differ is = cc
 
+-- a hart asks no host object
+pub hart_asks : (g : Guest) (k : ℕ) (act : OutOp) → Wants g (ActorId.Hart k) (Op.Out act) → ⊥
+hart_asks g k act wants = no_hart (slice_get g.starts k) (g.steps (ActorId.Hart k)) act wants
+
 -- an actor that takes turns asks the clock alone
 pub turn_asks : (g : Guest) (actor : ActorId) (act : OutOp) → takes_turn g actor ≡ true → Wants g actor (Op.Out act)
     → (actor ≡ ActorId.Timer) × (act ≡ Clock)
@@ -63,7 +67,7 @@ turn_asks g ActorId.Timer act turn wants =
     let t = timer_traces.some_timer steps (record { op = Op.Out act; reply = wants.0 } ∷ wants.1, wants.2) in
     let same = timer_traces.wants_only steps t.0 (Op.Out act) t.1 wants in
     (refl, asks_clock t.0.due act same)
-turn_asks g (ActorId.Hart k) act turn wants = absurd (no_hart (slice_get g.starts k) (g.steps (ActorId.Hart k)) act wants)
+turn_asks g (ActorId.Hart k) act turn wants = absurd (hart_asks g k act wants)
 turn_asks g (ActorId.Device k) act turn wants = cc
 
 -- a device asks its disk
@@ -83,7 +87,7 @@ Asks actor act =
 
 who_asks : (g : Guest) (actor : ActorId) (act : OutOp) → IsSound g → Wants g actor (Op.Out act) → Asks actor act
 who_asks g ActorId.Timer act sound wants = inl (turn_asks g ActorId.Timer act refl wants)
-who_asks g (ActorId.Hart k) act sound wants = absurd (no_hart (slice_get g.starts k) (g.steps (ActorId.Hart k)) act wants)
+who_asks g (ActorId.Hart k) act sound wants = absurd (hart_asks g k act wants)
 who_asks g (ActorId.Device k) act sound wants =
     inr (k, refl, device_asks g k (slice_get g.devices k) act sound refl wants)
 

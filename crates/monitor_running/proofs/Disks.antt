@@ -1,5 +1,5 @@
 -- What disks were asked, event by event.
-use Rattle.std.proofs.Common.{◌≡◌, ℕ, zero, suc, Bool, true, false, MatchBool, cond, refl, sym, ap, ◌∙◌, subst, arith, List, [], ◌∷◌, ◌++◌, take, drop, All}
+use Rattle.std.proofs.Common.{◌≡◌, ℕ, zero, suc, Bool, true, false, MatchBool, cond, refl, sym, ap, ◌∙◌, subst, arith, Option, List, [], ◌∷◌, ◌++◌, take, drop, All}
 use Rattle.std.specs.List.{AllByRecursion}
 use Rattle.std.proofs.lemmas.List.Elements.{recursion_from_All}
 use Rattle.vm_types.specs.Causes.{Rose}
@@ -15,7 +15,7 @@ use Rattle.vm_host.specs.Telling.{ClockKnown}
 use Rattle.device_trace.specs.Acts.{is_disk_call}
 use Rattle.slice_runner.specs.Slices.{ClockWasAsked, IsThere}
 use Rattle.monitor_running.specs.Devices.{AsksDisk, CallsDisk, DiskReplies, DiskRests, DiskWasAsked, Holds, IsDevices}
-use Rattle.monitor_running.specs.Waiting.{hart_turns, makers, turns}
+use Rattle.monitor_running.specs.Waiting.{hart_turn, hart_turns, is_left_out, makers, turns}
 
 -- ---- a disk that is asked nothing
 
@@ -124,31 +124,68 @@ other_append : (xs ys : List ActorId) → AllByRecursion IsOther xs → AllByRec
 other_append [] ys first last = last
 other_append (x ∷ xs) ys first last = (first.0, other_append xs ys first.1 last)
 
-others_turn : (k : ℕ) → AllByRecursion IsOther (hart_turns k)
-others_turn zero = tt
-others_turn (suc k) = other_append (hart_turns k) (ActorId.Hart k ∷ ActorId.Hart k ∷ []) (others_turn k) (tt, (tt, tt))
+other_turn : (out : Bool) (k : ℕ) → AllByRecursion IsOther (cond out [] (ActorId.Hart k ∷ ActorId.Hart k ∷ []))
+other_turn true k = tt
+other_turn false k = (tt, (tt, tt))
+
+others_turn : (but : Option ℕ) (k : ℕ) → AllByRecursion IsOther (hart_turns but k)
+others_turn but zero = tt
+others_turn but (suc k) =
+    other_append (hart_turns but k) (hart_turn but k) (others_turn but k) (other_turn (is_left_out but k) k)
 
 made_by : (es : List Entry) → AllByRecursion IsOther (makers es) → AllByRecursion (λ (e : Entry). IsOther e.actor) es
 made_by [] others = tt
 made_by (e ∷ es) others = (others.0, made_by es others.1)
 
-pub unasked_turns : (harts : ℕ) (es : List Entry) (disk : DiskKnown) → makers es ≡ turns harts → DiskWasAsked disk es disk
-unasked_turns harts es disk made =
+pub unasked_turns : (but : Option ℕ) (harts : ℕ) (es : List Entry) (disk : DiskKnown) → makers es ≡ turns but harts
+    → DiskWasAsked disk es disk
+unasked_turns but harts es disk made =
     unasked_by es disk
-    (made_by es (subst (λ (l : List ActorId). AllByRecursion IsOther l) (sym made) (tt, (tt, others_turn harts))))
+    (made_by es (subst (λ (l : List ActorId). AllByRecursion IsOther l) (sym made) (tt, (tt, others_turn but harts))))
 
--- ---- and a device asks no clock
+-- and those of one hart
+pub unasked_hart : (k : ℕ) (es : List Entry) (disk : DiskKnown) → AllByRecursion (λ (e : Entry). e.actor ≡ ActorId.Hart k) es
+    → DiskWasAsked disk es disk
+unasked_hart k es disk own = unasked_by es disk (all_own es own)
+  where
+    all_own : (es : List Entry) → AllByRecursion (λ (e : Entry). e.actor ≡ ActorId.Hart k) es
+        → AllByRecursion (λ (e : Entry). IsOther e.actor) es
+    all_own [] own = tt
+    all_own (e ∷ es) own = (subst IsOther (sym own.0) tt, all_own es own.1)
 
-none_timed : (actor : ActorId) (e : Entry) (es : List Entry) (k : ℕ) → actor ≡ ActorId.Device k
-    → cond (same_actor actor ActorId.Timer) (e ∷ es) es ≡ es
-none_timed actor e es k is = ap (λ (a : ActorId). cond (same_actor a ActorId.Timer) (e ∷ es) es) is
+-- ---- and neither a device nor a hart asks the clock
 
-no_timer : (es : List Entry) → AllByRecursion IsDevices es → of_actor ActorId.Timer es ≡ []
-no_timer [] made = refl
-no_timer (e ∷ es) made =
-    none_timed e.actor e (of_actor ActorId.Timer es) made.0.0 made.0.1 ∙ no_timer es made.1
+-- an actor that isn't the timer
+abbrev IsUntimed : ActorId → Type 0
+IsUntimed actor = same_actor actor ActorId.Timer ≡ false
+
+none_timed : (e : Entry) (es : List Entry) (timed : Bool) → timed ≡ false → cond timed (e ∷ es) es ≡ es
+none_timed e es true is = cc
+none_timed e es false is = refl
+
+no_timer : (es : List Entry) → AllByRecursion (λ (e : Entry). IsUntimed e.actor) es → of_actor ActorId.Timer es ≡ []
+no_timer [] untimed = refl
+no_timer (e ∷ es) untimed =
+    none_timed e (of_actor ActorId.Timer es) (same_actor e.actor ActorId.Timer) untimed.0 ∙ no_timer es untimed.1
+
+untimed_rests : (clock : ClockKnown) (es : List Entry) → AllByRecursion (λ (e : Entry). IsUntimed e.actor) es
+    → ClockWasAsked clock es clock
+untimed_rests clock es untimed tells =
+    let none = no_timer es untimed in
+    rw none (tells, refl)
+
+devices_untimed : (es : List Entry) → AllByRecursion IsDevices es → AllByRecursion (λ (e : Entry). IsUntimed e.actor) es
+devices_untimed [] made = tt
+devices_untimed (e ∷ es) made = (ap (λ (a : ActorId). same_actor a ActorId.Timer) made.0.1, devices_untimed es made.1)
 
 pub clock_rests : (clock : ClockKnown) (es : List Entry) → All IsDevices es → ClockWasAsked clock es clock
-clock_rests clock es made tells =
-    let none = no_timer es (recursion_from_All IsDevices es made) in
-    rw none (tells, refl)
+clock_rests clock es made = untimed_rests clock es (devices_untimed es (recursion_from_All IsDevices es made))
+
+harts_untimed : (k : ℕ) (es : List Entry) → AllByRecursion (λ (e : Entry). e.actor ≡ ActorId.Hart k) es
+    → AllByRecursion (λ (e : Entry). IsUntimed e.actor) es
+harts_untimed k [] own = tt
+harts_untimed k (e ∷ es) own = (ap (λ (a : ActorId). same_actor a ActorId.Timer) own.0, harts_untimed k es own.1)
+
+pub hart_rests : (k : ℕ) (clock : ClockKnown) (es : List Entry) → AllByRecursion (λ (e : Entry). e.actor ≡ ActorId.Hart k) es
+    → ClockWasAsked clock es clock
+hart_rests k clock es own = untimed_rests clock es (harts_untimed k es own)

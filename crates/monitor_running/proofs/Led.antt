@@ -174,7 +174,7 @@ leads_split (suc n) (e ∷ es) g h leads =
     let rest = leads_split n es leads.0 h leads.2 in
     (rest.0, (leads.0, leads.1, rest.1), rest.2)
 
-items_append : (a b : List Entry) → event_items (a ++ b) ≡ event_items a ++ event_items b
+pub items_append : (a b : List Entry) → event_items (a ++ b) ≡ event_items a ++ event_items b
 items_append [] b = refl
 items_append (e ∷ a) b = ap (λ (l : List Item). item_of e ∷ l) (items_append a b)
 

@@ -5,6 +5,7 @@ pub mod Going
 pub mod Joins
 pub mod Led
 pub mod Lifts
+pub mod Lone
 pub mod Making
 pub mod Passing
 pub mod Sound

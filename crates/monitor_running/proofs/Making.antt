@@ -1,5 +1,5 @@
 -- Who made the events of a wait.
-use Rattle.std.proofs.Common.{◌≡◌, ◌<◌, ◌+◌, ℕ, suc, nat_lt, ltb-false, Bool, true, false, arith, refl, sym, ap, ◌∙◌, subst, List, [], ◌∷◌, ◌++◌, length, Option, None, append_assoc}
+use Rattle.std.proofs.Common.{◌≡◌, ◌<◌, ◌+◌, ℕ, suc, nat_lt, ltb-false, Bool, true, false, arith, refl, sym, ap, ◌∙◌, subst, List, [], ◌∷◌, ◌++◌, length, Option, None, append_assoc, append-nil, if◌then◌else◌}
 use Rattle.std.proofs.lemmas.List.{map-append}
 use Rattle.vm_types.specs.declared.ids.ActorId.{ActorId}
 use Rattle.vm_types.specs.declared.entry.Entry.{Entry}
@@ -13,7 +13,7 @@ use Rattle.flat_guest.specs.Steps.{guest_after}
 use Rattle.vm_world.specs.Refusing.{refusal_of}
 use Rattle.vm_world.specs.Worlds.{IsWorld, MakesEvent, WorldValue}
 use Rattle.slice_runner.specs.Runs.{IsAsked}
-use Rattle.monitor_running.specs.Waiting.{HasMade, takes_turn, turns}
+use Rattle.monitor_running.specs.Waiting.{HasMade, hart_turn, is_left_out, takes_turn, turns}
 use Rattle.monitor_running.proofs.Asked.{turn_asks}
 
 -- an actor stays among as many harts
@@ -101,6 +101,18 @@ pub made_twice : (actors : List ActorId) (actor : ActorId) (es : List Entry) (fi
 made_twice actors actor es first w made =
     subst (λ (l : List ActorId). HasMade l es first w) (append_assoc actors (actor ∷ []) (actor ∷ [])) made
 
-pub turns_more : (k : ℕ) → turns k ++ ActorId.Hart k ∷ ActorId.Hart k ∷ [] ≡ turns (k + 1)
-turns_more k =
-    let next : suc k ≡ k + 1 = omega arith in ap turns next
+pub turns_more : (but : Option ℕ) (k : ℕ) → turns but k ++ hart_turn but k ≡ turns but (k + 1)
+turns_more but k =
+    let next : suc k ≡ k + 1 = omega arith in ap (turns but) next
+
+-- a hart that is left out makes none, and else two
+pub made_out : (but : Option ℕ) (k : ℕ) (actors : List ActorId) (es : List Entry) (first w : WorldValue) → is_left_out but k ≡ true
+    → HasMade actors es first w → HasMade (actors ++ hart_turn but k) es first w
+made_out but k actors es first w out made =
+    subst (λ (b : Bool). HasMade (actors ++ (if b then [] else ActorId.Hart k ∷ ActorId.Hart k ∷ [])) es first w) (sym out)
+    (subst (λ (l : List ActorId). HasMade l es first w) (sym (append-nil actors)) made)
+
+pub made_in : (but : Option ℕ) (k : ℕ) (actors : List ActorId) (es : List Entry) (first w : WorldValue) → is_left_out but k ≡ false
+    → HasMade (actors ++ ActorId.Hart k ∷ ActorId.Hart k ∷ []) es first w → HasMade (actors ++ hart_turn but k) es first w
+made_in but k actors es first w out made =
+    subst (λ (b : Bool). HasMade (actors ++ (if b then [] else ActorId.Hart k ∷ ActorId.Hart k ∷ [])) es first w) (sym out) made

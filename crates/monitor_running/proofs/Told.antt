@@ -1,6 +1,6 @@
 -- What a slice leaves, told to its end or not.
-use Rattle.std.proofs.Common.{◌≡◌, ℕ, false, refl, sym, ap, ◌∙◌, subst, List, [], ◌∷◌, ◌++◌, take, drop, All, append_assoc, append-nil, take-append-drop, length, Some, None, arith}
-use Rattle.std.specs.Prelude.{Result, Ok, Err}
+use Rattle.std.proofs.Common.{◌≡◌, ℕ, zero, suc, false, refl, sym, ap, ◌∙◌, subst, List, [], ◌∷◌, ◌++◌, take, drop, All, append_assoc, append-nil, take-append-drop, length, Option, Some, None, arith}
+use Rattle.std.specs.Prelude.{Result, Ok, Err, OnErr}
 use Rattle.std.proofs.lemmas.List.Elements.{All-from_recursion}
 use Rattle.vm_types.specs.declared.entry.Entry.{Entry}
 use Rattle.vm_types.specs.declared.torn.Torn.{Torn}
@@ -28,8 +28,8 @@ use Rattle.monitor_running.specs.declared.ran.Ran.{Ran}
 use Rattle.monitor_running.specs.declared.ran.Ran.TheVariants as ran
 use Rattle.monitor_running.specs.declared.telling.Untold.{Untold}
 use Rattle.monitor_running.specs.declared.telling.Untold.TheVariants as untold
-use Rattle.flat_trace.specs.Events.{answers_in, drain_items, event_acts, event_items, needs_room}
-use Rattle.monitor_running.specs.Items.{DrainStops, Drains, HasDrained, TellStops, TellsPart, TellsSlice, drained_world}
+use Rattle.flat_trace.specs.Events.{answers_in, drain_items, event_acts, event_items, item_of, needs_room}
+use Rattle.monitor_running.specs.Items.{DrainStops, Drains, HasDrained, IsShort, TellStops, TellsItems, TellsPart, drained_world}
 use Rattle.monitor_running.specs.Ran.{HasFault, IsRunning, IsTornOff, RanOn, Went, end_by, slice_end}
 use Rattle.monitor_running.specs.Waiting.{HasGone, makers, turns}
 use Rattle.monitor_running.specs.Asked.{HostKnown}
@@ -46,11 +46,23 @@ use Rattle.monitor_running.proofs.Led.{acts_items, drain_acts, drain_answered, d
 abbrev seen_by : List Item → List ℕ → HostKnown → Seen
 seen_by took taken host = record { took = took; taken = taken; host = host }
 
--- events that lead from each guest that the world was to one that it is, in which the clock and the disks answered
-abbrev pub HostGone : List Entry → WorldValue → WorldValue → HostKnown → HostKnown → Type 0
-HostGone es old new asked now =
-    (g : Guest) → IsWorld old g
-    → ((h : Guest) × Leads g es h × IsWorld new h) × ClockWasAsked asked.clock es now.clock × DiskWasAsked asked.disk es now.disk
+-- events that lead from this guest to one that the world is, in which the clock and the disks answered
+abbrev pub GoneFrom : Guest → List Entry → WorldValue → HostKnown → HostKnown → Type 0
+GoneFrom g es new asked now =
+    ((h : Guest) × Leads g es h × IsWorld new h) × ClockWasAsked asked.clock es now.clock × DiskWasAsked asked.disk es now.disk
+
+-- there are such from each guest that the world was, and these items tell them
+abbrev pub HostGone : List Item → WorldValue → WorldValue → HostKnown → HostKnown → Type 0
+HostGone its old new asked now =
+    (g : Guest) → IsWorld old g → (es : List Entry) × (event_items es ≡ its) × GoneFrom g es new asked now
+
+-- and these are they
+abbrev pub EventsGone : List Entry → WorldValue → WorldValue → HostKnown → HostKnown → Type 0
+EventsGone es old new asked now = (g : Guest) → IsWorld old g → GoneFrom g es new asked now
+
+events_host : (es : List Entry) (old new : WorldValue) (asked now : HostKnown) → EventsGone es old new asked now
+    → HostGone (event_items es) old new asked now
+events_host es old new asked now gone g is = (es, refl, gone g is)
 
 -- a clock that answered in the events
 pub was_asked : (asked now : ClockKnown) (es : List Entry) (g h : Guest) → IsSound g → ClockWasAsked asked es now
@@ -61,45 +73,61 @@ was_asked asked now es g h sound was leads =
 
 -- ---- the events, and then the drain
 
-take_length : (es : List Entry) → take (length es) es ≡ es
+take_length : (its : List Item) → take (length its) its ≡ its
 take_length [] = refl
-take_length (e ∷ es) = ap (λ (l : List Entry). e ∷ l) (take_length es)
+take_length (it ∷ its) = ap (λ (l : List Item). it ∷ l) (take_length its)
 
-joins : (w v : WorldValue) (took mid now : List Item) (es : List Entry) → mid ≡ took ++ event_items es → HasDrained w mid [] v now
-    → HasDrained w took (event_items es) v now
-joins w v took mid now es all drained = record {
+joins : (w v : WorldValue) (took mid now its : List Item) → mid ≡ took ++ its → HasDrained w mid [] v now
+    → HasDrained w took its v now
+joins w v took mid now its all drained = record {
   world = drained.world;
   told =
       drained.told ∙ ap (λ (l : List Item). l ++ drain_items w.board.console) all
-      ∙ append_assoc took (event_items es) (drain_items w.board.console);
+      ∙ append_assoc took its (drain_items w.board.console);
 }
 
-stops_then : (why : Untold) (es : List Entry) (w v : WorldValue) (took mid now : List Item) (taken all : List ℕ)
-    → mid ≡ took ++ event_items es → DrainStops why w mid taken v now all → TellStops why es w took taken v now all
-stops_then untold.Trace es w v took mid now taken all told stops = (
+stops_then : (why : Untold) (short : Type 0) (its : List Item) (w v : WorldValue) (took mid now : List Item) (taken all : List ℕ)
+    → mid ≡ took ++ its → DrainStops why w mid taken v now all → TellStops why short its w took taken v now all
+stops_then untold.Trace short its w v took mid now taken all told stops = (
   stops.0,
-  (length es, stops.1 ∙ told ∙ ap (λ (l : List Entry). took ++ event_items l) (sym (take_length es))),
+  (length its, stops.1 ∙ told ∙ ap (λ (l : List Item). took ++ l) (sym (take_length its))),
   stops.2,
 )
-stops_then untold.Sink es w v took mid now taken all told stops = (joins w v took mid now es told stops.0, stops.1)
-stops_then untold.OutOfMemory es w v took mid now taken all told stops = absurd stops
+stops_then untold.Sink short its w v took mid now taken all told stops = (joins w v took mid now its told stops.0, stops.1)
+stops_then untold.OutOfMemory short its w v took mid now taken all told stops = absurd stops
 
-pub told_then : {T : Type 0} (result : Result T Untold) (es : List Entry) (w v : WorldValue) (took mid now : List Item)
-    (taken all : List ℕ) → mid ≡ took ++ event_items es → Drains result w mid taken v now all
-    → TellsSlice result es w took taken v now all
-told_then (Ok done) es w v took mid now taken all told drains = (joins w v took mid now es told drains.0, drains.1)
-told_then (Err why) es w v took mid now taken all told drains = stops_then why es w v took mid now taken all told drains
+pub told_then : {T : Type 0} (result : Result T Untold) (short : Type 0) (its : List Item) (w v : WorldValue)
+    (took mid now : List Item) (taken all : List ℕ) → mid ≡ took ++ its → Drains result w mid taken v now all
+    → TellsItems result short its w took taken v now all
+told_then (Ok done) short its w v took mid now taken all told drains = (joins w v took mid now its told drains.0, drains.1)
+told_then (Err why) short its w v took mid now taken all told drains =
+    stops_then why short its w v took mid now taken all told drains
 
--- ---- a slice whose events lead from the guest of each machine that the world was
+-- the first of the events are told by the first of the items
+pub items_take : (n : ℕ) (es : List Entry) → event_items (take n es) ≡ take n (event_items es)
+items_take zero es = refl
+items_take (suc n) [] = refl
+items_take (suc n) (e ∷ es) = ap (λ (l : List Item). item_of e ∷ l) (items_take n es)
+
+pub events_part : (old mid now : List Item) (es : List Entry) (n : ℕ) → mid ≡ old ++ event_items (take n es) → now ≡ mid
+    → TellsPart old (event_items es) now
+events_part old mid now es n before same = (n, same ∙ before ∙ ap (λ (l : List Item). old ++ l) (items_take n es))
+
+-- what holds where a call failed
+pub on_err : {T E : Type 0} (result : Result T E) (P : Type 0) → P → OnErr result P
+on_err (Ok done) P is = tt
+on_err (Err why) P is = is
+
+-- ---- events that lead from the guest of a machine that the world was
 
 module _ (s : Start) (m : Machine) (talk : List Out) (took : List Item) (taken : List ℕ) (asked now : HostKnown)
-    (w v : WorldValue) (es : List Entry) (gone : HostGone es w v asked now) (is : IsRunning w m)
+    (w v : WorldValue) (es : List Entry) (is : IsRunning w m) (gone : GoneFrom is.0 es v asked now)
     (r : Reached s (seen_by took taken asked) m talk) where
   abbrev old : Seen
   old = seen_by took taken asked
 
   led : (h : Guest) × Leads is.0 es h × IsWorld v h
-  led = (gone is.0 is.2).0
+  led = gone.0
 
   abbrev after : Machine
   after = with_guest m led.0
@@ -108,7 +136,7 @@ module _ (s : Start) (m : Machine) (talk : List Out) (took : List Item) (taken :
   after_runs = still_runs m is.0 led.0 is.1
 
   all_asked : HasAnswered asked.clock (answers_in (event_items es)) now.clock
-  all_asked = was_asked asked.clock now.clock es is.0 led.0 (world_sound w is.0 is.2) (gone is.0 is.2).1 led.1
+  all_asked = was_asked asked.clock now.clock es is.0 led.0 (world_sound w is.0 is.2) gone.1 led.1
 
   -- all events are told
   events_told : Reached s (seen_by (took ++ event_items es) taken now) after talk
@@ -119,7 +147,7 @@ module _ (s : Start) (m : Machine) (talk : List Out) (took : List Item) (taken :
       (sym (append-nil taken) ∙ ap (λ (l : List ℕ). taken ++ l) (sym (quiets_show es))) (quiets_say es)
       (record {
         clock = subst (λ (l : List Item). HasAnswered asked.clock (answers_in l) now.clock) (sym (acts_items es)) all_asked;
-        disk = events_answered es m is.0 led.0 sound is.1 led.1 asked.disk now.disk (gone is.0 is.2).2;
+        disk = events_answered es m is.0 led.0 sound is.1 led.1 asked.disk now.disk gone.2;
       })
 
   -- and a drain
@@ -160,7 +188,7 @@ module _ (s : Start) (m : Machine) (talk : List Out) (took : List Item) (taken :
       ap answers_in (items_split n es) ∙ answers_append (event_items (take n es)) (event_items (drop n es)) in
       let clocks = answered_first asked.clock now.clock (answers_in (event_items (take n es))) (answers_in (event_items (drop n es)))
       (subst (λ (l : List ℕ). HasAnswered asked.clock l now.clock) answers all_asked) in
-      let disks = asked_split n es asked.disk now.disk (gone is.0 is.2).2 in
+      let disks = asked_split n es asked.disk now.disk gone.2 in
       let mid : HostKnown = record { clock = clocks.0; disk = disks.0 } in
       let front : Seen = seen_by (took ++ event_items (take n es)) taken mid in
       let sound = world_sound w is.0 is.2 in
@@ -190,12 +218,12 @@ module _ (s : Start) (m : Machine) (talk : List Out) (took : List Item) (taken :
         beside = refl;
       }
 
--- ---- what is left of a slice, told to its end or not
+-- ---- what is left of a turn, told to its end or not
 
 -- what a slice says of its events
 pub slice_gone : (es : List Entry) (w v : WorldValue) (asked now : HostKnown) → IsSerial w es v
     → All (λ (e : Entry). IsThere (length w.harts) e.actor) es → ClockWasAsked asked.clock es now.clock → now.disk ≡ asked.disk
-    → HostGone es w v asked now
+    → EventsGone es w v asked now
 slice_gone es w v asked now serial there was same g is =
     (serial g is, was, rw same (unasked_there (length w.harts) es asked.disk there))
 
@@ -204,66 +232,74 @@ pub same_disk : {D L V C : Type 0} (known : D → DiskKnown) (first last : Host 
     → known last.disk ≡ known first.disk
 same_disk {D} {L} {V} {C} known first last is = ap (λ (h : Host D L V C). known h.disk) is
 
--- what a wait says
-pub wait_gone : (es : List Entry) (w v : WorldValue) (asked now : ClockKnown) (disk : DiskKnown) → HasGone es w v asked now
-    → ((g : Guest) → IsWorld w g → makers es ≡ turns (length w.harts))
-    → HostGone es w v (record { clock = asked; disk = disk }) (record { clock = now; disk = disk })
-wait_gone es w v asked now disk gone made g is =
-    ((gone g is).0, (gone g is).1, unasked_turns (length w.harts) es disk (made g is))
+-- what a round says
+pub round_gone : (but : Option ℕ) (es : List Entry) (w v : WorldValue) (asked now : ClockKnown) (disk : DiskKnown)
+    → HasGone es w v asked now → ((g : Guest) → IsWorld w g → makers es ≡ turns but (length w.harts))
+    → EventsGone es w v (record { clock = asked; disk = disk }) (record { clock = now; disk = disk })
+round_gone but es w v asked now disk gone made g is =
+    ((gone g is).0, (gone g is).1, unasked_turns but (length w.harts) es disk (made g is))
 
 -- and what the devices' events say
 pub devices_gone : (es : List Entry) (w v : WorldValue) (clock : ClockKnown) (asked now : DiskKnown) → IsSerial w es v
     → ((g : Guest) → IsWorld w g → All IsDevices es) → ((g : Guest) → IsWorld w g → DiskWasAsked asked es now)
-    → HostGone es w v (record { clock = clock; disk = asked }) (record { clock = clock; disk = now })
+    → EventsGone es w v (record { clock = clock; disk = asked }) (record { clock = clock; disk = now })
 devices_gone es w v clock asked now serial made was g is = (serial g is, clock_rests clock es (made g is), was g is)
 
-pub slice_told : (took took' : List Item) (taken taken' : List ℕ) (asked mid now : HostKnown) (w v u : WorldValue) (es : List Entry)
-    → HostGone es w v asked mid → HasDrained v took (event_items es) u took' → taken' ≡ taken ++ v.board.console → HostRests mid now
+pub items_told : (took took' : List Item) (taken taken' : List ℕ) (asked mid now : HostKnown) (w v u : WorldValue) (its : List Item)
+    → HostGone its w v asked mid → HasDrained v took its u took' → taken' ≡ taken ++ v.board.console → HostRests mid now
     → Keeps IsRunning (seen_by took taken asked) w (seen_by took' taken' now) u
-slice_told took took' taken taken' asked mid now w v u es gone drained sunk rest s m talk is r =
-    let all = drain_told_too s m talk took taken asked mid w v es gone is r in
-    let h = led s m talk took taken asked mid w v es gone is r in
+items_told took took' taken taken' asked mid now w v u its gone drained sunk rest s m talk is r =
+    let one = gone is.0 is.2 in
+    let es : List Entry = one.0 in
+    let h = led s m talk took taken asked mid w v es is one.2 r in
+    let all = drain_told_too s m talk took taken asked mid w v es is one.2 r in
     let last : Seen = seen_by (took ++ (event_items es ++ drain_items v.board.console)) (taken ++ v.board.console) mid in record {
       flat = with_guest m (drained_guest h.0);
-      is = drained_runs s m talk took taken asked mid w v es gone is r u drained.world;
+      is = drained_runs s m talk took taken asked mid w v es is one.2 r u drained.world;
       beside = refl;
-      reached = rests s last (seen_by took' taken' now) (with_guest m (drained_guest h.0)) talk all drained.told sunk rest;
+      reached = rests s last (seen_by took' taken' now) (with_guest m (drained_guest h.0)) talk all
+          (drained.told ∙ ap (λ (l : List Item). took ++ (l ++ drain_items v.board.console)) (sym one.1)) sunk rest;
     }
 
-pub slice_ahead : (took took' : List Item) (taken taken' : List ℕ) (asked now : HostKnown) (w v u : WorldValue) (es : List Entry)
-    → HostGone es w v asked now → u ≡ v → TellsPart took es took' → taken' ≡ taken
+items_ahead : (took took' : List Item) (taken taken' : List ℕ) (asked now : HostKnown) (w v u : WorldValue) (its : List Item)
+    → HostGone its w v asked now → u ≡ v → TellsPart took its took' → taken' ≡ taken
     → GetsAhead IsRunning (seen_by took taken asked) w (seen_by took' taken' now) u
-slice_ahead took took' taken taken' asked now w v u es gone same part sunk s m talk is r =
-    rw (same, part.1, sunk) (part_told s m talk took taken asked now w v es gone is r part.0)
+items_ahead took took' taken taken' asked now w v u its gone same part sunk s m talk is r =
+    let one = gone is.0 is.2 in
+    let front : took' ≡ took ++ event_items (take part.0 one.0) =
+    part.1 ∙ ap (λ (l : List Item). took ++ take part.0 l) (sym one.1)
+    ∙ ap (λ (l : List Item). took ++ l) (sym (items_take part.0 one.0)) in
+    rw (same, front, sunk) (part_told s m talk took taken asked now w v one.0 is one.2 r part.0)
 
-pub slice_cut : (took took' : List Item) (taken taken' : List ℕ) (asked now : HostKnown) (w v u : WorldValue) (es : List Entry)
-    → HostGone es w v asked now → HasDrained v took (event_items es) u took' → TakesPart taken taken' v.board.console
+items_cut : (took took' : List Item) (taken taken' : List ℕ) (asked now : HostKnown) (w v u : WorldValue) (its : List Item)
+    → HostGone its w v asked now → HasDrained v took its u took' → TakesPart taken taken' v.board.console
     → IsCut IsRunning (seen_by took taken asked) w (seen_by took' taken' now) u
-slice_cut took took' taken taken' asked now w v u es gone drained part s m talk is r =
+items_cut took took' taken taken' asked now w v u its gone drained part s m talk is r =
     let bytes = v.board.console in
     let whole : taken' ++ drop part.0 bytes ≡ taken ++ bytes =
     ap (λ (l : List ℕ). l ++ drop part.0 bytes) part.2 ∙ append_assoc taken (take part.0 bytes) (drop part.0 bytes)
     ∙ ap (λ (l : List ℕ). taken ++ l) (take-append-drop part.0 bytes) in (
       drop part.0 bytes,
-      slice_told took took' taken (taken' ++ drop part.0 bytes) asked now now w v u es gone drained whole (host_same now) s m talk is r,
+      items_told took took' taken (taken' ++ drop part.0 bytes) asked now now w v u its gone drained whole (host_same now) s m talk is r,
     )
 
-pub slice_short : (took took' : List Item) (taken taken' : List ℕ) (asked now : HostKnown) (w v u : WorldValue) (es : List Entry)
-    → HostGone es w v asked now → (All (λ e. needs_room e ≡ false) es → ⊥)
+events_short : (took took' : List Item) (taken taken' : List ℕ) (asked now : HostKnown) (w v u : WorldValue) (es : List Entry)
+    → EventsGone es w v asked now → IsShort es
     → Keeps IsRunning (seen_by took taken asked) w (seen_by took' taken' now) u
-slice_short took took' taken taken' asked now w v u es gone short s m talk is r =
+events_short took took' taken taken' asked now w v u es gone short s m talk is r =
     let h = (gone is.0 is.2).0 in
     absurd (short (All-from_recursion (λ (e : Entry). needs_room e ≡ false) es (roomy es is.0 h.0 (world_sound w is.0 is.2) h.1)))
 
-pub slice_stops : (why : Untold) (took took' : List Item) (taken taken' : List ℕ) (asked now : HostKnown) (w v u : WorldValue)
-    (es : List Entry) → HostGone es w v asked now → TellStops why es v took taken u took' taken'
+items_stop : (why : Untold) (short : Type 0) (took took' : List Item) (taken taken' : List ℕ) (asked now : HostKnown)
+    (w v u : WorldValue) (its : List Item) → HostGone its w v asked now
+    → (short → Keeps IsRunning (seen_by took taken asked) w (seen_by took' taken' now) u)
+    → TellStops why short its v took taken u took' taken'
     → RanOn IsRunning (Some (end_by why)) (seen_by took taken asked) w (seen_by took' taken' now) u
-slice_stops untold.Trace took took' taken taken' asked now w v u es gone stops =
-    slice_ahead took took' taken taken' asked now w v u es gone stops.0 stops.1 stops.2
-slice_stops untold.Sink took took' taken taken' asked now w v u es gone stops =
-    slice_cut took took' taken taken' asked now w v u es gone stops.0 stops.1
-slice_stops untold.OutOfMemory took took' taken taken' asked now w v u es gone stops =
-    slice_short took took' taken taken' asked now w v u es gone stops
+items_stop untold.Trace short took took' taken taken' asked now w v u its gone out stops =
+    items_ahead took took' taken taken' asked now w v u its gone stops.0 stops.1 stops.2
+items_stop untold.Sink short took took' taken taken' asked now w v u its gone out stops =
+    items_cut took took' taken taken' asked now w v u its gone stops.0 stops.1
+items_stop untold.OutOfMemory short took took' taken taken' asked now w v u its gone out stops = out stops
 
 pub slice_torn : (took : List Item) (taken : List ℕ) (asked now : HostKnown) (w : WorldValue) (torn : Torn)
     (journals : List Journal) (histories : List History) → IsTornSlice w torn journals histories
@@ -289,20 +325,29 @@ slice_none took taken asked now w v same unasked s m talk is r = record {
 lasts_same : (told : Health) → objects.Lasts told told
 lasts_same told = record { still = λ tells. tells; later = omega arith }
 
-pub went_told : (trace traced : TraceKnown) (sink sunk : SinkKnown) (asked mid now : HostKnown) (w v u : WorldValue)
-    (es told : List Entry) → told ≡ es → HostGone es w v asked mid
+pub went_items_told : (trace traced : TraceKnown) (sink sunk : SinkKnown) (asked mid now : HostKnown) (w v u : WorldValue)
+    (its : List Item) → HostGone its w v asked mid
     → (objects.Tells trace.health → objects.Tells sink.health
-    → HasDrained v trace.took (event_items told) u traced.took × (sunk.taken ≡ sink.taken ++ v.board.console))
+    → HasDrained v trace.took its u traced.took × (sunk.taken ≡ sink.taken ++ v.board.console))
     → objects.Lasts trace.health traced.health → objects.Lasts sink.health sunk.health → HostRests mid now
     → Went IsRunning None (known trace sink asked) w (known traced sunk now) u
-went_told trace traced sink sunk asked mid now w v u es told same gone went trace_lasts sink_lasts rests = record {
+went_items_told trace traced sink sunk asked mid now w v u its gone went trace_lasts sink_lasts rests = record {
   ran = λ t k.
-      slice_told trace.took traced.took sink.taken sunk.taken asked mid now w v u es gone
-      (subst (λ (l : List Entry). HasDrained v trace.took (event_items l) u traced.took) same (went t k).0) (went t k).1 rests;
+      items_told trace.took traced.took sink.taken sunk.taken asked mid now w v u its gone (went t k).0 (went t k).1 rests;
   fault = tt;
   trace_lasts = trace_lasts;
   sink_lasts = sink_lasts;
 }
+
+pub went_told : (trace traced : TraceKnown) (sink sunk : SinkKnown) (asked mid now : HostKnown) (w v u : WorldValue)
+    (es told : List Entry) → told ≡ es → EventsGone es w v asked mid
+    → (objects.Tells trace.health → objects.Tells sink.health
+    → HasDrained v trace.took (event_items told) u traced.took × (sunk.taken ≡ sink.taken ++ v.board.console))
+    → objects.Lasts trace.health traced.health → objects.Lasts sink.health sunk.health → HostRests mid now
+    → Went IsRunning None (known trace sink asked) w (known traced sunk now) u
+went_told trace traced sink sunk asked mid now w v u es told same gone went =
+    went_items_told trace traced sink sunk asked mid now w v u (event_items told)
+    (events_host told w v asked mid (subst (λ (l : List Entry). EventsGone l w v asked mid) (sym same) gone)) went
 
 -- what was not told to its end
 fault_of : (why : Untold) (before now : Known) → (why ≡ untold.Trace → Rose before.trace.health.faults now.trace.health.faults)
@@ -311,23 +356,38 @@ fault_of untold.Trace before now trace sink = trace refl
 fault_of untold.Sink before now trace sink = sink refl
 fault_of untold.OutOfMemory before now trace sink = tt
 
-pub went_untold : (end : Ran) (why : Untold) (trace traced : TraceKnown) (sink sunk : SinkKnown) (asked now : HostKnown)
-    (w v u : WorldValue) (es told : List Entry) → end ≡ end_by why → told ≡ es → HostGone es w v asked now
-    → (objects.Tells trace.health → objects.Tells sink.health → TellStops why told v trace.took sink.taken u traced.took sunk.taken)
+pub went_items_untold : (end : Ran) (why : Untold) (short : Type 0) (trace traced : TraceKnown) (sink sunk : SinkKnown)
+    (asked now : HostKnown) (w v u : WorldValue) (its : List Item) → end ≡ end_by why → HostGone its w v asked now
+    → (short → Keeps IsRunning (seen_by trace.took sink.taken asked) w (seen_by traced.took sunk.taken now) u)
+    → (objects.Tells trace.health → objects.Tells sink.health
+    → TellStops why short its v trace.took sink.taken u traced.took sunk.taken)
     → (why ≡ untold.Trace → Rose trace.health.faults traced.health.faults)
     → (why ≡ untold.Sink → Rose sink.health.faults sunk.health.faults)
     → objects.Lasts trace.health traced.health → objects.Lasts sink.health sunk.health
     → Went IsRunning (Some end) (known trace sink asked) w (known traced sunk now) u
-went_untold end why trace traced sink sunk asked now w v u es told is same gone stops trace_rose sink_rose trace_lasts sink_lasts = record {
+went_items_untold end why short trace traced sink sunk asked now w v u its is gone out stops trace_rose sink_rose trace_lasts sink_lasts = record {
   ran = λ t k.
       subst (λ (r : Ran). RanOn IsRunning (Some r) (seen_by trace.took sink.taken asked) w (seen_by traced.took sunk.taken now) u) (sym is)
-      (slice_stops why trace.took traced.took sink.taken sunk.taken asked now w v u es gone
-      (subst (λ (l : List Entry). TellStops why l v trace.took sink.taken u traced.took sunk.taken) same (stops t k)));
+      (items_stop why short trace.took traced.took sink.taken sunk.taken asked now w v u its gone out (stops t k));
   fault = subst (λ (r : Ran). HasFault (Some r) (known trace sink asked) (known traced sunk now)) (sym is)
       (fault_of why (known trace sink asked) (known traced sunk now) trace_rose sink_rose);
   trace_lasts = trace_lasts;
   sink_lasts = sink_lasts;
 }
+
+pub went_untold : (end : Ran) (why : Untold) (trace traced : TraceKnown) (sink sunk : SinkKnown) (asked now : HostKnown)
+    (w v u : WorldValue) (es told : List Entry) → end ≡ end_by why → told ≡ es → EventsGone es w v asked now
+    → (objects.Tells trace.health → objects.Tells sink.health
+    → TellStops why (IsShort told) (event_items told) v trace.took sink.taken u traced.took sunk.taken)
+    → (why ≡ untold.Trace → Rose trace.health.faults traced.health.faults)
+    → (why ≡ untold.Sink → Rose sink.health.faults sunk.health.faults)
+    → objects.Lasts trace.health traced.health → objects.Lasts sink.health sunk.health
+    → Went IsRunning (Some end) (known trace sink asked) w (known traced sunk now) u
+went_untold end why trace traced sink sunk asked now w v u es told is same gone =
+    let own : EventsGone told w v asked now = subst (λ (l : List Entry). EventsGone l w v asked now) (sym same) gone in
+    went_items_untold end why (IsShort told) trace traced sink sunk asked now w v u (event_items told) is
+    (events_host told w v asked now own)
+    (events_short trace.took traced.took sink.taken sunk.taken asked now w v u told own)
 
 -- no slice, and no disk was asked
 failed_by : {Q : Type 0} (why : SliceError) (trace : TraceKnown) (sink : SinkKnown) (asked now : HostKnown) (w v : WorldValue)

@@ -1,16 +1,18 @@
 -- What telling a slice's events, and a drain, leave of the trace and the sink.
 use Rattle.std.specs.Prelude.{ℕ, ◌≡◌, false, List, [], ◌++◌, take, All, Result, MatchResult}
 use Rattle.vm_types.specs.declared.entry.Entry.{Entry}
+use Rattle.vm_types.specs.declared.ids.ActorId.{ActorId}
 use Rattle.vm_outside.specs.Passing.{TakesPart}
 use Rattle.script_text.specs.declared.item.Item.{Item}
+use Rattle.serve_host.specs.Tracing.{steps_of}
 use Rattle.vm_world.specs.Worlds.{WorldValue}
 use Rattle.monitor_running.specs.declared.telling.Untold.{Untold}
 use Rattle.monitor_running.specs.declared.telling.Untold.TheVariants as untold
 use Rattle.flat_trace.specs.Events.{drain_items, event_items, needs_room}
 
--- the first of the events were told
-abbrev pub TellsPart : List Item → List Entry → List Item → Type 0
-TellsPart old events new = (n : ℕ) × (new ≡ old ++ event_items (take n events))
+-- the first of the items were told
+abbrev pub TellsPart : List Item → List Item → List Item → Type 0
+TellsPart old its new = (n : ℕ) × (new ≡ old ++ take n its)
 
 -- its console holds nothing any more
 abbrev pub drained_world : WorldValue → WorldValue
@@ -32,15 +34,28 @@ Drains result w took taken v now all =
     MatchResult result (λ _. HasDrained w took [] v now × (all ≡ taken ++ w.board.console))
     (λ why. DrainStops why w took taken v now all)
 
+-- where these items were to be told, and memory is short only for this cause
+abbrev pub TellStops : Untold → Type 0 → List Item → WorldValue → List Item → List ℕ → WorldValue → List Item → List ℕ → Type 0
+TellStops untold.Trace short its w took taken v now all = (v ≡ w) × TellsPart took its now × (all ≡ taken)
+TellStops untold.Sink short its w took taken v now all = HasDrained w took its v now × TakesPart taken all w.board.console
+TellStops untold.OutOfMemory short its w took taken v now all = short
+
+abbrev pub TellsItems : {T : Type 0} → Result T Untold → Type 0 → List Item → WorldValue → List Item → List ℕ → WorldValue
+    → List Item → List ℕ → Type 0
+TellsItems result short its w took taken v now all =
+    MatchResult result (λ _. HasDrained w took its v now × (all ≡ taken ++ w.board.console))
+    (λ why. TellStops why short its w took taken v now all)
+
 -- only an event that brings bytes of a connection finds no memory
-abbrev pub TellStops : Untold → List Entry → WorldValue → List Item → List ℕ → WorldValue → List Item → List ℕ → Type 0
-TellStops untold.Trace events w took taken v now all = (v ≡ w) × TellsPart took events now × (all ≡ taken)
-TellStops untold.Sink events w took taken v now all =
-    HasDrained w took (event_items events) v now × TakesPart taken all w.board.console
-TellStops untold.OutOfMemory events w took taken v now all = All (λ e. needs_room e ≡ false) events → ⊥
+abbrev pub IsShort : List Entry → Type 0
+IsShort events = All (λ e. needs_room e ≡ false) events → ⊥
 
 abbrev pub TellsSlice : {T : Type 0} → Result T Untold → List Entry → WorldValue → List Item → List ℕ → WorldValue
     → List Item → List ℕ → Type 0
 TellsSlice result events w took taken v now all =
-    MatchResult result (λ _. HasDrained w took (event_items events) v now × (all ≡ taken ++ w.board.console))
-    (λ why. TellStops why events w took taken v now all)
+    TellsItems result (IsShort events) (event_items events) w took taken v now all
+
+-- and so many steps of an actor always do
+abbrev pub TellsSteps : {T : Type 0} → Result T Untold → ActorId → ℕ → WorldValue → List Item → List ℕ → WorldValue
+    → List Item → List ℕ → Type 0
+TellsSteps result actor count w took taken v now all = TellsItems result ⊥ (steps_of actor count) w took taken v now all

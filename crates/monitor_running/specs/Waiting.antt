@@ -1,5 +1,5 @@
--- Where every hart waits, and the events that are made there.
-use Rattle.std.specs.Prelude.{ℕ, zero, suc, ◌≡◌, ◌<◌, nat_lt, Bool, true, false, List, [], ◌∷◌, ◌++◌, Some, length, map}
+-- Where harts wait, and the events that are made there.
+use Rattle.std.specs.Prelude.{ℕ, zero, suc, ◌≡◌, ◌<◌, nat_eq, nat_lt, Bool, true, false, if◌then◌else◌, List, [], ◌∷◌, ◌++◌, Option, Some, None, length, map}
 use Rattle.vm_types.specs.declared.entry.Entry.{Entry}
 use Rattle.vm_types.specs.declared.ids.ActorId.{ActorId}
 use Rattle.vm_types.specs.declared.op.Op.{Op}
@@ -18,6 +18,16 @@ HasGone events old new asked now =
 abbrev pub AllIdle : WorldValue → Type 0
 AllIdle w = (k : ℕ) → k < length w.harts → want_in w (ActorId.Hart k) ≡ Some Op.Idle
 
+-- each hart but this one wants to wait, and this one is there and doesn't
+abbrev pub OthersIdle : ℕ → WorldValue → Type 0
+OthersIdle alone w =
+    (k : ℕ) → k < length w.harts → (k ≡ alone → ⊥) → want_in w (ActorId.Hart k) ≡ Some Op.Idle
+
+pub record IsAlone (alone : ℕ) (w : WorldValue) : Type 0 where
+  pub there : alone < length w.harts
+  pub busy : want_in w (ActorId.Hart alone) ≡ Some Op.Idle → ⊥
+  pub others : OthersIdle alone w
+
 -- an actor that takes turns: the timer, and each hart
 abbrev pub takes_turn : Guest → ActorId → Bool
 takes_turn g ActorId.Timer = true
@@ -28,14 +38,23 @@ takes_turn g actor = false
 abbrev pub makers : List Entry → List ActorId
 makers events = map (λ (e : Entry). e.actor) events
 
--- two events of each of so many harts, in order
-abbrev pub hart_turns : ℕ → List ActorId
-hart_turns zero = []
-hart_turns (suc k) = hart_turns k ++ ActorId.Hart k ∷ ActorId.Hart k ∷ []
+-- the hart is this one, if there is one
+abbrev pub is_left_out : Option ℕ → ℕ → Bool
+is_left_out None k = false
+is_left_out (Some but) k = nat_eq but k
 
--- two of the timer, and then of each hart
-abbrev pub turns : ℕ → List ActorId
-turns harts = ActorId.Timer ∷ ActorId.Timer ∷ hart_turns harts
+-- two events of a hart that isn't left out
+abbrev pub hart_turn : Option ℕ → ℕ → List ActorId
+hart_turn but k = if is_left_out but k then [] else ActorId.Hart k ∷ ActorId.Hart k ∷ []
+
+-- those of each of so many harts, in order
+abbrev pub hart_turns : Option ℕ → ℕ → List ActorId
+hart_turns but zero = []
+hart_turns but (suc k) = hart_turns but k ++ hart_turn but k
+
+-- two of the timer, and then those
+abbrev pub turns : Option ℕ → ℕ → List ActorId
+turns but harts = ActorId.Timer ∷ ActorId.Timer ∷ hart_turns but harts
 
 -- the world was a guest, and is one with as many harts; and these actors made the events
 abbrev pub HasMade : List ActorId → List Entry → WorldValue → WorldValue → Type 0

@@ -1,4 +1,4 @@
-// Between slices: the devices act, one after another.
+// Between turns: the devices act, one after another.
 ghost use Rattle.std.specs.Prelude.{
   ℕ,
   ◌≡◌,
@@ -173,8 +173,8 @@ fn run_device<D: Disk>(
 }
 
 /// Events of each device, in order of their numbers: of each until it has waited, which is made too, or `most` are made.
-/// What a device asks of its disk is answered by that, `Failed` where the call fails. Room for all of them is made first;
-/// where there is no device none is needed. Nothing is said of how far a device gets.
+/// What a device asks of its disk is answered by that, `Failed` where the call fails; at the end the disks settle. Room for all
+/// events is made first; where there is no device none is needed. Nothing is said of how far a device gets.
 ///
 /// Errors: want of memory, which leaves everything as it was.
 pub fn run_devices<D: Disk>(
@@ -197,5 +197,6 @@ pub fn run_devices<D: Disk>(
     for number in 0..devices {
         run_device(world, number as u8, disk, most, &mut events);
     }
+    disk.settle();
     Ok(events)
 }

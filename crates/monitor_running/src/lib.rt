@@ -1,14 +1,16 @@
-//! A machine that runs in slices, with all that happens in a trace.
+//! A machine that runs in turns, with all that happens in a trace.
 //!
-//! `run_once` makes one slice of a machine (`slice_runner`), and `run_while` one after another until a gate is closed.
-//! Each event goes to the trace as an item, in the order of the slice, and what the console holds after a slice goes to
-//! the sink, its item to the trace first. Before each slice the devices act, and their disks answer them (`devices`); where
+//! `run_once` makes one turn of a machine, and `run_while` one after another until a gate is closed. A turn is a slice
+//! (`slice_runner`) where two harts or more have something to do, and events of one hart, in one thread, where it alone has
+//! (`alone`). Each event goes to the trace as an item, in the order of the turn, and what the console holds after it goes to
+//! the sink, its item to the trace first. Before each turn the devices act, and their disks answer them (`devices`); where
 //! every hart waits a few events are made in place of a slice (`waiting`). So what the trace took is a run of the flat
-//! machine that leaves the machine and shows what the sink took, and where slices end early the sink took a front of what
+//! machine that leaves the machine and shows what the sink took, and where turns end early the sink took a front of what
 //! the trace says. `flat_trace` has what an item of a trace does, `specs/Reached.antt` what is kept, `specs/Asked.antt` what
-//! the clock and the disks were asked, and `specs/Ran.antt` how slices go and end.
+//! the clock and the disks were asked, and `specs/Ran.antt` how turns go and end.
 #![tactic(auto)]
 
+mod alone;
 mod devices;
 mod ran;
 mod running;

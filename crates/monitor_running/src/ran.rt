@@ -1,15 +1,15 @@
-// How slices end.
+// How turns end.
 use stamp_merge::{History, Journal};
 use vm_types::Torn;
 
-/// How slices end.
+/// How turns end.
 #[derive(Drop)]
 pub enum Ran {
     /// The gate was closed.
     Closed,
     /// The guest turned itself off.
     Off,
-    /// The trace failed: it lacks the last events of a slice, or has all of them and no item of the drain behind it.
+    /// The trace failed: it lacks the last events of a turn, or has all of them and no item of the drain behind it.
     TraceFailed,
     /// The sink failed, and took a front of what the console held.
     SinkFailed,
@@ -19,6 +19,6 @@ pub enum Ran {
         journals: Vec<Journal>,
         histories: Vec<History>,
     },
-    /// There was no memory for a slice.
+    /// There was no memory for a turn.
     OutOfMemory,
 }

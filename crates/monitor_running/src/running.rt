@@ -1,17 +1,18 @@
-// Slices of a machine until a gate is closed.
+// Turns of a machine until a gate is closed.
 ghost use Rattle.std.specs.Prelude.{◌≡◌, ◌≢◌, ◌≤◌, ◌<◌, ◌+◌, true, length, All, MatchBool};
 ghost use Rattle.vm_host.specs.Telling as clocks;
 ghost use Rattle.monitor_machine.specs.State.{IsLive};
 ghost use Rattle.monitor_running.specs.declared.ran.Ran.TheVariants as ran;
 ghost use Rattle.monitor_running.specs.Passes.{ArePassed};
-ghost use Rattle.monitor_running.specs.Ran.{IsRunning, Went, end_by, slice_end};
+ghost use Rattle.monitor_running.specs.Ran.{IsRunning, Went, slice_end};
 ghost use Rattle.monitor_running.specs.Asked.{host_known};
 ghost use Rattle.monitor_running.specs.Reached.{Known, known};
 
+use crate::alone::{MOST_ALONE, Turn, lone_hart, run_alone};
 use crate::devices::{MOST_DEVICES, run_devices};
 use crate::ran::Ran;
-use crate::telling::{Untold, tell_slice};
-use crate::waiting::{all_wait, pass_time};
+use crate::telling::{end_by, tell_slice};
+use crate::waiting::{MOST_HARTS, all_wait, pass_round, time_left};
 use monitor_machine::LiveMachine;
 use pause_gate::Gate;
 use serve_host::Trace;
@@ -22,9 +23,6 @@ use std::thread::Threads;
 use vm_host::{Clock, Disk, Host};
 use vm_outside::Sink;
 use vm_world::World;
-
-/// A slice has at most so many harts, and so has every guest that a start or a load makes.
-const MOST_HARTS: usize = 32;
 
 /// All actors of a slice together make at most so many steps, so that their journals take some 45 MiB at most.
 const MOST_STEPS: u32 = 65_536;
@@ -70,17 +68,6 @@ fn slice_end(why: SliceError) -> Ran
             histories,
         },
         SliceError::OutOfMemory => Ran::OutOfMemory,
-    }
-}
-
-// The end for which something was not told.
-fn end_by(why: Untold) -> Ran
-    ensures { result ≡ end_by why }
-{
-    match why {
-        Untold::Trace => Ran::TraceFailed,
-        Untold::Sink => Ran::SinkFailed,
-        Untold::OutOfMemory => Ran::OutOfMemory,
     }
 }
 
@@ -166,12 +153,12 @@ fn act<D: Disk, L, V, C: Clock, T: Trace, K: Sink>(
     None
 }
 
-// The clock rests, where every hart waits still.
+// The clock rests, where every hart waits still, until the next timer interrupt is due at most.
 fn rest_where_all_wait<C: Clock>(world: &World, clock: &mut C)
     ensures { clocks.Lasts (C.known clock.old) (C.known clock.new) }
 {
     if world.hart_count() <= MOST_HARTS && all_wait(world) {
-        clock.rest();
+        clock.rest(time_left(world.board()));
     }
 }
 
@@ -189,17 +176,15 @@ fn wait<D: Disk, L, V, C: Clock, T: Trace, K: Sink>(
         (known (T.known trace.new) (K.known sink.new) (host_known C.known D.known host.new)) world.new }
     ensures unclosed { result ≢ Some ran.Closed }
 {
-    let Ok(events) = pass_time(alloc, world, &mut host.clock) else {
-        return Some(Ran::OutOfMemory);
-    };
-    if let Err(why) = tell_slice(alloc, events.as_slice(), world, trace, sink) {
-        return Some(end_by(why));
+    if let Some(end) = pass_round(alloc, world, host, None, trace, sink) {
+        return Some(end);
     }
     rest_where_all_wait(world, &mut host.clock);
     None
 }
 
-// One slice, where each hart and the timer has a pass and a hart has something to do; else time passes.
+// One slice, where each hart and the timer has a pass and two harts have something to do. A turn of one hart, where it alone has;
+// and else time passes.
 fn run_or_wait<
     Q: Send + Drop,
     D: Disk,
@@ -229,11 +214,15 @@ fn run_or_wait<
     ensures unclosed { result ≢ Some ran.Closed }
 {
     if !has_passes(world, passes.len()) {
-        host.clock.rest();
+        host.clock.rest(u64::MAX);
         return None;
     }
     if all_wait(world) {
         return wait(alloc, world, host, trace, sink);
+    }
+    if let Some(hart) = lone_hart(world) {
+        let most = steps.min(MOST_ALONE);
+        return run_alone(alloc, world, host, Turn { hart, most }, trace, sink);
     }
     run_guest(rt, alloc, world, host, gate, passes, steps, trace, sink)
 }
@@ -273,16 +262,21 @@ fn run_world<
     run_or_wait(rt, alloc, world, host, gate, passes, steps, trace, sink)
 }
 
-/// One slice of a machine, of `steps` steps at most of each actor, and 65,536 of all of them. An actor asks the gate with a
-/// pass of its own before each step. Before the slice the devices act without the gate (`run_devices`), each of them 4,096
-/// events at most, and all of them 16,384. Answers why slices end, or `None` where they may go on; it is `Off` where the
-/// guest is off, of which no slice is made. That the gate is closed is no end here.
+/// One turn of a machine. Before it the devices act without the gate (`run_devices`), each of them 4,096 events at most, and all of
+/// them 16,384. Answers why turns end, or `None` where they may go on; it is `Off` where the guest is off, of which no turn is made.
+/// That the gate is closed is no end here.
+///
+/// Where two harts or more have something to do the turn is a slice, of `steps` steps at most of each actor, and 65,536 of all of them.
+/// An actor asks the gate with a pass of its own before each step. Where one hart alone has, and each other one waits, it is two
+/// events of the timer and of each other hart, and then, where these wait still, events of that hart until it waits, `steps` and
+/// 49,152 at most: no slice is opened, and the gate isn't asked. Where every hart waits it is two events of the timer and of each
+/// hart, without the gate, and where all of them wait still, the clock rests, until the next timer interrupt is due at most. It rests
+/// too where no guest runs, and where there are fewer passes than actors or more harts than a slice has (no start and no load makes so
+/// many). Nothing is said of time.
 ///
 /// Each event goes to the trace, as `step ACTOR 1`, or `reply ACTOR R` with the answer of a host object; then, where the
-/// console holds anything, `console` goes there too, and then what it held goes to the sink, as it is. Where every hart waits,
-/// two events of the timer and of each hart are made in place of a slice, without the gate, and where all of them wait still,
-/// the clock rests. It rests too where no guest runs, and where there are fewer passes than actors or more harts than a
-/// slice has (no start and no load makes so many). Nothing is said of time.
+/// console holds anything, `console` goes there too, and then what it held goes to the sink, as it is. No item is made for a trace
+/// that nobody hears.
 pub fn run_once<
     Q: Send + Drop,
     D: Disk,
@@ -315,7 +309,7 @@ pub fn run_once<
         return Some(Ran::Off);
     }
     let Some(mut world) = machine.take_running() else {
-        host.clock.rest();
+        host.clock.rest(u64::MAX);
         return None;
     };
     let end = run_world(
@@ -325,7 +319,7 @@ pub fn run_once<
     end
 }
 
-// Why slices end at a closed gate.
+// Why turns end at a closed gate.
 fn end_of_closed(machine: &LiveMachine) -> Ran
     ensures { (k : Known) → Went IsLive (Some result) k machine.now k machine.now }
 {
@@ -336,7 +330,7 @@ fn end_of_closed(machine: &LiveMachine) -> Ran
     }
 }
 
-/// Slices of a machine, each by `run_once`, until the gate is closed, which is asked with the first pass before each.
+/// Turns of a machine, each by `run_once`, until the gate is closed, which is asked with the first pass before each.
 /// `Closed` is answered where the guest is on, and `Off` where it is off.
 pub fn run_while<
     Q: Send + Drop,

@@ -4,15 +4,17 @@ ghost use Rattle.vm_outside.specs.Known.{Called, Lasts, Tells};
 ghost use Rattle.vm_types.specs.Causes.{Rose};
 ghost use Rattle.monitor_running.specs.declared.telling.Untold.TheVariants as untold;
 ghost use Rattle.flat_trace.specs.Events.{event_items, item_of, needs_room};
-ghost use Rattle.monitor_running.specs.Items.{Drains, TellsPart, TellsSlice};
+ghost use Rattle.monitor_running.specs.Items.{Drains, TellsPart, TellsSlice, TellsSteps};
+ghost use Rattle.monitor_running.specs.Ran.{end_by};
 
+use crate::ran::Ran;
 use flat_trace::event_item;
 use monitor_machine::drain_all;
 use script_text::Item;
 use serve_host::Trace;
 use std::alloc::Global;
 use vm_outside::{Sink, write_all};
-use vm_types::Entry;
+use vm_types::{ActorId, Entry};
 use vm_world::World;
 
 /// What was not told to its end.
@@ -21,6 +23,17 @@ pub enum Untold {
     Trace,
     Sink,
     OutOfMemory,
+}
+
+/// The end for which something was not told.
+pub fn end_by(why: Untold) -> Ran
+    ensures { result ≡ end_by why }
+{
+    match why {
+        Untold::Trace => Ran::TraceFailed,
+        Untold::Sink => Ran::SinkFailed,
+        Untold::OutOfMemory => Ran::OutOfMemory,
+    }
 }
 
 // Tells the trace one event.
@@ -44,18 +57,21 @@ fn tell_event<T: Trace>(alloc: Global, event: &Entry, trace: &mut T) -> Result<(
     Ok(())
 }
 
-// Tells the trace these events, one after another. After an `Err` it has a front of them.
+// Tells the trace these events, one after another, if anybody hears it. After an `Err` it has a front of them.
 fn tell_events<T: Trace>(alloc: Global, events: &[Entry], trace: &mut T) -> Result<(), Untold>
     ensures ok { OnOk result (Tells (T.known trace.old).health →
         (T.known trace.new).took ≡ (T.known trace.old).took ++ event_items events.now) }
     ensures err { OnErr result (Tells (T.known trace.old).health →
-        TellsPart (T.known trace.old).took events.now (T.known trace.new).took) }
+        TellsPart (T.known trace.old).took (event_items events.now) (T.known trace.new).took) }
     ensures short { IfErr result (λ why. why ≡ untold.OutOfMemory → All (λ e. needs_room e ≡ false) events.now → ⊥) }
     ensures cause { IfErr result (λ why. why ≡ untold.Trace →
         Rose (T.known trace.old).health.faults (T.known trace.new).health.faults) }
     ensures unsunk { IfErr result (λ why. why ≢ untold.Sink) }
     ensures lasts { Lasts (T.known trace.old).health (T.known trace.new).health }
 {
+    if !trace.is_heard() {
+        return Ok(());
+    }
     let mut at = 0;
     while at < events.len() {
         tell_event(alloc, &events[at], trace)?;
@@ -109,5 +125,29 @@ pub fn tell_slice<T: Trace, K: Sink>(
     ensures sink_lasts { Lasts (K.known sink.old).health (K.known sink.new).health }
 {
     tell_events(alloc, events, trace)?;
+    drain(guest, trace, sink)
+}
+
+/// Tells the trace so many steps of an actor, and then drains the console. No item is made for them.
+pub fn tell_steps<T: Trace, K: Sink>(
+    actor: ActorId,
+    count: u64,
+    guest: &mut World,
+    trace: &mut T,
+    sink: &mut K,
+) -> Result<(), Untold>
+    ensures told { Tells (T.known trace.old).health → Tells (K.known sink.old).health →
+        TellsSteps result actor count guest.old (T.known trace.old).took (K.known sink.old).taken
+        guest.new (T.known trace.new).took (K.known sink.new).taken }
+    ensures trace_cause { IfErr result (λ why. why ≡ untold.Trace →
+        Rose (T.known trace.old).health.faults (T.known trace.new).health.faults) }
+    ensures sink_cause { IfErr result (λ why. why ≡ untold.Sink →
+        Rose (K.known sink.old).health.faults (K.known sink.new).health.faults) }
+    ensures trace_lasts { Lasts (T.known trace.old).health (T.known trace.new).health }
+    ensures sink_lasts { Lasts (K.known sink.old).health (K.known sink.new).health }
+{
+    let Ok(()) = trace.add_steps(actor, count) else {
+        return Err(Untold::Trace);
+    };
     drain(guest, trace, sink)
 }

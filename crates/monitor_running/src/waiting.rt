@@ -1,12 +1,14 @@
-// Where every hart waits: a round of the timer and a look of each hart, one after another, and no slice.
+// A round of the timer and a look of each hart that waits, one after another, and no slice.
 ghost use Rattle.std.specs.Prelude.{
   ℕ,
   ◌≡◌,
   ◌+◌,
   ◌≤◌,
   ◌↔◌,
+  ◌≢◌,
   true,
   List,
+  Some,
   [],
   ◌∷◌,
   ◌++◌,
@@ -16,16 +18,36 @@ ghost use Rattle.std.specs.Prelude.{
   vec_capacity,
   vec_len,
 };
+ghost use Rattle.vm_types.specs.declared.op.Op.TheVariants.{Idle};
 ghost use Rattle.vm_host.specs.Telling.{ClockKnown};
 ghost use Rattle.flat_guest.specs.Guest.{Guest};
-ghost use Rattle.vm_world.specs.Worlds.{IsWorld, WorldValue};
-ghost use Rattle.monitor_running.specs.Waiting.{AllIdle, HasGone, HasMade, makers, takes_turn, turns};
+ghost use Rattle.vm_world.specs.Worlds.{IsWorld, WorldValue, want_in};
+ghost use Rattle.monitor_running.specs.declared.ran.Ran.TheVariants as ran;
+ghost use Rattle.monitor_running.specs.Asked.{host_known};
+ghost use Rattle.monitor_running.specs.Ran.{IsRunning, Went};
+ghost use Rattle.monitor_running.specs.Reached.{known};
+ghost use Rattle.monitor_running.specs.Waiting.{AllIdle, HasGone, HasMade, hart_turn, is_left_out, makers, takes_turn, turns};
 
+use crate::ran::Ran;
+use crate::telling::{end_by, tell_slice};
+use line_board::Board;
+use serve_host::Trace;
 use slice_runner::ask_clock;
 use std::alloc::{AllocError, Global};
-use vm_host::Clock;
+use vm_host::{Clock, Disk, Host};
+use vm_outside::Sink;
 use vm_types::{ActorId, Entry, Op};
 use vm_world::World;
+
+/// A slice has at most so many harts, and so has every guest that a start or a load makes.
+pub const MOST_HARTS: usize = 32;
+
+/// Whether the hart of this number is there and waits.
+pub fn waits(world: &World, hart: u8) -> bool
+    ensures { (result ≡ true) ↔ (want_in world.now (ActorId.Hart hart) ≡ Some Idle) }
+{
+    matches!(world.want(ActorId::Hart(hart)), Some(Op::Idle))
+}
 
 /// Whether every hart waits, so that only time is to pass.
 pub fn all_wait(world: &World) -> bool
@@ -33,11 +55,23 @@ pub fn all_wait(world: &World) -> bool
     ensures { (result ≡ true) ↔ AllIdle world.now }
 {
     for number in 0..world.hart_count() {
-        if !matches!(world.want(ActorId::Hart(number as u8)), Some(Op::Idle)) {
+        if !waits(world, number as u8) {
             return false;
         }
     }
     true
+}
+
+/// Guest time that is left until the next timer interrupt is due, in nanoseconds: of the moments that are not over, the
+/// first. Where there is none, it is without end.
+pub(crate) fn time_left(board: &Board) -> u64 {
+    let mut left = u64::MAX;
+    for moment in board.deadlines() {
+        if *moment > board.now() {
+            left = left.min(*moment - board.now());
+        }
+    }
+    left
 }
 
 // The next event of an actor, which is given the clock's answer where it asks for that.
@@ -80,17 +114,52 @@ fn step_twice<C: Clock>(world: &mut World, actor: ActorId, clock: &mut C, events
     step_once(world, actor, clock, events);
 }
 
-/// Two events of the timer, and then of each hart, in order, whatever they want. An `Err` leaves everything as it was.
-pub fn pass_time<C: Clock>(
+fn is_left_out(but: Option<u8>, hart: u8) -> bool
+    ensures { result ≡ is_left_out but hart }
+{
+    match but {
+        Some(alone) => alone == hart,
+        None => false,
+    }
+}
+
+// Two events of a hart that isn't left out.
+fn step_hart<C: Clock>(
+    world: &mut World,
+    but: Option<u8>,
+    hart: u8,
+    clock: &mut C,
+    events: &mut Vec<Entry>,
+)
+    requires { vec_len events.old + 2 ≤ vec_capacity events.old }
+    ensures gone { (first : WorldValue) (asked : ClockKnown) →
+        HasGone events.old.items first world.old asked (C.known clock.old) →
+        HasGone events.new.items first world.new asked (C.known clock.new) }
+    ensures made { (first : WorldValue) (actors : List ActorId) →
+        ((g : Guest) → IsWorld first g → takes_turn g (ActorId.Hart hart) ≡ true) →
+        HasMade actors events.old.items first world.old →
+        HasMade (actors ++ hart_turn but hart) events.new.items first world.new }
+    ensures room { vec_capacity events.new ≡ vec_capacity events.old }
+    ensures most { vec_len events.new ≤ vec_len events.old + 2 }
+{
+    if !is_left_out(but, hart) {
+        step_twice(world, ActorId::Hart(hart), clock, events);
+    }
+}
+
+// Two events of the timer, and then of each hart that isn't left out, in order, whatever they want. An `Err` leaves everything as
+// it was.
+fn pass_time<C: Clock>(
     alloc: Global,
     world: &mut World,
+    but: Option<u8>,
     clock: &mut C,
 ) -> Result<Vec<Entry>, AllocError>
     requires { length world.old.harts ≤ 32 }
     ensures gone { IfOk result (λ events.
         HasGone events.items world.old world.new (C.known clock.old) (C.known clock.new)) }
     ensures made { IfOk result (λ events. (g : Guest) → IsWorld world.old g →
-        makers events.items ≡ turns (length world.old.harts)) }
+        makers events.items ≡ turns but (length world.old.harts)) }
     ensures world { OnErr result (world.new ≡ world.old) }
     ensures clock { OnErr result (C.known clock.new ≡ C.known clock.old) }
 {
@@ -98,7 +167,31 @@ pub fn pass_time<C: Clock>(
     let mut events = Vec::with_capacity(alloc, 2 * harts + 2)?;
     step_twice(world, ActorId::Timer, clock, &mut events);
     for number in 0..harts {
-        step_twice(world, ActorId::Hart(number as u8), clock, &mut events);
+        step_hart(world, but, number as u8, clock, &mut events);
     }
     Ok(events)
+}
+
+/// Two events of the timer, and then of each hart but the one that is left out, in order, whatever they want, and a drain.
+pub fn pass_round<D: Disk, L, V, C: Clock, T: Trace, K: Sink>(
+    alloc: Global,
+    world: &mut World,
+    host: &mut Host<D, L, V, C>,
+    but: Option<u8>,
+    trace: &mut T,
+    sink: &mut K,
+) -> Option<Ran>
+    requires { length world.old.harts ≤ 32 }
+    ensures went { Went IsRunning result
+        (known (T.known trace.old) (K.known sink.old) (host_known C.known D.known host.old)) world.old
+        (known (T.known trace.new) (K.known sink.new) (host_known C.known D.known host.new)) world.new }
+    ensures unclosed { result ≢ Some ran.Closed }
+{
+    let Ok(events) = pass_time(alloc, world, but, &mut host.clock) else {
+        return Some(Ran::OutOfMemory);
+    };
+    if let Err(why) = tell_slice(alloc, events.as_slice(), world, trace, sink) {
+        return Some(end_by(why));
+    }
+    None
 }

@@ -11,7 +11,8 @@ pub trait Clock: Drop {
     fn now(&mut self) -> u64
         ensures { Gives (known self.old) result (known self.new) };
 
-    /// Lets some time pass, where nothing can run.
-    fn rest(&mut self)
+    /// Lets some time pass, where nothing can run: this many nanoseconds at most, and less where something may have come
+    /// from outside.
+    fn rest(&mut self, most: u64)
         ensures { Lasts (known self.old) (known self.new) };
 }

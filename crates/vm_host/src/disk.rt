@@ -30,6 +30,11 @@ pub trait Disk: Drop {
             Writes (known self.old).held device (known self.new).held result (WritesPart sector part bytes.now) }
         ensures called { Called (known self.old).health (known self.new).health result };
 
+    /// The devices rest for a while: what was written is with the system then, so that others see it, and what was read is read anew.
+    /// What can't be written yet stays written for whoever reads, and a later call of the device's fails for it.
+    fn settle(&mut self)
+        ensures { known self.new ≡ known self.old };
+
     /// What was written to the device's disk outlives a crash from now on.
     fn flush(&mut self, device: u8) -> Result<(), Failed>
         ensures same { Tells (known self.old).health → (known self.new).held ≡ (known self.old).held }

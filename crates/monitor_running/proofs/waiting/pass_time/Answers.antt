@@ -22,14 +22,14 @@ loop-number-init g c =
 pub loop-number-preserved : goal.loop-number-preserved
 loop-number-preserved g c =
     let before = c.loop-number.invariant in
-    let after = c.step_twice-in-loop-number.ensures in record {
+    let after = c.step_hart.ensures in record {
       gone = after.gone c.args.world.now (g.C.Clock.known c.args.clock.now) before.gone;
       made =
           let w = c.args.world.now in
           let k = c.loop-number.number in
           let there = hart_there w k (omega (arith, c.loop-number-test.true, c.hart_count-harts.ensures)) in
-          subst (λ (l : List ActorId). HasMade l c.step_twice-in-loop-number.new.events.items w c.step_twice-in-loop-number.new.world)
-          (turns_more k) (after.made w (turns k) there before.made);
+          subst (λ (l : List ActorId). HasMade l c.step_hart.new.events.items w c.step_hart.new.world)
+          (turns_more c.args.but k) (after.made w (turns c.args.but k) there before.made);
       most = omega (arith, after.most, before.most);
       room = omega (arith, after.room, before.room);
     }

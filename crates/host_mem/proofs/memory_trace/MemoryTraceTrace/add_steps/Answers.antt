@@ -1,0 +1,12 @@
+use Rattle.std.proofs.Common.{◌∙◌, refl}
+use Rattle.host_mem.proofs.Steps.{steps_more}
+use Rattle.host_mem.proofs.memory_trace.MemoryTraceTrace.add_steps.Goals as goal
+
+pub loop-taken-preserved : goal.loop-taken-preserved
+loop-taken-preserved c =
+    let before = c.loop-taken.invariant in
+    let added = c.in_ok-add.ensures in
+    record {
+      took = steps_more _ _ _ _ _ before.took (added.adds refl);
+      kept = added.called.kept ∙ before.kept;
+    }

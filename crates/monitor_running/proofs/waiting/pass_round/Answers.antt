@@ -1,0 +1,25 @@
+use Rattle.std.proofs.Common.{ℕ, refl, []}
+use Rattle.slice_runner.specs.declared.slice.SliceError.TheVariants as error
+use Rattle.monitor_running.specs.declared.ran.Ran.TheVariants as ran
+use Rattle.monitor_running.proofs.Joins.{host_same}
+use Rattle.monitor_running.proofs.Told.{round_gone, went_failed, went_told, went_untold}
+use Rattle.monitor_running.proofs.waiting.pass_round.Goals as goal
+
+pub returns-in_default-clause-went : goal.returns-in_default-clause-went
+returns-in_default-clause-went g c =
+    went_failed {Q = ℕ} ran.OutOfMemory error.OutOfMemory _ _ _ _ _ _ [] [] refl refl
+    (c.in_default.ensures.world, c.in_default.ensures.clock, refl)
+
+pub returns-in-Err-clause-went : goal.returns-in-Err-clause-went
+returns-in-Err-clause-went g c =
+    let told = c.in-Err.ensures in
+    went_untold c.end_by.result c.in-Err.why _ _ _ _ _ _ _ _ _ c.in-Ok.events.items _ c.end_by.ensures
+    c.as_slice.ensures.value (round_gone c.args.but _ _ _ _ _ _ c.in-Ok.ensures.gone c.in-Ok.ensures.made)
+    told.told told.trace_cause told.sink_cause told.trace_lasts told.sink_lasts
+
+pub returns-clause-went : goal.returns-clause-went
+returns-clause-went g c =
+    let told = c.in_default-tell_slice.ensures in
+    went_told _ _ _ _ _ _ _ _ _ _ c.in-Ok.events.items _ c.as_slice.ensures.value
+    (round_gone c.args.but _ _ _ _ _ _ c.in-Ok.ensures.gone c.in-Ok.ensures.made) told.told told.trace_lasts told.sink_lasts
+    (host_same _)

@@ -1,0 +1,11 @@
+use Rattle.std.proofs.Common.{sym}
+use Rattle.monitor_running.proofs.Making.{made_in, made_out}
+use Rattle.monitor_running.proofs.waiting.step_hart.Goals as goal
+
+pub returns-then-not-is_left_out-clause-made : goal.returns-then-not-is_left_out-clause-made
+returns-then-not-is_left_out-clause-made g c = λ first actors there made.
+    made_in c.args.but c.args.hart _ _ _ _ (sym c.if-not-is_left_out.ensures) (c.step_twice.ensures.made first actors there made)
+
+pub returns-else-not-is_left_out-clause-made : goal.returns-else-not-is_left_out-clause-made
+returns-else-not-is_left_out-clause-made g c = λ first actors there made.
+    made_out c.args.but c.args.hart _ _ _ _ (sym c.if-not-is_left_out.ensures) made

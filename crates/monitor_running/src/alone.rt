@@ -1,0 +1,150 @@
+// Where every hart but one waits: a turn of that hart, and no slice.
+ghost use Rattle.std.specs.Prelude.{◌≡◌, ◌≢◌, ◌≤◌, ◌<◌, ◌↔◌, ℕ, true, length, IfSome, None, Some};
+ghost use Rattle.vm_types.specs.declared.ids.ActorId.{ActorId};
+ghost use Rattle.vm_types.specs.declared.op.Op.TheVariants.{Idle};
+ghost use Rattle.vm_world.specs.Worlds.{want_in};
+ghost use Rattle.monitor_running.specs.declared.ran.Ran.TheVariants as ran;
+ghost use Rattle.monitor_running.specs.Alone.{HasRun};
+ghost use Rattle.monitor_running.specs.Asked.{host_known};
+ghost use Rattle.monitor_running.specs.Ran.{IsRunning, Went};
+ghost use Rattle.monitor_running.specs.Reached.{known};
+ghost use Rattle.monitor_running.specs.Waiting.{IsAlone, OthersIdle};
+
+use crate::devices::MOST_DEVICES;
+use crate::ran::Ran;
+use crate::telling::{end_by, tell_steps};
+use crate::waiting::{MOST_HARTS, pass_round, waits};
+use serve_host::Trace;
+use std::alloc::Global;
+use vm_host::{Clock, Disk, Host};
+use vm_outside::Sink;
+use vm_types::{ActorId, Op};
+use vm_world::World;
+
+/// A hart and the devices are looked at after so many events, and where the hart waits then, or a device doesn't, its turn is over. A wait
+/// and its look come in turn, so an even number would find a hart that waits at its look again and again.
+const EVENTS_AT_ONCE: u64 = 1_023;
+
+/// A turn of one hart has at most so many events, so that it takes less than a millisecond.
+pub const MOST_ALONE: u32 = 49_152;
+
+/// A turn of this hart, of so many events at most.
+#[derive(Clone, Copy, Drop)]
+pub struct Turn {
+    pub hart: u8,
+    pub most: u32,
+}
+
+// Whether each hart but this one waits.
+fn others_wait(world: &World, alone: u8) -> bool
+    requires { length world.now.harts ≤ 32 }
+    ensures { (result ≡ true) ↔ OthersIdle alone world.now }
+{
+    for number in 0..world.hart_count() {
+        let hart = number as u8;
+        if hart != alone && !waits(world, hart) {
+            return false;
+        }
+    }
+    true
+}
+
+/// The hart that alone doesn't wait, if there is one.
+pub fn lone_hart(world: &World) -> Option<u8>
+    requires { length world.now.harts ≤ 32 }
+    ensures alone { IfSome result (λ hart. IsAlone hart world.now) }
+    ensures none { result ≡ None → (k : ℕ) → IsAlone k world.now → ⊥ }
+{
+    for number in 0..world.hart_count() {
+        let hart = number as u8;
+        if !waits(world, hart) {
+            return lone_if(world, hart);
+        }
+    }
+    None
+}
+
+// This hart, if it is the only one.
+fn lone_if(world: &World, hart: u8) -> Option<u8>
+    requires few { length world.now.harts ≤ 32 }
+    requires busy { want_in world.now (ActorId.Hart hart) ≢ Some Idle }
+    requires there { hart < length world.now.harts }
+    ensures alone { IfSome result (λ hart. IsAlone hart world.now) }
+    ensures none { result ≡ None → (k : ℕ) → IsAlone k world.now → ⊥ }
+{
+    if others_wait(world, hart) {
+        Some(hart)
+    } else {
+        None
+    }
+}
+
+// How many of these events are made at once: an odd number.
+fn at_once(left: u64) -> u64
+    requires { 0 < left }
+    ensures { (0 < result) × (result ≤ left) }
+{
+    let most = left.min(EVENTS_AT_ONCE);
+    most - (most + 1) % 2
+}
+
+// Whether a device has something to do, so that its turn is to come soon: a request of a guest then waits no longer than the events
+// that are made at once.
+fn device_works(world: &World) -> bool {
+    for number in 0..world.devices().len().min(MOST_DEVICES) {
+        if !matches!(world.want(ActorId::Device(number as u8)), Some(Op::Idle)) {
+            return true;
+        }
+    }
+    false
+}
+
+// Events of the hart until it waits or stops, or a device has something to do, or it has made as many as its turn has, and how
+// many there were.
+fn run_hart(world: &mut World, turn: Turn) -> u64
+    ensures run { HasRun turn.hart result world.old world.new }
+    ensures most { result ≤ turn.most }
+{
+    let most = turn.most as u64;
+    let mut made = 0;
+    while made < most {
+        let next = at_once(most - made);
+        let Ok(count) = world.run(ActorId::Hart(turn.hart), next) else {
+            return made;
+        };
+        made += count.min(next);
+        if count < next || waits(world, turn.hart) || device_works(world) {
+            return made;
+        }
+    }
+    made
+}
+
+/// A turn of one hart. Before it two events of the timer and of each other hart are made, and where another one waits no more after
+/// them, this turn has no event of the hart. They are told, and drained, and so are then the hart's.
+pub fn run_alone<D: Disk, L, V, C: Clock, T: Trace, K: Sink>(
+    alloc: Global,
+    world: &mut World,
+    host: &mut Host<D, L, V, C>,
+    turn: Turn,
+    trace: &mut T,
+    sink: &mut K,
+) -> Option<Ran>
+    requires { length world.old.harts ≤ 32 }
+    ensures went { Went IsRunning result
+        (known (T.known trace.old) (K.known sink.old) (host_known C.known D.known host.old)) world.old
+        (known (T.known trace.new) (K.known sink.new) (host_known C.known D.known host.new)) world.new }
+    ensures unclosed { result ≢ Some ran.Closed }
+{
+    if let Some(end) = pass_round(alloc, world, host, Some(turn.hart), trace, sink) {
+        return Some(end);
+    }
+    if world.hart_count() > MOST_HARTS || !others_wait(world, turn.hart) {
+        return None;
+    }
+    let made = run_hart(world, turn);
+    if let Err(why) = tell_steps(ActorId::Hart(turn.hart), made, world, trace, sink) {
+        return Some(end_by(why));
+    }
+    None
+}
