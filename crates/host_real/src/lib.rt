@@ -5,9 +5,17 @@
 //! That the right bytes come in and go out is shown by `object_cases`, over real files and sockets.
 #![tactic(auto)]
 
+mod bell;
 mod disk_files;
+mod disk_locks;
+mod disk_parts;
+mod file_lock;
 mod kept_memory;
+mod limited_file;
+mod looking;
+mod patience;
 mod random_words;
+mod socket_client;
 mod socket_conn;
 mod socket_file;
 mod socket_listener;
@@ -15,7 +23,9 @@ mod system_clock;
 mod trace_file;
 mod trace_lines;
 
+pub use bell::Bell;
 pub use disk_files::DiskFiles;
+pub use disk_parts::DiskParts;
 pub use kept_memory::keep_freed_memory;
 pub use random_words::RandomWords;
 pub use socket_conn::SocketConn;

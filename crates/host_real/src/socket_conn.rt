@@ -1,73 +1,70 @@
 // A connection over a Unix socket.
-ghost use Rattle.std.specs.Prelude.{◌≡◌, length, IfOk};
-ghost use Rattle.serve_host.specs.Passing.{IsWithin};
+ghost use Rattle.std.specs.Prelude.{◌≡◌, IfOk};
 
+use crate::bell::Bell;
+use crate::socket_client::Client;
 use outside_real::counted::counted;
-use outside_real::tries;
 use serve_host::{Conn, Got};
-use std::io;
-use std::io::{ErrorKind, Read};
 use std::os::unix::net::UnixStream;
-use std::time::Duration;
+use std::{io, rt};
 use vm_outside::Failed;
 
-// How long a read waits for a byte, and a write for room, in milliseconds.
-const READ_WAIT: u64 = 1;
-
-const WRITE_WAIT: u64 = 10_000;
-
-/// A read waits for a millisecond at most, so that who asks again and again leaves the processor to others. A write
-/// waits for its peer for ten seconds at most, and then fails.
+/// A read waits for its client, half a second at most. It fails where a client without a begun request was silent
+/// for 100 milliseconds while another one waits at the bell's door, or for five seconds; where no more of a request came that
+/// was begun for ten seconds; and where the client was gone altogether before its first byte was read. A write waits for its
+/// client for ten seconds at most, and then fails. Behind one that took all of its bytes the connection comes to its end
+/// where another client has waited for 100 milliseconds.
+///
+/// Before a client's connection ends so it can't send any more, and what it had sent until then is given first: no request is
+/// lost. Each read but one that finds nothing rings the bell.
 #[derive(Drop)]
-pub struct SocketConn {
-    stream: UnixStream,
+pub struct SocketConn<'a, R> {
+    client: Client<'a, R>,
+    bell: &'a Bell,
     faults: u64,
 }
 
-impl SocketConn {
-    pub fn new(stream: UnixStream) -> io::Result<SocketConn>
-        ensures { IfOk result (λ conn. (⟦<SocketConn as Conn>⟧.known conn).health.faults ≡ 0) }
+impl<'a, R: rt::Clock> SocketConn<'a, R> {
+    pub fn new(rt: &'a R, bell: &'a Bell, stream: UnixStream) -> io::Result<SocketConn<'a, R>>
+        ensures { IfOk result (λ conn. (⟦<SocketConn<'a, R> as Conn>⟧.known conn).health.faults ≡ 0) }
     {
-        stream.set_nonblocking(false)?;
-        stream.set_read_timeout(Some(Duration::from_millis(READ_WAIT)))?;
-        stream.set_write_timeout(Some(Duration::from_millis(WRITE_WAIT)))?;
-        Ok(SocketConn { stream, faults: 0 })
+        Ok(SocketConn {
+            client: Client::new(rt, bell, stream)?,
+            bell,
+            faults: 0,
+        })
     }
 
     /// How many calls have failed. It stays at its last value.
     pub fn faults(&self) -> u64
-        ensures { result ≡ (⟦<SocketConn as Conn>⟧.known self.now).health.faults }
+        ensures { result ≡ (⟦<SocketConn<'a, R> as Conn>⟧.known self.now).health.faults }
     {
         self.faults
     }
+
+    /// Ends the connection. Where the last call was a write, up to 1 MiB that the client still sends is read away, for a
+    /// second at most, so that it doesn't fail before it has read its answer.
+    pub fn close(self) {
+        self.client.let_go();
+    }
 }
 
-impl Conn for SocketConn {
+impl<'a, R: rt::Clock> Conn for SocketConn<'a, R> {
     ghost use Rattle.std.specs.Prelude.{[]};
     ghost use Rattle.outside_real.specs.Counting.{untold};
 
     ghost known = { λ c. record { health = untold c.faults; gave = []; took = []; left = [] } };
 
     fn read(&mut self, buf: &mut [u8]) -> Result<Got, Failed> {
-        counted(&mut self.faults, read_now(&mut self.stream, buf))
+        self.bell.quiet();
+        let got = counted(&mut self.faults, self.client.hear(buf));
+        if !matches!(got, Ok(Got::NotYet)) {
+            self.bell.ring();
+        }
+        got
     }
 
     fn write(&mut self, bytes: &[u8]) -> Result<usize, Failed> {
-        counted(&mut self.faults, tries::write_some(&mut self.stream, bytes))
-    }
-}
-
-// A read with no room tells nothing of the end.
-fn read_now<S: Read>(stream: &mut S, buf: &mut [u8]) -> io::Result<Got>
-    ensures within { IfOk result (λ got. IsWithin got (length buf.new)) }
-{
-    if buf.is_empty() {
-        return Ok(Got::NotYet);
-    }
-    match tries::read_some(stream, buf) {
-        Ok(0) => Ok(Got::End),
-        Ok(count) => Ok(Got::Bytes(count)),
-        Err(e) if e.kind() == ErrorKind::WouldBlock => Ok(Got::NotYet),
-        Err(e) => Err(e),
+        counted(&mut self.faults, self.client.tell(bytes))
     }
 }

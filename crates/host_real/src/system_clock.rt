@@ -1,21 +1,23 @@
 // The system's clock.
+use crate::bell::Bell;
+use std::rt;
 use std::time::Duration;
-use std::{rt, thread};
 use vm_host::Clock;
 
-// How long a rest takes, in milliseconds.
-const REST: u64 = 1;
+// No rest is longer, in nanoseconds: a second.
+const LONG_REST: u64 = 1_000_000_000;
 
 /// The clock that never goes back. Where the system doesn't tell it, the last moment is told again.
 #[derive(Drop)]
 pub struct SystemClock<'a, R> {
     rt: &'a R,
+    bell: &'a Bell,
     last: u64,
 }
 
 impl<'a, R: rt::Clock> SystemClock<'a, R> {
-    pub fn new(rt: &'a R) -> SystemClock<'a, R> {
-        SystemClock { rt, last: 0 }
+    pub fn new(rt: &'a R, bell: &'a Bell) -> SystemClock<'a, R> {
+        SystemClock { rt, bell, last: 0 }
     }
 }
 
@@ -31,8 +33,9 @@ impl<'a, R: rt::Clock> Clock for SystemClock<'a, R> {
         self.last
     }
 
-    /// A millisecond.
-    fn rest(&mut self) {
-        thread::sleep(self.rt, Duration::from_millis(REST));
+    /// It ends where the bell rings, and after a second at most.
+    fn rest(&mut self, most: u64) {
+        self.bell
+            .rest(self.rt, Duration::from_nanos(most.min(LONG_REST)));
     }
 }

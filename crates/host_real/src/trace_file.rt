@@ -1,21 +1,25 @@
 // A trace in a file.
 ghost use Rattle.std.specs.Prelude.{◌≡◌};
 
+use crate::limited_file::LimitedFile;
 use crate::trace_lines::TraceLines;
 use outside_real::counted::counted;
+use outside_real::create_private;
 use script_text::Item;
 use serve_host::Trace;
-use std::fs::File;
-use std::rt;
+use std::{io, rt};
 use vm_outside::Failed;
+use vm_types::ActorId;
 
 /// Writes each item as a line of a script, and hands it to the system before anything that it shows is shown (`TraceLines`).
 /// Opening it takes the place of a file that was there. Before that nothing is kept. An item that there is no memory for is
-/// a failure. Where the system doesn't take a line, the lines of events that were held back before it are lost with it.
+/// a failure, and so is one that would take a regular file past the process's limit on sizes. Where the system doesn't take a
+/// line, the lines of events that were held back before it are lost with it. A new file is its owner's alone. Where it was not
+/// opened nobody hears it.
 #[derive(Drop)]
 pub struct TraceFile<'a, R: rt::Files> {
     rt: &'a R,
-    lines: Option<TraceLines<R::File>>,
+    lines: Option<TraceLines<LimitedFile<R::File>>>,
     faults: u64,
 }
 
@@ -47,7 +51,7 @@ impl<'a, R: rt::Files + AllocGlobal> Trace for TraceFile<'a, R> {
     /// The trace before it, if there is one, is finished first.
     fn open(&mut self, path: &str) -> Result<(), Failed> {
         self.finish()?;
-        let file = counted(&mut self.faults, File::create(self.rt, path))?;
+        let file = counted(&mut self.faults, create(self.rt, path))?;
         self.lines = Some(TraceLines::new(self.rt.alloc(), file));
         Ok(())
     }
@@ -59,10 +63,28 @@ impl<'a, R: rt::Files + AllocGlobal> Trace for TraceFile<'a, R> {
         counted(&mut self.faults, lines.add(self.rt.alloc(), item))
     }
 
+    fn add_steps(&mut self, actor: ActorId, count: u64) -> Result<(), Failed> {
+        let Some(lines) = &mut self.lines else {
+            return Ok(());
+        };
+        counted(
+            &mut self.faults,
+            lines.add_steps(self.rt.alloc(), actor, count),
+        )
+    }
+
+    fn is_heard(&self) -> bool {
+        self.lines.is_some()
+    }
+
     fn finish(&mut self) -> Result<(), Failed> {
         let Some(lines) = &mut self.lines else {
             return Ok(());
         };
         counted(&mut self.faults, lines.finish())
     }
+}
+
+fn create<R: rt::Files>(rt: &R, path: &str) -> io::Result<LimitedFile<R::File>> {
+    LimitedFile::new(create_private(rt, path)?)
 }

@@ -1,6 +1,6 @@
 // What stands at a name that is to be listened on, or takes it meanwhile.
 use crate::showing::{Shown, text_of};
-use host_real::SocketListener;
+use host_real::{Bell, SocketListener};
 use serve_host::Listener;
 use std::os::unix::fs::symlink;
 use std::os::unix::net::UnixListener;
@@ -36,7 +36,8 @@ fn show_link(rt: &HostRuntime, shown: &mut Shown) -> io::Result<()> {
 
 // A file that has taken the socket's name stays when the listener goes.
 fn show_taken(rt: &HostRuntime, shown: &mut Shown) -> io::Result<()> {
-    take_name(rt, &mut SocketListener::new(rt), shown)?;
+    let bell = Bell::new(rt);
+    take_name(rt, &mut SocketListener::new(rt, &bell), shown)?;
     show_held(rt, shown)?;
     fs::remove_file(rt, NAME)
 }
@@ -52,7 +53,8 @@ fn take_name(
 }
 
 fn show_listen(rt: &HostRuntime, done: &str, shown: &mut Shown) {
-    let mut listener = SocketListener::new(rt);
+    let bell = Bell::new(rt);
+    let mut listener = SocketListener::new(rt, &bell);
     let came = listener.listen(NAME);
     shown.show_two(done, &came, &listener.faults());
 }

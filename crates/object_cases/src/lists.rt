@@ -7,11 +7,12 @@ use serve_host::{Trace, Words};
 use std::alloc::{AllocError, Global};
 use vm_host::Clock;
 use vm_outside::Failed;
-use vm_types::ByteList;
+use vm_types::{ActorId, ByteList};
 
 pub fn show(alloc: Global, shown: &mut Shown) -> Result<(), AllocError> {
     let bytes = ByteList::copy_of(alloc, b"ab")?;
     show_trace(&mut trace(alloc)?, Item::Bytes { bytes }, shown);
+    show_steps(&mut steps_trace(alloc)?, shown);
     shown.show("words: three", &three_words(alloc)?);
     shown.show("steady words: two", &two_words(alloc)?);
     let mut clock = MemoryClock::new(Numbers::new(Vec::new(alloc)));
@@ -31,6 +32,32 @@ fn show_trace(trace: &mut MemoryTrace, bytes: Item, shown: &mut Shown) {
     show_taken(trace, shown);
     shown.show("trace: finish", &[trace.finish(), trace.finish()]);
     show_taken(trace, shown);
+}
+
+// The second of the three last steps fails.
+fn steps_trace(alloc: Global) -> Result<MemoryTrace, AllocError> {
+    let calls = [3].to_vec(alloc)?;
+    Ok(MemoryTrace::new(alloc, Failing::new(calls)))
+}
+
+fn show_steps(trace: &mut MemoryTrace, shown: &mut Shown) {
+    shown.show("trace: heard", &trace.is_heard());
+    shown.show("trace: add 2 steps", &trace.add_steps(ActorId::Hart(1), 2));
+    show_taken(trace, shown);
+    shown.show("trace: add 3 steps", &trace.add_steps(ActorId::Hart(1), 3));
+    show_taken(trace, shown);
+    let steps = trace.took().iter().filter(|item| is_step(item)).count();
+    shown.show("trace: steps of hart 1", &steps);
+}
+
+fn is_step(item: &Item) -> bool {
+    matches!(
+        item,
+        Item::Step {
+            actor: ActorId::Hart(1),
+            count: 1,
+        }
+    )
 }
 
 fn show_taken(trace: &MemoryTrace, shown: &mut Shown) {

@@ -1,6 +1,6 @@
 // A socket, and a connection over it.
 use crate::showing::{Shown, found, text_of};
-use host_real::{SocketConn, SocketListener};
+use host_real::{Bell, SocketConn, SocketListener};
 use serve_host::{Accepted, Conn, Listener, put_all};
 use std::io::{Read, Write};
 use std::os::unix::net::{UnixListener, UnixStream};
@@ -9,17 +9,18 @@ use std::{fs, io};
 const NAME: &str = "socket";
 
 pub fn show(rt: &HostRuntime, shown: &mut Shown) -> io::Result<()> {
-    show_pair(rt, shown)?;
+    show_pair(rt, &Bell::new(rt), shown)?;
     // A socket is left there, where nobody listens.
     drop(UnixListener::bind(rt, NAME)?);
-    show_taken_over(rt, &mut SocketListener::new(rt), shown)?;
+    let bell = Bell::new(rt);
+    show_taken_over(rt, &mut SocketListener::new(rt, &bell), shown)?;
     shown.show("socket: stands at the end", &fs::exists(rt, NAME)?);
     Ok(())
 }
 
-fn show_pair(rt: &HostRuntime, shown: &mut Shown) -> io::Result<()> {
+fn show_pair(rt: &HostRuntime, bell: &Bell, shown: &mut Shown) -> io::Result<()> {
     let (client, server) = UnixStream::pair(rt)?;
-    let mut conn = SocketConn::new(server)?;
+    let mut conn = SocketConn::new(rt, bell, server)?;
     show_both_ways(client, &mut conn, shown)?;
     show_end(&mut conn, shown);
     Ok(())
@@ -28,7 +29,7 @@ fn show_pair(rt: &HostRuntime, shown: &mut Shown) -> io::Result<()> {
 // The other end is closed then.
 fn show_both_ways<C: Read + Write + Drop>(
     mut client: C,
-    conn: &mut SocketConn,
+    conn: &mut SocketConn<'_, HostRuntime>,
     shown: &mut Shown,
 ) -> io::Result<()> {
     show_read(conn, shown);
@@ -42,7 +43,7 @@ fn show_both_ways<C: Read + Write + Drop>(
     Ok(())
 }
 
-fn show_end(conn: &mut SocketConn, shown: &mut Shown) {
+fn show_end(conn: &mut SocketConn<'_, HostRuntime>, shown: &mut Shown) {
     show_read(conn, shown);
     shown.show("socket: failed", &conn.faults());
     let more = conn.write(b"more");
@@ -53,7 +54,7 @@ fn show_end(conn: &mut SocketConn, shown: &mut Shown) {
 }
 
 // What a read gives, and what a buffer has then.
-fn show_read(conn: &mut SocketConn, shown: &mut Shown) {
+fn show_read(conn: &mut SocketConn<'_, HostRuntime>, shown: &mut Shown) {
     let mut buf = [0; 4];
     let got = conn.read(&mut buf);
     shown.show_two("socket: read", &got, &text_of(&buf));
@@ -68,7 +69,8 @@ fn show_taken_over(
     shown.show("socket: listen", &listener.listen(NAME));
     shown.show("socket: accept", &found(&listener.accept()));
     show_client(UnixStream::connect(rt, NAME)?, listener, shown)?;
-    show_second(&mut SocketListener::new(rt), shown);
+    let bell = Bell::new(rt);
+    show_second(&mut SocketListener::new(rt, &bell), shown);
     shown.show("socket: the first failed", &listener.faults());
     shown.show("socket: stands", &fs::exists(rt, NAME)?);
     Ok(())

@@ -2,17 +2,19 @@
 use crate::devices::show_part;
 use crate::lists::added;
 use crate::showing::{Shown, alike, part_of, text_of};
-use host_real::{DiskFiles, RandomWords, SystemClock, TraceFile};
+use host_real::{Bell, DiskFiles, RandomWords, SystemClock, TraceFile};
 use script_text::Item;
 use serve_host::{Trace, Words};
 use std::{fs, io};
 use vm_host::{Clock, Disk};
+use vm_outside::Failed;
 use vm_types::ActorId;
 
 pub fn show(rt: &HostRuntime, shown: &mut Shown) -> io::Result<()> {
     show_trace(rt, shown)?;
     show_next(rt, &mut TraceFile::new(rt), shown)?;
     show_full(&mut TraceFile::new(rt), shown);
+    show_steps(rt, &mut TraceFile::new(rt), shown)?;
     fs::remove_file(rt, "trace")?;
     show_disks(rt, shown)?;
     show_words(&mut RandomWords::new(rt), shown);
@@ -43,6 +45,51 @@ fn step() -> Item {
         actor: ActorId::Timer,
         count: 2,
     }
+}
+
+// Steps that are told at once have the lines of steps that are told one by one.
+fn show_steps(
+    rt: &HostRuntime,
+    trace: &mut TraceFile<'_, HostRuntime>,
+    shown: &mut Shown,
+) -> io::Result<()> {
+    shown.show("unopened trace: heard", &trace.is_heard());
+    shown.show(
+        "unopened trace: add steps",
+        &trace.add_steps(ActorId::Hart(3), 1),
+    );
+    let at_once = steps_file(rt, trace, true, shown)?;
+    let one_by_one = steps_file(rt, trace, false, shown)?;
+    shown.show("trace of steps: bytes", &at_once.len());
+    shown.show("trace of steps: alike", &(at_once == one_by_one));
+    Ok(())
+}
+
+fn steps_file(
+    rt: &HostRuntime,
+    trace: &mut TraceFile<'_, HostRuntime>,
+    at_once: bool,
+    shown: &mut Shown,
+) -> io::Result<Vec<u8>> {
+    shown.show("trace of steps: open", &trace.open("trace"));
+    shown.show("trace of steps: heard", &trace.is_heard());
+    let told = if at_once {
+        trace.add_steps(ActorId::Hart(3), 7000)
+    } else {
+        one_by_one(trace)
+    };
+    shown.show("trace of steps: add, finish", &(told, trace.finish()));
+    fs::read(rt, "trace")
+}
+
+fn one_by_one(trace: &mut TraceFile<'_, HostRuntime>) -> Result<(), Failed> {
+    for _step in 0..7000 {
+        trace.add(&Item::Step {
+            actor: ActorId::Hart(3),
+            count: 1,
+        })?;
+    }
+    Ok(())
 }
 
 // A line is held back; it is written where the trace is finished, and where another one is opened.
@@ -136,8 +183,9 @@ fn show_words(words: &mut RandomWords<'_, HostRuntime>, shown: &mut Shown) {
 }
 
 fn is_later(rt: &HostRuntime) -> bool {
-    let mut clock = SystemClock::new(rt);
+    let bell = Bell::new(rt);
+    let mut clock = SystemClock::new(rt, &bell);
     let before = clock.now();
-    clock.rest();
+    clock.rest(10_000_000_000);
     clock.now() > before
 }

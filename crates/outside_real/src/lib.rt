@@ -6,8 +6,8 @@
 //! in and go out is shown by `object_cases`, over real files.
 //!
 //! Read `reading`, `writing` and `folder`, one for each trait, then `named_file` and `open_files` with the calls on one
-//! file, `entered` with the names that are on disk, and `tries` with the calls that a signal may cut off.
-//! `counted` and `tries` serve the adapters of other crates too.
+//! file, `entered` with the names that are on disk, `size_limit` with the limit that a write must not pass, and `tries`
+//! with the calls that a signal may cut off. `counted`, `size_limit` and `tries` serve the adapters of other crates too.
 #![tactic(auto)]
 
 pub mod counted;
@@ -16,10 +16,13 @@ mod folder;
 mod named_file;
 mod open_files;
 mod reading;
+pub mod size_limit;
+mod standard;
 pub mod tries;
 mod writing;
 
 pub use folder::Folder;
-pub use named_file::folder_of;
+pub use named_file::{create_private, folder_of};
 pub use reading::Reading;
+pub use standard::fill_standard;
 pub use writing::Writing;

@@ -5,8 +5,12 @@
 // isn't seen, since a file can't be opened without waiting.
 use std::fs::{File, OpenFile, OpenOptions};
 use std::io::ErrorKind;
+use std::os::unix::fs::OpenOptionsExt;
 use std::path::{AsPath, Path};
 use std::{fs, io, rt};
+
+/// The permissions of a file that its owner alone may read and write.
+const OWNER_ALONE: u32 = 0o600;
 
 /// The length of the file, where there is one. A directory or a special file is an error.
 pub(crate) fn length<R: rt::Files>(rt: &R, name: &str) -> io::Result<Option<u64>> {
@@ -57,8 +61,19 @@ pub fn folder_of(name: &str) -> Path<'_> {
     }
 }
 
-/// Makes a file, or empties the one that is there, and has that on its disk.
+/// Makes a file, or empties the one that is there, and has that on its disk. A new one may be read and written by its
+/// owner alone: it may hold what a guest has in its memory.
 pub(crate) fn make<R: rt::Files>(rt: &R, name: &str) -> io::Result<()> {
     length(rt, name)?;
-    File::create(rt, name)?.sync_all()
+    create_private(rt, name)?.sync_all()
+}
+
+/// A new file, or the one that is there without its bytes, open to be written. A new one is its owner's alone.
+pub fn create_private<R: rt::Files>(rt: &R, name: &str) -> io::Result<R::File> {
+    OpenOptions::new()
+        .write(true)
+        .create(true)
+        .truncate(true)
+        .mode(OWNER_ALONE)
+        .open(rt, name)
 }

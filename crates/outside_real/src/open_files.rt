@@ -1,4 +1,5 @@
 // The file that was read last and the one that was written last, each kept open for the next call.
+use crate::size_limit::within_limit;
 use crate::{named_file, tries};
 use std::io::{ErrorKind, Seek, SeekFrom};
 use std::{io, rt};
@@ -73,7 +74,7 @@ pub(crate) fn read_at<R: rt::Files + AllocGlobal>(
 }
 
 /// Writes all of the bytes at this offset. The system fills what lies between the old end and the
-/// offset with zeros.
+/// offset with zeros. A write past the process's limit on file sizes fails before any of it is made.
 pub(crate) fn write_at<R: rt::Files + AllocGlobal>(
     rt: &R,
     files: &mut OpenFiles<R::File>,
@@ -85,6 +86,7 @@ pub(crate) fn write_at<R: rt::Files + AllocGlobal>(
         Some(open) if open.is_named(name) => open,
         _ => to_write(rt, name)?,
     };
+    within_limit(at, bytes.len())?;
     open.file.seek(SeekFrom::Start(at))?;
     tries::write_whole(&mut open.file, bytes)?;
     if files.keeps {
