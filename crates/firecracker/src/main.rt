@@ -3,17 +3,25 @@
 
 use firecracker_cli::{ServeOutside, firecracker_main};
 use host_real::{
-    DiskFiles, RandomWords, SocketConn, SocketListener, SystemClock, TraceFile, keep_freed_memory,
+    Bell, DiskFiles, RandomWords, SocketConn, SocketListener, SystemClock, TraceFile,
+    keep_freed_memory,
 };
 use monitor_cli::{NoWords, Outside};
-use outside_real::{Folder, Reading, Writing};
+use outside_real::{Folder, Reading, Writing, fill_standard};
 use std::io::ErrorKind;
 use std::process::ExitCode;
 use std::{env, io};
 use vm_host::Host;
 
+/// The status where a standard descriptor is closed and can't be opened either: that of a failed output.
+const NO_OUTPUT: u8 = 4;
+
 fn main(rt: HostRuntime) -> ExitCode {
+    if fill_standard(&rt).is_err() {
+        return ExitCode::from(NO_OUTPUT);
+    }
     keep_freed_memory(&rt);
+    let bell = Bell::new(&rt);
     let mut out = Outside {
         source: Reading::new(rt.stdin()),
         sink: Writing::new(rt.stdout()),
@@ -24,14 +32,14 @@ fn main(rt: HostRuntime) -> ExitCode {
             disk: DiskFiles::new(&rt),
             link: (),
             vsock: (),
-            clock: SystemClock::new(&rt),
+            clock: SystemClock::new(&rt, &bell),
         },
         words: RandomWords::new(&rt),
-        listener: SocketListener::new(&rt),
+        listener: SocketListener::new(&rt, &bell),
         trace: TraceFile::new(&rt),
     };
     let words = words(&rt).map_err(|e| why(&e));
-    let exit = firecracker_main::<_, _, _, _, _, _, SocketConn, _, _, _>(
+    let exit = firecracker_main::<_, _, _, _, _, _, SocketConn<'_, _>, _, _, _>(
         &rt,
         rt.alloc(),
         words,

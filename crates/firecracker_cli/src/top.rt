@@ -1,13 +1,16 @@
 // The top call: a command's words, and what it does.
-ghost use Rattle.std.specs.Prelude.{◌≡◌, IfErr, IfOk, None, Some, map, string_bytes};
+ghost use Rattle.std.specs.Prelude.{◌≡◌, ℕ, IfErr, IfOk, None, Some, map, string_bytes};
 ghost use Rattle.command_words.specs.ServeWords.{ServeWords, serve_words};
 ghost use Rattle.monitor_cli.specs.Command.{Commanded, Wordless};
 ghost use Rattle.monitor_cli.specs.Known.{all_known};
+ghost use Rattle.load_cli.specs.Generating.{Generated};
+ghost use Rattle.load_cli.specs.Words.{generate_number};
 ghost use Rattle.firecracker_cli.specs.Serving.{Serves, serve_known_of};
 
 use crate::outside::ServeOutside;
 use crate::serving::serve_main;
 use command_words::serve_words;
+use load_cli::{generate_main, generate_number};
 use monitor_cli::{NoWords, Outside, refuse, replay_main};
 use serve_host::{Conn, Listener, Trace, Words};
 use std::alloc::Global;
@@ -21,8 +24,8 @@ use vm_types::Exit;
 /// and close the slice (`bench/slices`).
 const STEPS: u32 = 24_576;
 
-/// The command of these words, which are those behind the program's name: `replay [--id ID]`, or
-/// `serve --api-sock PATH [--id ID] [--trace FILE]`. Where the words can't be had, or are no command, the last line
+/// The command of these words, which are those behind the program's name: `replay [--id ID]`,
+/// `serve --api-sock PATH [--id ID] [--trace FILE]`, or `generate N`. Where the words can't be had, or are no command, the last line
 /// that says so is all that is written.
 pub fn firecracker_main<
     I: Source,
@@ -43,6 +46,7 @@ pub fn firecracker_main<
     with: &mut ServeOutside<D, C, W, M, T>,
 ) -> Exit
     ensures replay { IfOk words (λ words. serve_words (map string_bytes words.items) ≡ None →
+        generate_number (map string_bytes words.items) ≡ None →
         Commanded (map string_bytes words.items) result
         (all_known (I.known out.old.source) (O.known out.old.sink) (F.known out.old.files))
         (all_known (I.known out.new.source) (O.known out.new.sink) (F.known out.new.files))) }
@@ -50,6 +54,10 @@ pub fn firecracker_main<
         Serves result it.id
         (serve_known_of T.known O.known C.known D.known F.known W.known M.known out.old.sink out.old.files with.old)
         (serve_known_of T.known O.known C.known D.known F.known W.known M.known out.new.sink out.new.files with.new)) }
+    ensures generate { IfOk words (λ words. (number : ℕ) → generate_number (map string_bytes words.items) ≡ Some number →
+        Generated (map string_bytes words.items) result (O.known out.old.sink) (O.known out.new.sink)) }
+    ensures alone { IfOk words (λ words. (number : ℕ) → generate_number (map string_bytes words.items) ≡ Some number →
+        (out.new.source ≡ out.old.source) × (out.new.files ≡ out.old.files)) }
     ensures wordless { IfErr words (λ why. Wordless why result
         (all_known (I.known out.old.source) (O.known out.old.sink) (F.known out.old.files))
         (all_known (I.known out.new.source) (O.known out.new.sink) (F.known out.new.files))) }
@@ -65,6 +73,28 @@ pub fn firecracker_main<
     };
     match serve_words(&words) {
         Some(it) => serve_main(rt, alloc, it, STEPS, &mut out.files, &mut out.sink, with),
-        None => replay_main(alloc, &words, out),
+        None => short_command(alloc, &words, out),
+    }
+}
+
+// The command of words that don't serve.
+fn short_command<I: Source, O: Sink, F: Files>(
+    alloc: Global,
+    words: &[String],
+    out: &mut Outside<I, O, F>,
+) -> Exit
+    ensures replay { generate_number (map string_bytes words.now) ≡ None →
+        Commanded (map string_bytes words.now) result
+        (all_known (I.known out.old.source) (O.known out.old.sink) (F.known out.old.files))
+        (all_known (I.known out.new.source) (O.known out.new.sink) (F.known out.new.files)) }
+    ensures generate { (number : ℕ) → generate_number (map string_bytes words.now) ≡ Some number →
+        Generated (map string_bytes words.now) result (O.known out.old.sink) (O.known out.new.sink) }
+    ensures alone { (number : ℕ) → generate_number (map string_bytes words.now) ≡ Some number →
+        (out.new.source ≡ out.old.source) × (out.new.files ≡ out.old.files) }
+    ensures unread { result ≡ Exit.Usage → (out.new.source ≡ out.old.source) × (out.new.files ≡ out.old.files) }
+{
+    match generate_number(words) {
+        Some(_) => generate_main(words, out),
+        None => replay_main(alloc, words, out),
     }
 }

@@ -1,4 +1,7 @@
 // A trace that plays what it takes on a machine of its own.
+ghost use Rattle.std.specs.Prelude.{◌≡◌, MatchBool};
+ghost use Rattle.vm_types.specs.Causes.{IsCounted};
+
 use boot_loader::Loads;
 use monitor_machine::LiveMachine;
 use outside_mem::Failing;
@@ -14,32 +17,38 @@ use vm_world::World;
 pub const NOBODY: ActorId = ActorId::Device(0);
 
 /// Plays each item on its machine, and keeps the lines that it answers. After so many items it decides a meeting with
-/// itself, if the gate waits for one: then the gate is closed to whoever asks. It may fail to take the console's item.
+/// itself, if the gate waits for one: then the gate is closed to whoever asks. It may fail to take items.
 #[derive(Drop)]
 pub struct Player<'a> {
     pub machine: LiveMachine,
     answered: ByteList,
     moments: u64,
+    taken: u64,
     left: u64,
     gate: &'a HoldGate,
-    at_the_console: Failing,
+    failing: Failing,
+    consoles_alone: bool,
 }
 
 impl<'a> Player<'a> {
+    /// Of all items, or of the console's alone, those of these numbers fail.
     pub fn new(
         alloc: Global,
         machine: LiveMachine,
         left: u64,
         gate: &'a HoldGate,
-        at_the_console: Failing,
+        failing: Failing,
+        consoles_alone: bool,
     ) -> Player<'a> {
         Player {
             machine,
             answered: ByteList::new(alloc),
             moments: 0,
+            taken: 0,
             left,
             gate,
-            at_the_console,
+            failing,
+            consoles_alone,
         }
     }
 
@@ -51,6 +60,18 @@ impl<'a> Player<'a> {
     /// How many moments of the clock it took.
     pub fn moments(&self) -> u64 {
         self.moments
+    }
+
+    /// How many items it took.
+    pub fn taken(&self) -> u64 {
+        self.taken
+    }
+
+    // Whether this item is the next that is to fail.
+    fn fails_at(&mut self, item: &Item) -> bool
+        ensures { MatchBool result (IsCounted self.old.failing self.new.failing) (self.new.failing ≡ self.old.failing) }
+    {
+        (matches!(item, Item::Console) || !self.consoles_alone) && self.failing.fails()
     }
 }
 
@@ -82,23 +103,24 @@ fn play_into(
 impl Trace for Player<'_> {
     ghost use Rattle.std.specs.Prelude.{false, []};
 
-    ghost known = { λ t. record { health = record { tells = false; faults = t.at_the_console }; took = [] } };
+    ghost known = { λ t. record { health = record { tells = false; faults = t.failing }; took = [] } };
 
     fn open(&mut self, _path: &str) -> Result<(), Failed> {
         Ok(())
     }
 
     fn add(&mut self, item: &Item) -> Result<(), Failed> {
-        if matches!(item, Item::Console) && self.at_the_console.fails() {
+        if self.fails_at(item) {
             return Err(Failed);
         }
         if play_into(&mut self.machine, item, &mut self.answered).is_err() {
-            self.at_the_console.count();
+            self.failing.count();
             return Err(Failed);
         }
         if is_moment(item) {
             self.moments = self.moments.wrapping_add(1);
         }
+        self.taken = self.taken.wrapping_add(1);
         self.left = self.left.saturating_sub(1);
         if self.left == 0 {
             self.gate.inside(NOBODY, PlaceId::Out);
@@ -106,20 +128,37 @@ impl Trace for Player<'_> {
         Ok(())
     }
 
+    fn add_steps(&mut self, actor: ActorId, count: u64) -> Result<(), Failed> {
+        for _taken in 0..count {
+            self.add(&Item::Step { actor, count: 1 })?;
+        }
+        Ok(())
+    }
+
+    fn is_heard(&self) -> bool {
+        true
+    }
+
     fn finish(&mut self) -> Result<(), Failed> {
         Ok(())
     }
 }
 
-/// A machine of two harts and 4 MiB that begins with this image, of which hart 0 has made so many steps.
-pub fn machine_of(alloc: Global, image: &[u8], made: u64) -> Result<LiveMachine, AllocError> {
+/// A machine of 4 MiB that begins with this image, of which hart 0 has made so many steps. It is alone, or there are two.
+pub fn machine_of(
+    alloc: Global,
+    is_alone: bool,
+    image: &[u8],
+    made: u64,
+) -> Result<LiveMachine, AllocError> {
+    let harts = if is_alone { 1 } else { 2 };
     let loads = Loads {
         image,
         initrd: None,
         tree: &[],
     };
-    let mut machine = LiveMachine::new(alloc, TextList::copy_of(alloc, "two harts")?);
-    let Ok(world) = World::start(alloc, 2, 4, &loads, &[]) else {
+    let mut machine = LiveMachine::new(alloc, TextList::copy_of(alloc, "harts")?);
+    let Ok(world) = World::start(alloc, harts, 4, &loads, &[]) else {
         return Err(AllocError);
     };
     machine.put_guest(world);

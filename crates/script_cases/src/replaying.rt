@@ -2,10 +2,12 @@
 use crate::case::Case;
 use crate::held::Held;
 use anyhow::{Result, bail};
+use load_cli::generate_main;
 use monitor_cli::{Outside, replay_main};
 use outside_mem::{Failing, MemoryFiles, MemorySink, MemorySource};
 use std::alloc::Global;
 use vm_outside::Files;
+use vm_types::Exit;
 
 /// What a replay came to.
 #[derive(Drop)]
@@ -25,12 +27,24 @@ pub fn replay(alloc: Global, case: &Case, most: usize) -> Result<Replayed> {
         sink: MemorySink::new(alloc, most, sink_fails),
         files: files_of(alloc, &given.files, &given.files_fail)?,
     };
-    let exit = replay_main(alloc, &given.words, &mut out);
+    let exit = run_words(alloc, &given.words, &mut out);
     Ok(Replayed {
         sink: out.sink,
         files: out.files,
         status: exit.status(),
     })
+}
+
+// The command of these words, by their first.
+fn run_words(
+    alloc: Global,
+    words: &[String],
+    out: &mut Outside<MemorySource, MemorySink, MemoryFiles>,
+) -> Exit {
+    match words.first() {
+        Some(word) if word.as_str() == "generate" => generate_main(words, out),
+        _ => replay_main(alloc, words, out),
+    }
 }
 
 // The files as they are at the start. They are made by calls too, which come before the replay's.

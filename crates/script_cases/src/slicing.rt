@@ -1,8 +1,10 @@
-// Slices of 64 steps until a gate closes or the guest is off. What a trace has of them is proved; that slices are made and
-// end, and that a machine which plays the trace on one thread stands as they left theirs, is shown here.
+// Turns of 64 steps, of one hart or in slices, until a gate closes or the guest is off. What a trace has of them is proved; that
+// they are made and end, and that a machine which plays the trace on one thread stands as they left theirs, is shown here.
 ghost use Rattle.std.specs.Prelude.{◌≡◌, ◌<◌, All, length};
 
-use crate::images::{ADDS_AND_ENDS, ADDS_TO_ONE_WORD, ENDS, GO_THEIR_WAYS, WRITES_AND_ENDS};
+use crate::images::{
+    ADDS_AND_ENDS, ADDS_TO_ONE_WORD, ENDS, GO_THEIR_WAYS, WAITS_AND_ENDS, WRITES_AND_ENDS,
+};
 use crate::playing::{NOBODY, Player, are_alike, machine_of, word_at};
 use crate::showing::text_of;
 use crate::ticking::Ticks;
@@ -24,82 +26,116 @@ use vm_world::World;
 struct Row {
     name: &'static str,
     image: &'static [u8],
+    is_alone: bool,
     made: u64,
     left: u64,
     meets: bool,
     trace_fails: &'static [u64],
+    consoles_alone: bool,
     sink_fails: &'static [u64],
 }
 
-const ROWS: [Row; 6] = [
+/// Two harts until the guest is off, and nothing fails.
+const TWO_HARTS: Row = Row {
+    name: "two harts",
+    image: &[],
+    is_alone: false,
+    made: 0,
+    left: u64::MAX,
+    meets: false,
+    trace_fails: &[],
+    consoles_alone: true,
+    sink_fails: &[],
+};
+
+/// Both harts run, or the gate is closed at the start.
+const SLICES: [Row; 4] = [
     Row {
         name: "slices of two harts that add",
         image: &ADDS_TO_ONE_WORD,
-        made: 0,
         left: 30_000,
-        meets: false,
-        trace_fails: &[],
-        sink_fails: &[],
+        ..TWO_HARTS
     },
     Row {
         name: "slices of two harts that meet",
         image: &GO_THEIR_WAYS,
         made: 9,
-        left: u64::MAX,
         meets: true,
-        trace_fails: &[],
-        sink_fails: &[],
+        ..TWO_HARTS
     },
     Row {
         name: "slices until the guest is off",
         image: &ADDS_AND_ENDS,
-        made: 0,
-        left: u64::MAX,
-        meets: false,
-        trace_fails: &[],
-        sink_fails: &[],
-    },
-    Row {
-        name: "slices with a trace that takes no console",
-        image: &WRITES_AND_ENDS,
-        made: 0,
-        left: u64::MAX,
-        meets: false,
-        trace_fails: &[0],
-        sink_fails: &[],
-    },
-    Row {
-        name: "slices with a sink that fails",
-        image: &WRITES_AND_ENDS,
-        made: 0,
-        left: u64::MAX,
-        meets: false,
-        trace_fails: &[],
-        sink_fails: &[0],
+        ..TWO_HARTS
     },
     Row {
         name: "slices at a closed gate, the guest off",
         image: &ENDS,
         made: 40,
         left: 0,
-        meets: false,
-        trace_fails: &[],
-        sink_fails: &[],
+        ..TWO_HARTS
+    },
+];
+
+/// One hart alone runs, so that each item comes at its place.
+const TURNS: [Row; 6] = [
+    Row {
+        name: "turns of one hart",
+        image: &WRITES_AND_ENDS,
+        is_alone: true,
+        ..TWO_HARTS
+    },
+    Row {
+        name: "turns of one hart that waits",
+        image: &WAITS_AND_ENDS,
+        is_alone: true,
+        ..TWO_HARTS
+    },
+    Row {
+        name: "turns beside a hart that stands",
+        image: &WRITES_AND_ENDS,
+        ..TWO_HARTS
+    },
+    Row {
+        name: "turns with a trace that takes 40 items",
+        image: &WRITES_AND_ENDS,
+        is_alone: true,
+        trace_fails: &[40],
+        consoles_alone: false,
+        ..TWO_HARTS
+    },
+    Row {
+        name: "turns with a trace that takes no console",
+        image: &WRITES_AND_ENDS,
+        trace_fails: &[0],
+        ..TWO_HARTS
+    },
+    Row {
+        name: "turns with a sink that fails",
+        image: &WRITES_AND_ENDS,
+        sink_fails: &[0],
+        ..TWO_HARTS
     },
 ];
 
 pub fn print<R: Threads + Wait + Print + AllocGlobal + Sync>(rt: &R) -> io::Result<()> {
-    for row in ROWS {
+    for row in SLICES {
         print_row(rt, &row)?;
+    }
+    for row in TURNS {
+        let taken = print_row(rt, &row)?;
+        println!(rt; "{}: items => {taken}", row.name)?;
     }
     Ok(())
 }
 
-fn print_row<R: Threads + Wait + Print + AllocGlobal + Sync>(rt: &R, row: &Row) -> io::Result<()> {
+// How many items the trace took.
+fn print_row<R: Threads + Wait + Print + AllocGlobal + Sync>(rt: &R, row: &Row) -> io::Result<u64> {
     let (flag, mut passes) = FlagGate::new(rt.alloc(), 3)?;
     let gate = gate_of(flag, row);
     let mut running = running_of(rt.alloc(), row, &gate)?;
-    run_and_print(rt, row.name, &mut running, &gate, &mut passes)
+    run_and_print(rt, row.name, &mut running, &gate, &mut passes)?;
+    Ok(running.player.taken())
 }
 
 // Closed from the start where no item is to come.
@@ -133,7 +169,7 @@ struct Running<'a> {
 fn running_of<'a>(alloc: Global, row: &Row, gate: &'a HoldGate) -> Result<Running<'a>, AllocError> {
     let sink_fails = Failing::new(row.sink_fails.to_vec(alloc)?);
     let player = player_of(alloc, row, gate)?;
-    let machine = machine_of(alloc, row.image, row.made)?;
+    let machine = machine_of(alloc, row.is_alone, row.image, row.made)?;
     Ok(Running {
         machine,
         host: host_of(alloc),
@@ -144,8 +180,8 @@ fn running_of<'a>(alloc: Global, row: &Row, gate: &'a HoldGate) -> Result<Runnin
 
 fn player_of<'a>(alloc: Global, row: &Row, gate: &'a HoldGate) -> Result<Player<'a>, AllocError> {
     let fails = Failing::new(row.trace_fails.to_vec(alloc)?);
-    let machine = machine_of(alloc, row.image, row.made)?;
-    Ok(Player::new(alloc, machine, row.left, gate, fails))
+    let machine = machine_of(alloc, row.is_alone, row.image, row.made)?;
+    Ok(Player::new(alloc, machine, row.left, gate, fails, row.consoles_alone))
 }
 
 // Without a disk.
@@ -175,7 +211,7 @@ fn run_and_print<R: Threads + Wait + Print + AllocGlobal + Sync>(
     print_player(rt, name, running)
 }
 
-// Slices of 64 steps, and why they end.
+// Turns of 64 steps, and why they end.
 fn run<R: Threads + Wait + AllocGlobal + Sync>(
     rt: &R,
     running: &mut Running<'_>,

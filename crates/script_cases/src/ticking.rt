@@ -35,5 +35,5 @@ impl Clock for Ticks {
         self.moment
     }
 
-    fn rest(&mut self) {}
+    fn rest(&mut self, _most: u64) {}
 }

@@ -1,0 +1,3 @@
+pub mod Parts
+mod Readable
+mod Texts

@@ -1,0 +1,12 @@
+use Rattle.std.proofs.Common.{◌++◌}
+use Rattle.load_gen.proofs.Parts.{part_more, takes_behind}
+use Rattle.load_gen.proofs.writing.write_three.Goals as goal
+
+pub returns-in_default-clause-takes : goal.returns-in_default-clause-takes
+returns-in_default-clause-takes g c = λ told.
+    part_more _ _ (c.args.one.now ++ c.args.two.now) c.args.three.now (c.in_default.ensures.takes told)
+
+pub returns-clause-takes : goal.returns-clause-takes
+returns-clause-takes g c = λ told.
+    takes_behind _ _ _ (c.args.one.now ++ c.args.two.now) c.args.three.now c.write_all.result (c.in-Ok.ensures.takes told)
+    (c.write_all.ensures.takes (c.write_two.ensures.called.lasts.still told))
