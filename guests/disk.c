@@ -1,22 +1,6 @@
 // Reads, writes and flushes a disk, and asks for its id: a driver of a block device (VIRTIO 1.2, 5.2).
-#include "virtio.h"
+#include "block.h"
 
-#define VIRTIO_ID_BLOCK 2
-#define VIRTIO_BLK_F_FLUSH (1UL << 9)
-
-// A request (5.2.6): this header, then the data if it has any, then a byte of status.
-struct virtio_blk_req {
-    u32 type;
-    u32 reserved;
-    u64 sector;
-};
-
-#define VIRTIO_BLK_T_IN 0
-#define VIRTIO_BLK_T_OUT 1
-#define VIRTIO_BLK_T_FLUSH 4
-#define VIRTIO_BLK_T_GET_ID 8
-
-#define SECTOR_SIZE 512
 #define ID_SIZE 20
 
 // What the device reads and writes. Each lies in one page, so it can be foretold by how many acts that is done.

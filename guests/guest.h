@@ -2,6 +2,9 @@
 #ifndef GUEST_H
 #define GUEST_H
 
+typedef unsigned char u8;
+typedef unsigned short u16;
+typedef unsigned int u32;
 typedef unsigned long u64;
 
 struct sbi_return {

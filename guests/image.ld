@@ -5,7 +5,7 @@ ENTRY(_start)
 SECTIONS
 {
   . = 0x80200000;
-  .text : { *(.text.start) *(.text.attempts) *(.text .text.*) }
+  .text : { *(.text.first) *(.text.start) *(.text.attempts) *(.text .text.*) }
   .rodata : { *(.rodata .rodata.* .srodata .srodata.*) }
   .data : { *(.data .data.* .sdata .sdata.*) }
   . = ALIGN(8);

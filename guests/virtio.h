@@ -4,10 +4,6 @@
 
 #include "guest.h"
 
-typedef unsigned char u8;
-typedef unsigned short u16;
-typedef unsigned int u32;
-
 // Where the registers are in the device's port (4.2.2).
 enum virtio_mmio {
     MagicValue = 0x000,
