@@ -22,7 +22,7 @@ impl Clock for Ticks {
         self.moment
     }
 
-    fn rest(&mut self) {}
+    fn rest(&mut self, _most: u64) {}
 }
 
 pub fn host() -> Host<(), (), (), Ticks> {
