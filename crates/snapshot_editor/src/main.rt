@@ -1,13 +1,19 @@
 // The program that edits a snapshot's files: the real objects, the call, and the status that it answers.
 #![tactic(auto)]
 
-use outside_real::{Folder, Writing};
+use outside_real::{Folder, Writing, fill_standard};
 use rebase_cli::{End, rebase_main, refuse};
 use std::io::ErrorKind;
 use std::process::ExitCode;
 use std::{env, io};
 
+/// The status where a standard descriptor is closed and can't be opened either: that of a failed call.
+const NO_OUTPUT: u8 = 4;
+
 fn main(rt: HostRuntime) -> ExitCode {
+    if fill_standard(&rt).is_err() {
+        return ExitCode::from(NO_OUTPUT);
+    }
     let mut files = Folder::keeping_open(&rt);
     let mut out = Writing::new(rt.stdout());
     let end = match words(&rt) {
