@@ -9,8 +9,8 @@ use std::os::unix::fs::OpenOptionsExt;
 use std::path::{AsPath, Path};
 use std::{fs, io, rt};
 
-/// The permissions of a file that its owner alone may read and write.
-const OWNER_ALONE: u32 = 0o600;
+/// The permissions of a file that its owner alone may read and write, or of a socket to which its owner alone may connect.
+pub const OWNER_ALONE: u32 = 0o600;
 
 /// The length of the file, where there is one. A directory or a special file is an error.
 pub(crate) fn length<R: rt::Files>(rt: &R, name: &str) -> io::Result<Option<u64>> {
