@@ -2,7 +2,7 @@
 ghost use Rattle.std.specs.Prelude.{◌≡◌};
 
 use crate::disk_locks::{DiskLocks, open_to_lock};
-use crate::disk_parts::DiskParts;
+use disk_parts::DiskParts;
 use outside_real::counted::counted;
 use outside_real::folder_of;
 use std::alloc::AllocError;

@@ -8,7 +8,6 @@
 mod bell;
 mod disk_files;
 mod disk_locks;
-mod disk_parts;
 mod file_lock;
 mod kept_memory;
 mod limited_file;
@@ -26,7 +25,6 @@ mod trace_lines;
 
 pub use bell::Bell;
 pub use disk_files::DiskFiles;
-pub use disk_parts::DiskParts;
 pub use kept_memory::keep_freed_memory;
 pub use random_words::RandomWords;
 pub use socket_conn::SocketConn;
