@@ -55,10 +55,12 @@ fn bytes_in(item: &Item) -> &[u8]
     }
 }
 
-// Bytes that are in the trace: what is due is answered. Once the guest is off nothing is.
-fn reply<N: Conn, F: Files>(
+// Bytes that are in the trace: what is due is answered. It may have changed which files the disks are, and they are attached before
+// the answer is sent, so that who has it may move them. Once the guest is off nothing is answered.
+fn reply<N: Conn, F: Files, D: Disk>(
     monitor: &mut Monitor,
     files: &mut F,
+    disk: &mut D,
     conn: &mut N,
     bytes: &[u8],
 ) -> Option<Served>
@@ -70,6 +72,9 @@ fn reply<N: Conn, F: Files>(
     ensures cause { IfSome result (λ end. ReplyCause end monitor.new (N.known conn.old) (N.known conn.new)) }
     ensures files_last { Lasts (F.known files.old).health (F.known files.new).health }
     ensures conn_lasts { Lasts (N.known conn.old).health (N.known conn.new).health }
+    ensures disk_same { Tells (D.known disk.old).health → (D.known disk.new).held ≡ (D.known disk.old).held }
+    ensures disk_lasts { Lasts (D.known disk.old).health (D.known disk.new).health }
+    ensures disk_kept { (D.known disk.new).health.faults ≡ (D.known disk.old).health.faults }
 {
     if monitor.is_off() {
         return Some(Served::Off);
@@ -77,6 +82,7 @@ fn reply<N: Conn, F: Files>(
     let Ok(text) = monitor.hear(bytes, files) else {
         return Some(Served::OutOfMemory);
     };
+    monitor.attach_disks(disk);
     let Ok(()) = put_all(conn, text.as_slice()) else {
         return Some(Served::Ended);
     };
@@ -87,9 +93,10 @@ fn reply<N: Conn, F: Files>(
 }
 
 // Bytes that the connection gave: they go to the trace, and what is due is answered.
-fn answer<N: Conn, F: Files, T: Trace>(
+fn answer<N: Conn, F: Files, D: Disk, T: Trace>(
     monitor: &mut Monitor,
     files: &mut F,
+    disk: &mut D,
     conn: &mut N,
     trace: &mut T,
     piece: Vec<u8>,
@@ -104,11 +111,14 @@ fn answer<N: Conn, F: Files, T: Trace>(
     ensures trace_lasts { Lasts (T.known trace.old).health (T.known trace.new).health }
     ensures files_last { Lasts (F.known files.old).health (F.known files.new).health }
     ensures conn_lasts { Lasts (N.known conn.old).health (N.known conn.new).health }
+    ensures disk_same { Tells (D.known disk.old).health → (D.known disk.new).held ≡ (D.known disk.old).held }
+    ensures disk_lasts { Lasts (D.known disk.old).health (D.known disk.new).health }
+    ensures disk_kept { (D.known disk.new).health.faults ≡ (D.known disk.old).health.faults }
 {
     let Ok(item) = tell_bytes(trace, ByteList::from_vec(piece)) else {
         return Some(Served::Fault(Object::Trace));
     };
-    reply(monitor, files, conn, bytes_in(&item))
+    reply(monitor, files, disk, conn, bytes_in(&item))
 }
 
 // The connection is over, unless the guest is off.
@@ -135,34 +145,45 @@ fn go_on(monitor: &Monitor) -> Option<Served>
     None
 }
 
+// What the reader heard, and the bytes in front of which it has put what came.
+#[derive(Drop)]
+struct Came {
+    heard: Heard,
+    piece: Vec<u8>,
+}
+
 // What comes of what the reader heard, which the connection gave.
-fn settle<N: Conn, F: Files, T: Trace>(
+fn settle<N: Conn, F: Files, D: Disk, T: Trace>(
     monitor: &mut Monitor,
     files: &mut F,
+    disk: &mut D,
     conn: &mut N,
     trace: &mut T,
-    heard: Heard,
-    mut piece: Vec<u8>,
+    came: Came,
 ) -> Option<Served>
-    requires { IsWithin heard (length piece.items) }
+    requires { IsWithin came.heard (length came.piece.items) }
     ensures settled { (sink : SinkKnown) (host : HostKnown) (before : ConnKnown) →
         AllTell (hosts (known (T.known trace.old) sink host) (F.known files.old)) → Tells (N.known conn.old).health →
-        HearsBy heard before (N.known conn.old) piece.items → (N.known conn.old).took ≡ before.took →
+        HearsBy came.heard before (N.known conn.old) came.piece.items → (N.known conn.old).took ≡ before.took →
         Lasts before.health (N.known conn.old).health →
         TurnedAs result (view monitor.old (hosts (known (T.known trace.old) sink host) (F.known files.old)) before)
         (view monitor.new (hosts (known (T.known trace.new) sink host) (F.known files.new)) (N.known conn.new)) }
     ensures cause { IfSome result (λ end. (before : ConnKnown) → Lasts before.health (N.known conn.old).health →
-        (Tells before.health → HearsBy heard before (N.known conn.old) piece.items) →
-        HeardCause heard before.health.faults (N.known conn.old).health.faults →
+        (Tells before.health → HearsBy came.heard before (N.known conn.old) came.piece.items) →
+        HeardCause came.heard before.health.faults (N.known conn.old).health.faults →
         AnswerCause end monitor.new (T.known trace.old).health (T.known trace.new).health before (N.known conn.new)) }
     ensures trace_lasts { Lasts (T.known trace.old).health (T.known trace.new).health }
     ensures files_last { Lasts (F.known files.old).health (F.known files.new).health }
     ensures conn_lasts { Lasts (N.known conn.old).health (N.known conn.new).health }
+    ensures disk_same { Tells (D.known disk.old).health → (D.known disk.new).held ≡ (D.known disk.old).held }
+    ensures disk_lasts { Lasts (D.known disk.old).health (D.known disk.new).health }
+    ensures disk_kept { (D.known disk.new).health.faults ≡ (D.known disk.old).health.faults }
 {
+    let Came { heard, mut piece } = came;
     match heard {
         Heard::Bytes(count) => {
             piece.truncate(count);
-            answer(monitor, files, conn, trace, piece)
+            answer(monitor, files, disk, conn, trace, piece)
         }
         Heard::End => close(monitor),
         Heard::Fault => close(monitor),
@@ -170,9 +191,8 @@ fn settle<N: Conn, F: Files, T: Trace>(
     }
 }
 
-/// Slices until something is heard of the connection, which is answered then; what was answered may have changed which files
-/// the disks are, and they are attached. Each turn opens the gate once, which the one before it closed. `None` where the
-/// connection goes on.
+/// Slices until something is heard of the connection, which is answered then. Each turn opens the gate once, which the one before
+/// it closed. `None` where the connection goes on.
 pub fn turn<
     D: Disk + Send,
     C: Clock + Send,
@@ -233,9 +253,8 @@ pub fn turn<
     match end_of(ran) {
         Some(end) => Some(end),
         None => {
-            let end = settle(monitor, files, conn, trace, heard, piece);
-            monitor.attach_disks(&mut host.disk);
-            end
+            let came = Came { heard, piece };
+            settle(monitor, files, &mut host.disk, conn, trace, came)
         }
     }
 }

@@ -37,29 +37,29 @@ returns-in-None-clause-turned g c =
     let before = known (g.T.Trace.known c.args.trace.now) (g.K.Sink.known c.args.sink.now) (host c.args.host.now) in
     let after = known (g.T.Trace.known ran.new.trace) (g.K.Sink.known ran.new.sink) (host ran.new.host) in
     let sunk = g.K.Sink.known ran.new.sink in
-    let told = g.T.Trace.known c.settle-end.new.trace in
+    let told = g.T.Trace.known c.settle.new.trace in
     let files = g.F.Files.known c.args.files.now in
-    let left = g.F.Files.known c.settle-end.new.files in
+    let left = g.F.Files.known c.settle.new.files in
     let conn = g.N.Conn.known c.args.conn.now in
-    let now = g.N.Conn.known c.settle-end.new.conn in
+    let now = g.N.Conn.known c.settle.new.conn in
     let monitor = record c.args.monitor.now { machine = ran.new.machine } in
-    let disk = g.D.Disk.known c.attach_disks.new.disk in
+    let disk = g.D.Disk.known c.settle.new.disk in
     λ tell tells.
-    attached (view c.args.monitor.now (hosts before files) conn) c.settle-end.new.monitor told sunk (host ran.new.host)
+    attached (view c.args.monitor.now (hosts before files) conn) c.settle.new.monitor told sunk (host ran.new.host)
     (record { clock = g.C.Clock.known ran.new.host.clock; disk = disk }) left now
     (record {
       clock = record { still = λ it. it; same = λ it. refl };
-      disk = record { lasts = c.attach_disks.ensures.lasts; kept = c.attach_disks.ensures.kept; held = λ it. c.attach_disks.ensures.same it };
+      disk = record { lasts = c.settle.ensures.disk_lasts; kept = c.settle.ensures.disk_kept; held = λ it. c.settle.ensures.disk_same it };
     })
-    c.settle-end.result
+    c.settle.result
     (turned_on (view c.args.monitor.now (hosts before files) conn) (view monitor (hosts after files) conn)
-    (view c.settle-end.new.monitor (hosts (known told sunk (host ran.new.host)) left) now)
+    (view c.settle.new.monitor (hosts (known told sunk (host ran.new.host)) left) now)
     (slices_on c.args.monitor.now ran.new.machine (hosts before files) (hosts after files) conn refl ran.result.1
     (subst (λ (m : LiveMachine). RanOn IsLive (Some ran.result.1) (seen before) m (seen after) ran.new.machine) c.machine.ensures.value
     (ran.ensures.went.ran tell.trace tell.sink))
     (sym c.end_of.ensures ∙ c.in-None.is))
-    (record { still = λ it. it; later = omega arith }) c.settle-end.result
-    (c.settle-end.ensures.settled sunk (host ran.new.host) conn
+    (record { still = λ it. it; later = omega arith }) c.settle.result
+    (c.settle.ensures.settled sunk (host ran.new.host) conn
     (record {
       trace = ran.ensures.went.trace_lasts.still tell.trace;
       sink = ran.ensures.went.sink_lasts.still tell.sink;
@@ -71,6 +71,6 @@ pub returns-in-None-clause-cause : goal.returns-in-None-clause-cause
 returns-in-None-clause-cause g c =
     let ran = c.run_beside-heard in
     let conn = g.N.Conn.known c.args.conn.now in
-    settled_cause c.settle-end.result _ _ (g.T.Trace.known ran.new.trace).health ran.ensures.went.trace_lasts
-    (for_some c.settle-end.result (λ end cause. cause conn ran.ensures.conn_lasts (λ tells. ran.ensures.heard tells) ran.ensures.conn_cause)
-    c.settle-end.ensures.cause)
+    settled_cause c.settle.result _ _ (g.T.Trace.known ran.new.trace).health ran.ensures.went.trace_lasts
+    (for_some c.settle.result (λ end cause. cause conn ran.ensures.conn_lasts (λ tells. ran.ensures.heard tells) ran.ensures.conn_cause)
+    c.settle.ensures.cause)
