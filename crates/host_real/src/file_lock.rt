@@ -1,4 +1,5 @@
 // Locks on open files, which other processes see. None of them waits.
+use crate::status::done;
 use std::io;
 use std::os::unix::io::AsRawFd;
 
@@ -23,12 +24,4 @@ pub(crate) fn take_folder<F: AsRawFd>(folder: &F) -> io::Result<()> {
 
 fn lock_bytes<F: AsRawFd>(file: &F, kind: os::RangeLock) -> io::Result<()> {
     done(os::try_lock_range(file.as_raw_fd(), kind, 0, ALL_BYTES))
-}
-
-fn done(status: i32) -> io::Result<()> {
-    if status == 0 {
-        Ok(())
-    } else {
-        Err(io::Error::from_raw_os_error(os::errno()))
-    }
 }

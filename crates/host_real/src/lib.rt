@@ -19,6 +19,7 @@ mod socket_client;
 mod socket_conn;
 mod socket_file;
 mod socket_listener;
+mod status;
 mod system_clock;
 mod trace_file;
 mod trace_lines;

@@ -1,6 +1,7 @@
 // A socket that is bound to a name in the file system, which goes with it.
 use crate::file_lock::take_folder;
-use outside_real::folder_of;
+use crate::status::done;
+use outside_real::{OWNER_ALONE, folder_of};
 use std::alloc::Global;
 use std::fs::File;
 use std::io::ErrorKind;
@@ -14,9 +15,6 @@ use std::{fs, io, rt, thread};
 
 /// The name under which a socket is made before it is put in its place, in the same folder.
 const FIRST_NAME: &str = ".new";
-
-/// The permissions of a socket's file: its owner alone may connect.
-const OWNER_ALONE: u32 = 0o600;
 
 /// So often a folder's lock is asked for, a millisecond apart.
 const LOCK_TRIES: u32 = 5_000;
@@ -124,20 +122,13 @@ fn remove_left<R: rt::Files>(rt: &R, name: &str) -> io::Result<()> {
 // The permissions are the socket's before it has a name.
 fn listen_at<R: rt::Files + Net>(rt: &R, name: &str) -> io::Result<UnixListener> {
     let socket = rt.unix_socket()?;
+    // (its owner alone may connect)
     done(libc::fchmod(socket.as_raw_fd(), OWNER_ALONE))?;
     rt.bind_unix(socket.as_fd(), &SocketAddr::from_pathname(name)?)?;
     done(libc::net::listen(socket.as_raw_fd(), MOST_WAITING))?;
     let listener = UnixListener::from(socket);
     listener.set_nonblocking(true)?;
     Ok(listener)
-}
-
-fn done(status: i32) -> io::Result<()> {
-    if status == 0 {
-        Ok(())
-    } else {
-        Err(io::Error::from_raw_os_error(os::errno()))
-    }
 }
 
 // A file that comes to the place in the meantime, without the lock, is not replaced where nothing was there.

@@ -22,7 +22,7 @@ pub mod tries;
 mod writing;
 
 pub use folder::Folder;
-pub use named_file::{create_private, folder_of};
+pub use named_file::{OWNER_ALONE, create_private, folder_of};
 pub use reading::Reading;
 pub use standard::fill_standard;
 pub use writing::Writing;

@@ -9,17 +9,25 @@ use std::os::unix::fs::OpenOptionsExt;
 use std::path::{AsPath, Path};
 use std::{fs, io, rt};
 
-/// The permissions of a file that its owner alone may read and write.
-const OWNER_ALONE: u32 = 0o600;
+/// The permissions of a file that its owner alone may read and write, or of a socket to which its owner alone may connect.
+pub const OWNER_ALONE: u32 = 0o600;
 
 /// The length of the file, where there is one. A directory or a special file is an error.
 pub(crate) fn length<R: rt::Files>(rt: &R, name: &str) -> io::Result<Option<u64>> {
     match fs::metadata(rt, name) {
         Ok(seen) if seen.is_file() => Ok(Some(seen.len())),
         Ok(_) => Err(io::Error::from(ErrorKind::InvalidInput)),
-        Err(e) if e.kind() == ErrorKind::NotFound => Ok(None),
+        Err(e) if names_no_file(e.kind()) => Ok(None),
         Err(e) => Err(e),
     }
+}
+
+// Nothing has such a name: nothing was given it, what its folder is to be is no folder, or no name is so long.
+fn names_no_file(kind: ErrorKind) -> bool {
+    matches!(
+        kind,
+        ErrorKind::NotFound | ErrorKind::NotADirectory | ErrorKind::InvalidFilename
+    )
 }
 
 // The same, where there has to be a file.
