@@ -9,6 +9,10 @@ use vm_outside::{Failed, Files};
 // The file that the cases are about.
 const NAME: &str = "case";
 
+// One byte more than a name can have.
+const LONG: &str =
+    "nnnnnnnnnnnnnnnnnnnnnnnnnnnnnnnnnnnnnnnnnnnnnnnnnnnnnnnnnnnnnnnnnnnnnnnnnnnnnnnnnnnnnnnnnnnnnnnnnnnnnnnnnnnnnnnnnnnnnnnnnnnnnnnnnnnnnnnnnnnnnnnnnnnnnnnnnnnnnnnnnnnnnnnnnnnnnnnnnnnnnnnnnnnnnnnnnnnnnnnnnnnnnnnnnnnnnnnnnnnnnnnnnnnnnnnnnnnnnnnnnnnnnnnnnnnnnnnn";
+
 enum Call<'a> {
     Size,
     /// At an offset, so many bytes, at most eight.
@@ -81,7 +85,7 @@ pub fn show(rt: &HostRuntime, shown: &mut Shown) -> io::Result<()> {
         show_case(rt, &mut Folder::new(rt), case, shown)?;
         show_case(rt, &mut Folder::keeping_open(rt), case, shown)?;
     }
-    for name in ["/", "/dev/null", "/dev/null/below", "a\0b"] {
+    for name in ["/", "/dev/null", "/dev/null/below", LONG, "a\0b"] {
         show_answers(rt, &mut Folder::new(rt), name, &EACH, shown)?;
     }
     for name in ["a", "a/b", "a/b/c", "/a", "./a", "../a"] {
