@@ -163,7 +163,8 @@ impl Bell {
     }
 
     fn waking_door(&self) -> RawFd {
-        let is_known = self.is_heard.load(Ordering::SeqCst) || self.is_awaited.load(Ordering::SeqCst);
+        let is_known = self.is_heard.load(Ordering::SeqCst)
+            || self.is_awaited.load(Ordering::SeqCst);
         if self.is_connected() && is_known {
             NO_DESCRIPTOR
         } else {
