@@ -7,13 +7,15 @@ use host_real::{
     keep_freed_memory,
 };
 use monitor_cli::{NoWords, Outside};
-use outside_real::{Folder, Reading, Writing, fill_standard};
+use outside_real::{Folder, Output, Reading, fill_standard};
 use std::io::ErrorKind;
 use std::process::ExitCode;
 use std::{env, io};
 use vm_host::Host;
+use vm_types::Exit;
 
-/// The status where a standard descriptor is closed and can't be opened either: that of a failed output.
+/// The status where a standard descriptor is closed and can't be opened either, and where `. off` isn't taken: that of a failed
+/// output.
 const NO_OUTPUT: u8 = 4;
 
 fn main(rt: HostRuntime) -> ExitCode {
@@ -24,7 +26,7 @@ fn main(rt: HostRuntime) -> ExitCode {
     let bell = Bell::new(&rt);
     let mut out = Outside {
         source: Reading::new(rt.stdin()),
-        sink: Writing::new(rt.stdout()),
+        sink: Output::new(&rt, rt.stdout()),
         files: Folder::new(&rt),
     };
     let mut with = ServeOutside {
@@ -46,7 +48,11 @@ fn main(rt: HostRuntime) -> ExitCode {
         &mut out,
         &mut with,
     );
-    ExitCode::from(exit.status())
+    // (a sink that fails behind the last line of another end leaves that end as it is)
+    match (exit, out.sink.finish()) {
+        (Exit::Done, Err(_)) => ExitCode::from(NO_OUTPUT),
+        (exit, _) => ExitCode::from(exit.status()),
+    }
 }
 
 fn why(error: &io::Error) -> NoWords {

@@ -1,25 +1,34 @@
 // What wakes who rests while nothing can run.
-use crate::looking::{NO_DESCRIPTOR, look};
+use crate::looking::{NO_DESCRIPTOR, rest_on};
 use std::io::{Read, Write};
 use std::net::Net;
 use std::os::unix::io::{AsRawFd, RawFd};
 use std::os::unix::net::UnixStream;
-use std::sync::atomic::{AtomicBool, AtomicI32, Ordering};
+use std::sync::atomic::{AtomicBool, AtomicI32, AtomicU64, Ordering};
 use std::time::Duration;
 use std::{io, rt, thread};
 
 /// How long a rest takes where no descriptors were left for the bell, in milliseconds.
 const BLIND_REST: u64 = 1;
 
-/// Who rests is woken by it where something came on a connection, and while nobody is connected also by a client at the
-/// door, which is the listening socket. One thread rings and quiets it, while another one may rest.
+/// Who rests is woken by it where something came on the connection. Where another thread reads of that, it rings the bell, and
+/// quiets it. Where none does, what comes wakes by itself, and so does the moment at which the reader wants to look again.
+///
+/// A client at the door, which is the listening socket, wakes while nobody is connected, and else until the reader knows of it.
 #[derive(Drop)]
 pub struct Bell {
     ends: Option<Ends>,
     is_rung: AtomicBool,
+    /// Whether a byte was sent for that.
+    is_sent: AtomicBool,
     is_resting: AtomicBool,
-    is_connected: AtomicBool,
+    has_rested: AtomicBool,
     door: AtomicI32,
+    client: AtomicI32,
+    is_heard: AtomicBool,
+    is_awaited: AtomicBool,
+    /// In nanoseconds of the clock.
+    next_look: AtomicU64,
 }
 
 #[derive(Drop)]
@@ -34,15 +43,22 @@ impl Bell {
         Bell {
             ends: make_pair(net).ok(),
             is_rung: AtomicBool::new(false),
+            is_sent: AtomicBool::new(false),
             is_resting: AtomicBool::new(false),
-            is_connected: AtomicBool::new(false),
+            has_rested: AtomicBool::new(false),
             door: AtomicI32::new(NO_DESCRIPTOR),
+            client: AtomicI32::new(NO_DESCRIPTOR),
+            is_heard: AtomicBool::new(false),
+            is_awaited: AtomicBool::new(false),
+            next_look: AtomicU64::new(u64::MAX),
         }
     }
 
     /// Wakes who rests, now and until it is quieted.
     pub(crate) fn ring(&self) {
-        if self.is_rung.swap(true, Ordering::SeqCst) {
+        self.is_rung.store(true, Ordering::SeqCst);
+        // (who rests says so first, and then looks whether it is rung)
+        if !self.is_resting() || self.is_sent.swap(true, Ordering::SeqCst) {
             return;
         }
         if let Some(ends) = &self.ends {
@@ -51,7 +67,8 @@ impl Bell {
     }
 
     pub(crate) fn quiet(&self) {
-        if !self.is_rung.swap(false, Ordering::SeqCst) {
+        self.is_rung.store(false, Ordering::SeqCst);
+        if !self.is_sent.swap(false, Ordering::SeqCst) {
             return;
         }
         if let Some(ends) = &self.ends {
@@ -68,9 +85,21 @@ impl Bell {
         self.door.load(Ordering::SeqCst)
     }
 
-    /// A client at the door wakes nobody while one is connected.
-    pub(crate) fn set_connected(&self, is_connected: bool) {
-        self.is_connected.store(is_connected, Ordering::SeqCst);
+    /// This client is connected, or none.
+    pub(crate) fn set_client(&self, client: RawFd) {
+        self.client.store(client, Ordering::SeqCst);
+    }
+
+    /// Whether a thread waits for the client, which then wakes nobody by itself.
+    pub(crate) fn set_heard(&self, is_heard: bool) {
+        self.is_heard.store(is_heard, Ordering::SeqCst);
+    }
+
+    /// The client's reader wants to look again at this moment at the latest, and knows of a client at the door or doesn't.
+    pub(crate) fn expect(&self, next_look: Duration, is_awaited: bool) {
+        let nanos = u64::try_from(next_look.as_nanos()).unwrap_or(u64::MAX);
+        self.next_look.store(nanos, Ordering::SeqCst);
+        self.is_awaited.store(is_awaited, Ordering::SeqCst);
     }
 
     /// Whether somebody rests.
@@ -78,8 +107,18 @@ impl Bell {
         self.is_resting.load(Ordering::SeqCst)
     }
 
-    /// Returns where the bell rings, and after so much time at the latest; up to a millisecond of it may be left then.
+    /// Whether somebody has rested since this was asked last.
+    pub(crate) fn take_rested(&self) -> bool {
+        self.has_rested.swap(false, Ordering::SeqCst)
+    }
+
+    /// Returns where somebody is to be woken, and after so much time at the latest; up to a millisecond of it may be left then.
     pub(crate) fn rest<R: rt::Clock>(&self, rt: &R, most: Duration) {
+        self.rest_for(rt, most);
+        self.has_rested.store(true, Ordering::SeqCst);
+    }
+
+    fn rest_for<R: rt::Clock>(&self, rt: &R, most: Duration) {
         let Some(ends) = &self.ends else {
             let blind = Duration::from_millis(BLIND_REST);
             return thread::sleep(rt, most.min(blind));
@@ -89,14 +128,44 @@ impl Bell {
             return thread::sleep(rt, most);
         }
         // (a look may last a tick longer)
-        let most = most.saturating_sub(tick);
+        let most = most.saturating_sub(tick).min(self.time_to_look(rt));
         self.is_resting.store(true, Ordering::SeqCst);
-        look(ends.near.as_raw_fd(), self.waking_door(), most);
+        if !self.is_rung.load(Ordering::SeqCst) {
+            let near = ends.near.as_raw_fd();
+            rest_on([near, self.waking_client(), self.waking_door()], most);
+        }
         self.is_resting.store(false, Ordering::SeqCst);
     }
 
+    // How much time is left until the client's reader wants to look again.
+    fn time_to_look<R: rt::Clock>(&self, rt: &R) -> Duration {
+        if self.waking_client() == NO_DESCRIPTOR {
+            return Duration::MAX;
+        }
+        match rt.monotonic() {
+            Ok(now) => {
+                Duration::from_nanos(self.next_look.load(Ordering::SeqCst)).saturating_sub(now)
+            }
+            Err(_) => Duration::MAX,
+        }
+    }
+
+    fn is_connected(&self) -> bool {
+        self.client.load(Ordering::SeqCst) != NO_DESCRIPTOR
+    }
+
+    fn waking_client(&self) -> RawFd {
+        if self.is_heard.load(Ordering::SeqCst) {
+            NO_DESCRIPTOR
+        } else {
+            self.client.load(Ordering::SeqCst)
+        }
+    }
+
     fn waking_door(&self) -> RawFd {
-        if self.is_connected.load(Ordering::SeqCst) {
+        let is_known = self.is_heard.load(Ordering::SeqCst)
+            || self.is_awaited.load(Ordering::SeqCst);
+        if self.is_connected() && is_known {
             NO_DESCRIPTOR
         } else {
             self.door()

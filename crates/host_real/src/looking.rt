@@ -1,6 +1,6 @@
 // What the system tells of descriptors: whether something has come on them.
 use libc::net::{POLLHUP, POLLIN, poll};
-use libc::types::pollfd;
+use outside_real::polling::{millis_of, question};
 use std::os::unix::io::RawFd;
 use std::time::Duration;
 
@@ -21,7 +21,7 @@ pub(crate) struct Seen {
 /// Waits until one of the two is ready, and looks at both. It waits for so long at most, or to the end of the millisecond in
 /// which that ends. A signal cuts the wait off.
 pub(crate) fn look(first: RawFd, second: RawFd, most: Duration) -> Seen {
-    let mut asked = [entry(first), entry(second)];
+    let mut asked = [question(first, POLLIN), question(second, POLLIN)];
     poll(&mut asked, millis_of(most));
     Seen {
         is_ready: asked[0].revents != 0,
@@ -30,15 +30,8 @@ pub(crate) fn look(first: RawFd, second: RawFd, most: Duration) -> Seen {
     }
 }
 
-fn entry(fd: RawFd) -> pollfd {
-    pollfd {
-        fd,
-        events: POLLIN,
-        revents: 0,
-    }
-}
-
-// Rounded up, so that who looks again and again until then does so a few times, and not as often as it can in the last one.
-fn millis_of(most: Duration) -> i32 {
-    i32::try_from(most.as_nanos().div_ceil(1_000_000)).unwrap_or(i32::MAX)
+/// Waits so until one of three is ready.
+pub(crate) fn rest_on(fds: [RawFd; 3], most: Duration) {
+    let mut asked = fds.map(|fd| question(fd, POLLIN));
+    poll(&mut asked, millis_of(most));
 }

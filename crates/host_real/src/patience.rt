@@ -70,6 +70,11 @@ impl Patience {
         left_of(most, self.since, now)
     }
 
+    /// The moment at which it is over, if the client is silent until then.
+    pub(crate) fn end(&self, now: Duration) -> Duration {
+        now.saturating_add(self.left(now))
+    }
+
     /// Whether another client has waited for so long that its turn has come behind the next answer.
     pub(crate) fn is_turn_over(&self, now: Duration) -> bool {
         match self.awaited {

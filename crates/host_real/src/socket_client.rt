@@ -46,7 +46,7 @@ impl<'a, R: rt::Clock> Client<'a, R> {
     pub(crate) fn new(rt: &'a R, bell: &'a Bell, stream: UnixStream) -> io::Result<Client<'a, R>> {
         stream.set_write_timeout(Some(Duration::from_millis(WRITE_WAIT)))?;
         let now = rt.monotonic()?;
-        Ok(Client {
+        let client = Client {
             rt,
             bell,
             stream,
@@ -54,7 +54,9 @@ impl<'a, R: rt::Clock> Client<'a, R> {
             is_new: true,
             spoke_last: false,
             now,
-        })
+        };
+        client.expect();
+        Ok(client)
     }
 
     /// What has come of it, after a wait of at most half a second. It is an error where the client was waited for
@@ -67,18 +69,9 @@ impl<'a, R: rt::Clock> Client<'a, R> {
             return Ok(Got::NotYet);
         }
         let seen = self.wait();
-        if seen.is_gone && self.is_new {
-            return Err(io::Error::from(ErrorKind::ConnectionAborted));
-        }
-        let now = self.moment();
-        self.patience.has_looked(seen.is_second_ready, now);
-        if self.patience.left(now).is_zero() {
-            return self.take_last(buf);
-        }
-        if seen.is_ready {
-            return self.take(buf);
-        }
-        Ok(Got::NotYet)
+        let got = self.take_seen(seen, buf);
+        self.expect();
+        got
     }
 
     /// Sends some of the bytes. Where they are all sent and its turn is over, it learns of the end at once, and not when it asks
@@ -94,6 +87,7 @@ impl<'a, R: rt::Clock> Client<'a, R> {
         if count == bytes.len() && self.patience.is_turn_over(now) {
             self.take_leave();
         }
+        self.expect();
         Ok(count)
     }
 
@@ -107,24 +101,58 @@ impl<'a, R: rt::Clock> Client<'a, R> {
 
     // Waits until something has come, or another client waits, or the patience is over. Both were looked at in one look then.
     fn wait(&mut self) -> Seen {
-        let now = self.moment();
-        let most = self.patience.left(now).min(self.longest_wait());
+        let most = self.longest_wait();
+        self.bell.set_heard(true);
+        let seen = self.look_for(most);
+        self.bell.set_heard(false);
+        seen
+    }
+
+    fn look_for(&self, most: Duration) -> Seen {
         let client = self.stream.as_raw_fd();
-        if !self.patience.is_awaited() {
+        if most.is_zero() || !self.patience.is_awaited() {
             return look(client, self.bell.door(), most);
         }
         look(client, NO_DESCRIPTOR, most);
         look(client, self.bell.door(), Duration::ZERO)
     }
 
-    fn longest_wait(&self) -> Duration {
-        Duration::from_millis(if self.bell.is_resting() {
+    // Who rested has waited in its place.
+    fn longest_wait(&mut self) -> Duration {
+        if self.bell.take_rested() {
+            return Duration::ZERO;
+        }
+        let most = Duration::from_millis(if self.bell.is_resting() {
             READ_WAIT
         } else {
             BUSY_WAIT
-        })
+        });
+        let now = self.moment();
+        self.patience.left(now).min(most)
     }
 
+    // Whoever rests is to look again before the patience is over.
+    fn expect(&self) {
+        self.bell
+            .expect(self.patience.end(self.now), self.patience.is_awaited());
+    }
+
+    fn take_seen(&mut self, seen: Seen, buf: &mut [u8]) -> io::Result<Got>
+        ensures within { IfOk result (λ got. IsWithin got (length buf.new)) }
+    {
+        if seen.is_gone && self.is_new {
+            return Err(io::Error::from(ErrorKind::ConnectionAborted));
+        }
+        let now = self.moment();
+        self.patience.has_looked(seen.is_second_ready, now);
+        if self.patience.left(now).is_zero() {
+            return self.take_last(buf);
+        }
+        if seen.is_ready {
+            return self.take(buf);
+        }
+        Ok(Got::NotYet)
+    }
     // The clock's, or the last one where it doesn't tell.
     fn moment(&mut self) -> Duration {
         if let Ok(now) = self.rt.monotonic() {

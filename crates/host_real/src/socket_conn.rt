@@ -9,14 +9,14 @@ use std::os::unix::net::UnixStream;
 use std::{io, rt};
 use vm_outside::Failed;
 
-/// A read waits for its client, half a second at most. It fails where a client without a begun request was silent
+/// A read waits for its client, half a second at most; where somebody has rested since the read before, it doesn't wait. It fails where a client without a begun request was silent
 /// for 100 milliseconds while another one waits at the bell's door, or for five seconds; where no more of a request came that
 /// was begun for ten seconds; and where the client was gone altogether before its first byte was read. A write waits for its
 /// client for ten seconds at most, and then fails. Behind one that took all of its bytes the connection comes to its end
 /// where another client has waited for 100 milliseconds.
 ///
 /// Before a client's connection ends so it can't send any more, and what it had sent until then is given first: no request is
-/// lost. Each read but one that finds nothing rings the bell.
+/// lost. Each read but one that finds nothing rings the bell, until the next call.
 #[derive(Drop)]
 pub struct SocketConn<'a, R> {
     client: Client<'a, R>,
@@ -65,6 +65,7 @@ impl<'a, R: rt::Clock> Conn for SocketConn<'a, R> {
     }
 
     fn write(&mut self, bytes: &[u8]) -> Result<usize, Failed> {
+        self.bell.quiet();
         counted(&mut self.faults, self.client.tell(bytes))
     }
 }

@@ -2,6 +2,7 @@
 ghost use Rattle.std.specs.Prelude.{◌≡◌, Err, IfErr};
 
 use crate::bell::Bell;
+use crate::looking::NO_DESCRIPTOR;
 use crate::socket_conn::SocketConn;
 use crate::socket_file::SocketFile;
 use outside_real::counted::counted;
@@ -90,7 +91,7 @@ impl<'a, R: rt::Files<File = File> + rt::Clock + Net + AllocGlobal> Listener<Soc
 
     fn end(&mut self, conn: SocketConn<'a, R>) {
         conn.close();
-        self.bell.set_connected(false);
+        self.bell.set_client(NO_DESCRIPTOR);
     }
 }
 
@@ -141,13 +142,16 @@ pub fn as_accepted<'a, R: rt::Clock>(
     ensures { IfErr result (λ e. came ≡ Err e) }
 {
     match came {
-        Ok(stream) => Ok(match SocketConn::new(rt, bell, stream) {
-            Ok(conn) => {
-                bell.set_connected(true);
-                Accepted::Conn(conn)
-            }
-            Err(_) => Accepted::NotYet,
-        }),
+        Ok(stream) => {
+            let client = stream.as_raw_fd();
+            Ok(match SocketConn::new(rt, bell, stream) {
+                Ok(conn) => {
+                    bell.set_client(client);
+                    Accepted::Conn(conn)
+                }
+                Err(_) => Accepted::NotYet,
+            })
+        }
         Err(e) if passes(&e) => Ok(Accepted::NotYet),
         Err(e) => Err(e),
     }

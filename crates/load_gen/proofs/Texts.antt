@@ -9,7 +9,7 @@ use Rattle.script_text.specs.Written.{line_of}
 use Rattle.script_words.specs.Numbers.{word_text}
 use Rattle.vm_outside.specs.Passing.{TakesAll, TakesPart}
 use Rattle.load_gen.specs.Load.{boot, configure, create_diff, create_full, image, opening, pause, resume, start, round, rounds, steps_by, text_of, turn, turned}
-use Rattle.load_gen.proofs.Parts.{all_behind, part_behind, part_more, takes_behind}
+use Rattle.vm_outside.proofs.Parts.{all_behind, part_behind, part_more, takes_behind}
 
 -- the lines behind the lineage
 abbrev pub behind_lineage : List Item

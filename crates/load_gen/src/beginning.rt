@@ -3,8 +3,8 @@ ghost use Rattle.vm_outside.specs.Known.{Called, Tells};
 ghost use Rattle.vm_outside.specs.Passing.{TakesAll};
 ghost use Rattle.load_gen.specs.Load.{opening, text_of};
 
-use crate::writing::{word_digits, write_three};
-use vm_outside::{Failed, Sink};
+use crate::writing::word_digits;
+use vm_outside::{Failed, Sink, write_three};
 
 // The lines behind the lineage, up to the first round.
 const OPENING: &[u8] = b"\n\

@@ -7,34 +7,7 @@ ghost use Rattle.vm_outside.specs.Passing.{TakesAll};
 
 use itoa::Buffer;
 use script_words::hex_digit;
-use vm_outside::{Failed, Sink, write_all};
-
-pub fn write_two<K: Sink>(sink: &mut K, one: &[u8], two: &[u8]) -> Result<(), Failed>
-    ensures takes { Tells (K.known sink.old).health →
-        TakesAll (K.known sink.old).taken (K.known sink.new).taken result (one.now ++ two.now) }
-    ensures called { Called (K.known sink.old).health (K.known sink.new).health result }
-{
-    let Ok(()) = write_all(sink, one) else {
-        return Err(Failed);
-    };
-    write_all(sink, two)
-}
-
-pub fn write_three<K: Sink>(
-    sink: &mut K,
-    one: &[u8],
-    two: &[u8],
-    three: &[u8],
-) -> Result<(), Failed>
-    ensures takes { Tells (K.known sink.old).health →
-        TakesAll (K.known sink.old).taken (K.known sink.new).taken result ((one.now ++ two.now) ++ three.now) }
-    ensures called { Called (K.known sink.old).health (K.known sink.new).health result }
-{
-    let Ok(()) = write_two(sink, one, two) else {
-        return Err(Failed);
-    };
-    write_all(sink, three)
-}
+use vm_outside::{Failed, Sink, write_three};
 
 // A number between two texts.
 pub fn write_numbered<K: Sink>(

@@ -9,7 +9,7 @@ use Rattle.vm_types.specs.declared.torn.Torn.TheVariants as torn
 use Rattle.vm_types.specs.declared.exit.Exit.{Exit}
 use Rattle.vm_outside.specs.Passing.{TakesAll, TakesPart}
 use Rattle.script_output.specs.Output.{last_line, place_word, torn_place}
-use Rattle.monitor_cli.proofs.Parts.{all_behind, part_behind, part_more, takes_behind}
+use Rattle.vm_outside.proofs.Parts.{all_behind, part_behind, part_more, takes_behind}
 
 joins : (a p s d n : List ℕ) → (a ++ p) ++ ((s ++ d) ++ n) ≡ (a ++ ((p ++ s) ++ d)) ++ n
 joins a p s d n =

@@ -7,7 +7,7 @@ ghost use Rattle.vm_outside.specs.Passing.{TakesAll};
 ghost use Rattle.monitor_cli.specs.Taking.{IsQuiet};
 
 use itoa::Buffer;
-use vm_outside::{Failed, Sink, write_all};
+use vm_outside::{Failed, Sink, write_all, write_three, write_two};
 use vm_types::{Exit, Object, PlaceId, Torn};
 
 /// Writes the last line of a run that ended so, without taking memory. After an `Err` the sink has taken a
@@ -111,26 +111,4 @@ fn write_numbered<K: Sink>(sink: &mut K, letter: &[u8], number: u32) -> Result<(
     let mut buffer = Buffer::new();
     let digits = buffer.format(number).as_bytes();
     write_two(sink, letter, digits)
-}
-
-fn write_three<K: Sink>(sink: &mut K, one: &[u8], two: &[u8], three: &[u8]) -> Result<(), Failed>
-    ensures takes { Tells (K.known sink.old).health →
-        TakesAll (K.known sink.old).taken (K.known sink.new).taken result ((one.now ++ two.now) ++ three.now) }
-    ensures called { Called (K.known sink.old).health (K.known sink.new).health result }
-{
-    let Ok(()) = write_two(sink, one, two) else {
-        return Err(Failed);
-    };
-    write_all(sink, three)
-}
-
-fn write_two<K: Sink>(sink: &mut K, one: &[u8], two: &[u8]) -> Result<(), Failed>
-    ensures takes { Tells (K.known sink.old).health →
-        TakesAll (K.known sink.old).taken (K.known sink.new).taken result (one.now ++ two.now) }
-    ensures called { Called (K.known sink.old).health (K.known sink.new).health result }
-{
-    let Ok(()) = write_all(sink, one) else {
-        return Err(Failed);
-    };
-    write_all(sink, two)
 }

@@ -1,5 +1,6 @@
 -- What the first pass knows of its gate, slice after slice.
-use Rattle.std.proofs.Common.{◌≡◌, ℕ, suc, ◌<◌, refl, ap, ◌∙◌, arith, List, [], ◌∷◌, length, slice_get, Option, Some, None, All}
+use Rattle.std.specs.Prelude.{MatchBool}
+use Rattle.std.proofs.Common.{Bool, true, false, ◌≡◌, ℕ, suc, ◌<◌, refl, ap, ◌∙◌, arith, List, [], ◌∷◌, length, slice_get, Option, Some, None, All}
 use Rattle.pause_gate.specs.Tally.{Tally}
 use Rattle.vm_types.specs.declared.entry.Entry.{Entry}
 use Rattle.vm_world.specs.Worlds.{WorldValue}
@@ -60,6 +61,22 @@ passed_closed serves tally end before after are =
     saw ran.SinkFailed = tt
     saw (ran.Torn torn journals histories) = tt
     saw ran.OutOfMemory = tt
+
+-- a closed gate was found, and whoever asks next finds it so
+still : {Q : Type 0} (serves : Q → Type 0) (tally : Q → Tally) (before after : List Q)
+    → ArePassed serves tally (Some ran.Closed) before after → ArePassed serves tally None before after
+still serves tally before after are = record {
+  serve = are.serve;
+  same = are.same;
+  first = λ p q is later. let rose = are.first p q is later in omega (arith, rose);
+}
+
+-- whatever was found
+pub passed_looked : {Q : Type 0} (serves : Q → Type 0) (tally : Q → Tally) (open : Bool) (before after : List Q)
+    → MatchBool open (ArePassed serves tally None before after) (ArePassed serves tally (Some ran.Closed) before after)
+    → ArePassed serves tally None before after
+passed_looked serves tally true before after are = are
+passed_looked serves tally false before after are = still serves tally before after are
 
 some_same : {A : Type 0} (o : Option A) (x y : A) → o ≡ Some x → o ≡ Some y → x ≡ y
 some_same o x y first last = cc

@@ -1,5 +1,5 @@
 -- What a slice leaves, told to its end or not.
-use Rattle.std.proofs.Common.{◌≡◌, ℕ, zero, suc, false, refl, sym, ap, ◌∙◌, subst, List, [], ◌∷◌, ◌++◌, take, drop, All, append_assoc, append-nil, take-append-drop, length, Option, Some, None, arith}
+use Rattle.std.proofs.Common.{◌⊎◌, inl, inr, ◌≡◌, ℕ, zero, suc, false, refl, sym, ap, ◌∙◌, subst, List, [], ◌∷◌, ◌++◌, take, drop, All, append_assoc, append-nil, take-append-drop, length, Option, Some, None, arith}
 use Rattle.std.specs.Prelude.{Result, Ok, Err, OnErr}
 use Rattle.std.proofs.lemmas.List.Elements.{All-from_recursion}
 use Rattle.vm_types.specs.declared.entry.Entry.{Entry}
@@ -29,7 +29,7 @@ use Rattle.monitor_running.specs.declared.ran.Ran.TheVariants as ran
 use Rattle.monitor_running.specs.declared.telling.Untold.{Untold}
 use Rattle.monitor_running.specs.declared.telling.Untold.TheVariants as untold
 use Rattle.flat_trace.specs.Events.{answers_in, drain_items, event_acts, event_items, item_of, needs_room}
-use Rattle.monitor_running.specs.Items.{DrainStops, Drains, HasDrained, IsShort, TellStops, TellsItems, TellsPart, drained_world}
+use Rattle.monitor_running.specs.Items.{DrainStops, Drains, HasDrained, HasGoneOn, HasKept, IsShort, MayDrain, TellStops, TellsItems, TellsPart, drained_world}
 use Rattle.monitor_running.specs.Ran.{HasFault, IsRunning, IsTornOff, RanOn, Went, end_by, slice_end}
 use Rattle.monitor_running.specs.Waiting.{HasGone, makers, turns}
 use Rattle.monitor_running.specs.Asked.{HostKnown}
@@ -86,6 +86,17 @@ joins w v took mid now its all drained = record {
       ∙ append_assoc took its (drain_items w.board.console);
 }
 
+-- or none
+joins_or : (w v : WorldValue) (took mid now its : List Item) (taken all : List ℕ) → mid ≡ took ++ its
+    → HasGoneOn w mid [] taken v now all → HasGoneOn w took its taken v now all
+joins_or w v took mid now its taken all told (inl drained) = inl (joins w v took mid now its told drained.0, drained.1)
+joins_or w v took mid now its taken all told (inr kept) = inr (record {
+  on = kept.on;
+  world = kept.world;
+  told = kept.told ∙ append-nil mid ∙ told;
+  sunk = kept.sunk;
+})
+
 stops_then : (why : Untold) (short : Type 0) (its : List Item) (w v : WorldValue) (took mid now : List Item) (taken all : List ℕ)
     → mid ≡ took ++ its → DrainStops why w mid taken v now all → TellStops why short its w took taken v now all
 stops_then untold.Trace short its w v took mid now taken all told stops = (
@@ -97,9 +108,9 @@ stops_then untold.Sink short its w v took mid now taken all told stops = (joins 
 stops_then untold.OutOfMemory short its w v took mid now taken all told stops = absurd stops
 
 pub told_then : {T : Type 0} (result : Result T Untold) (short : Type 0) (its : List Item) (w v : WorldValue)
-    (took mid now : List Item) (taken all : List ℕ) → mid ≡ took ++ its → Drains result w mid taken v now all
+    (took mid now : List Item) (taken all : List ℕ) → mid ≡ took ++ its → MayDrain result w mid taken v now all
     → TellsItems result short its w took taken v now all
-told_then (Ok done) short its w v took mid now taken all told drains = (joins w v took mid now its told drains.0, drains.1)
+told_then (Ok done) short its w v took mid now taken all told drains = joins_or w v took mid now its taken all told drains
 told_then (Err why) short its w v took mid now taken all told drains =
     stops_then why short its w v took mid now taken all told drains
 
@@ -245,7 +256,7 @@ pub devices_gone : (es : List Entry) (w v : WorldValue) (clock : ClockKnown) (as
     → EventsGone es w v (record { clock = clock; disk = asked }) (record { clock = clock; disk = now })
 devices_gone es w v clock asked now serial made was g is = (serial g is, clock_rests clock es (made g is), was g is)
 
-pub items_told : (took took' : List Item) (taken taken' : List ℕ) (asked mid now : HostKnown) (w v u : WorldValue) (its : List Item)
+items_told : (took took' : List Item) (taken taken' : List ℕ) (asked mid now : HostKnown) (w v u : WorldValue) (its : List Item)
     → HostGone its w v asked mid → HasDrained v took its u took' → taken' ≡ taken ++ v.board.console → HostRests mid now
     → Keeps IsRunning (seen_by took taken asked) w (seen_by took' taken' now) u
 items_told took took' taken taken' asked mid now w v u its gone drained sunk rest s m talk is r =
@@ -260,6 +271,31 @@ items_told took took' taken taken' asked mid now w v u its gone drained sunk res
       reached = rests s last (seen_by took' taken' now) (with_guest m (drained_guest h.0)) talk all
           (drained.told ∙ ap (λ (l : List Item). took ++ (l ++ drain_items v.board.console)) (sym one.1)) sunk rest;
     }
+
+-- where the console keeps what it holds
+items_kept : (took took' : List Item) (taken taken' : List ℕ) (asked mid now : HostKnown) (w v u : WorldValue) (its : List Item)
+    → HostGone its w v asked mid → HasKept v took its taken u took' taken' → HostRests mid now
+    → Keeps IsRunning (seen_by took taken asked) w (seen_by took' taken' now) u
+items_kept took took' taken taken' asked mid now w v u its gone kept rest s m talk is r =
+    let one = gone is.0 is.2 in
+    let es : List Entry = one.0 in
+    let h = led s m talk took taken asked mid w v es is one.2 r in
+    let all = events_told s m talk took taken asked mid w v es is one.2 r in record {
+      flat = with_guest m h.0;
+      is = (h.0, still_runs m is.0 h.0 is.1, subst (λ (x : WorldValue). IsWorld x h.0) (sym kept.world) h.2);
+      beside = refl;
+      reached = rests s (seen_by (took ++ event_items es) taken mid) (seen_by took' taken' now) (with_guest m h.0) talk all
+          (kept.told ∙ ap (λ (l : List Item). took ++ l) (sym one.1)) kept.sunk rest;
+    }
+
+-- in either case
+pub items_gone_on : (took took' : List Item) (taken taken' : List ℕ) (asked mid now : HostKnown) (w v u : WorldValue)
+    (its : List Item) → HostGone its w v asked mid → HasGoneOn v took its taken u took' taken' → HostRests mid now
+    → Keeps IsRunning (seen_by took taken asked) w (seen_by took' taken' now) u
+items_gone_on took took' taken taken' asked mid now w v u its gone (inl drained) rest =
+    items_told took took' taken taken' asked mid now w v u its gone drained.0 drained.1 rest
+items_gone_on took took' taken taken' asked mid now w v u its gone (inr kept) rest =
+    items_kept took took' taken taken' asked mid now w v u its gone kept rest
 
 items_ahead : (took took' : List Item) (taken taken' : List ℕ) (asked now : HostKnown) (w v u : WorldValue) (its : List Item)
     → HostGone its w v asked now → u ≡ v → TellsPart took its took' → taken' ≡ taken
@@ -327,13 +363,12 @@ lasts_same told = record { still = λ tells. tells; later = omega arith }
 
 pub went_items_told : (trace traced : TraceKnown) (sink sunk : SinkKnown) (asked mid now : HostKnown) (w v u : WorldValue)
     (its : List Item) → HostGone its w v asked mid
-    → (objects.Tells trace.health → objects.Tells sink.health
-    → HasDrained v trace.took its u traced.took × (sunk.taken ≡ sink.taken ++ v.board.console))
+    → (objects.Tells trace.health → objects.Tells sink.health → HasGoneOn v trace.took its sink.taken u traced.took sunk.taken)
     → objects.Lasts trace.health traced.health → objects.Lasts sink.health sunk.health → HostRests mid now
     → Went IsRunning None (known trace sink asked) w (known traced sunk now) u
 went_items_told trace traced sink sunk asked mid now w v u its gone went trace_lasts sink_lasts rests = record {
   ran = λ t k.
-      items_told trace.took traced.took sink.taken sunk.taken asked mid now w v u its gone (went t k).0 (went t k).1 rests;
+      items_gone_on trace.took traced.took sink.taken sunk.taken asked mid now w v u its gone (went t k) rests;
   fault = tt;
   trace_lasts = trace_lasts;
   sink_lasts = sink_lasts;
@@ -342,7 +377,7 @@ went_items_told trace traced sink sunk asked mid now w v u its gone went trace_l
 pub went_told : (trace traced : TraceKnown) (sink sunk : SinkKnown) (asked mid now : HostKnown) (w v u : WorldValue)
     (es told : List Entry) → told ≡ es → EventsGone es w v asked mid
     → (objects.Tells trace.health → objects.Tells sink.health
-    → HasDrained v trace.took (event_items told) u traced.took × (sunk.taken ≡ sink.taken ++ v.board.console))
+    → HasGoneOn v trace.took (event_items told) sink.taken u traced.took sunk.taken)
     → objects.Lasts trace.health traced.health → objects.Lasts sink.health sunk.health → HostRests mid now
     → Went IsRunning None (known trace sink asked) w (known traced sunk now) u
 went_told trace traced sink sunk asked mid now w v u es told same gone went =

@@ -1,5 +1,5 @@
--- What telling a slice's events, and a drain, leave of the trace and the sink.
-use Rattle.std.specs.Prelude.{ℕ, ◌≡◌, false, List, [], ◌++◌, take, All, Result, MatchResult}
+-- What telling a slice's events, and a drain or none, leave of the trace and the sink.
+use Rattle.std.specs.Prelude.{ℕ, ◌≡◌, ◌⊎◌, false, List, [], ◌++◌, take, All, Result, MatchResult}
 use Rattle.vm_types.specs.declared.entry.Entry.{Entry}
 use Rattle.vm_types.specs.declared.ids.ActorId.{ActorId}
 use Rattle.vm_outside.specs.Passing.{TakesPart}
@@ -23,6 +23,19 @@ pub record HasDrained (w : WorldValue) (took more : List Item) (v : WorldValue) 
   pub world : v ≡ drained_world w
   pub told : now ≡ took ++ (more ++ drain_items w.board.console)
 
+-- a guest that is on may keep what its console holds: the trace has these items more, and the sink took nothing
+pub record HasKept (w : WorldValue) (took more : List Item) (taken : List ℕ) (v : WorldValue) (now : List Item) (all : List ℕ) :
+    Type 0 where
+  pub on : w.board.off ≡ false
+  pub world : v ≡ w
+  pub told : now ≡ took ++ more
+  pub sunk : all ≡ taken
+
+-- the trace has these items more, and the console was drained and its bytes taken, or it keeps them
+abbrev pub HasGoneOn : WorldValue → List Item → List Item → List ℕ → WorldValue → List Item → List ℕ → Type 0
+HasGoneOn w took more taken v now all =
+    (HasDrained w took more v now × (all ≡ taken ++ w.board.console)) ⊎ HasKept w took more taken v now all
+
 -- where the trace fails nothing is drained; where the sink does, it took a front of what was
 abbrev pub DrainStops : Untold → WorldValue → List Item → List ℕ → WorldValue → List Item → List ℕ → Type 0
 DrainStops untold.Trace w took taken v now all = (v ≡ w) × (now ≡ took) × (all ≡ taken)
@@ -34,6 +47,11 @@ Drains result w took taken v now all =
     MatchResult result (λ _. HasDrained w took [] v now × (all ≡ taken ++ w.board.console))
     (λ why. DrainStops why w took taken v now all)
 
+-- the same, or the console keeps what it holds
+abbrev pub MayDrain : {T : Type 0} → Result T Untold → WorldValue → List Item → List ℕ → WorldValue → List Item → List ℕ → Type 0
+MayDrain result w took taken v now all =
+    MatchResult result (λ _. HasGoneOn w took [] taken v now all) (λ why. DrainStops why w took taken v now all)
+
 -- where these items were to be told, and memory is short only for this cause
 abbrev pub TellStops : Untold → Type 0 → List Item → WorldValue → List Item → List ℕ → WorldValue → List Item → List ℕ → Type 0
 TellStops untold.Trace short its w took taken v now all = (v ≡ w) × TellsPart took its now × (all ≡ taken)
@@ -43,7 +61,7 @@ TellStops untold.OutOfMemory short its w took taken v now all = short
 abbrev pub TellsItems : {T : Type 0} → Result T Untold → Type 0 → List Item → WorldValue → List Item → List ℕ → WorldValue
     → List Item → List ℕ → Type 0
 TellsItems result short its w took taken v now all =
-    MatchResult result (λ _. HasDrained w took its v now × (all ≡ taken ++ w.board.console))
+    MatchResult result (λ _. HasGoneOn w took its taken v now all)
     (λ why. TellStops why short its w took taken v now all)
 
 -- only an event that brings bytes of a connection finds no memory

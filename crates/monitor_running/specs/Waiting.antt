@@ -1,10 +1,12 @@
 -- Where harts wait, and the events that are made there.
-use Rattle.std.specs.Prelude.{ℕ, zero, suc, ◌≡◌, ◌<◌, nat_eq, nat_lt, Bool, true, false, if◌then◌else◌, List, [], ◌∷◌, ◌++◌, Option, Some, None, length, map}
+use Rattle.std.specs.Prelude.{ℕ, zero, suc, ◌≡◌, ◌<◌, ◌≤◌, nat_eq, nat_lt, Bool, true, false, if◌then◌else◌, List, [], ◌∷◌, ◌++◌, Option, Some, None, length, map}
 use Rattle.vm_types.specs.declared.entry.Entry.{Entry}
 use Rattle.vm_types.specs.declared.ids.ActorId.{ActorId}
 use Rattle.vm_types.specs.declared.op.Op.{Op}
 use Rattle.vm_host.specs.Telling.{ClockKnown}
 use Rattle.flat_guest.specs.Guest.{Guest}
+use Rattle.monitor_machine.specs.declared.machine.LiveMachine.{LiveMachine}
+use Rattle.monitor_machine.specs.Running.{running_world}
 use Rattle.vm_world.specs.Worlds.{IsWorld, WorldValue, want_in}
 use Rattle.slice_runner.specs.Slices.{ClockWasAsked, Leads}
 
@@ -17,6 +19,10 @@ HasGone events old new asked now =
 -- each hart wants to wait
 abbrev pub AllIdle : WorldValue → Type 0
 AllIdle w = (k : ℕ) → k < length w.harts → want_in w (ActorId.Hart k) ≡ Some Op.Idle
+
+-- no guest runs, or one of too many harts, or each hart of it wants to wait
+abbrev pub IsQuiet : LiveMachine → Type 0
+IsQuiet live = (w : WorldValue) → running_world live.guest live.paused ≡ Some w → length w.harts ≤ 32 → AllIdle w
 
 -- each hart but this one wants to wait, and this one is there and doesn't
 abbrev pub OthersIdle : ℕ → WorldValue → Type 0

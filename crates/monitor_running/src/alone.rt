@@ -1,19 +1,22 @@
 // Where every hart but one waits: a turn of that hart, and no slice.
-ghost use Rattle.std.specs.Prelude.{◌≡◌, ◌≢◌, ◌≤◌, ◌<◌, ◌↔◌, ℕ, true, length, IfSome, None, Some};
+ghost use Rattle.std.specs.Prelude.{◌≡◌, ◌≢◌, ◌≤◌, ◌<◌, ◌↔◌, ℕ, true, length, All, IfSome, None, Some};
 ghost use Rattle.vm_types.specs.declared.ids.ActorId.{ActorId};
 ghost use Rattle.vm_types.specs.declared.op.Op.TheVariants.{Idle};
 ghost use Rattle.vm_world.specs.Worlds.{want_in};
 ghost use Rattle.monitor_running.specs.declared.ran.Ran.TheVariants as ran;
 ghost use Rattle.monitor_running.specs.Alone.{HasRun};
 ghost use Rattle.monitor_running.specs.Asked.{host_known};
+ghost use Rattle.monitor_running.specs.Passes.{ArePassed};
 ghost use Rattle.monitor_running.specs.Ran.{IsRunning, Went};
 ghost use Rattle.monitor_running.specs.Reached.{known};
 ghost use Rattle.monitor_running.specs.Waiting.{IsAlone, OthersIdle};
 
 use crate::devices::MOST_DEVICES;
+use crate::gating::looks_open;
 use crate::ran::Ran;
 use crate::telling::{end_by, tell_steps};
 use crate::waiting::{MOST_HARTS, pass_round, waits};
+use pause_gate::Gate;
 use serve_host::Trace;
 use std::alloc::Global;
 use vm_host::{Clock, Disk, Host};
@@ -21,7 +24,8 @@ use vm_outside::Sink;
 use vm_types::{ActorId, Op};
 use vm_world::World;
 
-/// A hart and the devices are looked at after so many events, and where the hart waits then, or a device doesn't, its turn is over. A wait
+/// A hart, the devices and the gate are looked at after so many events, and where the hart waits then, or a device doesn't, or the
+/// gate is closed, its turn is over. A wait
 /// and its look come in turn, so an even number would find a hart that waits at its look again and again.
 const EVENTS_AT_ONCE: u64 = 1_023;
 
@@ -99,11 +103,24 @@ fn device_works(world: &World) -> bool {
     false
 }
 
-// Events of the hart until it waits or stops, or a device has something to do, or it has made as many as its turn has, and how
-// many there were.
-fn run_hart(world: &mut World, turn: Turn) -> u64
+// Whether a turn of the hart is over, though it has events left.
+fn is_to_end(world: &World, hart: u8) -> bool {
+    waits(world, hart) || device_works(world)
+}
+
+// Events of the hart until it waits or stops, or a device has something to do, or the gate is closed, or it has made as many as its
+// turn has, and how many there were.
+fn run_hart<Q, G: Gate<Pass = Q>>(
+    world: &mut World,
+    turn: Turn,
+    gate: &G,
+    passes: &mut Vec<Q>,
+) -> u64
+    requires some { 0 < length passes.old.items }
+    requires serve { All (G.serves gate.now) passes.old.items }
     ensures run { HasRun turn.hart result world.old world.new }
     ensures most { result ≤ turn.most }
+    ensures passes { ArePassed (G.serves gate.now) G.tally None passes.old.items passes.new.items }
 {
     let most = turn.most as u64;
     let mut made = 0;
@@ -113,7 +130,7 @@ fn run_hart(world: &mut World, turn: Turn) -> u64
             return made;
         };
         made += count.min(next);
-        if count < next || waits(world, turn.hart) || device_works(world) {
+        if count < next || is_to_end(world, turn.hart) || !looks_open(gate, passes) {
             return made;
         }
     }
@@ -122,18 +139,23 @@ fn run_hart(world: &mut World, turn: Turn) -> u64
 
 /// A turn of one hart. Before it two events of the timer and of each other hart are made, and where another one waits no more after
 /// them, this turn has no event of the hart. They are told, and drained, and so are then the hart's.
-pub fn run_alone<D: Disk, L, V, C: Clock, T: Trace, K: Sink>(
+pub fn run_alone<Q, D: Disk, L, V, C: Clock, G: Gate<Pass = Q>, T: Trace, K: Sink>(
     alloc: Global,
     world: &mut World,
     host: &mut Host<D, L, V, C>,
+    gate: &G,
+    passes: &mut Vec<Q>,
     turn: Turn,
     trace: &mut T,
     sink: &mut K,
 ) -> Option<Ran>
-    requires { length world.old.harts ≤ 32 }
+    requires harts { length world.old.harts ≤ 32 }
+    requires some { 0 < length passes.old.items }
+    requires serve { All (G.serves gate.now) passes.old.items }
     ensures went { Went IsRunning result
         (known (T.known trace.old) (K.known sink.old) (host_known C.known D.known host.old)) world.old
         (known (T.known trace.new) (K.known sink.new) (host_known C.known D.known host.new)) world.new }
+    ensures passes { ArePassed (G.serves gate.now) G.tally result passes.old.items passes.new.items }
     ensures unclosed { result ≢ Some ran.Closed }
 {
     if let Some(end) = pass_round(alloc, world, host, Some(turn.hart), trace, sink) {
@@ -142,7 +164,7 @@ pub fn run_alone<D: Disk, L, V, C: Clock, T: Trace, K: Sink>(
     if world.hart_count() > MOST_HARTS || !others_wait(world, turn.hart) {
         return None;
     }
-    let made = run_hart(world, turn);
+    let made = run_hart(world, turn, gate, passes);
     if let Err(why) = tell_steps(ActorId::Hart(turn.hart), made, world, trace, sink) {
         return Some(end_by(why));
     }

@@ -3,7 +3,7 @@
 //! `run_once` makes one turn of a machine, and `run_while` one after another until a gate is closed. A turn is a slice
 //! (`slice_runner`) where two harts or more have something to do, and events of one hart, in one thread, where it alone has
 //! (`alone`). Each event goes to the trace as an item, in the order of the turn, and what the console holds after it goes to
-//! the sink, its item to the trace first. Before each turn the devices act, and their disks answer them (`devices`); where
+//! the sink, its item to the trace first, unless the sink isn't ready: then the console keeps it. Before each turn the devices act, and their disks answer them (`devices`); where
 //! every hart waits a few events are made in place of a slice (`waiting`). So what the trace took is a run of the flat
 //! machine that leaves the machine and shows what the sink took, and where turns end early the sink took a front of what
 //! the trace says. `flat_trace` has what an item of a trace does, `specs/Reached.antt` what is kept, `specs/Asked.antt` what
@@ -12,6 +12,7 @@
 
 mod alone;
 mod devices;
+mod gating;
 mod ran;
 mod running;
 mod telling;
@@ -19,4 +20,5 @@ mod waiting;
 
 pub use devices::run_devices;
 pub use ran::Ran;
-pub use running::{run_once, run_while};
+pub use running::{end_of_closed, run_once, run_while};
+pub use waiting::is_quiet;

@@ -10,6 +10,7 @@ ghost use Rattle.monitor_running.specs.Reached.{Known, known};
 
 use crate::alone::{MOST_ALONE, Turn, lone_hart, run_alone};
 use crate::devices::{MOST_DEVICES, run_devices};
+use crate::gating::is_open;
 use crate::ran::Ran;
 use crate::telling::{end_by, tell_slice};
 use crate::waiting::{MOST_HARTS, all_wait, pass_round, time_left};
@@ -40,17 +41,6 @@ fn has_passes(world: &World, passes: usize) -> bool
 {
     let harts = world.hart_count();
     harts <= MOST_HARTS && harts < passes
-}
-
-// Asks the gate with the first pass.
-fn is_open<Q, G: Gate<Pass = Q>>(gate: &G, passes: &mut Vec<Q>) -> bool
-    requires some { 0 < length passes.old.items }
-    requires serve { All (G.serves gate.now) passes.old.items }
-    ensures { MatchBool result
-        (ArePassed (G.serves gate.now) G.tally None passes.old.items passes.new.items)
-        (ArePassed (G.serves gate.now) G.tally (Some ran.Closed) passes.old.items passes.new.items) }
-{
-    gate.ask(&mut passes[0])
 }
 
 // The end for which there was no slice.
@@ -222,7 +212,8 @@ fn run_or_wait<
     }
     if let Some(hart) = lone_hart(world) {
         let most = steps.min(MOST_ALONE);
-        return run_alone(alloc, world, host, Turn { hart, most }, trace, sink);
+        let turn = Turn { hart, most };
+        return run_alone(alloc, world, host, gate, passes, turn, trace, sink);
     }
     run_guest(rt, alloc, world, host, gate, passes, steps, trace, sink)
 }
@@ -268,15 +259,15 @@ fn run_world<
 ///
 /// Where two harts or more have something to do the turn is a slice, of `steps` steps at most of each actor, and 65,536 of all of them.
 /// An actor asks the gate with a pass of its own before each step. Where one hart alone has, and each other one waits, it is two
-/// events of the timer and of each other hart, and then, where these wait still, events of that hart until it waits, `steps` and
-/// 49,152 at most: no slice is opened, and the gate isn't asked. Where every hart waits it is two events of the timer and of each
+/// events of the timer and of each other hart, and then, where these wait still, events of that hart until it waits or the gate is
+/// closed, which is asked with the first pass after every 1,023 of them, `steps` and 49,152 at most: no slice is opened. Where every hart waits it is two events of the timer and of each
 /// hart, without the gate, and where all of them wait still, the clock rests, until the next timer interrupt is due at most. It rests
 /// too where no guest runs, and where there are fewer passes than actors or more harts than a slice has (no start and no load makes so
 /// many). Nothing is said of time.
 ///
 /// Each event goes to the trace, as `step ACTOR 1`, or `reply ACTOR R` with the answer of a host object; then, where the
-/// console holds anything, `console` goes there too, and then what it held goes to the sink, as it is. No item is made for a trace
-/// that nobody hears.
+/// console holds anything, `console` goes there too, and then what it held goes to the sink, as it is. Where the sink isn't ready
+/// the console of a guest that is on keeps what it holds, for a later turn. No item is made for a trace that nobody hears.
 pub fn run_once<
     Q: Send + Drop,
     D: Disk,
@@ -309,6 +300,8 @@ pub fn run_once<
         return Some(Ran::Off);
     }
     let Some(mut world) = machine.take_running() else {
+        // (what the sink took and held back may go on by that)
+        let _ = sink.ready();
         host.clock.rest(u64::MAX);
         return None;
     };
@@ -319,8 +312,8 @@ pub fn run_once<
     end
 }
 
-// Why turns end at a closed gate.
-fn end_of_closed(machine: &LiveMachine) -> Ran
+/// Why turns end at a closed gate: `Closed` where the guest is on, and `Off` where it is off.
+pub fn end_of_closed(machine: &LiveMachine) -> Ran
     ensures { (k : Known) → Went IsLive (Some result) k machine.now k machine.now }
 {
     if machine.is_off() {

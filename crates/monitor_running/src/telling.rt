@@ -4,7 +4,7 @@ ghost use Rattle.vm_outside.specs.Known.{Called, Lasts, Tells};
 ghost use Rattle.vm_types.specs.Causes.{Rose};
 ghost use Rattle.monitor_running.specs.declared.telling.Untold.TheVariants as untold;
 ghost use Rattle.flat_trace.specs.Events.{event_items, item_of, needs_room};
-ghost use Rattle.monitor_running.specs.Items.{Drains, TellsPart, TellsSlice, TellsSteps};
+ghost use Rattle.monitor_running.specs.Items.{Drains, MayDrain, TellsPart, TellsSlice, TellsSteps};
 ghost use Rattle.monitor_running.specs.Ran.{end_by};
 
 use crate::ran::Ran;
@@ -106,7 +106,30 @@ fn drain<T: Trace, K: Sink>(guest: &mut World, trace: &mut T, sink: &mut K) -> R
     }
 }
 
-/// Tells the trace the events of a slice, and then drains the console.
+// The same where the sink is ready, and where the guest is off. Else the console keeps what it holds. The sink is asked in any
+// case: what it took before and held back may go on by that.
+fn drain_if_ready<T: Trace, K: Sink>(
+    guest: &mut World,
+    trace: &mut T,
+    sink: &mut K,
+) -> Result<(), Untold>
+    ensures drains { Tells (T.known trace.old).health → Tells (K.known sink.old).health →
+        MayDrain result guest.old (T.known trace.old).took (K.known sink.old).taken
+        guest.new (T.known trace.new).took (K.known sink.new).taken }
+    ensures trace_cause { IfErr result (λ why. why ≡ untold.Trace →
+        Rose (T.known trace.old).health.faults (T.known trace.new).health.faults) }
+    ensures sink_cause { IfErr result (λ why. why ≡ untold.Sink →
+        Rose (K.known sink.old).health.faults (K.known sink.new).health.faults) }
+    ensures trace_lasts { Lasts (T.known trace.old).health (T.known trace.new).health }
+    ensures sink_lasts { Lasts (K.known sink.old).health (K.known sink.new).health }
+{
+    if !sink.ready() && !guest.is_off() {
+        return Ok(());
+    }
+    drain(guest, trace, sink)
+}
+
+/// Tells the trace the events of a slice, and then drains the console, or leaves that for later (`drain_if_ready`).
 pub fn tell_slice<T: Trace, K: Sink>(
     alloc: Global,
     events: &[Entry],
@@ -125,10 +148,10 @@ pub fn tell_slice<T: Trace, K: Sink>(
     ensures sink_lasts { Lasts (K.known sink.old).health (K.known sink.new).health }
 {
     tell_events(alloc, events, trace)?;
-    drain(guest, trace, sink)
+    drain_if_ready(guest, trace, sink)
 }
 
-/// Tells the trace so many steps of an actor, and then drains the console. No item is made for them.
+/// Tells the trace so many steps of an actor, and then drains the console as above. No item is made for them.
 pub fn tell_steps<T: Trace, K: Sink>(
     actor: ActorId,
     count: u64,
@@ -149,5 +172,5 @@ pub fn tell_steps<T: Trace, K: Sink>(
     let Ok(()) = trace.add_steps(actor, count) else {
         return Err(Untold::Trace);
     };
-    drain(guest, trace, sink)
+    drain_if_ready(guest, trace, sink)
 }

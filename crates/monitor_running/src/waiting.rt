@@ -26,11 +26,12 @@ ghost use Rattle.monitor_running.specs.declared.ran.Ran.TheVariants as ran;
 ghost use Rattle.monitor_running.specs.Asked.{host_known};
 ghost use Rattle.monitor_running.specs.Ran.{IsRunning, Went};
 ghost use Rattle.monitor_running.specs.Reached.{known};
-ghost use Rattle.monitor_running.specs.Waiting.{AllIdle, HasGone, HasMade, hart_turn, is_left_out, makers, takes_turn, turns};
+ghost use Rattle.monitor_running.specs.Waiting.{AllIdle, HasGone, HasMade, IsQuiet, hart_turn, is_left_out, makers, takes_turn, turns};
 
 use crate::ran::Ran;
 use crate::telling::{end_by, tell_slice};
 use line_board::Board;
+use monitor_machine::LiveMachine;
 use serve_host::Trace;
 use slice_runner::ask_clock;
 use std::alloc::{AllocError, Global};
@@ -60,6 +61,17 @@ pub fn all_wait(world: &World) -> bool
         }
     }
     true
+}
+
+/// Whether nothing runs but time and devices: no guest runs, or each of its harts waits. A guest of more harts than a slice has
+/// doesn't run.
+pub fn is_quiet(machine: &LiveMachine) -> bool
+    ensures { (result ≡ true) ↔ IsQuiet machine.now }
+{
+    match machine.running() {
+        Some(world) => world.hart_count() > MOST_HARTS || all_wait(world),
+        None => true,
+    }
 }
 
 /// Guest time that is left until the next timer interrupt is due, in nanoseconds: of the moments that are not over, the

@@ -1,4 +1,4 @@
-// Slices in a thread of their own, and the reader in this one.
+// Slices in a thread of their own, and the reader in this one; or both in this one, where nothing runs.
 ghost use Rattle.std.specs.Prelude.{◌≡◌, Some, length};
 ghost use Rattle.vm_outside.specs.Known.{Lasts, Tells};
 ghost use Rattle.monitor_machine.specs.State.{IsLive};
@@ -8,8 +8,9 @@ ghost use Rattle.monitor_serving.specs.Passes.{ArePasses};
 ghost use Rattle.monitor_serving.specs.Views.{known_of};
 
 use crate::listening::{Heard, listen};
+use crate::quiet::run_quiet;
 use monitor_machine::LiveMachine;
-use monitor_running::{Ran, run_while};
+use monitor_running::{Ran, is_quiet, run_while};
 use pause_gate::{FlagGate, Pass};
 use serve_host::{Conn, Trace};
 use std::alloc::Global;
@@ -18,10 +19,10 @@ use std::thread::{Threads, join_mut};
 use vm_host::{Clock, Disk, Host};
 use vm_outside::Sink;
 
-/// Slices until something is heard of the connection, or they end by themselves. Whichever ends first closes the gate. Where no
-/// thread can be made for the slices, something is heard first, and they find the gate closed: the guest stands still, and
-/// requests are answered.
-pub fn run_beside<
+// Slices until something is heard of the connection, or they end by themselves. Whichever ends first closes the gate. Where no
+// thread can be made for the slices, something is heard first, and they find the gate closed: the guest stands still, and
+// requests are answered.
+fn run_in_threads<
     D: Disk + Send,
     C: Clock + Send,
     N: Conn,
@@ -93,4 +94,53 @@ pub fn run_beside<
     };
     let (ran, heard) = join_mut(rt, &mut run, &mut read);
     (heard, ran)
+}
+
+/// Turns, and what is heard of the connection meanwhile. Where nothing runs it is one turn with a read behind it. Else turns are made
+/// in a thread of their own until something is heard, or they end by themselves.
+pub fn run_beside<
+    D: Disk + Send,
+    C: Clock + Send,
+    N: Conn,
+    T: Trace + Send,
+    K: Sink + Send,
+    R: Threads + Wait + Sync,
+>(
+    rt: &R,
+    alloc: Global,
+    gate: &FlagGate,
+    passes: &mut Vec<Pass>,
+    reader: &mut Pass,
+    steps: u32,
+    machine: &mut LiveMachine,
+    host: &mut Host<D, (), (), C>,
+    trace: &mut T,
+    sink: &mut K,
+    conn: &mut N,
+    buf: &mut Vec<u8>,
+) -> (Heard, Ran)
+    requires reader { reader.old.0 ≡ gate.now }
+    requires passes { ArePasses gate.now passes.old.items }
+    ensures heard { Tells (N.known conn.old).health →
+        HearsBy result.0 (N.known conn.old) (N.known conn.new) buf.new.items }
+    ensures within { IsWithin result.0 (length buf.new.items) }
+    ensures took { Tells (N.known conn.old).health → (N.known conn.new).took ≡ (N.known conn.old).took }
+    ensures conn_cause { HeardCause result.0 (N.known conn.old).health.faults (N.known conn.new).health.faults }
+    ensures conn_lasts { Lasts (N.known conn.old).health (N.known conn.new).health }
+    ensures room { length buf.new.items ≡ length buf.old.items }
+    ensures went { Went IsLive (Some result.1)
+        (known_of T.known K.known C.known D.known trace.old sink.old host.old) machine.old
+        (known_of T.known K.known C.known D.known trace.new sink.new host.new) machine.new }
+    ensures reader { reader.new.0 ≡ gate.now }
+    ensures opened { reader.new.1.openings ≡ reader.old.1.openings }
+    ensures passes { ArePasses gate.now passes.new.items }
+{
+    if is_quiet(machine) {
+        return run_quiet(
+            rt, alloc, gate, passes, steps, machine, host, trace, sink, conn, buf,
+        );
+    }
+    run_in_threads(
+        rt, alloc, gate, passes, reader, steps, machine, host, trace, sink, conn, buf,
+    )
 }

@@ -19,7 +19,7 @@ pub enum Heard {
     End,
     /// A read failed.
     Fault,
-    /// Nothing, before the gate was closed.
+    /// Nothing, before the gate was closed, or in one read.
     Nothing,
 }
 
@@ -33,6 +33,23 @@ fn read_into<N: Conn>(conn: &mut N, buf: &mut Vec<u8>) -> Result<Got, Failed>
     ensures room { length buf.new.items ≡ length buf.old.items }
 {
     conn.read(buf.as_mut_slice())
+}
+
+/// One read.
+pub fn hear<N: Conn>(conn: &mut N, buf: &mut Vec<u8>) -> Heard
+    ensures heard { Tells (N.known conn.old).health → HearsBy result (N.known conn.old) (N.known conn.new) buf.new.items }
+    ensures within { IsWithin result (length buf.new.items) }
+    ensures took { Tells (N.known conn.old).health → (N.known conn.new).took ≡ (N.known conn.old).took }
+    ensures cause { HeardCause result (N.known conn.old).health.faults (N.known conn.new).health.faults }
+    ensures lasts { Lasts (N.known conn.old).health (N.known conn.new).health }
+    ensures room { length buf.new.items ≡ length buf.old.items }
+{
+    match read_into(conn, buf) {
+        Err(Failed) => Heard::Fault,
+        Ok(Got::End) => Heard::End,
+        Ok(Got::Bytes(count)) => Heard::Bytes(count),
+        Ok(Got::NotYet) => Heard::Nothing,
+    }
 }
 
 /// Reads until something comes on the connection, or the gate is closed.

@@ -1,7 +1,6 @@
 -- A read of some bytes, and what it leaves.
-use Rattle.std.proofs.Common.{◌≡◌, ℕ, zero, suc, ◌+◌, List, [], ◌∷◌, ◌++◌, length, take, drop, sym, ◌∙◌, ap, arith, zero-add, append_assoc, length-drop, length-append, take-append-drop, ◌-◌, ◌≤◌, ◌<◌, min, max}
+use Rattle.std.proofs.Common.{◌≡◌, ℕ, ◌+◌, List, [], ◌++◌, length, take, drop, sym, ◌∙◌, ap, arith, length-drop, length-append, take-append-drop, ◌-◌, ◌≤◌, ◌<◌, min, max}
 use Rattle.std.proofs.lemmas.List.{take_all, take_at, drop_all, drop-drop, length-take-le}
-use Rattle.std.proofs.lemmas.Grind.{common_steps}
 
 -- what `&xs[s..]` is
 tail_slice : (s : ℕ) (xs : List ℕ) → take (length xs - s) (drop s xs) ≡ drop s xs

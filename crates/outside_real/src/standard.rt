@@ -1,8 +1,8 @@
 // The descriptors 0, 1 and 2, which are the input, the output and the place for errors.
+use crate::polling::question;
 use libc::net::{POLLNVAL, poll};
-use libc::types::pollfd;
 use std::fs::{File, OpenOptions};
-use std::os::unix::io::{IntoRawFd, RawFd};
+use std::os::unix::io::IntoRawFd;
 use std::{io, rt};
 
 const NULL_DEVICE: &str = "/dev/null";
@@ -26,15 +26,7 @@ pub fn fill_standard<R: rt::Files<File = File>>(rt: &R) -> io::Result<()> {
 }
 
 fn is_any_closed() -> bool {
-    let mut asked = [entry(0), entry(1), entry(2)];
+    let mut asked = [question(0, 0), question(1, 0), question(2, 0)];
     poll(&mut asked, 0);
     asked.iter().any(|one| one.revents & POLLNVAL != 0)
-}
-
-fn entry(fd: RawFd) -> pollfd {
-    pollfd {
-        fd,
-        events: 0,
-        revents: 0,
-    }
 }

@@ -49,9 +49,17 @@ impl<W: Write + Drop> Sink for Writing<W> {
     {
         counted(&mut self.faults, send_some(&mut self.writer, bytes))
     }
+
+    /// Each write waits as long as its writer does, and so does whoever asks.
+    fn ready(&mut self) -> bool
+        ensures same { self.new ≡ self.old }
+    {
+        true
+    }
 }
 
-fn send_some<W: Write>(writer: &mut W, bytes: &[u8]) -> io::Result<usize>
+/// One write, and what the writer holds back.
+pub(crate) fn send_some<W: Write>(writer: &mut W, bytes: &[u8]) -> io::Result<usize>
     ensures bound { IfOk result (λ n. n ≤ length bytes.now) }
     ensures some { IfOk result (λ n. 0 < length bytes.now → 0 < n) }
 {

@@ -8,7 +8,7 @@ ghost use Rattle.vm_outside.specs.Passing.{TakesAll};
 use crate::end::End;
 use itoa::Buffer;
 use refusals::Refusal;
-use vm_outside::{Failed, Sink, write_all};
+use vm_outside::{Failed, Sink, write_all, write_three};
 
 /// Writes the last line of a command that ended so, without taking memory. After an `Err` the sink has taken a front of
 /// it, and not all.
@@ -34,18 +34,4 @@ fn write_refused<K: Sink>(sink: &mut K, why: Refusal) -> Result<(), Failed>
     let mut buffer = Buffer::new();
     let number = buffer.format(why.number()).as_bytes();
     write_three(sink, b". refused ", number, b"\n")
-}
-
-fn write_three<K: Sink>(sink: &mut K, one: &[u8], two: &[u8], three: &[u8]) -> Result<(), Failed>
-    ensures takes { Tells (K.known sink.old).health →
-        TakesAll (K.known sink.old).taken (K.known sink.new).taken result ((one.now ++ two.now) ++ three.now) }
-    ensures called { Called (K.known sink.old).health (K.known sink.new).health result }
-{
-    let Ok(()) = write_all(sink, one) else {
-        return Err(Failed);
-    };
-    let Ok(()) = write_all(sink, two) else {
-        return Err(Failed);
-    };
-    write_all(sink, three)
 }

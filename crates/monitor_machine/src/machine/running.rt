@@ -1,11 +1,22 @@
 // The guest of a machine, taken out for a slice.
-ghost use Rattle.std.specs.Prelude.{◌≡◌, Some};
+ghost use Rattle.std.specs.Prelude.{◌≡◌, Some, option_map};
 ghost use Rattle.monitor_machine.specs.Running.{resting_world, running_world};
 
 use crate::machine::LiveMachine;
 use vm_world::World;
 
 impl LiveMachine {
+    /// The guest that runs.
+    pub fn running(&self) -> Option<&World>
+        ensures { option_map (λ w. w.now) result ≡ running_world self.now.guest self.now.paused }
+    {
+        if self.paused {
+            None
+        } else {
+            self.guest.as_ref()
+        }
+    }
+
     /// Takes out the guest that runs. Until `put_guest` gives one back the machine has none.
     pub fn take_running(&mut self) -> Option<World>
         ensures running { result ≡ running_world self.old.guest self.old.paused }

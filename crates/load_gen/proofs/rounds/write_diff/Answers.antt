@@ -1,6 +1,6 @@
 use Rattle.std.proofs.Common.{subst, refl, ℕ, List}
 use Rattle.vm_outside.specs.Passing.{TakesAll, TakesPart}
-use Rattle.load_gen.proofs.Parts.{part_more, takes_behind}
+use Rattle.vm_outside.proofs.Parts.{part_more, takes_behind}
 use Rattle.load_gen.proofs.Texts.{diff_text}
 use Rattle.load_gen.proofs.rounds.write_diff.Goals as goal
 

@@ -1,19 +1,23 @@
-use Rattle.std.proofs.Common.{◌+◌, ℕ, sym, subst, arith}
+use Rattle.std.proofs.Common.{◌+◌, ℕ, None, sym, subst, arith}
 use Rattle.monitor_running.specs.Alone.{HasRun}
 use Rattle.monitor_running.proofs.Lone.{run_more}
+use Rattle.monitor_running.proofs.Passing.{passed_on}
 use Rattle.monitor_running.proofs.alone.run_hart.Goals as goal
 
 pub returns-then-count-next-clause-run : goal.returns-then-count-next-clause-run
-returns-then-count-next-clause-run c =
+returns-then-count-next-clause-run g c =
     subst (λ (n : ℕ). HasRun c.args.turn.hart (c.loop-made.made + n) c.args.world.now c.run.new.self) (sym c.min-made.ensures)
     (run_more c.args.turn.hart c.loop-made.made c.at_once-next.result c.in-Ok.count c.args.world.now c.loop-made.world
     c.run.new.self c.loop-made.invariant.run c.in-Ok.ensures.made)
 
 pub loop-made-preserved : goal.loop-made-preserved
-loop-made-preserved c = record {
+loop-made-preserved g c = record {
   run =
       subst (λ (n : ℕ). HasRun c.args.turn.hart (c.loop-made.made + n) c.args.world.now c.run.new.self) (sym c.min-made.ensures)
       (run_more c.args.turn.hart c.loop-made.made c.at_once-next.result c.in-Ok.count c.args.world.now c.loop-made.world
       c.run.new.self c.loop-made.invariant.run c.in-Ok.ensures.made);
   most = omega (arith, c.min-made.ensures, c.at_once-next.ensures, c.loop-made-test.true, c.loop-made.invariant.most);
+  some = omega (arith, c.looks_open.ensures.same, c.loop-made.invariant.some);
+  passes =
+      passed_on _ _ None _ c.loop-made.passes.items _ c.requires.some c.loop-made.invariant.passes c.looks_open.ensures;
 }

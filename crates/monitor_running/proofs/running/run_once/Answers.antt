@@ -9,9 +9,10 @@ returns-then-is_off-clause-went g c = went_off _ c.args.machine.now c.is_off.res
 
 pub returns-in_default-clause-went : goal.returns-in_default-clause-went
 returns-in_default-clause-went g c =
-    went_resting IsLive _ _ _ _ _ _
+    rw c.ready.ensures.same
+    (went_resting IsLive _ _ _ _ _ _
     (nothing_taken c.args.machine.now c.take_running.new.self (sym c.in_default.ensures.running) c.in_default.ensures.left)
-    (record { clock = c.rest.ensures; disk = rests_same _ })
+    (record { clock = c.rest.ensures; disk = rests_same _ }))
 
 pub returns-clause-went : goal.returns-clause-went
 returns-clause-went g c =

@@ -11,4 +11,4 @@ returns-in_default-clause-told g c = λ t k.
 pub returns-clause-told : goal.returns-clause-told
 returns-clause-told g c = λ t k.
     let adds = c.in-Ok.ensures in
-    told_then _ ⊥ _ _ _ _ _ _ _ _ (adds.adds t) (c.drain.ensures.drains (adds.called.lasts.still t) k)
+    told_then _ ⊥ _ _ _ _ _ _ _ _ (adds.adds t) (c.drain_if_ready.ensures.drains (adds.called.lasts.still t) k)

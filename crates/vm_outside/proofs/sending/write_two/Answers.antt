@@ -1,5 +1,5 @@
-use Rattle.monitor_cli.proofs.Parts.{part_more, takes_behind}
-use Rattle.monitor_cli.proofs.last_line.write_two.Goals as goal
+use Rattle.vm_outside.proofs.Parts.{part_more, takes_behind}
+use Rattle.vm_outside.proofs.sending.write_two.Goals as goal
 
 pub returns-in_default-clause-takes : goal.returns-in_default-clause-takes
 returns-in_default-clause-takes g c = λ told.

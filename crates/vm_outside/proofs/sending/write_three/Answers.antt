@@ -1,6 +1,6 @@
 use Rattle.std.proofs.Common.{◌++◌}
-use Rattle.load_gen.proofs.Parts.{part_more, takes_behind}
-use Rattle.load_gen.proofs.writing.write_three.Goals as goal
+use Rattle.vm_outside.proofs.Parts.{part_more, takes_behind}
+use Rattle.vm_outside.proofs.sending.write_three.Goals as goal
 
 pub returns-in_default-clause-takes : goal.returns-in_default-clause-takes
 returns-in_default-clause-takes g c = λ told.
