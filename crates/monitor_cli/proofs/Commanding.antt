@@ -10,6 +10,7 @@ use Rattle.vm_outside.specs.Known.{Called, FilesKnown, SinkKnown, SourceKnown, T
 use Rattle.vm_outside.specs.Passing.{TakesAll}
 use Rattle.script_output.specs.Output.{last_line}
 use Rattle.command_line.specs.Commands.{replay_id}
+use Rattle.command_line.specs.declared.parsing.NoCommand.{NoCommand}
 use Rattle.flat_machine.specs.Machine.{AreFilesOf, Machine, new_machine}
 use Rattle.flat_machine.specs.Outcome.{AreAnswered, Outcome, failed_in, short_in}
 use Rattle.flat_machine.specs.Outcome.Outcome.{Answered, Failed, NoMemory}
@@ -17,7 +18,7 @@ use Rattle.flat_machine.specs.Replay.{judged_script}
 use Rattle.flat_machine.specs.Run.{Act, AllAnswered, failures, lines_done, shortages}
 use Rattle.flat_machine.specs.Stops.{stop_failures}
 use Rattle.monitor_cli.specs.Answering.{IsClosing}
-use Rattle.monitor_cli.specs.Command.{Commanded, IsRefusal, IsWellFormed, Unbegun, Wordless, exit_of}
+use Rattle.monitor_cli.specs.Command.{Commanded, IsRefusal, IsWellFormed, Unbegun, Wordless, exit_of, refusal_of}
 use Rattle.monitor_cli.specs.Counting.{Counted}
 use Rattle.monitor_cli.specs.Known.{AllLast, AllTell, Caused, CausedSoFar, Known, NoneRose, SinkCause}
 use Rattle.monitor_cli.specs.Lines.{BeforeLast, IsRunsEnd}
@@ -181,6 +182,28 @@ refused_command words Exit.OutOfMemory before now refusal none unbegun lasts = r
   lasts = lasts;
 }
 refused_command words exit before now refusal none unbegun lasts = absurd refusal
+
+is_refusal : (why : NoCommand) → IsRefusal (refusal_of why)
+is_refusal NoCommand.Usage = tt
+is_refusal NoCommand.OutOfMemory = tt
+
+usage_alone : (why : NoCommand) → refusal_of why ≡ Exit.Usage → why ≡ NoCommand.Usage
+usage_alone NoCommand.Usage is = refl
+usage_alone NoCommand.OutOfMemory is = absurd (no_usage is)
+
+not_quiet : (why : NoCommand) → IsQuiet (refusal_of why) → ⊥
+not_quiet NoCommand.Usage quiet = quiet
+not_quiet NoCommand.OutOfMemory quiet = quiet
+
+pub unbegun_by : (why : NoCommand) (exit result : Exit) (before now : Known) → exit ≡ refusal_of why → result ≡ exit
+    → ((IsQuiet exit → ⊥) → Unbegun exit before now) → Unbegun result before now
+unbegun_by why exit result before now is same unbegun =
+    subst (λ (e : Exit). Unbegun e before now) (sym same) (unbegun (λ quiet. not_quiet why (subst IsQuiet is quiet)))
+
+pub refused_by : (words : List (List ℕ)) (why : NoCommand) (result : Exit) (before now : Known) → result ≡ refusal_of why
+    → (why ≡ NoCommand.Usage → replay_id words ≡ None) → Unbegun result before now → AllLast before now → Commanded words result before now
+refused_by words why result before now is none unbegun lasts =
+    refused_command words result before now (subst IsRefusal (sym is) (is_refusal why)) (λ usage. none (usage_alone why (sym is ∙ usage))) unbegun lasts
 
 -- the last line is written behind the answers, or a front of it
 module _ (words : List (List ℕ)) (exit : Exit) (before mid : Known) (sink : SinkKnown) {E : Type 0} (result : Result (Unit {0}) E)

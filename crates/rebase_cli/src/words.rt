@@ -39,7 +39,10 @@ fn rebase_in<'a>(alloc: Global, words: &'a [String]) -> Result<Paths<'a>, NoComm
         return Err(NoCommand::OutOfMemory);
     };
     let matches = matches_of(tool, words)?;
-    paths_in(&matches).ok_or(NoCommand::Usage)
+    match paths_in(&matches) {
+        Some(paths) => Ok(paths),
+        None => Err(NoCommand::Usage),
+    }
 }
 
 // The tool, with its one command.
