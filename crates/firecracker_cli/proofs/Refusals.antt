@@ -1,9 +1,13 @@
 -- There was no memory to read the words of `serve`: the last line is all that was done.
-use Rattle.std.proofs.Common.{◌≡◌, ℕ, inl, inr, refl, sym, ap, ◌∙◌, List, ◌++◌, append_assoc}
+use Rattle.std.proofs.Common.{◌≡◌, ℕ, inl, inr, refl, sym, ap, subst, ◌∙◌, List, ◌++◌, append_assoc, Option, Some, None}
 use Rattle.vm_types.specs.declared.exit.Exit.{Exit}
 use Rattle.vm_outside.specs.Known.{Lasts, SinkKnown, Tells}
 use Rattle.script_output.specs.Output.{last_line}
 use Rattle.flat_trace.specs.Showing.{shown}
+use Rattle.std.specs.Prelude.{option_and_then}
+use Rattle.command_line.specs.Commands.{Command, ServeWords, command_of, serve_words, words_of_serve}
+use Rattle.command_line.specs.declared.parsing.NoCommand.{NoCommand}
+use Rattle.monitor_cli.specs.Command.{refusal_of}
 use Rattle.monitor_cli.specs.Taking.{TookText}
 use Rattle.monitor_running.specs.Reached.{known}
 use Rattle.monitor_serving.specs.Views.{hosts}
@@ -48,3 +52,20 @@ module _ (id : List ℕ) (before : ServeKnown) (sink : SinkKnown) where
       listener = lasts_same before.listener.health;
     };
   }
+
+no_words : (it : ServeWords) → None ≡ Some it → ⊥
+no_words it is = cc
+
+module _ (words : List (List ℕ)) (before : ServeKnown) (sink : SinkKnown) (it : ServeWords) (is : serve_words words ≡ Some it) where
+  by_why : (why : NoCommand) → (why ≡ NoCommand.Usage → command_of words ≡ None)
+      → (Tells before.hosts.slices.sink.health → TookText (refusal_of why) (last_line (refusal_of why)) before.hosts.slices.sink sink)
+      → Lasts before.hosts.slices.sink.health sink.health → Serves (refusal_of why) it.id before (now it.id before sink)
+  by_why NoCommand.Usage none writes lasts =
+      absurd (no_words it (sym (ap (λ (o : Option Command). option_and_then words_of_serve o) (none refl)) ∙ is))
+  by_why NoCommand.OutOfMemory none writes lasts = serves_none it.id before sink writes lasts
+
+  pub refused_serve : (why : NoCommand) (exit : Exit) → exit ≡ refusal_of why → (why ≡ NoCommand.Usage → command_of words ≡ None)
+      → (Tells before.hosts.slices.sink.health → TookText exit (last_line exit) before.hosts.slices.sink sink)
+      → Lasts before.hosts.slices.sink.health sink.health → Serves exit it.id before (now it.id before sink)
+  refused_serve why exit same none writes lasts = subst (λ (e : Exit). Serves e it.id before (now it.id before sink)) (sym same)
+      (by_why why none (subst (λ (e : Exit). Tells before.hosts.slices.sink.health → TookText e (last_line e) before.hosts.slices.sink sink) same writes) lasts)
