@@ -141,8 +141,8 @@ module _ (name : Text) (subs : List Shape) where
   none_met w rest (inr (inl long)) met =
       subst (λ (v : Text). subcommand_met names idle v ≡ None → top_fault (v ∷ rest) ≡ [] → ⊥) (sym long.2)
       (λ m none.
-          let x = 45 ∷ 45 ∷ long.0 ∷ long.1 in
-          some_kind kind.UnknownArgument [] (sym (ap (λ (k : Option Text). turn_by k x) m) ∙ turn_first x rest none)) met
+      let x = 45 ∷ 45 ∷ long.0 ∷ long.1 in
+      some_kind kind.UnknownArgument [] (sym (ap (λ (k : Option Text). turn_by k x) m) ∙ turn_first x rest none)) met
   none_met w rest (inr (inr plain)) met = λ none. some_kind kind.UnknownArgument (kind.InvalidSubcommand ∷ [])
       (sym (ap (λ (k : Option Text). turn_by k w) met
       ∙ ap₂ (λ (k : Kinds) (p : Held × Step). or_else k (step_fault t 1 p.0 p.1)) (plain_passes name [] w plain nothing_held) (plain_met name [] w plain nothing_held 1 idle))

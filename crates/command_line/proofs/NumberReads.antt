@@ -196,8 +196,8 @@ module _ (name : Text) where
     three_plain : (x : Text) → starts_dash x ≡ false → Kind y → fault_from start (x ∷ y ∷ z ∷ more) ≡ [] → ⊥
     three_plain x plain (inl end) = subst (λ (t : Text). fault_from start (x ∷ t ∷ z ∷ more) ≡ [] → ⊥) (sym end)
         (λ none.
-            let last = moves (with_number x false) (with_number x true) (45 ∷ 45 ∷ []) (z ∷ more) (ends x).0 (ends x).1 in
-            stops (with_number x true) z more (no_more x z) (sym ((moved x plain ((45 ∷ 45 ∷ []) ∷ z ∷ more)).0 ∙ last.0) ∙ none))
+        let last = moves (with_number x false) (with_number x true) (45 ∷ 45 ∷ []) (z ∷ more) (ends x).0 (ends x).1 in
+        stops (with_number x true) z more (no_more x z) (sym ((moved x plain ((45 ∷ 45 ∷ []) ∷ z ∷ more)).0 ∙ last.0) ∙ none))
     three_plain x plain (inr (inl long)) = subst (λ (t : Text). fault_from start (x ∷ t ∷ z ∷ more) ≡ [] → ⊥) (sym long.2)
         (λ none. stops (with_number x false) (45 ∷ 45 ∷ long.0 ∷ long.1) (z ∷ more) (no_long_behind x long.0 long.1)
         (sym (moved x plain ((45 ∷ 45 ∷ long.0 ∷ long.1) ∷ z ∷ more)).0 ∙ none))

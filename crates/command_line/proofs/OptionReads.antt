@@ -84,14 +84,14 @@ module _ (name : Text) (os : List Opt) (unnamed : known os [] ≡ None) where
   bad_by h bad x xs (inl end) =
       subst (λ (t : Text). fate_fault s (idle_at h) (t ∷ xs) ≡ [] → ⊥) (sym end)
       (λ none.
-          let g = goes s (idle_at h) (trails_at idle h) (45 ∷ 45 ∷ []) xs (end_idle name c h).0 (end_idle name c h).1 in
-          bad_trail idle h bad xs (sym g.0 ∙ none))
+      let g = goes s (idle_at h) (trails_at idle h) (45 ∷ 45 ∷ []) xs (end_idle name c h).0 (end_idle name c h).1 in
+      bad_trail idle h bad xs (sym g.0 ∙ none))
   bad_by h bad x xs (inr (inl long)) =
       subst (λ (t : Text). fate_fault s (idle_at h) (t ∷ xs) ≡ [] → ⊥) (sym long.2)
       (fails s (idle_at h) (45 ∷ 45 ∷ long.0 ∷ long.1) xs (λ none.
-          let nv = name_and_value (long.0 ∷ long.1) in
-          let turn = (long_idle name c long.0 long.1 h (option_map built_option (known os nv.0)) nv.1 (find_long os nv.0) refl).0 in
-          bad_long idle (45 ∷ 45 ∷ long.0 ∷ long.1) (known os nv.0) nv.1 h bad (sym turn ∙ none)))
+      let nv = name_and_value (long.0 ∷ long.1) in
+      let turn = (long_idle name c long.0 long.1 h (option_map built_option (known os nv.0)) nv.1 (find_long os nv.0) refl).0 in
+      bad_long idle (45 ∷ 45 ∷ long.0 ∷ long.1) (known os nv.0) nv.1 h bad (sym turn ∙ none)))
   bad_by h bad x xs (inr (inr plain)) = fails s (idle_at h) x xs (plain_stops x plain h)
 
   bad_idle : (h : Held) → IsBad h → (words : List Text) → list_any has_one_dash words ≡ false → fate_fault s (idle_at h) words ≡ [] → ⊥
@@ -126,8 +126,7 @@ module _ (name : Text) (os : List Opt) (unnamed : known os [] ≡ None) where
     value_taken : (x : Text) → starts_dash x ≡ false → (turn_fault s [] (waits_at o.0 (holds ds o.0 [])) x ≡ [])
         × (walked c [] (waits_at o.0 (holds ds o.0 [])) x ≡ idle_at (holds ds o.0 (x ∷ [])))
     value_taken x plain =
-        let turn = plain_waits name c x plain (holds ds o.0 []) o.0 in
-        (
+        let turn = plain_waits name c x plain (holds ds o.0 []) o.0 in (
           turn.0,
           turn.1 ∙ ap (λ (f : Option Rule). after_step c x (waits_at o.0 (holds ds o.0 [])) (waits_by x f).0 (waits_by x f).1) by_id
               ∙ ap (λ (b : Bool). record {
@@ -360,8 +359,8 @@ module _ (name : Text) (os : List Opt) (unnamed : known os [] ≡ None) where
         (after_none (λ more. options_in (names_for os) more rest) (apart (names_for os) (given_for ds) (45 ∷ 45 ∷ []) w)
         (either_none (is_value w) (with_option (names_for os) (given_for ds) (45 ∷ 45 ∷ []) w) (with_unknown os ds [] w unnamed)))
         (λ none.
-            let g = goes s (idle_at h) (trails_at idle h) (45 ∷ 45 ∷ []) (w ∷ rest) (end_idle name c h).0 (end_idle name c h).1 in
-            fails s (trails_at idle h) w rest (trail_stops idle h w) (sym g.0 ∙ none))
+        let g = goes s (idle_at h) (trails_at idle h) (45 ∷ 45 ∷ []) (w ∷ rest) (end_idle name c h).0 (end_idle name c h).1 in
+        fails s (trails_at idle h) w rest (trail_stops idle h w) (sym g.0 ∙ none))
 
     first_long : (y : ℕ) (ys : Text) → Kind w → list_any has_one_dash rest ≡ false → Claim (w ∷ rest) → Claim rest → Claim ((45 ∷ 45 ∷ y ∷ ys) ∷ w ∷ rest)
     unfolding options_in

@@ -144,10 +144,6 @@ fn machine_id<'a>(given: Option<&'a str>) -> Option<&'a str>
 {
     match given {
         None => Some(DEFAULT_ID),
-        Some(id) => if is_id(id) {
-            Some(id)
-        } else {
-            None
-        },
+        Some(id) => if is_id(id) { Some(id) } else { None },
     }
 }

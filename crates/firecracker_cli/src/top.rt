@@ -71,7 +71,15 @@ pub fn firecracker_main<
         Err(why) => return refuse(why.exit(), out),
     };
     match monitor_command(alloc, &words) {
-        Ok(MonitorCommand::Serve(it)) => serve_main(rt, alloc, it, STEPS, &mut out.files, &mut out.sink, with),
+        Ok(MonitorCommand::Serve(it)) => serve_main(
+            rt,
+            alloc,
+            it,
+            STEPS,
+            &mut out.files,
+            &mut out.sink,
+            with,
+        ),
         Ok(MonitorCommand::Replay { id }) => replay_by(alloc, id, out),
         Ok(MonitorCommand::Generate { number }) => generate_by(number, out),
         Ok(MonitorCommand::Run { .. }) => refuse_words(NoCommand::Usage, out),

@@ -11,7 +11,7 @@ returns-in-Err-clause-generated g c =
     let words : List (List ℕ) = map string_bytes c.args.words.now in
     let usage : c.in-Err.why ≡ NoCommand.Usage → generate_number words ≡ None =
     elim c.match-first.branch [
-      in-Some w ↦ IfErr-at_err (λ (why : NoCommand). why ≡ NoCommand.Usage → generate_number words ≡ None) (sym w.number-is ∙ c.in-Err.is)
+      | in-Some w ↦ IfErr-at_err (λ (why : NoCommand). why ≡ NoCommand.Usage → generate_number words ≡ None) (sym w.number-is ∙ c.in-Err.is)
           w.generate_number-number.ensures.usage
       | in-None w ↦ λ is. none_first c.args.words.now (sym c.first.ensures.value ∙ ap (λ o. option_copied o) w.in-None.is)
     ] in

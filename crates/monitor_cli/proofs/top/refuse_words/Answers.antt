@@ -9,7 +9,7 @@ pub returns-clause-unbegun : goal.returns-clause-unbegun
 returns-clause-unbegun g c =
     let is : c.match-why.exit ≡ refusal_of c.args.why =
     elim c.match-why.branch [
-      in-Usage w ↦ w.exit-is ∙ ap refusal_of (sym w.in-Usage.is)
+      | in-Usage w ↦ w.exit-is ∙ ap refusal_of (sym w.in-Usage.is)
       | in-OutOfMemory w ↦ w.exit-is ∙ ap refusal_of (sym w.in-OutOfMemory.is)
     ] in
     unbegun_by c.args.why c.match-why.exit c.refuse.result _ _ is c.refuse.ensures.ends c.refuse.ensures.unbegun
@@ -18,7 +18,7 @@ pub returns-clause-command : goal.returns-clause-command
 returns-clause-command g c = λ words none.
     let is : c.match-why.exit ≡ refusal_of c.args.why =
     elim c.match-why.branch [
-      in-Usage w ↦ w.exit-is ∙ ap refusal_of (sym w.in-Usage.is)
+      | in-Usage w ↦ w.exit-is ∙ ap refusal_of (sym w.in-Usage.is)
       | in-OutOfMemory w ↦ w.exit-is ∙ ap refusal_of (sym w.in-OutOfMemory.is)
     ] in
     refused_by words c.args.why c.refuse.result _ _ (c.refuse.ensures.ends ∙ is) none
