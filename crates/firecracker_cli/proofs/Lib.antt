@@ -5,3 +5,4 @@ pub mod Endings
 pub mod Lineages
 pub mod Rising
 pub mod Serves
+mod Refusals

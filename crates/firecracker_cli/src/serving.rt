@@ -8,7 +8,7 @@ ghost use Rattle.firecracker_cli.specs.SoFar.{BeginCause, ServedSoFar, TakesLine
 
 use crate::closing::close;
 use crate::outside::ServeOutside;
-use command_words::ServeWords;
+use command_line::ServeWords;
 use monitor_cli::write_last;
 use monitor_core::Monitor;
 use monitor_serving::{Served, serve};

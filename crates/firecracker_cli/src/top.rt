@@ -1,17 +1,16 @@
 // The top call: a command's words, and what it does.
 ghost use Rattle.std.specs.Prelude.{◌≡◌, ℕ, IfErr, IfOk, None, Some, map, string_bytes};
-ghost use Rattle.command_words.specs.ServeWords.{ServeWords, serve_words};
+ghost use Rattle.command_line.specs.Commands.{ServeWords, generate_number, serve_words};
 ghost use Rattle.monitor_cli.specs.Command.{Commanded, Wordless};
 ghost use Rattle.monitor_cli.specs.Known.{all_known};
 ghost use Rattle.load_cli.specs.Generating.{Generated};
-ghost use Rattle.load_cli.specs.Words.{generate_number};
 ghost use Rattle.firecracker_cli.specs.Serving.{Serves, serve_known_of};
 
 use crate::outside::ServeOutside;
 use crate::serving::serve_main;
-use command_words::serve_words;
-use load_cli::{generate_main, generate_number};
-use monitor_cli::{NoWords, Outside, refuse, replay_main};
+use command_line::{MonitorCommand, NoCommand, monitor_command};
+use load_cli::generate_by;
+use monitor_cli::{NoWords, Outside, refuse, refuse_words, replay_by};
 use serve_host::{Conn, Listener, Trace, Words};
 use std::alloc::Global;
 use std::sync::Wait;
@@ -25,8 +24,8 @@ use vm_types::Exit;
 const STEPS: u32 = 24_576;
 
 /// The command of these words, which are those behind the program's name: `replay [--id ID]`,
-/// `serve --api-sock PATH [--id ID] [--trace FILE]`, or `generate N`. Where the words can't be had, or are no command, the last line
-/// that says so is all that is written.
+/// `serve --api-sock PATH [--id ID] [--trace FILE]`, or `generate N`. Where the words can't be had, are no command, or there is
+/// no memory to read them, the last line that says so is all that is written.
 pub fn firecracker_main<
     I: Source,
     O: Sink + Send,
@@ -71,30 +70,19 @@ pub fn firecracker_main<
         Ok(words) => words,
         Err(why) => return refuse(why.exit(), out),
     };
-    match serve_words(&words) {
-        Some(it) => serve_main(rt, alloc, it, STEPS, &mut out.files, &mut out.sink, with),
-        None => short_command(alloc, &words, out),
-    }
-}
-
-// The command of words that don't serve.
-fn short_command<I: Source, O: Sink, F: Files>(
-    alloc: Global,
-    words: &[String],
-    out: &mut Outside<I, O, F>,
-) -> Exit
-    ensures replay { generate_number (map string_bytes words.now) ≡ None →
-        Commanded (map string_bytes words.now) result
-        (all_known (I.known out.old.source) (O.known out.old.sink) (F.known out.old.files))
-        (all_known (I.known out.new.source) (O.known out.new.sink) (F.known out.new.files)) }
-    ensures generate { (number : ℕ) → generate_number (map string_bytes words.now) ≡ Some number →
-        Generated (map string_bytes words.now) result (O.known out.old.sink) (O.known out.new.sink) }
-    ensures alone { (number : ℕ) → generate_number (map string_bytes words.now) ≡ Some number →
-        (out.new.source ≡ out.old.source) × (out.new.files ≡ out.old.files) }
-    ensures unread { result ≡ Exit.Usage → (out.new.source ≡ out.old.source) × (out.new.files ≡ out.old.files) }
-{
-    match generate_number(words) {
-        Some(_) => generate_main(words, out),
-        None => replay_main(alloc, words, out),
+    match monitor_command(alloc, &words) {
+        Ok(MonitorCommand::Serve(it)) => serve_main(
+            rt,
+            alloc,
+            it,
+            STEPS,
+            &mut out.files,
+            &mut out.sink,
+            with,
+        ),
+        Ok(MonitorCommand::Replay { id }) => replay_by(alloc, id, out),
+        Ok(MonitorCommand::Generate { number }) => generate_by(number, out),
+        Ok(MonitorCommand::Run { .. }) => refuse_words(NoCommand::Usage, out),
+        Err(why) => refuse_words(why, out),
     }
 }

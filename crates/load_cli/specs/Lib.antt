@@ -1,2 +1,1 @@
 pub mod Generating
-pub mod Words

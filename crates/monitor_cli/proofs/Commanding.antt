@@ -1,15 +1,16 @@
 -- From a replay before its last line to what a command owes.
-use Rattle.std.specs.Prelude.{◌↔◌, IfErr, OnOk}
-use Rattle.std.proofs.Common.{◌≡◌, ◌≢◌, is_some, zero, suc, ◌+◌, inl, inr, ◌⊎◌, Result, Ok, Err, ℕ, Bool, true, false, refl, sym, ap, subst, ◌∙◌, List, [], ◌∷◌, ◌++◌, map, Option, Some, None, arith}
+use Rattle.std.specs.Prelude.{IfErr, OnOk}
+use Rattle.std.proofs.Common.{◌≡◌, ◌≢◌, is_some, zero, suc, ◌+◌, inl, inr, ◌⊎◌, Result, Ok, Err, ℕ, Bool, true, false, true≢false, unwrap_or, refl, sym, ap, subst, ◌∙◌, List, [], ◌∷◌, ◌++◌, map, Option, Some, None, arith}
 use Rattle.std.proofs.lemmas.List.{append-nil}
 use Rattle.vm_types.specs.Causes.{Rose, RoseBy}
 use Rattle.vm_types.specs.declared.exit.Exit.{Exit}
 use Rattle.vm_types.specs.declared.exit.Object.TheVariants as object
 use Rattle.script_text.specs.declared.item.Item.{Item}
-use Rattle.vm_outside.specs.Known.{Called, FilesKnown, SinkKnown, Tells}
+use Rattle.vm_outside.specs.Known.{Called, FilesKnown, SinkKnown, SourceKnown, Tells}
 use Rattle.vm_outside.specs.Passing.{TakesAll}
 use Rattle.script_output.specs.Output.{last_line}
-use Rattle.command_words.specs.ReplayWords.{is_command, replay_id}
+use Rattle.command_line.specs.Commands.{replay_id}
+use Rattle.command_line.specs.declared.parsing.NoCommand.{NoCommand}
 use Rattle.flat_machine.specs.Machine.{AreFilesOf, Machine, new_machine}
 use Rattle.flat_machine.specs.Outcome.{AreAnswered, Outcome, failed_in, short_in}
 use Rattle.flat_machine.specs.Outcome.Outcome.{Answered, Failed, NoMemory}
@@ -17,10 +18,11 @@ use Rattle.flat_machine.specs.Replay.{judged_script}
 use Rattle.flat_machine.specs.Run.{Act, AllAnswered, failures, lines_done, shortages}
 use Rattle.flat_machine.specs.Stops.{stop_failures}
 use Rattle.monitor_cli.specs.Answering.{IsClosing}
-use Rattle.monitor_cli.specs.Command.{Commanded, IsWellFormed, Unbegun, Wordless, exit_of}
+use Rattle.monitor_cli.specs.Command.{Commanded, IsRefusal, IsWellFormed, Unbegun, Wordless, exit_of, refusal_of}
+use Rattle.monitor_cli.specs.Counting.{Counted}
 use Rattle.monitor_cli.specs.Known.{AllLast, AllTell, Caused, CausedSoFar, Known, NoneRose, SinkCause}
 use Rattle.monitor_cli.specs.Lines.{BeforeLast, IsRunsEnd}
-use Rattle.monitor_cli.specs.Replay.{Replayed}
+use Rattle.monitor_cli.specs.Replay.{Replayed, Went}
 use Rattle.monitor_cli.specs.Taking.{IsQuiet, TookText}
 use Rattle.monitor_cli.specs.declared.no_words.NoWords.{NoWords}
 use Rattle.monitor_cli.proofs.Counts.{lasts_more, sink_told}
@@ -28,28 +30,32 @@ use Rattle.monitor_cli.proofs.Halting.{not_inside}
 use Rattle.monitor_cli.proofs.Parts.{told_text}
 
 -- there was no memory for anything
+nothing_went : (start : Machine) (before : Known) → AreFilesOf before.files start
+    → Went Exit.OutOfMemory before.source.left before.source.left start [] [] (last_line Exit.OutOfMemory) before.files
+nothing_went start before files = record {
+  end = start;
+  stop = record {
+    answers = [];
+    last = start;
+    left = judged_script before.source.left;
+    plays = record { lines = refl; on = tt; ran = (refl, refl) };
+    stops = tt;
+    unwritten = [];
+    inside = not_inside (judged_script before.source.left) start;
+    on = inl refl;
+    writes = refl;
+  };
+  files = files;
+  read = record { came = []; parts = refl; undone = []; lines = refl };
+  reads = tt;
+}
+
 pub nothing_begun : (start : Machine) (before : Known) → AreFilesOf before.files start → BeforeLast Exit.OutOfMemory start before before.source.left before.sink before.files
 nothing_begun start before files = record {
   acts = [];
   part = [];
   written = [];
-  went = record {
-    end = start;
-    stop = record {
-      answers = [];
-      last = start;
-      left = judged_script before.source.left;
-      plays = record { lines = refl; on = tt; ran = (refl, refl) };
-      stops = tt;
-      unwritten = [];
-      inside = not_inside (judged_script before.source.left) start;
-      on = inl refl;
-      writes = refl;
-    };
-    files = files;
-    read = record { came = []; parts = refl; undone = []; lines = refl };
-    reads = tt;
-  };
+  went = nothing_went start before files;
   took = sym (append-nil before.sink.taken);
   counted = record { rose = omega arith; kept = tt };
 }
@@ -98,11 +104,6 @@ complete (Exit.Script line) start before now rest sink files command so_far told
     let replay = so_far.went.replay in
     absurd (no_none so_far.acts good.0 replay.ends.2 (sym good.1 ∙ replay.plays.lines ∙ ap (λ (l : List (Option Item)). lines_done so_far.acts ++ l) replay.ends.3))
 
-pub not_both : (b : Bool) → b ≡ true → b ≡ false → ⊥
-not_both b is not =
-    let both : true ≡ false = sym is ∙ not in
-    cc both
-
 -- a last line alone
 sink_still : (exit : Exit) (n : ℕ) → (IsQuiet exit → ⊥) → SinkCause exit n n
 sink_still (Exit.Fault object.Sink) n never = absurd (never tt)
@@ -139,15 +140,75 @@ wordless why exit result before now is same unbegun lasts = record {
 pub if_err : {T : Type 0} (words : Result T NoWords) (why : NoWords) (P : NoWords → Type 0) → words ≡ Err why → P why → IfErr words P
 if_err {T} words why P is holds = subst (λ (w : Result T NoWords). IfErr w P) (sym is) holds
 
--- words that are a command give an id
-pub some_id : (given : Option (List ℕ)) → is_some given ≡ true → (id : List ℕ) × (given ≡ Some id)
-some_id None is = absurd cc
-some_id (Some id) is = (id, refl)
+-- there was no memory to read the words
+nothing_replayed : (start : Machine) (before now : Known) → AreFilesOf before.files start → Unbegun Exit.OutOfMemory before now → Tells before.sink.health
+    → Replayed Exit.OutOfMemory start before now
+nothing_replayed start before now files unbegun tells = record {
+  acts = [];
+  part = [];
+  text = last_line Exit.OutOfMemory;
+  went = subst (λ (f : FilesKnown). Went Exit.OutOfMemory before.source.left now.source.left start [] [] (last_line Exit.OutOfMemory) f) (sym unbegun.files)
+      (subst (λ (k : SourceKnown). Went Exit.OutOfMemory before.source.left k.left start [] [] (last_line Exit.OutOfMemory) before.files) (sym unbegun.source)
+      (nothing_went start before files));
+  took = unbegun.writes tells;
+  counted = subst (λ (f : FilesKnown). Counted Exit.OutOfMemory [] [] before.files.health.faults f.health.faults) (sym unbegun.files)
+      (record { rose = omega arith; kept = tt });
+  plain = λ none enough. tt;
+}
+
+no_id : (id : List ℕ) → None ≡ Some id → ⊥
+no_id id is = cc
+
+no_usage : Exit.OutOfMemory ≡ Exit.Usage → ⊥
+no_usage is = cc
+
+pub refused_command : (words : List (List ℕ)) (exit : Exit) (before now : Known) → IsRefusal exit → (exit ≡ Exit.Usage → replay_id words ≡ None)
+    → Unbegun exit before now → AllLast before now → Commanded words exit before now
+refused_command words Exit.Usage before now refusal none unbegun lasts = record {
+  usage = λ is. ap (λ (o : Option (List ℕ)). is_some o) (none refl);
+  refused = λ is. (tt, unbegun);
+  replayed = λ tells id is. absurd (no_id id (sym (none refl) ∙ is));
+  told = record { named = tt; source = ap (λ (k : SourceKnown). k.health.faults) unbegun.source; sink = tt; files = tt };
+  complete = λ tells command good never. absurd (true≢false (sym command ∙ ap (λ (o : Option (List ℕ)). is_some o) (none refl)));
+  lasts = lasts;
+}
+refused_command words Exit.OutOfMemory before now refusal none unbegun lasts = record {
+  usage = λ is. absurd (no_usage is);
+  refused = λ is. (tt, unbegun);
+  replayed = λ tells id is.
+      nothing_replayed (new_machine id before.files.saved before.files.calls) before now (record { saved_is = refl; calls_is = refl }) unbegun tells.sink;
+  told = record { named = tt; source = ap (λ (k : SourceKnown). k.health.faults) unbegun.source; sink = tt; files = tt };
+  complete = λ tells command good never. inr refl;
+  lasts = lasts;
+}
+refused_command words exit before now refusal none unbegun lasts = absurd refusal
+
+is_refusal : (why : NoCommand) → IsRefusal (refusal_of why)
+is_refusal NoCommand.Usage = tt
+is_refusal NoCommand.OutOfMemory = tt
+
+usage_alone : (why : NoCommand) → refusal_of why ≡ Exit.Usage → why ≡ NoCommand.Usage
+usage_alone NoCommand.Usage is = refl
+usage_alone NoCommand.OutOfMemory is = absurd (no_usage is)
+
+not_quiet : (why : NoCommand) → IsQuiet (refusal_of why) → ⊥
+not_quiet NoCommand.Usage quiet = quiet
+not_quiet NoCommand.OutOfMemory quiet = quiet
+
+pub unbegun_by : (why : NoCommand) (exit result : Exit) (before now : Known) → exit ≡ refusal_of why → result ≡ exit
+    → ((IsQuiet exit → ⊥) → Unbegun exit before now) → Unbegun result before now
+unbegun_by why exit result before now is same unbegun =
+    subst (λ (e : Exit). Unbegun e before now) (sym same) (unbegun (λ quiet. not_quiet why (subst IsQuiet is quiet)))
+
+pub refused_by : (words : List (List ℕ)) (why : NoCommand) (result : Exit) (before now : Known) → result ≡ refusal_of why
+    → (why ≡ NoCommand.Usage → replay_id words ≡ None) → Unbegun result before now → AllLast before now → Commanded words result before now
+refused_by words why result before now is none unbegun lasts =
+    refused_command words result before now (subst IsRefusal (sym is) (is_refusal why)) (λ usage. none (usage_alone why (sym is ∙ usage))) unbegun lasts
 
 -- the last line is written behind the answers, or a front of it
 module _ (words : List (List ℕ)) (exit : Exit) (before mid : Known) (sink : SinkKnown) {E : Type 0} (result : Result (Unit {0}) E)
-    (usage : (exit ≡ Exit.Usage) ↔ (is_command words ≡ false)) (unread : exit ≡ Exit.Usage → mid ≡ before)
-    (so_far : AllTell before → (id : List ℕ) → replay_id words ≡ Some id → BeforeLast exit (new_machine id before.files.saved before.files.calls) before mid.source.left mid.sink mid.files)
+    (id : List ℕ) (command : replay_id words ≡ Some id) (never : exit ≢ Exit.Usage)
+    (so_far : AllTell before → BeforeLast exit (new_machine id before.files.saved before.files.calls) before mid.source.left mid.sink mid.files)
     (caused : CausedSoFar exit before mid) (lasts : AllLast before mid) (takes : Tells mid.sink.health → TakesAll mid.sink.taken sink.taken result (last_line exit))
     (quiet : IsQuiet exit → sink ≡ mid.sink) (called : Called mid.sink.health sink.health result) where
   abbrev now : Known
@@ -162,9 +223,9 @@ module _ (words : List (List ℕ)) (exit : Exit) (before mid : Known) (sink : Si
     files = caused.files;
   }
 
-  replayed : AllTell before → (id : List ℕ) → replay_id words ≡ Some id → Replayed exit (new_machine id before.files.saved before.files.calls) before now
-  replayed tells id command =
-      let ran = so_far tells id command in
+  replayed : AllTell before → Replayed exit (new_machine id before.files.saved before.files.calls) before now
+  replayed tells =
+      let ran = so_far tells in
       record {
         acts = ran.acts;
         part = ran.part;
@@ -176,25 +237,15 @@ module _ (words : List (List ℕ)) (exit : Exit) (before mid : Known) (sink : Si
             (none_failed (failures ran.acts) (failed_in ran.part) (stop_failures exit) before.files.health.faults mid.files.health.faults ran.counted.rose none) enough;
       }
 
-  unbegun : exit ≡ Exit.Usage → Unbegun Exit.Usage before now
-  unbegun is =
-      let same = unread is in
-      record {
-        writes = λ tells. subst (λ (e : Exit). TookText e (last_line e) before.sink sink) is
-            (told_text before.sink mid.sink sink [] result (ap (λ (k : Known). k.sink.taken) same ∙ sym (append-nil before.sink.taken)) exit caused.sink quiet (takes (lasts.sink.still tells)) called);
-        source = ap (λ (k : Known). k.source) same;
-        files = ap (λ (k : Known). k.files) same;
-      }
-
   pub commanded : Commanded words exit before now
   commanded = record {
-    usage = usage;
-    unbegun = unbegun;
-    replayed = replayed;
+    usage = λ is. absurd (never is);
+    refused = λ is. absurd (true≢false (sym (ap (λ (o : Option (List ℕ)). is_some o) command) ∙ is));
+    replayed = λ tells other named. subst (λ (i : List ℕ). Replayed exit (new_machine i before.files.saved before.files.calls) before now)
+        (ap (λ (o : Option (List ℕ)). unwrap_or o id) (sym command ∙ named)) (replayed tells);
     told = told;
-    complete = λ tells command good none.
-        let given = some_id (replay_id words) command in
-        complete exit (new_machine given.0 before.files.saved before.files.calls) before now mid.source.left mid.sink mid.files (λ is. not_both (is_command words) command (usage.0 is)) (so_far tells given.0 given.1) told good none;
+    complete = λ tells is good none.
+        complete exit (new_machine id before.files.saved before.files.calls) before now mid.source.left mid.sink mid.files never (so_far tells) told good none;
     lasts = record {
       source = lasts.source;
       sink = lasts_more before.sink.health mid.sink.health sink.health lasts.sink called.lasts;

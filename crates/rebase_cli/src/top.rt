@@ -1,5 +1,5 @@
 // The command.
-ghost use Rattle.std.specs.Prelude.{◌≡◌, ◌≢◌, ◌↔◌, None, Some, map, string_bytes};
+ghost use Rattle.std.specs.Prelude.{◌≡◌, ◌≢◌, ◌⊎◌, None, Some, map, string_bytes};
 ghost use Rattle.rebase_cli.specs.Command.{EndCause, EndsBy, TookLine};
 ghost use Rattle.rebase_cli.specs.Ends.{last_line};
 ghost use Rattle.rebase_cli.specs.Words.{Names, names_in};
@@ -8,6 +8,7 @@ ghost use Rattle.vm_outside.specs.Known.{Called, Lasts, Tells};
 use crate::end::End;
 use crate::last_line::write_last;
 use crate::words::{Paths, names_in};
+use command_line::NoCommand;
 use snapshot_merge::{RebaseError, rebase};
 use std::alloc::Global;
 use vm_outside::{Files, Sink};
@@ -16,7 +17,7 @@ use vm_outside::{Files, Sink};
 /// didn't. The words are those behind the program's name.
 ///
 /// `Usage`: the words are not `edit-memory rebase --memory-path BASE --diff-path DIFF`, the two options in either order;
-/// nothing is read then. `Refused`: by the first rule that fits. `FilesFailed`: a call on the files failed.
+/// nothing is read then, as where there is no memory to read them. `Refused`: by the first rule that fits. `FilesFailed`: a call on the files failed.
 /// `OutOfMemory`: there was no memory. A sink that fails at the last line leaves the answer as it is.
 pub fn rebase_main<F: Files, S: Sink>(
     alloc: Global,
@@ -24,8 +25,9 @@ pub fn rebase_main<F: Files, S: Sink>(
     files: &mut F,
     out: &mut S,
 ) -> End
-    ensures usage { (result ≡ End.Usage) ↔ (names_in (map string_bytes words.now) ≡ None) }
-    ensures unread { result ≡ End.Usage → files.new ≡ files.old }
+    ensures usage { result ≡ End.Usage → names_in (map string_bytes words.now) ≡ None }
+    ensures refused { names_in (map string_bytes words.now) ≡ None → (result ≡ End.Usage) ⊎ (result ≡ End.OutOfMemory) }
+    ensures unread { names_in (map string_bytes words.now) ≡ None → files.new ≡ files.old }
     ensures ends { Tells (F.known files.old).health → (names : Names) → names_in (map string_bytes words.now) ≡ Some names →
         EndsBy result names (F.known files.old) (F.known files.new) }
     ensures cause { EndCause result (F.known files.old).health.faults (F.known files.new).health.faults }
@@ -52,16 +54,18 @@ pub fn refuse<S: Sink>(out: &mut S, end: End) -> End
 
 // All but the last line.
 fn run<F: Files>(alloc: Global, words: &[String], files: &mut F) -> End
-    ensures usage { (result ≡ End.Usage) ↔ (names_in (map string_bytes words.now) ≡ None) }
-    ensures unread { result ≡ End.Usage → files.new ≡ files.old }
+    ensures usage { result ≡ End.Usage → names_in (map string_bytes words.now) ≡ None }
+    ensures refused { names_in (map string_bytes words.now) ≡ None → (result ≡ End.Usage) ⊎ (result ≡ End.OutOfMemory) }
+    ensures unread { names_in (map string_bytes words.now) ≡ None → files.new ≡ files.old }
     ensures ends { Tells (F.known files.old).health → (names : Names) → names_in (map string_bytes words.now) ≡ Some names →
         EndsBy result names (F.known files.old) (F.known files.new) }
     ensures cause { EndCause result (F.known files.old).health.faults (F.known files.new).health.faults }
     ensures lasts { Lasts (F.known files.old).health (F.known files.new).health }
 {
-    match names_in(words) {
-        None => End::Usage,
-        Some(paths) => run_rebase(alloc, &paths, files),
+    match names_in(alloc, words) {
+        Ok(paths) => run_rebase(alloc, &paths, files),
+        Err(NoCommand::Usage) => End::Usage,
+        Err(NoCommand::OutOfMemory) => End::OutOfMemory,
     }
 }
 

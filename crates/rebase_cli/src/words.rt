@@ -1,10 +1,11 @@
 // The words of the command.
-ghost use Rattle.std.specs.Prelude.{◌≡◌, map, string_bytes};
-ghost use Rattle.std.specs.Option.{option_map};
-ghost use Rattle.command_words.specs.Options.{option_at};
-ghost use Rattle.rebase_cli.specs.Words.{first_option, named, names_in, second_option};
+ghost use Rattle.std.specs.Prelude.{◌≡◌, IfErr, IfOk, Some, None, map, option_and_then, option_map, string_bytes};
+ghost use Rattle.clap.specs.Words.{app_of, found_of, rows_of, shape_of, subcommand_rows_of};
+ghost use Rattle.rebase_cli.specs.Words.{names_in, names_rows, rebase_app, rebase_in, tool_app};
 
-use command_words::{GivenOption, is_end, option_at};
+use clap::{ArgMatches, Command};
+use command_line::{NoCommand, matches_of, named_in, program, value_in, value_option};
+use std::alloc::{AllocError, Global};
 
 /// The names of the two files.
 #[derive(Clone, Copy, Drop)]
@@ -13,57 +14,65 @@ pub struct Paths<'a> {
     pub diff: &'a str,
 }
 
-/// The names in the words of a command, those behind the program's name; none where they are no command.
-pub fn names_in<'a>(words: &'a [String]) -> Option<Paths<'a>>
-    ensures { option_map (λ p. record { base = p.base.now; diff = p.diff.now }) result
-        ≡ names_in (map string_bytes words.now) }
+/// The names in the words behind the program's name: first `edit-memory`, and `clap` reads the others.
+pub fn names_in<'a>(alloc: Global, words: &'a [String]) -> Result<Paths<'a>, NoCommand>
+    ensures said { IfOk result (λ p. names_in (map string_bytes words.entry.now)
+        ≡ Some (record { base = p.base.now; diff = p.diff.now })) }
+    ensures usage { IfErr result (λ why. why ≡ NoCommand.Usage → names_in (map string_bytes words.entry.now) ≡ None) }
 {
-    let (tool, rest) = words.split_first()?;
-    let (command, options) = rest.split_first()?;
-    if tool.as_str() == "edit-memory" && command.as_str() == "rebase" {
-        first_option(options)
+    let Some((tool, rest)) = words.split_first() else {
+        return Err(NoCommand::Usage);
+    };
+    if tool.as_str() == "edit-memory" {
+        rebase_in(alloc, rest)
     } else {
-        None
+        Err(NoCommand::Usage)
     }
 }
 
-fn first_option<'a>(options: &'a [String]) -> Option<Paths<'a>>
-    ensures { option_map (λ p. record { base = p.base.now; diff = p.diff.now }) result
-        ≡ first_option (option_at (map string_bytes options.now)) }
+fn rebase_in<'a>(alloc: Global, words: &'a [String]) -> Result<Paths<'a>, NoCommand>
+    ensures said { IfOk result (λ p. rebase_in (map string_bytes words.entry.now)
+        ≡ Some (record { base = p.base.now; diff = p.diff.now })) }
+    ensures usage { IfErr result (λ why. why ≡ NoCommand.Usage → rebase_in (map string_bytes words.entry.now) ≡ None) }
 {
-    let first = option_at(options)?;
-    second_option(&first)
-}
-
-fn second_option<'a>(first: &GivenOption<'a>) -> Option<Paths<'a>>
-    ensures { option_map (λ p. record { base = p.base.now; diff = p.diff.now }) result
-        ≡ second_option (record { name = first.now.name.now; value = first.now.value.now; rest = map string_bytes first.now.rest.now })
-        (option_at (map string_bytes first.now.rest.now)) }
-{
-    let second = option_at(first.rest)?;
-    if is_end(second.rest) {
-        named(first, &second)
-    } else {
-        None
+    let Ok(tool) = edit_memory(alloc) else {
+        return Err(NoCommand::OutOfMemory);
+    };
+    let matches = matches_of(tool, words)?;
+    match paths_in(&matches) {
+        Some(paths) => Ok(paths),
+        None => Err(NoCommand::Usage),
     }
 }
 
-fn named<'a>(first: &GivenOption<'a>, second: &GivenOption<'a>) -> Option<Paths<'a>>
-    ensures { option_map (λ p. record { base = p.base.now; diff = p.diff.now }) result
-        ≡ named (record { name = first.now.name.now; value = first.now.value.now; rest = map string_bytes first.now.rest.now })
-        (record { name = second.now.name.now; value = second.now.value.now; rest = map string_bytes second.now.rest.now }) }
+// The tool, with its one command.
+fn edit_memory<'a>(alloc: Global) -> Result<Command<'a>, AllocError>
+    ensures { IfOk result (λ tool. app_of tool ≡ tool_app) }
 {
-    if first.name == "--memory-path" && second.name == "--diff-path" {
-        return Some(Paths {
-            base: first.value,
-            diff: second.value,
-        });
-    }
-    if first.name == "--diff-path" && second.name == "--memory-path" {
-        return Some(Paths {
-            base: second.value,
-            diff: first.value,
-        });
-    }
-    None
+    program(alloc, "edit-memory").subcommand(rebase(alloc)?)
+}
+
+fn rebase<'a>(alloc: Global) -> Result<Command<'a>, AllocError>
+    ensures { IfOk result (λ command. shape_of command ≡ rebase_app.top) }
+{
+    Command::new(alloc, "rebase")
+        .arg(value_option(alloc, "memory-path", true))?
+        .arg(value_option(alloc, "diff-path", true))
+}
+
+fn paths_in<'a>(matches: &ArgMatches<'a>) -> Option<Paths<'a>>
+    ensures { option_map (λ p. record { base = p.base.now; diff = p.diff.now }) result
+        ≡ option_and_then (λ p. names_rows p.1) (subcommand_rows_of matches.now) }
+{
+    let (_, found) = named_in(matches)?;
+    named(found)
+}
+
+fn named<'a>(found: &ArgMatches<'a>) -> Option<Paths<'a>>
+    ensures { option_map (λ p. record { base = p.base.now; diff = p.diff.now }) result
+        ≡ names_rows (rows_of (found_of found.now)) }
+{
+    let base = value_in(found, "memory-path")?;
+    let diff = value_in(found, "diff-path")?;
+    Some(Paths { base, diff })
 }

@@ -1,5 +1,0 @@
-pub mod MachineId
-pub mod Options
-pub mod ReplayWords
-pub mod Said
-pub mod ServeWords
