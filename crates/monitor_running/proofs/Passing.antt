@@ -72,8 +72,8 @@ still serves tally before after are = record {
 }
 
 -- whatever was found
-pub passed_looked : {Q : Type 0} (serves : Q → Type 0) (tally : Q → Tally) (open : Bool) (before after : List Q)
-    → MatchBool open (ArePassed serves tally None before after) (ArePassed serves tally (Some ran.Closed) before after)
+pub passed_looked : {Q : Type 0} (serves : Q → Type 0) (tally : Q → Tally) (found : Bool) (before after : List Q)
+    → MatchBool found (ArePassed serves tally None before after) (ArePassed serves tally (Some ran.Closed) before after)
     → ArePassed serves tally None before after
 passed_looked serves tally true before after are = are
 passed_looked serves tally false before after are = still serves tally before after are

@@ -25,8 +25,8 @@ use vm_types::{ActorId, Op};
 use vm_world::World;
 
 /// A hart, the devices and the gate are looked at after so many events, and where the hart waits then, or a device doesn't, or the
-/// gate is closed, its turn is over. A wait
-/// and its look come in turn, so an even number would find a hart that waits at its look again and again.
+/// gate is closed, its turn is over. A wait and its look come in turn, so an even number would find a hart that waits at its look
+/// again and again.
 const EVENTS_AT_ONCE: u64 = 1_023;
 
 /// A turn of one hart has at most so many events, so that it takes less than a millisecond.
@@ -130,7 +130,10 @@ fn run_hart<Q, G: Gate<Pass = Q>>(
             return made;
         };
         made += count.min(next);
-        if count < next || is_to_end(world, turn.hart) || !looks_open(gate, passes) {
+        if count < next || is_to_end(world, turn.hart) {
+            return made;
+        }
+        if !looks_open(gate, passes) {
             return made;
         }
     }

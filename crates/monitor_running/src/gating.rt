@@ -20,7 +20,7 @@ pub fn is_open<Q, G: Gate<Pass = Q>>(gate: &G, passes: &mut Vec<Q>) -> bool
 pub fn looks_open<Q, G: Gate<Pass = Q>>(gate: &G, passes: &mut Vec<Q>) -> bool
     requires some { 0 < length passes.old.items }
     requires serve { All (G.serves gate.now) passes.old.items }
-    ensures passes { ArePassed (G.serves gate.now) G.tally None passes.old.items passes.new.items }
+    ensures { ArePassed (G.serves gate.now) G.tally None passes.old.items passes.new.items }
 {
     is_open(gate, passes)
 }

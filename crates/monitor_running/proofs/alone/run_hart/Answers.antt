@@ -10,6 +10,16 @@ returns-then-count-next-clause-run g c =
     (run_more c.args.turn.hart c.loop-made.made c.at_once-next.result c.in-Ok.count c.args.world.now c.loop-made.world
     c.run.new.self c.loop-made.invariant.run c.in-Ok.ensures.made)
 
+pub returns-then-not-looks_open-clause-run : goal.returns-then-not-looks_open-clause-run
+returns-then-not-looks_open-clause-run g c =
+    subst (λ (n : ℕ). HasRun c.args.turn.hart (c.loop-made.made + n) c.args.world.now c.run.new.self) (sym c.min-made.ensures)
+    (run_more c.args.turn.hart c.loop-made.made c.at_once-next.result c.in-Ok.count c.args.world.now c.loop-made.world
+    c.run.new.self c.loop-made.invariant.run c.in-Ok.ensures.made)
+
+pub returns-then-not-looks_open-clause-passes : goal.returns-then-not-looks_open-clause-passes
+returns-then-not-looks_open-clause-passes g c =
+    passed_on _ _ None _ c.loop-made.passes.items _ c.requires.some c.loop-made.invariant.passes c.if-not-looks_open.ensures
+
 pub loop-made-preserved : goal.loop-made-preserved
 loop-made-preserved g c = record {
   run =
@@ -17,7 +27,7 @@ loop-made-preserved g c = record {
       (run_more c.args.turn.hart c.loop-made.made c.at_once-next.result c.in-Ok.count c.args.world.now c.loop-made.world
       c.run.new.self c.loop-made.invariant.run c.in-Ok.ensures.made);
   most = omega (arith, c.min-made.ensures, c.at_once-next.ensures, c.loop-made-test.true, c.loop-made.invariant.most);
-  some = omega (arith, c.looks_open.ensures.same, c.loop-made.invariant.some);
+  some = omega (arith, c.if-not-looks_open.ensures.same, c.loop-made.invariant.some);
   passes =
-      passed_on _ _ None _ c.loop-made.passes.items _ c.requires.some c.loop-made.invariant.passes c.looks_open.ensures;
+      passed_on _ _ None _ c.loop-made.passes.items _ c.requires.some c.loop-made.invariant.passes c.if-not-looks_open.ensures;
 }
