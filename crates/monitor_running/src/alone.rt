@@ -11,17 +11,17 @@ ghost use Rattle.monitor_running.specs.Ran.{IsRunning, Went};
 ghost use Rattle.monitor_running.specs.Reached.{known};
 ghost use Rattle.monitor_running.specs.Waiting.{IsAlone, OthersIdle};
 
-use crate::devices::MOST_DEVICES;
 use crate::gating::looks_open;
 use crate::ran::Ran;
 use crate::telling::{end_by, tell_steps};
 use crate::waiting::{MOST_HARTS, pass_round, waits};
+use crate::working::device_works;
 use pause_gate::Gate;
 use serve_host::Trace;
 use std::alloc::Global;
 use vm_host::{Clock, Disk, Host};
 use vm_outside::Sink;
-use vm_types::{ActorId, Op};
+use vm_types::ActorId;
 use vm_world::World;
 
 /// A hart, the devices and the gate are looked at after so many events, and where the hart waits then, or a device doesn't, or the
@@ -92,18 +92,8 @@ fn at_once(left: u64) -> u64
     most - (most + 1) % 2
 }
 
-// Whether a device has something to do, so that its turn is to come soon: a request of a guest then waits no longer than the events
-// that are made at once.
-fn device_works(world: &World) -> bool {
-    for number in 0..world.devices().len().min(MOST_DEVICES) {
-        if !matches!(world.want(ActorId::Device(number as u8)), Some(Op::Idle)) {
-            return true;
-        }
-    }
-    false
-}
-
-// Whether a turn of the hart is over, though it has events left.
+// Whether a turn of the hart is over, though it has events left. Where a device has something to do its turn is to come soon, so that a
+// request of a guest waits no longer than the events that are made at once.
 fn is_to_end(world: &World, hart: u8) -> bool {
     waits(world, hart) || device_works(world)
 }

@@ -17,6 +17,7 @@ mod ran;
 mod running;
 mod telling;
 mod waiting;
+mod working;
 
 pub use devices::run_devices;
 pub use ran::Ran;

@@ -14,6 +14,7 @@ use crate::gating::is_open;
 use crate::ran::Ran;
 use crate::telling::{end_by, tell_slice};
 use crate::waiting::{MOST_HARTS, all_wait, pass_round, time_left};
+use crate::working::device_works;
 use monitor_machine::LiveMachine;
 use pause_gate::Gate;
 use serve_host::Trace;
@@ -143,11 +144,11 @@ fn act<D: Disk, L, V, C: Clock, T: Trace, K: Sink>(
     None
 }
 
-// The clock rests, where every hart waits still, until the next timer interrupt is due at most.
+// The clock rests, where every hart waits still and no device has something to do, until the next timer interrupt is due at most.
 fn rest_where_all_wait<C: Clock>(world: &World, clock: &mut C)
     ensures { clocks.Lasts (C.known clock.old) (C.known clock.new) }
 {
-    if world.hart_count() <= MOST_HARTS && all_wait(world) {
+    if world.hart_count() <= MOST_HARTS && all_wait(world) && !device_works(world) {
         clock.rest(time_left(world.board()));
     }
 }

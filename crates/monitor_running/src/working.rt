@@ -1,0 +1,40 @@
+// Whether devices have something to do.
+use crate::devices::MOST_DEVICES;
+use vm_types::{ActorId, Op, PortOp};
+use vm_world::World;
+
+/// Whether a device has something to do: one that is in the middle of it, or one whose port has a kick or a reset that its next look
+/// finds.
+pub fn device_works(world: &World) -> bool {
+    for number in 0..world.devices().len().min(MOST_DEVICES) {
+        if works(world, number as u8) {
+            return true;
+        }
+    }
+    false
+}
+
+// One that waits, or looks at its port, has only what is there.
+fn works(world: &World, device: u8) -> bool {
+    match world.want(ActorId::Device(device)) {
+        None => false,
+        Some(Op::Idle) => is_called(world, device),
+        Some(
+            Op::Port {
+                act: PortOp::Look,
+                ..
+            },
+        ) => is_called(world, device),
+        Some(_) => true,
+    }
+}
+
+fn is_called(world: &World, device: u8) -> bool {
+    match world.ports().get(device as usize) {
+        Some(port) => {
+            let state = port.state();
+            state.is_reset_asked || state.queues.iter().any(|queue| queue.is_kicked)
+        }
+        None => false,
+    }
+}
