@@ -12,6 +12,7 @@ mod number;
 mod parsing;
 mod reading;
 
+pub use machine_id::DEFAULT_ID;
 pub use parsing::{NoCommand, matches_of, named_in, program, value_in, value_option};
 pub use reading::{
     MonitorCommand, ServeWords, generate_number, monitor_command, replay_id, run_number,

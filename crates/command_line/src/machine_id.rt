@@ -3,8 +3,8 @@ ghost use Rattle.std.specs.Prelude.{◌≡◌};
 ghost use Rattle.std.specs.List.{list_all};
 ghost use Rattle.command_line.specs.MachineId.{is_id, is_id_byte};
 
-// The id of a machine that is given none.
-pub(crate) const DEFAULT_ID: &str = "anonymous-instance";
+/// The id of a machine that is given none.
+pub const DEFAULT_ID: &str = "anonymous-instance";
 
 // Whether this can be a machine's id: 1 to 64 letters and digits of ASCII and `-`.
 pub(crate) fn is_id(id: &str) -> bool

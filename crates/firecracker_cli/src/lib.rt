@@ -1,4 +1,5 @@
-//! The program's commands: `replay`, which `monitor_cli` has, `generate`, which `load_cli` has, and `serve`.
+//! The program's commands: `replay`, which `monitor_cli` has, `generate`, which `load_cli` has, `run`, which `load_run` has,
+//! and `serve`.
 //!
 //! `firecracker_main` judges the words and does the command. Of `serve` its contract is trace fidelity: what the trace
 //! took is a run of the flat machine, which shows what the connections and the sink took (`specs/Serving.antt`). Read

@@ -1,2 +1,2 @@
-mod Readable
+pub mod Readable
 mod Texts

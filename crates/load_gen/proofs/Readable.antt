@@ -31,7 +31,7 @@ word text some all = record {
   one_line = lacks_failing visible 10 text refl all;
 }
 
-request : (method path body : List ℕ) → IsWord method → IsWord path → Lacks 10 body → length (line_of (item.Api method path body)) ≤ 1048576
+pub request : (method path body : List ℕ) → IsWord method → IsWord path → Lacks 10 body → length (line_of (item.Api method path body)) ≤ 1048576
     → IsWritable (item.Api method path body)
 request method path body m p b short = record { form = (m, p, b); short = short }
 
@@ -48,7 +48,7 @@ file_writable : IsWritable (item.File (codes "k") image)
 unfolding visible utf8_valid_len is_utf8 chars encode
 file_writable = record { form = (word (codes "k") (omega arith) refl, refl, are_bytes image refl); short = omega arith }
 
-put_word : IsWord (codes "PUT")
+pub put_word : IsWord (codes "PUT")
 unfolding visible
 put_word = word (codes "PUT") (omega arith) refl
 
@@ -106,14 +106,14 @@ diff_body i =
     codes "{\"snapshot_type\":\"Diff\",\"snapshot_path\":\"s" ++ decimal i ++ codes "\",\"mem_file_path\":\"d" ++ decimal i
     ++ codes "\"}"
 
-join : (a b : List ℕ) → Lacks 10 a → Lacks 10 b → Lacks 10 (a ++ b)
+pub join : (a b : List ℕ) → Lacks 10 a → Lacks 10 b → Lacks 10 (a ++ b)
 join a b first second = All-append (λ (d : ℕ). d ≢ 10) a b first second
 
 plain : (text : List ℕ) → list_all visible text ≡ true → Lacks 10 text
 unfolding visible
 plain text all = lacks_failing visible 10 text refl all
 
-number_lacks : (i : ℕ) → i < 2 ^ 64 → Lacks 10 (decimal i)
+pub number_lacks : (i : ℕ) → i < 2 ^ 64 → Lacks 10 (decimal i)
 number_lacks i small = lacks_failing is_digit 10 (decimal i) refl (decimal_digits i small)
 
 five_lack : (a b d e : List ℕ) → Lacks 10 a → Lacks 10 b → Lacks 10 d → Lacks 10 e → Lacks 10 (a ++ b ++ d ++ b ++ e)

@@ -81,7 +81,7 @@ abbrev behind : List (Option Item) → List (Option Item)
 behind [] = []
 behind (line ∷ lines) = lines
 
-no_none : (acts : List Act) (items : List Item) (more : List (Option Item)) → map Some items ≡ lines_done acts ++ None ∷ more → ⊥
+pub no_none : (acts : List Act) (items : List Item) (more : List (Option Item)) → map Some items ≡ lines_done acts ++ None ∷ more → ⊥
 no_none [] [] more is = cc is
 no_none [] (item ∷ items) more is = cc is
 no_none (act ∷ acts) [] more is = cc is

@@ -20,7 +20,7 @@ use Rattle.monitor_cli.proofs.Arriving.{spread}
 use Rattle.monitor_cli.proofs.Counts.{none_more}
 use Rattle.monitor_cli.proofs.Halting.{not_inside}
 
-short_judged : (script : List ℕ) → length script ≤ longest_script → judged_script script ≡ judged script
+pub short_judged : (script : List ℕ) → length script ≤ longest_script → judged_script script ≡ judged script
 short_judged script short =
     ap (λ (b : Bool). cond b (judged script) (judged (take longest_script script) ++ None ∷ [])) (le-leb (length script) longest_script short)
 
@@ -30,16 +30,16 @@ drained_by None off = off
 drained_by (Some g) off = off
 
 module _ (start : Machine) (before : Known) (rest : List ℕ) (run : ScriptRun) (sink : SinkKnown) (files : FilesKnown) (done : Finished start before rest run sink files) where
-  abbrev r : Reached start before done.came rest run sink files
+  abbrev pub r : Reached start before done.came rest run sink files
   r = done.reached
 
   -- the script's lines are the acts and those that are left, of which there are none but where the guest is off
-  record Whole : Type 0 where
-    left : List (Option Item)
-    plays : Plays before.source.left start r.acts r.answers r.last left
-    ends : IsEnd Exit.Done left (length r.acts + 1) r.last
-    read : HasRead before.source.left rest r.acts
-    reads : (rest ≡ []) ⊎ (is_off r.last ≡ true)
+  pub record Whole : Type 0 where
+    pub left : List (Option Item)
+    pub plays : Plays before.source.left start r.acts r.answers r.last left
+    pub ends : IsEnd Exit.Done left (length r.acts + 1) r.last
+    pub read : HasRead before.source.left rest r.acts
+    pub reads : (rest ≡ []) ⊎ (is_off r.last ≡ true)
 
   whole_by : ((judged run.reader ≡ []) × (rest ≡ [])) ⊎ (is_off r.last ≡ true) → Whole
   whole_by (inl none) =
@@ -68,7 +68,7 @@ module _ (start : Machine) (before : Known) (rest : List ℕ) (run : ScriptRun) 
         reads = inr off;
       }
 
-  all : Whole
+  pub all : Whole
   all = whole_by done.done
 
   reads_by : (rest ≡ []) ⊎ (is_off r.last ≡ true) → (rest ≡ []) ⊎ (is_off (drained r.last) ≡ true)

@@ -1,8 +1,8 @@
-mod Arriving
-mod Commanding
+pub mod Arriving
+pub mod Commanding
 mod Counts
 mod EndTexts
-mod Finishing
+pub mod Finishing
 mod Halting
 mod Parts
 mod TornLines

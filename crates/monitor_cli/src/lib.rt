@@ -17,6 +17,8 @@ mod script;
 mod top;
 
 pub use last_line::write_last;
+pub use lines::ScriptRun;
 pub use no_words::NoWords;
 pub use outside::Outside;
+pub use script::run_script;
 pub use top::{refuse, refuse_words, replay_by, replay_main};

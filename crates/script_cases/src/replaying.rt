@@ -3,6 +3,7 @@ use crate::case::Case;
 use crate::held::Held;
 use anyhow::{Result, bail};
 use load_cli::generate_main;
+use load_run::run_main;
 use monitor_cli::{Outside, replay_main};
 use outside_mem::{Failing, MemoryFiles, MemorySink, MemorySource};
 use std::alloc::Global;
@@ -43,6 +44,7 @@ fn run_words(
 ) -> Exit {
     match words.first() {
         Some(word) if word.as_str() == "generate" => generate_main(words, out),
+        Some(word) if word.as_str() == "run" => run_main(alloc, words, out),
         _ => replay_main(alloc, words, out),
     }
 }

@@ -29,6 +29,10 @@ Answers Is (Err OutOfMemory) found = Unit {0}
 abbrev pub Same : {A : Type 0} → A → A → Type 0
 Same a b = a ≡ b
 
+-- the diff has so many pages
+abbrev pub HasPages : ℕ → DiffCopy → Type 0
+HasPages count d = count ≡ length d.numbers
+
 -- the refusal of bytes that are no file of theirs
 abbrev pub refused_by : DecodeError → RebaseError
 refused_by DecodeError.GateClosed = Refused refusal.GateClosed

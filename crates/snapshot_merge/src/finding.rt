@@ -4,7 +4,7 @@ ghost use Rattle.std.specs.FinMap.{get};
 ghost use Rattle.guest_memory.specs.Ram.{page_size};
 ghost use Rattle.snap_diff.specs.Diffs.{Begins};
 ghost use Rattle.snap_diff.specs.Found.{diff_found};
-ghost use Rattle.snapshot_merge.specs.Answering.{Answers, IsMergingIn, IsStartIn, IsStartOf, Same};
+ghost use Rattle.snapshot_merge.specs.Answering.{Answers, HasPages, IsMergingIn, IsStartIn, IsStartOf, Same};
 ghost use Rattle.snapshot_merge.specs.Bases.{base_found};
 ghost use Rattle.snapshot_merge.specs.Plans.{planned_in};
 ghost use Rattle.snapshot_merge.specs.Rebasing.{RebaseCause};
@@ -72,6 +72,23 @@ fn find_diff<F: Files>(alloc: Global, files: &mut F, name: &str) -> Result<DiffS
     };
     match judge_diff(alloc, start.size, &start.bytes) {
         Ok(header) => read_table(alloc, files, name, header),
+        Err(why) => Err(why),
+    }
+}
+
+/// How many pages the diff under this name has.
+///
+/// Errors: `Refused` by the first that fits: no such file, its gate, its magic, a field. `Fault` where a call on the files
+/// failed. Nothing is written.
+pub fn diff_pages<F: Files>(alloc: Global, files: &mut F, name: &str) -> Result<u32, RebaseError>
+    ensures counts { Tells (F.known files.old).health →
+        Answers HasPages result (diff_found (get (F.known files.old).saved name.now)) }
+    ensures same { Tells (F.known files.old).health → SameFiles (F.known files.old) (F.known files.new) }
+    ensures cause { RebaseCause result (F.known files.old).health.faults (F.known files.new).health.faults }
+    ensures lasts { Lasts (F.known files.old).health (F.known files.new).health }
+{
+    match find_diff(alloc, files, name) {
+        Ok(start) => Ok(start.header.count),
         Err(why) => Err(why),
     }
 }

@@ -16,6 +16,7 @@ mod room;
 mod stages;
 
 pub use error::RebaseError;
+pub use finding::diff_pages;
 pub use law::{cut_off_and_resumed, merged, merged_in_order};
 pub use merge::{Merge, merge_of};
 pub use rebasing::rebase;

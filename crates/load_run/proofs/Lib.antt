@@ -1,0 +1,9 @@
+mod Alike
+mod Answered
+mod Ends
+mod Merges
+mod Overlaid
+mod Readable
+mod Runs
+mod Shown
+mod Written
