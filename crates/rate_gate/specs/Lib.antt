@@ -1,1 +1,4 @@
 pub mod Gate
+pub mod Passing
+pub mod Saved
+pub mod Lives

@@ -1,9 +1,15 @@
 // The gate, and what a request is told.
-ghost use Rattle.std.specs.Prelude.{◌≡◌, ◌↔◌, ◌≢◌, ℕ, IsTrue};
+ghost use Rattle.std.specs.Prelude.{◌≡◌, ◌↔◌, ◌≢◌, ℕ, IsTrue, true, option_map, unwrap_or};
+ghost use Rattle.token_bucket.specs.Kept.{saved_of};
 ghost use Rattle.rate_gate.specs.Gate.{Allows, Adds, WaitsFor, WaitsForBoth, ops_need};
+ghost use Rattle.rate_gate.specs.Gate.{bucket_takes, bucket_took, bucket_wait, gate_took, is_limited, with_buckets};
+ghost use Rattle.rate_gate.specs.Passing.{told};
+ghost use Rattle.rate_gate.specs.Saved.{bucket_at, gate_at, gate_saved};
+ghost use Rattle.rate_gate.specs.Lives.{LivesOn};
 
+use crate::GateState;
 use std::marker::Model;
-use token_bucket::Bucket;
+use token_bucket::{Bucket, State};
 
 const OPS_NEED: u64 = 1;
 
@@ -36,7 +42,8 @@ impl Model for RateGate {
 
 /// Whether a bucket lets so many tokens pass.
 fn allows(bucket: &Option<Bucket>, need: u64, now: u64) -> bool
-    ensures { IsTrue result ↔ Allows bucket.now need now }
+    ensures answer { IsTrue result ↔ Allows bucket.now need now }
+    ensures takes { result ≡ bucket_takes bucket.now need now }
 {
     match bucket {
         Some(bucket) => bucket.may_take(need, now),
@@ -46,7 +53,8 @@ fn allows(bucket: &Option<Bucket>, need: u64, now: u64) -> bool
 
 /// The moment that a bucket waits for.
 fn wait_of(bucket: &Option<Bucket>, need: u64) -> u64
-    ensures { WaitsFor bucket.now need result }
+    ensures wait { WaitsFor bucket.now need result }
+    ensures until { result ≡ bucket_wait bucket.now need }
 {
     match bucket {
         Some(bucket) => bucket.wait_until(need),
@@ -56,11 +64,43 @@ fn wait_of(bucket: &Option<Bucket>, need: u64) -> u64
 
 /// Takes so many tokens, which may pass.
 fn take_from(bucket: &mut Option<Bucket>, need: u64, now: u64)
-    requires { Allows bucket.old need now }
-    ensures { Adds bucket.old bucket.new need now }
+    requires { bucket_takes bucket.old need now ≡ true }
+    ensures adds { Adds bucket.old bucket.new need now }
+    ensures took { bucket.new ≡ bucket_took bucket.old need now }
+    ensures life { LivesOn bucket.old bucket.new need now }
 {
     if let Some(bucket) = bucket {
         bucket.take(need, now);
+    }
+}
+
+/// Puts a bucket in the place of another, where one is named.
+fn put(bucket: &mut Option<Bucket>, named: Option<Option<Bucket>>)
+    ensures { bucket.new ≡ unwrap_or named bucket.old }
+{
+    if let Some(named) = named {
+        *bucket = named;
+    }
+}
+
+/// The saved form of a bucket.
+fn state_of(bucket: &Option<Bucket>) -> Option<State>
+    ensures { result ≡ option_map saved_of bucket.now }
+{
+    match bucket {
+        Some(bucket) => Some(bucket.state()),
+        None => None,
+    }
+}
+
+/// Lets a bucket go on from its saved form.
+fn restore(bucket: &mut Option<Bucket>, state: Option<State>)
+    ensures { bucket.new ≡ bucket_at bucket.old state }
+{
+    if let Some(bucket) = bucket {
+        if let Some(state) = state {
+            bucket.restore(state);
+        }
     }
 }
 
@@ -81,13 +121,53 @@ impl RateGate {
         (&self.bandwidth, &self.ops)
     }
 
+    /// Whether it has a limit of some kind, and so whether a request needs a moment.
+    pub fn is_limited(&self) -> bool
+        ensures { result ≡ is_limited self.now }
+    {
+        self.bandwidth.is_some() || self.ops.is_some()
+    }
+
+    /// Replaces the buckets that are named, and keeps the others with all that they have of their past. `Some(None)`
+    /// removes a bucket.
+    pub fn set_buckets(&mut self, bandwidth: Option<Option<Bucket>>, ops: Option<Option<Bucket>>)
+        ensures { self.new ≡ with_buckets self.old bandwidth ops }
+    {
+        put(&mut self.bandwidth, bandwidth);
+        put(&mut self.ops, ops);
+    }
+
+    /// The saved form of its buckets.
+    pub fn state(&self) -> GateState
+        ensures { result ≡ gate_saved self.now }
+    {
+        GateState {
+            bandwidth: state_of(&self.bandwidth),
+            ops: state_of(&self.ops),
+        }
+    }
+
+    /// This gate where each bucket goes on from its saved form, as fast as it is here. A bucket without a saved form
+    /// stays, and a saved form without a bucket is nothing.
+    pub fn at_state(mut self, state: GateState) -> RateGate
+        ensures { result ≡ gate_at self state }
+    {
+        restore(&mut self.bandwidth, state.bandwidth);
+        restore(&mut self.ops, state.ops);
+        self
+    }
+
     /// Takes so many bytes and one operation at a moment, if both may pass; else nothing changes.
     pub fn take(&mut self, bytes: u64, now: u64) -> Pass
+        ensures told { result ≡ told self.old bytes now }
+        ensures took { result ≡ Pass.Go → self.new ≡ gate_took self.old bytes now }
+        ensures stays { result ≢ Pass.Go → self.new ≡ self.old }
         ensures go { (result ≡ Pass.Go) ↔ (Allows self.old.bandwidth bytes now × Allows self.old.ops ops_need now) }
         ensures bandwidth { result ≡ Pass.Go → Adds self.old.bandwidth self.new.bandwidth bytes now }
         ensures ops { result ≡ Pass.Go → Adds self.old.ops self.new.ops ops_need now }
-        ensures stays { result ≢ Pass.Go → self.new ≡ self.old }
         ensures wait { (wait : ℕ) → result ≡ Pass.WaitUntil wait → WaitsForBoth self.old bytes wait }
+        ensures bandwidth_life { result ≡ Pass.Go → LivesOn self.old.bandwidth self.new.bandwidth bytes now }
+        ensures ops_life { result ≡ Pass.Go → LivesOn self.old.ops self.new.ops ops_need now }
     {
         if allows(&self.bandwidth, bytes, now) && allows(&self.ops, OPS_NEED, now) {
             take_from(&mut self.bandwidth, bytes, now);

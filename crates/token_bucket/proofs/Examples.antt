@@ -1,7 +1,6 @@
 -- What the definitions say of buckets, worked out by hand.
 use Rattle.std.proofs.Common.{◌≡◌, ℕ, [], ◌∷◌, true, false, refl}
-use Rattle.std.specs.Prelude.{List, ℤ, pos, negsuc}
-use Rattle.token_bucket.specs.declared.state.State.{State}
+use Rattle.std.specs.Prelude.{List, pos, negsuc}
 use Rattle.token_bucket.specs.Rate.{Rate, rate_of, full}
 use Rattle.token_bucket.specs.Allowance.{Start, Need, may_pass, saved}
 use Rattle.token_bucket.specs.Kept.{owed_of}

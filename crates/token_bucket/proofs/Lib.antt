@@ -1,5 +1,6 @@
 mod Examples
 pub mod Largest
+pub mod Lives
 pub mod Moves
 pub mod Takes
 pub mod Waits

@@ -1,6 +1,7 @@
 -- What a bucket keeps of its start and its needs.
-use Rattle.std.specs.Prelude.{◌≡◌, ℕ, ◌+◌, ◌-◌, ◌*◌, max, Bool, ◌^◌, ◌<◌, ◌≤◌, true, false, List, ℤ, pos, negsuc}
-use Rattle.token_bucket.specs.Rate.{Rate, full}
+use Rattle.std.specs.Prelude.{◌≡◌, ℕ, ◌+◌, ◌-◌, ◌*◌, ◌/◌, ◌^◌, ◌<◌, ◌≤◌, min, max, nat_eq, nat_le, ◌||◌, Bool, true, false, if◌then◌else◌}
+use Rattle.std.specs.Prelude.{List, Option, Some, None, ℤ, pos, negsuc, ◌-ℤ◌}
+use Rattle.token_bucket.specs.Rate.{Rate, rate_of, full}
 use Rattle.token_bucket.specs.Allowance.{Start, Need, total, last_moment, NeverFall, fits, owed, may_pass}
 use Rattle.token_bucket.specs.declared.state.State.{State}
 
@@ -28,6 +29,7 @@ abbrev pub owed_of : ℕ → ℤ → ℕ
 owed_of most (pos balance) = most - balance
 owed_of most (negsuc debt) = most + (debt + 1)
 
+-- what a bucket of this rate keeps of a saved form
 abbrev pub kept_at : Rate → State → Kept
 kept_at rate state =
     record {
@@ -36,6 +38,12 @@ kept_at rate state =
       owes = owed_of (full rate) state.balance;
       moment = state.moment;
     }
+
+-- a new bucket is full; there is none where the size or the milliseconds of refill time are 0, which is no limit
+abbrev pub new_bucket : ℕ → ℕ → ℕ → Option Kept
+new_bucket size burst ms =
+    if nat_eq size 0 || nat_eq ms 0 then None
+    else Some (record { rate = rate_of size ms; burst = burst; owes = 0; moment = 0 })
 
 -- the last moment of the clock
 abbrev pub last_of_all : ℕ
@@ -49,16 +57,46 @@ pub record IsWait (rate : Rate) (start : Start) (needs : List Need) (tokens wait
       may_pass rate start needs tokens now ≡ false
   pub passes : wait < last_of_all → may_pass rate start needs tokens wait ≡ true
 
--- what is owed at a moment, whether so many tokens pass then, and what is kept after them, by what is kept alone
+-- ---- by what is kept alone
+
+-- what is owed at a moment; one before the newest need's counts as that
 abbrev pub owes_at : Kept → ℕ → ℕ
 owes_at kept now = kept.owes - kept.rate.size * (max now kept.moment - kept.moment)
 
+-- whether so many tokens pass at a moment
 abbrev pub takes : Kept → ℕ → ℕ → Bool
 takes kept tokens now = fits kept.rate (tokens - kept.burst) (owes_at kept now)
 
+-- what is kept after them
 abbrev pub took : Kept → ℕ → ℕ → Kept
 took kept tokens now = record kept {
   burst = kept.burst - tokens;
   owes = owes_at kept now + kept.rate.refill * (tokens - kept.burst);
   moment = max now kept.moment;
 }
+
+-- the most that may be owed where a need adds so many tokens
+abbrev pub most_owed : Rate → ℕ → ℕ
+most_owed rate adds = rate.refill * (rate.size - adds)
+
+-- a quotient, rounded up
+abbrev pub rounded_up : ℕ → ℕ → ℕ
+rounded_up count divisor = (count + (divisor - 1)) / divisor
+
+-- The moment that is waited for: the newest need's, and where the burst doesn't pay for all, as much later as what
+-- is owed too much takes to flow in.
+abbrev pub waits_until : Kept → ℕ → ℕ
+waits_until kept tokens =
+    if nat_le tokens kept.burst then kept.moment
+    else min last_of_all
+    (kept.moment
+    + rounded_up (kept.owes - most_owed kept.rate (tokens - kept.burst)) kept.rate.size)
+
+-- the saved form
+abbrev pub saved_of : Kept → State
+saved_of kept =
+    record {
+      burst = kept.burst;
+      balance = pos (full kept.rate) -ℤ pos kept.owes;
+      moment = kept.moment;
+    }

@@ -2,8 +2,9 @@
 ghost use Rattle.std.specs.Prelude.{◌≡◌, ◌+◌, ◌-◌, ◌*◌, ◌^◌, ◌<◌, ◌⊎◌, ◌↔◌};
 ghost use Rattle.std.specs.Prelude.{ℕ, List, [], ◌∷◌, max, false, IsTrue, IsNone, IfSome};
 ghost use Rattle.token_bucket.specs.Rate.{full, rate_of};
-ghost use Rattle.token_bucket.specs.Allowance.{Start, Need, fits, may_pass, moment_at, saved, NeverFall};
-ghost use Rattle.token_bucket.specs.Kept.{Keeps, IsWait, kept_at};
+ghost use Rattle.token_bucket.specs.Allowance.{Start, Need, may_pass, moment_at, saved, NeverFall};
+ghost use Rattle.token_bucket.specs.Kept.{Keeps, IsWait, new_bucket, owed_of, kept_at, saved_of};
+ghost use Rattle.token_bucket.specs.Kept.{owes_at, takes, took, most_owed, waits_until};
 ghost use Rattle.token_bucket.specs.Window.{IsLife};
 
 use crate::State;
@@ -42,12 +43,25 @@ impl Model for Bucket {
         (0 < b.size) × (b.size < 2 ^ 48) × (b.refill < 2 ^ 52) × (b.owed ≤ b.size * b.refill + 2 ^ 127) };
 }
 
+/// What is owed to a full balance of this much where the balance is that.
+fn owed_for(full: u128, balance: i128) -> u128
+    requires { full < 2 ^ 127 }
+    ensures { result ≡ owed_of full balance }
+{
+    if balance < 0 {
+        full + balance.unsigned_abs()
+    } else {
+        full.saturating_sub(balance as u128)
+    }
+}
+
 impl Bucket {
     /// A full bucket at moment 0 with a burst. None where the size or the milliseconds of refill time are 0, which
     /// is no limit.
     pub fn new(size: u64, burst: u64, ms: u64) -> Option<Bucket>
         requires size { size < 2 ^ 48 }
         requires ms { ms < 2 ^ 32 }
+        ensures bucket { result ≡ new_bucket size burst ms }
         ensures none { IsNone result ↔ ((size ≡ 0) ⊎ (ms ≡ 0)) }
         ensures rate { IfSome result (λ bucket. bucket.rate ≡ rate_of size ms) }
         ensures start { IfSome result (λ bucket. Keeps bucket (record { burst = burst; owed = 0; moment = 0 }) []) }
@@ -77,24 +91,28 @@ impl Bucket {
             return None;
         }
         let refill = ms * NANOSECONDS;
-        let full = size as u128 * refill as u128;
-        let owed = if state.balance < 0 {
-            full + state.balance.unsigned_abs()
-        } else {
-            full.saturating_sub(state.balance as u128)
-        };
         Some(Bucket {
             size,
             refill,
             burst: state.burst,
-            owed,
+            owed: owed_for(size as u128 * refill as u128, state.balance),
             moment: state.moment,
         })
     }
 
+    /// Goes on at this saved form, as fast as before.
+    pub fn restore(&mut self, state: State)
+        ensures { self.new ≡ kept_at self.old.rate state }
+    {
+        self.owed = owed_for(self.size as u128 * self.refill as u128, state.balance);
+        self.burst = state.burst;
+        self.moment = state.moment;
+    }
+
     /// The saved form.
     pub fn state(&self) -> State
-        ensures { (start : Start) (needs : List Need) → Keeps self.now start needs →
+        ensures value { result ≡ saved_of self.now }
+        ensures saved { (start : Start) (needs : List Need) → Keeps self.now start needs →
             result ≡ saved self.now.rate start needs }
     {
         let full = self.size as u128 * self.refill as u128;
@@ -112,7 +130,7 @@ impl Bucket {
 
     /// What is owed at a moment; an earlier one than the newest need's counts as that one.
     fn owed_at(&self, now: u64) -> u128
-        ensures { result ≡ self.now.owes - self.now.rate.size * (max now self.now.moment - self.now.moment) }
+        ensures { result ≡ owes_at self.now now }
     {
         let passed = now.saturating_sub(self.moment);
         self.owed.saturating_sub(self.size as u128 * passed as u128)
@@ -120,7 +138,7 @@ impl Bucket {
 
     /// The most that may be owed where a need that adds `adds` passes.
     fn allowed(&self, adds: u64) -> u128
-        ensures { result ≡ self.now.rate.refill * (self.now.rate.size - adds) }
+        ensures { result ≡ most_owed self.now.rate adds }
     {
         self.refill as u128 * self.size.saturating_sub(adds) as u128
     }
@@ -128,8 +146,7 @@ impl Bucket {
     fn passes(&self, need: u64, now: u64) -> bool
         ensures answer { (start : Start) (needs : List Need) → Keeps self.now start needs →
             result ≡ may_pass self.now.rate start needs need (moment_at start needs now) }
-        ensures fits { result ≡ fits self.now.rate (need - self.now.burst)
-            (self.now.owes - self.now.rate.size * (max now self.now.moment - self.now.moment)) }
+        ensures takes { result ≡ takes self.now need now }
     {
         let adds = need.saturating_sub(self.burst);
         adds == 0 || self.owed_at(now) <= self.allowed(adds)
@@ -137,8 +154,9 @@ impl Bucket {
 
     /// Whether so many tokens may pass at a moment. A moment before the newest need's counts as that one.
     pub fn may_take(&self, need: u64, now: u64) -> bool
-        ensures { (start : Start) (needs : List Need) → Keeps self.now start needs →
+        ensures answer { (start : Start) (needs : List Need) → Keeps self.now start needs →
             result ≡ may_pass self.now.rate start needs need (moment_at start needs now) }
+        ensures takes { result ≡ takes self.now need now }
     {
         self.passes(need, now)
     }
@@ -153,6 +171,8 @@ impl Bucket {
         ensures life { IsTrue result → (start : Start) (needs : List Need) → Keeps self.old start needs →
             IsLife self.old.rate start needs →
             IsLife self.old.rate start (record { tokens = need; moment = moment_at start needs now } ∷ needs) }
+        ensures takes { result ≡ takes self.old need now }
+        ensures took { IsTrue result → self.new ≡ took self.old need now }
         ensures refused { result ≡ false → self.new ≡ self.old }
         ensures rate { self.new.rate ≡ self.old.rate }
     {
@@ -171,8 +191,9 @@ impl Bucket {
     /// The least moment, not before the newest need's, at which so many tokens may pass; `u64::MAX` where that is
     /// later.
     pub fn wait_until(&self, need: u64) -> u64
-        ensures { (start : Start) (needs : List Need) → Keeps self.now start needs →
+        ensures wait { (start : Start) (needs : List Need) → Keeps self.now start needs →
             IsWait self.now.rate start needs need result }
+        ensures until { result ≡ waits_until self.now need }
     {
         let adds = need.saturating_sub(self.burst);
         if adds == 0 {

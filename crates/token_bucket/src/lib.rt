@@ -9,5 +9,5 @@ mod law;
 mod state;
 
 pub use bucket::Bucket;
-pub use law::{by_what_is_kept, rate_bound, some_start};
+pub use law::{by_what_is_kept, life_goes_on, rate_bound, some_start};
 pub use state::State;

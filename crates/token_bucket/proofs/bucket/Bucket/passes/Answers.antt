@@ -4,8 +4,8 @@ use Rattle.token_bucket.proofs.Moves.{may_pass_at}
 use Rattle.token_bucket.proofs.Waits.{fits_owed}
 use Rattle.token_bucket.proofs.bucket.Bucket.passes.Goals as goal
 
-pub returns-else-adds-eq0-clause-fits : goal.returns-else-adds-eq0-clause-fits
-returns-else-adds-eq0-clause-fits c =
+pub returns-else-adds-eq0-clause-takes : goal.returns-else-adds-eq0-clause-takes
+returns-else-adds-eq0-clause-takes c =
     let adds : c.saturating_sub-adds.result ≡ c.args.need - c.args.self.now.burst =
     c.saturating_sub-adds.ensures ∙ ap (λ (k : Kept). c.args.need - k.burst) c.self.view_is in
     rw (c.owed_at.ensures, c.allowed.ensures)
@@ -13,4 +13,4 @@ returns-else-adds-eq0-clause-fits c =
 
 pub returns-else-adds-eq0-clause-answer : goal.returns-else-adds-eq0-clause-answer
 returns-else-adds-eq0-clause-answer c =
-    λ start needs keeps. returns-else-adds-eq0-clause-fits c ∙ sym (may_pass_at c.args.self.now start needs c.args.need c.args.now keeps)
+    λ start needs keeps. returns-else-adds-eq0-clause-takes c ∙ sym (may_pass_at c.args.self.now start needs c.args.need c.args.now keeps)
