@@ -5,7 +5,9 @@
 #![tactic(auto)]
 
 mod hart_state;
+mod law;
 mod window;
 
 pub use hart_state::HartState;
+pub use law::{board_kept, board_long};
 pub use window::{WINDOW_SIZE, WINDOW_START, is_window};

@@ -9,3 +9,5 @@ pub mod Lists
 pub mod Marked
 pub mod Soundness
 pub mod Stepping
+pub mod Savable
+pub mod Shaped

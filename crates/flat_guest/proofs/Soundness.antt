@@ -69,14 +69,14 @@ timer_port : (due : Option ℕ) → is_port_op (wants_by due) ≡ false
 timer_port None = refl
 timer_port (Some due) = refl
 
-wants_from : (start : Option Regs) (first : Regs) (steps : List Step) (op : Op) → start ≡ Some first
+pub wants_from : (start : Option Regs) (first : Regs) (steps : List Step) (op : Op) → start ≡ Some first
     → WantsFrom start steps op → Continues first steps op
 wants_from None first steps op is wants = absurd wants
 wants_from (Some start) first steps op is wants =
     let same : start ≡ first = cc in
     subst (λ (r : Regs). Continues r steps op) same wants
 
-hart_port_by : (g : Guest) (k : ℕ) (op : Op) (o : Option Regs) → slice_get g.starts k ≡ o → IsSound g
+pub hart_port_by : (g : Guest) (k : ℕ) (op : Op) (o : Option Regs) → slice_get g.starts k ≡ o → IsSound g
     → Wants g (ActorId.Hart k) op → (is_port_op op ≡ false) × (is_host_op op ≡ false)
 hart_port_by g k op None is sound wants =
     absurd (subst (λ (s : Option Regs). WantsFrom s (g.steps (ActorId.Hart k)) op) is wants)
@@ -112,7 +112,7 @@ out_replied (Op.Board act) given reply host answer = absurd answer.1
 out_replied Op.Idle given reply host answer = answer.1
 out_replied op given reply host answer = answer.1
 
-replied : (p : PlaceId) (g : Guest) (actor : ActorId) (op : Op) (given : Option Reply) (reply : Reply)
+pub replied : (p : PlaceId) (g : Guest) (actor : ActorId) (op : Op) (given : Option Reply) (reply : Reply)
     → is_host_op op ≡ false → Answers p g actor op given reply
     → reply ≡ reply_at p g.memory g.board g.ports actor op None
 replied (PlaceId.Page i) g actor op given reply host answer = answer.1
@@ -141,7 +141,7 @@ fits_by g actor op given reply false host port answer =
     (sym (replied (place_of (layout_of g) op) g actor op given reply host answer))
     (answer_fits (length g.memory.bytes) g.memory g.board g.ports actor op None port (none_given op host))
 
-same_hart : (k : ℕ) (actor : ActorId) → same_actor (ActorId.Hart k) actor ≡ true → actor ≡ ActorId.Hart k
+pub same_hart : (k : ℕ) (actor : ActorId) → same_actor (ActorId.Hart k) actor ≡ true → actor ≡ ActorId.Hart k
 same_hart k (ActorId.Hart j) same = ap (λ (n : ℕ). ActorId.Hart n) (sym (eqb-true k j same))
 same_hart k ActorId.Timer same = cc
 same_hart k (ActorId.Device j) same = cc
@@ -152,7 +152,7 @@ same_timer (ActorId.Hart j) same = cc
 same_timer (ActorId.Device j) same = cc
 
 module _ (g : Guest) (event : Event) (e : Entry) (h : Guest) (sound : IsSound g) (step : FlatStep g event e h) where
-  fit : fits e.op e.reply ≡ true
+  pub fit : fits e.op e.reply ≡ true
   fit =
       fits_by g e.actor e.op event.reply e.reply (is_host_op e.op) refl (port_there g e.actor e.op sound step.want)
       (subst (λ (p : PlaceId). Answers p g e.actor e.op event.reply e.reply) step.place step.answer)

@@ -3,6 +3,8 @@ pub mod Changes
 pub mod Guest
 pub mod Places
 pub mod Same
+pub mod Savable
+pub mod Shaped
 pub mod Sound
 pub mod Start
 pub mod Steps

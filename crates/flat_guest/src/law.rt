@@ -1,16 +1,18 @@
 // What holds of every guest.
-ghost use Rattle.std.specs.Prelude.{◌≡◌, ◌<◌, ◌^◌, ℕ, All, List, Option, None, length, true};
+ghost use Rattle.std.specs.Prelude.{◌≡◌, ◌≤◌, ◌<◌, ◌*◌, ◌^◌, ℕ, All, List, Option, None, length, true};
 ghost use Rattle.vm_types.specs.declared.entry.Entry.{Entry};
 ghost use Rattle.vm_types.specs.declared.entry.Event.{Event};
 ghost use Rattle.vm_types.specs.declared.ids.ActorId.{ActorId};
 ghost use Rattle.vm_types.specs.declared.ids.ActorId.TheVariants.{Hart};
 ghost use Rattle.vm_types.specs.declared.op.Op.{Op};
 ghost use Rattle.vm_types.specs.declared.reply.Reply.{Reply};
-ghost use Rattle.guest_memory.specs.Boot.{Loads};
+ghost use Rattle.guest_memory.specs.Boot.{Loads, boot_memory, bytes_of_mib};
+ghost use Rattle.guest_memory.specs.Reserved.{hart_limit};
 ghost use Rattle.guest_devices.specs.declared.drive.NewDrive.{NewDrive};
 ghost use Rattle.flat_guest.specs.Changes.{resized};
 ghost use Rattle.flat_guest.specs.Guest.{Guest, Wants, is_actor};
 ghost use Rattle.flat_guest.specs.Same.{AreAlike};
+ghost use Rattle.flat_guest.specs.Shaped.{IsShaped};
 ghost use Rattle.flat_guest.specs.Sound.{IsSound};
 ghost use Rattle.flat_guest.specs.Start.{started, timer_restarted};
 ghost use Rattle.flat_guest.specs.Steps.{FlatStep, IsUnstamped, StepsBy, guest_after, is_given};
@@ -48,6 +50,19 @@ pub fn some_step()
     ensures stays { (g h : Guest) (event : Event) (e : Entry) → IsSound g → FlatStep g event e h → IsSound h }
     ensures several { (count : ℕ) (g : Guest) (actor : ActorId) → IsSound g → is_actor g actor ≡ true →
         (es : List Entry) × (h : Guest) × StepsBy g actor count es h }
+{}
+
+/// A guest that has started with at most 32 harts is of the shape that a state file asks, and stays so.
+pub fn same_shape()
+    ensures start { (harts mib : ℕ) (loads : Loads) (drives : List NewDrive) → harts ≤ hart_limit →
+        length (boot_memory mib loads).bytes ≡ bytes_of_mib mib →
+        IsShaped (256 * mib) harts (started harts mib loads drives) }
+    ensures restart { (pages harts : ℕ) (g : Guest) → IsShaped pages harts g →
+        IsShaped pages harts (timer_restarted g) }
+    ensures resize { (pages harts : ℕ) (g : Guest) (k sectors : ℕ) → IsShaped pages harts g →
+        IsShaped pages harts (resized k sectors g) }
+    ensures stays { (pages harts : ℕ) (g : Guest) (event : Event) (e : Entry) (h : Guest) → IsSound g →
+        IsShaped pages harts g → FlatStep g event e h → IsShaped pages harts h }
 {}
 
 /// Guests that are one body's take the same events, each with the same entry, and stay so.

@@ -7,3 +7,5 @@ pub mod Loaded
 pub mod Refused
 pub mod Unwritten
 pub mod Diffs
+pub mod Ready
+pub mod CarriedReady

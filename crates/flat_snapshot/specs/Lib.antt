@@ -3,3 +3,4 @@ pub mod Copies
 pub mod Files
 pub mod Found
 pub mod Unwritten
+pub mod Ready

@@ -1,5 +1,5 @@
 // What holds of every guest, and of every snapshot.
-ghost use Rattle.std.specs.Prelude.{false, ◌≡◌, ◌≢◌, ◌≤◌, ◌*◌, ◌^◌, ◌⊎◌, ◌++◌, [], ℕ, Bool, List, IsTrue, IsErr, Ok, Err, Some, length};
+ghost use Rattle.std.specs.Prelude.{false, true, ◌≡◌, ◌≢◌, ◌≤◌, ◌*◌, ◌^◌, ◌⊎◌, ◌++◌, [], ℕ, Bool, List, IsTrue, IsErr, Ok, Err, Some, length};
 ghost use Rattle.std.specs.FinMap.{get, insert};
 ghost use Rattle.vm_types.specs.Saved.{Saved};
 ghost use Rattle.vm_types.specs.declared.entry.Entry.{Entry};
@@ -30,6 +30,7 @@ ghost use Rattle.flat_guest.specs.Steps.{FlatStep, StepsBy};
 ghost use Rattle.snap_state.specs.declared.copy.StateCopy.{StateCopy};
 ghost use Rattle.flat_snapshot.specs.Carried.{carried_config, carried_guest, with_tracking};
 ghost use Rattle.flat_snapshot.specs.Copies.{IsCopyOf};
+ghost use Rattle.flat_snapshot.specs.Ready.{IsReady};
 ghost use Rattle.flat_snapshot.specs.Unwritten.{KeepsUnwritten};
 
 /// A guest has one copy at most with the same kept of its devices, and so one at most where it has none. Which of the
@@ -45,6 +46,18 @@ pub fn one_copy_of()
         carried_guest first bytes ≡ carried_guest second bytes }
     ensures some { (config : Config) (g : Guest) → IsSound g → whole_pages g.memory ≤ 2 ^ 20 →
         (copy : StateCopy) × IsCopyOf config g copy }
+{}
+
+/// Each copy of a guest that is never stuck, keeps its shape, and is configured as the API takes it, passes each test of a state
+/// file; its pages are all of the guest's memory. A guest that goes on from such a copy is one again.
+pub fn valid_copies()
+    ensures valid { (config : Config) (g : Guest) (copy : StateCopy) → IsSound g → IsReady config g →
+        config.machine.mem_size_mib ≤ 1024 → IsCopyOf config g copy → is_valid_copy copy ≡ true }
+    ensures whole { (config : Config) (g : Guest) (copy : StateCopy) → IsReady config g → IsCopyOf config g copy →
+        length g.memory.bytes ≡ page_size * copy.pages }
+    ensures carried { (copy : StateCopy) (bytes : List ℕ) (tracking : Bool) → IsTrue (is_valid_copy copy) →
+        length bytes ≡ page_size * copy.pages →
+        IsReady (carried_config tracking copy.configuration) (carried_guest copy bytes) }
 {}
 
 /// The guest that goes on from a snapshot is never stuck, where a state file can have its copy, and its memory has as

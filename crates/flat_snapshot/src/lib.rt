@@ -8,5 +8,5 @@ mod law;
 
 pub use law::{
     copied_again, create_then_load, diff_since, goes_on, goes_on_alike, load_of_files, no_snapshot,
-    one_copy_of, unwritten_pages,
+    one_copy_of, unwritten_pages, valid_copies,
 };

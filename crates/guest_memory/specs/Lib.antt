@@ -1,5 +1,6 @@
 pub mod Boot
 pub mod Fitting
+pub mod Kept
 pub mod Memory
 pub mod Ram
 pub mod Reserved

@@ -5,3 +5,9 @@ pub mod Leads
 pub mod Naturals
 pub mod OneHart
 pub mod Traces
+pub mod Values
+pub mod Immediates
+pub mod Keeping
+pub mod Registers
+pub mod Effects
+pub mod Shapes

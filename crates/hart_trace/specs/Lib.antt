@@ -1,4 +1,5 @@
 pub mod Asks
+pub mod Kept
 pub mod Looks
 pub mod Shown
 pub mod States

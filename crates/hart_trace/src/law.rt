@@ -1,5 +1,5 @@
 // What holds of every trace and every hart.
-ghost use Rattle.std.specs.Prelude.{◌≡◌, ◌%◌, ℕ, true, false, List, [], ◌∷◌, ◌++◌};
+ghost use Rattle.std.specs.Prelude.{◌≡◌, ◌<◌, ◌%◌, ◌^◌, ℕ, true, false, List, [], ◌∷◌, ◌++◌};
 ghost use Rattle.vm_types.specs.declared.entry.Step.{Step};
 ghost use Rattle.vm_types.specs.declared.op.Op.{Op};
 ghost use Rattle.vm_types.specs.declared.reply.Reply.{Reply};
@@ -7,6 +7,8 @@ ghost use Rattle.vm_types.specs.Fits.{fits};
 ghost use Rattle.rv_supervisor.specs.declared.regs.Regs.{Regs};
 ghost use Rattle.rv_supervisor.specs.Start.{start_regs};
 ghost use Rattle.hart_trace.specs.Asks.{IsAligned, IsNaturalOp, is_hart_op, is_host_op, is_port_op};
+ghost use Rattle.hart_trace.specs.Kept.{IsKept, IsRamReply, IsReply, IsShaped, IsSmallOp};
+ghost use Rattle.hart_trace.specs.Stopped.{stopped_regs};
 ghost use Rattle.hart_trace.specs.Traces.{Continues, IsPrefix};
 ghost use Rattle.hart_trace.specs.States.{Hart, LeadsTo, fresh, hart_next, hart_wants};
 
@@ -48,4 +50,23 @@ pub fn hart_asks()
     ensures natural { (h : Hart) → IsAligned h.regs → IsNaturalOp (hart_wants h) }
     ensures starts { (pc first second : ℕ) → pc % 4 ≡ 0 → IsAligned (start_regs pc first second) }
     ensures aligned { (h : Hart) (reply : Reply) → IsAligned h.regs → IsAligned (hart_next h reply).regs }
+{}
+
+/// A hart that a state file can have, in a memory of whole granules: as each hart is at a start, and as it stays with what
+/// a machine replies. What it asks for is then small.
+pub fn hart_kept()
+    ensures starts { (size pc first second : ℕ) → pc < 2 ^ 64 → pc % 4 ≡ 0 → first < 2 ^ 64 → second < 2 ^ 64 →
+        IsKept size (fresh (start_regs pc first second)) }
+    ensures stopped { (size : ℕ) → IsKept size (fresh stopped_regs) }
+    ensures stays { (size : ℕ) (h : Hart) (reply : Reply) → size % 8 ≡ 0 → IsReply size (hart_wants h) reply →
+        IsKept size h → IsKept size (hart_next h reply) }
+    ensures asks { (size : ℕ) (h : Hart) → IsKept size h → IsSmallOp (hart_wants h) }
+{}
+
+/// A hart keeps its shape, whatever the widths of its numbers are, where no word but of RAM is replied to a load-reserved.
+pub fn hart_shaped()
+    ensures starts { (size pc first second : ℕ) → pc % 4 ≡ 0 → IsShaped size (fresh (start_regs pc first second)) }
+    ensures stopped { (size : ℕ) → IsShaped size (fresh stopped_regs) }
+    ensures stays { (size : ℕ) (h : Hart) (reply : Reply) → size % 8 ≡ 0 → IsRamReply size (hart_wants h) reply →
+        IsShaped size h → IsShaped size (hart_next h reply) }
 {}

@@ -9,5 +9,5 @@
 mod law;
 mod looks;
 
-pub use law::{hart_asks, hart_follows, one_op};
+pub use law::{hart_asks, hart_follows, hart_kept, hart_shaped, one_op};
 pub use looks::{Interrupt, look};

@@ -114,7 +114,7 @@ as_new_is p is = is_port p.kind p.offered (reset_config p.kind p.config) (reset_
 three : (xs ys zs : List ℕ) → length (xs ++ ys ++ zs) ≡ length xs + length ys + length zs
 three xs ys zs = omega (arith, length-append (xs ++ ys) zs, length-append xs ys)
 
-overlaid_long : (bytes : List ℕ) (at : ℕ) (piece : List ℕ) → length (overlaid bytes at piece) ≡ length bytes
+pub overlaid_long : (bytes : List ℕ) (at : ℕ) (piece : List ℕ) → length (overlaid bytes at piece) ≡ length bytes
 overlaid_long bytes at piece =
     let a = length-take at bytes in
     let b = length-take (length bytes - at) piece in

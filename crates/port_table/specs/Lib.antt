@@ -5,4 +5,5 @@ pub mod Kept
 pub mod Kinds
 pub mod Ports
 pub mod Registers
+pub mod Sizes
 pub mod Window

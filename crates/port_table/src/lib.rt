@@ -11,7 +11,7 @@ mod state;
 mod window;
 
 pub use kind::{DeviceKind, Feature};
-pub use law::port_kept;
+pub use law::{port_kept, port_stays};
 pub use register::{Register, register_at};
 pub use state::{PortQueue, PortState};
 pub use window::{PORT_SIZE, PORTS_START, port_at};

@@ -1,0 +1,14 @@
+use Rattle.flat_guest.proofs.Shaped.{shaped_next, shaped_resize, shaped_restart, shaped_start}
+use Rattle.flat_guest.proofs.law.same_shape.Goals as goal
+
+pub returns-clause-start : goal.returns-clause-start
+returns-clause-start c = shaped_start
+
+pub returns-clause-restart : goal.returns-clause-restart
+returns-clause-restart c = shaped_restart
+
+pub returns-clause-resize : goal.returns-clause-resize
+returns-clause-resize c = shaped_resize
+
+pub returns-clause-stays : goal.returns-clause-stays
+returns-clause-stays c = shaped_next
