@@ -1,37 +1,42 @@
 -- What is told where serving came to its end.
-use Rattle.std.proofs.Common.{◌≡◌, ℕ, inl, inr, ◌==◌, Bool, true, false, refl, sym, ap, ◌∙◌, subst, List, [], ◌∷◌, ◌++◌, length, take, drop, if◌then◌else◌, append-nil, append_assoc, take-append-drop, Option, Some, None, arith}
+use Rattle.std.proofs.Common.{◌≡◌, ℕ, ◌⊎◌, inl, inr, ◌==◌, Bool, true, false, refl, sym, ap, ◌∙◌, subst, List, [], ◌∷◌, ◌++◌, length, take, drop, if◌then◌else◌, append-nil, append_assoc, take-append-drop, Option, Some, None, Result, Ok, Err, ◌≤◌, arith}
+use Rattle.std.specs.Prelude.{OnErr, OnOk}
+use Rattle.vm_types.specs.Causes.{Rose}
 use Rattle.vm_types.specs.declared.exit.Exit.{Exit}
 use Rattle.vm_types.specs.declared.exit.Object.{Object}
 use Rattle.vm_types.specs.declared.exit.Object.TheVariants as object
-use Rattle.vm_outside.specs.Known.{SinkKnown}
+use Rattle.vm_outside.specs.Known.{Health, SinkKnown, Tells}
 use Rattle.vm_outside.specs.Passing.{TakesPart}
 use Rattle.vm_host.specs.Storing.{DiskKnown}
 use Rattle.vm_host.specs.Telling.{ClockKnown}
 use Rattle.serve_host.specs.Drawing.{WordsKnown}
 use Rattle.serve_host.specs.Listening.{Ended, ListenerKnown}
+use Rattle.command_line.specs.Commands.{ServeWords}
 use Rattle.serve_host.specs.Tracing.{TraceKnown}
 use Rattle.script_text.specs.declared.item.Item.{Item}
 use Rattle.script_text.specs.declared.item.Item.TheVariants as item
 use Rattle.script_output.specs.Output.{off_line}
 use Rattle.slice_runner.specs.Runs.{HasAnswered}
 use Rattle.flat_guest.specs.Guest.{Guest}
-use Rattle.flat_machine.specs.Machine.{AreFilesOf, Machine, console_by, console_of, drained, drained_guest, off_by}
+use Rattle.flat_machine.specs.Machine.{AreFilesOf, Machine, console_by, console_of, drained, drained_guest, is_off, off_by}
 use Rattle.flat_machine.specs.Run.{Act}
 use Rattle.flat_trace.specs.Events.{answers_in, drain_items}
 use Rattle.flat_trace.specs.Showing.{Out, Run, items_of, said, shown}
 use Rattle.flat_trace.specs.Showing.Out.{Shown}
 use Rattle.monitor_core.specs.declared.monitor.Monitor.{Monitor}
-use Rattle.monitor_running.specs.Asked.{DisksAnswered, HostAnswered, HostKnown}
-use Rattle.monitor_running.specs.Reached.{Reached, Seen, Start, known, seen}
-use Rattle.monitor_running.proofs.Disks.{rests_same}
+use Rattle.monitor_running.specs.Asked.{AnsweredSince, DisksAnswered, HostKnown}
+use Rattle.monitor_running.specs.Reached.{Reached, Seen, Start, known, seen, told_at}
+use Rattle.monitor_running.proofs.Disks.{rests_same, rests_uncalled}
 use Rattle.monitor_running.proofs.Joins.{goes_by}
-use Rattle.monitor_running.proofs.Led.{drain_acts, drain_outs, drain_says, drain_shows, drain_told}
+use Rattle.monitor_running.proofs.Led.{drain_acts, drain_outs, drain_says, drain_shows, drain_told, drain_unlineaged}
+use Rattle.monitor_serving.proofs.Bringing.{come_in_part}
 use Rattle.monitor_serving.specs.Connections.{AreTold, AreToldInPart, AreToldOff}
 use Rattle.monitor_serving.specs.Views.{Hosts, hosts}
-use Rattle.firecracker_cli.specs.Closing.{DrainStops, Drained, last_shown}
-use Rattle.firecracker_cli.specs.Serving.{AllTold, HasLineage, ServeKnown, ServedAll, ServedPart, TraceRan, closing_line, serve_known}
-use Rattle.firecracker_cli.specs.SoFar.{CameToEnd, Cut, LeftBy, ServedSoFar, start_at}
-use Rattle.firecracker_cli.proofs.Lineages.{all_acts, all_begun, all_outs, all_ran}
+use Rattle.firecracker_cli.specs.Closing.{CloseFault, DrainStops, Drained, last_shown}
+use Rattle.firecracker_cli.specs.Serving.{AllTold, HasLineage, IsKept, IsOpen, ServeKnown, ServedAll, ServedPart, TraceRan, closing_line, serve_known}
+use Rattle.firecracker_cli.specs.SoFar.{CameToEnd, Cut, IsFinished, LeftBy, ServedSoFar, start_at, with_trace}
+use Rattle.firecracker_cli.proofs.Rising.{later_rose, rose_later}
+use Rattle.firecracker_cli.proofs.Lineages.{all_acts, all_begun, all_outs, all_ran, all_took}
 
 -- ---- what the console holds goes, if it is anything
 
@@ -125,10 +130,10 @@ drain_run : (m : Machine) (bytes : List ℕ) → bytes ≡ console_of m → Run 
 drain_run m [] is = (refl, ap (λ (g : Option Guest). record m { guest = g }) (nothing_drained m.guest is))
 drain_run m (byte ∷ bytes) is = (Shown (byte ∷ bytes), drained m, [], refl, (ap Shown is, (refl, (refl, refl))), (refl, refl))
 
-drain_answered : (m n : Machine) (bytes : List ℕ) (run : Run (drain_acts bytes) m (drain_outs bytes) n) (disk : DiskKnown)
-    → DisksAnswered (drain_acts bytes) m (drain_outs bytes) n run disk disk
-drain_answered m n [] run disk = rests_same disk
-drain_answered m n (byte ∷ bytes) run disk = (disk, rests_same disk, rests_same disk)
+drain_answered : (start : Health) (m n : Machine) (bytes : List ℕ) (run : Run (drain_acts bytes) m (drain_outs bytes) n)
+    (disk : DiskKnown) → DisksAnswered start (drain_acts bytes) m (drain_outs bytes) n run disk disk
+drain_answered start m n [] run disk = rests_same disk
+drain_answered start m n (byte ∷ bytes) run disk = (disk, rests_uncalled disk disk (rests_same disk), rests_same disk)
 
 drain_untimed : (bytes : List ℕ) (clock : ClockKnown) → HasAnswered clock (answers_in (items_of (drain_acts bytes))) clock
 drain_untimed [] clock = record { still = λ t. t; are = λ t. refl }
@@ -140,11 +145,13 @@ pub drained_reached : (s : Start) (old now : Seen) (m : Machine) (talk : List Ou
 drained_reached s old now m talk r told sunk same =
     let bytes = console_of m in
     let run = drain_run m bytes refl in
+    let begun : Health = told_at s in
     goes_by s old now m (drained m) talk (drain_acts bytes) (drain_outs bytes) r run
     (told ∙ ap (λ (l : List Item). old.took ++ l) (sym (drain_told bytes)))
     (sunk ∙ ap (λ (l : List ℕ). old.taken ++ l) (sym (drain_shows bytes))) (drain_says bytes)
-    (subst (λ (h : HostKnown). HostAnswered (drain_acts bytes) m (drain_outs bytes) (drained m) run old.host h) (sym same)
-    (record { clock = drain_untimed bytes old.host.clock; disk = drain_answered m (drained m) bytes run old.host.disk }))
+    (subst (λ (h : HostKnown). AnsweredSince begun (drain_acts bytes) m (drain_outs bytes) (drained m) run old.host h) (sym same)
+    (record { clock = drain_untimed bytes old.host.clock; disk = drain_answered begun m (drained m) bytes run old.host.disk }))
+    (drain_unlineaged bytes)
 
 console_drained : (guest : Option Guest) → console_by (drained_guest guest) ≡ []
 console_drained None = refl
@@ -174,8 +181,9 @@ all_drained last talk since (inr told) = inr (off_drained last.guest ∙ told.0,
 
 -- ---- serving that came to its end
 
-module _ (id : List ℕ) (before : ServeKnown) (monitor : Monitor) (mid : Hosts) (words : WordsKnown) (listener : ListenerKnown)
-    (trace : TraceKnown) (sink : SinkKnown) (it : CameToEnd monitor id before (serve_known mid words listener)) where
+module _ (given : ServeWords) (before : ServeKnown) (monitor : Monitor) (mid : Hosts) (words : WordsKnown) (listener : ListenerKnown)
+    (trace : TraceKnown) (sink : SinkKnown) (it : CameToEnd monitor given before (serve_known mid words listener))
+    (stays : trace.path ≡ mid.slices.trace.path) where
   abbrev now : Hosts
   now = hosts (known trace sink mid.slices.host) mid.files
 
@@ -186,17 +194,27 @@ module _ (id : List ℕ) (before : ServeKnown) (monitor : Monitor) (mid : Hosts)
   console = console_of it.last
 
   -- nothing of it happened
-  undrained : trace.took ≡ mid.slices.trace.took → sink.taken ≡ mid.slices.sink.taken → Cut id before served
-  undrained told sunk =
-      let r : Reached (start_at id before it.lineage) (record { took = trace.took; taken = sink.taken; host = mid.slices.host }) it.last it.talk
+  undrained : trace.took ≡ mid.slices.trace.took → sink.taken ≡ mid.slices.sink.taken → IsKept before.hosts.slices.trace trace
+      → Cut given before served
+  undrained told sunk kept =
+      let r : Reached (start_at given before it.lineage) (record { took = trace.took; taken = sink.taken; host = mid.slices.host }) it.last it.talk
       = rw (told, sunk) it.stands.reached in record {
-        acts = all_acts id before it.lineage now words listener mid.slices.host sink.taken it.last it.talk it.since r;
-        outs = all_outs id before it.lineage now words listener mid.slices.host sink.taken it.last it.talk it.since r;
+        acts = all_acts given before it.lineage words trace.took mid.slices.host sink.taken it.last it.talk r;
+        outs = all_outs given before it.lineage words trace.took mid.slices.host sink.taken it.last it.talk r;
         at = it.last;
         host = mid.slices.host;
         since = it.since;
-        ran = all_ran id before it.lineage now words listener mid.slices.host sink.taken it.last it.talk it.since r it.ended;
-        lineage = inr (all_begun id before it.lineage now words listener mid.slices.host sink.taken it.last it.talk it.since r it.drawn);
+        ran = all_ran given before it.lineage words trace.took mid.slices.host sink.taken it.last it.talk r;
+        begun = inr (record {
+          opened = record {
+            listening = it.paths.listening;
+            traced = stays ∙ it.paths.traced;
+            took = all_took given before it.lineage words trace.took mid.slices.host sink.taken it.last it.talk r;
+          };
+          lineage = all_begun given before it.lineage words trace.took mid.slices.host sink.taken it.last it.talk r it.drawn;
+          kept = kept;
+        });
+        came = come_in_part before.listener it.since listener it.came;
         sink = r.sink;
         told = subst (λ t. AreToldInPart t it.since) r.talks (all_in_part it.last it.talk it.since it.told);
         files = it.stands.is.files;
@@ -210,8 +228,8 @@ module _ (id : List ℕ) (before : ServeKnown) (monitor : Monitor) (mid : Hosts)
     abbrev last : Machine
     last = drained it.last
 
-    abbrev r : Reached (start_at id before it.lineage) (record { took = trace.took; taken = taken; host = mid.slices.host }) last it.talk
-    r = drained_reached (start_at id before it.lineage) (seen mid.slices) _ it.last it.talk it.stands.reached told refl refl
+    abbrev r : Reached (start_at given before it.lineage) (record { took = trace.took; taken = taken; host = mid.slices.host }) last it.talk
+    r = drained_reached (start_at given before it.lineage) (seen mid.slices) _ it.last it.talk it.stands.reached told refl refl
 
     whole_text : (all : List ℕ) → all ≡ mid.slices.sink.taken ++ last_shown it.last
         → all ≡ before.hosts.slices.sink.taken ++ (shown r.outs ++ closing_line last)
@@ -225,29 +243,44 @@ module _ (id : List ℕ) (before : ServeKnown) (monitor : Monitor) (mid : Hosts)
     told_last : AllTold last (said r.outs) it.since
     told_last = subst (λ t. AllTold last t it.since) r.talks (all_drained it.last it.talk it.since it.told)
 
+    over_last : (listener.coming ≡ []) ⊎ (is_off it.last ≡ true) → (listener.coming ≡ []) ⊎ (is_off last ≡ true)
+    over_last (inl over) = inl over
+    over_last (inr off) = inr (off_drained it.last.guest ∙ off)
+
     files_last : AreFilesOf mid.files last
     files_last = record { saved_is = it.stands.is.files.saved_is; calls_is = it.stands.is.files.calls_is }
 
     abbrev acts : List Act
-    acts = all_acts id before it.lineage now words listener mid.slices.host taken last it.talk it.since r
+    acts = all_acts given before it.lineage words trace.took mid.slices.host taken last it.talk r
 
     abbrev outs : List Out
-    outs = all_outs id before it.lineage now words listener mid.slices.host taken last it.talk it.since r
+    outs = all_outs given before it.lineage words trace.took mid.slices.host taken last it.talk r
 
-    ran : TraceRan id before served mid.slices.host acts outs last it.since
-    ran = all_ran id before it.lineage now words listener mid.slices.host taken last it.talk it.since r it.ended
+    ran : TraceRan given.id before mid.slices.host acts outs last
+    ran = all_ran given before it.lineage words trace.took mid.slices.host taken last it.talk r
+
+    open_now : IsOpen given before served acts
+    open_now = record {
+      listening = it.paths.listening;
+      traced = stays ∙ it.paths.traced;
+      took = all_took given before it.lineage words trace.took mid.slices.host taken last it.talk r;
+    }
 
     begun : HasLineage before.words words acts
-    begun = all_begun id before it.lineage now words listener mid.slices.host taken last it.talk it.since r it.drawn
+    begun = all_begun given before it.lineage words trace.took mid.slices.host taken last it.talk r it.drawn
 
-    drained_all : sink.taken ≡ mid.slices.sink.taken ++ last_shown it.last → ServedAll id before served
-    drained_all sunk = record {
+    drained_all : sink.taken ≡ mid.slices.sink.taken ++ last_shown it.last → trace.kept ≡ trace.took → ServedAll given before served
+    drained_all sunk kept = record {
       acts = acts;
       outs = outs;
       last = last;
       since = it.since;
+      opened = open_now;
       ran = ran;
       lineage = begun;
+      kept = kept;
+      over = over_last it.over;
+      came = it.came;
       sink = whole_text sink.taken sunk;
       drained = console_drained it.last.guest;
       told = told_last;
@@ -255,15 +288,16 @@ module _ (id : List ℕ) (before : ServeKnown) (monitor : Monitor) (mid : Hosts)
     }
 
     -- and no more
-    drained_cut : sink.taken ≡ taken → Cut id before served
-    drained_cut sunk = record {
+    drained_cut : sink.taken ≡ taken → IsKept before.hosts.slices.trace trace → Cut given before served
+    drained_cut sunk kept = record {
       acts = acts;
       outs = outs;
       at = last;
       host = mid.slices.host;
       since = it.since;
       ran = ran;
-      lineage = inr begun;
+      begun = inr (record { opened = open_now; lineage = begun; kept = kept });
+      came = come_in_part before.listener it.since listener it.came;
       sink = sunk ∙ r.sink;
       told = all_in_part last (said r.outs) it.since told_last;
       files = files_last;
@@ -271,15 +305,16 @@ module _ (id : List ℕ) (before : ServeKnown) (monitor : Monitor) (mid : Hosts)
 
     -- and the sink took a front of it
     drained_part : (rest : List ℕ) → sink.taken ++ rest ≡ mid.slices.sink.taken ++ last_shown it.last
-        → ServedPart (Exit.Fault object.Sink) id before served
-    drained_part rest sunk = record {
+        → IsKept before.hosts.slices.trace trace → ServedPart (Exit.Fault object.Sink) given before served
+    drained_part rest sunk kept = record {
       acts = acts;
       outs = outs;
       at = last;
       host = mid.slices.host;
       since = it.since;
       ran = ran;
-      lineage = inr begun;
+      begun = inr (record { opened = open_now; lineage = begun; kept = kept });
+      came = come_in_part before.listener it.since listener it.came;
       rest = rest;
       sink = whole_text (sink.taken ++ rest) sunk;
       lacks = tt;
@@ -288,74 +323,66 @@ module _ (id : List ℕ) (before : ServeKnown) (monitor : Monitor) (mid : Hosts)
     }
 
   pub closed_all : Drained it.last (last_shown it.last) mid.slices.trace.took mid.slices.sink.taken trace.took sink.taken
-      → ServedSoFar Exit.Done id before served
-  closed_all is = drained_all is.told is.shown
+      → trace.kept ≡ trace.took → ServedSoFar Exit.Done given before served
+  closed_all is kept = drained_all is.told is.shown kept
 
   pub closed_by : (o : Object)
       → DrainStops o it.last (last_shown it.last) mid.slices.trace.took mid.slices.sink.taken trace.took sink.taken
-      → ServedSoFar (Exit.Fault o) id before served
-  closed_by object.Trace (inl none) = undrained none.0 none.1
-  closed_by object.Trace (inr is) = drained_cut is.told is.shown
-  closed_by object.Sink is = drained_part is.drained.told is.rest is.drained.shown
-  closed_by object.Source is = absurd is
-  closed_by object.Files is = absurd is
-  closed_by object.Words is = absurd is
-  closed_by object.Listener is = absurd is
+      → IsKept before.hosts.slices.trace trace → ServedSoFar (Exit.Fault o) given before served
+  closed_by object.Trace (inl none) kept = undrained none.0 none.1 kept
+  closed_by object.Trace (inr is) kept = drained_cut is.told is.shown kept
+  closed_by object.Sink is kept = drained_part is.drained.told is.rest is.drained.shown kept
+  closed_by object.Source is kept = absurd is
+  closed_by object.Files is kept = absurd is
+  closed_by object.Words is kept = absurd is
+  closed_by object.Listener is kept = absurd is
 
-pub left_at_end : (exit : Exit) (monitor : Monitor) (id : List ℕ) (before now : ServeKnown) → exit ≡ Exit.Done
-    → LeftBy exit monitor id before now → CameToEnd monitor id before now
-left_at_end exit monitor id before now is left = subst (λ (e : Exit). LeftBy e monitor id before now) is left
+pub left_at_end : (exit : Exit) (monitor : Monitor) (given : ServeWords) (before now : ServeKnown) → exit ≡ Exit.Done
+    → LeftBy exit monitor given before now → CameToEnd monitor given before now
+left_at_end exit monitor given before now is left = subst (λ (e : Exit). LeftBy e monitor given before now) is left
 
--- ---- serving that broke off, whose trace is finished
+-- ---- a trace that is finished, as far as it can be
 
-module _ (id : List ℕ) (before : ServeKnown) (mid : Hosts) (words : WordsKnown) (listener : ListenerKnown) (trace : TraceKnown)
-    (same : trace.took ≡ mid.slices.trace.took) where
-  abbrev old : ServeKnown
-  old = serve_known mid words listener
+pub finished_by : {E : Type 0} (result : Result (Unit {0}) E) (before mid trace : TraceKnown) → Tells mid.health
+    → OnOk result (Tells mid.health → trace.kept ≡ mid.took) → trace.took ≡ mid.took
+    → OnErr result (Rose mid.health.faults trace.health.faults) → before.health.faults ≤ mid.health.faults → IsKept before trace
+finished_by (Ok done) before mid trace tells keeps same failed later = inl (keeps tells ∙ sym same)
+finished_by (Err why) before mid trace tells keeps same failed later =
+    inr (later_rose before.health.faults mid.health.faults trace.health.faults later failed)
 
-  abbrev left_now : ServeKnown
-  left_now = serve_known (hosts (known trace mid.slices.sink mid.slices.host) mid.files) words listener
+pub finished_too : {E : Type 0} (result : Result (Unit {0}) E) (before mid trace : TraceKnown) → Tells mid.health
+    → OnOk result (Tells mid.health → trace.kept ≡ trace.took) → OnErr result (Rose mid.health.faults trace.health.faults)
+    → before.health.faults ≤ mid.health.faults → IsKept before trace
+finished_too (Ok done) before mid trace tells keeps failed later = inl (keeps tells)
+finished_too (Err why) before mid trace tells keeps failed later =
+    inr (later_rose before.health.faults mid.health.faults trace.health.faults later failed)
 
-  cut_still : Cut id before old → Cut id before left_now
-  cut_still it = record {
-    acts = it.acts;
-    outs = it.outs;
-    at = it.at;
-    host = it.host;
-    since = it.since;
-    ran = record { took = same ∙ it.ran.took; run = it.ran.run; asked = it.ran.asked; ended = it.ran.ended };
-    lineage = it.lineage;
-    sink = it.sink;
-    told = it.told;
-    files = it.files;
-  }
+pub later_twice : (i j k : ℕ) → i ≤ j → j ≤ k → i ≤ k
+later_twice i j k first second = omega (arith, first, second)
 
-  part_still : (exit : Exit) → ServedPart exit id before old → ServedPart exit id before left_now
-  part_still exit it = record {
-    acts = it.acts;
-    outs = it.outs;
-    at = it.at;
-    host = it.host;
-    since = it.since;
-    ran = record { took = same ∙ it.ran.took; run = it.ran.run; asked = it.ran.asked; ended = it.ran.ended };
-    lineage = it.lineage;
-    rest = it.rest;
-    sink = it.sink;
-    lacks = it.lacks;
-    told = it.told;
-    files = it.files;
-  }
+-- which took nothing more
+pub stops_finished : (o : Object) (m : Machine) (text : List ℕ) (took : List Item) (taken : List ℕ) (mid told : List Item) (all : List ℕ)
+    → told ≡ mid → DrainStops o m text took taken mid all → DrainStops o m text took taken told all
+stops_finished o m text took taken mid told all same stops =
+    subst (λ (l : List Item). DrainStops o m text took taken l all) (sym same) stops
 
-  pub left_so_far : (exit : Exit) (monitor : Monitor) → (exit ≡ Exit.Done → ⊥) → LeftBy exit monitor id before old
-      → ServedSoFar exit id before left_now
-  left_so_far Exit.Done monitor other left = absurd (other refl)
-  left_so_far Exit.Usage monitor other left = absurd left
-  left_so_far (Exit.Script number) monitor other left = absurd left
-  left_so_far (Exit.Fault object.Source) monitor other left = absurd left
-  left_so_far (Exit.Fault object.Files) monitor other left = absurd left
-  left_so_far (Exit.Fault object.Sink) monitor other left = part_still (Exit.Fault object.Sink) left
-  left_so_far (Exit.Fault object.Trace) monitor other left = cut_still left
-  left_so_far (Exit.Fault object.Listener) monitor other left = cut_still left
-  left_so_far (Exit.Fault object.Words) monitor other left = cut_still left
-  left_so_far (Exit.Torn torn) monitor other left = (left.0, cut_still left.1)
-  left_so_far Exit.OutOfMemory monitor other left = cut_still left
+pub fault_still : (o : Object) (trace mid traced sink sunk : Health) → mid.faults ≤ traced.faults → CloseFault o trace mid sink sunk
+    → CloseFault o trace traced sink sunk
+fault_still object.Trace trace mid traced sink sunk later fault = rose_later trace.faults mid.faults traced.faults fault later
+fault_still object.Sink trace mid traced sink sunk later fault = fault
+fault_still object.Source trace mid traced sink sunk later fault = absurd fault
+fault_still object.Files trace mid traced sink sunk later fault = absurd fault
+fault_still object.Words trace mid traced sink sunk later fault = absurd fault
+fault_still object.Listener trace mid traced sink sunk later fault = absurd fault
+
+-- ---- serving that broke off
+
+pub left_so_far : (given : ServeWords) (before left_at : ServeKnown) (trace : TraceKnown) → IsFinished before left_at trace → (exit : Exit)
+    (monitor : Monitor) → (exit ≡ Exit.Done → ⊥) → LeftBy exit monitor given before left_at
+    → ServedSoFar exit given before (with_trace trace left_at)
+left_so_far given before left_at trace finished Exit.Done monitor other left = absurd (other refl)
+left_so_far given before left_at trace finished Exit.Usage monitor other left = left trace finished
+left_so_far given before left_at trace finished (Exit.Script number) monitor other left = left trace finished
+left_so_far given before left_at trace finished (Exit.Fault o) monitor other left = left trace finished
+left_so_far given before left_at trace finished (Exit.Torn torn) monitor other left = left trace finished
+left_so_far given before left_at trace finished Exit.OutOfMemory monitor other left = left trace finished

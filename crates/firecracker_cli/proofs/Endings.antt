@@ -6,15 +6,17 @@ use Rattle.vm_types.specs.declared.exit.Exit.{Exit}
 use Rattle.vm_types.specs.declared.exit.Object.TheVariants as object
 use Rattle.vm_outside.specs.Known.{Called, SinkKnown}
 use Rattle.vm_outside.specs.Passing.{TakesAll}
+use Rattle.command_line.specs.Commands.{ServeWords}
 use Rattle.serve_host.specs.Drawing.{WordsKnown}
 use Rattle.serve_host.specs.Listening.{ListenerKnown}
 use Rattle.script_output.specs.Output.{last_line}
 use Rattle.flat_machine.specs.Machine.{Machine}
+use Rattle.flat_machine.specs.Run.{Act}
 use Rattle.flat_trace.specs.Showing.{shown}
 use Rattle.monitor_cli.specs.Taking.{IsQuiet}
 use Rattle.monitor_running.specs.Reached.{known}
 use Rattle.monitor_serving.specs.Views.{Hosts, hosts}
-use Rattle.firecracker_cli.specs.Serving.{ServeKnown, ServedAll, ServedBy, ServedPart, SinkLacks, last_text, serve_known}
+use Rattle.firecracker_cli.specs.Serving.{HasBegun, HasNotBegun, ServeKnown, ServedAll, ServedBy, ServedPart, SinkLacks, last_text, serve_known}
 use Rattle.firecracker_cli.specs.SoFar.{Cut, ServedSoFar}
 use Rattle.firecracker_cli.proofs.Rising.{later_rose}
 
@@ -33,16 +35,25 @@ line_taken text old new i mid j (Err why) (n, less, took) rose later = (
   inr (dropped_less n text, later_rose i mid j later rose),
 )
 
-module _ (id : List ℕ) (before : ServeKnown) (mid : Hosts) (words : WordsKnown) (listener : ListenerKnown) (sink : SinkKnown)
+module _ (given : ServeWords) (before : ServeKnown) (mid : Hosts) (words : WordsKnown) (listener : ListenerKnown) (sink : SinkKnown)
     (later : before.hosts.slices.sink.health.faults ≤ mid.slices.sink.health.faults) where
   abbrev now : ServeKnown
   now = serve_known (hosts (known mid.slices.trace sink mid.slices.host) mid.files) words listener
 
+  begun_by : (all : List Act) → HasNotBegun before (serve_known mid words listener) all ⊎ HasBegun given before (serve_known mid words listener) all
+      → HasNotBegun before now all ⊎ HasBegun given before now all
+  begun_by all (inl it) = inl (record { none = it.none; took = it.took })
+  begun_by all (inr it) = inr (record {
+    opened = record { listening = it.opened.listening; traced = it.opened.traced; took = it.opened.took };
+    lineage = it.lineage;
+    kept = it.kept;
+  })
+
   with_line : {E : Type 0} (exit : Exit) (result : Result (Unit {0}) E) → ((at : Machine) → last_text exit at ≡ last_line exit)
       → ((rest : List ℕ) → (rest ≡ []) ⊎ ((length rest ≤ length (last_line exit)) × Rose before.hosts.slices.sink.health.faults sink.health.faults)
       → SinkLacks exit rest before.hosts.slices.sink.health sink.health)
-      → Cut id before (serve_known mid words listener) → TakesAll mid.slices.sink.taken sink.taken result (last_line exit)
-      → Called mid.slices.sink.health sink.health result → ServedPart exit id before now
+      → Cut given before (serve_known mid words listener) → TakesAll mid.slices.sink.taken sink.taken result (last_line exit)
+      → Called mid.slices.sink.health sink.health result → ServedPart exit given before now
   with_line exit result text lacks cut took called =
       let l = line_taken (last_line exit) mid.slices.sink.taken sink.taken before.hosts.slices.sink.health.faults
       mid.slices.sink.health.faults sink.health.faults result took called.failed later in record {
@@ -51,8 +62,9 @@ module _ (id : List ℕ) (before : ServeKnown) (mid : Hosts) (words : WordsKnown
         at = cut.at;
         host = cut.host;
         since = cut.since;
-        ran = record { took = cut.ran.took; run = cut.ran.run; asked = cut.ran.asked; ended = cut.ran.ended };
-        lineage = cut.lineage;
+        ran = cut.ran;
+        begun = begun_by cut.acts cut.begun;
+        came = cut.came;
         rest = l.0;
         sink =
             l.1 ∙ ap (λ (t : List ℕ). t ++ last_line exit) cut.sink
@@ -64,14 +76,14 @@ module _ (id : List ℕ) (before : ServeKnown) (mid : Hosts) (words : WordsKnown
       }
 
   pub ended_by : {E : Type 0} (exit : Exit) (result : Result (Unit {0}) E)
-      → ServedSoFar exit id before (serve_known mid words listener) → (IsQuiet exit → sink ≡ mid.slices.sink)
+      → ServedSoFar exit given before (serve_known mid words listener) → (IsQuiet exit → sink ≡ mid.slices.sink)
       → TakesAll mid.slices.sink.taken sink.taken result (last_line exit) → Called mid.slices.sink.health sink.health result
-      → ServedBy exit id before now
+      → ServedBy exit given before now
   ended_by Exit.Done result so_far quiet took called =
-      subst (λ (k : SinkKnown). ServedAll id before (serve_known (hosts (known mid.slices.trace k mid.slices.host) mid.files) words listener))
+      subst (λ (k : SinkKnown). ServedAll given before (serve_known (hosts (known mid.slices.trace k mid.slices.host) mid.files) words listener))
       (sym (quiet tt)) so_far
   ended_by (Exit.Fault object.Sink) result so_far quiet took called =
-      subst (λ (k : SinkKnown). ServedPart (Exit.Fault object.Sink) id before
+      subst (λ (k : SinkKnown). ServedPart (Exit.Fault object.Sink) given before
       (serve_known (hosts (known mid.slices.trace k mid.slices.host) mid.files) words listener)) (sym (quiet tt)) so_far
   ended_by (Exit.Fault object.Trace) result so_far quiet took called =
       with_line (Exit.Fault object.Trace) result (λ at. refl) (λ rest lacks. lacks) so_far took called

@@ -1,8 +1,9 @@
 -- What the command owes, from serving before its last line.
-use Rattle.std.proofs.Common.{◌≡◌, ℕ, List, Result}
+use Rattle.std.proofs.Common.{◌≡◌, Result}
 use Rattle.vm_types.specs.declared.exit.Exit.{Exit}
 use Rattle.vm_outside.specs.Known.{Called, SinkKnown, Tells}
 use Rattle.vm_outside.specs.Passing.{TakesAll}
+use Rattle.command_line.specs.Commands.{ServeWords}
 use Rattle.serve_host.specs.Drawing.{WordsKnown}
 use Rattle.serve_host.specs.Listening.{ListenerKnown}
 use Rattle.script_output.specs.Output.{last_line}
@@ -15,14 +16,14 @@ use Rattle.firecracker_cli.specs.SoFar.{ServedSoFar}
 use Rattle.firecracker_cli.proofs.Causes.{ends_well, still_told}
 use Rattle.firecracker_cli.proofs.Endings.{ended_by}
 
-pub serves : {E : Type 0} (exit : Exit) (id : List ℕ) (before : ServeKnown) (mid : Hosts) (words : WordsKnown)
+pub serves : {E : Type 0} (exit : Exit) (given : ServeWords) (before : ServeKnown) (mid : Hosts) (words : WordsKnown)
     (listener : ListenerKnown) (sink : SinkKnown) (result : Result (Unit {0}) E)
-    → (ServersTell before → ServedSoFar exit id before (serve_known mid words listener))
+    → (ServersTell before → ServedSoFar exit given before (serve_known mid words listener))
     → ServeCause exit before (serve_known mid words listener) → ServersLast before (serve_known mid words listener)
     → (Tells mid.slices.sink.health → TakesAll mid.slices.sink.taken sink.taken result (last_line exit))
     → (IsQuiet exit → sink ≡ mid.slices.sink) → Called mid.slices.sink.health sink.health result
-    → Serves exit id before (serve_known (hosts (known mid.slices.trace sink mid.slices.host) mid.files) words listener)
-serves exit id before mid words listener sink result so_far told lasts takes quiet called =
+    → Serves exit given before (serve_known (hosts (known mid.slices.trace sink mid.slices.host) mid.files) words listener)
+serves exit given before mid words listener sink result so_far told lasts takes quiet called =
     let last : ServersLast (serve_known mid words listener) (serve_known (hosts (known mid.slices.trace sink mid.slices.host) mid.files) words listener) =
     record {
       hosts = record { trace = lasts_same mid.slices.trace.health; sink = called.lasts; files = lasts_same mid.files.health };
@@ -31,7 +32,7 @@ serves exit id before mid words listener sink result so_far told lasts takes qui
     } in
     let still = still_told exit before _ _ last told in record {
       served = λ tells.
-          ended_by id before mid words listener sink lasts.hosts.sink.later exit result (so_far tells) quiet
+          ended_by given before mid words listener sink lasts.hosts.sink.later exit result (so_far tells) quiet
           (takes (lasts.hosts.sink.still tells.hosts.sink)) called;
       told = still;
       complete = λ none. ends_well exit before _ still none;

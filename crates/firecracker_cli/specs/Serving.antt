@@ -1,6 +1,6 @@
 -- What the command `serve` owes: what the trace took is a run of the flat machine from its start, which shows what the
 -- connections and the sink took.
-use Rattle.std.specs.Prelude.{ℕ, ◌≡◌, ◌≢◌, ◌⊎◌, ◌≤◌, true, List, [], ◌∷◌, ◌++◌, if◌then◌else◌, length}
+use Rattle.std.specs.Prelude.{ℕ, ◌≡◌, ◌≢◌, ◌⊎◌, ◌≤◌, true, List, [], ◌∷◌, ◌++◌, Option, Some, None, if◌then◌else◌, length}
 use Rattle.vm_types.specs.Causes.{Rose}
 use Rattle.vm_types.specs.declared.exit.Exit.{Exit}
 use Rattle.vm_types.specs.declared.exit.Object.TheVariants as object
@@ -11,9 +11,11 @@ use Rattle.vm_host.specs.Storing.{DiskKnown}
 use Rattle.vm_host.specs.Telling.{ClockKnown}
 use Rattle.serve_host.specs.Drawing.{IsDrawn, WordsKnown}
 use Rattle.serve_host.specs.Listening.{Ended, ListenerKnown}
+use Rattle.command_line.specs.Commands.{ServeWords}
 use Rattle.serve_host.specs.Tracing.{TraceKnown}
 use Rattle.stamp_merge.specs.declared.history.History.{History}
 use Rattle.stamp_merge.specs.declared.journal.Journal.{Journal}
+use Rattle.script_text.specs.declared.item.Item.{Item}
 use Rattle.script_text.specs.declared.item.Item.TheVariants as item
 use Rattle.script_output.specs.Output.{last_line, off_line}
 use Rattle.flat_machine.specs.Machine.{AreFilesOf, Machine, console_of, is_off, new_machine}
@@ -21,9 +23,10 @@ use Rattle.flat_machine.specs.Run.{Act}
 use Rattle.flat_trace.specs.Events.{quiet_act}
 use Rattle.flat_trace.specs.Showing.{Out, Run, items_of, said, shown}
 use Rattle.monitor_running.specs.Asked.{HostAnswered, HostKnown}
-use Rattle.monitor_serving.specs.Connections.{AreTold, AreToldInPart, AreToldOff}
+use Rattle.monitor_running.specs.Reached.{NoLineage}
+use Rattle.monitor_serving.specs.Connections.{AreTold, AreToldInPart, AreToldOff, HaveCome, HaveComeInPart}
 use Rattle.monitor_serving.specs.Turns.{IsTorn}
-use Rattle.monitor_serving.specs.Views.{AllLast, AllTell, Hosts, hosts_of}
+use Rattle.monitor_serving.specs.Views.{AllTell, Hosts, hosts_of}
 use Rattle.firecracker_cli.specs.declared.outside.ServeOutside.{ServeOutside}
 
 -- what is known of the host objects that serving is handed
@@ -42,14 +45,20 @@ serve_known_of of_trace of_sink of_clock of_disk of_files of_words of_listener s
     serve_known (hosts_of of_trace of_sink of_clock of_disk of_files with.trace sink with.host files) (of_words with.words)
     (of_listener with.listener)
 
--- those that can fail tell their content; what is said of the words alone holds where they do
+-- the trace, the sink, the files and the listener tell their content; what is said of the words holds where these tell theirs
 pub record ServersTell (known : ServeKnown) : Type 0 where
   pub hosts : AllTell known.hosts
   pub listener : Tells known.listener.health
 
--- and last
+-- the same objects still tell, and no count fell; the path of the trace may have changed
+pub record HostsLast (before now : Hosts) : Type 0 where
+  pub trace : Lasts before.slices.trace.health now.slices.trace.health
+  pub sink : Lasts before.slices.sink.health now.slices.sink.health
+  pub files : Lasts before.files.health now.files.health
+
+-- and so do all
 pub record ServersLast (before now : ServeKnown) : Type 0 where
-  pub hosts : AllLast before.hosts now.hosts
+  pub hosts : HostsLast before.hosts now.hosts
   pub words : Lasts before.words.health now.words.health
   pub listener : Lasts before.listener.health now.listener.health
 
@@ -60,23 +69,37 @@ pub record NoneFailed (before now : ServeKnown) : Type 0 where
   pub words : Rose before.words.health.faults now.words.health.faults → ⊥
   pub listener : Rose before.listener.health.faults now.listener.health.faults → ⊥
 
--- A machine of this id that has not started did these acts, which the trace took, and showed this. The connections that
--- are over since, the newest first, are those on which it was said. The timer was given the clock's answers, and each device
--- its disk's.
-pub record TraceRan (id : List ℕ) (before now : ServeKnown) (host : HostKnown) (acts : List Act) (outs : List Out)
-    (last : Machine) (since : List Ended) : Type 0 where
-  pub took : now.hosts.slices.trace.took ≡ before.hosts.slices.trace.took ++ items_of acts
+-- A machine of this id that has not started did these acts, and showed this. The timer was given the clock's answers, and each
+-- device its disk's.
+pub record TraceRan (id : List ℕ) (before : ServeKnown) (host : HostKnown) (acts : List Act) (outs : List Out) (last : Machine) :
+    Type 0 where
   pub run : Run acts (new_machine id before.hosts.files.saved before.hosts.files.calls) outs last
   pub asked : HostAnswered acts (new_machine id before.hosts.files.saved before.hosts.files.calls) outs last run
       before.hosts.slices.host host
-  pub ended : now.listener.ended ≡ since ++ before.listener.ended
 
--- The first act tells the lineage. Where the words tell, it is the first of those that were left.
+-- The first act gives the lineage, and no other does. If the source of words tells them, it is the next one.
 pub record HasLineage (before now : WordsKnown) (acts : List Act) : Type 0 where
   pub lineage : ℕ
   pub others : List Act
   pub first : acts ≡ quiet_act (item.Lineage lineage) ∷ others
+  pub no_more : NoLineage others
   pub drawn : Tells before.health → IsDrawn before.left lineage now.left
+
+-- the trace is that of the path that the words name, if they name one
+abbrev pub traced_at : Option (List ℕ) → Option (List ℕ) → Option (List ℕ)
+traced_at (Some path) before = Some path
+traced_at None before = before
+
+-- it took nothing before, where the words name it
+abbrev pub took_before : Option (List ℕ) → List Item → List Item
+took_before (Some path) before = []
+took_before None before = before
+
+-- connections are taken and the trace is kept where the words say, and the trace took these acts
+pub record IsOpen (it : ServeWords) (before now : ServeKnown) (acts : List Act) : Type 0 where
+  pub listening : now.listener.path ≡ Some it.socket
+  pub traced : now.hosts.slices.trace.path ≡ traced_at it.trace before.hosts.slices.trace.path
+  pub took : now.hosts.slices.trace.took ≡ took_before it.trace before.hosts.slices.trace.took ++ items_of acts
 
 -- What was said is what the connections gave and took, and each of them was over; but where the guest turned itself off
 -- meanwhile, the last may not have been.
@@ -87,15 +110,20 @@ AllTold last talk since = AreTold talk since ⊎ ((is_off last ≡ true) × AreT
 abbrev pub closing_line : Machine → List ℕ
 closing_line m = if is_off m then off_line else []
 
--- Serving came to its end. All that happened is in the trace, whose first act is the lineage, and all that it shows was taken:
--- nothing that the guest wrote is left.
-pub record ServedAll (id : List ℕ) (before now : ServeKnown) : Type 0 where
+-- Serving came to its end, since no connection is to come or the guest is off. The trace has all that happened, first the lineage,
+-- and all of it is kept. The sink took all that it shows; the console is empty. Every client that came was served in order, and
+-- gave and took what was said.
+pub record ServedAll (it : ServeWords) (before now : ServeKnown) : Type 0 where
   pub acts : List Act
   pub outs : List Out
   pub last : Machine
   pub since : List Ended
-  pub ran : TraceRan id before now now.hosts.slices.host acts outs last since
+  pub opened : IsOpen it before now acts
+  pub ran : TraceRan it.id before now.hosts.slices.host acts outs last
   pub lineage : HasLineage before.words now.words acts
+  pub kept : now.hosts.slices.trace.kept ≡ now.hosts.slices.trace.took
+  pub over : (now.listener.coming ≡ []) ⊎ (is_off last ≡ true)
+  pub came : HaveCome before.listener since now.listener
   pub sink : now.hosts.slices.sink.taken ≡ before.hosts.slices.sink.taken ++ (shown outs ++ closing_line last)
   pub drained : console_of last ≡ []
   pub told : AllTold last (said outs) since
@@ -113,17 +141,33 @@ SinkLacks (Exit.Fault object.Sink) rest before now = Unit {0}
 SinkLacks exit rest before now =
     (rest ≡ []) ⊎ ((length rest ≤ length (last_line exit)) × Rose before.faults now.faults)
 
--- Serving broke off. What the trace took leads to some machine, whose files are there, and its first act is the lineage, if
--- serving came so far. The sink has a front of what it had, what that shows, and the last line. The last connection took a
--- front of its replies, and gave bytes that the trace may lack an end of.
-pub record ServedPart (exit : Exit) (id : List ℕ) (before now : ServeKnown) : Type 0 where
+-- all that the trace took is kept, or a call on it failed since
+abbrev pub IsKept : TraceKnown → TraceKnown → Type 0
+IsKept before now = (now.kept ≡ now.took) ⊎ Rose before.health.faults now.health.faults
+
+-- socket and trace were opened, and then the lineage was told; the trace was finished, unless a call on it failed
+pub record HasBegun (it : ServeWords) (before now : ServeKnown) (acts : List Act) : Type 0 where
+  pub opened : IsOpen it before now acts
+  pub lineage : HasLineage before.words now.words acts
+  pub kept : IsKept before.hosts.slices.trace now.hosts.slices.trace
+
+-- nothing happened: the trace took nothing, and is what it was, or is new
+pub record HasNotBegun (before now : ServeKnown) (acts : List Act) : Type 0 where
+  pub none : acts ≡ []
+  pub took : (now.hosts.slices.trace.took ≡ before.hosts.slices.trace.took) ⊎ (now.hosts.slices.trace.took ≡ [])
+
+-- Serving broke off. What the trace took leads to some machine, whose files are there; if serving came so far, all is open that
+-- the words name, and the first act is the lineage. The sink has a front of what it had, what that shows, and the last line.
+-- The last connection took a front of its replies, and gave bytes that the trace may lack an end of.
+pub record ServedPart (exit : Exit) (it : ServeWords) (before now : ServeKnown) : Type 0 where
   pub acts : List Act
   pub outs : List Out
   pub at : Machine
   pub host : HostKnown
   pub since : List Ended
-  pub ran : TraceRan id before now host acts outs at since
-  pub lineage : (acts ≡ []) ⊎ HasLineage before.words now.words acts
+  pub ran : TraceRan it.id before host acts outs at
+  pub begun : HasNotBegun before now acts ⊎ HasBegun it before now acts
+  pub came : HaveComeInPart before.listener since now.listener
   pub rest : List ℕ
   pub sink : now.hosts.slices.sink.taken ++ rest ≡ before.hosts.slices.sink.taken ++ (shown outs ++ last_text exit at)
   pub lacks : SinkLacks exit rest before.hosts.slices.sink.health now.hosts.slices.sink.health
@@ -142,14 +186,14 @@ pub record HasParted (torn : Torn) : Type 0 where
   pub histories : List History
   pub slice : IsTorn torn journals histories
 
-abbrev pub ServedBy : Exit → List ℕ → ServeKnown → ServeKnown → Type 0
-ServedBy Exit.Done id before now = ServedAll id before now
-ServedBy Exit.Usage id before now = ⊥
-ServedBy (Exit.Script line) id before now = ⊥
-ServedBy (Exit.Fault object.Source) id before now = ⊥
-ServedBy (Exit.Fault object.Files) id before now = ⊥
-ServedBy (Exit.Torn torn) id before now = HasParted torn × ServedPart (Exit.Torn torn) id before now
-ServedBy exit id before now = ServedPart exit id before now
+abbrev pub ServedBy : Exit → ServeWords → ServeKnown → ServeKnown → Type 0
+ServedBy Exit.Done it before now = ServedAll it before now
+ServedBy Exit.Usage it before now = ⊥
+ServedBy (Exit.Script line) it before now = ⊥
+ServedBy (Exit.Fault object.Source) it before now = ⊥
+ServedBy (Exit.Fault object.Files) it before now = ⊥
+ServedBy (Exit.Torn torn) it before now = HasParted torn × ServedPart (Exit.Torn torn) it before now
+ServedBy exit it before now = ServedPart exit it before now
 
 -- a fault that is named rose in this call
 abbrev pub ServeCause : Exit → ServeKnown → ServeKnown → Type 0
@@ -174,10 +218,10 @@ EndsWell exit = ⊥
 -- What the command owes, from what was known of the host objects to what is known now.
 -- served: trace fidelity, where the objects tell their content.
 -- told: a fault is named only where that object's count rose in this call.
--- complete: where no count rose, it ends as connections do, or for want of memory, or with a torn slice.
+-- complete: where no count rose, it ends with Done, for want of memory, or with a torn slice.
 -- lasts: what told its content still does, and no count has fallen.
-pub record Serves (exit : Exit) (id : List ℕ) (before now : ServeKnown) : Type 0 where
-  pub served : ServersTell before → ServedBy exit id before now
+pub record Serves (exit : Exit) (it : ServeWords) (before now : ServeKnown) : Type 0 where
+  pub served : ServersTell before → ServedBy exit it before now
   pub told : ServeCause exit before now
   pub complete : NoneFailed before now → EndsWell exit
   pub lasts : ServersLast before now

@@ -1,5 +1,5 @@
 -- Serving before its last line, and its beginning.
-use Rattle.std.specs.Prelude.{ℕ, ◌≡◌, ◌⊎◌, List, [], ◌∷◌, ◌++◌}
+use Rattle.std.specs.Prelude.{ℕ, ◌≡◌, ◌⊎◌, true, List, [], ◌∷◌, ◌++◌, Some}
 use Rattle.vm_types.specs.Causes.{Rose}
 use Rattle.vm_types.specs.declared.exit.Exit.{Exit}
 use Rattle.vm_types.specs.declared.exit.Object.{Object}
@@ -8,71 +8,96 @@ use Rattle.monitor_running.specs.Asked.{HostKnown}
 use Rattle.vm_outside.specs.Known.{FilesKnown, Health, Tells}
 use Rattle.serve_host.specs.Drawing.{IsDrawn, WordsKnown}
 use Rattle.serve_host.specs.Listening.{Ended}
+use Rattle.serve_host.specs.Tracing.{TraceKnown}
 use Rattle.script_text.specs.declared.item.Item.{Item}
 use Rattle.script_text.specs.declared.item.Item.TheVariants as item
-use Rattle.flat_machine.specs.Machine.{AreFilesOf, Machine, new_machine}
+use Rattle.command_line.specs.Commands.{ServeWords}
+use Rattle.flat_machine.specs.Machine.{AreFilesOf, Machine, is_off, new_machine}
 use Rattle.flat_machine.specs.Run.{Act}
 use Rattle.flat_trace.specs.Showing.{Out, said, shown}
 use Rattle.monitor_core.specs.declared.monitor.Monitor.{Monitor}
 use Rattle.monitor_core.specs.State.{IsMonitor}
-use Rattle.monitor_running.specs.Reached.{Start, seen}
-use Rattle.monitor_serving.specs.Connections.{AreToldInPart}
-use Rattle.monitor_serving.specs.Views.{Stands}
+use Rattle.monitor_running.specs.Reached.{Start, known, seen}
+use Rattle.monitor_serving.specs.Connections.{AreToldInPart, HaveCome, HaveComeInPart}
+use Rattle.monitor_serving.specs.Views.{Stands, hosts}
 use Rattle.monitor_serving.specs.declared.served.Served.{Served}
 use Rattle.monitor_serving.specs.declared.served.Served.TheVariants as served
-use Rattle.firecracker_cli.specs.Serving.{AllTold, HasLineage, HasParted, ServeKnown, ServedAll, ServedPart, TraceRan}
+use Rattle.firecracker_cli.specs.Serving.{AllTold, HasBegun, HasNotBegun, HasParted, IsKept, ServeKnown, ServedAll, ServedPart, TraceRan, serve_known, took_before, traced_at}
 
 -- the machine has this lineage
 abbrev pub with_lineage : ℕ → Machine → Machine
 with_lineage lineage m = record m { ids = record m.ids { lineage = lineage } }
 
--- where everything is once the lineage is drawn: the trace has its item, and a machine of this id that has not started has it
-abbrev pub start_at : List ℕ → ServeKnown → ℕ → Start
-start_at id before lineage = record {
-  seen = record (seen before.hosts.slices) { took = before.hosts.slices.trace.took ++ item.Lineage lineage ∷ [] };
-  flat = with_lineage lineage (new_machine id before.hosts.files.saved before.hosts.files.calls);
+-- where everything is once the lineage is drawn: the trace has its item, and a machine of this id that has not started, and so has no
+-- disk, has it
+abbrev pub start_at : ServeWords → ServeKnown → ℕ → Start
+start_at it before lineage = record {
+  seen = record (seen before.hosts.slices) {
+    took = took_before it.trace before.hosts.slices.trace.took ++ item.Lineage lineage ∷ [];
+  };
+  attached = true;
+  flat = with_lineage lineage (new_machine it.id before.hosts.files.saved before.hosts.files.calls);
   talk = [];
 }
 
+-- connections are taken and the trace is kept where the words say
+pub record AtPaths (it : ServeWords) (before now : ServeKnown) : Type 0 where
+  pub listening : now.listener.path ≡ Some it.socket
+  pub traced : now.hosts.slices.trace.path ≡ traced_at it.trace before.hosts.slices.trace.path
+
 -- Serving came to its end, behind the lineage. What the console holds is not drained yet.
-pub record CameToEnd (monitor : Monitor) (id : List ℕ) (before now : ServeKnown) : Type 0 where
+pub record CameToEnd (monitor : Monitor) (it : ServeWords) (before now : ServeKnown) : Type 0 where
+  pub paths : AtPaths it before now
   pub lineage : ℕ
   pub drawn : Tells before.words.health → IsDrawn before.words.left lineage now.words.left
   pub last : Machine
   pub talk : List Out
   pub since : List Ended
-  pub stands : Stands (start_at id before lineage) monitor now.hosts last talk
-  pub ended : now.listener.ended ≡ since ++ before.listener.ended
+  pub stands : Stands (start_at it before lineage) monitor now.hosts last talk
+  pub over : (now.listener.coming ≡ []) ⊎ (is_off last ≡ true)
+  pub came : HaveCome before.listener since now.listener
   pub told : AllTold last talk since
 
 -- serving broke off, not by the sink, and its last line is not yet written
-pub record Cut (id : List ℕ) (before now : ServeKnown) : Type 0 where
+pub record Cut (it : ServeWords) (before now : ServeKnown) : Type 0 where
   pub acts : List Act
   pub outs : List Out
   pub at : Machine
   pub host : HostKnown
   pub since : List Ended
-  pub ran : TraceRan id before now host acts outs at since
-  pub lineage : (acts ≡ []) ⊎ HasLineage before.words now.words acts
+  pub ran : TraceRan it.id before host acts outs at
+  pub begun : HasNotBegun before now acts ⊎ HasBegun it before now acts
+  pub came : HaveComeInPart before.listener since now.listener
   pub sink : now.hosts.slices.sink.taken ≡ before.hosts.slices.sink.taken ++ shown outs
   pub told : AreToldInPart (said outs) since
   pub files : AreFilesOf now.hosts.files at
 
 -- a sink that failed is told nothing more
-abbrev pub ServedSoFar : Exit → List ℕ → ServeKnown → ServeKnown → Type 0
-ServedSoFar Exit.Done id before now = ServedAll id before now
-ServedSoFar Exit.Usage id before now = ⊥
-ServedSoFar (Exit.Script line) id before now = ⊥
-ServedSoFar (Exit.Fault object.Source) id before now = ⊥
-ServedSoFar (Exit.Fault object.Files) id before now = ⊥
-ServedSoFar (Exit.Fault object.Sink) id before now = ServedPart (Exit.Fault object.Sink) id before now
-ServedSoFar (Exit.Torn torn) id before now = HasParted torn × Cut id before now
-ServedSoFar exit id before now = Cut id before now
+abbrev pub ServedSoFar : Exit → ServeWords → ServeKnown → ServeKnown → Type 0
+ServedSoFar Exit.Done it before now = ServedAll it before now
+ServedSoFar Exit.Usage it before now = ⊥
+ServedSoFar (Exit.Script line) it before now = ⊥
+ServedSoFar (Exit.Fault object.Source) it before now = ⊥
+ServedSoFar (Exit.Fault object.Files) it before now = ⊥
+ServedSoFar (Exit.Fault object.Sink) it before now = ServedPart (Exit.Fault object.Sink) it before now
+ServedSoFar (Exit.Torn torn) it before now = HasParted torn × Cut it before now
+ServedSoFar exit it before now = Cut it before now
 
--- the same before what is told last, where serving came to its end
-abbrev pub LeftBy : Exit → Monitor → List ℕ → ServeKnown → ServeKnown → Type 0
-LeftBy Exit.Done monitor id before now = CameToEnd monitor id before now
-LeftBy exit monitor id before now = ServedSoFar exit id before now
+-- a trace that took nothing more was finished, unless a call on it failed
+pub record IsFinished (before now : ServeKnown) (trace : TraceKnown) : Type 0 where
+  pub path : trace.path ≡ now.hosts.slices.trace.path
+  pub took : trace.took ≡ now.hosts.slices.trace.took
+  pub kept : IsKept before.hosts.slices.trace trace
+
+abbrev pub with_trace : TraceKnown → ServeKnown → ServeKnown
+with_trace trace now =
+    serve_known (hosts (known trace now.hosts.slices.sink now.hosts.slices.host) now.hosts.files) now.words now.listener
+
+-- the same before what is told last, where serving came to its end, and before the trace is finished, where it broke off
+abbrev pub LeftBy : Exit → Monitor → ServeWords → ServeKnown → ServeKnown → Type 0
+LeftBy Exit.Done monitor it before now = CameToEnd monitor it before now
+LeftBy exit monitor it before now =
+    (trace : TraceKnown) → IsFinished before now trace → ServedSoFar exit it before (with_trace trace now)
 
 -- A lineage was drawn, and then is in the trace, and then the machine's. Where the words tell, it is the first of them.
 pub record TakesLineage (left : WordsKnown) (old : List Item) (before : Monitor) (rest : WordsKnown) (new : List Item)

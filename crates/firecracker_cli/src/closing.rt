@@ -1,9 +1,11 @@
 // The end of serving: what the trace and the sink are told last.
-ghost use Rattle.std.specs.Prelude.{ℕ, IfErr, List};
+ghost use Rattle.std.specs.Prelude.{◌≡◌, ◌≤◌, IfErr, OnOk};
 ghost use Rattle.vm_outside.specs.Known.{Called, FilesKnown, Lasts, Tells};
 ghost use Rattle.vm_outside.specs.Passing.{TakesAll};
 ghost use Rattle.serve_host.specs.Drawing.{WordsKnown};
 ghost use Rattle.serve_host.specs.Listening.{ListenerKnown};
+ghost use Rattle.serve_host.specs.Tracing.{TraceStays};
+ghost use Rattle.command_line.specs.Commands.{ServeWords};
 ghost use Rattle.flat_machine.specs.Machine.{Machine, console_of};
 ghost use Rattle.monitor_core.specs.State.{IsMonitor};
 ghost use Rattle.monitor_running.specs.Asked.{HostKnown};
@@ -32,6 +34,7 @@ fn drain_rest<T: Trace, K: Sink>(
     ensures cause { IfErr result (λ object. CloseFault object
         (T.known trace.old).health (T.known trace.new).health (K.known sink.old).health (K.known sink.new).health) }
     ensures trace_lasts { Lasts (T.known trace.old).health (T.known trace.new).health }
+    ensures trace_stays { TraceStays (T.known trace.old) (T.known trace.new) }
     ensures sink_lasts { Lasts (K.known sink.old).health (K.known sink.new).health }
 {
     if monitor.console().is_empty() {
@@ -59,8 +62,19 @@ fn write_off<K: Sink>(monitor: &Monitor, sink: &mut K) -> Result<(), Failed>
     Ok(())
 }
 
+// Puts all that the trace took where it is kept.
+fn finish_trace<T: Trace>(trace: &mut T) -> Result<(), Failed>
+    ensures keeps { OnOk result (Tells (T.known trace.old).health → (T.known trace.new).kept ≡ (T.known trace.new).took) }
+    ensures same { Tells (T.known trace.old).health → (T.known trace.new).took ≡ (T.known trace.old).took }
+    ensures stays { TraceStays (T.known trace.old) (T.known trace.new) }
+    ensures called { Called (T.known trace.old).health (T.known trace.new).health result }
+{
+    trace.finish()
+}
+
 // All that is left to be told where serving came to its end. The trace is finished before the last line is there.
 fn tell_end<T: Trace, K: Sink>(monitor: &Monitor, trace: &mut T, sink: &mut K) -> Result<(), Object>
+    ensures keeps { OnOk result (Tells (T.known trace.old).health → (T.known trace.new).kept ≡ (T.known trace.new).took) }
     ensures drains { Tells (T.known trace.old).health → Tells (K.known sink.old).health →
         (known : FilesKnown) (m : Machine) → IsMonitor monitor.now known m →
         Drains result m (last_shown m) (T.known trace.old).took (K.known sink.old).taken
@@ -68,12 +82,13 @@ fn tell_end<T: Trace, K: Sink>(monitor: &Monitor, trace: &mut T, sink: &mut K) -
     ensures cause { IfErr result (λ object. CloseFault object
         (T.known trace.old).health (T.known trace.new).health (K.known sink.old).health (K.known sink.new).health) }
     ensures trace_lasts { Lasts (T.known trace.old).health (T.known trace.new).health }
+    ensures trace_stays { TraceStays (T.known trace.old) (T.known trace.new) }
     ensures sink_lasts { Lasts (K.known sink.old).health (K.known sink.new).health }
 {
     if let Err(object) = drain_rest(monitor, trace, sink) {
         return Err(object);
     }
-    let Ok(()) = trace.finish() else {
+    let Ok(()) = finish_trace(trace) else {
         return Err(Object::Trace);
     };
     let Ok(()) = write_off(monitor, sink) else {
@@ -83,24 +98,29 @@ fn tell_end<T: Trace, K: Sink>(monitor: &Monitor, trace: &mut T, sink: &mut K) -
 }
 
 /// Where serving came to its end, drains the console, finishes the trace, and tells the sink that the guest is off, if it is.
-/// Where serving broke off, the trace is finished as far as it can be. How the command ends then.
+/// Where serving broke off, or that can't be told, the trace is finished as far as it can be. How the command ends then.
 pub fn close<T: Trace, K: Sink>(exit: Exit, monitor: &Monitor, trace: &mut T, sink: &mut K) -> Exit
     ensures so_far { Tells (T.known trace.old).health → Tells (K.known sink.old).health →
-        (id : List ℕ) (before : ServeKnown) (host : HostKnown) (files : FilesKnown) (words : WordsKnown)
+        (it : ServeWords) (before : ServeKnown) (host : HostKnown) (files : FilesKnown) (words : WordsKnown)
         (listener : ListenerKnown) →
-        LeftBy exit monitor.now id before
+        before.hosts.slices.trace.health.faults ≤ (T.known trace.old).health.faults →
+        LeftBy exit monitor.now it before
         (serve_known (hosts (known (T.known trace.old) (K.known sink.old) host) files) words listener) →
-        ServedSoFar result id before
+        ServedSoFar result it before
         (serve_known (hosts (known (T.known trace.new) (K.known sink.new) host) files) words listener) }
     ensures cause { EndsOr exit result
         (T.known trace.old).health (T.known trace.new).health (K.known sink.old).health (K.known sink.new).health }
     ensures trace_lasts { Lasts (T.known trace.old).health (T.known trace.new).health }
+    ensures trace_stays { TraceStays (T.known trace.old) (T.known trace.new) }
     ensures sink_lasts { Lasts (K.known sink.old).health (K.known sink.new).health }
 {
     match exit {
         Exit::Done => match tell_end(monitor, trace, sink) {
             Ok(()) => Exit::Done,
-            Err(object) => Exit::Fault(object),
+            Err(object) => {
+                let _ = finish_trace(trace);
+                Exit::Fault(object)
+            }
         },
         other => {
             let _ = trace.finish();

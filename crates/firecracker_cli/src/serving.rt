@@ -1,9 +1,12 @@
 // The command `serve`.
-ghost use Rattle.std.specs.Prelude.{◌≡◌, ℕ, IfErr, List, OnErr, OnOk};
+ghost use Rattle.std.specs.Prelude.{◌≡◌, IfErr, OnErr, OnOk, Some};
 ghost use Rattle.vm_outside.specs.Known.{FilesKnown, Health, Lasts, Tells};
+ghost use Rattle.serve_host.specs.Listening.{SameConnections};
+ghost use Rattle.serve_host.specs.Tracing.{TraceStays};
+ghost use Rattle.command_line.specs.Said.{words_said};
 ghost use Rattle.flat_machine.specs.Machine.{new_machine};
 ghost use Rattle.monitor_core.specs.State.{IsMonitor};
-ghost use Rattle.firecracker_cli.specs.Serving.{ServeCause, Serves, ServersLast, ServersTell, serve_known_of};
+ghost use Rattle.firecracker_cli.specs.Serving.{ServeCause, Serves, ServersLast, ServersTell, serve_known_of, took_before, traced_at};
 ghost use Rattle.firecracker_cli.specs.SoFar.{BeginCause, ServedSoFar, TakesLineage, exit_of};
 
 use crate::closing::close;
@@ -27,9 +30,14 @@ fn open<N: Conn, M: Listener<N>, T: Trace>(
     listener: &mut M,
     trace: &mut T,
 ) -> Result<(), Object>
-    ensures took { Tells (T.known trace.old).health → (T.known trace.new).took ≡ (T.known trace.old).took }
-    ensures ended { Tells (M.known listener.old).health →
-        (M.known listener.new).ended ≡ (M.known listener.old).ended }
+    ensures took { OnErr result (Tells (T.known trace.old).health → (T.known trace.new).took ≡ (T.known trace.old).took) }
+    ensures same { Tells (M.known listener.old).health → SameConnections (M.known listener.old) (M.known listener.new) }
+    ensures listens { OnOk result (Tells (M.known listener.old).health →
+        (M.known listener.new).path ≡ Some (words_said words.entry).socket) }
+    ensures opens { OnOk result (Tells (T.known trace.old).health →
+        (T.known trace.new).path ≡ traced_at (words_said words.entry).trace (T.known trace.old).path) }
+    ensures empties { OnOk result (Tells (T.known trace.old).health →
+        (T.known trace.new).took ≡ took_before (words_said words.entry).trace (T.known trace.old).took) }
     ensures unopened { IfErr result (λ object. object ≡ Object.Listener → trace.new ≡ trace.old) }
     ensures cause { IfErr result (λ object. (words : Health) → BeginCause object
         (T.known trace.old).health (T.known trace.new).health words words
@@ -63,6 +71,7 @@ fn draw_lineage<W: Words, T: Trace>(
         (T.known trace.old).health (T.known trace.new).health
         (W.known words.old).health (W.known words.new).health listener listener) }
     ensures trace_lasts { Lasts (T.known trace.old).health (T.known trace.new).health }
+    ensures trace_stays { TraceStays (T.known trace.old) (T.known trace.new) }
     ensures words_last { Lasts (W.known words.old).health (W.known words.new).health }
 {
     let Ok(lineage) = words.next() else {
@@ -110,8 +119,8 @@ fn serve_on<
 ) -> Exit
     ensures so_far { ServersTell
         (serve_known_of T.known K.known C.known D.known F.known W.known M.known sink.old files.old with.old) →
-        (id : List ℕ) → ((known : FilesKnown) → IsMonitor monitor known (new_machine id known.saved known.calls)) →
-        ServedSoFar result id
+        ((known : FilesKnown) → IsMonitor monitor known (new_machine (words_said words.entry).id known.saved known.calls)) →
+        ServedSoFar result (words_said words.entry)
         (serve_known_of T.known K.known C.known D.known F.known W.known M.known sink.old files.old with.old)
         (serve_known_of T.known K.known C.known D.known F.known W.known M.known sink.new files.new with.new) }
     ensures told { ServeCause result
@@ -163,7 +172,7 @@ fn run_serve<
 ) -> Exit
     ensures so_far { ServersTell
         (serve_known_of T.known K.known C.known D.known F.known W.known M.known sink.old files.old with.old) →
-        ServedSoFar result words.entry.id.now
+        ServedSoFar result (words_said words.entry)
         (serve_known_of T.known K.known C.known D.known F.known W.known M.known sink.old files.old with.old)
         (serve_known_of T.known K.known C.known D.known F.known W.known M.known sink.new files.new with.new) }
     ensures told { ServeCause result
@@ -207,7 +216,7 @@ pub fn serve_main<
     sink: &mut K,
     with: &mut ServeOutside<D, C, W, M, T>,
 ) -> Exit
-    ensures { Serves result words.entry.id.now
+    ensures { Serves result (words_said words.entry)
         (serve_known_of T.known K.known C.known D.known F.known W.known M.known sink.old files.old with.old)
         (serve_known_of T.known K.known C.known D.known F.known W.known M.known sink.new files.new with.new) }
 {

@@ -52,7 +52,7 @@ pub fn firecracker_main<
         (all_known (I.known out.old.source) (O.known out.old.sink) (F.known out.old.files))
         (all_known (I.known out.new.source) (O.known out.new.sink) (F.known out.new.files))) }
     ensures serve { IfOk words (λ words. (it : ServeWords) → serve_words (map string_bytes words.items) ≡ Some it →
-        Serves result it.id
+        Serves result it
         (serve_known_of T.known O.known C.known D.known F.known W.known M.known out.old.sink out.old.files with.old)
         (serve_known_of T.known O.known C.known D.known F.known W.known M.known out.new.sink out.new.files with.new)) }
     ensures generate { IfOk words (λ words. (number : ℕ) → generate_number (map string_bytes words.items) ≡ Some number →

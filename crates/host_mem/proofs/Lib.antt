@@ -1,3 +1,4 @@
 pub mod Giving
+pub mod Naming
 pub mod Steps
 pub mod Wires

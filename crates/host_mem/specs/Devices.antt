@@ -1,8 +1,11 @@
 -- What there is for each device, in a list from number 0 on.
 use Rattle.std.specs.Prelude.{ℕ, List, [], map, get_or}
+use Rattle.vm_host.specs.declared.attached.Attached.{Attached}
+use Rattle.vm_host.specs.declared.attached.Attached.TheVariants as attached
 use Rattle.vm_host.specs.Framing.{Wire}
 use Rattle.host_mem.specs.declared.frame.Frame.{Frame}
 use Rattle.host_mem.specs.declared.memory_wire.MemoryWire.{MemoryWire}
+use Rattle.host_mem.specs.declared.names.Names.{Names}
 
 -- a device without a disk has an empty one
 abbrev pub disk_in : List (List ℕ) → ℕ → List ℕ
@@ -25,3 +28,10 @@ no_wire = record { coming = []; taken = []; sent = []; begun = [] }
 -- a device without a wire has one on which nothing comes
 abbrev pub wire_in : List MemoryWire → ℕ → Wire
 wire_in wires device = get_or (map wire_of wires) device no_wire
+
+-- the host's object that each device has
+abbrev pub names_in : List Attached → ℕ → Attached
+names_in each device = get_or each device attached.Nothing
+
+abbrev pub names_of : Names → ℕ → Attached
+names_of names = names_in names.each

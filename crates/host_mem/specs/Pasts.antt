@@ -1,9 +1,17 @@
--- What passed on connections in memory.
-use Rattle.std.specs.Prelude.{ℕ, true, List, [], ◌∷◌, take, drop}
+-- What connections in memory are to give, and what passed on them.
+use Rattle.std.specs.Prelude.{ℕ, true, List, [], ◌∷◌, map, take, drop}
 use Rattle.serve_host.specs.Listening.{Ended, ended_of}
 use Rattle.serve_host.specs.Passing.{ConnKnown}
+use Rattle.host_mem.specs.declared.memory_conn.MemoryCaller.{MemoryCaller}
 use Rattle.host_mem.specs.declared.passed.Passed.{Passed}
 use Rattle.host_mem.specs.declared.past.Past.{Past, Nothing, Conn'}
+
+abbrev pub bytes_of : MemoryCaller → List ℕ
+bytes_of caller = caller.bytes.items
+
+-- what each of those that are to come will give
+abbrev pub coming_in : List MemoryCaller → List (List ℕ)
+coming_in callers = map bytes_of callers
 
 abbrev pub gave_of : Passed → List ℕ
 gave_of passed = take passed.at passed.bytes.items

@@ -16,6 +16,7 @@ mod memory_trace;
 mod memory_vsock;
 mod memory_wire;
 mod memory_words;
+mod names;
 mod numbers;
 mod passed;
 mod past;

@@ -35,7 +35,15 @@ pub struct MemoryConn {
 
 impl MemoryConn {
     pub fn new(alloc: Global, caller: MemoryCaller) -> Result<MemoryConn, AllocError>
-        ensures { IfOk result (λ conn. IsFresh (⟦<MemoryConn as Conn>⟧.known conn)) }
+        ensures { IfOk result (λ conn. IsFresh (⟦<MemoryConn as Conn>⟧.known conn) caller.bytes.items) }
+    {
+        let room = Box::new(alloc, Past::Nothing)?;
+        Ok(MemoryConn::with_room(alloc, caller, room))
+    }
+
+    // One that is kept in this room when it is over.
+    pub(crate) fn with_room(alloc: Global, caller: MemoryCaller, room: Box<Past>) -> MemoryConn
+        ensures { IsFresh (⟦<MemoryConn as Conn>⟧.known result) caller.bytes.items }
     {
         let MemoryCaller {
             bytes,
@@ -43,7 +51,7 @@ impl MemoryConn {
             most,
             failing,
         } = caller;
-        Ok(MemoryConn {
+        MemoryConn {
             passed: Passed {
                 bytes,
                 at: 0,
@@ -53,8 +61,8 @@ impl MemoryConn {
             reads: 0,
             most,
             failing: Failing::new(failing),
-            room: Box::new(alloc, Past::Nothing)?,
-        })
+            room,
+        }
     }
 
     /// What passed so far.

@@ -1,13 +1,16 @@
 // Disks in memory.
-ghost use Rattle.std.specs.Prelude.{◌≡◌, true, IfSome, IsFalse, IsTrue};
+ghost use Rattle.std.specs.Prelude.{◌≡◌, [], true, IfSome, IsFalse, IsTrue};
 ghost use Rattle.host_mem.specs.Devices.{disk_in};
+ghost use Rattle.vm_host.specs.declared.attached.Attached.TheVariants as attached;
 ghost use Rattle.vm_host.specs.Devices.{ChangesAt};
 ghost use Rattle.vm_host.specs.Storing.{IsPart, WritesPart, place_of};
 
+use crate::names::Names;
 use outside_mem::{Failing, read_bytes};
-use vm_host::Disk;
+use std::alloc::Global;
+use vm_host::{Attached, Disk, DiskCall};
 use vm_outside::Failed;
-use vm_types::ByteList;
+use vm_types::{ByteList, Piece};
 
 // Bytes of a sector and of a part of it.
 const SECTOR: usize = 512;
@@ -15,19 +18,45 @@ const SECTOR: usize = 512;
 const PART: usize = 64;
 
 /// Disks of the devices from number 0 on, which grow where they are written past their end. A call on a device without
-/// a disk is a failure, and that there is no memory too. A failed call changes nothing.
+/// a disk is a failure, and that there is no memory too. A failed call changes nothing, and isn't among those that were made.
 #[derive(Drop)]
 pub struct MemoryDisk {
     disks: Vec<ByteList>,
+    files: Names,
+    calls: Vec<DiskCall>,
     failing: Failing,
 }
 
 impl MemoryDisk {
-    pub fn new(disks: Vec<ByteList>, failing: Failing) -> MemoryDisk
-        ensures { ⟦<MemoryDisk as Disk>⟧.known result ≡
-            record { health = record { tells = true; faults = failing }; held = disk_in disks.items } }
+    /// No file is attached so far.
+    pub fn new(alloc: Global, disks: Vec<ByteList>, failing: Failing) -> MemoryDisk
+        ensures { ⟦<MemoryDisk as Disk>⟧.known result ≡ record {
+          health = record { tells = true; faults = failing };
+          files = λ _. attached.Nothing;
+          held = disk_in disks.items;
+          calls = [];
+        } }
     {
-        MemoryDisk { disks, failing }
+        MemoryDisk {
+            disks,
+            files: Names::new(alloc),
+            calls: Vec::new(alloc),
+            failing,
+        }
+    }
+
+    /// The file that the device's disk is.
+    pub fn file(&self, device: u8) -> &Attached
+        ensures { result.now ≡ (⟦<MemoryDisk as Disk>⟧.known self.now).files device }
+    {
+        self.files.at(device)
+    }
+
+    /// The writes and flushes that were made, the oldest first.
+    pub fn calls(&self) -> &[DiskCall]
+        ensures { result.now ≡ (⟦<MemoryDisk as Disk>⟧.known self.now).calls }
+    {
+        &self.calls
     }
 
     /// How many calls have failed.
@@ -40,12 +69,19 @@ impl MemoryDisk {
 
 impl Disk for MemoryDisk {
     ghost use Rattle.std.specs.Prelude.{true};
-    ghost use Rattle.host_mem.specs.Devices.{disk_in};
+    ghost use Rattle.host_mem.specs.Devices.{disk_in, names_of};
 
-    ghost known = { λ d. record { health = record { tells = true; faults = d.failing }; held = disk_in d.disks.items } };
+    ghost known = { λ d. record {
+      health = record { tells = true; faults = d.failing };
+      files = names_of d.files;
+      held = disk_in d.disks.items;
+      calls = d.calls.items;
+    } };
 
-    /// The disks stay those that there are.
-    fn attach(&mut self, device: u8, name: &str) {}
+    /// The disks hold what they held.
+    fn attach(&mut self, device: u8, name: &str) {
+        self.files.attach(device, name);
+    }
 
     fn read(&mut self, device: u8, sector: u64, part: u8) -> Result<[u8; 64], Failed> {
         if self.failing.fails() {
@@ -63,10 +99,18 @@ impl Disk for MemoryDisk {
         if self.failing.fails() {
             return Err(Failed);
         }
-        if !write_part(&mut self.disks, device as usize, sector, part, bytes) {
+        if self.calls.reserve(1).is_err()
+            || !write_part(&mut self.disks, device as usize, sector, part, bytes)
+        {
             self.failing.count();
             return Err(Failed);
         }
+        self.calls.push_reserved(DiskCall::Wrote {
+            device,
+            sector,
+            part,
+            piece: Piece::from_slice(bytes),
+        });
         Ok(())
     }
 
@@ -74,6 +118,10 @@ impl Disk for MemoryDisk {
 
     fn flush(&mut self, device: u8) -> Result<(), Failed> {
         if self.failing.fails() {
+            return Err(Failed);
+        }
+        if self.calls.push(DiskCall::Flushed { device }).is_err() {
+            self.failing.count();
             return Err(Failed);
         }
         Ok(())

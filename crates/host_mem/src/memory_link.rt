@@ -1,13 +1,15 @@
 // Links in memory.
 ghost use Rattle.std.specs.Prelude.{◌≡◌, true, IfSome, MatchOption, OnOk, OnErr};
 ghost use Rattle.host_mem.specs.Devices.{wire_in};
+ghost use Rattle.vm_host.specs.declared.attached.Attached.TheVariants as attached;
 ghost use Rattle.vm_host.specs.Devices.{ChangesAt};
 ghost use Rattle.vm_host.specs.Framing.{AreFrameLengths, Drops, SendsFrame, SendsPart, Takes};
 
 use crate::memory_wire::MemoryWire;
+use crate::names::Names;
 use outside_mem::Failing;
-use std::alloc::AllocError;
-use vm_host::Link;
+use std::alloc::{AllocError, Global};
+use vm_host::{Attached, Link};
 use vm_outside::Failed;
 use vm_types::Piece;
 
@@ -16,15 +18,31 @@ use vm_types::Piece;
 #[derive(Drop)]
 pub struct MemoryLink {
     wires: Vec<MemoryWire>,
+    sockets: Names,
     failing: Failing,
 }
 
 impl MemoryLink {
-    pub fn new(wires: Vec<MemoryWire>, failing: Failing) -> MemoryLink
-        ensures { ⟦<MemoryLink as Link>⟧.known result ≡
-            record { health = record { tells = true; faults = failing }; wires = wire_in wires.items } }
+    /// No socket is attached so far.
+    pub fn new(alloc: Global, wires: Vec<MemoryWire>, failing: Failing) -> MemoryLink
+        ensures { ⟦<MemoryLink as Link>⟧.known result ≡ record {
+          health = record { tells = true; faults = failing };
+          sockets = λ _. attached.Nothing;
+          wires = wire_in wires.items;
+        } }
     {
-        MemoryLink { wires, failing }
+        MemoryLink {
+            wires,
+            sockets: Names::new(alloc),
+            failing,
+        }
+    }
+
+    /// The socket that the device's link is.
+    pub fn socket(&self, device: u8) -> &Attached
+        ensures { result.now ≡ (⟦<MemoryLink as Link>⟧.known self.now).sockets device }
+    {
+        self.sockets.at(device)
     }
 
     /// All wires.
@@ -44,12 +62,18 @@ impl MemoryLink {
 
 impl Link for MemoryLink {
     ghost use Rattle.std.specs.Prelude.{true};
-    ghost use Rattle.host_mem.specs.Devices.{wire_in};
+    ghost use Rattle.host_mem.specs.Devices.{names_of, wire_in};
 
-    ghost known = { λ l. record { health = record { tells = true; faults = l.failing }; wires = wire_in l.wires.items } };
+    ghost known = { λ l. record {
+      health = record { tells = true; faults = l.failing };
+      sockets = names_of l.sockets;
+      wires = wire_in l.wires.items;
+    } };
 
     /// The wires stay those that there are.
-    fn attach(&mut self, device: u8, name: &str) {}
+    fn attach(&mut self, device: u8, name: &str) {
+        self.sockets.attach(device, name);
+    }
 
     fn take(&mut self, device: u8) -> Result<Option<u32>, Failed> {
         if self.failing.fails() {

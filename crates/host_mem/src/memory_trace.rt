@@ -1,5 +1,5 @@
 // A trace in memory.
-ghost use Rattle.std.specs.Prelude.{◌≡◌, ◌∷◌, ◌++◌, [], true, OnOk, OnErr};
+ghost use Rattle.std.specs.Prelude.{◌≡◌, ◌≤◌, ◌∷◌, ◌++◌, [], length, option_map, true, None, OnOk, OnErr};
 
 use crate::item_copy::item_copy;
 use outside_mem::Failing;
@@ -7,25 +7,46 @@ use script_text::Item;
 use serve_host::Trace;
 use std::alloc::{AllocError, Global};
 use vm_outside::Failed;
-use vm_types::ActorId;
+use vm_types::{ActorId, TextList};
 
-/// Takes copies of items, under any path. That there is no memory is a failure.
+/// Takes copies of items, under any path, and before it is opened too. That there is no memory is a failure, and a failed call
+/// changes nothing.
 #[derive(Drop)]
 pub struct MemoryTrace {
     alloc: Global,
+    path: Option<TextList>,
     took: Vec<Item>,
+    // How many of those that it took are kept.
+    kept: usize,
     failing: Failing,
+    ghost within: { kept ≤ length took.items },
 }
 
 impl MemoryTrace {
     pub fn new(alloc: Global, failing: Failing) -> MemoryTrace
-        ensures { ⟦<MemoryTrace as Trace>⟧.known result ≡
-            record { health = record { tells = true; faults = failing }; took = [] } }
+        ensures { ⟦<MemoryTrace as Trace>⟧.known result ≡ record {
+          health = record { tells = true; faults = failing };
+          path = None;
+          took = [];
+          kept = [];
+        } }
     {
         MemoryTrace {
             alloc,
+            path: None,
             took: Vec::new(alloc),
+            kept: 0,
             failing,
+        }
+    }
+
+    /// The path under which it was opened last. That made a new trace.
+    pub fn path(&self) -> Option<&str>
+        ensures { option_map (λ text. text.now) result ≡ (⟦<MemoryTrace as Trace>⟧.known self.now).path }
+    {
+        match &self.path {
+            Some(path) => Some(path.as_str()),
+            None => None,
         }
     }
 
@@ -34,6 +55,13 @@ impl MemoryTrace {
         ensures { result.now ≡ (⟦<MemoryTrace as Trace>⟧.known self.now).took }
     {
         &self.took
+    }
+
+    /// Those that it took before the last `finish` that didn't fail.
+    pub fn kept(&self) -> &[Item]
+        ensures { result.now ≡ (⟦<MemoryTrace as Trace>⟧.known self.now).kept }
+    {
+        &self.took[..self.kept]
     }
 
     /// How many calls have failed.
@@ -45,14 +73,27 @@ impl MemoryTrace {
 }
 
 impl Trace for MemoryTrace {
-    ghost use Rattle.std.specs.Prelude.{true};
+    ghost use Rattle.std.specs.Prelude.{take, true};
 
-    ghost known = { λ t. record { health = record { tells = true; faults = t.failing }; took = t.took.items } };
+    ghost known = { λ t. record {
+      health = record { tells = true; faults = t.failing };
+      path = t.path;
+      took = t.took.items;
+      kept = take t.kept t.took.items;
+    } };
 
+    /// The items of the trace before it are dropped.
     fn open(&mut self, path: &str) -> Result<(), Failed> {
         if self.failing.fails() {
             return Err(Failed);
         }
+        let Ok(path) = TextList::copy_of(self.alloc, path) else {
+            self.failing.count();
+            return Err(Failed);
+        };
+        self.path = Some(path);
+        self.kept = 0;
+        self.took = Vec::new(self.alloc);
         Ok(())
     }
 
@@ -79,11 +120,11 @@ impl Trace for MemoryTrace {
         true
     }
 
-    /// It holds nothing back.
     fn finish(&mut self) -> Result<(), Failed> {
         if self.failing.fails() {
             return Err(Failed);
         }
+        self.kept = self.took.len();
         Ok(())
     }
 }

@@ -1,13 +1,15 @@
 // The host's end of the vsock device in memory.
 ghost use Rattle.std.specs.Prelude.{◌≡◌, ◌∷◌, [], true};
+ghost use Rattle.vm_host.specs.declared.attached.Attached.TheVariants as attached;
 ghost use Rattle.vm_host.specs.declared.vsock_host.HostEvent.TheVariants as event;
 ghost use Rattle.vm_host.specs.Hosting.{Does, IsEvent, OrRests};
 ghost use Rattle.vm_outside.specs.Known.{Called};
 
+use crate::names::named;
 use outside_mem::Failing;
 use std::alloc::Global;
 use std::collections::VecDeque;
-use vm_host::{HostAct, HostEvent, VsockHost};
+use vm_host::{Attached, HostAct, HostEvent, VsockHost};
 use vm_outside::Failed;
 use vm_types::Piece;
 
@@ -15,6 +17,8 @@ use vm_types::Piece;
 /// event, as bytes without a byte, ends what is told. That there is no memory is a failure.
 #[derive(Drop)]
 pub struct MemoryVsock {
+    alloc: Global,
+    sockets: Attached,
     coming: VecDeque<HostEvent>,
     is_next: bool,
     answers: VecDeque<Option<u32>>,
@@ -23,6 +27,7 @@ pub struct MemoryVsock {
 }
 
 impl MemoryVsock {
+    /// No sockets are attached so far.
     pub fn new(
         alloc: Global,
         coming: VecDeque<HostEvent>,
@@ -31,18 +36,28 @@ impl MemoryVsock {
     ) -> MemoryVsock
         ensures { ⟦<MemoryVsock as VsockHost>⟧.known result ≡ record {
           health = record { tells = true; faults = failing };
+          sockets = attached.Nothing;
           coming = coming.items;
           answers = answers.items;
           done = [];
         } }
     {
         MemoryVsock {
+            alloc,
+            sockets: Attached::Nothing,
             coming,
             is_next: false,
             answers,
             done: Vec::new(alloc),
             failing,
         }
+    }
+
+    /// The sockets that the host's end is.
+    pub fn sockets(&self) -> &Attached
+        ensures { result.now ≡ (⟦<MemoryVsock as VsockHost>⟧.known self.now).sockets }
+    {
+        &self.sockets
     }
 
     /// What was done, the oldest first.
@@ -82,13 +97,16 @@ impl VsockHost for MemoryVsock {
 
     ghost known = { λ v. record {
       health = record { tells = true; faults = v.failing };
+      sockets = v.sockets;
       coming = v.coming.items;
       answers = v.answers.items;
       done = v.done.items;
     } };
 
     /// What it tells and answers stays.
-    fn attach(&mut self, device: u8, name: &str) {}
+    fn attach(&mut self, device: u8, name: &str) {
+        self.sockets = named(self.alloc, name);
+    }
 
     fn next(&mut self) -> Result<HostEvent, Failed> {
         if self.failing.fails() {

@@ -60,8 +60,14 @@ impl<'a, R: rt::Files<File = File> + AllocGlobal> DiskFiles<'a, R> {
 impl<'a, R: rt::Files<File = File> + AllocGlobal> Disk for DiskFiles<'a, R> {
     ghost use Rattle.std.specs.Prelude.{[]};
     ghost use Rattle.outside_real.specs.Counting.{untold};
+    ghost use Rattle.vm_host.specs.declared.attached.Attached.TheVariants as attached;
 
-    ghost known = { λ d. record { health = untold d.faults; held = λ n. [] } };
+    ghost known = { λ d. record {
+      health = untold d.faults;
+      files = λ n. attached.Nothing;
+      held = λ n. [];
+      calls = [];
+    } };
 
     /// Under the name that the device has already nothing is done, and no memory is taken.
     fn attach(&mut self, device: u8, name: &str) {

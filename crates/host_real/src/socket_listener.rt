@@ -68,10 +68,15 @@ impl<'a, R: rt::Files<File = File> + rt::Clock + Net + AllocGlobal> SocketListen
 
 impl<'a, R: rt::Files<File = File> + rt::Clock + Net + AllocGlobal> Listener<SocketConn<'a, R>>
     for SocketListener<'a, R> {
-    ghost use Rattle.std.specs.Prelude.{[]};
+    ghost use Rattle.std.specs.Prelude.{[], None};
     ghost use Rattle.outside_real.specs.Counting.{untold};
 
-    ghost known = { λ l. record { health = untold l.faults; ended = [] } };
+    ghost known = { λ l. record {
+      health = untold l.faults;
+      path = None;
+      coming = [];
+      ended = [];
+    } };
 
     /// It goes on listening where it did, if this fails. The bell's door is the new socket.
     fn listen(&mut self, path: &str) -> Result<(), Failed> {

@@ -43,10 +43,10 @@ impl<'a, R: rt::Files + AllocGlobal> TraceFile<'a, R> {
 }
 
 impl<'a, R: rt::Files + AllocGlobal> Trace for TraceFile<'a, R> {
-    ghost use Rattle.std.specs.Prelude.{[]};
+    ghost use Rattle.std.specs.Prelude.{[], None};
     ghost use Rattle.outside_real.specs.Counting.{untold};
 
-    ghost known = { λ t. record { health = untold t.faults; took = [] } };
+    ghost known = { λ t. record { health = untold t.faults; path = None; took = []; kept = [] } };
 
     /// The trace before it, if there is one, is finished first.
     fn open(&mut self, path: &str) -> Result<(), Failed> {

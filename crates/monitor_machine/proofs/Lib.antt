@@ -1,3 +1,4 @@
+pub mod Attaching
 pub mod Creating
 pub mod Deciding
 pub mod Leaving

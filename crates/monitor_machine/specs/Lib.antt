@@ -1,4 +1,5 @@
 pub mod Answering
+pub mod Disks
 pub mod Plans
 pub mod Replying
 pub mod Running

@@ -1,5 +1,5 @@
 -- One event more of a device.
-use Rattle.std.proofs.Common.{◌≡◌, ℕ, refl, sym, subst, List, [], ◌∷◌, ◌++◌, MatchBool, Option, Some, None}
+use Rattle.std.proofs.Common.{◌≡◌, ◌<◌, ℕ, refl, sym, subst, List, [], ◌∷◌, ◌++◌, MatchBool, Option, Some, None}
 use Rattle.std.proofs.lemmas.List.Elements.{All-push, All-from_recursion}
 use Rattle.vm_types.specs.declared.ids.ActorId.{ActorId}
 use Rattle.vm_types.specs.declared.ids.PlaceId.{PlaceId}
@@ -8,6 +8,7 @@ use Rattle.vm_types.specs.declared.entry.Event.{Event}
 use Rattle.vm_types.specs.declared.op.Op.{Op}
 use Rattle.vm_types.specs.declared.reply.Reply.{Reply}
 use Rattle.vm_host.specs.Storing.{DiskKnown}
+use Rattle.port_table.specs.Window.{most_ports}
 use Rattle.flat_guest.specs.Guest.{Guest, Wants, layout_of}
 use Rattle.flat_guest.specs.Steps.{Answers, FlatStep, guest_after}
 use Rattle.flat_guest.proofs.Determined.{wants_one}
@@ -40,7 +41,7 @@ asks_by k op None reply old now it is = rests_of old now it
 asks_by k op (Some r) reply old now it is = absurd it
 
 module _ (first w : WorldValue) (asked old now : DiskKnown) (es : List Entry) (k : ℕ) (op : Op) (given : Option Reply)
-    (wants : (g : Guest) → IsWorld w g → Wants g (ActorId.Device k) op) (was_given : IsGivenByDisk k op old given now)
+    (port : k < most_ports) (wants : (g : Guest) → IsWorld w g → Wants g (ActorId.Device k) op) (was_given : IsGivenByDisk k op old given now)
     (acted : HaveActed es first w asked old) where
   abbrev event : Event
   event = record { actor = ActorId.Device k; reply = given }
@@ -68,7 +69,7 @@ module _ (first w : WorldValue) (asked old now : DiskKnown) (es : List Entry) (k
         );
     made = λ g is.
         let before = acted.serial g is in
-        All-push IsDevices es e (acted.made g is) (k, (made.step before.0 before.2).actor);
+        All-push IsDevices es e (acted.made g is) (k, port, (made.step before.0 before.2).actor);
     answered = λ g is.
         let before = acted.serial g is in
         asked_more es e asked old now (acted.answered g is)

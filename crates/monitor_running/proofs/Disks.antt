@@ -8,12 +8,17 @@ use Rattle.vm_types.specs.declared.entry.Entry.{Entry}
 use Rattle.vm_types.specs.declared.ids.ActorId.{ActorId}
 use Rattle.vm_types.specs.declared.op.Op.{Op}
 use Rattle.vm_types.specs.declared.op.OutOp.{OutOp}
+use Rattle.vm_types.specs.declared.op.OutOp.TheVariants.{DiskFlush, DiskRead, DiskWrite}
 use Rattle.vm_types.specs.declared.reply.Reply.{Reply}
 use Rattle.vm_outside.specs.Known.{Health, Lasts}
-use Rattle.vm_host.specs.Storing.{DiskKnown}
+use Rattle.vm_host.specs.declared.disk.DiskCall.{DiskCall}
+use Rattle.vm_host.specs.declared.disk.DiskCall.TheVariants as call
+use Rattle.vm_host.specs.Devices.{ChangesAt}
+use Rattle.vm_host.specs.Storing.{DiskKnown, IsMade, IsPart, MayBeMade, SameDisks, WritesPart}
 use Rattle.vm_host.specs.Telling.{ClockKnown}
 use Rattle.device_trace.specs.Acts.{is_disk_call}
 use Rattle.slice_runner.specs.Slices.{ClockWasAsked, IsThere}
+use Rattle.monitor_machine.specs.Disks.{DiskUncalled}
 use Rattle.monitor_running.specs.Devices.{AsksDisk, CallsDisk, DiskReplies, DiskRests, DiskWasAsked, Holds, IsDevices}
 use Rattle.monitor_running.specs.Waiting.{hart_turn, hart_turns, is_left_out, makers, turns}
 
@@ -26,8 +31,19 @@ pub lasts_more : (a b c : Health) → Lasts a b → Lasts b c → Lasts a c
 lasts_more a b c first behind =
     record { still = λ tells. behind.still (first.still tells); later = omega (arith, first.later, behind.later) }
 
+same_more : (a b c : DiskKnown) → SameDisks a b → SameDisks b c → SameDisks a c
+same_more a b c first behind = record {
+  files = behind.files ∙ first.files;
+  held = behind.held ∙ first.held;
+  calls = behind.calls ∙ first.calls;
+}
+
 pub rests_same : (disk : DiskKnown) → DiskRests disk disk
-rests_same disk = record { lasts = lasts_same disk.health; kept = refl; held = λ tells. refl }
+rests_same disk = record {
+  lasts = lasts_same disk.health;
+  kept = refl;
+  same = λ tells. record { files = refl; held = refl; calls = refl };
+}
 
 pub rests_of : (old new : DiskKnown) → new ≡ old → DiskRests old new
 rests_of old new same = subst (λ (d : DiskKnown). DiskRests old d) (sym same) (rests_same old)
@@ -36,10 +52,45 @@ pub rests_more : (a b c : DiskKnown) → DiskRests a b → DiskRests b c → Dis
 rests_more a b c first behind = record {
   lasts = lasts_more a.health b.health c.health first.lasts behind.lasts;
   kept = behind.kept ∙ first.kept;
-  held = λ tells. behind.held (first.lasts.still tells) ∙ first.held tells;
+  same = λ tells. same_more a b c (first.same tells) (behind.same (first.lasts.still tells));
+}
+
+-- it is not called
+pub rests_uncalled : (a b : DiskKnown) → DiskRests a b → DiskUncalled a b
+rests_uncalled a b rests = record {
+  lasts = rests.lasts;
+  kept = rests.kept;
+  held = λ tells. (rests.same tells).held;
+  calls = λ tells. (rests.same tells).calls;
 }
 
 -- and then is asked
+
+holds_later : (k : ℕ) (act : OutOp) (reply : Reply) (a b c : DiskKnown) → SameDisks a b → Holds k act reply b c → Holds k act reply a c
+holds_later k (DiskRead sector part) (Reply.Bytes bytes) a b c same holds =
+    (subst (λ (h : ℕ → List ℕ). IsPart (h k) sector part bytes) same.held holds.0, same_more a b c same holds.1)
+holds_later k (DiskRead sector part) reply a b c same holds = same_more a b c same holds
+holds_later k (DiskWrite sector part bytes) Reply.Done a b c same holds = record {
+  files = holds.files ∙ same.files;
+  held = subst (λ (h : ℕ → List ℕ). ChangesAt h k c.held (WritesPart sector part bytes)) same.held holds.held;
+  calls = subst (λ (l : List DiskCall). IsMade l (call.Wrote k sector part bytes) c.calls) same.calls holds.calls;
+}
+holds_later k (DiskWrite sector part bytes) reply a b c same holds = record {
+  files = holds.files ∙ same.files;
+  held = subst (λ (h : ℕ → List ℕ). ChangesAt h k c.held (λ before after. Unit {0})) same.held holds.held;
+  calls = subst (λ (l : List DiskCall). MayBeMade l (call.Wrote k sector part bytes) c.calls) same.calls holds.calls;
+}
+holds_later k DiskFlush Reply.Done a b c same holds = record {
+  files = holds.files ∙ same.files;
+  held = holds.held ∙ same.held;
+  calls = subst (λ (l : List DiskCall). IsMade l (call.Flushed k) c.calls) same.calls holds.calls;
+}
+holds_later k DiskFlush reply a b c same holds = record {
+  files = holds.files ∙ same.files;
+  held = holds.held ∙ same.held;
+  calls = subst (λ (l : List DiskCall). MayBeMade l (call.Flushed k) c.calls) same.calls holds.calls;
+}
+holds_later k act reply a b c same holds = same_more a b c same holds
 
 replies_later : (k : ℕ) (act : OutOp) (reply : Reply) (a b c : DiskKnown) → DiskRests a b → DiskReplies k act reply b c
     → DiskReplies k act reply a c
@@ -47,7 +98,7 @@ replies_later k act reply a b c rests replies = record {
   lasts = lasts_more a.health b.health c.health rests.lasts replies.lasts;
   failed = λ is. subst (λ (n : ℕ). Rose n c.health.faults) rests.kept (replies.failed is);
   kept = λ not. replies.kept not ∙ rests.kept;
-  held = λ tells. subst (λ (h : ℕ → List ℕ). Holds k act reply h c.held) (rests.held tells) (replies.held (rests.lasts.still tells));
+  held = λ tells. holds_later k act reply a b c (rests.same tells) (replies.held (rests.lasts.still tells));
 }
 
 either_later : (call : Bool) (k : ℕ) (act : OutOp) (reply : Reply) (a b c : DiskKnown) → DiskRests a b
@@ -108,7 +159,7 @@ other_by harts ActorId.Timer there = tt
 other_by harts (ActorId.Hart k) there = tt
 other_by harts (ActorId.Device k) there = there
 
-all_other : (harts : ℕ) (es : List Entry) → AllByRecursion (λ (e : Entry). IsThere harts e.actor) es
+pub all_other : (harts : ℕ) (es : List Entry) → AllByRecursion (λ (e : Entry). IsThere harts e.actor) es
     → AllByRecursion (λ (e : Entry). IsOther e.actor) es
 all_other harts [] there = tt
 all_other harts (e ∷ es) there = (other_by harts e.actor there.0, all_other harts es there.1)
@@ -137,11 +188,14 @@ made_by : (es : List Entry) → AllByRecursion IsOther (makers es) → AllByRecu
 made_by [] others = tt
 made_by (e ∷ es) others = (others.0, made_by es others.1)
 
+pub others_made : (but : Option ℕ) (harts : ℕ) (es : List Entry) → makers es ≡ turns but harts
+    → AllByRecursion (λ (e : Entry). IsOther e.actor) es
+others_made but harts es made =
+    made_by es (subst (λ (l : List ActorId). AllByRecursion IsOther l) (sym made) (tt, (tt, others_turn but harts)))
+
 pub unasked_turns : (but : Option ℕ) (harts : ℕ) (es : List Entry) (disk : DiskKnown) → makers es ≡ turns but harts
     → DiskWasAsked disk es disk
-unasked_turns but harts es disk made =
-    unasked_by es disk
-    (made_by es (subst (λ (l : List ActorId). AllByRecursion IsOther l) (sym made) (tt, (tt, others_turn but harts))))
+unasked_turns but harts es disk made = unasked_by es disk (others_made but harts es made)
 
 -- and those of one hart
 pub unasked_hart : (k : ℕ) (es : List Entry) (disk : DiskKnown) → AllByRecursion (λ (e : Entry). e.actor ≡ ActorId.Hart k) es
@@ -176,7 +230,7 @@ untimed_rests clock es untimed tells =
 
 devices_untimed : (es : List Entry) → AllByRecursion IsDevices es → AllByRecursion (λ (e : Entry). IsUntimed e.actor) es
 devices_untimed [] made = tt
-devices_untimed (e ∷ es) made = (ap (λ (a : ActorId). same_actor a ActorId.Timer) made.0.1, devices_untimed es made.1)
+devices_untimed (e ∷ es) made = (ap (λ (a : ActorId). same_actor a ActorId.Timer) made.0.2, devices_untimed es made.1)
 
 pub clock_rests : (clock : ClockKnown) (es : List Entry) → All IsDevices es → ClockWasAsked clock es clock
 clock_rests clock es made = untimed_rests clock es (devices_untimed es (recursion_from_All IsDevices es made))

@@ -1,52 +1,85 @@
 -- Runs one behind another, what they show, and what they ask.
-use Rattle.std.proofs.Common.{◌≡◌, ℕ, List, [], ◌∷◌, ◌++◌, refl, sym, ap, ◌∙◌, subst, append_assoc, append-nil, Option, Some, None}
+use Rattle.std.proofs.Common.{◌≡◌, ℕ, Bool, true, false, List, [], ◌∷◌, ◌++◌, refl, sym, ap, ◌∙◌, subst, append_assoc, append-nil, Option, Some, None}
+use Rattle.std.proofs.lemmas.List.Elements.{All-append, All-from_recursion}
 use Rattle.vm_types.specs.declared.ids.ActorId.{ActorId}
 use Rattle.script_text.specs.declared.item.HostReply.TheVariants as given
 use Rattle.script_text.specs.declared.item.Item.{Item}
 use Rattle.script_text.specs.declared.item.Item.TheVariants as item
 use Rattle.vm_host.specs.Storing.{DiskKnown}
-use Rattle.vm_host.specs.Telling.{AreNext, ClockKnown, Lasts, later}
+use Rattle.vm_outside.specs.Known.{Health, Lasts, Tells}
+use Rattle.vm_host.specs.Telling.{AreNext, ClockKnown, later}
+use Rattle.vm_host.specs.Telling as telling
+use Rattle.vm_config.specs.declared.config.Config.{Config}
 use Rattle.flat_guest.specs.Guest.{Guest}
 use Rattle.slice_runner.specs.Runs.{HasAnswered}
 use Rattle.flat_machine.specs.Machine.{Machine, running}
 use Rattle.flat_machine.specs.Run.{Act}
 use Rattle.flat_trace.specs.Events.{answer_by, answers_in}
-use Rattle.monitor_running.specs.Asked.{DisksAnswered, HostAnswered, HostKnown, ItemAsks}
+use Rattle.monitor_running.specs.Asked.{AnsweredSince, DisksAnswered, HostKnown, ItemAsks}
 use Rattle.monitor_running.specs.Devices.{DiskRests}
-use Rattle.monitor_running.specs.Reached.{Reached, Seen, Start}
-use Rattle.monitor_running.proofs.Disks.{asks_later, rests_more, rests_same}
+use Rattle.monitor_running.specs.Reached.{AreFiles, NoLineage, Reached, Seen, Start, gives_lineage, told_at, told_by}
+use Rattle.monitor_machine.proofs.Attaching.{uncalled_more}
+use Rattle.monitor_running.proofs.Attached.{SameFiles, files_asked, files_kept, files_rest, own_before}
+use Rattle.monitor_running.proofs.Disks.{asks_later, rests_more, rests_same, rests_uncalled}
 use Rattle.flat_trace.specs.Showing.{Out, Run, items_of, said, said_by, shown, shown_by}
 
 -- disks that rest before they are asked
 
-item_later : (it : Item) (guest : Option Guest) (a b c : DiskKnown) → DiskRests a b → ItemAsks it guest b c → ItemAsks it guest a c
-item_later (item.Reply actor reply) (Some g) a b c rests then =
-    (then.0, then.1, then.2, then.3, asks_later then.0 actor then.1 a b c rests then.4)
-item_later (item.Reply actor reply) None a b c rests then = rests_more a b c rests then
-item_later it guest a b c rests then = rests_more a b c rests then
+module _ (start : Health) where
+  item_later : (it : Item) (config : Config) (guest : Option Guest) (a b c : DiskKnown) → (Tells start → Tells a.health)
+      → DiskRests a b → ItemAsks start it config guest b c → ItemAsks start it config guest a c
+  item_later (item.Reply actor reply) config (Some g) a b c still rests then = (
+    own_before start config actor a b still (files_rest a b rests) then.0,
+    then.1,
+    then.2,
+    then.3,
+    then.4,
+    asks_later then.1 actor then.2 a b c rests then.5,
+  )
+  item_later (item.Reply actor reply) config None a b c still rests then = uncalled_more a b c (rests_uncalled a b rests) then
+  item_later it config guest a b c still rests then = uncalled_more a b c (rests_uncalled a b rests) then
 
-disks_later : (acts : List Act) (m : Machine) (outs : List Out) (n : Machine) (run : Run acts m outs n) (a b c : DiskKnown)
-    → DiskRests a b → DisksAnswered acts m outs n run b c → DisksAnswered acts m outs n run a c
-disks_later [] m outs n run a b c rests then = rests_more a b c rests then
-disks_later (act ∷ acts) m outs n run a b c rests then =
-    (then.0, item_later act.item (running m) a b then.0 rests then.1, then.2)
+  disks_later : (acts : List Act) (m : Machine) (outs : List Out) (n : Machine) (run : Run acts m outs n) (a b c : DiskKnown)
+      → (Tells start → Tells a.health) → DiskRests a b → DisksAnswered start acts m outs n run b c
+      → DisksAnswered start acts m outs n run a c
+  disks_later [] m outs n run a b c still rests then = rests_more a b c rests then
+  disks_later (act ∷ acts) m outs n run a b c still rests then =
+      (then.0, item_later act.item m.config (running m) a b then.0 still rests then.1, then.2)
 
--- a run in which disks were asked
-abbrev Joint : List Act → Machine → List Out → Machine → DiskKnown → DiskKnown → Type 0
-Joint acts m outs n old now = (run : Run acts m outs n) × DisksAnswered acts m outs n run old now
+  -- which told their content still do
 
-run_append : (acts more : List Act) (m n k : Machine) (outs next : List Out) (old mid now : DiskKnown) → Joint acts m outs n old mid
-    → Joint more n next k mid now → Joint (acts ++ more) m (outs ++ next) k old now
-run_append [] more m n k outs next old mid now first behind =
-    subst (λ (x : Machine). Joint more x (outs ++ next) k old now) (sym first.0.1)
-    (subst (λ (l : List Out). Joint more n (l ++ next) k old now) (sym first.0.0)
-    (behind.0, disks_later more n next k behind.0 old mid now first.1 behind.1))
-run_append (act ∷ acts) more m n k outs next old mid now first behind =
-    let run = first.0 in
-    let rest = run_append acts more run.1 n k run.2 next first.1.0 mid now (run.5, first.1.2) behind in (
-      (run.0, run.1, run.2 ++ next, ap (λ (l : List Out). l ++ next) run.3, run.4, rest.0),
-      (first.1.0, first.1.1, rest.1),
-    )
+  item_lasts : (it : Item) (config : Config) (guest : Option Guest) (a b : DiskKnown) → ItemAsks start it config guest a b
+      → Lasts a.health b.health
+  item_lasts (item.Reply actor reply) config (Some g) a b asks = (files_asked asks.1 actor asks.2 a b asks.5).lasts
+  item_lasts (item.Reply actor reply) config None a b asks = asks.lasts
+  item_lasts it config guest a b asks = asks.lasts
+
+  disks_still : (acts : List Act) (m : Machine) (outs : List Out) (n : Machine) (run : Run acts m outs n) (a b : DiskKnown)
+      → DisksAnswered start acts m outs n run a b → Tells a.health → Tells b.health
+  disks_still [] m outs n run a b asked tells = asked.lasts.still tells
+  disks_still (act ∷ acts) m outs n run a b asked tells =
+      disks_still acts run.1 run.2 n run.5 asked.0 b asked.2
+      ((item_lasts act.item m.config (running m) a asked.0 asked.1).still tells)
+
+  -- a run in which disks were asked
+  abbrev Joint : List Act → Machine → List Out → Machine → DiskKnown → DiskKnown → Type 0
+  Joint acts m outs n old now = (run : Run acts m outs n) × DisksAnswered start acts m outs n run old now
+
+  run_append : (acts more : List Act) (m n k : Machine) (outs next : List Out) (old mid now : DiskKnown)
+      → (Tells start → Tells old.health) → Joint acts m outs n old mid → Joint more n next k mid now
+      → Joint (acts ++ more) m (outs ++ next) k old now
+  run_append [] more m n k outs next old mid now still first behind =
+      subst (λ (x : Machine). Joint more x (outs ++ next) k old now) (sym first.0.1)
+      (subst (λ (l : List Out). Joint more n (l ++ next) k old now) (sym first.0.0)
+      (behind.0, disks_later more n next k behind.0 old mid now still first.1 behind.1))
+  run_append (act ∷ acts) more m n k outs next old mid now still first behind =
+      let run = first.0 in
+      let rest = run_append acts more run.1 n k run.2 next first.1.0 mid now
+      (λ tells. (item_lasts act.item m.config (running m) old first.1.0 first.1.1).still (still tells))
+      (run.5, first.1.2) behind in (
+        (run.0, run.1, run.2 ++ next, ap (λ (l : List Out). l ++ next) run.3, run.4, rest.0),
+        (first.1.0, first.1.1, rest.1),
+      )
 
 shown_append : (a b : List Out) → shown (a ++ b) ≡ shown a ++ shown b
 shown_append [] b = refl
@@ -116,16 +149,33 @@ answered_first start now xs ys all = (
   },
 )
 
--- more acts, which were told, shown, said and asked for
+-- acts that give no lineage, one behind another
+abbrev Unlineaged : Act → Type 0
+Unlineaged act = gives_lineage act.item ≡ false
+
+pub none_given : NoLineage []
+none_given = All-from_recursion Unlineaged [] tt
+
+pub one_given : (act : Act) → gives_lineage act.item ≡ false → NoLineage (act ∷ [])
+one_given act none = All-from_recursion Unlineaged (act ∷ []) (none, tt)
+
+-- disks that count as telling at the start did tell
+told_before : (attached : Bool) (health : Health) → Tells (told_by attached health) → Tells health
+told_before true health tells = tells
+told_before false health tells = cc
+
+-- more acts, which were told, shown, said and asked for, and give no lineage
 pub goes_with : (s : Start) (old now : Seen) (m n : Machine) (talk : List Out) (acts : List Act) (outs : List Out)
     → Reached s old m talk → (run : Run acts m outs n) → now.took ≡ old.took ++ items_of acts → now.taken ≡ old.taken ++ shown outs
-    → HostAnswered acts m outs n run old.host now.host → Reached s now n (talk ++ said outs)
-goes_with s old now m n talk acts outs r run told sunk asked = record {
+    → AnsweredSince (told_at s) acts m outs n run old.host now.host → NoLineage acts
+    → Reached s now n (talk ++ said outs)
+goes_with s old now m n talk acts outs r run told sunk asked none = record {
   acts = r.acts ++ acts;
   outs = r.outs ++ outs;
   added =
       told ∙ ap (λ (l : List Item). l ++ items_of acts) r.added ∙ append_assoc s.seen.took (items_of r.acts) (items_of acts)
       ∙ ap (λ (l : List Item). s.seen.took ++ l) (sym (items_append r.acts acts));
+  no_lineage = All-append Unlineaged r.acts acts r.no_lineage none;
   run = joint.0;
   sink =
       sunk ∙ ap (λ (l : List ℕ). l ++ shown outs) r.sink ∙ append_assoc s.seen.taken (shown r.outs) (shown outs)
@@ -142,22 +192,36 @@ goes_with s old now m n talk acts outs r run told sunk asked = record {
   };
 }
   where
-    joint : Joint (r.acts ++ acts) s.flat (r.outs ++ outs) n s.seen.host.disk now.host.disk
+    joint : Joint (told_at s) (r.acts ++ acts) s.flat (r.outs ++ outs) n s.seen.host.disk now.host.disk
     joint =
-        run_append r.acts acts s.flat m n r.outs outs s.seen.host.disk old.host.disk now.host.disk (r.run, r.asked.disk)
-        (run, asked.disk)
+        run_append (told_at s) r.acts acts s.flat m n r.outs outs s.seen.host.disk old.host.disk now.host.disk
+        (told_before s.attached s.seen.host.disk.health) (r.run, r.asked.disk) (run, asked.disk)
 
 -- which are said on no connection
 pub goes_by : (s : Start) (old now : Seen) (m n : Machine) (talk : List Out) (acts : List Act) (outs : List Out)
     → Reached s old m talk → (run : Run acts m outs n) → now.took ≡ old.took ++ items_of acts → now.taken ≡ old.taken ++ shown outs
-    → said outs ≡ [] → HostAnswered acts m outs n run old.host now.host → Reached s now n talk
-goes_by s old now m n talk acts outs r run told sunk unsaid asked =
+    → said outs ≡ [] → AnsweredSince (told_at s) acts m outs n run old.host now.host → NoLineage acts
+    → Reached s now n talk
+goes_by s old now m n talk acts outs r run told sunk unsaid asked none =
     subst (λ (t : List Out). Reached s now n t) (ap (λ (l : List Out). talk ++ l) unsaid ∙ append-nil talk)
-    (goes_with s old now m n talk acts outs r run told sunk asked)
+    (goes_with s old now m n talk acts outs r run told sunk asked none)
+
+-- disks that told their content at the start still do
+pub reached_still : (s : Start) (now : Seen) (m : Machine) (talk : List Out) → Reached s now m talk
+    → Tells (told_at s) → Tells now.host.disk.health
+reached_still s now m talk r tells =
+    disks_still (told_at s) r.acts s.flat r.outs m r.run s.seen.host.disk now.host.disk r.asked.disk
+    (told_before s.attached s.seen.host.disk.health tells)
+
+-- and are still the files of its drives, asked or not
+pub still_files : (s : Start) (old now : Seen) (m : Machine) (talk : List Out) → Reached s old m talk
+    → SameFiles old.host.disk now.host.disk → AreFiles s m old → AreFiles s m now
+still_files s old now m talk r same files =
+    files_kept (told_at s) m.guest m.config old.host.disk now.host.disk (reached_still s old m talk r) same files
 
 -- a clock and disks that are asked nothing
 pub record HostRests (old now : HostKnown) : Type 0 where
-  pub clock : Lasts old.clock now.clock
+  pub clock : telling.Lasts old.clock now.clock
   pub disk : DiskRests old.disk now.disk
 
 pub host_same : (host : HostKnown) → HostRests host host
@@ -171,3 +235,4 @@ rests s old now m talk r told sunk rest =
       clock = record { still = λ tells. rest.clock.still tells; are = λ tells. rest.clock.same tells };
       disk = rest.disk;
     })
+    none_given

@@ -1,6 +1,8 @@
 -- A slice's events, and a drain, are a run over the items that tell them.
-use Rattle.std.proofs.Common.{◌≡◌, ℕ, zero, suc, Bool, true, false, refl, sym, ap, ◌∙◌, subst, List, [], ◌∷◌, ◌++◌, map, take, drop, append-nil, take-append-drop, Option, Some, None, ◌⊎◌, inl, inr}
+use Rattle.std.proofs.Common.{◌≡◌, ◌<◌, ℕ, zero, suc, Bool, true, false, refl, sym, ap, ◌∙◌, subst, List, [], ◌∷◌, ◌++◌, map, take, drop, append-nil, take-append-drop, Option, Some, None, ◌⊎◌, inl, inr}
+use Rattle.std.proofs.lemmas.List.Elements.{All-cons}
 use Rattle.vm_types.specs.declared.entry.Entry.{Entry}
+use Rattle.vm_types.specs.declared.ids.ActorId.{ActorId}
 use Rattle.vm_types.specs.declared.op.Op.{Op}
 use Rattle.vm_types.specs.declared.reply.Reply.{Reply}
 use Rattle.script_text.specs.declared.item.Item.{Item}
@@ -23,10 +25,17 @@ use Rattle.vm_types.specs.declared.op.OutOp.TheVariants.{DiskFlush, DiskRead, Di
 use Rattle.vm_types.specs.Fits.{out_fits}
 use Rattle.flat_trace.specs.Events.{drain_items, event_acts, event_items, host_reply, item_by, item_of, quiet_act}
 use Rattle.vm_host.specs.Storing.{DiskKnown}
-use Rattle.monitor_running.specs.Asked.{DisksAnswered, ItemAsks}
+use Rattle.vm_outside.specs.Known.{Health, Tells}
+use Rattle.port_table.specs.Window.{most_ports}
+use Rattle.monitor_machine.specs.Disks.{HasFile, HasFiles, HasFilesBy}
+use Rattle.monitor_machine.proofs.Attaching.{uncalled_none}
+use Rattle.monitor_running.specs.Asked.{DisksAnswered, HasOwnFile, ItemAsks}
 use Rattle.monitor_running.specs.Devices.{AsksDisk, DiskWasAsked}
 use Rattle.monitor_running.specs.Items.{drained_world}
-use Rattle.monitor_running.proofs.Disks.{rests_same}
+use Rattle.monitor_running.specs.Reached.{NoLineage, gives_lineage}
+use Rattle.monitor_running.proofs.Attached.{HavePorts, file_kept, files_asked, own_file}
+use Rattle.monitor_running.proofs.Disks.{rests_same, rests_uncalled}
+use Rattle.monitor_running.proofs.Joins.{none_given, one_given}
 use Rattle.flat_trace.specs.Showing.{HasEvent, Out, Run, TraceStep, items_of, said, shown}
 use Rattle.flat_trace.specs.Showing.Out.{Quiet, Shown}
 
@@ -47,6 +56,12 @@ own_guest guest false g is = is
 
 pub guest_is : (m : Machine) (g : Guest) → running m ≡ Some g → m.guest ≡ Some g
 guest_is m g is = own_guest m.guest m.paused g is
+
+-- the disks of its devices are the files of its drives
+pub guest_files : (start : Health) (m : Machine) (g : Guest) (disk : DiskKnown) → running m ≡ Some g → HasFiles start m disk
+    → (k : ℕ) → k < most_ports → HasFile start m.config k disk
+guest_files start m g disk runs files =
+    subst (λ (o : Option Guest). HasFilesBy start o m.config disk) (guest_is m g runs) files
 
 -- ---- an event
 
@@ -110,17 +125,18 @@ module _ (m : Machine) (g mid : Guest) (e : Entry) (sound : IsSound g) (runs : r
   pub told : TraceStep (item_of e) [] m Quiet (with_guest m mid)
   told = told_by e.op refl
 
-  asks_by : (op : Op) → e.op ≡ op → (old now : DiskKnown) → AsksDisk op e.actor e.reply old now
-      → ItemAsks (item_by op e.actor e.reply) (running m) old now
-  asks_by (Op.Out act) is old now asks =
-      let reads : reply_given (host_reply e.reply) ≡ Some e.reply =
-      given_again e act (is_asking g (event_of e) e mid act sound step is) in
-      subst (λ (o : Option Guest). ItemAsks (item.Reply e.actor (host_reply e.reply)) o old now) (sym runs)
-      (Op.Out act, e.reply, subst (λ (o : Op). Wants g e.actor o) is step.want, reads, asks)
-  asks_by op is old now asks = asks
+  module _ (start : Health) (old now : DiskKnown) (own : HasOwnFile start m.config e.actor old) where
+    asks_by : (op : Op) → e.op ≡ op → AsksDisk op e.actor e.reply old now
+        → ItemAsks start (item_by op e.actor e.reply) m.config (running m) old now
+    asks_by (Op.Out act) is asks =
+        let reads : reply_given (host_reply e.reply) ≡ Some e.reply =
+        given_again e act (is_asking g (event_of e) e mid act sound step is) in
+        subst (λ (o : Option Guest). ItemAsks start (item.Reply e.actor (host_reply e.reply)) m.config o old now) (sym runs)
+        (own, Op.Out act, e.reply, subst (λ (o : Op). Wants g e.actor o) is step.want, reads, asks)
+    asks_by op is asks = rests_uncalled old now asks
 
-  pub asks : (old now : DiskKnown) → AsksDisk e.op e.actor e.reply old now → ItemAsks (item_of e) (running m) old now
-  asks old now asked = asks_by e.op refl old now asked
+    pub asks : AsksDisk e.op e.actor e.reply old now → ItemAsks start (item_of e) m.config (running m) old now
+    asks asked = asks_by e.op refl asked
 
 -- ---- events
 
@@ -139,6 +155,17 @@ pub acts_items : (es : List Entry) → items_of (event_acts es) ≡ event_items 
 acts_items [] = refl
 acts_items (e ∷ es) = ap (λ (l : List Item). item_of e ∷ l) (acts_items es)
 
+-- none of them gives a lineage
+event_unlineaged : (op : Op) (actor : ActorId) (reply : Reply) → gives_lineage (item_by op actor reply) ≡ false
+event_unlineaged (Op.Out act) actor reply = refl
+event_unlineaged op actor reply = refl
+
+pub events_unlineaged : (es : List Entry) → NoLineage (event_acts es)
+events_unlineaged [] = none_given
+events_unlineaged (e ∷ es) =
+    All-cons (λ (act : Act). gives_lineage act.item ≡ false) (quiet_act (item_of e)) (event_acts es)
+    (event_unlineaged e.op e.actor e.reply) (events_unlineaged es)
+
 pub events_run : (es : List Entry) (m : Machine) (g h : Guest) → IsSound g → running m ≡ Some g → Leads g es h
     → Run (event_acts es) m (quiets es) (with_guest m h)
 events_run [] m g h sound runs leads =
@@ -154,16 +181,19 @@ events_run (e ∷ es) m g h sound runs leads = (
 
 -- and the disks were asked in it what they were asked in the events
 pub events_answered : (es : List Entry) (m : Machine) (g h : Guest) (sound : IsSound g) (runs : running m ≡ Some g) (leads : Leads g es h)
-    (old now : DiskKnown) → DiskWasAsked old es now
-    → DisksAnswered (event_acts es) m (quiets es) (with_guest m h) (events_run es m g h sound runs leads) old now
+    (start : Health) (old now : DiskKnown) → HavePorts es → (Tells start → Tells old.health)
+    → ((k : ℕ) → k < most_ports → HasFile start m.config k old) → DiskWasAsked old es now
+    → DisksAnswered start (event_acts es) m (quiets es) (with_guest m h) (events_run es m g h sound runs leads) old now
 unfolding events_run
-events_answered [] m g h sound runs leads old now was = was
-events_answered (e ∷ es) m g h sound runs leads old now was = (
-  was.0,
-  asks m g leads.0 e sound runs leads.1 old was.0 was.1,
-  events_answered es (with_guest m leads.0) leads.0 h (sound_next g (event_of e) e leads.0 sound leads.1) (still_runs m g leads.0 runs) leads.2
-      was.0 now was.2,
-)
+events_answered [] m g h sound runs leads start old now ports still files was = was
+events_answered (e ∷ es) m g h sound runs leads start old now ports still files was =
+    let same = files_asked e.op e.actor e.reply old was.0 was.1 in (
+      was.0,
+      asks m g leads.0 e sound runs leads.1 start old was.0 (own_file start m.config e.actor old ports.0 files) was.1,
+      events_answered es (with_guest m leads.0) leads.0 h (sound_next g (event_of e) e leads.0 sound leads.1)
+          (still_runs m g leads.0 runs) leads.2 start was.0 now ports.1 (λ tells. same.lasts.still (still tells))
+          (λ k less. file_kept start m.config k old was.0 still same (files k less)) was.2,
+    )
 
 -- the first of the events, and the others
 pub leads_split : (n : ℕ) (es : List Entry) (g h : Guest) → Leads g es h
@@ -205,6 +235,10 @@ pub drain_told : (bytes : List ℕ) → items_of (drain_acts bytes) ≡ drain_it
 drain_told [] = refl
 drain_told (byte ∷ bytes) = refl
 
+pub drain_unlineaged : (bytes : List ℕ) → NoLineage (drain_acts bytes)
+drain_unlineaged [] = none_given
+drain_unlineaged (byte ∷ bytes) = one_given (quiet_act item.Console) refl
+
 pub drain_run : (m : Machine) (h : Guest) (bytes : List ℕ) → bytes ≡ h.board.console
     → Run (drain_acts bytes) (with_guest m h) (drain_outs bytes) (with_guest m (drained_guest h))
 drain_run m h [] is =
@@ -214,9 +248,10 @@ drain_run m h (byte ∷ bytes) is =
 
 -- which asks no disk
 pub drain_answered : (m : Machine) (h : Guest) (bytes : List ℕ) (run : Run (drain_acts bytes) (with_guest m h) (drain_outs bytes) (with_guest m (drained_guest h)))
-    (disk : DiskKnown) → DisksAnswered (drain_acts bytes) (with_guest m h) (drain_outs bytes) (with_guest m (drained_guest h)) run disk disk
-drain_answered m h [] run disk = rests_same disk
-drain_answered m h (byte ∷ bytes) run disk = (disk, rests_same disk, rests_same disk)
+    (start : Health) (disk : DiskKnown)
+    → DisksAnswered start (drain_acts bytes) (with_guest m h) (drain_outs bytes) (with_guest m (drained_guest h)) run disk disk
+drain_answered m h [] run start disk = rests_same disk
+drain_answered m h (byte ∷ bytes) run start disk = (disk, uncalled_none disk, rests_same disk)
 
 pub drained_is : (w : WorldValue) (g : Guest) → IsWorld w g → IsWorld (drained_world w) (drained_guest g)
 drained_is w g is = record {

@@ -1,5 +1,6 @@
 pub mod Acting
 pub mod Asked
+pub mod Attached
 pub mod Disks
 pub mod Going
 pub mod Joins

@@ -3,7 +3,7 @@ use Rattle.std.proofs.Common.{◌≡◌, ℕ, ◌≤◌, Bool, true, false, refl
 use Rattle.vm_types.specs.Causes.{Rose}
 use Rattle.vm_outside.specs.Known.{FilesKnown, Health, SinkKnown}
 use Rattle.vm_outside.specs.Known as objects
-use Rattle.serve_host.specs.Tracing.{TraceKnown}
+use Rattle.serve_host.specs.Tracing.{TraceKnown, TraceStays}
 use Rattle.flat_guest.specs.Guest.{Guest}
 use Rattle.flat_machine.specs.Machine.{Machine, is_off, running_by}
 use Rattle.vm_world.specs.Worlds.{IsWorld, WorldValue}
@@ -14,9 +14,10 @@ use Rattle.monitor_running.specs.declared.ran.Ran.{Ran}
 use Rattle.monitor_running.specs.declared.ran.Ran.TheVariants as ran
 use Rattle.monitor_running.specs.Asked.{HostKnown}
 use Rattle.monitor_running.specs.Ran.{HasFault, IsRunning, RanOn, Went}
-use Rattle.monitor_running.specs.Reached.{Keeps, KeepsAs, Kept, Known, Reached, Seen, Start, known, seen}
+use Rattle.monitor_running.specs.Reached.{AreFiles, Keeps, KeepsAs, Kept, Known, Reached, Seen, Start, known, seen}
 use Rattle.flat_trace.specs.Showing.{Out}
-use Rattle.monitor_running.proofs.Joins.{HostRests, rests}
+use Rattle.monitor_running.proofs.Attached.{files_rest}
+use Rattle.monitor_running.proofs.Joins.{HostRests, rests, still_files}
 use Rattle.monitor_running.proofs.Led.{guest_is}
 
 -- ---- what an object told, call after call
@@ -28,6 +29,11 @@ lasts_more : (before mid now : Health) → objects.Lasts before mid → objects.
 lasts_more before mid now first second =
     record { still = λ tells. second.still (first.still tells); later = omega (arith, first.later, second.later) }
 
+-- and a trace is that of the same path
+pub stays_more : (before mid now : TraceKnown) → objects.Lasts before.health mid.health → TraceStays before mid → TraceStays mid now
+    → TraceStays before now
+stays_more before mid now lasts first second = λ tells. second (lasts.still tells) ∙ first tells
+
 -- ---- a body that keeps what was, and then ends so
 
 module _ {B : Type 0} (Is : B → Machine → Type 0) (old mid now : Seen) (b c d : B) (keeps : Keeps Is old b mid c) where
@@ -37,24 +43,24 @@ module _ {B : Type 0} (Is : B → Machine → Type 0) (old mid now : Seen) (b c 
   abbrev kept_after : (s : Start) (m : Machine) (talk : List Out) (k : Kept Is s m mid c talk) (last : Seen) (e : B)
       → Kept Is s k.flat last e talk → Kept Is s m last e talk
   kept_after s m talk k last e n =
-      record { flat = n.flat; is = n.is; beside = joined m k.flat n.flat k.beside n.beside; reached = n.reached }
+      record { flat = n.flat; is = n.is; beside = joined m k.flat n.flat k.beside n.beside; files = n.files; reached = n.reached }
 
   keeps_on : Keeps Is mid c now d → Keeps Is old b now d
-  keeps_on more s m talk is r =
-      let k = keeps s m talk is r in
-      kept_after s m talk k now d (more s k.flat talk k.is k.reached)
+  keeps_on more s m talk is f r =
+      let k = keeps s m talk is f r in
+      kept_after s m talk k now d (more s k.flat talk k.is k.files k.reached)
 
   ran_on : (end : Option Ran) → RanOn Is end mid c now d → RanOn Is end old b now d
   ran_on None on = keeps_on on
-  ran_on (Some ran.Closed) on = λ s m talk is r.
-      let k = keeps s m talk is r in
-      let n = on s k.flat talk k.is k.reached in (kept_after s m talk k now d n.0, n.1)
-  ran_on (Some ran.Off) on = λ s m talk is r.
-      let k = keeps s m talk is r in
-      let n = on s k.flat talk k.is k.reached in (kept_after s m talk k now d n.0, n.1)
-  ran_on (Some ran.TraceFailed) on = λ s m talk is r.
-      let k = keeps s m talk is r in
-      let n = on s k.flat talk k.is k.reached in record {
+  ran_on (Some ran.Closed) on = λ s m talk is f r.
+      let k = keeps s m talk is f r in
+      let n = on s k.flat talk k.is k.files k.reached in (kept_after s m talk k now d n.0, n.1)
+  ran_on (Some ran.Off) on = λ s m talk is f r.
+      let k = keeps s m talk is f r in
+      let n = on s k.flat talk k.is k.files k.reached in (kept_after s m talk k now d n.0, n.1)
+  ran_on (Some ran.TraceFailed) on = λ s m talk is f r.
+      let k = keeps s m talk is f r in
+      let n = on s k.flat talk k.is k.files k.reached in record {
         told = n.told;
         host = n.host;
         reached = n.reached;
@@ -68,31 +74,43 @@ module _ {B : Type 0} (Is : B → Machine → Type 0) (old mid now : Seen) (b c 
         is = n.is;
         beside = joined m k.flat n.flat k.beside n.beside;
       }
-  ran_on (Some ran.SinkFailed) on = λ s m talk is r.
-      let k = keeps s m talk is r in
-      let n = on s k.flat talk k.is k.reached in
+  ran_on (Some ran.SinkFailed) on = λ s m talk is f r.
+      let k = keeps s m talk is f r in
+      let n = on s k.flat talk k.is k.files k.reached in
       (n.0, kept_after s m talk k (record now { taken = now.taken ++ n.0 }) d n.1)
   ran_on (Some (ran.Torn torn journals histories)) on = record {
     world = on.world;
     slice = on.slice;
     host = on.host;
-    kept = λ s m talk is r.
-        let k = keeps s m talk is r in
-        let n = on.kept s k.flat talk k.is k.reached in
-        record { flat = n.flat; is = n.is; beside = joined m k.flat n.flat k.beside n.beside; reached = n.reached };
+    kept = λ s m talk is f r.
+        let k = keeps s m talk is f r in
+        let n = on.kept s k.flat talk k.is k.files k.reached in
+        record { flat = n.flat; is = n.is; beside = joined m k.flat n.flat k.beside n.beside; files = n.files; reached = n.reached };
   }
   ran_on (Some ran.OutOfMemory) on = keeps_on on
 
 -- nothing happened
 pub keeps_same : {B : Type 0} (Is : B → Machine → Type 0) (old now : Seen) (b : B) → now ≡ old → Keeps Is old b now b
-keeps_same Is old now b same s m talk is r =
-    record { flat = m; is = is; beside = refl; reached = subst (λ (x : Seen). Reached s x m talk) (sym same) r }
+keeps_same Is old now b same s m talk is f r =
+    record {
+      flat = m;
+      is = is;
+      beside = refl;
+      files = subst (λ (x : Seen). AreFiles s m x) (sym same) f;
+      reached = subst (λ (x : Seen). Reached s x m talk) (sym same) r;
+    }
 
 -- but that a clock rested
 pub keeps_resting : {B : Type 0} (Is : B → Machine → Type 0) (old now : Seen) (b : B) → now.took ≡ old.took → now.taken ≡ old.taken
     → HostRests old.host now.host → Keeps Is old b now b
-keeps_resting Is old now b told sunk rest s m talk is r =
-    record { flat = m; is = is; beside = refl; reached = rests s old now m talk r told sunk rest }
+keeps_resting Is old now b told sunk rest s m talk is f r =
+    record {
+      flat = m;
+      is = is;
+      beside = refl;
+      files = still_files s old now m talk r (files_rest old.host.disk now.host.disk rest.disk) f;
+      reached = rests s old now m talk r told sunk rest;
+    }
 
 -- ---- the world of a machine
 
@@ -146,20 +164,21 @@ module _ (live after : LiveMachine) (old now : Seen) (w v : WorldValue) (some : 
     flat = k.flat;
     is = subst (λ (x : LiveMachine). IsLive x k.flat) (sym back) (lives_on live m k.flat v is k.beside k.is);
     beside = k.beside;
+    files = k.files;
     reached = k.reached;
   }
 
   lift_keeps : Keeps IsRunning old w now v → Keeps IsLive old live now after
-  lift_keeps keeps s m talk is r = lifted s m talk now is (keeps s m talk (runs_as live m w some moving is) r)
+  lift_keeps keeps s m talk is f r = lifted s m talk now is (keeps s m talk (runs_as live m w some moving is) f r)
 
   lift : (end : Option Ran) → RanOn IsRunning end old w now v → RanOn IsLive end old live now after
   lift None on = lift_keeps on
-  lift (Some ran.Closed) on = λ s m talk is r.
-      let n = on s m talk (runs_as live m w some moving is) r in (lifted s m talk now is n.0, n.1)
-  lift (Some ran.Off) on = λ s m talk is r.
-      let n = on s m talk (runs_as live m w some moving is) r in (lifted s m talk now is n.0, n.1)
-  lift (Some ran.TraceFailed) on = λ s m talk is r.
-      let n = on s m talk (runs_as live m w some moving is) r in record {
+  lift (Some ran.Closed) on = λ s m talk is f r.
+      let n = on s m talk (runs_as live m w some moving is) f r in (lifted s m talk now is n.0, n.1)
+  lift (Some ran.Off) on = λ s m talk is f r.
+      let n = on s m talk (runs_as live m w some moving is) f r in (lifted s m talk now is n.0, n.1)
+  lift (Some ran.TraceFailed) on = λ s m talk is f r.
+      let n = on s m talk (runs_as live m w some moving is) f r in record {
         told = n.told;
         host = n.host;
         reached = n.reached;
@@ -173,14 +192,14 @@ module _ (live after : LiveMachine) (old now : Seen) (w v : WorldValue) (some : 
         is = subst (λ (x : LiveMachine). IsLive x n.flat) (sym back) (lives_on live m n.flat v is n.beside n.is);
         beside = n.beside;
       }
-  lift (Some ran.SinkFailed) on = λ s m talk is r.
-      let n = on s m talk (runs_as live m w some moving is) r in
+  lift (Some ran.SinkFailed) on = λ s m talk is f r.
+      let n = on s m talk (runs_as live m w some moving is) f r in
       (n.0, lifted s m talk (record now { taken = now.taken ++ n.0 }) is n.1)
   lift (Some (ran.Torn torn journals histories)) on = record {
     world = on.world;
     slice = on.slice;
     host = on.host;
-    kept = λ s m talk is r. on.kept s m talk (runs_as live m w some moving is) r;
+    kept = λ s m talk is f r. on.kept s m talk (runs_as live m w some moving is) f r;
   }
   lift (Some ran.OutOfMemory) on = lift_keeps on
 
@@ -188,8 +207,8 @@ module _ (live after : LiveMachine) (old now : Seen) (w v : WorldValue) (some : 
 
 pub keeps_as : (off : Bool) (old now : Seen) (live after : LiveMachine) → Keeps IsLive old live now after
     → ((m : Machine) → IsLive after m → off ≡ is_off m) → KeepsAs off IsLive old live now after
-keeps_as off old now live after keeps is_so s m talk is r =
-    let k = keeps s m talk is r in (k, sym (is_so k.flat k.is))
+keeps_as off old now live after keeps is_so s m talk is f r =
+    let k = keeps s m talk is f r in (k, sym (is_so k.flat k.is))
 
 -- ---- a machine, of which a slice is made or none
 
@@ -200,6 +219,7 @@ went_resting Is trace sink asked now b c same rest = record {
   ran = λ t k. rw same (keeps_resting Is (seen (known trace sink asked)) (seen (known trace sink now)) b refl refl rest);
   fault = tt;
   trace_lasts = lasts_same trace.health;
+  trace_stays = λ tells. refl;
   sink_lasts = lasts_same sink.health;
 }
 
@@ -214,6 +234,7 @@ module _ (live taken after : LiveMachine) (old now : Known) (w v : WorldValue) (
         ran = λ t k. lift live after (seen old) (seen now) w v parts.0 parts.1 whole end (h.ran t k);
         fault = h.fault;
         trace_lasts = h.trace_lasts;
+        trace_stays = h.trace_stays;
         sink_lasts = h.sink_lasts;
       }
 
@@ -237,6 +258,7 @@ went_off k live answer is says = record {
       (off_is live true answer is says);
   fault = tt;
   trace_lasts = lasts_same k.trace.health;
+  trace_stays = λ tells. refl;
   sink_lasts = lasts_same k.sink.health;
 }
 
@@ -248,6 +270,7 @@ went_closed k live answer is says = record {
       (off_is live false answer is says);
   fault = tt;
   trace_lasts = lasts_same k.trace.health;
+  trace_stays = λ tells. refl;
   sink_lasts = lasts_same k.sink.health;
 }
 
@@ -275,6 +298,7 @@ went_on Is end old mid now b c d first last = record {
       (last.ran (first.trace_lasts.still t) (first.sink_lasts.still k));
   fault = fault_on end old mid now first.trace_lasts first.sink_lasts last.fault;
   trace_lasts = lasts_more old.trace.health mid.trace.health now.trace.health first.trace_lasts last.trace_lasts;
+  trace_stays = stays_more old.trace mid.trace now.trace first.trace_lasts first.trace_stays last.trace_stays;
   sink_lasts = lasts_more old.sink.health mid.sink.health now.sink.health first.sink_lasts last.sink_lasts;
 }
 
@@ -283,5 +307,6 @@ went_nowhere Is k b = record {
   ran = λ t s. keeps_same Is (seen k) (seen k) b refl;
   fault = tt;
   trace_lasts = lasts_same k.trace.health;
+  trace_stays = λ tells. refl;
   sink_lasts = lasts_same k.sink.health;
 }

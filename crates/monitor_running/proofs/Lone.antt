@@ -21,6 +21,7 @@ use Rattle.monitor_running.specs.Asked.{HostKnown}
 use Rattle.monitor_running.specs.Items.{TellsPart}
 use Rattle.monitor_running.specs.Waiting.{IsAlone, OthersIdle}
 use Rattle.monitor_running.proofs.Asked.{hart_asks}
+use Rattle.monitor_running.proofs.Attached.{ports_hart}
 use Rattle.monitor_running.proofs.Disks.{hart_rests, unasked_hart}
 use Rattle.monitor_running.proofs.Going.{step_told}
 use Rattle.monitor_running.proofs.Led.{items_append}
@@ -71,7 +72,7 @@ pub steps_gone : (k made : ℕ) (w v : WorldValue) (host : HostKnown) → HasRun
 steps_gone k made w v host run g is =
     let one = run g is in
     let own = own_by k made one.0 one.4 in
-    (one.0, one.4, ((one.1, one.2, one.3), hart_rests k host.clock one.0 own, unasked_hart k one.0 host.disk own))
+    (one.0, one.4, ((one.1, one.2, one.3), hart_rests k host.clock one.0 own, unasked_hart k one.0 host.disk own, ports_hart k one.0 own))
 
 -- ---- runs one behind another
 

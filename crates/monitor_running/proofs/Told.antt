@@ -1,14 +1,14 @@
 -- What a slice leaves, told to its end or not.
-use Rattle.std.proofs.Common.{◌⊎◌, inl, inr, ◌≡◌, ℕ, zero, suc, false, refl, sym, ap, ◌∙◌, subst, List, [], ◌∷◌, ◌++◌, take, drop, All, append_assoc, append-nil, take-append-drop, length, Option, Some, None, arith}
+use Rattle.std.proofs.Common.{inl, inr, ◌≡◌, ◌<◌, ℕ, zero, suc, false, refl, sym, ap, ◌∙◌, subst, List, [], ◌∷◌, ◌++◌, take, drop, All, append_assoc, append-nil, take-append-drop, length, Option, Some, None, arith}
 use Rattle.std.specs.Prelude.{Result, Ok, Err, OnErr}
 use Rattle.std.proofs.lemmas.List.Elements.{All-from_recursion}
 use Rattle.vm_types.specs.declared.entry.Entry.{Entry}
 use Rattle.vm_types.specs.declared.torn.Torn.{Torn}
 use Rattle.vm_types.specs.Causes.{Rose}
-use Rattle.vm_outside.specs.Known.{Health, SinkKnown}
+use Rattle.vm_outside.specs.Known.{Health, SinkKnown, Tells}
 use Rattle.vm_outside.specs.Known as objects
 use Rattle.vm_outside.specs.Passing.{TakesPart}
-use Rattle.serve_host.specs.Tracing.{TraceKnown}
+use Rattle.serve_host.specs.Tracing.{TraceKnown, TraceStays}
 use Rattle.script_text.specs.declared.item.Item.{Item}
 use Rattle.vm_host.specs.declared.host.Host.{Host}
 use Rattle.vm_host.specs.Storing.{DiskKnown}
@@ -29,27 +29,31 @@ use Rattle.monitor_running.specs.declared.ran.Ran.TheVariants as ran
 use Rattle.monitor_running.specs.declared.telling.Untold.{Untold}
 use Rattle.monitor_running.specs.declared.telling.Untold.TheVariants as untold
 use Rattle.flat_trace.specs.Events.{answers_in, drain_items, event_acts, event_items, item_of, needs_room}
-use Rattle.monitor_running.specs.Items.{DrainStops, Drains, HasDrained, HasGoneOn, HasKept, IsShort, MayDrain, TellStops, TellsItems, TellsPart, drained_world}
+use Rattle.monitor_running.specs.Items.{DrainStops, HasDrained, HasGoneOn, HasKept, IsShort, MayDrain, TellStops, TellsItems, TellsPart, drained_world}
 use Rattle.monitor_running.specs.Ran.{HasFault, IsRunning, IsTornOff, RanOn, Went, end_by, slice_end}
 use Rattle.monitor_running.specs.Waiting.{HasGone, makers, turns}
 use Rattle.monitor_running.specs.Asked.{HostKnown}
 use Rattle.monitor_running.specs.Devices.{DiskWasAsked, IsDevices}
-use Rattle.monitor_running.specs.Reached.{Ahead, GetsAhead, IsCut, Keeps, Known, Reached, Seen, Start, known}
+use Rattle.port_table.specs.Window.{most_ports}
+use Rattle.monitor_machine.specs.Disks.{HasFile}
+use Rattle.monitor_running.specs.Reached.{Ahead, AreFiles, GetsAhead, IsCut, Keeps, Known, Reached, Seen, Start, known, told_at}
 use Rattle.flat_trace.specs.Showing.{Out}
 use Rattle.flat_guest.specs.Sound.{IsSound}
 use Rattle.monitor_running.proofs.Asked.{answers_same, roomy}
 use Rattle.monitor_running.proofs.Sound.{sound_led, world_sound}
+use Rattle.monitor_running.proofs.Attached.{HavePorts, file_kept, files_rest, files_was, ports_devices, ports_split, ports_there, ports_turns}
 use Rattle.monitor_running.proofs.Disks.{asked_split, clock_rests, unasked_there, unasked_turns}
-use Rattle.monitor_running.proofs.Joins.{HostRests, answered_first, answers_append, goes_by, host_same, rests}
-use Rattle.monitor_running.proofs.Led.{acts_items, drain_acts, drain_answered, drain_outs, drain_run, drain_says, drain_shows, drain_told, drained_guest, drained_is, events_answered, events_run, items_split, leads_split, quiets, quiets_say, quiets_show, still_runs, with_guest}
+use Rattle.monitor_running.proofs.Joins.{HostRests, answered_first, answers_append, goes_by, host_same, reached_still, rests, still_files}
+use Rattle.monitor_running.proofs.Led.{acts_items, drain_acts, drain_answered, drain_outs, drain_run, drain_says, drain_shows, drain_told, drain_unlineaged, drained_guest, drained_is, events_answered, events_run, events_unlineaged, guest_files, items_split, leads_split, quiets, quiets_say, quiets_show, still_runs, with_guest}
 
 abbrev seen_by : List Item → List ℕ → HostKnown → Seen
 seen_by took taken host = record { took = took; taken = taken; host = host }
 
--- events that lead from this guest to one that the world is, in which the clock and the disks answered
+-- events that lead from this guest to one that the world is, in which the clock and the disks answered; each device has a port
 abbrev pub GoneFrom : Guest → List Entry → WorldValue → HostKnown → HostKnown → Type 0
 GoneFrom g es new asked now =
     ((h : Guest) × Leads g es h × IsWorld new h) × ClockWasAsked asked.clock es now.clock × DiskWasAsked asked.disk es now.disk
+    × HavePorts es
 
 -- there are such from each guest that the world was, and these items tell them
 abbrev pub HostGone : List Item → WorldValue → WorldValue → HostKnown → HostKnown → Type 0
@@ -133,7 +137,7 @@ on_err (Err why) P is = is
 
 module _ (s : Start) (m : Machine) (talk : List Out) (took : List Item) (taken : List ℕ) (asked now : HostKnown)
     (w v : WorldValue) (es : List Entry) (is : IsRunning w m) (gone : GoneFrom is.0 es v asked now)
-    (r : Reached s (seen_by took taken asked) m talk) where
+    (files : AreFiles s m (seen_by took taken asked)) (r : Reached s (seen_by took taken asked) m talk) where
   abbrev old : Seen
   old = seen_by took taken asked
 
@@ -149,6 +153,20 @@ module _ (s : Start) (m : Machine) (talk : List Out) (took : List Item) (taken :
   all_asked : HasAnswered asked.clock (answers_in (event_items es)) now.clock
   all_asked = was_asked asked.clock now.clock es is.0 led.0 (world_sound w is.0 is.2) gone.1 led.1
 
+  abbrev first_health : Health
+  first_health = told_at s
+
+  -- each disk is the file of its drive before and behind
+  files_before : (k : ℕ) → k < most_ports → HasFile first_health m.config k asked.disk
+  files_before = guest_files first_health m is.0 asked.disk is.1 files
+
+  still_tells : Tells first_health → Tells asked.disk.health
+  still_tells = reached_still s old m talk r
+
+  files_behind : (k : ℕ) → k < most_ports → HasFile first_health m.config k now.disk
+  files_behind k less =
+      file_kept first_health m.config k asked.disk now.disk still_tells (files_was es asked.disk now.disk gone.2) (files_before k less)
+
   -- all events are told
   events_told : Reached s (seen_by (took ++ event_items es) taken now) after talk
   events_told =
@@ -158,8 +176,9 @@ module _ (s : Start) (m : Machine) (talk : List Out) (took : List Item) (taken :
       (sym (append-nil taken) ∙ ap (λ (l : List ℕ). taken ++ l) (sym (quiets_show es))) (quiets_say es)
       (record {
         clock = subst (λ (l : List Item). HasAnswered asked.clock (answers_in l) now.clock) (sym (acts_items es)) all_asked;
-        disk = events_answered es m is.0 led.0 sound is.1 led.1 asked.disk now.disk gone.2;
+        disk = events_answered es m is.0 led.0 sound is.1 led.1 first_health asked.disk now.disk gone.3 still_tells files_before gone.2;
       })
+      (events_unlineaged es)
 
   -- and a drain
   console_is : v.board.console ≡ led.0.board.console
@@ -177,8 +196,9 @@ module _ (s : Start) (m : Machine) (talk : List Out) (took : List Item) (taken :
       (ap (λ (l : List ℕ). taken ++ l) (sym (drain_shows bytes))) (drain_says bytes)
       (record {
         clock = subst (λ (l : List Item). HasAnswered now.clock (answers_in l) now.clock) (sym (drain_told bytes)) (unasked bytes);
-        disk = drain_answered m led.0 bytes (drain_run m led.0 bytes console_is) now.disk;
+        disk = drain_answered m led.0 bytes (drain_run m led.0 bytes console_is) first_health now.disk;
       })
+      (drain_unlineaged bytes)
     where
       unasked : (bytes : List ℕ) → HasAnswered now.clock (answers_in (drain_items bytes)) now.clock
       unasked [] = record { still = λ tells. tells; are = λ tells. refl }
@@ -200,6 +220,8 @@ module _ (s : Start) (m : Machine) (talk : List Out) (took : List Item) (taken :
       let clocks = answered_first asked.clock now.clock (answers_in (event_items (take n es))) (answers_in (event_items (drop n es)))
       (subst (λ (l : List ℕ). HasAnswered asked.clock l now.clock) answers all_asked) in
       let disks = asked_split n es asked.disk now.disk gone.2 in
+      let ports = ports_split n es gone.3 in
+      let same = files_was (take n es) asked.disk disks.0 disks.1 in
       let mid : HostKnown = record { clock = clocks.0; disk = disks.0 } in
       let front : Seen = seen_by (took ++ event_items (take n es)) taken mid in
       let sound = world_sound w is.0 is.2 in
@@ -213,8 +235,9 @@ module _ (s : Start) (m : Machine) (talk : List Out) (took : List Item) (taken :
             (sym (append-nil taken) ∙ ap (λ (l : List ℕ). taken ++ l) (sym (quiets_show (take n es)))) (quiets_say (take n es))
             (record {
               clock = subst (λ (l : List Item). HasAnswered asked.clock (answers_in l) clocks.0) (sym (acts_items (take n es))) clocks.1;
-              disk = events_answered (take n es) m is.0 parts.0 sound is.1 parts.1 asked.disk disks.0 disks.1;
-            });
+              disk = events_answered (take n es) m is.0 parts.0 sound is.1 parts.1 first_health asked.disk disks.0 ports.0 still_tells files_before disks.1;
+            })
+            (events_unlineaged (take n es));
         more = event_acts (drop n es);
         outs = quiets (drop n es);
         flat = after;
@@ -223,7 +246,9 @@ module _ (s : Start) (m : Machine) (talk : List Out) (took : List Item) (taken :
         unsaid = quiets_say (drop n es);
         asked = record {
           clock = subst (λ (l : List Item). HasAnswered clocks.0 (answers_in l) now.clock) (sym (acts_items (drop n es))) clocks.2;
-          disk = events_answered (drop n es) (with_guest m parts.0) parts.0 led.0 led_sound runs parts.2 disks.0 now.disk disks.2;
+          disk = events_answered (drop n es) (with_guest m parts.0) parts.0 led.0 led_sound runs parts.2 first_health disks.0 now.disk ports.1
+              (λ tells. same.lasts.still (still_tells tells))
+              (λ k less. file_kept first_health m.config k asked.disk disks.0 still_tells same (files_before k less)) disks.2;
         };
         is = (led.0, after_runs, led.2);
         beside = refl;
@@ -236,7 +261,7 @@ pub slice_gone : (es : List Entry) (w v : WorldValue) (asked now : HostKnown) �
     → All (λ (e : Entry). IsThere (length w.harts) e.actor) es → ClockWasAsked asked.clock es now.clock → now.disk ≡ asked.disk
     → EventsGone es w v asked now
 slice_gone es w v asked now serial there was same g is =
-    (serial g is, was, rw same (unasked_there (length w.harts) es asked.disk there))
+    (serial g is, was, rw same (unasked_there (length w.harts) es asked.disk there), ports_there (length w.harts) es there)
 
 -- the disks of a host of which the clock alone is asked
 pub same_disk : {D L V C : Type 0} (known : D → DiskKnown) (first last : Host D L V C) → last ≡ record first { clock = last.clock }
@@ -248,26 +273,30 @@ pub round_gone : (but : Option ℕ) (es : List Entry) (w v : WorldValue) (asked 
     → HasGone es w v asked now → ((g : Guest) → IsWorld w g → makers es ≡ turns but (length w.harts))
     → EventsGone es w v (record { clock = asked; disk = disk }) (record { clock = now; disk = disk })
 round_gone but es w v asked now disk gone made g is =
-    ((gone g is).0, (gone g is).1, unasked_turns but (length w.harts) es disk (made g is))
+    let actors = made g is in
+    ((gone g is).0, (gone g is).1, unasked_turns but (length w.harts) es disk actors, ports_turns but (length w.harts) es actors)
 
 -- and what the devices' events say
 pub devices_gone : (es : List Entry) (w v : WorldValue) (clock : ClockKnown) (asked now : DiskKnown) → IsSerial w es v
     → ((g : Guest) → IsWorld w g → All IsDevices es) → ((g : Guest) → IsWorld w g → DiskWasAsked asked es now)
     → EventsGone es w v (record { clock = clock; disk = asked }) (record { clock = clock; disk = now })
-devices_gone es w v clock asked now serial made was g is = (serial g is, clock_rests clock es (made g is), was g is)
+devices_gone es w v clock asked now serial made was g is =
+    (serial g is, clock_rests clock es (made g is), was g is, ports_devices es (made g is))
 
 items_told : (took took' : List Item) (taken taken' : List ℕ) (asked mid now : HostKnown) (w v u : WorldValue) (its : List Item)
     → HostGone its w v asked mid → HasDrained v took its u took' → taken' ≡ taken ++ v.board.console → HostRests mid now
     → Keeps IsRunning (seen_by took taken asked) w (seen_by took' taken' now) u
-items_told took took' taken taken' asked mid now w v u its gone drained sunk rest s m talk is r =
+items_told took took' taken taken' asked mid now w v u its gone drained sunk rest s m talk is f r =
     let one = gone is.0 is.2 in
     let es : List Entry = one.0 in
-    let h = led s m talk took taken asked mid w v es is one.2 r in
-    let all = drain_told_too s m talk took taken asked mid w v es is one.2 r in
+    let h = led s m talk took taken asked mid w v es is one.2 f r in
+    let all = drain_told_too s m talk took taken asked mid w v es is one.2 f r in
     let last : Seen = seen_by (took ++ (event_items es ++ drain_items v.board.console)) (taken ++ v.board.console) mid in record {
       flat = with_guest m (drained_guest h.0);
-      is = drained_runs s m talk took taken asked mid w v es is one.2 r u drained.world;
+      is = drained_runs s m talk took taken asked mid w v es is one.2 f r u drained.world;
       beside = refl;
+      files = still_files s last (seen_by took' taken' now) (with_guest m (drained_guest h.0)) talk all (files_rest mid.disk now.disk rest.disk)
+          (files_behind s m talk took taken asked mid w v es is one.2 f r);
       reached = rests s last (seen_by took' taken' now) (with_guest m (drained_guest h.0)) talk all
           (drained.told ∙ ap (λ (l : List Item). took ++ (l ++ drain_items v.board.console)) (sym one.1)) sunk rest;
     }
@@ -276,14 +305,16 @@ items_told took took' taken taken' asked mid now w v u its gone drained sunk res
 items_kept : (took took' : List Item) (taken taken' : List ℕ) (asked mid now : HostKnown) (w v u : WorldValue) (its : List Item)
     → HostGone its w v asked mid → HasKept v took its taken u took' taken' → HostRests mid now
     → Keeps IsRunning (seen_by took taken asked) w (seen_by took' taken' now) u
-items_kept took took' taken taken' asked mid now w v u its gone kept rest s m talk is r =
+items_kept took took' taken taken' asked mid now w v u its gone kept rest s m talk is f r =
     let one = gone is.0 is.2 in
     let es : List Entry = one.0 in
-    let h = led s m talk took taken asked mid w v es is one.2 r in
-    let all = events_told s m talk took taken asked mid w v es is one.2 r in record {
+    let h = led s m talk took taken asked mid w v es is one.2 f r in
+    let all = events_told s m talk took taken asked mid w v es is one.2 f r in record {
       flat = with_guest m h.0;
       is = (h.0, still_runs m is.0 h.0 is.1, subst (λ (x : WorldValue). IsWorld x h.0) (sym kept.world) h.2);
       beside = refl;
+      files = still_files s (seen_by (took ++ event_items es) taken mid) (seen_by took' taken' now) (with_guest m h.0) talk all
+          (files_rest mid.disk now.disk rest.disk) (files_behind s m talk took taken asked mid w v es is one.2 f r);
       reached = rests s (seen_by (took ++ event_items es) taken mid) (seen_by took' taken' now) (with_guest m h.0) talk all
           (kept.told ∙ ap (λ (l : List Item). took ++ l) (sym one.1)) kept.sunk rest;
     }
@@ -300,29 +331,29 @@ items_gone_on took took' taken taken' asked mid now w v u its gone (inr kept) re
 items_ahead : (took took' : List Item) (taken taken' : List ℕ) (asked now : HostKnown) (w v u : WorldValue) (its : List Item)
     → HostGone its w v asked now → u ≡ v → TellsPart took its took' → taken' ≡ taken
     → GetsAhead IsRunning (seen_by took taken asked) w (seen_by took' taken' now) u
-items_ahead took took' taken taken' asked now w v u its gone same part sunk s m talk is r =
+items_ahead took took' taken taken' asked now w v u its gone same part sunk s m talk is f r =
     let one = gone is.0 is.2 in
     let front : took' ≡ took ++ event_items (take part.0 one.0) =
     part.1 ∙ ap (λ (l : List Item). took ++ take part.0 l) (sym one.1)
     ∙ ap (λ (l : List Item). took ++ l) (sym (items_take part.0 one.0)) in
-    rw (same, front, sunk) (part_told s m talk took taken asked now w v one.0 is one.2 r part.0)
+    rw (same, front, sunk) (part_told s m talk took taken asked now w v one.0 is one.2 f r part.0)
 
 items_cut : (took took' : List Item) (taken taken' : List ℕ) (asked now : HostKnown) (w v u : WorldValue) (its : List Item)
     → HostGone its w v asked now → HasDrained v took its u took' → TakesPart taken taken' v.board.console
     → IsCut IsRunning (seen_by took taken asked) w (seen_by took' taken' now) u
-items_cut took took' taken taken' asked now w v u its gone drained part s m talk is r =
+items_cut took took' taken taken' asked now w v u its gone drained part s m talk is f r =
     let bytes = v.board.console in
     let whole : taken' ++ drop part.0 bytes ≡ taken ++ bytes =
     ap (λ (l : List ℕ). l ++ drop part.0 bytes) part.2 ∙ append_assoc taken (take part.0 bytes) (drop part.0 bytes)
     ∙ ap (λ (l : List ℕ). taken ++ l) (take-append-drop part.0 bytes) in (
       drop part.0 bytes,
-      items_told took took' taken (taken' ++ drop part.0 bytes) asked now now w v u its gone drained whole (host_same now) s m talk is r,
+      items_told took took' taken (taken' ++ drop part.0 bytes) asked now now w v u its gone drained whole (host_same now) s m talk is f r,
     )
 
 events_short : (took took' : List Item) (taken taken' : List ℕ) (asked now : HostKnown) (w v u : WorldValue) (es : List Entry)
     → EventsGone es w v asked now → IsShort es
     → Keeps IsRunning (seen_by took taken asked) w (seen_by took' taken' now) u
-events_short took took' taken taken' asked now w v u es gone short s m talk is r =
+events_short took took' taken taken' asked now w v u es gone short s m talk is f r =
     let h = (gone is.0 is.2).0 in
     absurd (short (All-from_recursion (λ (e : Entry). needs_room e ≡ false) es (roomy es is.0 h.0 (world_sound w is.0 is.2) h.1)))
 
@@ -344,15 +375,16 @@ slice_torn took taken asked now w torn journals histories is_torn = record {
   world = w;
   slice = is_torn;
   host = asked;
-  kept = λ s m talk is r. record { flat = m; is = is; beside = refl; reached = r };
+  kept = λ s m talk is f r. record { flat = m; is = is; beside = refl; files = f; reached = r };
 }
 
 pub slice_none : (took : List Item) (taken : List ℕ) (asked now : HostKnown) (w v : WorldValue) → v ≡ w → now ≡ asked
     → Keeps IsRunning (seen_by took taken asked) w (seen_by took taken now) v
-slice_none took taken asked now w v same unasked s m talk is r = record {
+slice_none took taken asked now w v same unasked s m talk is f r = record {
   flat = m;
   is = subst (λ (x : WorldValue). IsRunning x m) (sym same) is;
   beside = refl;
+  files = subst (λ (k : HostKnown). AreFiles s m (seen_by took taken k)) (sym unasked) f;
   reached = subst (λ (k : HostKnown). Reached s (seen_by took taken k) m talk) (sym unasked) r;
 }
 
@@ -364,13 +396,14 @@ lasts_same told = record { still = λ tells. tells; later = omega arith }
 pub went_items_told : (trace traced : TraceKnown) (sink sunk : SinkKnown) (asked mid now : HostKnown) (w v u : WorldValue)
     (its : List Item) → HostGone its w v asked mid
     → (objects.Tells trace.health → objects.Tells sink.health → HasGoneOn v trace.took its sink.taken u traced.took sunk.taken)
-    → objects.Lasts trace.health traced.health → objects.Lasts sink.health sunk.health → HostRests mid now
+    → objects.Lasts trace.health traced.health → TraceStays trace traced → objects.Lasts sink.health sunk.health → HostRests mid now
     → Went IsRunning None (known trace sink asked) w (known traced sunk now) u
-went_items_told trace traced sink sunk asked mid now w v u its gone went trace_lasts sink_lasts rests = record {
+went_items_told trace traced sink sunk asked mid now w v u its gone went trace_lasts trace_stays sink_lasts rests = record {
   ran = λ t k.
       items_gone_on trace.took traced.took sink.taken sunk.taken asked mid now w v u its gone (went t k) rests;
   fault = tt;
   trace_lasts = trace_lasts;
+  trace_stays = trace_stays;
   sink_lasts = sink_lasts;
 }
 
@@ -378,7 +411,7 @@ pub went_told : (trace traced : TraceKnown) (sink sunk : SinkKnown) (asked mid n
     (es told : List Entry) → told ≡ es → EventsGone es w v asked mid
     → (objects.Tells trace.health → objects.Tells sink.health
     → HasGoneOn v trace.took (event_items told) sink.taken u traced.took sunk.taken)
-    → objects.Lasts trace.health traced.health → objects.Lasts sink.health sunk.health → HostRests mid now
+    → objects.Lasts trace.health traced.health → TraceStays trace traced → objects.Lasts sink.health sunk.health → HostRests mid now
     → Went IsRunning None (known trace sink asked) w (known traced sunk now) u
 went_told trace traced sink sunk asked mid now w v u es told same gone went =
     went_items_told trace traced sink sunk asked mid now w v u (event_items told)
@@ -398,15 +431,16 @@ pub went_items_untold : (end : Ran) (why : Untold) (short : Type 0) (trace trace
     → TellStops why short its v trace.took sink.taken u traced.took sunk.taken)
     → (why ≡ untold.Trace → Rose trace.health.faults traced.health.faults)
     → (why ≡ untold.Sink → Rose sink.health.faults sunk.health.faults)
-    → objects.Lasts trace.health traced.health → objects.Lasts sink.health sunk.health
+    → objects.Lasts trace.health traced.health → TraceStays trace traced → objects.Lasts sink.health sunk.health
     → Went IsRunning (Some end) (known trace sink asked) w (known traced sunk now) u
-went_items_untold end why short trace traced sink sunk asked now w v u its is gone out stops trace_rose sink_rose trace_lasts sink_lasts = record {
+went_items_untold end why short trace traced sink sunk asked now w v u its is gone out stops trace_rose sink_rose trace_lasts trace_stays sink_lasts = record {
   ran = λ t k.
       subst (λ (r : Ran). RanOn IsRunning (Some r) (seen_by trace.took sink.taken asked) w (seen_by traced.took sunk.taken now) u) (sym is)
       (items_stop why short trace.took traced.took sink.taken sunk.taken asked now w v u its gone out (stops t k));
   fault = subst (λ (r : Ran). HasFault (Some r) (known trace sink asked) (known traced sunk now)) (sym is)
       (fault_of why (known trace sink asked) (known traced sunk now) trace_rose sink_rose);
   trace_lasts = trace_lasts;
+  trace_stays = trace_stays;
   sink_lasts = sink_lasts;
 }
 
@@ -416,7 +450,7 @@ pub went_untold : (end : Ran) (why : Untold) (trace traced : TraceKnown) (sink s
     → TellStops why (IsShort told) (event_items told) v trace.took sink.taken u traced.took sunk.taken)
     → (why ≡ untold.Trace → Rose trace.health.faults traced.health.faults)
     → (why ≡ untold.Sink → Rose sink.health.faults sunk.health.faults)
-    → objects.Lasts trace.health traced.health → objects.Lasts sink.health sunk.health
+    → objects.Lasts trace.health traced.health → TraceStays trace traced → objects.Lasts sink.health sunk.health
     → Went IsRunning (Some end) (known trace sink asked) w (known traced sunk now) u
 went_untold end why trace traced sink sunk asked now w v u es told is same gone =
     let own : EventsGone told w v asked now = subst (λ (l : List Entry). EventsGone l w v asked now) (sym same) gone in
@@ -432,12 +466,14 @@ failed_by (error.Torn torn journals histories) trace sink asked now w v begun en
   ran = λ t k. slice_torn trace.took sink.taken asked now w torn journals.items histories.items failed.0;
   fault = tt;
   trace_lasts = lasts_same trace.health;
+  trace_stays = λ tells. refl;
   sink_lasts = lasts_same sink.health;
 }
 failed_by error.OutOfMemory trace sink asked now w v begun ended same failed = record {
   ran = λ t k. slice_none trace.took sink.taken asked now w v failed.0 (λ j. record { clock = failed.1 j; disk = same j });
   fault = tt;
   trace_lasts = lasts_same trace.health;
+  trace_stays = λ tells. refl;
   sink_lasts = lasts_same sink.health;
 }
 

@@ -9,33 +9,34 @@ use Rattle.vm_types.specs.declared.op.OutOp.{OutOp}
 use Rattle.vm_types.specs.declared.op.OutOp.TheVariants.{DiskFlush, DiskRead, DiskWrite}
 use Rattle.vm_types.specs.declared.reply.Reply.{Reply}
 use Rattle.vm_outside.specs.Known.{Lasts, Tells}
-use Rattle.vm_host.specs.Devices.{ChangesAt}
-use Rattle.vm_host.specs.Storing.{DiskKnown, IsPart, WritesPart}
+use Rattle.vm_host.specs.Storing.{DiskKnown, FlushesDisk, IsPart, MayFlushDisk, MayWriteDisk, SameDisks, WritesDisk}
+use Rattle.port_table.specs.Window.{most_ports}
 use Rattle.device_trace.specs.Acts.{is_disk_call}
 use Rattle.flat_guest.specs.Guest.{Guest}
 use Rattle.vm_world.specs.Worlds.{IsWorld, WorldValue}
 use Rattle.slice_runner.specs.Slices.{IsSerial}
 
--- what the disks hold before and after a call of one of them that is answered so; where a write fails, that disk may hold
--- anything
-abbrev pub Holds : ℕ → OutOp → Reply → (ℕ → List ℕ) → (ℕ → List ℕ) → Type 0
-Holds device (DiskRead sector part) (Reply.Bytes bytes) old new = IsPart (old device) sector part bytes × (new ≡ old)
-Holds device (DiskWrite sector part bytes) Reply.Done old new = ChangesAt old device new (WritesPart sector part bytes)
-Holds device (DiskWrite sector part bytes) reply old new = ChangesAt old device new (λ before after. Unit {0})
-Holds device act reply old new = new ≡ old
+-- what the disks are behind a call of one of them, by its answer
+abbrev pub Holds : ℕ → OutOp → Reply → DiskKnown → DiskKnown → Type 0
+Holds device (DiskRead sector part) (Reply.Bytes bytes) old new = IsPart (old.held device) sector part bytes × SameDisks old new
+Holds device (DiskWrite sector part bytes) Reply.Done old new = WritesDisk device sector part bytes old new
+Holds device (DiskWrite sector part bytes) reply old new = MayWriteDisk device sector part bytes old new
+Holds device DiskFlush Reply.Done old new = FlushesDisk device old new
+Holds device DiskFlush reply old new = MayFlushDisk device old new
+Holds device act reply old new = SameDisks old new
 
 -- the disks answer a call of one of them so: the count of their faults rose where it failed, and only then
 pub record DiskReplies (device : ℕ) (act : OutOp) (reply : Reply) (old new : DiskKnown) : Type 0 where
   pub lasts : Lasts old.health new.health
   pub failed : reply ≡ Reply.Failed → Rose old.health.faults new.health.faults
   pub kept : (reply ≡ Reply.Failed → ⊥) → new.health.faults ≡ old.health.faults
-  pub held : Tells old.health → Holds device act reply old.held new.held
+  pub held : Tells old.health → Holds device act reply old new
 
 -- they are asked nothing
 pub record DiskRests (old new : DiskKnown) : Type 0 where
   pub lasts : Lasts old.health new.health
   pub kept : new.health.faults ≡ old.health.faults
-  pub held : Tells old.health → new.held ≡ old.held
+  pub same : Tells old.health → SameDisks old new
 
 -- an event's call of the actor's own disk; no other event asks the disks
 abbrev pub CallsDisk : ActorId → OutOp → Reply → DiskKnown → DiskKnown → Type 0
@@ -65,9 +66,9 @@ CanBeAsked (Op.Out (DiskWrite sector part bytes)) = (part < 8) × (length bytes 
 CanBeAsked (Op.Out DiskFlush) = Unit {0}
 CanBeAsked op = ⊥
 
--- a device's event
+-- the event of a device, of which there are at most as many as ports
 abbrev pub IsDevices : Entry → Type 0
-IsDevices e = (k : ℕ) × (e.actor ≡ ActorId.Device k)
+IsDevices e = (k : ℕ) × (k < most_ports) × (e.actor ≡ ActorId.Device k)
 
 -- from each guest that the world was they lead to one that it is; each is a device's, and was answered by its disk
 pub record HaveActed (events : List Entry) (old new : WorldValue) (asked now : DiskKnown) : Type 0 where

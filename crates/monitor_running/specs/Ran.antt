@@ -3,6 +3,7 @@ use Rattle.std.specs.Prelude.{◌≡◌, true, false, List, Option, Some, None}
 use Rattle.vm_types.specs.Causes.{Rose}
 use Rattle.vm_types.specs.declared.torn.Torn.{Torn}
 use Rattle.vm_outside.specs.Known.{Lasts, Tells}
+use Rattle.serve_host.specs.Tracing.{TraceStays}
 use Rattle.stamp_merge.specs.declared.history.History.{History}
 use Rattle.stamp_merge.specs.declared.journal.Journal.{Journal}
 use Rattle.flat_guest.specs.Guest.{Guest}
@@ -16,7 +17,7 @@ use Rattle.monitor_running.specs.declared.ran.Ran.TheVariants as ran
 use Rattle.monitor_running.specs.declared.telling.Untold.{Untold}
 use Rattle.monitor_running.specs.declared.telling.Untold.TheVariants as untold
 use Rattle.monitor_running.specs.Asked.{HostKnown}
-use Rattle.monitor_running.specs.Reached.{GetsAhead, IsCut, Keeps, KeepsAs, Kept, Known, Reached, Seen, Start, seen}
+use Rattle.monitor_running.specs.Reached.{AreFiles, GetsAhead, IsCut, Keeps, KeepsAs, Kept, Known, Reached, Seen, Start, seen}
 use Rattle.flat_trace.specs.Showing.{Out}
 
 -- the guest of the machine runs, and the world is it
@@ -29,7 +30,7 @@ pub record IsTornOff {B : Type 0} (Is : B → Machine → Type 0) (old : Seen) (
   pub world : WorldValue
   pub slice : IsTornSlice world torn journals histories
   pub host : HostKnown
-  pub kept : (s : Start) (m : Machine) (talk : List Out) → Is b m → Reached s old m talk
+  pub kept : (s : Start) (m : Machine) (talk : List Out) → Is b m → AreFiles s m old → Reached s old m talk
       → Kept IsRunning s m (record now { host = host }) world talk
 
 -- by how slices ended, if they did
@@ -54,6 +55,7 @@ pub record Went {B : Type 0} (Is : B → Machine → Type 0) (end : Option Ran) 
   pub ran : Tells old.trace.health → Tells old.sink.health → RanOn Is end (seen old) b (seen now) c
   pub fault : HasFault end old now
   pub trace_lasts : Lasts old.trace.health now.trace.health
+  pub trace_stays : TraceStays old.trace now.trace
   pub sink_lasts : Lasts old.sink.health now.sink.health
 
 -- the end for which there was no slice

@@ -1,12 +1,14 @@
 -- Trace fidelity: what a trace took is a run of the flat machine, which leaves the machine and shows what was taken.
-use Rattle.std.specs.Prelude.{ℕ, ◌≡◌, Bool, List, [], ◌++◌}
+use Rattle.std.specs.Prelude.{ℕ, ◌≡◌, Bool, true, false, All, List, [], ◌++◌}
 use Rattle.script_text.specs.declared.item.Item.{Item}
+use Rattle.script_text.specs.declared.item.Item.TheVariants as item
 use Rattle.serve_host.specs.Tracing.{TraceKnown}
-use Rattle.vm_outside.specs.Known.{SinkKnown}
+use Rattle.vm_outside.specs.Known.{Health, SinkKnown}
 use Rattle.flat_machine.specs.Machine.{Machine, is_off}
 use Rattle.flat_machine.specs.Run.{Act}
 use Rattle.flat_trace.specs.Showing.{Out, Run, items_of, said, shown}
-use Rattle.monitor_running.specs.Asked.{HostAnswered, HostKnown}
+use Rattle.monitor_machine.specs.Disks.{HasFiles}
+use Rattle.monitor_running.specs.Asked.{AnsweredSince, HostKnown}
 
 -- what is known of the trace, the sink, and the clock and the disks
 pub record Known : Type 0 where
@@ -26,11 +28,30 @@ pub record Seen : Type 0 where
 abbrev pub seen : Known → Seen
 seen k = record { took = k.trace.took; taken = k.sink.taken; host = k.host }
 
--- where everything was at some start, what was said on connections among it
+-- where everything was at some start, what was said on connections among it, and whether the disks are attached as its drives
+-- name them
 pub record Start : Type 0 where
   pub seen : Seen
+  pub attached : Bool
   pub flat : Machine
   pub talk : List Out
+
+-- the item gives the machine a lineage
+abbrev pub gives_lineage : Item → Bool
+gives_lineage (item.Lineage lineage) = true
+gives_lineage it = false
+
+-- none of the acts does
+abbrev pub NoLineage : List Act → Type 0
+NoLineage acts = All (λ (act : Act). gives_lineage act.item ≡ false) acts
+
+-- The health of the disks at the start. Of disks that are not attached so it counts as if they didn't tell their content.
+abbrev pub told_by : Bool → Health → Health
+told_by true health = health
+told_by false health = record { tells = false; faults = health.faults }
+
+abbrev pub told_at : Start → Health
+told_at s = told_by s.attached s.seen.host.disk.health
 
 -- since then the trace took all that happened, and all that this shows was taken; the timer was given the clock's answers,
 -- and each device its disk's
@@ -38,20 +59,27 @@ pub record Reached (s : Start) (now : Seen) (m : Machine) (talk : List Out) : Ty
   pub acts : List Act
   pub outs : List Out
   pub added : now.took ≡ s.seen.took ++ items_of acts
+  pub no_lineage : NoLineage acts
   pub run : Run acts s.flat outs m
   pub sink : now.taken ≡ s.seen.taken ++ shown outs
   pub talks : talk ≡ s.talk ++ said outs
-  pub asked : HostAnswered acts s.flat outs m run s.seen.host now.host
+  pub asked : AnsweredSince (told_at s) acts s.flat outs m run s.seen.host now.host
 
--- a body b that is the machine after what happened, which is m but for its guest
+-- the disks of its devices are the files of its drives, if they are attached so and told their content at the start
+abbrev pub AreFiles : Start → Machine → Seen → Type 0
+AreFiles s m now = HasFiles (told_at s) m now.host.disk
+
+-- What has happened leads to a machine that b is. It differs from m in its guest alone, and its devices' disks are the files of
+-- its drives.
 pub record Kept {B : Type 0} (Is : B → Machine → Type 0) (s : Start) (m : Machine) (now : Seen) (b : B) (talk : List Out) :
     Type 0 where
   pub flat : Machine
   pub is : Is b flat
   pub beside : flat ≡ record m { guest = flat.guest }
+  pub files : AreFiles s flat now
   pub reached : Reached s now flat talk
 
--- The trace has not all that happened: these further events, which show nothing, lead from where it leads to the body.
+-- The trace lacks the last events: these further events, which show nothing, lead from where it leads to the body.
 pub record Ahead {B : Type 0} (Is : B → Machine → Type 0) (s : Start) (m : Machine) (now : Seen) (b : B) (talk : List Out) :
     Type 0 where
   pub told : Machine
@@ -63,28 +91,28 @@ pub record Ahead {B : Type 0} (Is : B → Machine → Type 0) (s : Start) (m : M
   pub ahead : Run more told outs flat
   pub unshown : shown outs ≡ []
   pub unsaid : said outs ≡ []
-  pub asked : HostAnswered more told outs flat ahead host now.host
+  pub asked : AnsweredSince (told_at s) more told outs flat ahead host now.host
   pub is : Is b flat
   pub beside : flat ≡ record m { guest = flat.guest }
 
 -- However the machine got here, and whatever was said on connections: the trace has all of it
 abbrev pub Keeps : {B : Type 0} → (B → Machine → Type 0) → Seen → B → Seen → B → Type 0
 Keeps Is old b now c =
-    (s : Start) (m : Machine) (talk : List Out) → Is b m → Reached s old m talk → Kept Is s m now c talk
+    (s : Start) (m : Machine) (talk : List Out) → Is b m → AreFiles s m old → Reached s old m talk → Kept Is s m now c talk
 
 -- and then the guest is on, or off
 abbrev pub KeepsAs : {B : Type 0} → Bool → (B → Machine → Type 0) → Seen → B → Seen → B → Type 0
 KeepsAs off Is old b now c =
-    (s : Start) (m : Machine) (talk : List Out) → Is b m → Reached s old m talk
+    (s : Start) (m : Machine) (talk : List Out) → Is b m → AreFiles s m old → Reached s old m talk
     → (kept : Kept Is s m now c talk) × (is_off kept.flat ≡ off)
 
 -- the trace failed, and lacks the last events
 abbrev pub GetsAhead : {B : Type 0} → (B → Machine → Type 0) → Seen → B → Seen → B → Type 0
 GetsAhead Is old b now c =
-    (s : Start) (m : Machine) (talk : List Out) → Is b m → Reached s old m talk → Ahead Is s m now c talk
+    (s : Start) (m : Machine) (talk : List Out) → Is b m → AreFiles s m old → Reached s old m talk → Ahead Is s m now c talk
 
 -- the sink failed: the trace has all that happened, and the sink took a front of what that shows
 abbrev pub IsCut : {B : Type 0} → (B → Machine → Type 0) → Seen → B → Seen → B → Type 0
 IsCut Is old b now c =
-    (s : Start) (m : Machine) (talk : List Out) → Is b m → Reached s old m talk
+    (s : Start) (m : Machine) (talk : List Out) → Is b m → AreFiles s m old → Reached s old m talk
     → (rest : List ℕ) × Kept Is s m (record now { taken = now.taken ++ rest }) c talk

@@ -23,6 +23,7 @@ ghost use Rattle.vm_types.specs.declared.op.Op.TheVariants.{Idle, Out};
 ghost use Rattle.vm_types.specs.declared.op.OutOp.TheVariants as out;
 ghost use Rattle.vm_outside.specs.Known.{Lasts};
 ghost use Rattle.vm_host.specs.Storing.{DiskKnown};
+ghost use Rattle.port_table.specs.Window.{most_ports};
 ghost use Rattle.flat_guest.specs.Guest.{Guest};
 ghost use Rattle.vm_world.specs.Worlds.{IsWorld, WorldValue};
 ghost use Rattle.slice_runner.specs.Slices.{IsSerial};
@@ -127,7 +128,7 @@ fn step_device<D: Disk>(
     events: &mut Vec<Entry>,
 ) -> bool
     requires { vec_len events.old + 1 ≤ vec_capacity events.old }
-    ensures acted { (first : WorldValue) (asked : DiskKnown) →
+    ensures acted { (first : WorldValue) (asked : DiskKnown) → device < most_ports →
         HaveActed events.old.items first world.old asked (D.known disk.old) →
         HaveActed events.new.items first world.new asked (D.known disk.new) }
     ensures lasts { Lasts (D.known disk.old).health (D.known disk.new).health }
@@ -158,7 +159,7 @@ fn run_device<D: Disk>(
     events: &mut Vec<Entry>,
 )
     requires { vec_len events.old + most ≤ vec_capacity events.old }
-    ensures acted { (first : WorldValue) (asked : DiskKnown) →
+    ensures acted { (first : WorldValue) (asked : DiskKnown) → device < most_ports →
         HaveActed events.old.items first world.old asked (D.known disk.old) →
         HaveActed events.new.items first world.new asked (D.known disk.new) }
     ensures lasts { Lasts (D.known disk.old).health (D.known disk.new).health }

@@ -1,5 +1,6 @@
 // Events told to a trace, and the console to a sink.
 ghost use Rattle.std.specs.Prelude.{◌≡◌, ◌≢◌, ℕ, ◌++◌, ◌∷◌, [], false, true, All, IfErr, OnErr, OnOk};
+ghost use Rattle.serve_host.specs.Tracing.{TraceStays};
 ghost use Rattle.vm_outside.specs.Known.{Called, Lasts, Tells};
 ghost use Rattle.vm_types.specs.Causes.{Rose};
 ghost use Rattle.monitor_running.specs.declared.telling.Untold.TheVariants as untold;
@@ -47,6 +48,7 @@ fn tell_event<T: Trace>(alloc: Global, event: &Entry, trace: &mut T) -> Result<(
         Rose (T.known trace.old).health.faults (T.known trace.new).health.faults) }
     ensures unsunk { IfErr result (λ why. why ≢ untold.Sink) }
     ensures lasts { Lasts (T.known trace.old).health (T.known trace.new).health }
+    ensures stays { TraceStays (T.known trace.old) (T.known trace.new) }
 {
     let Ok(item) = event_item(alloc, event) else {
         return Err(Untold::OutOfMemory);
@@ -68,6 +70,7 @@ fn tell_events<T: Trace>(alloc: Global, events: &[Entry], trace: &mut T) -> Resu
         Rose (T.known trace.old).health.faults (T.known trace.new).health.faults) }
     ensures unsunk { IfErr result (λ why. why ≢ untold.Sink) }
     ensures lasts { Lasts (T.known trace.old).health (T.known trace.new).health }
+    ensures stays { TraceStays (T.known trace.old) (T.known trace.new) }
 {
     if !trace.is_heard() {
         return Ok(());
@@ -90,6 +93,7 @@ fn drain<T: Trace, K: Sink>(guest: &mut World, trace: &mut T, sink: &mut K) -> R
     ensures sink_cause { IfErr result (λ why. why ≡ untold.Sink →
         Rose (K.known sink.old).health.faults (K.known sink.new).health.faults) }
     ensures trace_lasts { Lasts (T.known trace.old).health (T.known trace.new).health }
+    ensures trace_stays { TraceStays (T.known trace.old) (T.known trace.new) }
     ensures sink_lasts { Lasts (K.known sink.old).health (K.known sink.new).health }
 {
     if guest.console().is_empty() {
@@ -121,6 +125,7 @@ fn drain_if_ready<T: Trace, K: Sink>(
     ensures sink_cause { IfErr result (λ why. why ≡ untold.Sink →
         Rose (K.known sink.old).health.faults (K.known sink.new).health.faults) }
     ensures trace_lasts { Lasts (T.known trace.old).health (T.known trace.new).health }
+    ensures trace_stays { TraceStays (T.known trace.old) (T.known trace.new) }
     ensures sink_lasts { Lasts (K.known sink.old).health (K.known sink.new).health }
 {
     if !sink.ready() && !guest.is_off() {
@@ -145,6 +150,7 @@ pub fn tell_slice<T: Trace, K: Sink>(
     ensures sink_cause { IfErr result (λ why. why ≡ untold.Sink →
         Rose (K.known sink.old).health.faults (K.known sink.new).health.faults) }
     ensures trace_lasts { Lasts (T.known trace.old).health (T.known trace.new).health }
+    ensures trace_stays { TraceStays (T.known trace.old) (T.known trace.new) }
     ensures sink_lasts { Lasts (K.known sink.old).health (K.known sink.new).health }
 {
     tell_events(alloc, events, trace)?;
@@ -167,6 +173,7 @@ pub fn tell_steps<T: Trace, K: Sink>(
     ensures sink_cause { IfErr result (λ why. why ≡ untold.Sink →
         Rose (K.known sink.old).health.faults (K.known sink.new).health.faults) }
     ensures trace_lasts { Lasts (T.known trace.old).health (T.known trace.new).health }
+    ensures trace_stays { TraceStays (T.known trace.old) (T.known trace.new) }
     ensures sink_lasts { Lasts (K.known sink.old).health (K.known sink.new).health }
 {
     let Ok(()) = trace.add_steps(actor, count) else {

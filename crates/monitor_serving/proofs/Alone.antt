@@ -1,5 +1,5 @@
 -- Slices while nobody is connected, and one end behind another.
-use Rattle.std.proofs.Common.{◌≡◌, ℕ, true, refl, sym, ap, subst, ◌≤◌, List, [], ◌++◌, append-nil, Option, Some, None, arith}
+use Rattle.std.proofs.Common.{◌≡◌, ℕ, true, refl, sym, ◌∙◌, subst, ◌≤◌, List, [], ◌++◌, append-nil, Option, Some, None, arith}
 use Rattle.vm_types.specs.Causes.{Rose}
 use Rattle.vm_types.specs.declared.exit.Object.{Object}
 use Rattle.vm_types.specs.declared.exit.Object.TheVariants as object
@@ -8,7 +8,7 @@ use Rattle.vm_outside.specs.Known.{FilesKnown, Health, Lasts, SinkKnown}
 use Rattle.serve_host.specs.Passing.{ConnKnown}
 use Rattle.serve_host.specs.declared.listener.Accepted.{Accepted}
 use Rattle.serve_host.specs.declared.listener.Accepted.TheVariants as accepted
-use Rattle.serve_host.specs.Listening.{ComesFresh, Ended, IsFresh, ListenerKnown}
+use Rattle.serve_host.specs.Listening.{Accepts, ComesToEnd, Ended, GivesConn, ListenerKnown, SameConnections}
 use Rattle.serve_host.specs.Tracing.{TraceKnown}
 use Rattle.script_text.specs.declared.item.Item.{Item}
 use Rattle.flat_machine.specs.Machine.{Machine, is_off}
@@ -22,10 +22,11 @@ use Rattle.monitor_running.specs.Ran.{HasFault, RanOn}
 use Rattle.monitor_running.specs.Reached.{Kept, Known, Reached, Start, known, seen}
 use Rattle.monitor_serving.specs.declared.served.Served.{Served as End}
 use Rattle.monitor_serving.specs.declared.served.Served.TheVariants as served
-use Rattle.monitor_serving.specs.Connections.{BrokeOff, EndCause, GoCause, Goes, HasGone, HasServed, Place, Serves, going, place}
+use Rattle.monitor_serving.specs.Connections.{BrokeOff, EndCause, GoCause, Goes, HasGone, HasServed, HaveCome, HaveComeInPart, Place, Serves, going, place, still_coming}
 use Rattle.monitor_serving.specs.Ends.{alone_end}
 use Rattle.monitor_serving.specs.Turns.{MayLack}
 use Rattle.monitor_serving.specs.Views.{AllLast, Hosts, hosts}
+use Rattle.monitor_serving.proofs.Bringing.{come_in_part, come_same, serves_same}
 use Rattle.monitor_serving.proofs.Connections.{in_off, in_part}
 use Rattle.monitor_serving.proofs.Filing.{SameFiled, filed, filed_ahead, filed_beside, run_filed}
 use Rattle.monitor_serving.proofs.Slices.{monitor_kept}
@@ -39,7 +40,7 @@ module _ (monitor now_monitor : Monitor) (machine : LiveMachine) (k now : Known)
   abbrev new_place : Place
   new_place = place now_monitor (hosts now files) listener
 
-  abbrev kept : (s : Start) (first : List Ended) (old : HasServed s first old_place)
+  abbrev kept : (s : Start) (first : ListenerKnown) (old : HasServed s first old_place)
       → Kept IsLive s old.flat (seen now) machine old.talk → HasServed s first new_place
   kept s first old it = record {
     flat = it.flat;
@@ -48,13 +49,14 @@ module _ (monitor now_monitor : Monitor) (machine : LiveMachine) (k now : Known)
     stands = record {
       is = subst (λ (m : Monitor). IsMonitor m files it.flat) (sym lent)
           (monitor_kept monitor machine (hosts k files) old.flat it.flat old.stands.is it.is it.beside);
+      disks = it.files;
       reached = it.reached;
     };
-    ended = old.ended;
+    came = old.came;
     told = old.told;
   }
 
-  broke : (end : End) (s : Start) (first : List Ended) (old : HasServed s first old_place) (at : Machine) (host : HostKnown)
+  broke : (end : End) (s : Start) (first : ListenerKnown) (old : HasServed s first old_place) (at : Machine) (host : HostKnown)
       (unshown : List ℕ) → MayLack end unshown → SameFiled old.flat at
       → Reached s (record (seen now) { taken = now.sink.taken ++ unshown; host = host }) at old.talk → BrokeOff end s first new_place
   broke end s first old at host unshown shown same reached = record {
@@ -64,51 +66,51 @@ module _ (monitor now_monitor : Monitor) (machine : LiveMachine) (k now : Known)
     host = host;
     unshown = unshown;
     reached = reached;
-    ended = old.ended;
+    came = come_in_part first old.since listener old.came;
     told = in_part old.talk old.since old.told;
     shown = shown;
     files = filed files files old.flat at refl same old.stands.is.files;
   }
 
-  all_shown : (end : End) (s : Start) (first : List Ended) (old : HasServed s first old_place) (at : Machine) (host : HostKnown)
+  all_shown : (end : End) (s : Start) (first : ListenerKnown) (old : HasServed s first old_place) (at : Machine) (host : HostKnown)
       → MayLack end [] → SameFiled old.flat at → Reached s (record (seen now) { host = host }) at old.talk → BrokeOff end s first new_place
   all_shown end s first old at host shown same reached =
       broke end s first old at host [] shown same
       (subst (λ (l : List ℕ). Reached s (record (seen now) { taken = l; host = host }) at old.talk) (sym (append-nil now.sink.taken)) reached)
 
-  gone : (s : Start) (first : List Ended) (it : HasServed s first new_place) → is_off it.flat ≡ true → HasGone s first new_place
+  gone : (s : Start) (first : ListenerKnown) (it : HasServed s first new_place) → is_off it.flat ≡ true → HasGone s first new_place
   gone s first it off = record {
     flat = it.flat;
     talk = it.talk;
     since = it.since;
     stands = it.stands;
-    ended = it.ended;
+    came = it.came;
     told = in_off it.talk it.since it.told;
     off = off;
   }
 
   pub ran_alone : (it : Option Ran) → RanOn IsLive it (seen k) monitor.machine (seen now) machine → (it ≡ Some ran.Closed → ⊥)
       → Goes (alone_end it) old_place new_place
-  ran_alone None on never = λ s first old. kept s first old (on s old.flat old.talk old.stands.is.own.live old.stands.reached)
+  ran_alone None on never = λ s first old. kept s first old (on s old.flat old.talk old.stands.is.own.live old.stands.disks old.stands.reached)
   ran_alone (Some ran.Closed) on never = absurd (never refl)
   ran_alone (Some ran.Off) on never = λ s first old.
-      let it = on s old.flat old.talk old.stands.is.own.live old.stands.reached in gone s first (kept s first old it.0) it.1
+      let it = on s old.flat old.talk old.stands.is.own.live old.stands.disks old.stands.reached in gone s first (kept s first old it.0) it.1
   ran_alone (Some ran.TraceFailed) on never = λ s first old.
-      let it = on s old.flat old.talk old.stands.is.own.live old.stands.reached in
+      let it = on s old.flat old.talk old.stands.is.own.live old.stands.disks old.stands.reached in
       all_shown (served.Fault object.Trace) s first old it.told it.host refl
       (filed_ahead old.flat it.told it.flat (filed_beside old.flat it.flat it.beside) (run_filed it.more it.told it.outs it.flat it.ahead it.unsaid))
       it.reached
   ran_alone (Some ran.SinkFailed) on never = λ s first old.
-      let it = on s old.flat old.talk old.stands.is.own.live old.stands.reached in
+      let it = on s old.flat old.talk old.stands.is.own.live old.stands.disks old.stands.reached in
       broke (served.Fault object.Sink) s first old it.1.flat now.host it.0 tt (filed_beside old.flat it.1.flat it.1.beside) it.1.reached
   ran_alone (Some (ran.Torn torn journals histories)) on never = (
     (on.world, on.slice),
     λ s first old.
-        let it = on.kept s old.flat old.talk old.stands.is.own.live old.stands.reached in
+        let it = on.kept s old.flat old.talk old.stands.is.own.live old.stands.disks old.stands.reached in
         all_shown (served.Torn torn journals histories) s first old it.flat on.host refl (filed_beside old.flat it.flat it.beside) it.reached,
   )
   ran_alone (Some ran.OutOfMemory) on never = λ s first old.
-      let it = on s old.flat old.talk old.stands.is.own.live old.stands.reached in
+      let it = on s old.flat old.talk old.stands.is.own.live old.stands.disks old.stands.reached in
       all_shown served.OutOfMemory s first old it.flat now.host refl (filed_beside old.flat it.flat it.beside) it.reached
 
 pub alone_cause : (it : Option Ran) (old new : Hosts) (listener : Health) → HasFault it old.slices new.slices
@@ -122,11 +124,11 @@ alone_cause (Some (ran.Torn torn journals histories)) old new listener fault = t
 alone_cause (Some ran.OutOfMemory) old new listener fault = tt
 
 -- the trace failed, or there was no memory, before anything happened
-pub breaks_idle : (end : End) → MayLack end [] → (s : Start) (first : List Ended) (monitor : Monitor) (trace told : TraceKnown) (sink : SinkKnown) (host : HostKnown)
-    (files : FilesKnown) (listener : ListenerKnown) → told.took ≡ trace.took
-    → HasServed s first (place monitor (hosts (known trace sink host) files) listener)
-    → BrokeOff end s first (place monitor (hosts (known told sink host) files) listener)
-breaks_idle end shown s first monitor trace told sink host files listener same old = record {
+pub breaks_idle : (end : End) → MayLack end [] → (s : Start) (first : ListenerKnown) (monitor : Monitor) (trace told : TraceKnown) (sink : SinkKnown) (host : HostKnown)
+    (files : FilesKnown) (listener left : ListenerKnown) → ((since : List Ended) → HaveCome first since listener → HaveComeInPart first since left)
+    → told.took ≡ trace.took → HasServed s first (place monitor (hosts (known trace sink host) files) listener)
+    → BrokeOff end s first (place monitor (hosts (known told sink host) files) left)
+breaks_idle end shown s first monitor trace told sink host files listener left part same old = record {
   at = old.flat;
   talk = old.talk;
   since = old.since;
@@ -134,7 +136,7 @@ breaks_idle end shown s first monitor trace told sink host files listener same o
   unshown = [];
   reached = subst (λ (l : List ℕ). Reached s (record { took = told.took; taken = l; host = host }) old.flat old.talk) (sym (append-nil sink.taken))
       (subst (λ (i : List Item). Reached s (record { took = i; taken = sink.taken; host = host }) old.flat old.talk) (sym same) old.stands.reached);
-  ended = old.ended;
+  came = part old.since old.came;
   told = in_part old.talk old.since old.told;
   shown = shown;
   files = old.stands.is.files;
@@ -153,6 +155,14 @@ module _ (a b c : Place) (first : Serves served.Ended a b) where
   serves_on (served.Torn torn journals histories) more = (more.0, λ s before old. more.1 s before (first s before old))
   serves_on served.OutOfMemory more = λ s before old. more s before (first s before old)
 
+  pub goes_on : (it : Option End) → Goes it b c → Goes it a c
+  goes_on None more = serves_on served.Ended more
+  goes_on (Some served.Ended) more = (serves_on served.Ended more.0, more.1)
+  goes_on (Some served.Off) more = serves_on served.Off more
+  goes_on (Some (served.Fault name)) more = serves_on (served.Fault name) more
+  goes_on (Some (served.Torn torn journals histories)) more = serves_on (served.Torn torn journals histories) more
+  goes_on (Some served.OutOfMemory) more = serves_on served.OutOfMemory more
+
 module _ (a b c : Hosts) (x y z : Health) (hosts : AllLast a b) (listener : Lasts x y) where
   pub end_cause_on : (end : End) → EndCause end b c y z → EndCause end a c x z
   end_cause_on served.Ended cause = tt
@@ -170,17 +180,13 @@ module _ (a b c : Hosts) (x y z : Health) (hosts : AllLast a b) (listener : Last
 
 -- ---- a listener that gave nothing
 
-pub same_place : (monitor : Monitor) (hosts : Hosts) (a b : ListenerKnown) → b.ended ≡ a.ended → place monitor hosts a ≡ place monitor hosts b
-same_place monitor hosts a b same =
-    ap (λ (l : List Ended). record { monitor = monitor; hosts = hosts; ended = l }) (sym same)
-
 pub breaks_on_accept : (monitor : Monitor) (trace : TraceKnown) (sink : SinkKnown) (host : HostKnown) (files : FilesKnown)
-    (a b : ListenerKnown) → b.ended ≡ a.ended → (s : Start) (first : List Ended)
+    (a b : ListenerKnown) → SameConnections a b → (s : Start) (first : ListenerKnown)
     → HasServed s first (place monitor (hosts (known trace sink host) files) a)
     → BrokeOff (served.Fault object.Listener) s first (place monitor (hosts (known trace sink host) files) b)
 breaks_on_accept monitor trace sink host files a b same s first old =
-    subst (λ (p : Place). BrokeOff (served.Fault object.Listener) s first p) (same_place monitor (hosts (known trace sink host) files) a b same)
-    (breaks_idle (served.Fault object.Listener) refl s first monitor trace trace sink host files a refl old)
+    breaks_idle (served.Fault object.Listener) refl s first monitor trace trace sink host files a b
+    (λ since came. come_in_part first since b (come_same first since a b same.ended same.coming came)) refl old
 
 rose_still : (i j : ℕ) → i ≤ j → Rose i i → Rose i j
 rose_still i j later rose = omega (arith, later, rose)
@@ -207,8 +213,32 @@ goes_by (served.Fault name) a b serves = serves
 goes_by (served.Torn torn journals histories) a b serves = serves
 goes_by served.OutOfMemory a b serves = serves
 
--- ---- what was accepted is fresh
+-- ---- what was accepted
 
-pub fresh_of : {C : Type 0} → (known : C → ConnKnown) (it : Accepted C) (conn : C) → it ≡ accepted.Conn conn → ComesFresh known it
-    → IsFresh (known conn)
-fresh_of known it conn is fresh = subst (λ a. ComesFresh known a) is fresh
+-- none is to come any more
+pub goes_to_end : {C : Type 0} (known : C → ConnKnown) (monitor : Monitor) (hosts : Hosts) (a b : ListenerKnown) (it : Accepted C)
+    → it ≡ accepted.Ended → Accepts known a it b → Goes (Some served.Ended) (place monitor hosts a) (place monitor hosts b)
+goes_to_end known monitor hosts a b it is accepts =
+    let ends : ComesToEnd a b = subst (λ x. Accepts known a x b) is accepts in
+    (serves_same monitor hosts a b ends.ended (ends.coming ∙ sym ends.none), ends.coming)
+
+-- none has come
+pub goes_unheard : {C : Type 0} (known : C → ConnKnown) (monitor : Monitor) (hosts : Hosts) (a b : ListenerKnown) (it : Accepted C)
+    → it ≡ accepted.NotYet → Accepts known a it b → (end : Option End) (c : Place) → Goes end (place monitor hosts b) c
+    → Goes end (place monitor hosts a) c
+goes_unheard known monitor hosts a b it is accepts end c more =
+    let same : SameConnections a b = subst (λ x. Accepts known a x b) is accepts in
+    goes_on (place monitor hosts a) (place monitor hosts b) c (serves_same monitor hosts a b same.ended same.coming) end more
+
+-- one has come
+pub given_of : {C : Type 0} (known : C → ConnKnown) (a b : ListenerKnown) (it : Accepted C) (conn : C) → it ≡ accepted.Conn conn
+    → Accepts known a it b → GivesConn (known conn) a b
+given_of known a b it conn is accepts = subst (λ x. Accepts known a x b) is accepts
+
+pub goes_with_one : (monitor : Monitor) (hosts : Hosts) (a b : ListenerKnown) (conn : ConnKnown) (gives : GivesConn conn a b) (end : End)
+    (c : Place) → Serves end (place monitor hosts (still_coming gives.bytes b)) c → Goes (going end) (place monitor hosts a) c
+goes_with_one monitor hosts a b conn gives end c serves =
+    let from : Place = place monitor hosts (still_coming gives.bytes b) in
+    goes_on (place monitor hosts a) from c
+    (serves_same monitor hosts a (still_coming gives.bytes b) gives.ended (sym gives.coming)) (going end)
+    (goes_by end from c serves)

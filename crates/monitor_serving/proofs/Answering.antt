@@ -4,6 +4,9 @@ use Rattle.std.proofs.lemmas.List.{take-append-drop}
 use Rattle.monitor_running.specs.Asked.{HostKnown}
 use Rattle.vm_outside.specs.Known.{Called, FilesKnown, Lasts, SinkKnown, Tells}
 use Rattle.vm_outside.specs.Passing.{TakesAll}
+use Rattle.vm_host.specs.Storing.{DiskKnown}
+use Rattle.vm_host.specs.Telling.{ClockKnown}
+use Rattle.monitor_machine.specs.Disks.{DiskUncalled, HasFiles}
 use Rattle.serve_host.specs.Passing.{ConnKnown, Gives, Waits}
 use Rattle.serve_host.specs.Tracing.{TraceKnown}
 use Rattle.script_text.specs.declared.item.Item.TheVariants as item
@@ -17,15 +20,18 @@ use Rattle.monitor_core.specs.Talking.{HasHalted}
 use Rattle.monitor_running.specs.Reached.{known}
 use Rattle.monitor_serving.specs.declared.served.Served.TheVariants as served
 use Rattle.monitor_serving.specs.Turns.{BreaksOff, EndsConnection, GoesOff, GoesOn}
-use Rattle.monitor_serving.specs.Views.{hosts, view}
+use Rattle.monitor_serving.specs.Views.{host_with, hosts, view}
 use Rattle.monitor_serving.proofs.Pieces.{was_answered, was_cut, was_ignored, was_untold}
 
 -- the conn as it waited, which took nothing
 still : (conn now : ConnKnown) → now ≡ conn → Waits conn now
 still conn now same = record { gave = ap (λ (c : ConnKnown). c.gave) same; left = ap (λ (c : ConnKnown). c.left) same }
 
-module _ (monitor after : Monitor) (trace told : TraceKnown) (sink : SinkKnown) (host : HostKnown) (files left : FilesKnown)
-    (before conn now : ConnKnown) (bytes : List ℕ) (came : Gives before conn bytes) (untaken : conn.took ≡ before.took) where
+module _ (monitor after : Monitor) (trace told : TraceKnown) (sink : SinkKnown) (clock : ClockKnown) (old : DiskKnown)
+    (files left : FilesKnown) (before conn now : ConnKnown) (bytes : List ℕ) (came : Gives before conn bytes) (untaken : conn.took ≡ before.took) where
+  abbrev host : HostKnown
+  host = host_with clock old
+
   -- the trace failed
   pub untold : told.took ≡ trace.took → left ≡ files
       → BreaksOff (served.Fault object.Trace) (view monitor (hosts (known trace sink host) files) before)
@@ -39,8 +45,8 @@ module _ (monitor after : Monitor) (trace told : TraceKnown) (sink : SinkKnown) 
     pub ignored : (off : (m : Machine) → IsMonitor monitor files m → is_off m ≡ true)
         → GoesOff (view monitor (hosts (known trace sink host) files) before) (view monitor (hosts (known told sink host) files) conn)
     ignored off s m talk stands = (
-      was_ignored s m talk bytes trace told sink host files files monitor monitor before conn conn is_told stands.reached came untaken
-          (still conn conn refl) stands.is (off m stands.is) stands.is refl refl,
+      was_ignored s m talk bytes trace told sink clock old files files monitor monitor before conn conn is_told stands.reached came untaken
+          (still conn conn refl) stands.is (off m stands.is) stands.disks stands.is refl refl,
       off m stands.is,
     )
 
@@ -50,28 +56,30 @@ module _ (monitor after : Monitor) (trace told : TraceKnown) (sink : SinkKnown) 
           → BreaksOff served.OutOfMemory (view monitor (hosts (known trace sink host) files) before)
           (view after (hosts (known told sink host) left) conn)
       short tells halts s m talk stands =
-          was_cut s m talk bytes trace told sink host files left monitor after before conn conn is_told stands.reached came untaken
+          was_cut s m talk bytes trace told sink clock old files left monitor after before conn conn is_told stands.reached came untaken
           (still conn conn refl) stands.is (on m stands.is) refl tells halts
 
-      module _ (text : List ℕ) (tells : Tells files.health) (hears : HearGoes bytes text monitor after files left) (waits : Waits conn now) where
+      module _ (text : List ℕ) (tells : Tells files.health) (hears : HearGoes bytes text monitor after files left) (waits : Waits conn now)
+          (disk : DiskKnown) (uncalled : DiskUncalled old disk)
+          (attached : (m : Machine) → IsMonitor after left m → HasFiles old.health m disk) where
         -- all was sent
         pub sent : now.took ≡ conn.took ++ text
-            → GoesOn (view monitor (hosts (known trace sink host) files) before) (view after (hosts (known told sink host) left) now)
+            → GoesOn (view monitor (hosts (known trace sink host) files) before) (view after (hosts (known told sink (host_with clock disk)) left) now)
         sent took s m talk stands =
             let h = hears.went tells m stands.is in
-            was_answered s m talk bytes trace told sink host files left monitor after before conn now is_told stands.reached came untaken
-            waits stands.is hears.outcomes hears.responses h.0 text [] (on m stands.is) h.1 h.2 hears.writes (append-nil now.took ∙ took)
+            was_answered s m talk bytes trace told sink clock old files left monitor after before conn now is_told stands.reached came untaken
+            waits stands.is disk uncalled hears.outcomes hears.responses h.0 text [] (on m stands.is) h.1 h.2 (attached h.0 h.2) hears.writes (append-nil now.took ∙ took)
 
         -- and then the connection is over; where a write failed it lacks the rest
         pub over : {E : Type 0} (result : Result (Unit {0}) E) → TakesAll conn.took now.took result text
             → Called conn.health now.health result → Lasts before.health conn.health
-            → EndsConnection (view monitor (hosts (known trace sink host) files) before) (view after (hosts (known told sink host) left) now)
+            → EndsConnection (view monitor (hosts (known trace sink host) files) before) (view after (hosts (known told sink (host_with clock disk)) left) now)
         over (Ok done) took called lasts s m talk stands = ([], sent took s m talk stands, inl refl)
         over (Err why) (n, less, took) called lasts s m talk stands =
             let h = hears.went tells m stands.is in (
               drop n text,
-              was_answered s m talk bytes trace told sink host files left monitor after before conn now is_told stands.reached came untaken
-                  waits stands.is hears.outcomes hears.responses h.0 text (drop n text) (on m stands.is) h.1 h.2 hears.writes
+              was_answered s m talk bytes trace told sink clock old files left monitor after before conn now is_told stands.reached came untaken
+                  waits stands.is disk uncalled hears.outcomes hears.responses h.0 text (drop n text) (on m stands.is) h.1 h.2 (attached h.0 h.2) hears.writes
                   (ap (λ (l : List ℕ). l ++ drop n text) took ∙ append_assoc conn.took (take n text) (drop n text)
                   ∙ ap (λ (l : List ℕ). conn.took ++ l) (take-append-drop n text)),
               inr (let rose = called.failed in let later = lasts.later in omega (arith, rose, later)),

@@ -5,7 +5,7 @@ use Rattle.vm_types.specs.declared.exit.Object.TheVariants as object
 use Rattle.vm_types.specs.declared.exit.Object.{Object}
 use Rattle.serve_host.specs.Passing.{ConnKnown}
 use Rattle.serve_host.specs.Tracing.{TraceKnown}
-use Rattle.serve_host.specs.Listening.{Ended, IsFresh, ListenerKnown, ended_of}
+use Rattle.serve_host.specs.Listening.{Ended, IsFresh, ListenerKnown, TakesBack, ended_of}
 use Rattle.vm_outside.specs.Known.{FilesKnown, SinkKnown}
 use Rattle.http_stream.specs.Conversation.{new_connection}
 use Rattle.http_stream.specs.Stream.{Connection}
@@ -17,22 +17,23 @@ use Rattle.flat_trace.specs.Showing.Out.{Opened}
 use Rattle.monitor_core.specs.declared.monitor.Monitor.{Monitor}
 use Rattle.monitor_core.specs.State.{IsMonitor}
 use Rattle.monitor_running.specs.Asked.{HostKnown}
-use Rattle.monitor_running.specs.Reached.{Start, known, seen}
-use Rattle.monitor_running.proofs.Disks.{rests_same}
-use Rattle.monitor_running.proofs.Joins.{goes_with}
+use Rattle.monitor_running.specs.Reached.{Start, known, seen, told_at}
+use Rattle.monitor_machine.proofs.Attaching.{uncalled_none}
+use Rattle.monitor_running.proofs.Joins.{goes_with, one_given}
 use Rattle.monitor_serving.specs.declared.served.Served.{Served as End}
 use Rattle.monitor_serving.specs.declared.served.Served.TheVariants as served
 use Rattle.monitor_serving.specs.Causes.{IsOver, ServedCause}
-use Rattle.monitor_serving.specs.Connections.{AreTold, AreToldInPart, AreToldOff, BrokeOff, HasGone, HasServed, Place, Serves, WasOver, WasSaid, place}
+use Rattle.monitor_serving.specs.Connections.{AreTold, AreToldInPart, AreToldOff, BrokeOff, HasGone, HasServed, HaveCome, Place, Serves, WasOver, WasSaid, place, still_coming}
 use Rattle.monitor_serving.specs.Turns.{BreaksOff, EndsConnection, GoesOff, ServedAs}
 use Rattle.monitor_serving.specs.Views.{HasClosed, Hosts, Stands, Talked, View, hosts, view}
+use Rattle.monitor_serving.proofs.Bringing.{come_back, come_in_part}
 use Rattle.monitor_serving.proofs.Pieces.{unasked}
 
 -- the connection is as it was accepted, and then as it is given back
-abbrev pub was_said : (talk : List Out) (fresh conn : ConnKnown) (heard : List Out) (unsent unsaid : List ℕ) → IsFresh fresh
+abbrev pub was_said : (talk : List Out) (fresh conn : ConnKnown) (bytes : List ℕ) (heard : List Out) (unsent unsaid : List ℕ) → IsFresh fresh bytes
     → Talked fresh conn heard unsent unsaid
     → WasSaid ((talk ++ Opened ∷ []) ++ heard) talk (ended_of conn) unsent unsaid
-was_said talk fresh conn heard unsent unsaid is talked = record {
+was_said talk fresh conn bytes heard unsent unsaid is talked = record {
   heard = heard;
   only = talked.only;
   is = append_assoc talk (Opened ∷ []) heard;
@@ -43,19 +44,19 @@ was_said talk fresh conn heard unsent unsaid is talked = record {
 pub rose_once : (i j : ℕ) → i ≡ 0 → Rose i j → 0 < j
 rose_once i j none rose = omega (arith, none, rose)
 
-pub failed_once : (unsent : List ℕ) (fresh conn : ConnKnown) → IsFresh fresh
+pub failed_once : (unsent : List ℕ) (fresh conn : ConnKnown) (bytes : List ℕ) → IsFresh fresh bytes
     → (unsent ≡ []) ⊎ Rose fresh.health.faults conn.health.faults → (unsent ≡ []) ⊎ (0 < conn.health.faults)
-failed_once unsent fresh conn is (inl none) = inl none
-failed_once unsent fresh conn is (inr rose) = inr (rose_once fresh.health.faults conn.health.faults is.faults rose)
+failed_once unsent fresh conn bytes is (inl none) = inl none
+failed_once unsent fresh conn bytes is (inr rose) = inr (rose_once fresh.health.faults conn.health.faults is.faults rose)
 
 -- why it was over
-was_over : (opened now : Monitor) (fresh conn : ConnKnown) (heard : List Out) → IsFresh fresh → opened.front ≡ new_connection
+was_over : (opened now : Monitor) (fresh conn : ConnKnown) (bytes : List ℕ) (heard : List Out) → IsFresh fresh bytes → opened.front ≡ new_connection
     → (now.front.failed ≡ true → (opened.front.failed ≡ true) ⊎ HasClosed heard) → IsOver now fresh conn
     → WasOver heard (ended_of conn)
-was_over opened now fresh conn heard is new closed (inl left) = inl (left is.tells)
-was_over opened now fresh conn heard is new closed (inr (inr rose)) =
+was_over opened now fresh conn bytes heard is new closed (inl left) = inl (left is.tells)
+was_over opened now fresh conn bytes heard is new closed (inr (inr rose)) =
     inr (inr (rose_once fresh.health.faults conn.health.faults is.faults rose))
-was_over opened now fresh conn heard is new closed (inr (inl failed)) = inr (inl (by_answer (closed failed)))
+was_over opened now fresh conn bytes heard is new closed (inr (inl failed)) = inr (inl (by_answer (closed failed)))
   where
     by_answer : (opened.front.failed ≡ true) ⊎ HasClosed heard → HasClosed heard
     by_answer (inl before) = absurd (let on : false ≡ true = sym (ap (λ (c : Connection). c.failed) new) ∙ before in cc)
@@ -63,27 +64,28 @@ was_over opened now fresh conn heard is new closed (inr (inl failed)) = inr (inl
 
 -- ---- a new connection
 
-module _ (s : Start) (first : List Ended) (monitor opened : Monitor) (trace told : TraceKnown) (sink : SinkKnown) (host : HostKnown)
-    (files : FilesKnown) (listener : ListenerKnown)
+module _ (s : Start) (first : ListenerKnown) (monitor opened : Monitor) (trace told : TraceKnown) (sink : SinkKnown) (host : HostKnown)
+    (files : FilesKnown) (bytes : List ℕ) (listener : ListenerKnown)
     (is_told : told.took ≡ trace.took ++ item.Connect ∷ [])
     (opens : (m : Machine) → IsMonitor monitor files m → IsMonitor opened files (record m { connection = new_connection }))
     (new : opened.front ≡ new_connection)
-    (old : HasServed s first (place monitor (hosts (known trace sink host) files) listener)) where
+    (old : HasServed s first (place monitor (hosts (known trace sink host) files) (still_coming bytes listener))) where
   abbrev pub stands_opened : Stands s opened (hosts (known told sink host) files) (record old.flat { connection = new_connection })
       (old.talk ++ Opened ∷ [])
   stands_opened = record {
     is = opens old.flat old.stands.is;
+    disks = old.stands.disks;
     reached =
         let act : Act = record { item = item.Connect; outcomes = [] } in
         let next : Machine = record old.flat { connection = new_connection } in
         let run : Run (act ∷ []) old.flat (Opened ∷ []) next = (Opened, next, [], refl, (refl, (refl, (refl, refl))), (refl, refl)) in
         goes_with s (seen (known trace sink host)) (seen (known told sink host)) old.flat next old.talk (act ∷ []) (Opened ∷ [])
         old.stands.reached run is_told (sym (append-nil sink.taken))
-        (unasked act old.flat (Opened ∷ []) next run host refl (rests_same host.disk));
+        (unasked (told_at s) act old.flat (Opened ∷ []) next run host host refl refl (uncalled_none host.disk)) (one_given act refl);
   }
 
-  module _ (fresh conn : ConnKnown) (is_fresh : IsFresh fresh) (monitor_now : Monitor) (now : Hosts) (left : ListenerKnown)
-      (given_back : left.ended ≡ ended_of conn ∷ listener.ended) where
+  module _ (fresh conn : ConnKnown) (is_fresh : IsFresh fresh bytes) (monitor_now : Monitor) (now : Hosts) (left : ListenerKnown)
+      (back : TakesBack conn listener left) where
     abbrev pub before : View
     before = view opened (hosts (known told sink host) files) fresh
 
@@ -93,8 +95,8 @@ module _ (s : Start) (first : List Ended) (monitor opened : Monitor) (trace told
     abbrev pub end_place : Place
     end_place = place monitor_now now left
 
-    pub ended_since : left.ended ≡ (ended_of conn ∷ old.since) ++ first
-    ended_since = given_back ∙ ap (λ (l : List Ended). ended_of conn ∷ l) old.ended
+    has_come : conn.gave ++ conn.left ≡ fresh.gave ++ fresh.left → HaveCome first (ended_of conn ∷ old.since) left
+    has_come brought = come_back first old.since bytes listener left fresh conn is_fresh brought back old.came
 
     pub ended_well : EndsConnection before after → IsOver monitor_now fresh conn → HasServed s first end_place
     ended_well ends over =
@@ -104,13 +106,13 @@ module _ (s : Start) (first : List Ended) (monitor opened : Monitor) (trace told
           talk = (old.talk ++ Opened ∷ []) ++ on.heard;
           since = ended_of conn ∷ old.since;
           stands = on.stands;
-          ended = ended_since;
+          came = has_come on.talked.brought;
           told = (
             old.talk,
             e.0,
-            was_said old.talk fresh conn on.heard e.0 [] is_fresh on.talked,
-            failed_once e.0 fresh conn is_fresh e.2,
-            was_over opened monitor_now fresh conn on.heard is_fresh new on.closed over,
+            was_said old.talk fresh conn bytes on.heard e.0 [] is_fresh on.talked,
+            failed_once e.0 fresh conn bytes is_fresh e.2,
+            was_over opened monitor_now fresh conn bytes on.heard is_fresh new on.closed over,
             old.told,
           );
         }
@@ -123,8 +125,8 @@ module _ (s : Start) (first : List Ended) (monitor opened : Monitor) (trace told
           talk = (old.talk ++ Opened ∷ []) ++ on.heard;
           since = ended_of conn ∷ old.since;
           stands = on.stands;
-          ended = ended_since;
-          told = (old.talk, [], was_said old.talk fresh conn on.heard [] [] is_fresh on.talked, inl refl, old.told);
+          came = has_come on.talked.brought;
+          told = (old.talk, [], was_said old.talk fresh conn bytes on.heard [] [] is_fresh on.talked, inl refl, old.told);
           off = e.1;
         }
 
@@ -137,12 +139,12 @@ module _ (s : Start) (first : List Ended) (monitor opened : Monitor) (trace told
           host = broke.host;
           unshown = broke.unshown;
           reached = broke.reached;
-          ended = ended_since;
+          came = come_in_part first (ended_of conn ∷ old.since) left (has_come broke.talked.brought);
           told = (
             old.talk,
             broke.unsent,
             broke.unsaid,
-            was_said old.talk fresh conn broke.heard broke.unsent broke.unsaid is_fresh broke.talked,
+            was_said old.talk fresh conn bytes broke.heard broke.unsent broke.unsaid is_fresh broke.talked,
             old.told,
           );
           shown = broke.shown;
@@ -151,12 +153,12 @@ module _ (s : Start) (first : List Ended) (monitor opened : Monitor) (trace told
 
 -- by which end
 module _ (monitor opened : Monitor) (trace told : TraceKnown) (sink : SinkKnown) (host : HostKnown) (files : FilesKnown)
-    (listener : ListenerKnown) (is_told : told.took ≡ trace.took ++ item.Connect ∷ [])
+    (bytes : List ℕ) (listener : ListenerKnown) (is_told : told.took ≡ trace.took ++ item.Connect ∷ [])
     (opens : (m : Machine) → IsMonitor monitor files m → IsMonitor opened files (record m { connection = new_connection }))
-    (new : opened.front ≡ new_connection) (fresh conn : ConnKnown) (is_fresh : IsFresh fresh) (now_monitor : Monitor) (now : Hosts)
-    (left : ListenerKnown) (back : left.ended ≡ ended_of conn ∷ listener.ended) where
+    (new : opened.front ≡ new_connection) (fresh conn : ConnKnown) (is_fresh : IsFresh fresh bytes) (now_monitor : Monitor) (now : Hosts)
+    (left : ListenerKnown) (back : TakesBack conn listener left) where
   abbrev start : Place
-  start = place monitor (hosts (known trace sink host) files) listener
+  start = place monitor (hosts (known trace sink host) files) (still_coming bytes listener)
 
   abbrev from : View
   from = view opened (hosts (known told sink host) files) fresh
@@ -164,10 +166,10 @@ module _ (monitor opened : Monitor) (trace told : TraceKnown) (sink : SinkKnown)
   abbrev to : View
   to = view now_monitor now conn
 
-  broken : (end : End) → BreaksOff end from to → (s : Start) (first : List Ended) → HasServed s first start
+  broken : (end : End) → BreaksOff end from to → (s : Start) (first : ListenerKnown) → HasServed s first start
       → BrokeOff end s first (place now_monitor now left)
   broken end breaks s first old =
-      ended_broken s first monitor opened trace told sink host files listener is_told opens new old fresh conn is_fresh now_monitor now left back
+      ended_broken s first monitor opened trace told sink host files bytes listener is_told opens new old fresh conn is_fresh now_monitor now left back
       end breaks
 
   by_fault : (name : Object) → ServedAs (served.Fault name) from to → Serves (served.Fault name) start (place now_monitor now left)
@@ -180,10 +182,10 @@ module _ (monitor opened : Monitor) (trace told : TraceKnown) (sink : SinkKnown)
 
   pub one_served : (end : End) → ServedAs end from to → ServedCause end from to → Serves end start (place now_monitor now left)
   one_served served.Ended ends over = λ s first old.
-      ended_well s first monitor opened trace told sink host files listener is_told opens new old fresh conn is_fresh now_monitor now left back
+      ended_well s first monitor opened trace told sink host files bytes listener is_told opens new old fresh conn is_fresh now_monitor now left back
       ends over
   one_served served.Off ends cause = λ s first old.
-      ended_off s first monitor opened trace told sink host files listener is_told opens new old fresh conn is_fresh now_monitor now left back
+      ended_off s first monitor opened trace told sink host files bytes listener is_told opens new old fresh conn is_fresh now_monitor now left back
       ends
   one_served (served.Fault name) ends cause = by_fault name ends
   one_served (served.Torn torn journals histories) ends cause =

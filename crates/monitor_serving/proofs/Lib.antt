@@ -1,6 +1,6 @@
 pub mod Alone
 pub mod Answering
-pub mod Attaching
+pub mod Bringing
 pub mod Closing
 pub mod Connections
 pub mod Filing

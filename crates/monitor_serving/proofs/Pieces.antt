@@ -1,7 +1,9 @@
 -- What comes of bytes that a connection gave.
 use Rattle.std.proofs.Common.{◌≡◌, ℕ, Bool, true, false, inl, refl, sym, ap, ◌∙◌, subst, List, [], ◌∷◌, ◌++◌, append-nil}
 use Rattle.vm_types.specs.declared.exit.Object.TheVariants as object
-use Rattle.vm_outside.specs.Known.{FilesKnown, SinkKnown, Tells}
+use Rattle.vm_outside.specs.Known.{FilesKnown, Health, SinkKnown, Tells}
+use Rattle.vm_host.specs.Storing.{DiskKnown}
+use Rattle.vm_host.specs.Telling.{ClockKnown}
 use Rattle.serve_host.specs.Passing.{ConnKnown, Gives, Waits}
 use Rattle.serve_host.specs.Tracing.{TraceKnown}
 use Rattle.script_text.specs.declared.item.Item.TheVariants as item
@@ -17,36 +19,47 @@ use Rattle.flat_trace.specs.Showing.Out.{Heard}
 use Rattle.monitor_core.specs.declared.monitor.Monitor.{Monitor}
 use Rattle.monitor_core.specs.State.{IsMonitor}
 use Rattle.monitor_core.specs.Talking.{HasHalted}
-use Rattle.monitor_running.specs.Asked.{HostAnswered, HostKnown, ItemAsks}
-use Rattle.monitor_running.specs.Reached.{Reached, Start, known, seen}
+use Rattle.slice_runner.specs.Runs.{HasAnswered}
+use Rattle.monitor_machine.specs.Disks.{DiskUncalled, HasFiles}
+use Rattle.monitor_machine.proofs.Attaching.{uncalled_none}
+use Rattle.monitor_running.specs.Asked.{AnsweredSince, HostKnown, ItemAsks}
+use Rattle.monitor_running.specs.Reached.{AreFiles, Reached, Seen, Start, known, seen, told_at}
+use Rattle.monitor_running.proofs.Attached.{files_since}
 use Rattle.monitor_running.proofs.Disks.{rests_same}
-use Rattle.monitor_running.proofs.Joins.{goes_with}
+use Rattle.monitor_running.proofs.Joins.{goes_with, one_given, reached_still}
 use Rattle.monitor_serving.specs.declared.served.Served.TheVariants as served
 use Rattle.monitor_serving.specs.Turns.{Broke, Continues}
-use Rattle.monitor_serving.specs.Views.{Talked, hosts, view}
+use Rattle.monitor_serving.specs.Views.{Talked, View, host_with, hosts, view}
+use Rattle.monitor_serving.proofs.Bringing.{gives_bring, waits_bring}
 use Rattle.monitor_serving.proofs.Closing.{heard_closes}
 use Rattle.monitor_serving.proofs.Halting.{halted_talk}
 
--- a clock and disks that are asked nothing by an item
-pub unasked : (act : Act) (m : Machine) (outs : List Out) (n : Machine) (run : Run (act ∷ []) m outs n) (host : HostKnown)
-    → answers_in (act.item ∷ []) ≡ [] → ItemAsks act.item (running m) host.disk host.disk → HostAnswered (act ∷ []) m outs n run host host
-unasked act m outs n run host none asks = record {
-  clock = rw none (record { still = λ tells. tells; are = λ tells. refl });
-  disk = (host.disk, asks, rests_same host.disk);
+-- a clock that is asked nothing by an item, and disks that are not called in it
+pub unasked : (start : Health) (act : Act) (m : Machine) (outs : List Out) (n : Machine) (run : Run (act ∷ []) m outs n)
+    (old new : HostKnown) → new.clock ≡ old.clock → answers_in (act.item ∷ []) ≡ []
+    → ItemAsks start act.item m.config (running m) old.disk new.disk → AnsweredSince start (act ∷ []) m outs n run old new
+unasked start act m outs n run old new same none asks = record {
+  clock = subst (λ (c : ClockKnown). HasAnswered old.clock (answers_in (act.item ∷ [])) c) (sym same)
+      (subst (λ (l : List ℕ). HasAnswered old.clock l old.clock) (sym none) (record { still = λ tells. tells; are = λ tells. refl }));
+  disk = (new.disk, asks, rests_same new.disk);
 }
 
-module _ (s : Start) (m : Machine) (talk : List Out) (bytes : List ℕ) (trace told : TraceKnown) (sink : SinkKnown) (host : HostKnown)
-    (is_told : told.took ≡ trace.took ++ item.Bytes bytes ∷ []) (reached : Reached s (seen (known trace sink host)) m talk) where
+module _ (s : Start) (m : Machine) (talk : List Out) (bytes : List ℕ) (trace told : TraceKnown) (sink : SinkKnown) (clock : ClockKnown)
+    (old new : DiskKnown) (uncalled : DiskUncalled old new) (is_told : told.took ≡ trace.took ++ item.Bytes bytes ∷ [])
+    (reached : Reached s (seen (known trace sink (host_with clock old))) m talk) where
+  abbrev after_bytes : Seen
+  after_bytes = seen (known told sink (host_with clock new))
+
   -- the item of the bytes is in the trace
   heard_step : (outcomes : List Outcome) (responses : List Response) (n : Machine)
       → TraceStep (item.Bytes bytes) outcomes m (Heard bytes responses) n
-      → Reached s (seen (known told sink host)) n (talk ++ Heard bytes responses ∷ [])
+      → Reached s after_bytes n (talk ++ Heard bytes responses ∷ [])
   heard_step outcomes responses n step =
       let act : Act = record { item = item.Bytes bytes; outcomes = outcomes } in
       let run : Run (act ∷ []) m (Heard bytes responses ∷ []) n = (Heard bytes responses, n, [], refl, step, (refl, refl)) in
-      goes_with s (seen (known trace sink host)) (seen (known told sink host)) m n talk
+      goes_with s (seen (known trace sink (host_with clock old))) after_bytes m n talk
       (act ∷ []) (Heard bytes responses ∷ []) reached run is_told (sym (append-nil sink.taken))
-      (unasked act m (Heard bytes responses ∷ []) n run host refl (rests_same host.disk))
+      (unasked (told_at s) act m (Heard bytes responses ∷ []) n run (host_with clock old) (host_with clock new) refl refl uncalled) (one_given act refl)
 
   on_step : (outcomes : List Outcome) (responses : List Response) (n : Machine) (off : Bool) → off ≡ false
       → Talks bytes outcomes m responses n → Hears off bytes outcomes m (Heard bytes responses) n
@@ -58,70 +71,86 @@ module _ (s : Start) (m : Machine) (talk : List Out) (bytes : List ℕ) (trace t
   off_step false is = cc
 
   pub was_heard : (outcomes : List Outcome) (responses : List Response) (n : Machine) → is_off m ≡ false
-      → Talks bytes outcomes m responses n → Reached s (seen (known told sink host)) n (talk ++ Heard bytes responses ∷ [])
+      → Talks bytes outcomes m responses n → Reached s after_bytes n (talk ++ Heard bytes responses ∷ [])
   was_heard outcomes responses n on talks =
       heard_step outcomes responses n (on_step outcomes responses n (is_off m) on talks)
 
-  pub was_dropped : is_off m ≡ true → Reached s (seen (known told sink host)) m (talk ++ Heard bytes [] ∷ [])
+  pub was_dropped : is_off m ≡ true → Reached s after_bytes m (talk ++ Heard bytes [] ∷ [])
   was_dropped off = heard_step [] [] m (off_step (is_off m) off)
 
 -- ---- what the connection gave and took
 
 pub said_on : (before now : ConnKnown) (bytes text unsent : List ℕ) (responses : List Response) → now.gave ≡ before.gave ++ bytes
-    → now.took ++ unsent ≡ before.took ++ text → text ≡ all_written Http responses
+    → now.took ++ unsent ≡ before.took ++ text → text ≡ all_written Http responses → now.gave ++ now.left ≡ before.gave ++ before.left
     → Talked before now (Heard bytes responses ∷ []) unsent []
-said_on before now bytes text unsent responses gave took is = record {
+said_on before now bytes text unsent responses gave took is brought = record {
   only = tt;
   gave = gave ∙ ap (λ (l : List ℕ). before.gave ++ l) (sym (append-nil bytes) ∙ sym (append-nil (bytes ++ [])));
   took = took ∙ ap (λ (l : List ℕ). before.took ++ l) (is ∙ sym (append-nil (all_written Http responses)));
+  brought = brought;
 }
 
-module _ (s : Start) (m : Machine) (talk : List Out) (bytes : List ℕ) (trace told : TraceKnown) (sink : SinkKnown) (host : HostKnown)
-    (files left : FilesKnown) (monitor after : Monitor) (before conn now : ConnKnown)
-    (is_told : told.took ≡ trace.took ++ item.Bytes bytes ∷ []) (reached : Reached s (seen (known trace sink host)) m talk)
+module _ (s : Start) (m : Machine) (talk : List Out) (bytes : List ℕ) (trace told : TraceKnown) (sink : SinkKnown) (clock : ClockKnown)
+    (old : DiskKnown) (files left : FilesKnown) (monitor after : Monitor) (before conn now : ConnKnown)
+    (is_told : told.took ≡ trace.took ++ item.Bytes bytes ∷ [])
+    (reached : Reached s (seen (known trace sink (host_with clock old))) m talk)
     (came : Gives before conn bytes) (untaken : conn.took ≡ before.took) (waits : Waits conn now)
     (was : IsMonitor monitor files m) where
+  abbrev pub from : View
+  from = view monitor (hosts (known trace sink (host_with clock old)) files) before
+
+  abbrev pub to : DiskKnown → View
+  to disk = view after (hosts (known told sink (host_with clock disk)) left) now
+
   pub gave : now.gave ≡ before.gave ++ bytes
   gave = waits.gave ∙ came.gave
 
-  -- the replies were taken, but for these bytes
-  pub was_answered : (outcomes : List Outcome) (responses : List Response) (n : Machine) (text unsent : List ℕ) → is_off m ≡ false
-      → Talks bytes outcomes m responses n → IsMonitor after left n → text ≡ all_written Http responses
-      → now.took ++ unsent ≡ conn.took ++ text
-      → Continues s (view monitor (hosts (known trace sink host) files) before) (view after (hosts (known told sink host) left) now) talk unsent
-  was_answered outcomes responses n text unsent on talks is written took = record {
+  pub brought : now.gave ++ now.left ≡ before.gave ++ before.left
+  brought = waits_bring conn now waits ∙ gives_bring before conn bytes came
+
+  -- the replies were taken, but for these bytes, once the disks were the files of drives
+  pub was_answered : (disk : DiskKnown) → DiskUncalled old disk → (outcomes : List Outcome) (responses : List Response) (n : Machine)
+      (text unsent : List ℕ) → is_off m ≡ false → Talks bytes outcomes m responses n → IsMonitor after left n
+      → HasFiles old.health n disk → text ≡ all_written Http responses → now.took ++ unsent ≡ conn.took ++ text
+      → Continues s from (to disk) talk unsent
+  was_answered disk uncalled outcomes responses n text unsent on talks is attached written took = record {
     flat = n;
     heard = Heard bytes responses ∷ [];
-    talked = said_on before now bytes text unsent responses gave (took ∙ ap (λ (l : List ℕ). l ++ text) untaken) written;
+    talked = said_on before now bytes text unsent responses gave (took ∙ ap (λ (l : List ℕ). l ++ text) untaken) written brought;
     closed = heard_closes monitor after files left m n bytes outcomes responses was is talks;
     stands = record {
       is = is;
-      reached = was_heard s m talk bytes trace told sink host is_told reached outcomes responses n on talks;
+      disks = files_since (told_at s) old.health n.guest n.config disk
+          (reached_still s (seen (known trace sink (host_with clock old))) m talk reached) attached;
+      reached = was_heard s m talk bytes trace told sink clock old disk uncalled is_told reached outcomes responses n on talks;
     };
   }
 
   -- the guest is off, and nothing is answered
-  abbrev pub was_ignored : is_off m ≡ true → IsMonitor after left m → after ≡ monitor → now.took ≡ conn.took
-      → Continues s (view monitor (hosts (known trace sink host) files) before) (view after (hosts (known told sink host) left) now) talk []
-  was_ignored off is same took = record {
+  abbrev pub was_ignored : is_off m ≡ true → AreFiles s m (seen (known trace sink (host_with clock old))) → IsMonitor after left m
+      → after ≡ monitor → now.took ≡ conn.took → Continues s from (to old) talk []
+  was_ignored off disks is same took = record {
     flat = m;
     heard = Heard bytes [] ∷ [];
     talked = said_on before now bytes [] [] [] gave
-        (append-nil now.took ∙ took ∙ untaken ∙ sym (append-nil before.took)) refl;
+        (append-nil now.took ∙ took ∙ untaken ∙ sym (append-nil before.took)) refl brought;
     closed = λ failed. inl (subst (λ (x : Monitor). x.front.failed ≡ true) same failed);
-    stands = record { is = is; reached = was_dropped s m talk bytes trace told sink host is_told reached off };
+    stands = record {
+      is = is;
+      disks = disks;
+      reached = was_dropped s m talk bytes trace told sink clock old old (uncalled_none old) is_told reached off;
+    };
   }
 
   -- there was no memory to answer: some of it was answered, and the rest could be by 503
   pub was_cut : is_off m ≡ false → now.took ≡ conn.took → Tells files.health → HasHalted Http bytes monitor after files left
-      → Broke served.OutOfMemory s (view monitor (hosts (known trace sink host) files) before)
-      (view after (hosts (known told sink host) left) now) talk
+      → Broke served.OutOfMemory s from (to old) talk
   was_cut on took tells halts =
       let t = halted_talk bytes monitor after files left m tells was halts in
       let said = said_on before now bytes (all_written Http t.1) (all_written Http t.1) t.1 gave
-      (ap (λ (l : List ℕ). l ++ all_written Http t.1) (took ∙ untaken)) refl in record {
+      (ap (λ (l : List ℕ). l ++ all_written Http t.1) (took ∙ untaken)) refl brought in record {
         at = t.2;
-        host = host;
+        host = host_with clock old;
         unshown = [];
         heard = Heard bytes t.1 ∷ [];
         unsent = all_written Http t.1;
@@ -129,8 +158,9 @@ module _ (s : Start) (m : Machine) (talk : List Out) (bytes : List ℕ) (trace t
         talked = said;
         shown = refl;
         files = t.4;
-        reached = subst (λ (l : List ℕ). Reached s (record { took = told.took; taken = l; host = host }) t.2 (talk ++ Heard bytes t.1 ∷ []))
-            (sym (append-nil sink.taken)) (was_heard s m talk bytes trace told sink host is_told reached t.0 t.1 t.2 on t.3);
+        reached = subst (λ (l : List ℕ). Reached s (record { took = told.took; taken = l; host = host_with clock old }) t.2 (talk ++ Heard bytes t.1 ∷ []))
+            (sym (append-nil sink.taken))
+            (was_heard s m talk bytes trace told sink clock old old (uncalled_none old) is_told reached t.0 t.1 t.2 on t.3);
       }
 
 -- the trace failed, and has nothing of the bytes
@@ -150,6 +180,7 @@ was_untold s m talk bytes trace now sink host files left monitor after before co
     only = tt;
     gave = came.gave;
     took = append-nil conn.took ∙ untaken ∙ sym (append-nil before.took);
+    brought = gives_bring before conn bytes came;
   };
   shown = refl;
   files = filed;

@@ -1,7 +1,7 @@
 -- What slices leave of a connection that is served beside them.
 use Rattle.std.proofs.Common.{◌≡◌, ℕ, refl, sym, ap, ◌∙◌, subst, inl, List, [], ◌++◌, take, Option, Some, None, append-nil}
 use Rattle.monitor_running.specs.Asked.{HostKnown}
-use Rattle.serve_host.specs.Passing.{ConnKnown}
+use Rattle.serve_host.specs.Passing.{ConnKnown, Waits}
 use Rattle.vm_types.specs.declared.exit.Object.TheVariants as object
 use Rattle.flat_machine.specs.Machine.{AreFilesOf, Machine}
 use Rattle.flat_trace.specs.Showing.{Out}
@@ -21,11 +21,12 @@ use Rattle.monitor_serving.specs.Ends.{end_of}
 use Rattle.monitor_serving.specs.Hearing.{HearsBy}
 use Rattle.monitor_serving.specs.Turns.{Broke, Continues, GoesOn, MayLack, ServedAs}
 use Rattle.monitor_serving.specs.Views.{Hosts, Stands, Talked, View, view}
+use Rattle.monitor_serving.proofs.Bringing.{gives_bring, waits_bring}
 use Rattle.monitor_serving.proofs.Filing.{filed, filed_ahead, filed_beside, run_filed}
 
 -- nothing was said on a connection that is as it was
 pub untouched : (conn : ConnKnown) → Talked conn conn [] [] []
-untouched conn = record { only = tt; gave = sym (append-nil conn.gave); took = refl }
+untouched conn = record { only = tt; gave = sym (append-nil conn.gave); took = refl; brought = refl }
 
 -- ---- the monitor's machine after slices
 
@@ -49,6 +50,7 @@ module _ (monitor : Monitor) (machine : LiveMachine) (old new : Hosts) (conn : C
   kept_stands s m talk is k = record {
     is = subst (λ f. IsMonitor (record monitor { machine = machine }) f k.flat) (sym files_same)
         (monitor_kept monitor machine old m k.flat is k.is k.beside);
+    disks = k.files;
     reached = subst (λ (t : List Out). Reached s (seen new.slices) k.flat t) (sym (append-nil talk)) k.reached;
   }
 
@@ -66,10 +68,10 @@ module _ (monitor : Monitor) (machine : LiveMachine) (old new : Hosts) (conn : C
   pub slices_on : (ran : Ran) → RanOn IsLive (Some ran) (seen old.slices) monitor.machine (seen new.slices) machine → end_of ran ≡ None
       → GoesOn (view monitor old conn) after
   slices_on ran.Closed on none = λ s m talk stands.
-      let k = on s m talk stands.is.own.live stands.reached in
+      let k = on s m talk stands.is.own.live stands.disks stands.reached in
       went_on s m talk stands.is k.0
   slices_on ran.Off on none = λ s m talk stands.
-      let k = on s m talk stands.is.own.live stands.reached in
+      let k = on s m talk stands.is.own.live stands.disks stands.reached in
       went_on s m talk stands.is k.0
   slices_on ran.TraceFailed on none = cc
   slices_on ran.SinkFailed on none = cc
@@ -82,15 +84,25 @@ abbrev pub unsaid_by : Heard → List ℕ → List ℕ
 unsaid_by (heard.Bytes count) buf = take count buf
 unsaid_by it buf = []
 
+unheard : (old new : ConnKnown) → Waits old new → new.took ≡ old.took → Talked old new [] [] []
+unheard old new waits took = record {
+  only = tt;
+  gave = waits.gave ∙ sym (append-nil old.gave);
+  took = append-nil new.took ∙ took ∙ sym (append-nil old.took);
+  brought = waits_bring old new waits;
+}
+
 pub came_unsaid : (it : Heard) (old new : ConnKnown) (buf : List ℕ) → HearsBy it old new buf → new.took ≡ old.took
     → Talked old new [] [] (unsaid_by it buf)
-came_unsaid (heard.Bytes count) old new buf came took = record { only = tt; gave = came.gave; took = append-nil new.took ∙ took ∙ sym (append-nil old.took) }
-came_unsaid heard.End old new buf came took =
-    record { only = tt; gave = came.waits.gave ∙ sym (append-nil old.gave); took = append-nil new.took ∙ took ∙ sym (append-nil old.took) }
-came_unsaid heard.Fault old new buf came took =
-    record { only = tt; gave = came.gave ∙ sym (append-nil old.gave); took = append-nil new.took ∙ took ∙ sym (append-nil old.took) }
-came_unsaid heard.Nothing old new buf came took =
-    record { only = tt; gave = came.gave ∙ sym (append-nil old.gave); took = append-nil new.took ∙ took ∙ sym (append-nil old.took) }
+came_unsaid (heard.Bytes count) old new buf came took = record {
+  only = tt;
+  gave = came.gave;
+  took = append-nil new.took ∙ took ∙ sym (append-nil old.took);
+  brought = gives_bring old new (take count buf) came;
+}
+came_unsaid heard.End old new buf came took = unheard old new came.waits took
+came_unsaid heard.Fault old new buf came took = unheard old new came took
+came_unsaid heard.Nothing old new buf came took = unheard old new came took
 
 module _ (monitor now : Monitor) (machine : LiveMachine) (old new : Hosts) (conn left : ConnKnown) (unsaid : List ℕ)
     (talked : Talked conn left [] [] unsaid) (files_same : new.files ≡ old.files) where
@@ -140,22 +152,22 @@ module _ (monitor now : Monitor) (machine : LiveMachine) (old new : Hosts) (conn
   slices_broke ran.TraceFailed end on is =
       subst (λ (o : Option Served). served_as o) is
       (λ s m talk stands.
-      let a = on s m talk stands.is.own.live stands.reached in
+      let a = on s m talk stands.is.own.live stands.disks stands.reached in
       all_shown (served.Fault object.Trace) s talk a.told a.host refl (ahead s m talk stands.is.files a) a.reached)
   slices_broke ran.SinkFailed end on is =
       subst (λ (o : Option Served). served_as o) is
       (λ s m talk stands.
-      let a = on s m talk stands.is.own.live stands.reached in
+      let a = on s m talk stands.is.own.live stands.disks stands.reached in
       broke_at (served.Fault object.Sink) s talk a.1.flat new.slices.host a.0 tt (beside m a.1.flat stands.is.files a.1.beside) a.1.reached)
   slices_broke (ran.Torn torn journals histories) end on is =
       subst (λ (o : Option Served). served_as o) is (
         (on.world, on.slice),
         (λ s m talk stands.
-            let k = on.kept s m talk stands.is.own.live stands.reached in
+            let k = on.kept s m talk stands.is.own.live stands.disks stands.reached in
             all_shown (served.Torn torn journals histories) s talk k.flat on.host refl (beside m k.flat stands.is.files k.beside) k.reached),
       )
   slices_broke ran.OutOfMemory end on is =
       subst (λ (o : Option Served). served_as o) is
       (λ s m talk stands.
-      let k = on s m talk stands.is.own.live stands.reached in
+      let k = on s m talk stands.is.own.live stands.disks stands.reached in
       all_shown served.OutOfMemory s talk k.flat new.slices.host refl (beside m k.flat stands.is.files k.beside) k.reached)

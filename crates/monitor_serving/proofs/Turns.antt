@@ -4,10 +4,12 @@ use Rattle.vm_types.specs.Causes.{Rose}
 use Rattle.vm_types.specs.declared.exit.Object.{Object}
 use Rattle.vm_types.specs.declared.exit.Object.TheVariants as object
 use Rattle.vm_outside.specs.Known.{Health, Lasts}
+use Rattle.serve_host.specs.Listening.{ListenerKnown, ListenerStays}
 use Rattle.serve_host.specs.Passing.{ConnKnown}
 use Rattle.flat_trace.specs.Showing.{Out, given, given_by, replied, replied_by}
 use Rattle.flat_trace.specs.Showing.Out.{Quiet, Opened, Heard, Shown}
 use Rattle.monitor_running.specs.Reached.{Reached, Start, seen}
+use Rattle.monitor_running.proofs.Lifts.{stays_more}
 use Rattle.monitor_serving.specs.declared.served.Served.{Served}
 use Rattle.monitor_serving.specs.declared.served.Served.TheVariants as served
 use Rattle.monitor_serving.specs.Causes.{ServedCause, TurnedCause}
@@ -46,6 +48,7 @@ talked_on a b c first more unsent unsaid x y = record {
       y.took ∙ ap (λ (l : List ℕ). l ++ replied more) (sym (append-nil b.took) ∙ x.took)
       ∙ append_assoc a.took (replied first) (replied more)
       ∙ ap (λ (l : List ℕ). a.took ++ l) (sym (replied_append first more));
+  brought = y.brought ∙ x.brought;
 }
 
 -- a connection that has failed since was closed in either of two
@@ -154,9 +157,13 @@ lasts_on a b c x y = record { still = λ tells. y.still (x.still tells); later =
 pub all_last_on : (a b c : Hosts) → AllLast a b → AllLast b c → AllLast a c
 all_last_on a b c x y = record {
   trace = lasts_on a.slices.trace.health b.slices.trace.health c.slices.trace.health x.trace y.trace;
+  trace_stays = stays_more a.slices.trace b.slices.trace c.slices.trace x.trace x.trace_stays y.trace_stays;
   sink = lasts_on a.slices.sink.health b.slices.sink.health c.slices.sink.health x.sink y.sink;
   files = lasts_on a.files.health b.files.health c.files.health x.files y.files;
 }
+
+pub listener_on : (a b c : ListenerKnown) → Lasts a.health b.health → ListenerStays a b → ListenerStays b c → ListenerStays a c
+listener_on a b c lasts x y = λ tells. y (lasts.still tells) ∙ x tells
 
 pub lasts_self : (a : Health) → Lasts a a
 lasts_self a = record { still = λ tells. tells; later = omega arith }
@@ -164,6 +171,7 @@ lasts_self a = record { still = λ tells. tells; later = omega arith }
 pub all_last_self : (a : Hosts) → AllLast a a
 all_last_self a = record {
   trace = lasts_self a.slices.trace.health;
+  trace_stays = λ tells. refl;
   sink = lasts_self a.slices.sink.health;
   files = lasts_self a.files.health;
 }

@@ -15,6 +15,7 @@ use Rattle.monitor_serving.specs.Causes.{AnswerCause, IsOver}
 use Rattle.monitor_serving.specs.Hearing.{HearsBy}
 use Rattle.monitor_serving.specs.Turns.{Continues, EndsConnection, GoesOff, GoesOn}
 use Rattle.monitor_serving.specs.Views.{Hosts, Stands, view}
+use Rattle.monitor_serving.proofs.Bringing.{waits_bring}
 use Rattle.monitor_serving.proofs.Turns.{rose_after}
 
 -- nothing but bytes is none
@@ -31,6 +32,7 @@ module _ (monitor : Monitor) (hosts : Hosts) (before conn : ConnKnown) (waits : 
       only = tt;
       gave = waits.gave ∙ sym (append-nil before.gave);
       took = append-nil conn.took ∙ untaken ∙ sym (append-nil before.took);
+      brought = waits_bring before conn waits;
     };
     closed = λ failed. inl failed;
     stands = subst (λ (t : List Out). Stands s monitor hosts m t) (sym (append-nil talk)) stands;

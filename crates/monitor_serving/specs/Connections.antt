@@ -1,5 +1,5 @@
 -- Connections one after another: what each gave and took is what was said on it.
-use Rattle.std.specs.Prelude.{ℕ, ◌≡◌, ◌⊎◌, ◌<◌, true, List, [], ◌∷◌, ◌++◌, Option, Some, None}
+use Rattle.std.specs.Prelude.{ℕ, ◌≡◌, ◌⊎◌, ◌<◌, ◌≤◌, true, List, [], ◌∷◌, ◌++◌, Option, Some, None, length}
 use Rattle.monitor_running.specs.Asked.{HostKnown}
 use Rattle.vm_host.specs.declared.host.Host.{Host}
 use Rattle.vm_host.specs.Storing.{DiskKnown}
@@ -8,7 +8,7 @@ use Rattle.vm_outside.specs.Known.{FilesKnown, Health, SinkKnown}
 use Rattle.serve_host.specs.Tracing.{TraceKnown}
 use Rattle.vm_types.specs.Causes.{Rose}
 use Rattle.vm_types.specs.declared.exit.Object.TheVariants as object
-use Rattle.serve_host.specs.Listening.{Ended, ListenerKnown}
+use Rattle.serve_host.specs.Listening.{Ended, ListenerKnown, brought}
 use Rattle.flat_machine.specs.Machine.{AreFilesOf, Machine, is_off}
 use Rattle.flat_trace.specs.Showing.{Out, given, replied}
 use Rattle.flat_trace.specs.Showing.Out.{Opened}
@@ -54,62 +54,77 @@ AreToldInPart talk (ended ∷ others) =
     (before : List Out) × (unsent : List ℕ) × (unsaid : List ℕ) × WasSaid talk before ended unsent unsaid
     × AreTold before others
 
--- the monitor between two connections, what is known of the host objects, and the connections that were given back
+-- the monitor between two connections, and what is known of the host objects and of the listener
 pub record Place : Type 0 where
   pub monitor : Monitor
   pub hosts : Hosts
-  pub ended : List Ended
+  pub listener : ListenerKnown
 
 abbrev pub place : Monitor → Hosts → ListenerKnown → Place
-place monitor hosts listener = record { monitor = monitor; hosts = hosts; ended = listener.ended }
+place monitor hosts listener = record { monitor = monitor; hosts = hosts; listener = listener }
+
+-- These connections have ended since, the newest first. They were the first to come; the others are still to come.
+pub record HaveCome (first : ListenerKnown) (since : List Ended) (now : ListenerKnown) : Type 0 where
+  pub ended : now.ended ≡ since ++ first.ended
+  pub coming : first.coming ≡ brought since ++ now.coming
+
+-- but for one at most that came and was let go before anything was heard of it
+pub record HaveComeInPart (first : ListenerKnown) (since : List Ended) (now : ListenerKnown) : Type 0 where
+  pub ended : now.ended ≡ since ++ first.ended
+  pub lost : List (List ℕ)
+  pub few : length lost ≤ 1
+  pub coming : first.coming ≡ brought since ++ (lost ++ now.coming)
+
+-- the same listener where one connection more is to come, which gives these bytes
+abbrev pub still_coming : List ℕ → ListenerKnown → ListenerKnown
+still_coming bytes listener = record listener { coming = bytes ∷ listener.coming }
 
 abbrev pub place_of : {T K C D F M L V : Type 0} → (T → TraceKnown) → (K → SinkKnown) → (C → ClockKnown) → (D → DiskKnown)
     → (F → FilesKnown) → (M → ListenerKnown) → Monitor → T → K → Host D L V C → F → M → Place
 place_of of_trace of_sink of_clock of_disk of_files of_listener monitor trace sink host files listener =
     place monitor (hosts_of of_trace of_sink of_clock of_disk of_files trace sink host files) (of_listener listener)
 
--- All that happened since a start, before which these connections were given back, is in the trace, and all that it shows
--- was taken.
-pub record HasServed (s : Start) (first : List Ended) (now : Place) : Type 0 where
+-- All that happened since a start, when this was known of the listener, is in the trace, and all that it shows was taken.
+pub record HasServed (s : Start) (first : ListenerKnown) (now : Place) : Type 0 where
   pub flat : Machine
   pub talk : List Out
   pub since : List Ended
   pub stands : Stands s now.monitor now.hosts flat talk
-  pub ended : now.ended ≡ since ++ first
+  pub came : HaveCome first since now.listener
   pub told : AreTold talk since
 
 -- the same where the guest turned itself off
-pub record HasGone (s : Start) (first : List Ended) (now : Place) : Type 0 where
+pub record HasGone (s : Start) (first : ListenerKnown) (now : Place) : Type 0 where
   pub flat : Machine
   pub talk : List Out
   pub since : List Ended
   pub stands : Stands s now.monitor now.hosts flat talk
-  pub ended : now.ended ≡ since ++ first
+  pub came : HaveCome first since now.listener
   pub told : AreToldOff talk since
   pub off : is_off flat ≡ true
 
 -- Serving broke off. What the trace took leads to some machine, whose files are there; of what that shows, the sink and the
 -- last connection took a front.
-pub record BrokeOff (end : End) (s : Start) (first : List Ended) (now : Place) : Type 0 where
+pub record BrokeOff (end : End) (s : Start) (first : ListenerKnown) (now : Place) : Type 0 where
   pub at : Machine
   pub talk : List Out
   pub since : List Ended
   pub host : HostKnown
   pub unshown : List ℕ
   pub reached : Reached s (seen_with now.hosts.slices unshown host) at talk
-  pub ended : now.ended ≡ since ++ first
+  pub came : HaveComeInPart first since now.listener
   pub told : AreToldInPart talk since
   pub shown : MayLack end unshown
   pub files : AreFilesOf now.hosts.files at
 
 abbrev pub Serves : End → Place → Place → Type 0
-Serves served.Ended old new = (s : Start) (first : List Ended) → HasServed s first old → HasServed s first new
-Serves served.Off old new = (s : Start) (first : List Ended) → HasServed s first old → HasGone s first new
+Serves served.Ended old new = (s : Start) (first : ListenerKnown) → HasServed s first old → HasServed s first new
+Serves served.Off old new = (s : Start) (first : ListenerKnown) → HasServed s first old → HasGone s first new
 Serves (served.Torn torn journals histories) old new =
     IsTorn torn journals.items histories.items
-    × ((s : Start) (first : List Ended) → HasServed s first old
+    × ((s : Start) (first : ListenerKnown) → HasServed s first old
     → BrokeOff (served.Torn torn journals histories) s first new)
-Serves end old new = (s : Start) (first : List Ended) → HasServed s first old → BrokeOff end s first new
+Serves end old new = (s : Start) (first : ListenerKnown) → HasServed s first old → BrokeOff end s first new
 
 -- a fault that is named rose in this call; why serving ended otherwise is not said here
 abbrev pub EndCause : End → Hosts → Hosts → Health → Health → Type 0
@@ -119,13 +134,14 @@ EndCause (served.Fault object.Listener) old new before now = Rose before.faults 
 EndCause (served.Fault other) old new before now = ⊥
 EndCause end old new before now = Unit {0}
 
--- serving goes on, or has come to an end: that of one connection is none
+-- The end of one connection doesn't end serving. Serving ends by itself only where no connection is to come.
 abbrev pub going : End → Option End
 going served.Ended = None
 going end = Some end
 
 abbrev pub Goes : Option End → Place → Place → Type 0
 Goes None old new = Serves served.Ended old new
+Goes (Some served.Ended) old new = Serves served.Ended old new × (new.listener.coming ≡ [])
 Goes (Some end) old new = Serves end old new
 
 abbrev pub GoCause : Option End → Hosts → Hosts → Health → Health → Type 0

@@ -6,14 +6,14 @@ use Rattle.vm_host.specs.Storing.{DiskKnown}
 use Rattle.vm_host.specs.Telling.{ClockKnown}
 use Rattle.vm_outside.specs.Known.{FilesKnown, Lasts, SinkKnown, Tells}
 use Rattle.serve_host.specs.Passing.{ConnKnown}
-use Rattle.serve_host.specs.Tracing.{TraceKnown}
+use Rattle.serve_host.specs.Tracing.{TraceKnown, TraceStays}
 use Rattle.flat_machine.specs.Machine.{Machine}
 use Rattle.flat_trace.specs.Showing.{Out, given, replied}
 use Rattle.flat_trace.specs.Showing.Out.{Heard}
 use Rattle.monitor_core.specs.declared.monitor.Monitor.{Monitor}
 use Rattle.monitor_core.specs.State.{IsMonitor}
 use Rattle.monitor_running.specs.Asked.{HostKnown, host_known}
-use Rattle.monitor_running.specs.Reached.{Known, Reached, Seen, Start, known, seen}
+use Rattle.monitor_running.specs.Reached.{AreFiles, Known, Reached, Seen, Start, known, seen}
 
 -- what is known of the host objects: those of slices, and the files
 pub record Hosts : Type 0 where
@@ -34,15 +34,20 @@ abbrev pub hosts_of : {T K C D F L V : Type 0} → (T → TraceKnown) → (K →
 hosts_of of_trace of_sink of_clock of_disk of_files trace sink host files =
     hosts (known_of of_trace of_sink of_clock of_disk trace sink host) (of_files files)
 
--- those that can fail tell their content
+-- of a clock and of disks
+abbrev pub host_with : ClockKnown → DiskKnown → HostKnown
+host_with clock disk = record { clock = clock; disk = disk }
+
+-- the trace, the sink and the files tell their content
 pub record AllTell (hosts : Hosts) : Type 0 where
   pub trace : Tells hosts.slices.trace.health
   pub sink : Tells hosts.slices.sink.health
   pub files : Tells hosts.files.health
 
--- and last: what told its content still does, and no count has fallen
+-- and last: what told its content still does, no count has fallen, and the trace is that of the same path
 pub record AllLast (before now : Hosts) : Type 0 where
   pub trace : Lasts before.slices.trace.health now.slices.trace.health
+  pub trace_stays : TraceStays before.slices.trace now.slices.trace
   pub sink : Lasts before.slices.sink.health now.slices.sink.health
   pub files : Lasts before.files.health now.files.health
 
@@ -60,9 +65,11 @@ abbrev pub view_of : {T K C D F N L V : Type 0} → (T → TraceKnown) → (K �
 view_of of_trace of_sink of_clock of_disk of_files of_conn monitor trace sink host files conn =
     view monitor (hosts_of of_trace of_sink of_clock of_disk of_files trace sink host files) (of_conn conn)
 
--- the monitor is the machine after all that happened since the start, which the trace has
+-- the monitor is the machine after all that happened since the start, which the trace has, and its disks are the files of its
+-- drives
 pub record Stands (s : Start) (monitor : Monitor) (hosts : Hosts) (m : Machine) (talk : List Out) : Type 0 where
   pub is : IsMonitor monitor hosts.files m
+  pub disks : AreFiles s m (seen hosts.slices)
   pub reached : Reached s (seen hosts.slices) m talk
 
 -- what was seen, were these bytes taken too, with what is known of a clock and disks
@@ -85,8 +92,9 @@ abbrev pub HasClosed : List Out → Type 0
 HasClosed outs = list_any closes outs ≡ true
 
 -- This was heard of a connection. It gave the bytes, and behind them the unsaid ones; it took the replies, but for the
--- unsent ones at their end.
+-- unsent ones at their end. What it has left is what it had left, without what it gave.
 pub record Talked (old new : ConnKnown) (heard : List Out) (unsent unsaid : List ℕ) : Type 0 where
   pub only : AreHeard heard
   pub gave : new.gave ≡ old.gave ++ (given heard ++ unsaid)
   pub took : new.took ++ unsent ≡ old.took ++ replied heard
+  pub brought : new.gave ++ new.left ≡ old.gave ++ old.left

@@ -1,8 +1,9 @@
 // Connections one after another, with slices between them.
-ghost use Rattle.std.specs.Prelude.{◌≡◌};
-ghost use Rattle.serve_host.specs.Listening.{IsFresh, ListenerKnown};
+ghost use Rattle.std.specs.Prelude.{◌≡◌, ℕ, List, Some};
+ghost use Rattle.serve_host.specs.Listening.{IsFresh, ListenerKnown, ListenerStays};
+ghost use Rattle.serve_host.specs.Tracing.{TraceStays};
 ghost use Rattle.vm_outside.specs.Known.{FilesKnown, Health, Lasts, Tells};
-ghost use Rattle.monitor_serving.specs.Connections.{EndCause, GoCause, Goes, Serves, going, place, place_of};
+ghost use Rattle.monitor_serving.specs.Connections.{EndCause, GoCause, Goes, Serves, going, place, place_of, still_coming};
 ghost use Rattle.monitor_serving.specs.Passes.{ArePasses};
 ghost use Rattle.monitor_serving.specs.Views.{AllLast, AllTell, hosts, hosts_of, known_of};
 
@@ -44,9 +45,9 @@ fn serve_one<
     mut conn: N,
 ) -> Served
     ensures serves { AllTell (hosts_of T.known K.known C.known D.known F.known trace.old sink.old host.old files.old) →
-        Tells (M.known listener.old).health → IsFresh (N.known conn) → Serves result
-        (place_of T.known K.known C.known D.known F.known M.known
-        monitor.old trace.old sink.old host.old files.old listener.old)
+        Tells (M.known listener.old).health → (bytes : List ℕ) → IsFresh (N.known conn) bytes → Serves result
+        (place monitor.old (hosts_of T.known K.known C.known D.known F.known trace.old sink.old host.old files.old)
+        (still_coming bytes (M.known listener.old)))
         (place_of T.known K.known C.known D.known F.known M.known
         monitor.new trace.new sink.new host.new files.new listener.new) }
     ensures cause { EndCause result
@@ -57,6 +58,7 @@ fn serve_one<
         (hosts_of T.known K.known C.known D.known F.known trace.old sink.old host.old files.old)
         (hosts_of T.known K.known C.known D.known F.known trace.new sink.new host.new files.new) }
     ensures listener_lasts { Lasts (M.known listener.old).health (M.known listener.new).health }
+    ensures listener_stays { ListenerStays (M.known listener.old) (M.known listener.new) }
 {
     let Ok(()) = trace.add(&Item::Connect) else {
         return Served::Fault(Object::Trace);
@@ -101,6 +103,7 @@ fn run_alone<D: Disk, C: Clock, T: Trace, K: Sink, R: Threads + Wait + Sync>(
         (hosts (known_of T.known K.known C.known D.known trace.old sink.old host.old) files)
         (hosts (known_of T.known K.known C.known D.known trace.new sink.new host.new) files) listener listener }
     ensures trace_lasts { Lasts (T.known trace.old).health (T.known trace.new).health }
+    ensures trace_stays { TraceStays (T.known trace.old) (T.known trace.new) }
     ensures sink_lasts { Lasts (K.known sink.old).health (K.known sink.new).health }
     ensures passes { ArePasses gate.now passes.new.items }
 {
@@ -155,6 +158,7 @@ fn serve_next<
         (hosts_of T.known K.known C.known D.known F.known trace.old sink.old host.old files.old)
         (hosts_of T.known K.known C.known D.known F.known trace.new sink.new host.new files.new) }
     ensures listener_lasts { Lasts (M.known listener.old).health (M.known listener.new).health }
+    ensures listener_stays { ListenerStays (M.known listener.old) (M.known listener.new) }
     ensures passes { ArePasses gate.now passes.new.items }
 {
     match listener.accept() {
@@ -194,7 +198,7 @@ fn serve_all<
 ) -> Served
     requires { ArePasses gate.now passes.old.items }
     ensures serves { AllTell (hosts_of T.known K.known C.known D.known F.known trace.old sink.old host.old files.old) →
-        Tells (M.known listener.old).health → Serves result
+        Tells (M.known listener.old).health → Goes (Some result)
         (place_of T.known K.known C.known D.known F.known M.known
         monitor.old trace.old sink.old host.old files.old listener.old)
         (place_of T.known K.known C.known D.known F.known M.known
@@ -207,6 +211,7 @@ fn serve_all<
         (hosts_of T.known K.known C.known D.known F.known trace.old sink.old host.old files.old)
         (hosts_of T.known K.known C.known D.known F.known trace.new sink.new host.new files.new) }
     ensures listener_lasts { Lasts (M.known listener.old).health (M.known listener.new).health }
+    ensures listener_stays { ListenerStays (M.known listener.old) (M.known listener.new) }
 {
     for _ in rt.forever() {
         let end = serve_next(
@@ -243,7 +248,7 @@ pub fn serve<
     sink: &mut K,
 ) -> Served
     ensures serves { AllTell (hosts_of T.known K.known C.known D.known F.known trace.old sink.old host.old files.old) →
-        Tells (M.known listener.old).health → Serves result
+        Tells (M.known listener.old).health → Goes (Some result)
         (place_of T.known K.known C.known D.known F.known M.known
         monitor.old trace.old sink.old host.old files.old listener.old)
         (place_of T.known K.known C.known D.known F.known M.known
@@ -256,6 +261,7 @@ pub fn serve<
         (hosts_of T.known K.known C.known D.known F.known trace.old sink.old host.old files.old)
         (hosts_of T.known K.known C.known D.known F.known trace.new sink.new host.new files.new) }
     ensures listener_lasts { Lasts (M.known listener.old).health (M.known listener.new).health }
+    ensures listener_stays { ListenerStays (M.known listener.old) (M.known listener.new) }
 {
     let Ok((gate, mut passes)) = FlagGate::new(alloc, PASSES) else {
         return Served::OutOfMemory;

@@ -2,15 +2,16 @@
 ghost use Rattle.std.specs.Prelude.{◌≡◌, ◌⊎◌, ◌+◌, ◌++◌, ◌∷◌, [], length, IfOk, IfSome, None, OnErr, OnOk, Some};
 ghost use Rattle.script_text.specs.declared.item.Item.TheVariants as item;
 ghost use Rattle.serve_host.specs.Passing.{ConnKnown, Waits};
-ghost use Rattle.serve_host.specs.Tracing.{TraceKnown};
+ghost use Rattle.serve_host.specs.Tracing.{TraceKnown, TraceStays};
+ghost use Rattle.vm_host.specs.Telling.{ClockKnown};
 ghost use Rattle.vm_outside.specs.Known.{Called, Lasts, SinkKnown, Tells};
+ghost use Rattle.monitor_machine.specs.Disks.{DiskUncalled};
 ghost use Rattle.monitor_serving.specs.Causes.{AnswerCause, ReplyCause, TurnedCause};
 ghost use Rattle.monitor_serving.specs.Hearing.{Gave, HeardCause, HearsBy, IsWithin, bytes_in};
 ghost use Rattle.monitor_serving.specs.Passes.{ArePasses};
 ghost use Rattle.monitor_serving.specs.Turns.{TurnedAs};
-ghost use Rattle.monitor_running.specs.Asked.{HostKnown};
 ghost use Rattle.monitor_running.specs.Reached.{known};
-ghost use Rattle.monitor_serving.specs.Views.{AllLast, AllTell, Hosts, hosts, hosts_of, view, view_of};
+ghost use Rattle.monitor_serving.specs.Views.{AllLast, AllTell, Hosts, host_with, hosts, hosts_of, view, view_of};
 
 use crate::beside::run_beside;
 use crate::listening::Heard;
@@ -37,6 +38,7 @@ fn tell_bytes<T: Trace>(trace: &mut T, bytes: ByteList) -> Result<Item, Failed>
         (T.known trace.new).took ≡ (T.known trace.old).took ++ item.Bytes bytes ∷ []) }
     ensures untold { OnErr result (Tells (T.known trace.old).health →
         (T.known trace.new).took ≡ (T.known trace.old).took) }
+    ensures stays { TraceStays (T.known trace.old) (T.known trace.new) }
     ensures called { Called (T.known trace.old).health (T.known trace.new).health result }
 {
     let item = Item::Bytes { bytes };
@@ -64,17 +66,15 @@ fn reply<N: Conn, F: Files, D: Disk>(
     conn: &mut N,
     bytes: &[u8],
 ) -> Option<Served>
-    ensures replied { (trace told : TraceKnown) (sink : SinkKnown) (host : HostKnown) (before : ConnKnown) →
+    ensures replied { (trace told : TraceKnown) (sink : SinkKnown) (clock : ClockKnown) (before : ConnKnown) →
         told.took ≡ trace.took ++ item.Bytes bytes.now ∷ [] → Tells (F.known files.old).health →
         Tells (N.known conn.old).health → Gave before (N.known conn.old) bytes.now →
-        TurnedAs result (view monitor.old (hosts (known trace sink host) (F.known files.old)) before)
-        (view monitor.new (hosts (known told sink host) (F.known files.new)) (N.known conn.new)) }
+        TurnedAs result (view monitor.old (hosts (known trace sink (host_with clock (D.known disk.old))) (F.known files.old)) before)
+        (view monitor.new (hosts (known told sink (host_with clock (D.known disk.new))) (F.known files.new)) (N.known conn.new)) }
     ensures cause { IfSome result (λ end. ReplyCause end monitor.new (N.known conn.old) (N.known conn.new)) }
     ensures files_last { Lasts (F.known files.old).health (F.known files.new).health }
     ensures conn_lasts { Lasts (N.known conn.old).health (N.known conn.new).health }
-    ensures disk_same { Tells (D.known disk.old).health → (D.known disk.new).held ≡ (D.known disk.old).held }
-    ensures disk_lasts { Lasts (D.known disk.old).health (D.known disk.new).health }
-    ensures disk_kept { (D.known disk.new).health.faults ≡ (D.known disk.old).health.faults }
+    ensures disk { DiskUncalled (D.known disk.old) (D.known disk.new) }
 {
     if monitor.is_off() {
         return Some(Served::Off);
@@ -101,19 +101,18 @@ fn answer<N: Conn, F: Files, D: Disk, T: Trace>(
     trace: &mut T,
     piece: Vec<u8>,
 ) -> Option<Served>
-    ensures answered { (sink : SinkKnown) (host : HostKnown) (before : ConnKnown) →
-        AllTell (hosts (known (T.known trace.old) sink host) (F.known files.old)) → Tells (N.known conn.old).health →
+    ensures answered { (sink : SinkKnown) (clock : ClockKnown) (before : ConnKnown) →
+        AllTell (hosts (known (T.known trace.old) sink (host_with clock (D.known disk.old))) (F.known files.old)) → Tells (N.known conn.old).health →
         Gave before (N.known conn.old) piece.items →
-        TurnedAs result (view monitor.old (hosts (known (T.known trace.old) sink host) (F.known files.old)) before)
-        (view monitor.new (hosts (known (T.known trace.new) sink host) (F.known files.new)) (N.known conn.new)) }
+        TurnedAs result (view monitor.old (hosts (known (T.known trace.old) sink (host_with clock (D.known disk.old))) (F.known files.old)) before)
+        (view monitor.new (hosts (known (T.known trace.new) sink (host_with clock (D.known disk.new))) (F.known files.new)) (N.known conn.new)) }
     ensures cause { IfSome result (λ end. AnswerCause end monitor.new (T.known trace.old).health (T.known trace.new).health
         (N.known conn.old) (N.known conn.new)) }
     ensures trace_lasts { Lasts (T.known trace.old).health (T.known trace.new).health }
+    ensures trace_stays { TraceStays (T.known trace.old) (T.known trace.new) }
     ensures files_last { Lasts (F.known files.old).health (F.known files.new).health }
     ensures conn_lasts { Lasts (N.known conn.old).health (N.known conn.new).health }
-    ensures disk_same { Tells (D.known disk.old).health → (D.known disk.new).held ≡ (D.known disk.old).held }
-    ensures disk_lasts { Lasts (D.known disk.old).health (D.known disk.new).health }
-    ensures disk_kept { (D.known disk.new).health.faults ≡ (D.known disk.old).health.faults }
+    ensures disk { DiskUncalled (D.known disk.old) (D.known disk.new) }
 {
     let Ok(item) = tell_bytes(trace, ByteList::from_vec(piece)) else {
         return Some(Served::Fault(Object::Trace));
@@ -162,22 +161,21 @@ fn settle<N: Conn, F: Files, D: Disk, T: Trace>(
     came: Came,
 ) -> Option<Served>
     requires { IsWithin came.heard (length came.piece.items) }
-    ensures settled { (sink : SinkKnown) (host : HostKnown) (before : ConnKnown) →
-        AllTell (hosts (known (T.known trace.old) sink host) (F.known files.old)) → Tells (N.known conn.old).health →
+    ensures settled { (sink : SinkKnown) (clock : ClockKnown) (before : ConnKnown) →
+        AllTell (hosts (known (T.known trace.old) sink (host_with clock (D.known disk.old))) (F.known files.old)) → Tells (N.known conn.old).health →
         HearsBy came.heard before (N.known conn.old) came.piece.items → (N.known conn.old).took ≡ before.took →
         Lasts before.health (N.known conn.old).health →
-        TurnedAs result (view monitor.old (hosts (known (T.known trace.old) sink host) (F.known files.old)) before)
-        (view monitor.new (hosts (known (T.known trace.new) sink host) (F.known files.new)) (N.known conn.new)) }
+        TurnedAs result (view monitor.old (hosts (known (T.known trace.old) sink (host_with clock (D.known disk.old))) (F.known files.old)) before)
+        (view monitor.new (hosts (known (T.known trace.new) sink (host_with clock (D.known disk.new))) (F.known files.new)) (N.known conn.new)) }
     ensures cause { IfSome result (λ end. (before : ConnKnown) → Lasts before.health (N.known conn.old).health →
         (Tells before.health → HearsBy came.heard before (N.known conn.old) came.piece.items) →
         HeardCause came.heard before.health.faults (N.known conn.old).health.faults →
         AnswerCause end monitor.new (T.known trace.old).health (T.known trace.new).health before (N.known conn.new)) }
     ensures trace_lasts { Lasts (T.known trace.old).health (T.known trace.new).health }
+    ensures trace_stays { TraceStays (T.known trace.old) (T.known trace.new) }
     ensures files_last { Lasts (F.known files.old).health (F.known files.new).health }
     ensures conn_lasts { Lasts (N.known conn.old).health (N.known conn.new).health }
-    ensures disk_same { Tells (D.known disk.old).health → (D.known disk.new).held ≡ (D.known disk.old).held }
-    ensures disk_lasts { Lasts (D.known disk.old).health (D.known disk.new).health }
-    ensures disk_kept { (D.known disk.new).health.faults ≡ (D.known disk.old).health.faults }
+    ensures disk { DiskUncalled (D.known disk.old) (D.known disk.new) }
 {
     let Came { heard, mut piece } = came;
     match heard {

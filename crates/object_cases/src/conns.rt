@@ -1,4 +1,5 @@
-// Connections in memory: one comes, speaks and ends, and another ends at once. The third call on the first one fails.
+// Connections in memory: one comes, speaks and ends, and another ends at once. The third call on the first one fails, and of
+// the listener the second listen and the first accept.
 use crate::showing::{Shown, found, text_of};
 use host_mem::{MemoryCaller, MemoryConn, MemoryListener, Past};
 use outside_mem::Failing;
@@ -15,7 +16,8 @@ fn listener(alloc: Global) -> Result<MemoryListener, AllocError> {
     let mut callers = VecDeque::new(alloc);
     callers.push_back(caller(alloc)?)?;
     callers.push_back(silent(alloc))?;
-    Ok(MemoryListener::new(alloc, callers, Failing::new(Vec::new(alloc))))
+    let calls = [1, 2].to_vec(alloc)?;
+    Ok(MemoryListener::new(alloc, callers, Failing::new(calls)))
 }
 
 fn caller(alloc: Global) -> Result<MemoryCaller, AllocError> {
@@ -38,7 +40,9 @@ fn silent(alloc: Global) -> MemoryCaller {
 }
 
 fn show_listener(listener: &mut MemoryListener, shown: &mut Shown) {
-    shown.show("conn: listen", &listener.listen("s"));
+    show_listen(listener, "s", shown);
+    show_listen(listener, "t", shown);
+    shown.show("conn: accept", &found(&listener.accept()));
     shown.show("conn: accept", &found(&listener.accept()));
     speak(listener, shown);
     show_past(listener.ended(), shown);
@@ -47,6 +51,14 @@ fn show_listener(listener: &mut MemoryListener, shown: &mut Shown) {
     show_past(listener.ended(), shown);
     show_before(listener.ended(), shown);
     shown.show("conn: accept", &found(&listener.accept()));
+    shown.show("conn: failed", &listener.faults());
+}
+
+// The path before, what the listen answers, and the path behind it.
+fn show_listen(listener: &mut MemoryListener, path: &str, shown: &mut Shown) {
+    shown.show("conn: path", &listener.path());
+    shown.show("conn: listen", &listener.listen(path));
+    shown.show("conn: path", &listener.path());
 }
 
 // The next connection, which is then ended.

@@ -1,15 +1,16 @@
 // A disk that begins with 64 bytes, a link and a vsock host in memory, of which each has a call that fails.
-use crate::showing::{Shown, part_of, text_of};
+use crate::showing::{Shown, alike, part_of, text_of};
 use host_mem::{Frame, MemoryDisk, MemoryLink, MemoryVsock, MemoryWire};
 use outside_mem::Failing;
 use std::alloc::{AllocError, Global};
 use std::collections::VecDeque;
-use vm_host::{Disk, HostEvent, Link, VsockHost};
+use vm_host::{Attached, Disk, DiskCall, HostEvent, Link, VsockHost};
 use vm_outside::Failed;
 use vm_types::{ByteList, Piece};
 
 pub fn show(alloc: Global, shown: &mut Shown) -> Result<(), AllocError> {
     show_disk(&mut disk(alloc)?, shown);
+    show_called(&mut disk(alloc)?, shown);
     show_link(&mut link(alloc)?, shown);
     show_vsock(&mut vsock(alloc)?, shown);
     Ok(())
@@ -22,7 +23,7 @@ fn failing(alloc: Global, call: u64) -> Result<Failing, AllocError> {
 fn disk(alloc: Global) -> Result<MemoryDisk, AllocError> {
     let mut disks = Vec::new(alloc);
     disks.push(ByteList::copy_of(alloc, &[3; 64])?)?;
-    Ok(MemoryDisk::new(disks, failing(alloc, 1)?))
+    Ok(MemoryDisk::new(alloc, disks, failing(alloc, 1)?))
 }
 
 fn show_disk(disk: &mut MemoryDisk, shown: &mut Shown) {
@@ -34,6 +35,56 @@ fn show_disk(disk: &mut MemoryDisk, shown: &mut Shown) {
     show_part("disk: read 0 1 3", disk, (0, 1, 3), shown);
     show_part("disk: read 1 0 0", disk, (1, 0, 0), shown);
     shown.show("disk: failed", &disk.faults());
+}
+
+// The second call fails.
+fn show_called(disk: &mut MemoryDisk, shown: &mut Shown) {
+    show_files(disk, shown);
+    disk.attach(0, "first");
+    disk.attach(255, "last");
+    show_files(disk, shown);
+    disk.attach(0, "second");
+    show_files(disk, shown);
+    shown.show("disk: write", &disk.write(0, 0, 7, &[8; 64]));
+    shown.show("disk: write", &disk.write(0, 0, 6, &[7; 64]));
+    shown.show("disk: flush", &disk.flush(0));
+    show_part("disk: read 0 0 6", disk, (0, 0, 6), shown);
+    disk.settle();
+    show_calls(disk.calls(), shown);
+}
+
+fn show_files(disk: &MemoryDisk, shown: &mut Shown) {
+    let names = [0, 1, 255].map(|device| name_of(disk.file(device)));
+    shown.show("disk: files of 0, 1 and 255", &names);
+}
+
+fn name_of(attached: &Attached) -> &str {
+    match attached {
+        Attached::Nothing => "nothing",
+        Attached::Named(name) => name.as_str(),
+        Attached::Unkept => "a name that isn't kept",
+    }
+}
+
+fn show_calls(calls: &[DiskCall], shown: &mut Shown) {
+    for call in calls {
+        show_call(call, shown);
+    }
+}
+
+fn show_call(call: &DiskCall, shown: &mut Shown) {
+    match call {
+        DiskCall::Wrote {
+            device,
+            sector,
+            part,
+            piece,
+        } => {
+            let at = (*device, *sector, *part);
+            shown.show_two("disk: wrote", &at, &alike(piece.as_slice()));
+        }
+        DiskCall::Flushed { device } => shown.show("disk: flushed", device),
+    }
 }
 
 /// A part of a disk, which stands at a device, a sector and a number.
@@ -49,10 +100,13 @@ fn link(alloc: Global) -> Result<MemoryLink, AllocError> {
     }
     let mut wires = Vec::new(alloc);
     wires.push(MemoryWire::new(alloc, coming))?;
-    Ok(MemoryLink::new(wires, failing(alloc, 5)?))
+    Ok(MemoryLink::new(alloc, wires, failing(alloc, 5)?))
 }
 
 fn show_link(link: &mut MemoryLink, shown: &mut Shown) {
+    shown.show("link: socket of 0", &name_of(link.socket(0)));
+    link.attach(0, "wire");
+    shown.show("link: socket of 0", &name_of(link.socket(0)));
     shown.show("link: take", &[link.take(0), link.take(0)]);
     show_piece("link: part of 6", &link.part(0, 1, 6), shown);
     show_piece("link: part of 7", &link.part(0, 1, 7), shown);
@@ -89,6 +143,9 @@ fn vsock(alloc: Global) -> Result<MemoryVsock, AllocError> {
 }
 
 fn show_vsock(vsock: &mut MemoryVsock, shown: &mut Shown) {
+    shown.show("vsock: sockets", &name_of(vsock.sockets()));
+    vsock.attach(0, "sockets");
+    shown.show("vsock: sockets", &name_of(vsock.sockets()));
     shown.show("vsock: next", &[vsock.next(), vsock.next()]);
     shown.show("vsock: dial", &[vsock.dial(80), vsock.dial(81)]);
     shown.show("vsock: send", &vsock.send(8, Piece::empty()));

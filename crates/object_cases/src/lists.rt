@@ -20,18 +20,34 @@ pub fn show(alloc: Global, shown: &mut Shown) -> Result<(), AllocError> {
     Ok(())
 }
 
+// The second call fails, the second finish, and the third open.
 fn trace(alloc: Global) -> Result<MemoryTrace, AllocError> {
-    let calls = [1, 4].to_vec(alloc)?;
+    let calls = [1, 5, 8].to_vec(alloc)?;
     Ok(MemoryTrace::new(alloc, Failing::new(calls)))
 }
 
 fn show_trace(trace: &mut MemoryTrace, bytes: Item, shown: &mut Shown) {
-    shown.show("trace: open", &trace.open("t"));
+    show_open(trace, "t", shown);
     shown.show("trace: add", &added(trace, Item::Console));
     shown.show("trace: add", &added(trace, bytes));
     show_taken(trace, shown);
-    shown.show("trace: finish", &[trace.finish(), trace.finish()]);
+    shown.show("trace: finish", &trace.finish());
     show_taken(trace, shown);
+    shown.show("trace: add", &added(trace, Item::Console));
+    shown.show("trace: finish", &trace.finish());
+    show_taken(trace, shown);
+    show_open(trace, "u", shown);
+    show_taken(trace, shown);
+    shown.show("trace: add", &added(trace, Item::Console));
+    show_open(trace, "v", shown);
+    show_taken(trace, shown);
+}
+
+// The path before, what the open answers, and the path behind it.
+fn show_open(trace: &mut MemoryTrace, path: &str, shown: &mut Shown) {
+    shown.show("trace: path", &trace.path());
+    shown.show("trace: open", &trace.open(path));
+    shown.show("trace: path", &trace.path());
 }
 
 // The second of the three last steps fails.
@@ -61,8 +77,8 @@ fn is_step(item: &Item) -> bool {
 }
 
 fn show_taken(trace: &MemoryTrace, shown: &mut Shown) {
-    let counts = (trace.took().len(), trace.faults());
-    shown.show("trace: took, failed", &counts);
+    let counts = (trace.took().len(), trace.kept().len(), trace.faults());
+    shown.show("trace: took, kept, failed", &counts);
 }
 
 /// What a trace answers to an item.

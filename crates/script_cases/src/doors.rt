@@ -88,9 +88,14 @@ fn took_of(over: &Option<Line>) -> Option<&[u8]> {
 }
 
 impl Listener<Line> for Door {
-    ghost use Rattle.std.specs.Prelude.{false, []};
+    ghost use Rattle.std.specs.Prelude.{false, [], None};
 
-    ghost known = { λ l. record { health = record { tells = false; faults = l.listening }; ended = [] } };
+    ghost known = { λ l. record {
+      health = record { tells = false; faults = l.listening };
+      path = None;
+      coming = [];
+      ended = [];
+    } };
 
     fn listen(&mut self, _path: &str) -> Result<(), Failed> {
         if self.listening.fails() {

@@ -101,9 +101,14 @@ fn play_into(
 }
 
 impl Trace for Player<'_> {
-    ghost use Rattle.std.specs.Prelude.{false, []};
+    ghost use Rattle.std.specs.Prelude.{false, [], None};
 
-    ghost known = { λ t. record { health = record { tells = false; faults = t.failing }; took = [] } };
+    ghost known = { λ t. record {
+      health = record { tells = false; faults = t.failing };
+      path = None;
+      took = [];
+      kept = [];
+    } };
 
     fn open(&mut self, _path: &str) -> Result<(), Failed> {
         Ok(())

@@ -69,7 +69,7 @@ fn door_of(alloc: Global, session: &Session) -> Result<Door, AllocError> {
 fn disk_of(alloc: Global, session: &Session, disk: &[u8]) -> Result<MemoryDisk, AllocError> {
     let mut disks = Vec::new(alloc);
     disks.push(ByteList::copy_of(alloc, disk)?)?;
-    Ok(MemoryDisk::new(disks, fails(alloc, session.disk_fails)?))
+    Ok(MemoryDisk::new(alloc, disks, fails(alloc, session.disk_fails)?))
 }
 
 /// The objects that a session is handed. The lineage is 77, and moments are 25 ns apart, so that the first slice ends before

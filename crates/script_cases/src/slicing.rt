@@ -187,7 +187,7 @@ fn player_of<'a>(alloc: Global, row: &Row, gate: &'a HoldGate) -> Result<Player<
 // Without a disk.
 fn host_of(alloc: Global) -> Host<MemoryDisk, (), (), Ticks> {
     Host {
-        disk: MemoryDisk::new(Vec::new(alloc), Failing::new(Vec::new(alloc))),
+        disk: MemoryDisk::new(alloc, Vec::new(alloc), Failing::new(Vec::new(alloc))),
         link: (),
         vsock: (),
         clock: Ticks::new(100),

@@ -1,14 +1,32 @@
 -- What is known of a trace, and what each call leaves of that.
-use Rattle.std.specs.Prelude.{ℕ, ◌≡◌, ◌≤◌, List, [], ◌∷◌, ◌++◌, replicate, Result, MatchResult}
+use Rattle.std.specs.Prelude.{ℕ, ◌≡◌, ◌≤◌, List, [], ◌∷◌, ◌++◌, replicate, Option, Some, Result, MatchResult}
 use Rattle.vm_types.specs.declared.ids.ActorId.{ActorId}
-use Rattle.vm_outside.specs.Known.{Health}
+use Rattle.vm_outside.specs.Known.{Health, Tells}
 use Rattle.script_text.specs.declared.item.Item.{Item}
 use Rattle.script_text.specs.declared.item.Item.TheVariants as item
 
--- the items that a trace took, the oldest first
+-- the path under which a trace was opened, the items that it took, the oldest first, and those of them that `finish` has put
+-- where they are kept
 pub record TraceKnown : Type 0 where
   pub health : Health
+  pub path : Option (List ℕ)
   pub took : List Item
+  pub kept : List Item
+
+-- it is the trace of the same path
+abbrev pub TraceStays : TraceKnown → TraceKnown → Type 0
+TraceStays old new = Tells old.health → new.path ≡ old.path
+
+-- a new trace of this path, which took nothing yet
+pub record IsNew (under : List ℕ) (trace : TraceKnown) : Type 0 where
+  pub path : trace.path ≡ Some under
+  pub took : trace.took ≡ []
+  pub kept : trace.kept ≡ []
+
+-- `open`: where it fails, the trace is what it was
+abbrev pub Opens : {T E : Type 0} → TraceKnown → List ℕ → Result T E → TraceKnown → Type 0
+Opens old under result new =
+    MatchResult result (λ _. IsNew under new) (λ _. (new.path ≡ old.path) × (new.took ≡ old.took))
 
 -- `add` takes the item behind the others; where it fails, it takes none
 abbrev pub Adds : {T E : Type 0} → List Item → List Item → Result T E → Item → Type 0

@@ -1,6 +1,6 @@
 // Where what happened goes, item by item.
-ghost use Rattle.std.specs.Prelude.{◌≡◌, false};
-ghost use Rattle.serve_host.specs.Tracing.{Adds, AddsSteps};
+ghost use Rattle.std.specs.Prelude.{◌≡◌, false, OnOk};
+ghost use Rattle.serve_host.specs.Tracing.{Adds, AddsSteps, Opens, TraceStays};
 ghost use Rattle.vm_outside.specs.Known.{Called, Tells};
 
 use script_text::Item;
@@ -13,21 +13,23 @@ pub trait Trace: Drop {
 
     ghost known: { Self → TraceKnown };
 
-    /// Opens the trace under this path. It takes items only then.
+    /// Opens a new trace under this path, in the place of what is there. What it takes from now on goes there.
     fn open(&mut self, path: &str) -> Result<(), Failed>
-        ensures same { Tells (known self.old).health → (known self.new).took ≡ (known self.old).took }
+        ensures opens { Tells (known self.old).health → Opens (known self.old) path.now result (known self.new) }
         ensures called { Called (known self.old).health (known self.new).health result };
 
     /// Takes an item. After an `Err` it has taken none.
     fn add(&mut self, item: &Item) -> Result<(), Failed>
         ensures adds { Tells (known self.old).health →
             Adds (known self.old).took (known self.new).took result item.now }
+        ensures stays { TraceStays (known self.old) (known self.new) }
         ensures called { Called (known self.old).health (known self.new).health result };
 
     /// Takes so many items `step ACTOR 1`, one after another. After an `Err` it has taken the first of them, or none.
     fn add_steps(&mut self, actor: ActorId, count: u64) -> Result<(), Failed>
         ensures adds { Tells (known self.old).health →
             AddsSteps (known self.old).took (known self.new).took result actor count }
+        ensures stays { TraceStays (known self.old) (known self.new) }
         ensures called { Called (known self.old).health (known self.new).health result };
 
     /// Whether anybody is told what it takes. Where nobody is, no item need be made.
@@ -36,6 +38,8 @@ pub trait Trace: Drop {
 
     /// Puts what it holds still where it is kept, and takes nothing.
     fn finish(&mut self) -> Result<(), Failed>
+        ensures keeps { OnOk result (Tells (known self.old).health → (known self.new).kept ≡ (known self.old).took) }
         ensures same { Tells (known self.old).health → (known self.new).took ≡ (known self.old).took }
+        ensures stays { TraceStays (known self.old) (known self.new) }
         ensures called { Called (known self.old).health (known self.new).health result };
 }

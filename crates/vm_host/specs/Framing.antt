@@ -1,7 +1,8 @@
 -- What is known of the links of network devices, and what each call leaves of that.
 use Rattle.std.specs.Prelude.{◌≡◌, ◌≤◌, ℕ, ◌*◌, List, [], ◌∷◌, ◌++◌, length, take, drop, Option, None, Some, Result, MatchResult}
 use Rattle.vm_outside.specs.Known.{Health}
-use Rattle.vm_host.specs.Devices.{ChangesAt}
+use Rattle.vm_host.specs.Devices.{Attaches, ChangesAt}
+use Rattle.vm_host.specs.declared.attached.Attached.{Attached}
 
 -- of one device: the frames that come, the one that was taken last, those that were sent, the oldest first, and
 -- the bytes of the one that is being sent
@@ -11,9 +12,16 @@ pub record Wire : Type 0 where
   pub sent : List (List ℕ)
   pub begun : List ℕ
 
+-- of each device the socket that its link is, and what passes on it
 pub record LinkKnown : Type 0 where
   pub health : Health
+  pub sockets : ℕ → Attached
   pub wires : ℕ → Wire
+
+-- `attach`: the device's link is the socket of this name
+pub record AttachesLink (device : ℕ) (name : List ℕ) (old new : LinkKnown) : Type 0 where
+  pub sockets : Attaches device name old.sockets new.sockets
+  pub wires : new.wires ≡ old.wires
 
 -- a frame's length in bytes: without its check sequence an Ethernet frame has 14 to 1,514
 abbrev pub IsFrameLength : ℕ → Type 0

@@ -7,14 +7,16 @@
 //! it rose, as at the objects of `vm_outside`. `Host` has one of each kind.
 #![tactic(auto)]
 
+mod attached;
 mod clock;
 mod disk;
 mod host;
 mod link;
 mod vsock_host;
 
+pub use attached::Attached;
 pub use clock::Clock;
-pub use disk::Disk;
+pub use disk::{Disk, DiskCall};
 pub use host::Host;
 pub use link::Link;
 pub use vsock_host::{HostAct, HostEvent, VsockHost};

@@ -1,6 +1,6 @@
 // What network devices ask.
 ghost use Rattle.std.specs.Prelude.{◌≡◌, length, IfOk, OnErr};
-ghost use Rattle.vm_host.specs.Framing.{AreFrameLengths, IsPiece, Sends, SendsFrame, SendsPart, Takes};
+ghost use Rattle.vm_host.specs.Framing.{AreFrameLengths, AttachesLink, IsPiece, Sends, SendsFrame, SendsPart, Takes};
 ghost use Rattle.vm_outside.specs.Known.{Called, Lasts, Tells};
 
 use vm_outside::Failed;
@@ -14,7 +14,8 @@ pub trait Link: Drop {
 
     /// The device's link is the one of this name from now on. What can't be opened fails later.
     fn attach(&mut self, device: u8, name: &str)
-        ensures same { Tells (known self.old).health → (known self.new).wires ≡ (known self.old).wires }
+        ensures attaches { Tells (known self.old).health →
+            AttachesLink device name.now (known self.old) (known self.new) }
         ensures lasts { Lasts (known self.old).health (known self.new).health }
         ensures kept { (known self.new).health.faults ≡ (known self.old).health.faults };
 
@@ -25,6 +26,7 @@ pub trait Link: Drop {
             Takes (known self.old).wires device (known self.new).wires taken) }
         ensures same { OnErr result (Tells (known self.old).health →
             (known self.new).wires ≡ (known self.old).wires) }
+        ensures sockets { Tells (known self.old).health → (known self.new).sockets ≡ (known self.old).sockets }
         ensures called { Called (known self.old).health (known self.new).health result };
 
     /// So many bytes of the frame that was taken, from its piece of 64 bytes with this number on. That there are fewer
@@ -34,17 +36,20 @@ pub trait Link: Drop {
         ensures bytes { IfOk result (λ piece. Tells (known self.old).health →
             IsPiece ((known self.old).wires device).taken index count piece) }
         ensures same { Tells (known self.old).health → (known self.new).wires ≡ (known self.old).wires }
+        ensures sockets { Tells (known self.old).health → (known self.new).sockets ≡ (known self.old).sockets }
         ensures called { Called (known self.old).health (known self.new).health result };
 
     /// Sends the next bytes of a frame. Where it fails, what was sent of the frame is dropped.
     fn send_part(&mut self, device: u8, piece: Piece) -> Result<(), Failed>
         ensures sends { Tells (known self.old).health →
             Sends (known self.old).wires device (known self.new).wires result (SendsPart piece) }
+        ensures sockets { Tells (known self.old).health → (known self.new).sockets ≡ (known self.old).sockets }
         ensures called { Called (known self.old).health (known self.new).health result };
 
     /// The frame whose parts were sent is whole. Where it fails, the frame is dropped.
     fn send_end(&mut self, device: u8) -> Result<(), Failed>
         ensures sends { Tells (known self.old).health →
             Sends (known self.old).wires device (known self.new).wires result SendsFrame }
+        ensures sockets { Tells (known self.old).health → (known self.new).sockets ≡ (known self.old).sockets }
         ensures called { Called (known self.old).health (known self.new).health result };
 }

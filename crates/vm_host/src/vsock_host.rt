@@ -1,7 +1,7 @@
 // What the vsock device asks.
 ghost use Rattle.std.specs.Prelude.{◌≡◌, IfOk, OnErr};
 ghost use Rattle.vm_host.specs.declared.vsock_host.HostAct.TheVariants as act;
-ghost use Rattle.vm_host.specs.Hosting.{Comes, Dials, Does, IsEvent, OrRests, Rests};
+ghost use Rattle.vm_host.specs.Hosting.{AttachesVsock, Comes, Dials, Does, IsEvent, OrRests, Rests};
 ghost use Rattle.vm_outside.specs.Known.{Called, Lasts, Tells};
 
 use vm_outside::Failed;
@@ -38,7 +38,8 @@ pub trait VsockHost: Drop {
 
     /// The host's end is the one of this name from now on. What can't be opened fails later.
     fn attach(&mut self, device: u8, name: &str)
-        ensures same { Tells (known self.old).health → Rests (known self.old) (known self.new) }
+        ensures attaches { Tells (known self.old).health →
+            AttachesVsock name.now (known self.old) (known self.new) }
         ensures lasts { Lasts (known self.old).health (known self.new).health }
         ensures kept { (known self.new).health.faults ≡ (known self.old).health.faults };
 

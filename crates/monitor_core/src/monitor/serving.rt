@@ -1,9 +1,10 @@
 // What serving asks of a monitor besides the items of a script.
 ghost use Rattle.std.specs.Prelude.{◌≡◌, IfOk, OnErr};
 ghost use Rattle.std.specs.Borrow.{sem};
-ghost use Rattle.vm_outside.specs.Known.{FilesKnown, Lasts, Tells};
+ghost use Rattle.vm_outside.specs.Known.{FilesKnown, Lasts};
 ghost use Rattle.http_stream.specs.Conversation.{new_connection};
 ghost use Rattle.flat_machine.specs.Machine.{Machine};
+ghost use Rattle.monitor_machine.specs.Disks.{DiskUncalled, HasFiles};
 
 use crate::monitor::Monitor;
 use monitor_machine::LiveMachine;
@@ -72,9 +73,9 @@ impl Monitor {
     /// Where there is a guest, the disk of each of its devices is the file that its drive names from now on. What can't be
     /// opened fails later.
     pub fn attach_disks<D: Disk>(&self, disk: &mut D)
-        ensures same { Tells (D.known disk.old).health → (D.known disk.new).held ≡ (D.known disk.old).held }
-        ensures lasts { Lasts (D.known disk.old).health (D.known disk.new).health }
-        ensures kept { (D.known disk.new).health.faults ≡ (D.known disk.old).health.faults }
+        ensures attached { (known : FilesKnown) (m : Machine) → IsMonitor self.now known m →
+            HasFiles (D.known disk.old).health m (D.known disk.new) }
+        ensures uncalled { DiskUncalled (D.known disk.old) (D.known disk.new) }
     {
         self.machine.attach_disks(disk);
     }

@@ -1,7 +1,10 @@
-// The files of drives: what another one changes, and the disks of devices.
-ghost use Rattle.std.specs.Prelude.{◌≡◌};
-ghost use Rattle.vm_outside.specs.Known.{Lasts, Tells};
+// What a PATCH of a drive changes, and which file is whose disk.
+ghost use Rattle.std.specs.Prelude.{ℕ, ◌≡◌, ◌≢◌};
+ghost use Rattle.vm_outside.specs.Known.{Tells};
+ghost use Rattle.flat_machine.specs.Machine.{Machine};
+ghost use Rattle.monitor_machine.specs.Disks.{DiskUncalled, HasFile, HasFiles};
 ghost use Rattle.monitor_machine.specs.Plans.{Resizes};
+ghost use Rattle.monitor_machine.specs.State.{IsLive};
 
 use crate::machine::LiveMachine;
 use api_rules::{Change, Config};
@@ -13,9 +16,10 @@ const MOST_DEVICES: u8 = 16;
 
 // The device's disk is the file of its drive, if it has one.
 fn attach_disk<D: Disk>(config: &Config, device: u8, disk: &mut D)
-    ensures same { Tells (D.known disk.old).health → (D.known disk.new).held ≡ (D.known disk.old).held }
-    ensures lasts { Lasts (D.known disk.old).health (D.known disk.new).health }
-    ensures kept { (D.known disk.new).health.faults ≡ (D.known disk.old).health.faults }
+    ensures attached { HasFile (D.known disk.old).health config.now device (D.known disk.new) }
+    ensures others { Tells (D.known disk.old).health → (other : ℕ) → other ≢ device →
+        (D.known disk.new).files other ≡ (D.known disk.old).files other }
+    ensures uncalled { DiskUncalled (D.known disk.old) (D.known disk.new) }
 {
     if let Some(drive) = config.drives.at_device(device as usize) {
         disk.attach(device, drive.path_on_host.as_str());
@@ -50,9 +54,9 @@ impl LiveMachine {
     /// Where there is a guest, the disk of each of its devices is the file that its drive names from now on. What can't be
     /// opened fails later.
     pub fn attach_disks<D: Disk>(&self, disk: &mut D)
-        ensures same { Tells (D.known disk.old).health → (D.known disk.new).held ≡ (D.known disk.old).held }
-        ensures lasts { Lasts (D.known disk.old).health (D.known disk.new).health }
-        ensures kept { (D.known disk.new).health.faults ≡ (D.known disk.old).health.faults }
+        ensures attached { (m : Machine) → IsLive self.now m →
+            HasFiles (D.known disk.old).health m (D.known disk.new) }
+        ensures uncalled { DiskUncalled (D.known disk.old) (D.known disk.new) }
     {
         if self.guest.is_none() {
             return;

@@ -1,4 +1,5 @@
 use Rattle.std.proofs.Common.{ap}
+use Rattle.command_line.specs.Said.{words_said}
 use Rattle.monitor_running.specs.Asked.{host_known}
 use Rattle.monitor_running.specs.Reached.{known}
 use Rattle.monitor_serving.specs.Views.{Hosts, hosts}
@@ -15,6 +16,6 @@ returns g c =
     g.M.Listener.known c.args.sink.now c.args.files.now c.args.with.now in
     let mid : Hosts = hosts (known (g.T.Trace.known with.trace) (g.K.Sink.known c.run_serve-exit.new.sink)
     (host_known g.C.Clock.known g.D.Disk.known with.host)) (g.F.Files.known c.run_serve-exit.new.files) in
-    serves c.run_serve-exit.result c.args.words.id.now before mid (g.W.Words.known with.words) (g.M.Listener.known with.listener)
+    serves c.run_serve-exit.result (words_said c.args.words) before mid (g.W.Words.known with.words) (g.M.Listener.known with.listener)
     (g.K.Sink.known c.write_last.new.sink) c.write_last.result ran.so_far ran.told ran.lasts wrote.takes
     (λ is. ap g.K.Sink.known (wrote.quiet is)) wrote.called

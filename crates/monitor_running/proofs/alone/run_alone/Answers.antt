@@ -12,7 +12,7 @@ returns-in-Err-clause-went g c =
     went_on IsRunning (Some c.end_by.result) _ _ _ _ _ _ c.in_default.ensures.went
     (went_items_untold c.end_by.result c.in-Err.why ⊥ _ _ _ _ _ _ _ _ _ _ c.end_by.ensures
     (steps_gone c.args.turn.hart c.run_hart-made.result _ _ _ c.run_hart-made.ensures.run) (λ never. absurd never)
-    told.told told.trace_cause told.sink_cause told.trace_lasts told.sink_lasts)
+    told.told told.trace_cause told.sink_cause told.trace_lasts told.trace_stays told.sink_lasts)
 
 pub returns-clause-went : goal.returns-clause-went
 returns-clause-went g c =
@@ -20,4 +20,4 @@ returns-clause-went g c =
     went_on IsRunning None _ _ _ _ _ _ c.in_default.ensures.went
     (went_items_told _ _ _ _ _ _ _ _ _ _ _
     (steps_gone c.args.turn.hart c.run_hart-made.result _ _ _ c.run_hart-made.ensures.run)
-    told.told told.trace_lasts told.sink_lasts (host_same _))
+    told.told told.trace_lasts told.trace_stays told.sink_lasts (host_same _))

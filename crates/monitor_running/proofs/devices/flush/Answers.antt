@@ -1,6 +1,19 @@
 use Rattle.std.proofs.Common.{refl}
 use Rattle.monitor_running.proofs.devices.flush.Goals as goal
 
+pub returns-in-Ok-clause-given : goal.returns-in-Ok-clause-given
+returns-in-Ok-clause-given g c =
+    let call = c.in-Ok.ensures in (
+      refl,
+      refl,
+      record {
+        lasts = call.called.lasts;
+        failed = λ is. cc;
+        kept = λ not. call.called.kept;
+        held = λ tells. call.flushes tells;
+      },
+    )
+
 pub returns-in-Err-clause-given : goal.returns-in-Err-clause-given
 returns-in-Err-clause-given g c =
     let call = c.in-Err.ensures in (
@@ -10,6 +23,6 @@ returns-in-Err-clause-given g c =
         lasts = call.called.lasts;
         failed = λ is. call.called.failed;
         kept = λ not. absurd (not refl);
-        held = λ tells. call.same tells;
+        held = λ tells. call.may_flush tells;
       },
     )

@@ -3,14 +3,14 @@ use Rattle.monitor_running.proofs.Disks.{lasts_more}
 use Rattle.monitor_running.proofs.devices.run_device.Goals as goal
 
 pub returns-then-not-step_device-clause-acted : goal.returns-then-not-step_device-clause-acted
-returns-then-not-step_device-clause-acted g c = λ first asked acted.
-    c.step_device.ensures.acted first asked (c.loop-made.invariant.acted first asked acted)
+returns-then-not-step_device-clause-acted g c = λ first asked less acted.
+    c.step_device.ensures.acted first asked less (c.loop-made.invariant.acted first asked less acted)
 
 pub loop-made-preserved : goal.loop-made-preserved
 loop-made-preserved g c =
     let before = c.loop-made.invariant in
     let after = c.step_device.ensures in record {
-      acted = λ first asked acted. after.acted first asked (before.acted first asked acted);
+      acted = λ first asked less acted. after.acted first asked less (before.acted first asked less acted);
       lasts = lasts_more _ _ _ before.lasts after.lasts;
       room = omega (arith, after.room, before.room);
       most = omega (arith, after.most, before.most);

@@ -6,7 +6,8 @@ pub loop-number-preserved : goal.loop-number-preserved
 loop-number-preserved g c =
     let before = c.loop-number.invariant in
     let after = c.run_device.ensures in record {
-      acted = after.acted c.args.world.now (g.D.Disk.known c.args.disk.now) before.acted;
+      acted = after.acted c.args.world.now (g.D.Disk.known c.args.disk.now)
+          (let less = c.loop-number-test.true in let few = c.min-devices.ensures in omega (arith, less, few)) before.acted;
       lasts = lasts_more _ _ _ before.lasts after.lasts;
       none = λ is. let less = c.loop-number-test.true in absurd (omega (arith, is, less));
       most = omega (arith, after.most, before.most);

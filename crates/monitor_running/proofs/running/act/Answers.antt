@@ -15,11 +15,11 @@ returns-in-Err-clause-went g c =
     let told = c.in-Err.ensures in
     went_untold c.end_by.result c.in-Err.why _ _ _ _ _ _ _ _ _ c.in-Ok.events.items _ c.end_by.ensures
     c.as_slice.ensures.value (devices_gone _ _ _ _ _ _ c.in-Ok.ensures.gone c.in-Ok.ensures.made c.in-Ok.ensures.asked)
-    told.told told.trace_cause told.sink_cause told.trace_lasts told.sink_lasts
+    told.told told.trace_cause told.sink_cause told.trace_lasts told.trace_stays told.sink_lasts
 
 pub returns-clause-went : goal.returns-clause-went
 returns-clause-went g c =
     let told = c.in_default-tell_slice.ensures in
     went_told _ _ _ _ _ _ _ _ _ _ c.in-Ok.events.items _ c.as_slice.ensures.value
     (devices_gone _ _ _ _ _ _ c.in-Ok.ensures.gone c.in-Ok.ensures.made c.in-Ok.ensures.asked) told.told
-    told.trace_lasts told.sink_lasts (host_same _)
+    told.trace_lasts told.trace_stays told.sink_lasts (host_same _)

@@ -15,7 +15,7 @@ returns-in-Err-tell_slice-clause-went g c =
     c.as_slice.ensures.value
     (slice_gone _ _ _ _ _ c.in-Ok.ensures.serial c.in-Ok.ensures.actors c.in-Ok.ensures.clock
     (same_disk g.D.Disk.known c.args.host.now c.run_slice.new.host c.run_slice.ensures.beside))
-    told.told told.trace_cause told.sink_cause told.trace_lasts told.sink_lasts
+    told.told told.trace_cause told.sink_cause told.trace_lasts told.trace_stays told.sink_lasts
 
 pub returns-clause-went : goal.returns-clause-went
 returns-clause-went g c =
@@ -23,7 +23,7 @@ returns-clause-went g c =
     went_told _ _ _ _ _ _ _ _ _ _ c.in-Ok.slice.events.items _ c.as_slice.ensures.value
     (slice_gone _ _ _ _ _ c.in-Ok.ensures.serial c.in-Ok.ensures.actors c.in-Ok.ensures.clock
     (same_disk g.D.Disk.known c.args.host.now c.run_slice.new.host c.run_slice.ensures.beside))
-    told.told told.trace_lasts told.sink_lasts (host_same _)
+    told.told told.trace_lasts told.trace_stays told.sink_lasts (host_same _)
 
 pub returns-clause-passes : goal.returns-clause-passes
 returns-clause-passes g c = passed_slice _ _ _ _ _ _ _ _ c.in-Ok.ensures.stops c.run_slice.ensures.serve c.run_slice.ensures.same

@@ -1,4 +1,5 @@
 use Rattle.std.proofs.Common.{◌≡◌, ◌≤◌, ◌-◌, ◌++◌, length, take}
+use Rattle.serve_host.specs.Tracing.{TraceStays}
 use Rattle.vm_outside.specs.Known.{Lasts, Tells}
 use Rattle.flat_trace.specs.Events.{event_items}
 use Rattle.monitor_running.proofs.telling.tell_events.Given as goal
@@ -9,6 +10,7 @@ invariant-loop-at g l =
     record {
       within : l.at ≤ length l.events;
       lasts : Lasts (T.known l.fn.trace).health (T.known l.trace).health;
+      stays : TraceStays (T.known l.fn.trace) (T.known l.trace);
       took : Tells (T.known l.fn.trace).health
           → (T.known l.trace).took ≡ (T.known l.fn.trace).took ++ event_items (take l.at l.events);
     }

@@ -1,9 +1,10 @@
+use Rattle.std.proofs.Common.{refl, Some}
 use Rattle.monitor_running.specs.Asked.{host_known}
 use Rattle.monitor_running.specs.Reached.{known}
 use Rattle.monitor_serving.specs.Connections.{place}
 use Rattle.monitor_serving.specs.Views.{Hosts, hosts}
-use Rattle.monitor_serving.proofs.Alone.{serves_on}
-use Rattle.monitor_serving.proofs.Turns.{all_last_on, all_last_self, lasts_on, lasts_self}
+use Rattle.monitor_serving.proofs.Alone.{goes_on}
+use Rattle.monitor_serving.proofs.Turns.{all_last_on, all_last_self, lasts_on, lasts_self, listener_on}
 use Rattle.monitor_serving.proofs.serving.serve_all.Goals as goal
 
 pub loop-init : goal.loop-init
@@ -14,6 +15,7 @@ loop-init g c = record {
   last = all_last_self (hosts (known (g.T.Trace.known c.args.trace.now) (g.K.Sink.known c.args.sink.now) (host_known g.C.Clock.known g.D.Disk.known c.args.host.now))
       (g.F.Files.known c.args.files.now));
   listener = lasts_self (g.M.Listener.known c.args.listener.now).health;
+  stays = λ tells. refl;
   passes = c.requires;
 }
 
@@ -41,6 +43,8 @@ loop-preserved g c =
       last = all_last_on start before after c.loop.invariant.last next.ensures.lasts;
       listener = lasts_on (M.known c.args.listener.now).health (M.known c.loop.listener).health (M.known next.new.listener).health
           c.loop.invariant.listener next.ensures.listener_lasts;
+      stays = listener_on (M.known c.args.listener.now) (M.known c.loop.listener) (M.known next.new.listener) c.loop.invariant.listener
+          c.loop.invariant.stays next.ensures.listener_stays;
       passes = next.ensures.passes;
     }
 
@@ -55,8 +59,8 @@ returns-in-Some-end-clause-serves g c =
     let after : Hosts = hosts (known (g.T.Trace.known next.new.trace) (g.K.Sink.known next.new.sink) (host_known g.C.Clock.known g.D.Disk.known next.new.host))
     (g.F.Files.known next.new.files) in
     λ tell tells.
-    serves_on (place c.args.monitor.now start (M.known c.args.listener.now)) (place c.loop.monitor before (M.known c.loop.listener))
-    (place next.new.monitor after (M.known next.new.listener)) (c.loop.invariant.on tell tells) c.in-Some-end.end
+    goes_on (place c.args.monitor.now start (M.known c.args.listener.now)) (place c.loop.monitor before (M.known c.loop.listener))
+    (place next.new.monitor after (M.known next.new.listener)) (c.loop.invariant.on tell tells) (Some c.in-Some-end.end)
     (c.in-Some-end.ensures.goes
     (record {
       trace = c.loop.invariant.last.trace.still tell.trace;

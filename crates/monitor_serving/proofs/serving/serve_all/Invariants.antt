@@ -1,3 +1,4 @@
+use Rattle.serve_host.specs.Listening.{ListenerStays}
 use Rattle.vm_outside.specs.Known.{Lasts, Tells}
 use Rattle.monitor_running.specs.Asked.{host_known}
 use Rattle.monitor_running.specs.Reached.{known}
@@ -20,5 +21,6 @@ invariant-loop g l =
           → Serves served.Ended (place l.fn.monitor before (M.known l.fn.listener)) (place l.monitor now (M.known l.listener));
       last : AllLast before now;
       listener : Lasts (M.known l.fn.listener).health (M.known l.listener).health;
+      stays : ListenerStays (M.known l.fn.listener) (M.known l.listener);
       passes : ArePasses l.gate l.passes.items;
     }

@@ -2,15 +2,15 @@ use Rattle.std.proofs.Common.{Option, subst, sym}
 use Rattle.monitor_running.specs.Asked.{host_known}
 use Rattle.monitor_running.specs.Reached.{known}
 use Rattle.monitor_serving.specs.declared.served.Served.{Served}
-use Rattle.monitor_serving.specs.Connections.{Goes, Place, Serves, place}
+use Rattle.monitor_serving.specs.Connections.{Goes, Place, place}
 use Rattle.monitor_serving.specs.Views.{Hosts, hosts}
-use Rattle.monitor_serving.proofs.Alone.{breaks_on_accept, cause_unheard, fresh_of, goes_by, same_place}
+use Rattle.monitor_serving.proofs.Alone.{breaks_on_accept, cause_unheard, given_of, goes_to_end, goes_unheard, goes_with_one}
 use Rattle.monitor_serving.proofs.serving.serve_next.Goals as goal
 
 pub returns-in-Err-clause-goes : goal.returns-in-Err-clause-goes
 returns-in-Err-clause-goes g c = λ tell tells.
     breaks_on_accept c.args.monitor.now (g.T.Trace.known c.args.trace.now) (g.K.Sink.known c.args.sink.now) (host_known g.C.Clock.known g.D.Disk.known c.args.host.now)
-    (g.F.Files.known c.args.files.now) (g.M.Listener.known c.args.listener.now) (g.M.Listener.known c.accept.new.self) (c.accept.ensures.same tells)
+    (g.F.Files.known c.args.files.now) (g.M.Listener.known c.args.listener.now) (g.M.Listener.known c.accept.new.self) (c.in-Err.ensures.same tells)
 
 pub returns-in-Ok-NotYet-clause-cause : goal.returns-in-Ok-NotYet-clause-cause
 returns-in-Ok-NotYet-clause-cause g c =
@@ -22,6 +22,28 @@ returns-in-Ok-NotYet-clause-cause g c =
     (g.M.Listener.known c.args.listener.now).health (g.M.Listener.known c.accept.new.self).health c.accept.ensures.called.lasts
     (c.run_alone.ensures.cause (g.F.Files.known c.args.files.now) (g.M.Listener.known c.args.listener.now).health)
 
+pub returns-in-Ok-Ended-clause-goes : goal.returns-in-Ok-Ended-clause-goes
+returns-in-Ok-Ended-clause-goes g c = λ tell tells.
+    goes_to_end g.N.Conn.known c.args.monitor.now
+    (hosts (known (g.T.Trace.known c.args.trace.now) (g.K.Sink.known c.args.sink.now) (host_known g.C.Clock.known g.D.Disk.known c.args.host.now))
+    (g.F.Files.known c.args.files.now))
+    (g.M.Listener.known c.args.listener.now) (g.M.Listener.known c.accept.new.self) c.in-Ok-Ended.field-0 c.in-Ok-Ended.field-0-is
+    (c.in-Ok-Ended.ensures.accepts tells)
+
+pub returns-in-Ok-NotYet-clause-goes : goal.returns-in-Ok-NotYet-clause-goes
+returns-in-Ok-NotYet-clause-goes g c =
+    let alone = c.run_alone in
+    let files = g.F.Files.known c.args.files.now in
+    let heard = g.M.Listener.known c.accept.new.self in
+    λ tell tells.
+    goes_unheard g.N.Conn.known c.args.monitor.now
+    (hosts (known (g.T.Trace.known c.args.trace.now) (g.K.Sink.known c.args.sink.now) (host_known g.C.Clock.known g.D.Disk.known c.args.host.now)) files)
+    (g.M.Listener.known c.args.listener.now) heard c.in-Ok-NotYet.field-0 c.in-Ok-NotYet.field-0-is (c.in-Ok-NotYet.ensures.accepts tells)
+    alone.result
+    (place alone.new.monitor
+    (hosts (known (g.T.Trace.known alone.new.trace) (g.K.Sink.known alone.new.sink) (host_known g.C.Clock.known g.D.Disk.known alone.new.host)) files) heard)
+    (alone.ensures.goes files heard tell)
+
 pub returns-in-Ok-Conn-clause-goes : goal.returns-in-Ok-Conn-clause-goes
 returns-in-Ok-Conn-clause-goes g c =
     let M = g.M.Listener in
@@ -31,9 +53,9 @@ returns-in-Ok-Conn-clause-goes g c =
     let after : Place = place one.new.monitor (hosts (known (g.T.Trace.known one.new.trace) (g.K.Sink.known one.new.sink) (host_known g.C.Clock.known g.D.Disk.known one.new.host))
     (g.F.Files.known one.new.files)) (M.known one.new.listener) in
     λ tell tells.
+    let gives = given_of g.N.Conn.known (M.known c.args.listener.now) (M.known c.accept.new.self) c.in-Ok-Conn.field-0 c.in-Ok-Conn.conn
+    c.in-Ok-Conn.field-0-is (c.in-Ok-Conn.ensures.accepts tells) in
     subst (λ (end : Option Served). Goes end (place c.args.monitor.now start (M.known c.args.listener.now)) after) (sym c.going.ensures)
-    (goes_by one.result (place c.args.monitor.now start (M.known c.args.listener.now)) after
-    (subst (λ (p : Place). Serves one.result p after)
-    (sym (same_place c.args.monitor.now start (M.known c.args.listener.now) (M.known c.accept.new.self) (c.accept.ensures.same tells)))
-    (one.ensures.serves tell (c.accept.ensures.called.lasts.still tells)
-    (fresh_of g.N.Conn.known c.in-Ok-Conn.field-0 c.in-Ok-Conn.conn c.in-Ok-Conn.field-0-is (c.in-Ok-Conn.ensures.fresh tells)))))
+    (goes_with_one c.args.monitor.now start (M.known c.args.listener.now) (M.known c.accept.new.self) (g.N.Conn.known c.in-Ok-Conn.conn) gives
+    one.result after
+    (one.ensures.serves tell (c.accept.ensures.called.lasts.still tells) gives.bytes gives.fresh))

@@ -4,8 +4,7 @@ use Rattle.monitor_machine.specs.State.{IsLive}
 use Rattle.monitor_running.specs.Asked.{host_known}
 use Rattle.monitor_running.specs.Ran.{RanOn}
 use Rattle.monitor_running.specs.Reached.{known, seen}
-use Rattle.monitor_serving.specs.Views.{hosts, view}
-use Rattle.monitor_serving.proofs.Attaching.{attached}
+use Rattle.monitor_serving.specs.Views.{host_with, hosts, view}
 use Rattle.monitor_serving.proofs.Settling.{breaks_idle, for_some, settled_cause}
 use Rattle.monitor_serving.proofs.Slices.{came_unsaid, slices_broke, slices_on, unsaid_by}
 use Rattle.monitor_serving.proofs.Turns.{turned_on}
@@ -43,29 +42,22 @@ returns-in-None-clause-turned g c =
     let conn = g.N.Conn.known c.args.conn.now in
     let now = g.N.Conn.known c.settle.new.conn in
     let monitor = record c.args.monitor.now { machine = ran.new.machine } in
-    let disk = g.D.Disk.known c.settle.new.disk in
     λ tell tells.
-    attached (view c.args.monitor.now (hosts before files) conn) c.settle.new.monitor told sunk (host ran.new.host)
-    (record { clock = g.C.Clock.known ran.new.host.clock; disk = disk }) left now
-    (record {
-      clock = record { still = λ it. it; same = λ it. refl };
-      disk = record { lasts = c.settle.ensures.disk_lasts; kept = c.settle.ensures.disk_kept; held = λ it. c.settle.ensures.disk_same it };
-    })
-    c.settle.result
-    (turned_on (view c.args.monitor.now (hosts before files) conn) (view monitor (hosts after files) conn)
-    (view c.settle.new.monitor (hosts (known told sunk (host ran.new.host)) left) now)
+    turned_on (view c.args.monitor.now (hosts before files) conn) (view monitor (hosts after files) conn)
+    (view c.settle.new.monitor
+    (hosts (known told sunk (host_with (g.C.Clock.known ran.new.host.clock) (g.D.Disk.known c.settle.new.disk))) left) now)
     (slices_on c.args.monitor.now ran.new.machine (hosts before files) (hosts after files) conn refl ran.result.1
     (subst (λ (m : LiveMachine). RanOn IsLive (Some ran.result.1) (seen before) m (seen after) ran.new.machine) c.machine.ensures.value
     (ran.ensures.went.ran tell.trace tell.sink))
     (sym c.end_of.ensures ∙ c.in-None.is))
     (record { still = λ it. it; later = omega arith }) c.settle.result
-    (c.settle.ensures.settled sunk (host ran.new.host) conn
+    (c.settle.ensures.settled sunk (g.C.Clock.known ran.new.host.clock) conn
     (record {
       trace = ran.ensures.went.trace_lasts.still tell.trace;
       sink = ran.ensures.went.sink_lasts.still tell.sink;
       files = tell.files;
     })
-    (ran.ensures.conn_lasts.still tells) (ran.ensures.heard tells) (ran.ensures.took tells) ran.ensures.conn_lasts))
+    (ran.ensures.conn_lasts.still tells) (ran.ensures.heard tells) (ran.ensures.took tells) ran.ensures.conn_lasts)
 
 pub returns-in-None-clause-cause : goal.returns-in-None-clause-cause
 returns-in-None-clause-cause g c =

@@ -1,14 +1,20 @@
-use Rattle.std.proofs.Common.{◌∙◌, arith}
+use Rattle.std.proofs.Common.{arith}
+use Rattle.monitor_machine.proofs.Attaching.{files_more, uncalled_more, uncalled_none}
 use Rattle.monitor_machine.proofs.machine.LiveMachine.attach_disks.Goals as goal
+
+pub loop-device-init : goal.loop-device-init
+loop-device-init g c = record {
+  attached = λ k less. absurd (omega (arith, less));
+  uncalled = uncalled_none (g.D.Disk.known c.args.disk.now);
+}
 
 pub loop-device-preserved : goal.loop-device-preserved
 loop-device-preserved g c =
+    let D = g.D.Disk in
     let before = c.loop-device.invariant in
     let after = c.attach_disk.ensures in record {
-      same = λ tells. after.same (before.lasts.still tells) ∙ before.same tells;
-      lasts = record {
-        still = λ tells. after.lasts.still (before.lasts.still tells);
-        later = omega (arith, before.lasts.later, after.lasts.later);
-      };
-      kept = after.kept ∙ before.kept;
+      attached =
+          files_more c.args.self.now.config c.loop-device.device (D.known c.args.disk.now) (D.known c.loop-device.disk)
+          (D.known c.attach_disk.new.disk) before.uncalled before.attached after.attached after.others;
+      uncalled = uncalled_more _ _ _ before.uncalled after.uncalled;
     }
