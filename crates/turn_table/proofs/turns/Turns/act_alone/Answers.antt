@@ -1,0 +1,25 @@
+use Rattle.std.proofs.Common.{◌^◌, ℕ, refl, sym, ap, ◌∙◌}
+use lib.ListN.{get_elem?}
+use Rattle.turn_table.proofs.Giving.{fed_still, made_still, has_turn}
+use Rattle.turn_table.proofs.turns.Turns.act_alone.Goals as goal
+
+pub act_and_give-entry-requires-clause-turn : goal.act_and_give-entry-requires-clause-turn
+act_and_give-entry-requires-clause-turn g c =
+    let tk = c.grab.ensures.taken in
+    (tk.turn, has_turn g.P.Fed.made c.args.place (2 ^ 49) c.args.seat.now.me c.grab.new.seat.me tk c.requires.seat.bare)
+
+pub returns-clause-entry : goal.returns-clause-entry
+returns-clause-entry g c =
+    let tk = c.grab.ensures.taken in
+    let h = c.act_and_give-entry.ensures.entry in
+    let opens = ap (λ v. v.round.opens) tk.view in
+    (h.0, ap (λ l. get_elem? l c.args.place) (sym opens) ∙ h.1, h.2)
+
+pub act_and_give-entry-requires-clause-fed : goal.act_and_give-entry-requires-clause-fed
+act_and_give-entry-requires-clause-fed g c =
+    let b : ℕ = g.P.Fed.blanks c.args.pool.now in
+    fed_still g.P.Fed.made c.args.place b b c.args.seat.now.me.0 c.grab.new.seat.me.0 (ap (λ v. v.round) c.grab.ensures.taken.view) refl c.requires.fed
+
+pub returns-clause-none : goal.returns-clause-none
+returns-clause-none g c =
+    λ m. c.act_and_give-entry.ensures.none (made_still g.P.Fed.made c.args.place c.args.seat.now.me.0 c.grab.new.seat.me.0 (ap (λ v. v.round) c.grab.ensures.taken.view) m)

@@ -1,0 +1,5 @@
+pub mod Views
+pub mod Rule
+pub mod Acts
+pub mod Blanks
+pub mod Steps

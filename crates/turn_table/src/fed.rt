@@ -1,0 +1,27 @@
+// A place that is made from memory which was taken before.
+ghost use Rattle.std.specs.Prelude.{◌≡◌, ◌<◌, ◌⊎◌};
+ghost use Rattle.turn_table.specs.Blanks.{IsOneAtMost};
+
+use vm_types::{ActorId, Op, Place, Reply};
+
+/// A place that an act may have to make first, from a pool of blanks.
+pub trait Fed: Place {
+    ghost use Rattle.std.specs.Prelude.{ℕ};
+
+    type Pool;
+
+    /// The place is made: an act on it takes no blank.
+    ghost made: { Self → Type 0 };
+
+    /// How many blanks there are.
+    ghost blanks: { Self.Pool → ℕ };
+
+    /// As `act`. It takes one blank at most, none if the place is made, and no other memory. A place that is made stays so.
+    fn act_fed(&mut self, pool: &mut Self::Pool, actor: ActorId, op: &Op) -> Reply
+        requires fed { made self.old ⊎ (0 < blanks pool.old) }
+        ensures reply { result ≡ (Self.touch (Self.value self.old) actor op.now).0 }
+        ensures value { Self.value self.new ≡ (Self.touch (Self.value self.old) actor op.now).1 }
+        ensures stays { made self.old → made self.new }
+        ensures one { IsOneAtMost (blanks pool.old) (blanks pool.new) }
+        ensures none { made self.old → blanks pool.new ≡ blanks pool.old };
+}
