@@ -1,0 +1,56 @@
+-- The journals of a round of turns, and what the seat with all parts is told of it.
+use Rattle.std.specs.Prelude.{ℕ, ◌≡◌, ◌<◌, ◌≤◌, not, List, map, length, ◌==◌}
+use Rattle.std.specs.List.{AllByRecursion, filter}
+use mathlib.Core.Option.{some}
+use lib.ListN.{get_elem?}
+use Rattle.vm_types.specs.declared.ids.ActorId.{ActorId}
+use Rattle.vm_types.specs.declared.ids.PlaceId.{PlaceId}
+use Rattle.vm_types.specs.declared.op.Op.{Op}
+use Rattle.vm_types.specs.declared.reply.Reply.{Reply}
+use Rattle.vm_types.specs.declared.entry.Entry.{Entry}
+use Rattle.vm_types.specs.Ids.{is_out, same_place}
+use Rattle.vm_types.specs.Serial.{OutFits}
+use Rattle.stamp_merge.specs.Journals.{all_of}
+use Rattle.stamp_merge.specs.Legal.{AreFollowed, IsRun}
+use Rattle.stamp_merge.specs.Order.{IsOrder}
+use Rattle.turn_table.specs.declared.held.Held.{Held}
+use Rattle.turn_table.specs.declared.view.View.{View}
+use Rattle.turn_table.specs.declared.view.Noted.{Noted}
+use Rattle.turn_table.specs.Steps.{Told}
+
+abbrev pub entry_of : Noted → Entry
+entry_of x = x.entry
+
+-- the entries that have a place
+abbrev pub placed : List Entry → List Entry
+placed es = filter (λ e. not (is_out e.place)) es
+
+-- each entry is noted at the index of its place
+abbrev pub AreIndexed : (PlaceId → ℕ) → List Noted → Type 0
+AreIndexed index xs = AllByRecursion (λ (x : Noted). x.place ≡ index x.entry.place) xs
+
+-- no two places have one index
+abbrev pub IsIndex : (PlaceId → ℕ) → Type 0
+IsIndex index = (p q : PlaceId) → (index p == index q) ≡ same_place p q
+
+-- these values are those of the places at their indices; a place with no index there is as it was
+pub record AreValues {P V : Type 0} (value : P → V) (index : PlaceId → ℕ) (opens now : List (Held P)) (opening ends : PlaceId → V) : Type 0 where
+  pub first : (p : PlaceId) (h : Held P) → get_elem? opens (index p) ≡ some h → opening p ≡ value h.place
+  pub last : (p : PlaceId) (h : Held P) → get_elem? now (index p) ≡ some h → ends p ≡ value h.place
+  pub none : (p : PlaceId) → length opens ≤ index p → opening p ≡ ends p
+
+-- what the seat with all parts is told, with journals that have just its entries and follow their actors' wants, is a run in the
+-- order of the stamps
+abbrev pub ToldIsRun : {P V S : Type 0} → (V → ActorId → Op → Reply × V) → (P → V) → (P → Type 0) → (S → Op) → (S → Reply → S) → Type 0
+ToldIsRun {P} {V} {S} touch value made want next =
+    (route : Op → PlaceId) (index : PlaceId → ℕ) (opening ends : PlaceId → V) (start lasts : ActorId → S)
+    (journals : List (ActorId × List Entry)) (v : View P) (now : List (Held P)) (es : List Entry)
+    → AreFollowed want next route OutFits start lasts journals
+    → IsIndex index
+    → AreIndexed index v.entries
+    → AllByRecursion (λ (x : Noted). x.place < length v.round.opens) v.entries
+    → map entry_of v.entries ≡ placed (all_of journals)
+    → AreValues value index v.round.opens now opening ends
+    → Told touch value made v now
+    → IsOrder (all_of journals) es
+    → IsRun touch want next route OutFits opening ends start lasts es
