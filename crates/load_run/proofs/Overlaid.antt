@@ -4,7 +4,8 @@ use Rattle.std.specs.FinMap.{get}
 use Rattle.vm_types.specs.Saved.{Saved}
 use Rattle.refusals.specs.declared.refusal.Refusal.{Refusal}
 use Rattle.gate_file.proofs.Inserts.{got_other, got_there}
-use Rattle.snapshot_merge.specs.Calls.{stages, text_after}
+use Rattle.gate_file.specs.Stages.{text_after}
+use Rattle.snapshot_merge.specs.Calls.{stages}
 use Rattle.snapshot_merge.specs.InOrder.{MergeAll}
 use Rattle.snapshot_merge.specs.Plans.{Plan, planned, planned_in}
 use Rattle.load_run.specs.Merging.{diff_name, diffs_in, memory_name, merged, merged_by, with_diff}

@@ -6,7 +6,8 @@ use Rattle.vm_types.specs.Saved.{Saved}
 use Rattle.refusals.specs.declared.refusal.Refusal.{Refusal}
 use Rattle.snap_diff.specs.Copies.{DiffCopy}
 use Rattle.snap_diff.specs.Found.{diff_found}
-use Rattle.snapshot_merge.specs.Calls.{stages, text_after}
+use Rattle.gate_file.specs.Stages.{text_after}
+use Rattle.snapshot_merge.specs.Calls.{stages}
 use Rattle.snapshot_merge.specs.Plans.{Plan, planned_in}
 
 -- the names of the memory file, and of the diff of the round of this number

@@ -4,7 +4,8 @@ use Rattle.refusals.specs.declared.refusal.Refusal.{Refusal}
 use Rattle.snap_memory.specs.declared.header.MemHeader.{MemHeader}
 use Rattle.snap_diff.specs.Copies.{DiffCopy, JoinAll, MemoryCopy, overlaid, overlaid_all}
 use Rattle.snapshot_merge.specs.declared.merge.Merge.TheVariants.{Begin}
-use Rattle.snapshot_merge.specs.Calls.{stages, text_after}
+use Rattle.gate_file.specs.Stages.{text_after}
+use Rattle.snapshot_merge.specs.Calls.{stages}
 use Rattle.snapshot_merge.specs.InOrder.{AreDiffFiles, MergeAll}
 use Rattle.snapshot_merge.specs.Memories.{IsMemoryFile}
 use Rattle.snapshot_merge.specs.Merges.{open_slots}

@@ -8,4 +8,8 @@ pub mod Overlaid
 pub mod InOrder
 pub mod Relaid
 pub mod NextSlot
-pub mod Resumed
+pub mod TornBytes
+pub mod SetSlot
+pub mod Standing
+pub mod Stopping
+pub mod Meanwhile

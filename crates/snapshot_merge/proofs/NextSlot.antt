@@ -80,7 +80,7 @@ module _ (t : Slot) (shut : is_open t ≡ false) where
 
 -- ---- it is filled: behind it stands no merge that was begun
 
-abbrev IsFree : Option Slot → Type 0
+abbrev pub IsFree : Option Slot → Type 0
 IsFree None = Unit {0}
 IsFree (Some s) = (s.identity.number == 0) ≡ true
 
@@ -100,14 +100,10 @@ behind_by t s others false is are rest =
     let zeros : list_all is_zero others ≡ true = subst (λ (b : Bool). cond b (is_numbered s.identity && are_slots others) (list_all is_zero others) ≡ true) is are in
     subst (λ (n : ℕ). IsFree (slice_get (set (s ∷ others) n t) (suc n))) (sym (open_then s others false is)) (free_of_zeros others zeros)
 
-free_behind : (t : Slot) (slots : List Slot) → are_slots slots ≡ true → IsFree (slice_get (set slots (open_slots slots) t) (suc (open_slots slots)))
+pub free_behind : (t : Slot) (slots : List Slot) → are_slots slots ≡ true → IsFree (slice_get (set slots (open_slots slots) t) (suc (open_slots slots)))
 free_behind t [] are = tt
 free_behind t (s ∷ others) are = behind_by t s others (is_open s) refl are (λ rest. free_behind t others rest)
 
-free_is_done : (base : MemHeader) (diff : DiffHeader) (o : Option Slot) → IsFree o → unfinished_merge base diff o ≡ done_merge base diff
+pub free_is_done : (base : MemHeader) (diff : DiffHeader) (o : Option Slot) → IsFree o → unfinished_merge base diff o ≡ done_merge base diff
 free_is_done base diff None free = refl
 free_is_done base diff (Some s) free = ap (λ (b : Bool). cond b (done_merge base diff) (begun_merge base diff s)) free
-
-pub filled_is_done : (base : MemHeader) (diff : DiffHeader) (t : Slot) (slots : List Slot) → are_slots slots ≡ true
-    → unfinished_merge base diff (slice_get (set slots (open_slots slots) t) (suc (open_slots slots))) ≡ done_merge base diff
-filled_is_done base diff t slots are = free_is_done base diff _ (free_behind t slots are)

@@ -24,12 +24,13 @@ use Rattle.snap_diff.proofs.Files as files
 use Rattle.snap_diff.proofs.Overlays.{stays_whole}
 use Rattle.snapshot_merge.specs.declared.merge.Merge.TheVariants.{Begin, GoOn}
 use Rattle.snapshot_merge.specs.Bases.{base_found}
-use Rattle.snapshot_merge.specs.Calls.{filling, stages, text_after}
+use Rattle.gate_file.specs.Stages.{text_after}
+use Rattle.snapshot_merge.specs.Calls.{filling, stages}
 use Rattle.snapshot_merge.specs.Memories.{Holds, IsMemoryFile}
 use Rattle.snapshot_merge.specs.Merges.{new_merge, open_slots, unfinished_merge}
 use Rattle.snapshot_merge.specs.Plans.{plan_by, plan_with, planned}
 use Rattle.snapshot_merge.proofs.Judged.{base_good}
-use Rattle.snapshot_merge.proofs.Texts.{marked, named, opened, paged}
+use Rattle.snapshot_merge.proofs.Texts.{gated, marked, named, paged}
 
 -- ---- slots
 
@@ -155,7 +156,7 @@ gate_fits [] j s all fits = fits.1.0
 gate_fits (t ∷ ts) zero s all fits = all.0.1.0
 gate_fits (t ∷ ts) (suc j) s all fits = gate_fits ts j s all.1 fits
 
-identity_fits : (h : DiffHeader) → diffs.header.Fits h → identity.Fits h.identity
+pub identity_fits : (h : DiffHeader) → diffs.header.Fits h → identity.Fits h.identity
 unfolding diffs.header
 identity_fits h fits = fits.1.1.1.1.0
 
@@ -214,7 +215,7 @@ module _ (given file : List ℕ) (head : MemHeader) (m : MemoryCopy) (d : DiffCo
       ap (λ (t : List ℕ). written (written t (64 + 32 * open_slots head.slots + 16) (1 ∷ [])) 32 (0 ∷ []))
       (paged h m.bytes fits d.numbers m.pages 0 d.bytes m.bytes rise holds.whole (let all = (files.whole file d is).size in omega (arith, all)))
       ∙ ap (λ (t : List ℕ). written t 32 (0 ∷ []))
-      (opened h laid fits (open_slots head.slots) d.identity s ((slots_fit h fits).0) left there same)
+      (gated h laid fits (open_slots head.slots) 1 d.identity s ((slots_fit h fits).0) left there same)
       ∙ marked open_h laid (with_slot h (open_slots head.slots) (record { identity = d.identity; gate = 1 }) fits fit) 0
       ∙ ap (λ (p : ℕ × Identity × List Slot). memory.header.bytes (record { pages = p.0; made_as = p.1; merging = 0; slots = p.2 }) ++ laid)
       (λ i. (same_pages i, same_made i, same_slots i))

@@ -16,7 +16,8 @@ use Rattle.snap_diff.specs.Copies.{DiffCopy}
 use Rattle.snap_diff.specs.Diffs.{IsTable}
 use Rattle.snapshot_merge.specs.declared.finding.DiffStart.{DiffStart}
 use Rattle.snapshot_merge.specs.Answering.{AreThere, IsStartIn}
-use Rattle.snapshot_merge.specs.Calls.{page_writes, stage_calls, written_all}
+use Rattle.gate_file.specs.Stages.{stage_calls, written_all}
+use Rattle.snapshot_merge.specs.Calls.{page_writes}
 
 -- ---- the write of a page
 

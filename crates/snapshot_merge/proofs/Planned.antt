@@ -26,7 +26,7 @@ use Rattle.snapshot_merge.specs.declared.finding.DiffStart.{DiffStart}
 use Rattle.snapshot_merge.specs.Answering.{Answers, IsStartIn, IsStartOf, Same, StartJudged, TableJudged}
 use Rattle.snapshot_merge.specs.Bases.{base_front, base_found, base_read}
 use Rattle.snapshot_merge.specs.Merges.{merge_of}
-use Rattle.snapshot_merge.specs.Plans.{Plan, plan_by, plan_with}
+use Rattle.snapshot_merge.specs.Plans.{Plan, plan_by, plan_with, planned}
 
 -- a base is what its front says
 pub base_of : (size : ℕ) (front : List ℕ) (o : Option (List ℕ)) (r : Result MemHeader RebaseError)
@@ -121,6 +121,12 @@ not_both (Some given) h d base diff =
     let two : 68 ≡ get_or given 5 0 = fifth 64 given diffs.magic (omega arith) (not_other _ d2.0) in
     let bad : 77 ≡ 68 = one ∙ sym two in
     omega (arith, bad)
+
+-- so the files of a merge are two
+pub texts_differ : (text file : List ℕ) (plan : Plan) → planned (Some text) (Some file) ≡ Ok plan → text ≢ file
+texts_differ text file plan is same =
+    let both = base_opened (base_found (Some text)) (diff_found (Some file)) plan is in
+    not_both (Some text) both.0 both.1 both.2 (ap (λ (l : List ℕ). diff_found (Some l)) same ∙ both.3)
 
 module _ (saved : Saved) (base diff : List ℕ) (plan : Plan) (is : plan_by (base_found (get saved base)) (diff_found (get saved diff)) ≡ Ok plan) where
   found_both : (h : MemHeader) × (d : DiffCopy) × (base_found (get saved base) ≡ Ok h) × (diff_found (get saved diff) ≡ Ok d)

@@ -1,31 +1,12 @@
--- Pages that are put in their places where the first of them were put before.
-use Rattle.std.proofs.Common.{◌≡◌, ℕ, zero, suc, ◌+◌, ◌*◌, ◌/◌, ◌%◌, ◌<◌, ◌==◌, ◌||◌, Bool, true, false, List, [], ◌∷◌, length, take, drop, get_or, refl, sym, ap, ◌∙◌, arith, length-drop}
+-- Pages that are put in their places over other bytes there.
+use Rattle.std.proofs.Common.{◌≡◌, ℕ, suc, ◌+◌, ◌*◌, ◌/◌, ◌%◌, ◌<◌, ◌==◌, ◌||◌, Bool, true, false, List, [], ◌∷◌, length, take, drop, get_or, refl, sym, ap, ◌∙◌, arith, length-drop}
 use Rattle.std.specs.List.{list_any}
 use Rattle.std.proofs.Math.Nat.{div-add-mod}
-use Rattle.std.proofs.lemmas.Bool.{eqb-true, or_parts}
+use Rattle.std.proofs.lemmas.Bool.{eqb-true}
 use Rattle.std.proofs.lemmas.List.{ext_get_or, length-take-le}
 use Rattle.guest_memory.specs.Memory.{put_at}
 use Rattle.snap_diff.specs.Copies.{rises, with_pages}
 use Rattle.snap_diff.proofs.Laying.{below, length-paged, other_page, others_rise, this_page}
-
--- the first of them change no page of another number
-pub some_outside : (numbers : List ℕ) (k count low : ℕ) (pages bs : List ℕ) → rises count low numbers ≡ true
-    → length bs ≡ 4096 * count → length pages ≡ 4096 * length numbers
-    → (length (with_pages (take k numbers) pages bs) ≡ 4096 * count)
-    × ((m r : ℕ) → r < 4096 → list_any (λ n. n == m) numbers ≡ false → get_or (with_pages (take k numbers) pages bs) (4096 * m + r) 0 ≡ get_or bs (4096 * m + r) 0)
-some_outside [] zero count low pages bs rise whole size = (whole, λ m r small none. refl)
-some_outside [] (suc k) count low pages bs rise whole size = (whole, λ m r small none. refl)
-some_outside (n ∷ ns) zero count low pages bs rise whole size = (whole, λ m r small none. refl)
-some_outside (n ∷ ns) (suc k) count low pages bs rise whole size =
-    let one : length (take 4096 pages) ≡ 4096 = length-take-le 4096 pages (omega (arith, size)) in
-    let lt = below count low n ns rise in
-    let later = some_outside ns k count (suc n) (drop 4096 pages) (put_at bs (4096 * n) (take 4096 pages)) (others_rise count low n ns rise)
-    (length-paged count bs (take 4096 pages) n whole one lt) (omega (arith, size, length-drop 4096 pages)) in (
-      later.0,
-      λ m r small none.
-          let parts = or_parts (n == m) (list_any (λ x. x == m) ns) none in
-          later.1 m r small parts.1 ∙ other_page count bs (take 4096 pages) n whole one lt m r parts.0 small,
-    )
 
 -- memories that are alike in all other pages are one, once the pages are put
 pub same_once_put : (numbers : List ℕ) (count low : ℕ) (pages xs ys : List ℕ) → rises count low numbers ≡ true
@@ -58,11 +39,3 @@ same_once_put (n ∷ ns) count low pages xs ys rise xs_whole ys_whole size alike
     same_once_put ns count (suc n) (drop 4096 pages) (put_at xs (4096 * n) page) (put_at ys (4096 * n) page) (others_rise count low n ns rise)
     (length-paged count xs page n xs_whole one lt) (length-paged count ys page n ys_whole one lt) (omega (arith, size, length-drop 4096 pages))
     (λ m r small none. by_page m r small none (n == m) refl)
-
--- put where some were put before, they leave what they leave alone
-pub relaid : (numbers : List ℕ) (k count low : ℕ) (pages bs : List ℕ) → rises count low numbers ≡ true
-    → length bs ≡ 4096 * count → length pages ≡ 4096 * length numbers
-    → with_pages numbers pages (with_pages (take k numbers) pages bs) ≡ with_pages numbers pages bs
-relaid numbers k count low pages bs rise whole size =
-    let some = some_outside numbers k count low pages bs rise whole size in
-    same_once_put numbers count low pages (with_pages (take k numbers) pages bs) bs rise some.0 whole size some.1

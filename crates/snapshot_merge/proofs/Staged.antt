@@ -8,7 +8,7 @@ use Rattle.vm_outside.specs.Filing.{SameFiles, Syncs, WritesAt}
 use Rattle.vm_outside.specs.Known.{FilesKnown}
 use Rattle.gate_file.specs.Runs.{RunsAll, RunsPart}
 use Rattle.gate_file.proofs.Steps.{part_more, part_then, runs_none, runs_then, same_part, same_runs, sync_part, sync_runs, there_after, write_runs}
-use Rattle.snapshot_merge.specs.Calls.{calls_of, stage_calls, text_after, written_all}
+use Rattle.gate_file.specs.Stages.{calls_of, stage_calls, text_after, written_all}
 
 module _ (name : List ℕ) where
   -- ---- one write, and a sync

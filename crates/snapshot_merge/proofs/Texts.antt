@@ -16,7 +16,8 @@ use Rattle.snap_memory.specs.Slots.{slot}
 use Rattle.snap_memory.proofs.Fronts.{length-header}
 use Rattle.snap_diff.specs.Copies.{rises, with_pages}
 use Rattle.snap_diff.proofs.Laying.{below, length-paged, others_rise}
-use Rattle.snapshot_merge.specs.Calls.{page_writes, written_all}
+use Rattle.gate_file.specs.Stages.{written_all}
+use Rattle.snapshot_merge.specs.Calls.{page_writes}
 
 -- ---- bytes that are put into one of two parts
 
@@ -69,7 +70,7 @@ length-slot : (s : Slot) → length (slot.bytes s) ≡ 32
 unfolding slot identity number64 byte zeros
 length-slot s = let nothing : ℕ = 0 in omega (arith, length-replicate 15 nothing)
 
-length-identity : (i : Identity) → length (identity.bytes i) ≡ 16
+pub length-identity : (i : Identity) → length (identity.bytes i) ≡ 16
 unfolding identity number64
 length-identity i = refl
 
@@ -77,9 +78,9 @@ put_name : (s : Slot) (i : Identity) → put_at (slot.bytes s) 0 (identity.bytes
 unfolding slot identity number64 byte
 put_name s i = refl
 
-put_gate : (s : Slot) → put_at (slot.bytes s) 16 (1 ∷ []) ≡ slot.bytes (record { identity = s.identity; gate = 1 })
+put_gate : (s : Slot) (g : ℕ) → put_at (slot.bytes s) 16 (g ∷ []) ≡ slot.bytes (record { identity = s.identity; gate = g })
 unfolding slot identity number64 byte
-put_gate s = refl
+put_gate s g = refl
 
 put_slot : (slots : List Slot) (j q : ℕ) (piece : List ℕ) (s : Slot) → j < length slots → q + length piece ≤ 32
     → put_at (slot.bytes (get_or slots j s)) q piece ≡ slot.bytes s → put_at (flat_map slot.bytes slots) (32 * j + q) piece ≡ flat_map slot.bytes (set slots j s)
@@ -138,16 +139,17 @@ module _ (h : MemHeader) (bytes : List ℕ) (fits : header.Fits h) where
       (put_header h j 0 (identity.bytes i) t (omega (arith, lt, size)) (omega (arith, sixteen))
       (ap (λ (u : Slot). put_at (slot.bytes u) 0 (identity.bytes i)) is ∙ put_name s i))
 
-  pub opened : (j : ℕ) (i : Identity) (s : Slot) → length h.slots ≡ 100 → j < 100 → get_or h.slots j (record { identity = i; gate = 1 }) ≡ s → s.identity ≡ i
-      → written (header.bytes h ++ bytes) (64 + 32 * j + 16) (1 ∷ []) ≡ header.bytes (record h { slots = set h.slots j (record { identity = i; gate = 1 }) }) ++ bytes
-  opened j i s size lt is same =
-      let t : Slot = record { identity = i; gate = 1 } in
+  -- the slot is given this gate
+  pub gated : (j g : ℕ) (i : Identity) (s : Slot) → length h.slots ≡ 100 → j < 100 → get_or h.slots j (record { identity = i; gate = g }) ≡ s → s.identity ≡ i
+      → written (header.bytes h ++ bytes) (64 + 32 * j + 16) (g ∷ []) ≡ header.bytes (record h { slots = set h.slots j (record { identity = i; gate = g }) }) ++ bytes
+  gated j g i s size lt is same =
+      let t : Slot = record { identity = i; gate = g } in
       let place : 64 + 32 * j + 16 ≡ 64 + (32 * j + 16) = omega arith in
-      written_head (64 + 32 * j + 16) (1 ∷ []) (omega (arith, lt)) (omega arith)
-      ∙ ap (λ (k : ℕ). put_at (header.bytes h) k (1 ∷ []) ++ bytes) place
+      written_head (64 + 32 * j + 16) (g ∷ []) (omega (arith, lt)) (omega arith)
+      ∙ ap (λ (k : ℕ). put_at (header.bytes h) k (g ∷ []) ++ bytes) place
       ∙ ap (λ (l : List ℕ). l ++ bytes)
-      (put_header h j 16 (1 ∷ []) t (omega (arith, lt, size)) (omega arith)
-      (ap (λ (u : Slot). put_at (slot.bytes u) 16 (1 ∷ [])) is ∙ put_gate s ∙ ap (λ (k : Identity). slot.bytes (record { identity = k; gate = 1 })) same))
+      (put_header h j 16 (g ∷ []) t (omega (arith, lt, size)) (omega arith)
+      (ap (λ (u : Slot). put_at (slot.bytes u) 16 (g ∷ [])) is ∙ put_gate s g ∙ ap (λ (k : Identity). slot.bytes (record { identity = k; gate = g })) same))
 
   pub paged : (numbers : List ℕ) (count low : ℕ) (pages bs : List ℕ) → rises count low numbers ≡ true → length bs ≡ 4096 * count → 4096 * length numbers ≤ length pages
       → written_all (page_writes numbers pages) (header.bytes h ++ bs) ≡ header.bytes h ++ with_pages numbers pages bs

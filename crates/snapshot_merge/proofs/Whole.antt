@@ -16,7 +16,8 @@ use Rattle.snapshot_merge.specs.declared.finding.DiffStart.{DiffStart}
 use Rattle.snapshot_merge.specs.declared.merge.Merge.{Merge}
 use Rattle.snapshot_merge.specs.declared.merge.Merge.TheVariants.{Begin, GoOn, Finish}
 use Rattle.snapshot_merge.specs.Answering.{AreThere, IsStartIn}
-use Rattle.snapshot_merge.specs.Calls.{calls_of, filling, marking, naming, slot_at, stage_calls, stages, text_after}
+use Rattle.gate_file.specs.Stages.{calls_of, stage_calls, text_after}
+use Rattle.snapshot_merge.specs.Calls.{filling, marking, naming, slot_at, stages}
 use Rattle.snapshot_merge.specs.Plans.{Plan}
 use Rattle.snapshot_merge.proofs.Paging.{still_there}
 use Rattle.snapshot_merge.proofs.Staged.{later_fails, others_fail, stage_fails, stage_then, stages_fail, stages_then}

@@ -1,10 +1,6 @@
--- The calls of a merge in their order: stages, each of which writes to the base and syncs it.
-use Rattle.std.specs.Prelude.{ℕ, ◌+◌, ◌*◌, List, [], ◌∷◌, ◌++◌, take, drop, Some}
-use Rattle.vm_types.specs.Saved.{written}
+-- The writes of a merge in their order: stages, each of which ends with a sync of the base.
+use Rattle.std.specs.Prelude.{ℕ, ◌+◌, ◌*◌, List, [], ◌∷◌, take, drop}
 use Rattle.vm_types.specs.declared.identity.Identity.{Identity}
-use Rattle.vm_outside.specs.Calls.{FileCall}
-use Rattle.vm_outside.specs.Calls.FileCall.{Synced}
-use Rattle.gate_file.specs.Gate.{write_calls}
 use Rattle.guest_memory.specs.Ram.{page_size}
 use Rattle.file_format.specs.Identities.{identity}
 use Rattle.snap_diff.specs.Copies.{DiffCopy}
@@ -46,21 +42,3 @@ abbrev pub stages : Merge → DiffCopy → List (List (ℕ × List ℕ))
 stages (Begin slot) d = [] ∷ (naming slot d.identity ∷ []) ∷ (marking 1 ∷ []) ∷ filling slot d
 stages (GoOn slot) d = [] ∷ filling slot d
 stages Finish d = [] ∷ (marking 0 ∷ []) ∷ []
-
--- ---- their calls, and what they make of the base
-
-abbrev pub written_all : List (ℕ × List ℕ) → List ℕ → List ℕ
-written_all [] text = text
-written_all (w ∷ writes) text = written_all writes (written text w.0 w.1)
-
-abbrev pub stage_calls : List ℕ → List (ℕ × List ℕ) → List ℕ → List FileCall
-stage_calls name writes text = write_calls name writes ++ Synced name (Some (written_all writes text)) ∷ []
-
-abbrev pub calls_of : List ℕ → List (List (ℕ × List ℕ)) → List ℕ → List FileCall
-calls_of name [] text = []
-calls_of name (writes ∷ stages) text =
-    stage_calls name writes text ++ calls_of name stages (written_all writes text)
-
-abbrev pub text_after : List (List (ℕ × List ℕ)) → List ℕ → List ℕ
-text_after [] text = text
-text_after (writes ∷ stages) text = text_after stages (written_all writes text)

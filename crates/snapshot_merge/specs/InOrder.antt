@@ -2,7 +2,8 @@
 use Rattle.std.specs.Prelude.{◌≡◌, ℕ, List, [], ◌∷◌, Some, Ok}
 use Rattle.snap_diff.specs.Copies.{DiffCopy}
 use Rattle.snap_diff.specs.Diffs.{IsDiffFile}
-use Rattle.snapshot_merge.specs.Calls.{stages, text_after}
+use Rattle.gate_file.specs.Stages.{text_after}
+use Rattle.snapshot_merge.specs.Calls.{stages}
 use Rattle.snapshot_merge.specs.Plans.{Plan, planned}
 
 -- each of these files is that of a diff

@@ -6,4 +6,4 @@ pub mod Rebasing
 pub mod Answering
 pub mod Memories
 pub mod InOrder
-pub mod CutOff
+pub mod Stops

@@ -7,7 +7,8 @@ use Rattle.vm_outside.specs.Known.{FilesKnown}
 use Rattle.gate_file.specs.Runs.{RunsAll, RunsPart}
 use Rattle.snapshot_merge.specs.declared.error.RebaseError.{RebaseError}
 use Rattle.snapshot_merge.specs.declared.error.RebaseError.TheVariants.{Refused, Fault, OutOfMemory}
-use Rattle.snapshot_merge.specs.Calls.{calls_of, stages, text_after}
+use Rattle.gate_file.specs.Stages.{calls_of, text_after}
+use Rattle.snapshot_merge.specs.Calls.{stages}
 use Rattle.snapshot_merge.specs.Plans.{Plan, planned_in}
 
 -- all that is left of the merge was done: the base holds what its stages make of it, and nothing else changed

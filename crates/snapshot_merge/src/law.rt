@@ -1,13 +1,12 @@
 // What a merge makes of its base.
-ghost use Rattle.std.specs.Prelude.{◌≡◌, ◌≢◌, ◌⊎◌, ◌<◌, ◌≤◌, ◌+◌, List, ℕ, Some, Ok, Err, length, slice_get};
-ghost use Rattle.vm_outside.specs.Calls.{FileCall};
+ghost use Rattle.std.specs.Prelude.{◌≡◌, ◌≢◌, ◌<◌, ◌≤◌, ◌+◌, List, ℕ, Some, Ok, Err, length, slice_get};
 ghost use Rattle.refusals.specs.declared.refusal.Refusal.TheVariants as refusal;
 ghost use Rattle.snap_memory.specs.declared.header.MemHeader.{MemHeader};
 ghost use Rattle.snap_memory.specs.declared.slot.Slot.{Slot};
 ghost use Rattle.snap_diff.specs.Copies.{DiffCopy, JoinAll, Joins, MemoryCopy, overlaid, overlaid_all};
 ghost use Rattle.snap_diff.specs.Diffs.{IsDiffFile};
-ghost use Rattle.snapshot_merge.specs.Calls.{stages, text_after};
-ghost use Rattle.snapshot_merge.specs.CutOff.{CutOff, LeadsTo, uncut};
+ghost use Rattle.gate_file.specs.Stages.{text_after};
+ghost use Rattle.snapshot_merge.specs.Calls.{stages};
 ghost use Rattle.snapshot_merge.specs.InOrder.{AreDiffFiles, MergeAll};
 ghost use Rattle.snapshot_merge.specs.Memories.{Holds, IsMemoryFile};
 ghost use Rattle.snapshot_merge.specs.Merges.{open_slots};
@@ -29,19 +28,6 @@ pub fn merged()
         IsMemoryFile (text_after (stages (Merge.GoOn (open_slots head.slots)) d) given) (overlaid m d) }
     ensures again { (given file : List ℕ) (m : MemoryCopy) (d : DiffCopy) → IsMemoryFile given m → IsDiffFile file d →
         d.pages ≡ m.pages → d.parent ≢ m.identity → planned (Some given) (Some file) ≡ Err refusal.ParentDiffers }
-{}
-
-/// A merge is cut off behind any of its calls, run again and cut off again, as often as may be: then the base holds what an
-/// uncut merge leaves (a file of the copy that the diff makes, by `merged`), or there is something left to do that leaves
-/// this. When all is done the diff is refused, since its parent is no longer what the base holds.
-pub fn cut_off_and_resumed()
-    ensures resumed { (name given file left : List ℕ) (cuts : List (List FileCall)) (m : MemoryCopy) (d : DiffCopy)
-        (is : IsMemoryFile given m) → IsDiffFile file d → Joins m d → open_slots is.head.slots < 100 →
-        CutOff name file cuts given left →
-        (left ≡ uncut given is.head.slots d) ⊎ LeadsTo file left (uncut given is.head.slots d) }
-    ensures once { (given file : List ℕ) (m : MemoryCopy) (d : DiffCopy) (is : IsMemoryFile given m) → IsDiffFile file d →
-        Joins m d → open_slots is.head.slots < 100 →
-        planned (Some (uncut given is.head.slots d)) (Some file) ≡ Err refusal.ParentDiffers }
 {}
 
 /// Diffs that are merged in order, each of the copy that the ones before it make, leave a file of the copy that all make.

@@ -4,9 +4,14 @@ ghost use Rattle.std.specs.FinMap.{get};
 ghost use Rattle.file_format.specs.Identities.{identity};
 ghost use Rattle.gate_file.specs.Runs.{RunsAll, RunsPart};
 ghost use Rattle.snapshot_merge.specs.Answering.{AreThere};
-ghost use Rattle.snapshot_merge.specs.Calls.{calls_of, stages, text_after};
+ghost use Rattle.gate_file.specs.Stages.{calls_of, text_after};
+ghost use Rattle.snapshot_merge.specs.Calls.{stages};
 ghost use Rattle.snapshot_merge.specs.Plans.{Plan};
 ghost use Rattle.snapshot_merge.specs.Rebasing.{RebaseCause, Rebases};
+ghost use Rattle.gate_file.specs.Stages.{LeftMeanwhile};
+ghost use Rattle.snap_diff.specs.Copies.{DiffCopy, MemoryCopy};
+ghost use Rattle.snapshot_merge.specs.Stops.{IsMerged, StandsOn, WasBegun};
+ghost use Rattle.vm_outside.specs.Crashes.{Disk, Images};
 ghost use Rattle.vm_outside.specs.Known.{Called, Lasts, Tells};
 
 use crate::error::RebaseError;
@@ -24,7 +29,33 @@ use vm_outside::{Failed, Files};
 /// the diff no such file, its gate, its magic, a field; then another number of pages, another merge that is unfinished,
 /// a parent that isn't the base's identity, and no slot that is left. `Fault` where a call on the files failed: the
 /// calls up to it were done, and a later call goes on. Nothing is written with `Refused` or `OutOfMemory`.
+///
+/// A stop at any moment, inside a call too, leaves the old copy or a base that is refused 26, and then the merge can be run
+/// again; or the new copy, and then the diff is refused 27. This is so however often the merge was stopped before. Once it
+/// is answered with `Ok`, each stop leaves the new copy.
 pub fn rebase<F: Files>(
+    alloc: Global,
+    files: &mut F,
+    base: &str,
+    diff: &str,
+) -> Result<(), RebaseError>
+    ensures rebased { Tells (F.known files.old).health →
+        Rebases base.now diff.now result (F.known files.old) (F.known files.new) }
+    ensures cause { RebaseCause result (F.known files.old).health.faults (F.known files.new).health.faults }
+    ensures lasts { Lasts (F.known files.old).health (F.known files.new).health }
+    ensures crash { Tells (F.known files.old).health → (file : List ℕ) (m : MemoryCopy) (d : DiffCopy) (disk : Disk) →
+        WasBegun base.now diff.now m d file (F.known files.old).calls →
+        LeftMeanwhile (F.known files.old).calls (F.known files.new).calls disk →
+        StandsOn base.now diff.now m d file disk }
+    ensures lasting { OnOk result (Tells (F.known files.old).health → (file : List ℕ) (m : MemoryCopy) (d : DiffCopy)
+        (disk : Disk) → WasBegun base.now diff.now m d file (F.known files.old).calls →
+        Images (F.known files.new).calls disk → IsMerged base.now diff.now m d file disk) }
+{
+    rebase_files(alloc, files, base, diff)
+}
+
+// The plan, and what is left to do by it.
+fn rebase_files<F: Files>(
     alloc: Global,
     files: &mut F,
     base: &str,

@@ -5,17 +5,8 @@ ghost use Rattle.file_format.specs.Identities.{identity};
 ghost use Rattle.gate_file.specs.Runs.{RunsAll, RunsPart};
 ghost use Rattle.snap_diff.specs.Copies.{DiffCopy};
 ghost use Rattle.snapshot_merge.specs.Answering.{AreThere};
-ghost use Rattle.snapshot_merge.specs.Calls.{
-  calls_of,
-  filling,
-  marking,
-  naming,
-  page_writes,
-  slot_at,
-  stage_calls,
-  text_after,
-  written_all,
-};
+ghost use Rattle.gate_file.specs.Stages.{calls_of, stage_calls, text_after, written_all};
+ghost use Rattle.snapshot_merge.specs.Calls.{filling, marking, naming, page_writes, slot_at};
 ghost use Rattle.vm_outside.specs.Known.{Called, Tells};
 
 use crate::finding::{DIFF_HEADER, DiffStart};

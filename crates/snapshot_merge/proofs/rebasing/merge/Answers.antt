@@ -5,7 +5,8 @@ use Rattle.gate_file.specs.Runs.{RunsPart}
 use Rattle.gate_file.proofs.Steps.{on_err}
 use Rattle.snapshot_merge.specs.declared.merge.Merge.{Merge}
 use Rattle.snapshot_merge.specs.Answering.{AreThere}
-use Rattle.snapshot_merge.specs.Calls.{calls_of, filling, marking, stages}
+use Rattle.gate_file.specs.Stages.{calls_of}
+use Rattle.snapshot_merge.specs.Calls.{filling, marking, stages}
 use Rattle.snapshot_merge.specs.Plans.{Plan}
 use Rattle.snapshot_merge.proofs.Whole.{are_begun, are_synced, begin_done, begin_fails, err_map, name_is, not_begun, not_synced, ok_map, rest_done, rest_fails, there_begun, there_synced}
 use Rattle.snapshot_merge.proofs.rebasing.merge.Goals as goal

@@ -3,7 +3,8 @@ use Rattle.std.specs.FinMap.{get}
 use Rattle.vm_outside.specs.Known.{Tells}
 use Rattle.gate_file.specs.Runs.{RunsAll, RunsPart}
 use Rattle.gate_file.proofs.Steps.{on_err, there_after}
-use Rattle.snapshot_merge.specs.Calls.{calls_of, marking, slot_at, stage_calls, written_all}
+use Rattle.gate_file.specs.Stages.{calls_of, stage_calls, written_all}
+use Rattle.snapshot_merge.specs.Calls.{marking, slot_at}
 use Rattle.snapshot_merge.proofs.Staged.{later_fails, stage_fails, stage_then}
 use Rattle.snapshot_merge.proofs.stages.begin.Goals as goal
 

@@ -5,7 +5,8 @@ use Rattle.gate_file.specs.Runs.{RunsAll, RunsPart}
 use Rattle.gate_file.proofs.Steps.{on_err, there_after}
 use Rattle.snap_diff.specs.Copies.{DiffCopy}
 use Rattle.snapshot_merge.specs.Answering.{AreThere}
-use Rattle.snapshot_merge.specs.Calls.{calls_of, filling, marking, opening, page_writes, stage_calls, written_all}
+use Rattle.gate_file.specs.Stages.{calls_of, stage_calls, written_all}
+use Rattle.snapshot_merge.specs.Calls.{filling, marking, opening, page_writes}
 use Rattle.snapshot_merge.proofs.Staged.{later_fails, stage_fails, stage_then}
 use Rattle.snapshot_merge.proofs.stages.fill.Goals as goal
 

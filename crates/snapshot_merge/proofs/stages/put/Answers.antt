@@ -3,7 +3,7 @@ use Rattle.std.specs.FinMap.{get}
 use Rattle.vm_outside.specs.Known.{Tells}
 use Rattle.gate_file.specs.Runs.{RunsPart}
 use Rattle.gate_file.proofs.Steps.{on_err}
-use Rattle.snapshot_merge.specs.Calls.{stage_calls}
+use Rattle.gate_file.specs.Stages.{stage_calls}
 use Rattle.snapshot_merge.proofs.Staged.{put_done, put_unsynced}
 use Rattle.snapshot_merge.proofs.stages.put.Goals as goal
 

@@ -6,7 +6,8 @@ use Rattle.gate_file.specs.Runs.{RunsPart}
 use Rattle.gate_file.proofs.Steps.{on_err}
 use Rattle.snap_diff.specs.Copies.{DiffCopy}
 use Rattle.snapshot_merge.specs.Answering.{AreThere}
-use Rattle.snapshot_merge.specs.Calls.{page_writes, stage_calls}
+use Rattle.gate_file.specs.Stages.{stage_calls}
+use Rattle.snapshot_merge.specs.Calls.{page_writes}
 use Rattle.snapshot_merge.proofs.Paging.{next_write, read_fails, same_wrote, sync_fails, write_fails, wrote_all, wrote_more, wrote_none}
 use Rattle.snapshot_merge.proofs.stages.put_pages.Goals as goal
 
