@@ -11,7 +11,7 @@ use Rattle.guest_memory.specs.Ram.{is_ram}
 use Rattle.hart_trace.specs.Asks.{is_host_op}
 use Rattle.http_stream.specs.Stream.{Connection}
 use Rattle.http_stream.specs.declared.request.Next.{Next}
-use Rattle.http_stream.specs.Conversation.{Conversation, arrived}
+use Rattle.http_stream.specs.Conversation.{Conversation, ConversationFront, arrived}
 use Rattle.http_stream.specs.Sent.{sent}
 use Rattle.api_calls.specs.declared.call.ApiCall.{ApiCall}
 use Rattle.api_calls.specs.declared.call.ApiCall.TheVariants as call
@@ -50,11 +50,11 @@ use Rattle.flat_machine.proofs.Allowed.{IsAllowed, allowed_is}
 
 -- ---- as many devices
 
-one_many : (g h : Guest) (event : Event) (e : Entry) → FlatStep g event e h → length h.devices ≡ length g.devices
+pub one_many : (g h : Guest) (event : Event) (e : Entry) → FlatStep g event e h → length h.devices ≡ length g.devices
 one_many g h event e step =
     ap (λ (q : Guest). length q.devices) step.after ∙ devices_many e.actor g.devices (record { op = e.op; reply = e.reply })
 
-several_many : (g h : Guest) (actor : ActorId) (es : List Entry) → Makes g actor es h → length h.devices ≡ length g.devices
+pub several_many : (g h : Guest) (actor : ActorId) (es : List Entry) → Makes g actor es h → length h.devices ≡ length g.devices
 several_many g h actor [] is = ap (λ (q : Guest). length q.devices) (sym is)
 several_many g h actor (e ∷ es) (unstamped, mid, step, more) =
     several_many mid h actor es more ∙ one_many g mid (record { actor = actor; reply = None }) e step
@@ -74,7 +74,7 @@ since_joined m n k g h q rise (inr first) (inl second) =
 since_joined m n k g h q rise first (inr second) =
     inr (record { base = second.base; base_is = second.base_is; new = (let later = second.new in omega (arith, rise, later)) })
 
-joined : (m n k : Machine) (g : Guest) (first : GoesOn g m n) → GoesOn first.guest n k → GoesOn g m k
+pub joined : (m n k : Machine) (g : Guest) (first : GoesOn g m n) → GoesOn first.guest n k → GoesOn g m k
 joined m n k g first second = record {
   guest = second.guest;
   there = second.there;
@@ -104,7 +104,10 @@ same g m n there is = moved g m n m is (stays g m m there refl refl refl)
 
 -- ---- which changes a machine allows that has started
 
-abbrev IsLater : Change → Type 0
+abbrev pub IsLater : Change → Type 0
+IsLater (change.BootSource source) = ⊥
+IsLater (change.PutDrive drive) = ⊥
+IsLater (change.MachineConfig machine) = ⊥
 IsLater change.Start = ⊥
 IsLater (change.LoadSnapshot load) = ⊥
 IsLater it = Unit {0}
@@ -130,7 +133,7 @@ at_its_time p config (call.CreateSnapshot it) started placed = tt
 at_its_time p config (call.LoadSnapshot load) started placed = too_late p started placed
 at_its_time p config (call.Get part) started placed = tt
 
-allowed_later : (m : Machine) (it : Change) → has_started (phase_of m) ≡ true → IsAllowed m it → IsLater it
+pub allowed_later : (m : Machine) (it : Change) → has_started (phase_of m) ≡ true → IsAllowed m it → IsLater it
 allowed_later m it started known =
     subst IsLater known.change_is (at_its_time (phase_of m) m.config known.asked started known.placed)
 
@@ -138,7 +141,7 @@ started_by : (g : Guest) (paused : Bool) → has_started (phase_by (Some g) paus
 started_by g true = refl
 started_by g false = refl
 
-started : (g : Guest) (m : Machine) → m.guest ≡ Some g → has_started (phase_of m) ≡ true
+pub started : (g : Guest) (m : Machine) → m.guest ≡ Some g → has_started (phase_of m) ≡ true
 started g m there = ap (λ (guest : Option Guest). has_started (phase_by guest m.paused)) there ∙ started_by g m.paused
 
 -- ---- what they leave
@@ -195,16 +198,13 @@ stores_on g (Ok kept) m n there is = moved g m n (record m { metadata = kept }) 
 stores_on g (Err why) m n there is = same g m n there is
 
 leaves_on : (g : Guest) (it : Change) (m n : Machine) → m.guest ≡ Some g → IsLater it → Leaves m it n → GoesOn g m n
-leaves_on g (change.BootSource source) m n there later is =
-    moved g m n (configured m (change.BootSource source)) is (stays g m (configured m (change.BootSource source)) there refl refl refl)
-leaves_on g (change.PutDrive drive) m n there later is =
-    moved g m n (configured m (change.PutDrive drive)) is (stays g m (configured m (change.PutDrive drive)) there refl refl refl)
+leaves_on g (change.BootSource source) m n there later is = absurd later
+leaves_on g (change.PutDrive drive) m n there later is = absurd later
 leaves_on g (change.PatchDrive patch) m n there later is =
     let after : Machine = configured (patched_drive m patch) (change.PatchDrive patch) in
     let h = retold_keeps g patch.path_on_host (device_of m.config.drives patch.drive_id) m.saved m.guest there in
     moved g m n after is (by_events g h.0 m after h.1 refl refl h.2)
-leaves_on g (change.MachineConfig machine) m n there later is =
-    moved g m n (configured m (change.MachineConfig machine)) is (stays g m (configured m (change.MachineConfig machine)) there refl refl refl)
+leaves_on g (change.MachineConfig machine) m n there later is = absurd later
 leaves_on g change.Start m n there later is = absurd later
 leaves_on g (change.State Paused) m n there later is =
     let h = halted_keeps g m.paused m.guest there in
@@ -242,7 +242,7 @@ fails_on g (change.PatchMetadata patch) m left n there x = absurd x
 fails_on g (change.Tell part) m left n there x = absurd x
 
 -- what it leaves, whatever it kept
-leaves_of : (it : Change) (m : Machine) (kept : List Device) (n : Machine) → LeavesBy m (Ok it) kept n → Leaves m it n
+pub leaves_of : (it : Change) (m : Machine) (kept : List Device) (n : Machine) → LeavesBy m (Ok it) kept n → Leaves m it n
 leaves_of (change.CreateSnapshot it) m kept n x = (kept, x)
 leaves_of it m kept n x = x.1
 
@@ -266,13 +266,21 @@ conversation_on (how ∷ outcomes) c d m n t g there (given, after, first, mid, 
     let on = request_on g how given m first mid there step in
     joined m mid n g on (conversation_on outcomes after d mid n rest on.guest on.there more)
 
+-- and the first of a conversation
+pub front_on : (outcomes : List Outcome) (c d : Connection) (m n : Machine) (t : List Response) (g : Guest) → m.guest ≡ Some g
+    → ConversationFront RequestStep outcomes c m t d n → GoesOn g m n
+front_on [] c d m n t g there (given, after, takes, stays_so, none, is) = same g m n there is
+front_on (how ∷ outcomes) c d m n t g there (given, after, first, mid, rest, takes, step, more, text) =
+    let on = request_on g how given m first mid there step in
+    joined m mid n g on (front_on outcomes after d mid n rest on.guest on.there more)
+
 talks_on : (bytes : List ℕ) (outcomes : List Outcome) (m n : Machine) (t : List Response) (g : Guest) → m.guest ≡ Some g → Talks bytes outcomes m t n → GoesOn g m n
 talks_on bytes outcomes m n t g there (after, mid, talk, is) =
     let on = conversation_on outcomes (arrived m.connection bytes) after m mid t g there talk in
     moved g m n (record mid { connection = after }) is
     (joined m mid (record mid { connection = after }) g on (stays on.guest mid (record mid { connection = after }) on.there refl refl refl))
 
-by_either : {A B C : Type 0} (there : Bool) → (A → C) → (B → C) → MatchBool there A B → C
+pub by_either : {A B C : Type 0} (there : Bool) → (A → C) → (B → C) → MatchBool there A B → C
 by_either true some none x = some x
 by_either false some none x = none x
 

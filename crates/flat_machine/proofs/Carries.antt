@@ -28,19 +28,27 @@ created_is m n g it copy there of creates =
     creates_one (Some g) m it copy.devices n (created m g it.files (parent_in m it) copy)
     (subst (λ (o : Option Guest). Creates o m it copy.devices n) there creates) (copy, of, refl, refl)
 
-pub loaded_of : (m n k p : Machine) (g : Guest) (it : SnapshotCreate) (load : SnapshotLoad) (copy : StateCopy)
-    → it.snapshot_type ≡ snapshot.Full → m.guest ≡ Some g → it.files.mem_file_path ≢ it.files.snapshot_path → IsCopyOf m.config g copy
-    → IsSaved (record { identity = next_identity m; copy = copy }) → header.Fits (new_header copy.pages (next_identity m))
-    → length g.memory.bytes ≡ page_size * copy.pages → Creates m.guest m it copy.devices n → load.files ≡ it.files → k.saved ≡ n.saved
-    → Leaves k (change.LoadSnapshot load) p
-    → p ≡ carried k load (record { identity = next_identity m; copy = copy; bytes = g.memory.bytes })
-loaded_of m n k p g it load copy full there differ of saved fits whole creates names same loads =
-    let since : parent_in m it ≡ None = ap (λ (t : SnapshotType). parent_of t m.ids.base) full in
-    let left : n ≡ created m g it.files None copy = created_is m n g it copy there of creates
-    ∙ ap (λ (parent : Option Identity). created m g it.files parent copy) since in
-    let snapshot : Snapshot = record { identity = next_identity m; copy = copy; bytes = g.memory.bytes } in
-    let finds : found k.saved load.files ≡ Ok snapshot
-    = ap (λ (f : SnapshotFiles). found k.saved f) names
-    ∙ ap (λ (s : Saved). found s it.files) (same ∙ ap (λ (q : Machine). q.saved) left)
-    ∙ found_again m.saved it.files (next_identity m) copy g.memory.bytes differ saved fits whole in
-    subst (λ (r : Result Snapshot Refusal). Restores r k load p) finds loads
+module _ (m n k : Machine) (g : Guest) (it : SnapshotCreate) (load : SnapshotLoad) (copy : StateCopy) (full : it.snapshot_type ≡ snapshot.Full)
+    (there : m.guest ≡ Some g) (differ : it.files.mem_file_path ≢ it.files.snapshot_path) (of : IsCopyOf m.config g copy)
+    (saved : IsSaved (record { identity = next_identity m; copy = copy })) (fits : header.Fits (new_header copy.pages (next_identity m)))
+    (whole : length g.memory.bytes ≡ page_size * copy.pages) (creates : Creates m.guest m it copy.devices n) (names : load.files ≡ it.files)
+    (same : k.saved ≡ n.saved) where
+  abbrev snapshot_of : Snapshot
+  snapshot_of = record { identity = next_identity m; copy = copy; bytes = g.memory.bytes }
+
+  since : parent_in m it ≡ None
+  since = ap (λ (t : SnapshotType). parent_of t m.ids.base) full
+
+  left : n ≡ created m g it.files None copy
+  left =
+      created_is m n g it copy there of creates
+      ∙ ap (λ (parent : Option Identity). created m g it.files parent copy) since
+
+  pub finds_of : found k.saved load.files ≡ Ok snapshot_of
+  finds_of =
+      ap (λ (f : SnapshotFiles). found k.saved f) names
+      ∙ ap (λ (s : Saved). found s it.files) (same ∙ ap (λ (q : Machine). q.saved) left)
+      ∙ found_again m.saved it.files (next_identity m) copy g.memory.bytes differ saved fits whole
+
+  pub loaded_of : (p : Machine) → Leaves k (change.LoadSnapshot load) p → p ≡ carried k load snapshot_of
+  loaded_of p loads = subst (λ (r : Result Snapshot Refusal). Restores r k load p) finds_of loads

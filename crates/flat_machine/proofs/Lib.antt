@@ -2,9 +2,11 @@ pub mod Allowed
 pub mod Between
 pub mod Carries
 pub mod Determined
+pub mod Drives
 pub mod OneReplay
 pub mod Plain
 pub mod Pushed
+pub mod Ready
 pub mod Sizes
 pub mod SomeAnswer
 pub mod SomeReplay

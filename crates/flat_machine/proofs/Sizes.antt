@@ -1,21 +1,26 @@
--- How much memory a start makes, and how large the disks of its drives are.
-use Rattle.std.proofs.Common.{◌≡◌, ◌≤◌, ◌<◌, ℕ, ◌+◌, ◌-◌, ◌/◌, ◌^◌, true, refl, ◌∙◌, List, ◌++◌, length, take, drop, replicate, Option, Some, None, arith, length-append, length-drop, length-take}
-use Rattle.std.specs.Prelude.{option_map}
+-- How much memory a start makes, how large the disks of its drives are, and that what isn't refused fits.
+use Rattle.std.proofs.Common.{◌≡◌, ◌≤◌, ◌<◌, ℕ, ◌+◌, ◌-◌, ◌^◌, Bool, true, false, not, if◌then◌else◌, refl, subst, ◌∙◌, List, ◌++◌, length, take, drop, replicate, Option, Some, None, arith, length-append, length-drop, length-take}
+use Rattle.std.specs.Prelude.{is_none, option_map}
+use Rattle.std.specs.FinMap.{get}
 use Rattle.std.specs.List.{All}
 use Rattle.std.proofs.lemmas.Bool.{and_parts, leb-true}
 use Rattle.std.proofs.lemmas.List.{length-replicate}
 use Rattle.std.proofs.lemmas.List.Elements.{All-map}
 use Rattle.vm_types.specs.Saved.{Saved}
+use Rattle.refusals.specs.declared.refusal.Refusal.{Refusal}
+use Rattle.refusals.specs.declared.refusal.Refusal.TheVariants as refusal
 use Rattle.vm_config.specs.declared.config.Config.{Config}
 use Rattle.vm_config.specs.Drives.{in_order}
+use Rattle.api_rules.specs.Table.{fits_by, is_missing, len_of}
+use Rattle.api_rules.specs.declared.actions.InitrdFile.{InitrdFile}
 use Rattle.guest_memory.specs.Memory.{put_at}
-use Rattle.guest_memory.specs.Ram.{page_size, ram_start}
+use Rattle.guest_memory.specs.Ram.{ram_start}
 use Rattle.guest_memory.specs.Boot.{Loads, boot_memory, bytes_of_mib, image_fits, image_offset, image_start, initrd_fits, initrd_start, laid, loads_fit, tree_size, tree_start, with_initrd}
 use Rattle.guest_devices.specs.declared.drive.NewDrive.{NewDrive}
 use Rattle.devtree.proofs.Sizes.{tree_fits}
-use Rattle.flat_guest.specs.Guest.{whole_pages}
-use Rattle.flat_machine.specs.Requests.{drive_from, drives_from, loads_from, place_of, sectors_of}
-use Rattle.flat_machine.proofs.Taken.{IsTaken}
+use Rattle.flat_machine.specs.Machine.{Machine}
+use Rattle.flat_machine.specs.Requests.{disk_by, disk_of, drive_from, drives_from, file_by, file_with, have_files, image_of, initrd_name, loads_from, place_of, sectors_of, start_refusal}
+use Rattle.flat_machine.proofs.Taken.{IsBounded}
 
 -- ---- memory
 
@@ -64,23 +69,18 @@ length-laid mib loads bytes whole fit small =
     length-put filled loads.tree (tree_start mib - ram_start) (tree_room mib len (length loads.tree) (length filled) second room small)
     ∙ second
 
-pub length-booted : (mib : ℕ) (loads : Loads) → loads_fit mib (length loads.image) (option_map length loads.initrd) ≡ true
+length-booted : (mib : ℕ) (loads : Loads) → loads_fit mib (length loads.image) (option_map length loads.initrd) ≡ true
     → length loads.tree ≤ tree_size → length (boot_memory mib loads).bytes ≡ bytes_of_mib mib
 length-booted mib loads fit small =
     length-laid mib loads (replicate (bytes_of_mib mib) 0) (length-replicate {A = ℕ} (bytes_of_mib mib) 0) fit small
 
-pages_of_mib : (mib n : ℕ) → mib ≤ 1024 → n ≡ bytes_of_mib mib → n / page_size ≤ 2 ^ 20
-pages_of_mib mib n few size = omega (arith, few, size)
-
--- a machine that is configured within bounds has at most 2^20 pages
-pub few_pages : (config : Config) (image : List ℕ) (disk : Option (List ℕ)) → IsTaken config
+-- of what a start loads as it is configured
+pub booted_size : (config : Config) (image : List ℕ) (disk : Option (List ℕ)) → IsBounded config
     → loads_fit config.machine.mem_size_mib (length image) (option_map length disk) ≡ true
-    → whole_pages (boot_memory config.machine.mem_size_mib (loads_from config image disk)) ≤ 2 ^ 20
-few_pages config image disk taken fit =
-    let mib : ℕ = config.machine.mem_size_mib in
-    let tree = tree_fits config (place_of mib disk) taken.args taken.harts taken.drives in
-    let loads : Loads = loads_from config image disk in
-    pages_of_mib mib (length (boot_memory mib loads).bytes) taken.mib (length-booted mib loads fit tree)
+    → length (boot_memory config.machine.mem_size_mib (loads_from config image disk)).bytes ≡ bytes_of_mib config.machine.mem_size_mib
+booted_size config image disk within fit =
+    length-booted config.machine.mem_size_mib (loads_from config image disk) fit
+    (tree_fits config (place_of config.machine.mem_size_mib disk) within.args within.harts within.drives)
 
 -- ---- disks
 
@@ -92,3 +92,36 @@ pub drives_fit : (config : Config) (saved : Saved) → All (λ (d : NewDrive). d
 drives_fit config saved =
     All-map (λ (d : NewDrive). d.sectors < 2 ^ 64) (drive_from saved) (in_order config.drives)
     (λ k d lt. few_sectors _)
+
+-- ---- what isn't refused
+
+-- what isn't refused by its files fits
+fits_last : (first second third fits : Bool) (why because last late : Refusal)
+    → (if first then Some why else (if second then Some because else (if third then Some last else (if not fits then Some late else None))))
+    ≡ None → fits ≡ true
+fits_last true second third fits why because last late none = absurd cc
+fits_last false true third fits why because last late none = absurd cc
+fits_last false false true fits why because last late none = absurd cc
+fits_last false false false true why because last late none = refl
+fits_last false false false false why because last late none = absurd cc
+
+disk_len : (name : Option (List ℕ)) (saved : Saved) → len_of (file_by name saved) ≡ option_map length (disk_by name saved)
+disk_len None saved = refl
+disk_len (Some name) saved = by_file (get saved name)
+  where
+    by_file : (file : Option (List ℕ)) → len_of (file_with (option_map length file)) ≡ option_map length file
+    by_file None = refl
+    by_file (Some bytes) = refl
+
+pub start_fits : (m : Machine) (image : List ℕ) → start_refusal m.config m.saved ≡ None → image_of m ≡ Some image
+    → loads_fit m.config.machine.mem_size_mib (length image) (option_map length (disk_of m)) ≡ true
+start_fits m image none there =
+    let name : Option (List ℕ) = initrd_name m.config.boot_source in
+    let file : InitrdFile = file_by name m.saved in
+    let fits =
+    fits_last (is_none (option_map length (image_of m))) (is_missing file) (not (have_files m.config.drives m.saved))
+    (fits_by (option_map length (image_of m)) file m.config.machine.mem_size_mib) refusal.NoSuchFile refusal.NoSuchFile refusal.NoSuchFile
+    refusal.DoesNotFit none in
+    let known : loads_fit m.config.machine.mem_size_mib (length image) (len_of file) ≡ true
+    = subst (λ (o : Option (List ℕ)). fits_by (option_map length o) file m.config.machine.mem_size_mib ≡ true) there fits in
+    subst (λ (len : Option ℕ). loads_fit m.config.machine.mem_size_mib (length image) len ≡ true) (disk_len name m.saved) known

@@ -3,6 +3,7 @@ pub mod Given
 pub mod Items
 pub mod Machine
 pub mod Outcome
+pub mod Ready
 pub mod Replay
 pub mod Requests
 pub mod Run

@@ -1,5 +1,5 @@
 // What holds of every machine and script.
-ghost use Rattle.std.specs.Prelude.{[], ◌≡◌, ◌≢◌, ◌*◌, ℕ, List, Some, length};
+ghost use Rattle.std.specs.Prelude.{[], ◌≡◌, ◌≢◌, ◌*◌, ℕ, List, Ok, Some, length};
 ghost use Rattle.vm_types.specs.declared.exit.Exit.{Exit};
 ghost use Rattle.vm_types.specs.declared.exit.Object.{Object};
 ghost use Rattle.vm_types.specs.Saved.{Saved};
@@ -10,6 +10,7 @@ ghost use Rattle.flat_machine.specs.Between.{GoesOn};
 ghost use Rattle.flat_machine.specs.Machine.{Machine, devices_of, new_machine};
 ghost use Rattle.flat_machine.specs.Outcome.{Outcome};
 ghost use Rattle.flat_machine.specs.Outcome.Outcome.{Answered};
+ghost use Rattle.flat_machine.specs.Ready.{CanBeCopied, Ready};
 ghost use Rattle.flat_machine.specs.Replay.{IsReplay};
 ghost use Rattle.flat_machine.specs.Run.{Act, AllAnswered, AllKeepNone, Run, SameKept};
 ghost use Rattle.flat_machine.specs.Stops.{IsStopped};
@@ -25,6 +26,7 @@ ghost use Rattle.snap_memory.specs.Headers.{header, new_header};
 ghost use Rattle.snap_state.specs.declared.copy.StateCopy.{StateCopy};
 ghost use Rattle.snap_state.specs.Files.{IsSaved};
 ghost use Rattle.flat_snapshot.specs.Copies.{IsCopyOf};
+ghost use Rattle.flat_snapshot.specs.Found.{found};
 ghost use Rattle.flat_machine.specs.Requests.{Creates, Leaves, RequestStep, carried, next_identity};
 
 /// A run is determined: acts from one machine write one text and leave one machine.
@@ -79,11 +81,18 @@ pub fn whole_lines()
 {}
 
 /// The two files that a full create wrote of a copy of the guest are loaded as the machine of that copy, by any machine whose
-/// files hold what they held then: its guest, its configuration and its identity are the copy's, and the rest is its own. The
+/// files hold what they held then: the load finds this snapshot, so that the files don't refuse it, and the machine's guest, its
+/// configuration and its identity are the copy's, and the rest is its own. The
 /// copy is one that the files can have, and its memory is all of its pages; of other copies, which keep their devices by other
 /// data, nothing is asked.
 pub fn create_then_load()
-    ensures { (m n k p : Machine) (g : Guest) (it : SnapshotCreate) (load : SnapshotLoad) (copy : StateCopy) →
+    ensures finds { (m n k : Machine) (g : Guest) (it : SnapshotCreate) (load : SnapshotLoad) (copy : StateCopy) →
+        it.snapshot_type ≡ snapshot.Full → m.guest ≡ Some g → it.files.mem_file_path ≢ it.files.snapshot_path →
+        IsCopyOf m.config g copy → IsSaved (record { identity = next_identity m; copy = copy }) →
+        header.Fits (new_header copy.pages (next_identity m)) → length g.memory.bytes ≡ page_size * copy.pages →
+        Creates m.guest m it copy.devices n → load.files ≡ it.files → k.saved ≡ n.saved →
+        found k.saved load.files ≡ Ok (record { identity = next_identity m; copy = copy; bytes = g.memory.bytes }) }
+    ensures loads { (m n k p : Machine) (g : Guest) (it : SnapshotCreate) (load : SnapshotLoad) (copy : StateCopy) →
         it.snapshot_type ≡ snapshot.Full → m.guest ≡ Some g → it.files.mem_file_path ≢ it.files.snapshot_path →
         IsCopyOf m.config g copy → IsSaved (record { identity = next_identity m; copy = copy }) →
         header.Fits (new_header copy.pages (next_identity m)) → length g.memory.bytes ≡ page_size * copy.pages →
@@ -97,4 +106,13 @@ pub fn create_then_load()
 pub fn between_creates()
     ensures { (acts : List Act) (m n : Machine) (text : List ℕ) (g : Guest) →
         m.guest ≡ Some g → Run acts m text n → GoesOn g m n }
+{}
+
+/// A machine that a run leads to from one that has not started is ready, and stays so. Each copy of the guest of a ready
+/// machine passes every test of a state file, and its pages are all of the guest's memory.
+pub fn every_run_ready()
+    ensures ready { (acts : List Act) (id : List ℕ) (saved : Saved) (calls : List FileCall) (text : List ℕ) (n : Machine) →
+        Run acts (new_machine id saved calls) text n → Ready n }
+    ensures stays { (acts : List Act) (m n : Machine) (text : List ℕ) → Ready m → Run acts m text n → Ready n }
+    ensures copied { (m : Machine) → Ready m → CanBeCopied m }
 {}

@@ -8,5 +8,6 @@
 mod law;
 
 pub use law::{
-    between_creates, create_then_load, no_devices, one_replay, one_run, some_replay, whole_lines,
+    between_creates, create_then_load, every_run_ready, no_devices, one_replay, one_run,
+    some_replay, whole_lines,
 };

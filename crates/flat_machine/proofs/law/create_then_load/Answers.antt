@@ -1,5 +1,9 @@
-use Rattle.flat_machine.proofs.Carries.{loaded_of}
+use Rattle.flat_machine.proofs.Carries.{finds_of, loaded_of}
 use Rattle.flat_machine.proofs.law.create_then_load.Goals as goal
 
-pub returns : goal.returns
-returns c = loaded_of
+pub returns-clause-finds : goal.returns-clause-finds
+returns-clause-finds c = finds_of
+
+pub returns-clause-loads : goal.returns-clause-loads
+returns-clause-loads c = λ m n k p g it load copy full there differ of saved fits whole creates names same loads.
+    loaded_of m n k g it load copy full there differ of saved fits whole creates names same p loads

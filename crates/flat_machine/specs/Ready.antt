@@ -1,0 +1,47 @@
+-- A machine of whose guest, once it has started, each copy passes the tests of a state file.
+use Rattle.std.specs.Prelude.{◌≡◌, ◌≤◌, ◌*◌, Bool, true, [], length, IsTrue, Option, Some, None}
+use Rattle.vm_types.specs.declared.ids.ActorId.TheVariants.{Timer}
+use Rattle.api_calls.specs.declared.call.BootSource.{BootSource}
+use Rattle.vm_config.specs.declared.config.Config.{Config}
+use Rattle.guest_memory.specs.Ram.{page_size}
+use Rattle.flat_guest.specs.Guest.{Guest}
+use Rattle.flat_guest.specs.Sound.{IsSound}
+use Rattle.snap_state.specs.Valid.{are_drives, is_machine, is_source, is_valid}
+use Rattle.snap_state.specs.declared.copy.StateCopy.{StateCopy}
+use Rattle.flat_snapshot.specs.Copies.{IsCopyOf, source_of}
+use Rattle.flat_snapshot.specs.Ready.{IsReady}
+use Rattle.flat_machine.specs.Machine.{Machine}
+
+-- a boot source that is configured is one that the API takes
+abbrev pub IsSourceBy : Option BootSource → Type 0
+IsSourceBy None = Unit {0}
+IsSourceBy (Some source) = is_source (source_of (Some source)) ≡ true
+
+-- what is configured is as the API takes it: the boot source, if there is one; the drives, which are told apart, and of
+-- which one at most is the root drive; and how many harts and how much memory there is
+pub record IsTaken (config : Config) : Type 0 where
+  pub source : IsSourceBy config.boot_source
+  pub drives : are_drives config.drives ≡ true
+  pub machine : is_machine config.machine ≡ true
+
+-- The guest is never stuck, and has what is configured. Where it stands still, its timer is at its start.
+pub record IsReadyGuest (config : Config) (paused : Bool) (g : Guest) : Type 0 where
+  pub sound : IsSound g
+  pub ready : IsReady config g
+  pub rests : paused ≡ true → g.steps Timer ≡ []
+
+abbrev pub ReadyBy : Config → Bool → Option Guest → Type 0
+ReadyBy config paused None = Unit {0}
+ReadyBy config paused (Some g) = IsReadyGuest config paused g
+
+-- and the next snapshot has a number, from 1 on
+pub record Ready (m : Machine) : Type 0 where
+  pub taken : IsTaken m.config
+  pub guest : ReadyBy m.config m.paused m.guest
+  pub next : 1 ≤ m.ids.next
+
+-- each copy of its guest passes each test of a state file, and its pages are all of the guest's memory
+abbrev pub CanBeCopied : Machine → Type 0
+CanBeCopied m =
+    (g : Guest) (copy : StateCopy) → m.guest ≡ Some g → IsCopyOf m.config g copy
+    → IsTrue (is_valid copy) × (length g.memory.bytes ≡ page_size * copy.pages)
