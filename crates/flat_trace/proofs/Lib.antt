@@ -2,4 +2,5 @@ mod Behind
 mod Boards
 pub mod Lines
 mod Off
+mod Readiness
 mod Scripts

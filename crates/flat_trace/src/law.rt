@@ -6,6 +6,7 @@ ghost use Rattle.script_text.specs.declared.item.HostReply.{HostReply};
 ghost use Rattle.script_text.specs.declared.item.Item.TheVariants as item;
 ghost use Rattle.flat_machine.specs.Items.{ItemStep};
 ghost use Rattle.flat_machine.specs.Machine.{Machine, is_off};
+ghost use Rattle.flat_machine.specs.Ready.{Ready};
 ghost use Rattle.flat_machine.specs.Replay.{IsReplay, closed, closing, judged_script};
 ghost use Rattle.flat_machine.specs.Run.{Act, OnBefore, lines_done};
 ghost use Rattle.flat_machine.specs.Run as script;
@@ -40,4 +41,9 @@ pub fn trace_replays()
         judged_script text ≡ lines_done acts → is_off n ≡ true → Run acts m outs n →
         ReplaysToOff text m acts (lines outs ++ closing Exit.Done n) }
     ensures on { (acts : List Act) (m n : Machine) (outs : List Out) → is_off n ≡ false → Run acts m outs n → OnBefore acts m }
+{}
+
+/// A machine that is ready stays so over a trace, so that each copy of its guest passes every test of a state file.
+pub fn every_trace_ready()
+    ensures { (acts : List Act) (m n : Machine) (outs : List Out) → Ready m → Run acts m outs n → Ready n }
 {}

@@ -10,4 +10,4 @@ mod items;
 mod law;
 
 pub use items::{event_item, host_reply};
-pub use law::{line_of_event, line_of_reply, trace_replays};
+pub use law::{every_trace_ready, line_of_event, line_of_reply, trace_replays};
