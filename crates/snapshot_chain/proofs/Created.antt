@@ -5,6 +5,7 @@ use Rattle.std.specs.FinMap.{get, insert}
 use Rattle.std.proofs.lemmas.Bool.{and_parts, eqb-true, false_from_ne_true}
 use Rattle.vm_types.specs.declared.identity.Identity.{Identity}
 use Rattle.gate_file.proofs.Inserts.{got_other, got_there}
+use Rattle.http_stream.specs.Conversation.{arrived}
 use Rattle.file_format.specs.Kinds.{fixed, number32, zeros}
 use Rattle.file_format.specs.Identities.{identity, is_numbered, is_same}
 use Rattle.api_calls.specs.declared.call.SnapshotType.{SnapshotType}
@@ -24,9 +25,9 @@ use Rattle.flat_snapshot.proofs.Unwritten.{keeps_joined, keeps_same}
 use Rattle.flat_machine.specs.Between.{GoesOn, NoCreate, SomeCreate}
 use Rattle.flat_machine.specs.Machine.{Machine}
 use Rattle.flat_machine.specs.Requests.{created, parent_in, parent_of}
-use Rattle.flat_machine.proofs.Between.{run_on}
+use Rattle.flat_machine.proofs.Between.{front_on, joined, run_on}
 use Rattle.flat_machine.proofs.Carries.{created_is}
-use Rattle.snapshot_chain.specs.Chains.{DiffsLead, Follows, IsLoaded, IsSaving, Saving, diff_since, identity_of, memory_of, memory_text, state_text, steps_of}
+use Rattle.snapshot_chain.specs.Chains.{DiffsLead, Follows, IsInside, IsLeft, IsLoaded, IsSaving, Saving, diff_since, identity_of, memory_of, memory_text, state_text, steps_of}
 
 -- ---- what stands under the two names
 
@@ -113,9 +114,9 @@ record GoesFrom (first : Saving) (start : Machine) : Type 0 where
   pub keeps : KeepsUnwritten (unwritten first.guest) guest
   pub next : start.ids.next ≡ first.before.ids.next + 1
 
-left_goes : (type : SnapshotType) (first : Saving) (start : Machine) → IsSaving type first → start ≡ first.after → GoesFrom first start
-left_goes type first start of is =
-    let left = is ∙ after_is type first of in
+left_goes : (type : SnapshotType) (first : Saving) (start : Machine) → IsSaving type first → IsLeft first start → GoesFrom first start
+left_goes type first start of (c, is) =
+    let left = is ∙ ap (λ (m : Machine). record m { connection = c }) (after_is type first of) in
     record {
       guest = unwritten first.guest;
       there = ap (λ (m : Machine). m.guest) left;
@@ -131,7 +132,7 @@ loaded_goes first start (k, load, is) = record {
   next = ap (λ (m : Machine). m.ids.next) is;
 }
 
-goes_from : (type : SnapshotType) (first : Saving) (start : Machine) → IsSaving type first → (start ≡ first.after) ⊎ IsLoaded first start → GoesFrom first start
+goes_from : (type : SnapshotType) (first : Saving) (start : Machine) → IsSaving type first → IsLeft first start ⊎ IsLoaded first start → GoesFrom first start
 goes_from type first start of (inl same) = left_goes type first start of same
 goes_from type first start of (inr loaded) = loaded_goes first start loaded
 
@@ -144,8 +145,17 @@ module _ (type : SnapshotType) (first s : Saving) (of : IsSaving type first) (is
   start : GoesFrom first follows.start
   start = goes_from type first follows.start of follows.from
 
+  between : GoesOn start.guest follows.start follows.between
+  between = run_on follows.acts follows.start follows.between follows.text start.guest start.there follows.ran
+
+  by_place : IsInside follows.between s.before → GoesOn start.guest follows.start s.before
+  by_place (inl same) = subst (λ (m : Machine). GoesOn start.guest follows.start m) (sym same) between
+  by_place (inr (bytes, outcomes, said, c, front)) =
+      joined follows.start follows.between s.before start.guest between
+      (front_on outcomes (arrived follows.between.connection bytes) c follows.between s.before said between.guest between.there front)
+
   on : GoesOn start.guest follows.start s.before
-  on = run_on follows.acts follows.start s.before follows.text start.guest start.there follows.ran
+  on = by_place follows.inside
 
   pub is_other : identity_of first ≢ identity_of s
   is_other same =

@@ -1,11 +1,16 @@
 -- What is merged in order is loaded as the last machine.
 use Rattle.std.proofs.Common.{◌≡◌, ℕ, ◌+◌, ◌≤◌, List, [], ◌∷◌, length, map, Option, Some, Result, Ok, refl, sym, ap, subst, ◌∙◌, arith}
 use Rattle.std.specs.FinMap.{get}
+use Rattle.vm_types.specs.Saved.{Saved}
 use Rattle.vm_types.specs.declared.identity.Identity.{Identity}
 use Rattle.refusals.specs.declared.refusal.Refusal.{Refusal}
+use Rattle.http_stream.specs.declared.request.Next.{Next}
+use Rattle.api_calls.specs.Call.{◌>>=◌}
+use Rattle.api_calls.specs.declared.call.SnapshotFiles.{SnapshotFiles}
 use Rattle.api_calls.specs.declared.call.SnapshotLoad.{SnapshotLoad}
 use Rattle.api_calls.specs.declared.call.SnapshotType.{SnapshotType}
 use Rattle.api_calls.specs.declared.call.SnapshotType.TheVariants as snapshot
+use Rattle.vm_config.specs.declared.change.Change.{Change}
 use Rattle.vm_config.specs.declared.change.Change.TheVariants as change
 use Rattle.snap_memory.specs.declared.header.MemHeader.{MemHeader}
 use Rattle.snap_memory.specs.Headers as memory
@@ -20,7 +25,7 @@ use Rattle.flat_snapshot.specs.Files.{diff_file, memory_file}
 use Rattle.flat_snapshot.specs.Found.{Snapshot, found}
 use Rattle.flat_snapshot.proofs.Loaded.{found_in}
 use Rattle.flat_machine.specs.Machine.{Machine}
-use Rattle.flat_machine.specs.Requests.{Leaves, Restores, carried}
+use Rattle.flat_machine.specs.Requests.{Leaves, Restores, allowed, by_contents, carried, decided}
 use Rattle.snapshot_chain.specs.Chains.{DiffsLead, IsSaving, Saving, diff_since, identity_of, memory_of, memory_text, snapshot_of, state_text, steps_of}
 use Rattle.snapshot_chain.proofs.Created.{diff_is_file, diff_text, full_file, full_text, identity_fits, is_other, lead, state_is}
 
@@ -89,13 +94,24 @@ module _ (first last : Saving) (savings : List Saving) (base : List ℕ) (files 
         subst (λ (m : MemoryCopy). IsMemoryFile merged m) made.1
         (all_merged files (diffs_in first savings) base merged (memory_of first) base_file.0 (are_files snapshot.Full first last savings files is led texts) made.0 room merges)
 
+    pub finds_last : (saved : Saved) (names : SnapshotFiles) → get saved names.mem_file_path ≡ Some merged → get saved names.snapshot_path ≡ state_text last
+        → found saved names ≡ Ok (snapshot_of last)
+    finds_last saved names memory_there state_there =
+        let of = last_type snapshot.Full first last savings is led in
+        let file = merged_file in
+        found_in saved names (identity_of last) last.copy last.guest.memory.bytes file.head of.1.saved file.holds.fits file.holds.valid file.settled file.holds.pages
+        file.holds.identity file.holds.whole (state_there ∙ state_is of.0 last of.1) (memory_there ∙ ap (λ (t : List ℕ). Some t) file.holds.bytes)
+
+    -- so a load that the machine allows is answered
+    pub allows_last : (k : Machine) (given : Next) (load : SnapshotLoad) → get k.saved load.files.mem_file_path ≡ Some merged
+        → get k.saved load.files.snapshot_path ≡ state_text last → decided k given ≡ Ok (change.LoadSnapshot load)
+        → allowed k given ≡ Ok (change.LoadSnapshot load)
+    allows_last k given load memory_there state_there asks =
+        ap (λ (r : Result Change Refusal). r >>= by_contents k) asks
+        ∙ ap (λ (r : Result Snapshot Refusal). r >>= λ (s : Snapshot). Ok (change.LoadSnapshot load)) (finds_last k.saved load.files memory_there state_there)
+
     pub loads_last : (k p : Machine) (load : SnapshotLoad) → get k.saved load.files.mem_file_path ≡ Some merged → get k.saved load.files.snapshot_path ≡ state_text last
         → Leaves k (change.LoadSnapshot load) p
         → p ≡ carried k load (snapshot_of last)
     loads_last k p load memory_there state_there loads =
-        let of = last_type snapshot.Full first last savings is led in
-        let file = merged_file in
-        let finds : found k.saved load.files ≡ Ok (snapshot_of last) =
-        found_in k.saved load.files (identity_of last) last.copy last.guest.memory.bytes file.head of.1.saved file.holds.fits file.holds.valid file.settled file.holds.pages
-        file.holds.identity file.holds.whole (state_there ∙ state_is of.0 last of.1) (memory_there ∙ ap (λ (t : List ℕ). Some t) file.holds.bytes) in
-        subst (λ (r : Result Snapshot Refusal). Restores r k load p) finds loads
+        subst (λ (r : Result Snapshot Refusal). Restores r k load p) (finds_last k.saved load.files memory_there state_there) loads

@@ -2,6 +2,8 @@
 use Rattle.std.specs.Prelude.{◌≡◌, ◌≢◌, ◌⊎◌, ℕ, ◌*◌, List, [], ◌∷◌, length, Option, Some}
 use Rattle.std.specs.FinMap.{get}
 use Rattle.vm_types.specs.declared.identity.Identity.{Identity}
+use Rattle.http_stream.specs.Stream.{Connection}
+use Rattle.http_stream.specs.Conversation.{ConversationFront, arrived}
 use Rattle.api_calls.specs.declared.call.SnapshotCreate.{SnapshotCreate}
 use Rattle.api_calls.specs.declared.call.SnapshotLoad.{SnapshotLoad}
 use Rattle.api_calls.specs.declared.call.SnapshotType.{SnapshotType}
@@ -16,8 +18,10 @@ use Rattle.flat_snapshot.specs.Copies.{IsCopyOf}
 use Rattle.flat_snapshot.specs.Files.{diff_in, memory_in}
 use Rattle.flat_snapshot.specs.Found.{Snapshot}
 use Rattle.flat_machine.specs.Machine.{Machine}
-use Rattle.flat_machine.specs.Requests.{Creates, carried, next_identity}
+use Rattle.flat_machine.specs.Outcome.{Outcome}
+use Rattle.flat_machine.specs.Requests.{Creates, RequestStep, carried, next_identity}
 use Rattle.flat_machine.specs.Run.{Act, Run}
+use Rattle.response_form.specs.Responses.{Response}
 
 -- ---- a create that was answered
 
@@ -69,13 +73,27 @@ snapshot_of s = record { identity = identity_of s; copy = s.copy; bytes = s.gues
 abbrev pub IsLoaded : Saving → Machine → Type 0
 IsLoaded s m = (k : Machine) × (load : SnapshotLoad) × (m ≡ carried k load (snapshot_of s))
 
--- The machine that the first left went on, or one that had loaded its snapshot; and that is still the base at the second.
+-- the machine that it left, whose connection has what is behind the request
+abbrev pub IsLeft : Saving → Machine → Type 0
+IsLeft s m = (c : Connection) × (m ≡ record s.after { connection = c })
+
+-- n is m, or m after the first requests of an item of these bytes
+abbrev pub IsInside : Machine → Machine → Type 0
+IsInside m n =
+    (n ≡ m)
+    ⊎ ((bytes : List ℕ) × (outcomes : List Outcome) × (said : List Response) × (c : Connection)
+    × ConversationFront RequestStep outcomes (arrived m.connection bytes) m said c n)
+
+-- The machine that the first left went on, or one that had loaded its snapshot, by acts and then inside an item; and that
+-- snapshot is still the base at the second.
 pub record Follows (first second : Saving) : Type 0 where
   pub start : Machine
-  pub from : (start ≡ first.after) ⊎ IsLoaded first start
+  pub from : IsLeft first start ⊎ IsLoaded first start
   pub acts : List Act
   pub text : List ℕ
-  pub ran : Run acts start text second.before
+  pub between : Machine
+  pub ran : Run acts start text between
+  pub inside : IsInside between second.before
   pub base : second.before.ids.base ≡ Some (identity_of first)
 
 -- from a create by diffs, each of which follows the one before, to the last

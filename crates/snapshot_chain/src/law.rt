@@ -1,7 +1,11 @@
 // What holds of every chain of creates.
-ghost use Rattle.std.specs.Prelude.{◌≡◌, ◌≢◌, ◌≤◌, List, ℕ, IsTrue, Some, length, map};
+ghost use Rattle.std.specs.Prelude.{false, ◌≡◌, ◌≢◌, ◌≤◌, List, ℕ, IsTrue, Ok, Some, length, map};
 ghost use Rattle.std.specs.FinMap.{get};
+ghost use Rattle.vm_types.specs.Saved.{Saved};
 ghost use Rattle.vm_types.specs.declared.identity.Identity.{Identity};
+ghost use Rattle.http_stream.specs.declared.request.Next.{Next};
+ghost use Rattle.api_calls.specs.declared.call.SnapshotCreate.{SnapshotCreate};
+ghost use Rattle.api_calls.specs.declared.call.SnapshotFiles.{SnapshotFiles};
 ghost use Rattle.api_calls.specs.declared.call.SnapshotLoad.{SnapshotLoad};
 ghost use Rattle.api_calls.specs.declared.call.SnapshotType.TheVariants as snapshot;
 ghost use Rattle.api_calls.specs.declared.call.SnapshotType.{SnapshotType};
@@ -9,11 +13,22 @@ ghost use Rattle.vm_config.specs.declared.change.Change.TheVariants as change;
 ghost use Rattle.file_format.specs.Identities.{identity, is_numbered};
 ghost use Rattle.snap_diff.specs.Copies.{LeadBy};
 ghost use Rattle.snap_diff.specs.Diffs.{IsDiffFile};
+ghost use Rattle.snap_state.specs.declared.copy.StateCopy.{StateCopy};
+ghost use Rattle.snap_state.specs.Files.{contents, contents_of};
+ghost use Rattle.guest_devices.specs.declared.device.Device.{Device};
+ghost use Rattle.response_form.specs.Responses.{Response};
 ghost use Rattle.snapshot_merge.specs.InOrder.{MergeAll};
 ghost use Rattle.snapshot_merge.specs.Memories.{IsMemoryFile};
 ghost use Rattle.flat_snapshot.specs.Files.{state_file};
+ghost use Rattle.flat_snapshot.specs.Found.{found};
+ghost use Rattle.flat_snapshot.specs.Copies.{IsCopyOf};
+ghost use Rattle.flat_guest.specs.Guest.{Guest, unwritten};
+ghost use Rattle.flat_guest.specs.Same.{AreAlike};
+ghost use Rattle.flat_snapshot.specs.Carried.{carried_guest};
 ghost use Rattle.flat_machine.specs.Machine.{Machine};
-ghost use Rattle.flat_machine.specs.Requests.{Leaves, carried};
+ghost use Rattle.flat_machine.specs.Outcome.Outcome.{Answered};
+ghost use Rattle.flat_machine.specs.Ready.{Ready};
+ghost use Rattle.flat_machine.specs.Requests.{Leaves, RequestStep, allowed, carried, decided, next_identity};
 ghost use Rattle.snapshot_chain.specs.Chains.{
   DiffsLead,
   IsSaving,
@@ -40,6 +55,19 @@ pub fn created_files()
         state_text s ≡ Some (state_file (identity_of s) s.copy) }
 {}
 
+/// A create that a ready machine answers is one of a chain, where each number of its copy fits its field of a state file: the
+/// copy passes every test of a load, its memory is all of its pages, its number is one that files can have, and its two names
+/// differ. If its guest is on, the guest that goes on from the snapshot is alike with the one that was saved, as it went on.
+pub fn answered_creates()
+    ensures { (m n : Machine) (g : Guest) (given : Next) (it : SnapshotCreate) (kept : List Device) (said : List Response) →
+        Ready m → m.guest ≡ Some g → allowed m given ≡ Ok (change.CreateSnapshot it) →
+        RequestStep (Answered kept) given m said n →
+        (copy : StateCopy) × IsCopyOf m.config g copy
+        × (contents.Fits (contents_of (record { identity = next_identity m; copy = copy })) →
+        IsSaving it.snapshot_type (record { asked = it; before = m; after = n; guest = g; copy = copy })
+        × (g.board.off ≡ false → AreAlike (unwritten g) (carried_guest copy g.memory.bytes))) }
+{}
+
 /// Creates of diffs, each since the one before, find memories of which each is the one before overlaid with its diff. Each
 /// is of the machine that made the one before and went on, or of one that loaded that.
 pub fn diffs_of_creates()
@@ -49,7 +77,8 @@ pub fn diffs_of_creates()
 
 /// The files of diffs, each since the one before, are merged in order into that of the full snapshot before them, as many
 /// as it has slots for. What is left, wherever it lies, and the last create's state file are loaded as the machine of that
-/// create: its guest, its configuration and its identity, and the bytes of all its pages. Each diff is of the machine that
+/// create: its guest, its configuration and its identity, and the bytes of all its pages. The load finds the snapshot, and so
+/// where the machine allows it, it is answered, and not refused by its files. Each diff is of the machine that
 /// made the snapshot before it and went on, or of one in any process that loaded that, merged so far. Of each create it is
 /// asked that its copy is one that a state file can have, that its memory is all of its pages, and that its names differ.
 pub fn merged_then_load()
@@ -65,4 +94,18 @@ pub fn merged_then_load()
         get k.saved load.files.mem_file_path ≡ Some merged → get k.saved load.files.snapshot_path ≡ state_text last →
         Leaves k (change.LoadSnapshot load) p →
         p ≡ carried k load (snapshot_of last) }
+    ensures finds { (first last : Saving) (savings : List Saving) (base merged : List ℕ) (files : List (List ℕ))
+        (saved : Saved) (names : SnapshotFiles) →
+        IsSaving snapshot.Full first → DiffsLead first savings last → length savings ≤ 100 →
+        memory_text first ≡ Some base → map (λ s. memory_text s) savings ≡ map (λ file. Some file) files →
+        MergeAll base files merged →
+        get saved names.mem_file_path ≡ Some merged → get saved names.snapshot_path ≡ state_text last →
+        found saved names ≡ Ok (snapshot_of last) }
+    ensures answered { (first last : Saving) (savings : List Saving) (base merged : List ℕ) (files : List (List ℕ))
+        (k : Machine) (given : Next) (load : SnapshotLoad) →
+        IsSaving snapshot.Full first → DiffsLead first savings last → length savings ≤ 100 →
+        memory_text first ≡ Some base → map (λ s. memory_text s) savings ≡ map (λ file. Some file) files →
+        MergeAll base files merged →
+        get k.saved load.files.mem_file_path ≡ Some merged → get k.saved load.files.snapshot_path ≡ state_text last →
+        decided k given ≡ Ok (change.LoadSnapshot load) → allowed k given ≡ Ok (change.LoadSnapshot load) }
 {}
