@@ -1,5 +1,5 @@
 -- How serving begins, and where it leads from there.
-use Rattle.std.proofs.Common.{◌≡◌, ◌⊎◌, ℕ, inl, inr, refl, sym, ap, subst, ◌∙◌, List, [], ◌∷◌, ◌++◌, append-nil, append_assoc, Option, Some, None, arith}
+use Rattle.std.proofs.Common.{◌≡◌, ◌⊎◌, ℕ, inl, inr, refl, sym, ap, subst, ◌∙◌, List, [], ◌∷◌, ◌++◌, append-nil, append_assoc, Option, Some, arith}
 use Rattle.vm_types.specs.declared.exit.Exit.{Exit}
 use Rattle.vm_types.specs.declared.exit.Object.{Object}
 use Rattle.vm_types.specs.declared.exit.Object.TheVariants as object
@@ -39,11 +39,6 @@ drawn_from left rest first took new old now same drawn = subst (λ (l : List Ite
 pub same_path : (first opened drawn last : Option (List ℕ)) → last ≡ drawn → drawn ≡ opened → opened ≡ first → last ≡ first
 same_path first opened drawn last third second one = third ∙ second ∙ one
 
--- a trace that took nothing so far
-pub took_none : (path : Option (List ℕ)) (before now : List Item) → now ≡ took_before path before → (now ≡ before) ⊎ (now ≡ [])
-took_none (Some path) before now is = inr is
-took_none None before now is = inl is
-
 -- what a torn slice says
 differ_by : (it : Torn) (journals : List Journal) (histories : List History) → IsTorn it journals histories → Differ it
 differ_by (torn.Entry place index kept other) journals histories is = is.1.differ.3
@@ -58,7 +53,8 @@ module _ (given : ServeWords) (before : ServeKnown) where
   start = new_machine given.id before.hosts.files.saved before.hosts.files.calls
 
   -- nothing has happened
-  pub nothing_served : (now : ServeKnown) → (now.hosts.slices.trace.took ≡ before.hosts.slices.trace.took) ⊎ (now.hosts.slices.trace.took ≡ [])
+  pub nothing_served : (now : ServeKnown)
+      → (now.hosts.slices.trace.took ≡ before.hosts.slices.trace.took) ⊎ (now.hosts.slices.trace.took ≡ took_before given.trace before.hosts.slices.trace.took)
       → now.hosts.slices.sink.taken ≡ before.hosts.slices.sink.taken → now.listener.ended ≡ before.listener.ended
       → now.listener.coming ≡ before.listener.coming → now.hosts.files ≡ before.hosts.files → Cut given before now
   nothing_served now told sunk ended coming files = record {

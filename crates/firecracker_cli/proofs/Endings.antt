@@ -40,8 +40,8 @@ module _ (given : ServeWords) (before : ServeKnown) (mid : Hosts) (words : Words
   abbrev now : ServeKnown
   now = serve_known (hosts (known mid.slices.trace sink mid.slices.host) mid.files) words listener
 
-  begun_by : (all : List Act) → HasNotBegun before (serve_known mid words listener) all ⊎ HasBegun given before (serve_known mid words listener) all
-      → HasNotBegun before now all ⊎ HasBegun given before now all
+  begun_by : (all : List Act) → HasNotBegun given before (serve_known mid words listener) all ⊎ HasBegun given before (serve_known mid words listener) all
+      → HasNotBegun given before now all ⊎ HasBegun given before now all
   begun_by all (inl it) = inl (record { none = it.none; took = it.took })
   begun_by all (inr it) = inr (record {
     opened = record { listening = it.opened.listening; traced = it.opened.traced; took = it.opened.took };

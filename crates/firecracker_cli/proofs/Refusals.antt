@@ -20,8 +20,8 @@ module _ (given : ServeWords) (before : ServeKnown) (sink : SinkKnown) where
   abbrev now : ServeKnown
   now = serve_known (hosts (known before.hosts.slices.trace sink before.hosts.slices.host) before.hosts.files) before.words before.listener
 
-  begun_still : (all : List Act) → HasNotBegun before before all ⊎ HasBegun given before before all
-      → HasNotBegun before now all ⊎ HasBegun given before now all
+  begun_still : (all : List Act) → HasNotBegun given before before all ⊎ HasBegun given before before all
+      → HasNotBegun given before now all ⊎ HasBegun given before now all
   begun_still all (inl it) = inl (record { none = it.none; took = it.took })
   begun_still all (inr it) = inr (record {
     opened = record { listening = it.opened.listening; traced = it.opened.traced; took = it.opened.took };

@@ -151,10 +151,12 @@ pub record HasBegun (it : ServeWords) (before now : ServeKnown) (acts : List Act
   pub lineage : HasLineage before.words now.words acts
   pub kept : IsKept before.hosts.slices.trace now.hosts.slices.trace
 
--- nothing happened: the trace took nothing, and is what it was, or is new
-pub record HasNotBegun (before now : ServeKnown) (acts : List Act) : Type 0 where
+-- Nothing happened. The trace took nothing since the call, or since it was opened.
+pub record HasNotBegun (it : ServeWords) (before now : ServeKnown) (acts : List Act) : Type 0 where
   pub none : acts ≡ []
-  pub took : (now.hosts.slices.trace.took ≡ before.hosts.slices.trace.took) ⊎ (now.hosts.slices.trace.took ≡ [])
+  pub took :
+      (now.hosts.slices.trace.took ≡ before.hosts.slices.trace.took)
+      ⊎ (now.hosts.slices.trace.took ≡ took_before it.trace before.hosts.slices.trace.took)
 
 -- Serving broke off. What the trace took leads to some machine, whose files are there; if serving came so far, all is open that
 -- the words name, and the first act is the lineage. The sink has a front of what it had, what that shows, and the last line.
@@ -166,7 +168,7 @@ pub record ServedPart (exit : Exit) (it : ServeWords) (before now : ServeKnown) 
   pub host : HostKnown
   pub since : List Ended
   pub ran : TraceRan it.id before host acts outs at
-  pub begun : HasNotBegun before now acts ⊎ HasBegun it before now acts
+  pub begun : HasNotBegun it before now acts ⊎ HasBegun it before now acts
   pub came : HaveComeInPart before.listener since now.listener
   pub rest : List ℕ
   pub sink : now.hosts.slices.sink.taken ++ rest ≡ before.hosts.slices.sink.taken ++ (shown outs ++ last_text exit at)

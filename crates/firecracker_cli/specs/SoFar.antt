@@ -66,7 +66,7 @@ pub record Cut (it : ServeWords) (before now : ServeKnown) : Type 0 where
   pub host : HostKnown
   pub since : List Ended
   pub ran : TraceRan it.id before host acts outs at
-  pub begun : HasNotBegun before now acts ⊎ HasBegun it before now acts
+  pub begun : HasNotBegun it before now acts ⊎ HasBegun it before now acts
   pub came : HaveComeInPart before.listener since now.listener
   pub sink : now.hosts.slices.sink.taken ≡ before.hosts.slices.sink.taken ++ shown outs
   pub told : AreToldInPart (said outs) since

@@ -1,4 +1,4 @@
-use Rattle.std.proofs.Common.{inl, refl, sym, ◌∙◌, subst, arith}
+use Rattle.std.proofs.Common.{inl, inr, refl, sym, ◌∙◌, subst, arith}
 use Rattle.vm_types.specs.declared.exit.Exit.{Exit}
 use Rattle.command_line.specs.Commands.{ServeWords}
 use Rattle.command_line.specs.Said.{words_said}
@@ -8,7 +8,7 @@ use Rattle.monitor_serving.specs.Connections.{place}
 use Rattle.monitor_serving.specs.Views.{Hosts, hosts}
 use Rattle.firecracker_cli.specs.Serving.{ServeKnown, ServersLast, serve_known_of, serve_known, took_before, traced_at}
 use Rattle.firecracker_cli.specs.SoFar.{AtPaths, LeftBy}
-use Rattle.firecracker_cli.proofs.Beginnings.{begun, cut_by, drawn_from, left_by, nothing_served, same_path, took_none}
+use Rattle.firecracker_cli.proofs.Beginnings.{begun, cut_by, drawn_from, left_by, nothing_served, same_path}
 use Rattle.firecracker_cli.proofs.Causes.{at_rest, close_told, draw_told, open_told}
 use Rattle.firecracker_cli.proofs.Rising.{lasts_more, lasts_same}
 use Rattle.firecracker_cli.proofs.serving.serve_on.Goals as goal
@@ -39,9 +39,7 @@ returns-in-Err-draw_lineage-clause-so_far g c = λ tells new.
     let still = c.open.ensures.trace_lasts.still tells.hosts.trace in
     cut_by (words_said c.args.words) before c.in-Err-draw_lineage.object drawn _ _ _ _ _ _ (c.in-Err-draw_lineage.ensures.cause at_rest)
     (nothing_served (words_said c.args.words) before drawn
-    (took_none (words_said c.args.words).trace before.hosts.slices.trace.took drawn.hosts.slices.trace.took
-    (c.in-Err-draw_lineage.ensures.err.0 still ∙ c.in_default.ensures.empties tells.hosts.trace))
-    refl (c.open.ensures.same tells.listener).ended (c.open.ensures.same tells.listener).coming refl)
+    (inr (c.in-Err-draw_lineage.ensures.err.0 still ∙ c.in_default.ensures.empties tells.hosts.trace)) refl (c.open.ensures.same tells.listener).ended (c.open.ensures.same tells.listener).coming refl)
 
 pub returns-in-Err-draw_lineage-clause-told : goal.returns-in-Err-draw_lineage-clause-told
 returns-in-Err-draw_lineage-clause-told g c =
