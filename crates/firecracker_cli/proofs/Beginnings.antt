@@ -1,5 +1,5 @@
 -- How serving begins, and where it leads from there.
-use Rattle.std.proofs.Common.{◌≡◌, ◌⊎◌, ℕ, inl, inr, refl, sym, ap, subst, ◌∙◌, List, [], ◌∷◌, ◌++◌, append-nil, append_assoc, Option, Some, arith}
+use Rattle.std.proofs.Common.{◌≡◌, ◌⊎◌, ℕ, inl, inr, refl, sym, ap, subst, ◌∙◌, List, [], ◌∷◌, ◌++◌, append-nil, append_assoc, Option, Some}
 use Rattle.vm_types.specs.declared.exit.Exit.{Exit}
 use Rattle.vm_types.specs.declared.exit.Object.{Object}
 use Rattle.vm_types.specs.declared.exit.Object.TheVariants as object
@@ -19,15 +19,15 @@ use Rattle.flat_machine.specs.Run.{Act}
 use Rattle.flat_trace.specs.Showing.{Out, shown}
 use Rattle.monitor_core.specs.declared.monitor.Monitor.{Monitor}
 use Rattle.monitor_core.specs.State.{IsMonitor}
+use Rattle.monitor_running.specs.Asked.{HostKnown}
 use Rattle.monitor_running.specs.Reached.{Start, known}
-use Rattle.monitor_running.proofs.Disks.{rests_same}
-use Rattle.monitor_running.proofs.Joins.{none_given}
+use Rattle.monitor_running.proofs.Joins.{none_ahead, none_asked, none_given}
 use Rattle.monitor_serving.specs.Connections.{AreToldInPart, BrokeOff, EndCause, Goes, HasGone, HasServed, Place, place}
 use Rattle.monitor_serving.specs.Turns.{IsTorn}
 use Rattle.monitor_serving.specs.Views.{Hosts, hosts}
 use Rattle.monitor_serving.specs.declared.served.Served.{Served}
 use Rattle.monitor_serving.specs.declared.served.Served.TheVariants as served
-use Rattle.firecracker_cli.specs.Serving.{Differ, HasBegun, HasParted, ServeKnown, ServedPart, closing_line, serve_known, took_before}
+use Rattle.firecracker_cli.specs.Serving.{AskedSince, Differ, HasBegun, HasParted, ServeKnown, ServedPart, closing_line, serve_known, took_before}
 use Rattle.firecracker_cli.specs.SoFar.{AtPaths, BeginCause, CameToEnd, Cut, IsFinished, LeftBy, ServedSoFar, TakesLineage, exit_of, start_at, with_lineage, with_trace}
 use Rattle.firecracker_cli.proofs.Lineages.{all_acts, all_begun, all_outs, all_ran, all_took}
 
@@ -53,11 +53,12 @@ module _ (given : ServeWords) (before : ServeKnown) where
   start = new_machine given.id before.hosts.files.saved before.hosts.files.calls
 
   -- nothing has happened
-  pub nothing_served : (now : ServeKnown)
+  pub nothing_served : (exit : Exit) (now : ServeKnown)
       → (now.hosts.slices.trace.took ≡ before.hosts.slices.trace.took) ⊎ (now.hosts.slices.trace.took ≡ took_before given.trace before.hosts.slices.trace.took)
       → now.hosts.slices.sink.taken ≡ before.hosts.slices.sink.taken → now.listener.ended ≡ before.listener.ended
-      → now.listener.coming ≡ before.listener.coming → now.hosts.files ≡ before.hosts.files → Cut given before now
-  nothing_served now told sunk ended coming files = record {
+      → now.listener.coming ≡ before.listener.coming → now.hosts.files ≡ before.hosts.files
+      → AskedSince exit before.hosts.slices.host.disk.health start before.hosts.slices.host now.hosts.slices.host → Cut exit given before now
+  nothing_served exit now told sunk ended coming files behind = record {
     acts = [];
     outs = [];
     at = start;
@@ -65,19 +66,27 @@ module _ (given : ServeWords) (before : ServeKnown) where
     since = [];
     ran = record {
       run = (refl, refl);
-      asked = record {
-        clock = record { still = λ t. t; are = λ t. refl };
-        disk = rests_same before.hosts.slices.host.disk;
-      };
+      asked = none_asked before.hosts.slices.host.disk.health start before.hosts.slices.host;
     };
+    behind = behind;
     begun = inl (record { none = refl; took = told });
-    came = record { ended = ended; lost = []; few = omega arith; coming = sym coming };
+    came = record { ended = ended; coming = sym coming };
     sink = sunk ∙ sym (append-nil before.hosts.slices.sink.taken);
     told = refl;
     files = record { saved_is = ap (λ (f : FilesKnown). f.saved) files; calls_is = ap (λ (f : FilesKnown). f.calls) files };
   }
 
-  pub cut_by : (o : Object) (now : ServeKnown) (t u w x l m : Health) → BeginCause o t u w x l m → Cut given before now
+  -- which an object's fault ended, of which no actor asks anything
+  pub none_behind : (o : Object) (t u w x l m : Health) → BeginCause o t u w x l m → (at : Machine) (host : HostKnown)
+      → AskedSince (Exit.Fault o) before.hosts.slices.host.disk.health at host host
+  none_behind object.Trace t u w x l m cause at host = (at, none_ahead before.hosts.slices.host.disk.health at host)
+  none_behind object.Words t u w x l m cause at host = refl
+  none_behind object.Listener t u w x l m cause at host = refl
+  none_behind object.Source t u w x l m cause at host = absurd cause
+  none_behind object.Sink t u w x l m cause at host = absurd cause
+  none_behind object.Files t u w x l m cause at host = absurd cause
+
+  pub cut_by : (o : Object) (now : ServeKnown) (t u w x l m : Health) → BeginCause o t u w x l m → Cut (Exit.Fault o) given before now
       → ServedSoFar (Exit.Fault o) given before now
   cut_by object.Trace now t u w x l m cause cut = cut
   cut_by object.Words now t u w x l m cause cut = cut
@@ -116,10 +125,7 @@ module _ (given : ServeWords) (before : ServeKnown) where
           run = (refl, refl);
           sink = sym (append-nil before.hosts.slices.sink.taken);
           talks = refl;
-          asked = record {
-            clock = record { still = λ t. t; are = λ t. refl };
-            disk = rests_same before.hosts.slices.host.disk;
-          };
+          asked = none_asked before.hosts.slices.host.disk.health (with_lineage lineage start) before.hosts.slices.host;
         };
       };
       came = record { ended = ended; coming = sym coming };
@@ -188,8 +194,9 @@ module _ (given : ServeWords) (before : ServeKnown) where
             kept = finished.kept;
           }
 
-          broke_off : it.unshown ≡ [] → Cut given before known_last
-          broke_off none =
+          broke_off : it.unshown ≡ []
+              → AskedSince (exit_of end) before.hosts.slices.host.disk.health it.at it.host now.slices.host → Cut (exit_of end) given before known_last
+          broke_off none behind =
               let sunk = now.slices.sink.taken in record {
                 acts = acts;
                 outs = outs;
@@ -197,6 +204,7 @@ module _ (given : ServeWords) (before : ServeKnown) where
                 host = it.host;
                 since = it.since;
                 ran = all_ran given before lineage words now.slices.trace.took it.host taken it.at it.talk it.reached;
+                behind = behind;
                 begun = inr has_begun;
                 came = it.came;
                 sink = sym (append-nil sunk) ∙ ap (λ (l : List ℕ). sunk ++ l) (sym none) ∙ it.reached.sink;
@@ -215,6 +223,7 @@ module _ (given : ServeWords) (before : ServeKnown) where
               host = it.host;
               since = it.since;
               ran = all_ran given before lineage words now.slices.trace.took it.host (taken (served.Fault object.Sink) it) it.at it.talk it.reached;
+              behind = it.behind;
               begun = inr (has_begun (served.Fault object.Sink) it);
               came = it.came;
               rest = it.unshown ++ line;
@@ -234,14 +243,14 @@ module _ (given : ServeWords) (before : ServeKnown) where
       left_by (served.Torn it journals histories) old a b h i has cause goes = λ trace finished.
           let broke = goes.1 s first has in (
             has_parted it journals.items histories.items goes.0,
-            broke_off trace finished (served.Torn it journals histories) broke broke.shown,
+            broke_off trace finished (served.Torn it journals histories) broke broke.shown tt,
           )
       left_by served.OutOfMemory old a b h i has cause goes = λ trace finished.
-          let broke = goes s first has in broke_off trace finished served.OutOfMemory broke broke.shown
+          let broke = goes s first has in broke_off trace finished served.OutOfMemory broke broke.shown broke.behind
       left_by (served.Fault object.Trace) old a b h i has cause goes = λ trace finished.
-          let broke = goes s first has in broke_off trace finished (served.Fault object.Trace) broke broke.shown
+          let broke = goes s first has in broke_off trace finished (served.Fault object.Trace) broke broke.shown broke.behind
       left_by (served.Fault object.Listener) old a b h i has cause goes = λ trace finished.
-          let broke = goes s first has in broke_off trace finished (served.Fault object.Listener) broke broke.shown
+          let broke = goes s first has in broke_off trace finished (served.Fault object.Listener) broke broke.shown broke.behind
       left_by (served.Fault object.Sink) old a b h i has cause goes = λ trace finished. sink_broke trace finished (goes s first has)
       left_by (served.Fault object.Words) old a b h i has cause goes = absurd cause
       left_by (served.Fault object.Source) old a b h i has cause goes = absurd cause

@@ -27,9 +27,8 @@ use Rattle.monitor_core.specs.declared.monitor.Monitor.{Monitor}
 use Rattle.monitor_running.specs.Asked.{AnsweredSince, DisksAnswered, HostKnown}
 use Rattle.monitor_running.specs.Reached.{Reached, Seen, Start, known, seen, told_at}
 use Rattle.monitor_running.proofs.Disks.{rests_same, rests_uncalled}
-use Rattle.monitor_running.proofs.Joins.{goes_by}
+use Rattle.monitor_running.proofs.Joins.{goes_by, none_ahead}
 use Rattle.monitor_running.proofs.Led.{drain_acts, drain_outs, drain_says, drain_shows, drain_told, drain_unlineaged}
-use Rattle.monitor_serving.proofs.Bringing.{come_in_part}
 use Rattle.monitor_serving.specs.Connections.{AreTold, AreToldInPart, AreToldOff}
 use Rattle.monitor_serving.specs.Views.{Hosts, hosts}
 use Rattle.firecracker_cli.specs.Closing.{CloseFault, DrainStops, Drained, last_shown}
@@ -165,11 +164,11 @@ off_drained (Some g) = refl
 
 in_part : (talk : List Out) (since : List Ended) → AreTold talk since → AreToldInPart talk since
 in_part talk [] told = told
-in_part talk (ended ∷ others) (before, unsent, said, cut, over, told) = (before, unsent, [], said, told)
+in_part talk (ended ∷ others) (before, unsent, said, cut, over, told) = inl (before, unsent, [], said, told)
 
 off_in_part : (talk : List Out) (since : List Ended) → AreToldOff talk since → AreToldInPart talk since
 off_in_part talk [] told = told
-off_in_part talk (ended ∷ others) (before, unsent, said, cut, told) = (before, unsent, [], said, told)
+off_in_part talk (ended ∷ others) (before, unsent, said, cut, told) = inl (before, unsent, [], said, told)
 
 all_in_part : (last : Machine) (talk : List Out) (since : List Ended) → AllTold last talk since → AreToldInPart talk since
 all_in_part last talk since (inl told) = in_part talk since told
@@ -195,7 +194,7 @@ module _ (given : ServeWords) (before : ServeKnown) (monitor : Monitor) (mid : H
 
   -- nothing of it happened
   undrained : trace.took ≡ mid.slices.trace.took → sink.taken ≡ mid.slices.sink.taken → IsKept before.hosts.slices.trace trace
-      → Cut given before served
+      → Cut (Exit.Fault object.Trace) given before served
   undrained told sunk kept =
       let r : Reached (start_at given before it.lineage) (record { took = trace.took; taken = sink.taken; host = mid.slices.host }) it.last it.talk
       = rw (told, sunk) it.stands.reached in record {
@@ -205,6 +204,7 @@ module _ (given : ServeWords) (before : ServeKnown) (monitor : Monitor) (mid : H
         host = mid.slices.host;
         since = it.since;
         ran = all_ran given before it.lineage words trace.took mid.slices.host sink.taken it.last it.talk r;
+        behind = (it.last, none_ahead before.hosts.slices.host.disk.health it.last mid.slices.host);
         begun = inr (record {
           opened = record {
             listening = it.paths.listening;
@@ -214,7 +214,7 @@ module _ (given : ServeWords) (before : ServeKnown) (monitor : Monitor) (mid : H
           lineage = all_begun given before it.lineage words trace.took mid.slices.host sink.taken it.last it.talk r it.drawn;
           kept = kept;
         });
-        came = come_in_part before.listener it.since listener it.came;
+        came = it.came;
         sink = r.sink;
         told = subst (λ t. AreToldInPart t it.since) r.talks (all_in_part it.last it.talk it.since it.told);
         files = it.stands.is.files;
@@ -288,7 +288,7 @@ module _ (given : ServeWords) (before : ServeKnown) (monitor : Monitor) (mid : H
     }
 
     -- and no more
-    drained_cut : sink.taken ≡ taken → IsKept before.hosts.slices.trace trace → Cut given before served
+    drained_cut : sink.taken ≡ taken → IsKept before.hosts.slices.trace trace → Cut (Exit.Fault object.Trace) given before served
     drained_cut sunk kept = record {
       acts = acts;
       outs = outs;
@@ -296,8 +296,9 @@ module _ (given : ServeWords) (before : ServeKnown) (monitor : Monitor) (mid : H
       host = mid.slices.host;
       since = it.since;
       ran = ran;
+      behind = (last, none_ahead before.hosts.slices.host.disk.health last mid.slices.host);
       begun = inr (record { opened = open_now; lineage = begun; kept = kept });
-      came = come_in_part before.listener it.since listener it.came;
+      came = it.came;
       sink = sunk ∙ r.sink;
       told = all_in_part last (said r.outs) it.since told_last;
       files = files_last;
@@ -313,8 +314,9 @@ module _ (given : ServeWords) (before : ServeKnown) (monitor : Monitor) (mid : H
       host = mid.slices.host;
       since = it.since;
       ran = ran;
+      behind = refl;
       begun = inr (record { opened = open_now; lineage = begun; kept = kept });
-      came = come_in_part before.listener it.since listener it.came;
+      came = it.came;
       rest = rest;
       sink = whole_text (sink.taken ++ rest) sunk;
       lacks = tt;

@@ -52,7 +52,7 @@ module _ (given : ServeWords) (before : ServeKnown) (mid : Hosts) (words : Words
   with_line : {E : Type 0} (exit : Exit) (result : Result (Unit {0}) E) → ((at : Machine) → last_text exit at ≡ last_line exit)
       → ((rest : List ℕ) → (rest ≡ []) ⊎ ((length rest ≤ length (last_line exit)) × Rose before.hosts.slices.sink.health.faults sink.health.faults)
       → SinkLacks exit rest before.hosts.slices.sink.health sink.health)
-      → Cut given before (serve_known mid words listener) → TakesAll mid.slices.sink.taken sink.taken result (last_line exit)
+      → Cut exit given before (serve_known mid words listener) → TakesAll mid.slices.sink.taken sink.taken result (last_line exit)
       → Called mid.slices.sink.health sink.health result → ServedPart exit given before now
   with_line exit result text lacks cut took called =
       let l = line_taken (last_line exit) mid.slices.sink.taken sink.taken before.hosts.slices.sink.health.faults
@@ -63,6 +63,7 @@ module _ (given : ServeWords) (before : ServeKnown) (mid : Hosts) (words : Words
         host = cut.host;
         since = cut.since;
         ran = cut.ran;
+        behind = cut.behind;
         begun = begun_by cut.acts cut.begun;
         came = cut.came;
         rest = l.0;

@@ -31,7 +31,7 @@ module _ (given : ServeWords) (before : ServeKnown) (sink : SinkKnown) where
 
   served_none : TookText Exit.OutOfMemory (last_line Exit.OutOfMemory) before.hosts.slices.sink sink → ServedPart Exit.OutOfMemory given before now
   served_none text =
-      let cut = nothing_served given before before (inl refl) refl refl refl refl in
+      let cut = nothing_served given before Exit.OutOfMemory before (inl refl) refl refl refl refl refl in
       let had = before.hosts.slices.sink.taken in
       let line = last_line Exit.OutOfMemory in record {
         acts = cut.acts;
@@ -40,6 +40,7 @@ module _ (given : ServeWords) (before : ServeKnown) (sink : SinkKnown) where
         host = cut.host;
         since = cut.since;
         ran = cut.ran;
+        behind = cut.behind;
         begun = begun_still cut.acts cut.begun;
         came = cut.came;
         rest = text.rest;

@@ -23,8 +23,8 @@ use Rattle.flat_machine.specs.Run.{Act}
 use Rattle.flat_trace.specs.Events.{quiet_act}
 use Rattle.flat_trace.specs.Showing.{Out, Run, items_of, said, shown}
 use Rattle.monitor_running.specs.Asked.{HostAnswered, HostKnown}
-use Rattle.monitor_running.specs.Reached.{NoLineage}
-use Rattle.monitor_serving.specs.Connections.{AreTold, AreToldInPart, AreToldOff, HaveCome, HaveComeInPart}
+use Rattle.monitor_running.specs.Reached.{LeadsAhead, NoLineage}
+use Rattle.monitor_serving.specs.Connections.{AreTold, AreToldInPart, AreToldOff, HaveCome}
 use Rattle.monitor_serving.specs.Turns.{IsTorn}
 use Rattle.monitor_serving.specs.Views.{AllTell, Hosts, hosts_of}
 use Rattle.firecracker_cli.specs.declared.outside.ServeOutside.{ServeOutside}
@@ -158,9 +158,16 @@ pub record HasNotBegun (it : ServeWords) (before now : ServeKnown) (acts : List 
       (now.hosts.slices.trace.took ≡ before.hosts.slices.trace.took)
       ⊎ (now.hosts.slices.trace.took ≡ took_before it.trace before.hosts.slices.trace.took)
 
+-- what the clock and the disks were asked since the trace's end: by a trace that failed, in events that it lacks; in a slice that is
+-- torn, anything; else nothing
+abbrev pub AskedSince : Exit → Health → Machine → HostKnown → HostKnown → Type 0
+AskedSince (Exit.Fault object.Trace) start at told now = (flat : Machine) × LeadsAhead start at told flat now
+AskedSince (Exit.Torn torn) start at told now = Unit {0}
+AskedSince exit start at told now = now ≡ told
+
 -- Serving broke off. What the trace took leads to some machine, whose files are there; if serving came so far, all is open that
 -- the words name, and the first act is the lineage. The sink has a front of what it had, what that shows, and the last line.
--- The last connection took a front of its replies, and gave bytes that the trace may lack an end of.
+-- The last connection took a front of its replies, and gave bytes that the trace may lack an end of, or nothing was heard of it.
 pub record ServedPart (exit : Exit) (it : ServeWords) (before now : ServeKnown) : Type 0 where
   pub acts : List Act
   pub outs : List Out
@@ -168,8 +175,9 @@ pub record ServedPart (exit : Exit) (it : ServeWords) (before now : ServeKnown) 
   pub host : HostKnown
   pub since : List Ended
   pub ran : TraceRan it.id before host acts outs at
+  pub behind : AskedSince exit before.hosts.slices.host.disk.health at host now.hosts.slices.host
   pub begun : HasNotBegun it before now acts ⊎ HasBegun it before now acts
-  pub came : HaveComeInPart before.listener since now.listener
+  pub came : HaveCome before.listener since now.listener
   pub rest : List ℕ
   pub sink : now.hosts.slices.sink.taken ++ rest ≡ before.hosts.slices.sink.taken ++ (shown outs ++ last_text exit at)
   pub lacks : SinkLacks exit rest before.hosts.slices.sink.health now.hosts.slices.sink.health

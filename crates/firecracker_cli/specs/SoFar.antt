@@ -18,11 +18,11 @@ use Rattle.flat_trace.specs.Showing.{Out, said, shown}
 use Rattle.monitor_core.specs.declared.monitor.Monitor.{Monitor}
 use Rattle.monitor_core.specs.State.{IsMonitor}
 use Rattle.monitor_running.specs.Reached.{Start, known, seen}
-use Rattle.monitor_serving.specs.Connections.{AreToldInPart, HaveCome, HaveComeInPart}
+use Rattle.monitor_serving.specs.Connections.{AreToldInPart, HaveCome}
 use Rattle.monitor_serving.specs.Views.{Stands, hosts}
 use Rattle.monitor_serving.specs.declared.served.Served.{Served}
 use Rattle.monitor_serving.specs.declared.served.Served.TheVariants as served
-use Rattle.firecracker_cli.specs.Serving.{AllTold, HasBegun, HasNotBegun, HasParted, IsKept, ServeKnown, ServedAll, ServedPart, TraceRan, serve_known, took_before, traced_at}
+use Rattle.firecracker_cli.specs.Serving.{AllTold, AskedSince, HasBegun, HasNotBegun, HasParted, IsKept, ServeKnown, ServedAll, ServedPart, TraceRan, serve_known, took_before, traced_at}
 
 -- the machine has this lineage
 abbrev pub with_lineage : ℕ → Machine → Machine
@@ -59,15 +59,16 @@ pub record CameToEnd (monitor : Monitor) (it : ServeWords) (before now : ServeKn
   pub told : AllTold last talk since
 
 -- serving broke off, not by the sink, and its last line is not yet written
-pub record Cut (it : ServeWords) (before now : ServeKnown) : Type 0 where
+pub record Cut (exit : Exit) (it : ServeWords) (before now : ServeKnown) : Type 0 where
   pub acts : List Act
   pub outs : List Out
   pub at : Machine
   pub host : HostKnown
   pub since : List Ended
   pub ran : TraceRan it.id before host acts outs at
+  pub behind : AskedSince exit before.hosts.slices.host.disk.health at host now.hosts.slices.host
   pub begun : HasNotBegun it before now acts ⊎ HasBegun it before now acts
-  pub came : HaveComeInPart before.listener since now.listener
+  pub came : HaveCome before.listener since now.listener
   pub sink : now.hosts.slices.sink.taken ≡ before.hosts.slices.sink.taken ++ shown outs
   pub told : AreToldInPart (said outs) since
   pub files : AreFilesOf now.hosts.files at
@@ -80,8 +81,8 @@ ServedSoFar (Exit.Script line) it before now = ⊥
 ServedSoFar (Exit.Fault object.Source) it before now = ⊥
 ServedSoFar (Exit.Fault object.Files) it before now = ⊥
 ServedSoFar (Exit.Fault object.Sink) it before now = ServedPart (Exit.Fault object.Sink) it before now
-ServedSoFar (Exit.Torn torn) it before now = HasParted torn × Cut it before now
-ServedSoFar exit it before now = Cut it before now
+ServedSoFar (Exit.Torn torn) it before now = HasParted torn × Cut (Exit.Torn torn) it before now
+ServedSoFar exit it before now = Cut exit it before now
 
 -- a trace that took nothing more was finished, unless a call on it failed
 pub record IsFinished (before now : ServeKnown) (trace : TraceKnown) : Type 0 where

@@ -17,7 +17,7 @@ use Rattle.flat_machine.specs.Run.{Act}
 use Rattle.flat_trace.specs.Events.{answer_by, answers_in}
 use Rattle.monitor_running.specs.Asked.{AnsweredSince, DisksAnswered, HostKnown, ItemAsks}
 use Rattle.monitor_running.specs.Devices.{DiskRests}
-use Rattle.monitor_running.specs.Reached.{AreFiles, NoLineage, Reached, Seen, Start, gives_lineage, told_at, told_by}
+use Rattle.monitor_running.specs.Reached.{AreFiles, LeadsAhead, NoLineage, Reached, Seen, Start, gives_lineage, told_at, told_by}
 use Rattle.monitor_machine.proofs.Attaching.{uncalled_more}
 use Rattle.monitor_running.proofs.Attached.{SameFiles, files_asked, files_kept, files_rest, own_before}
 use Rattle.monitor_running.proofs.Disks.{asks_later, rests_more, rests_same, rests_uncalled}
@@ -226,6 +226,21 @@ pub record HostRests (old now : HostKnown) : Type 0 where
 
 pub host_same : (host : HostKnown) → HostRests host host
 host_same host = record { clock = record { still = λ tells. tells; same = λ tells. refl }; disk = rests_same host.disk }
+
+-- a run of no acts, in which nothing is asked
+pub none_asked : (start : Health) (m : Machine) (host : HostKnown) → AnsweredSince start [] m [] m (refl, refl) host host
+none_asked start m host = record { clock = record { still = λ tells. tells; are = λ tells. refl }; disk = rests_same host.disk }
+
+-- a trace that lacks nothing
+pub none_ahead : (start : Health) (m : Machine) (host : HostKnown) → LeadsAhead start m host m host
+none_ahead start m host = record {
+  more = [];
+  outs = [];
+  run = (refl, refl);
+  unshown = refl;
+  unsaid = refl;
+  answered = none_asked start m host;
+}
 
 pub rests : (s : Start) (old now : Seen) (m : Machine) (talk : List Out) → Reached s old m talk → now.took ≡ old.took
     → now.taken ≡ old.taken → HostRests old.host now.host → Reached s now m talk

@@ -64,13 +64,8 @@ module _ {B : Type 0} (Is : B → Machine → Type 0) (old mid now : Seen) (b c 
         told = n.told;
         host = n.host;
         reached = n.reached;
-        more = n.more;
-        outs = n.outs;
         flat = n.flat;
         ahead = n.ahead;
-        unshown = n.unshown;
-        unsaid = n.unsaid;
-        asked = n.asked;
         is = n.is;
         beside = joined m k.flat n.flat k.beside n.beside;
       }
@@ -182,13 +177,8 @@ module _ (live after : LiveMachine) (old now : Seen) (w v : WorldValue) (some : 
         told = n.told;
         host = n.host;
         reached = n.reached;
-        more = n.more;
-        outs = n.outs;
         flat = n.flat;
         ahead = n.ahead;
-        unshown = n.unshown;
-        unsaid = n.unsaid;
-        asked = n.asked;
         is = subst (λ (x : LiveMachine). IsLive x n.flat) (sym back) (lives_on live m n.flat v is n.beside n.is);
         beside = n.beside;
       }

@@ -238,17 +238,19 @@ module _ (s : Start) (m : Machine) (talk : List Out) (took : List Item) (taken :
               disk = events_answered (take n es) m is.0 parts.0 sound is.1 parts.1 first_health asked.disk disks.0 ports.0 still_tells files_before disks.1;
             })
             (events_unlineaged (take n es));
-        more = event_acts (drop n es);
-        outs = quiets (drop n es);
         flat = after;
-        ahead = events_run (drop n es) (with_guest m parts.0) parts.0 led.0 led_sound runs parts.2;
-        unshown = quiets_show (drop n es);
-        unsaid = quiets_say (drop n es);
-        asked = record {
-          clock = subst (λ (l : List Item). HasAnswered clocks.0 (answers_in l) now.clock) (sym (acts_items (drop n es))) clocks.2;
-          disk = events_answered (drop n es) (with_guest m parts.0) parts.0 led.0 led_sound runs parts.2 first_health disks.0 now.disk ports.1
-              (λ tells. same.lasts.still (still_tells tells))
-              (λ k less. file_kept first_health m.config k asked.disk disks.0 still_tells same (files_before k less)) disks.2;
+        ahead = record {
+          more = event_acts (drop n es);
+          outs = quiets (drop n es);
+          run = events_run (drop n es) (with_guest m parts.0) parts.0 led.0 led_sound runs parts.2;
+          unshown = quiets_show (drop n es);
+          unsaid = quiets_say (drop n es);
+          answered = record {
+            clock = subst (λ (l : List Item). HasAnswered clocks.0 (answers_in l) now.clock) (sym (acts_items (drop n es))) clocks.2;
+            disk = events_answered (drop n es) (with_guest m parts.0) parts.0 led.0 led_sound runs parts.2 first_health disks.0 now.disk ports.1
+                (λ tells. same.lasts.still (still_tells tells))
+                (λ k less. file_kept first_health m.config k asked.disk disks.0 still_tells same (files_before k less)) disks.2;
+          };
         };
         is = (led.0, after_runs, led.2);
         beside = refl;

@@ -79,19 +79,24 @@ pub record Kept {B : Type 0} (Is : B → Machine → Type 0) (s : Start) (m : Ma
   pub files : AreFiles s flat now
   pub reached : Reached s now flat talk
 
--- The trace lacks the last events: these further events, which show nothing, lead from where it leads to the body.
+-- Events that a trace lacks, and that show nothing, lead on from one machine to the other. In them the timer was given the clock's
+-- answers, and each device its disk's.
+pub record LeadsAhead (start : Health) (told : Machine) (asked : HostKnown) (flat : Machine) (now : HostKnown) : Type 0 where
+  pub more : List Act
+  pub outs : List Out
+  pub run : Run more told outs flat
+  pub unshown : shown outs ≡ []
+  pub unsaid : said outs ≡ []
+  pub answered : AnsweredSince start more told outs flat run asked now
+
+-- The trace lacks the last events: they lead from where it leads to the body.
 pub record Ahead {B : Type 0} (Is : B → Machine → Type 0) (s : Start) (m : Machine) (now : Seen) (b : B) (talk : List Out) :
     Type 0 where
   pub told : Machine
   pub host : HostKnown
   pub reached : Reached s (record now { host = host }) told talk
-  pub more : List Act
-  pub outs : List Out
   pub flat : Machine
-  pub ahead : Run more told outs flat
-  pub unshown : shown outs ≡ []
-  pub unsaid : said outs ≡ []
-  pub asked : AnsweredSince (told_at s) more told outs flat ahead host now.host
+  pub ahead : LeadsAhead (told_at s) told host flat now.host
   pub is : Is b flat
   pub beside : flat ≡ record m { guest = flat.guest }
 

@@ -9,7 +9,6 @@ ghost use Rattle.std.specs.Prelude.{
   true,
   [],
   All,
-  IfErr,
   IfOk,
   IfSome,
   IsOkAnd,

@@ -1,5 +1,5 @@
 -- Slices while nobody is connected, and one end behind another.
-use Rattle.std.proofs.Common.{◌≡◌, ℕ, true, refl, sym, ◌∙◌, subst, ◌≤◌, List, [], ◌++◌, append-nil, Option, Some, None, arith}
+use Rattle.std.proofs.Common.{◌≡◌, ℕ, true, inr, refl, sym, ◌∙◌, subst, ◌≤◌, List, [], ◌∷◌, ◌++◌, append-nil, Option, Some, None, arith}
 use Rattle.vm_types.specs.Causes.{Rose}
 use Rattle.vm_types.specs.declared.exit.Object.{Object}
 use Rattle.vm_types.specs.declared.exit.Object.TheVariants as object
@@ -8,7 +8,7 @@ use Rattle.vm_outside.specs.Known.{FilesKnown, Health, Lasts, SinkKnown}
 use Rattle.serve_host.specs.Passing.{ConnKnown}
 use Rattle.serve_host.specs.declared.listener.Accepted.{Accepted}
 use Rattle.serve_host.specs.declared.listener.Accepted.TheVariants as accepted
-use Rattle.serve_host.specs.Listening.{Accepts, ComesToEnd, Ended, GivesConn, ListenerKnown, SameConnections}
+use Rattle.serve_host.specs.Listening.{Accepts, ComesToEnd, Ended, GivesConn, IsFresh, ListenerKnown, SameConnections, TakesBack, ended_of}
 use Rattle.serve_host.specs.Tracing.{TraceKnown}
 use Rattle.script_text.specs.declared.item.Item.{Item}
 use Rattle.flat_machine.specs.Machine.{Machine, is_off}
@@ -19,14 +19,15 @@ use Rattle.monitor_core.specs.State.{IsMonitor}
 use Rattle.monitor_running.specs.declared.ran.Ran.{Ran}
 use Rattle.monitor_running.specs.declared.ran.Ran.TheVariants as ran
 use Rattle.monitor_running.specs.Ran.{HasFault, RanOn}
-use Rattle.monitor_running.specs.Reached.{Kept, Known, Reached, Start, known, seen}
+use Rattle.monitor_running.specs.Reached.{Kept, Known, Reached, Start, known, seen, told_at}
+use Rattle.monitor_running.proofs.Joins.{none_ahead}
 use Rattle.monitor_serving.specs.declared.served.Served.{Served as End}
 use Rattle.monitor_serving.specs.declared.served.Served.TheVariants as served
-use Rattle.monitor_serving.specs.Connections.{BrokeOff, EndCause, GoCause, Goes, HasGone, HasServed, HaveCome, HaveComeInPart, Place, Serves, going, place, still_coming}
+use Rattle.monitor_serving.specs.Connections.{AreToldInPart, BrokeOff, EndCause, GoCause, Goes, HasGone, HasServed, HaveCome, Place, Serves, going, place, still_coming}
 use Rattle.monitor_serving.specs.Ends.{alone_end}
-use Rattle.monitor_serving.specs.Turns.{MayLack}
+use Rattle.monitor_serving.specs.Turns.{AskedBehind, MayLack}
 use Rattle.monitor_serving.specs.Views.{AllLast, Hosts, hosts}
-use Rattle.monitor_serving.proofs.Bringing.{come_in_part, come_same, serves_same}
+use Rattle.monitor_serving.proofs.Bringing.{come_back, come_same, serves_same}
 use Rattle.monitor_serving.proofs.Connections.{in_off, in_part}
 use Rattle.monitor_serving.proofs.Filing.{SameFiled, filed, filed_ahead, filed_beside, run_filed}
 use Rattle.monitor_serving.proofs.Slices.{monitor_kept}
@@ -57,25 +58,27 @@ module _ (monitor now_monitor : Monitor) (machine : LiveMachine) (k now : Known)
   }
 
   broke : (end : End) (s : Start) (first : ListenerKnown) (old : HasServed s first old_place) (at : Machine) (host : HostKnown)
-      (unshown : List ℕ) → MayLack end unshown → SameFiled old.flat at
+      (unshown : List ℕ) → MayLack end unshown → AskedBehind end (told_at s) at host now.host → SameFiled old.flat at
       → Reached s (record (seen now) { taken = now.sink.taken ++ unshown; host = host }) at old.talk → BrokeOff end s first new_place
-  broke end s first old at host unshown shown same reached = record {
+  broke end s first old at host unshown shown behind same reached = record {
     at = at;
     talk = old.talk;
     since = old.since;
     host = host;
     unshown = unshown;
     reached = reached;
-    came = come_in_part first old.since listener old.came;
+    came = old.came;
     told = in_part old.talk old.since old.told;
     shown = shown;
+    behind = behind;
     files = filed files files old.flat at refl same old.stands.is.files;
   }
 
   all_shown : (end : End) (s : Start) (first : ListenerKnown) (old : HasServed s first old_place) (at : Machine) (host : HostKnown)
-      → MayLack end [] → SameFiled old.flat at → Reached s (record (seen now) { host = host }) at old.talk → BrokeOff end s first new_place
-  all_shown end s first old at host shown same reached =
-      broke end s first old at host [] shown same
+      → MayLack end [] → AskedBehind end (told_at s) at host now.host → SameFiled old.flat at
+      → Reached s (record (seen now) { host = host }) at old.talk → BrokeOff end s first new_place
+  all_shown end s first old at host shown behind same reached =
+      broke end s first old at host [] shown behind same
       (subst (λ (l : List ℕ). Reached s (record (seen now) { taken = l; host = host }) at old.talk) (sym (append-nil now.sink.taken)) reached)
 
   gone : (s : Start) (first : ListenerKnown) (it : HasServed s first new_place) → is_off it.flat ≡ true → HasGone s first new_place
@@ -97,21 +100,22 @@ module _ (monitor now_monitor : Monitor) (machine : LiveMachine) (k now : Known)
       let it = on s old.flat old.talk old.stands.is.own.live old.stands.disks old.stands.reached in gone s first (kept s first old it.0) it.1
   ran_alone (Some ran.TraceFailed) on never = λ s first old.
       let it = on s old.flat old.talk old.stands.is.own.live old.stands.disks old.stands.reached in
-      all_shown (served.Fault object.Trace) s first old it.told it.host refl
-      (filed_ahead old.flat it.told it.flat (filed_beside old.flat it.flat it.beside) (run_filed it.more it.told it.outs it.flat it.ahead it.unsaid))
+      all_shown (served.Fault object.Trace) s first old it.told it.host refl (it.flat, it.ahead)
+      (filed_ahead old.flat it.told it.flat (filed_beside old.flat it.flat it.beside)
+      (run_filed it.ahead.more it.told it.ahead.outs it.flat it.ahead.run it.ahead.unsaid))
       it.reached
   ran_alone (Some ran.SinkFailed) on never = λ s first old.
       let it = on s old.flat old.talk old.stands.is.own.live old.stands.disks old.stands.reached in
-      broke (served.Fault object.Sink) s first old it.1.flat now.host it.0 tt (filed_beside old.flat it.1.flat it.1.beside) it.1.reached
+      broke (served.Fault object.Sink) s first old it.1.flat now.host it.0 tt refl (filed_beside old.flat it.1.flat it.1.beside) it.1.reached
   ran_alone (Some (ran.Torn torn journals histories)) on never = (
     (on.world, on.slice),
     λ s first old.
         let it = on.kept s old.flat old.talk old.stands.is.own.live old.stands.disks old.stands.reached in
-        all_shown (served.Torn torn journals histories) s first old it.flat on.host refl (filed_beside old.flat it.flat it.beside) it.reached,
+        all_shown (served.Torn torn journals histories) s first old it.flat on.host refl tt (filed_beside old.flat it.flat it.beside) it.reached,
   )
   ran_alone (Some ran.OutOfMemory) on never = λ s first old.
       let it = on s old.flat old.talk old.stands.is.own.live old.stands.disks old.stands.reached in
-      all_shown served.OutOfMemory s first old it.flat now.host refl (filed_beside old.flat it.flat it.beside) it.reached
+      all_shown served.OutOfMemory s first old it.flat now.host refl refl (filed_beside old.flat it.flat it.beside) it.reached
 
 pub alone_cause : (it : Option Ran) (old new : Hosts) (listener : Health) → HasFault it old.slices new.slices
     → GoCause (alone_end it) old new listener listener
@@ -123,24 +127,38 @@ alone_cause (Some ran.SinkFailed) old new listener fault = fault
 alone_cause (Some (ran.Torn torn journals histories)) old new listener fault = tt
 alone_cause (Some ran.OutOfMemory) old new listener fault = tt
 
--- the trace failed, or there was no memory, before anything happened
+-- the trace or the listener failed, or there was no memory, before anything happened
 pub breaks_idle : (end : End) → MayLack end [] → (s : Start) (first : ListenerKnown) (monitor : Monitor) (trace told : TraceKnown) (sink : SinkKnown) (host : HostKnown)
-    (files : FilesKnown) (listener left : ListenerKnown) → ((since : List Ended) → HaveCome first since listener → HaveComeInPart first since left)
-    → told.took ≡ trace.took → HasServed s first (place monitor (hosts (known trace sink host) files) listener)
+    (files : FilesKnown) (listener left : ListenerKnown) (since : List Ended)
+    → (old : HasServed s first (place monitor (hosts (known trace sink host) files) listener))
+    → AskedBehind end (told_at s) old.flat host host → HaveCome first since left → AreToldInPart old.talk since → told.took ≡ trace.took
     → BrokeOff end s first (place monitor (hosts (known told sink host) files) left)
-breaks_idle end shown s first monitor trace told sink host files listener left part same old = record {
+breaks_idle end shown s first monitor trace told sink host files listener left since old behind came part same = record {
   at = old.flat;
   talk = old.talk;
-  since = old.since;
+  since = since;
   host = host;
   unshown = [];
   reached = subst (λ (l : List ℕ). Reached s (record { took = told.took; taken = l; host = host }) old.flat old.talk) (sym (append-nil sink.taken))
       (subst (λ (i : List Item). Reached s (record { took = i; taken = sink.taken; host = host }) old.flat old.talk) (sym same) old.stands.reached);
-  came = part old.since old.came;
-  told = in_part old.talk old.since old.told;
+  came = came;
+  told = part;
   shown = shown;
   files = old.stands.is.files;
+  behind = behind;
 }
+
+-- the trace failed at the item of a connection, which was given back
+pub breaks_unheard : (s : Start) (first : ListenerKnown) (monitor : Monitor) (trace told : TraceKnown) (sink : SinkKnown) (host : HostKnown)
+    (files : FilesKnown) (listener left : ListenerKnown) (bytes : List ℕ) (conn : ConnKnown) → IsFresh conn bytes
+    → TakesBack conn listener left → told.took ≡ trace.took
+    → HasServed s first (place monitor (hosts (known trace sink host) files) (still_coming bytes listener))
+    → BrokeOff (served.Fault object.Trace) s first (place monitor (hosts (known told sink host) files) left)
+breaks_unheard s first monitor trace told sink host files listener left bytes conn fresh back same old =
+    breaks_idle (served.Fault object.Trace) refl s first monitor trace told sink host files (still_coming bytes listener) left
+    (ended_of conn ∷ old.since) old (old.flat, none_ahead (told_at s) old.flat host)
+    (come_back first old.since bytes listener left conn conn fresh refl back old.came)
+    (inr (record { gave = fresh.gave; took = fresh.took }, old.told)) same
 
 -- ---- one behind another
 
@@ -185,8 +203,8 @@ pub breaks_on_accept : (monitor : Monitor) (trace : TraceKnown) (sink : SinkKnow
     → HasServed s first (place monitor (hosts (known trace sink host) files) a)
     → BrokeOff (served.Fault object.Listener) s first (place monitor (hosts (known trace sink host) files) b)
 breaks_on_accept monitor trace sink host files a b same s first old =
-    breaks_idle (served.Fault object.Listener) refl s first monitor trace trace sink host files a b
-    (λ since came. come_in_part first since b (come_same first since a b same.ended same.coming came)) refl old
+    breaks_idle (served.Fault object.Listener) refl s first monitor trace trace sink host files a b old.since old refl
+    (come_same first old.since a b same.ended same.coming old.came) (in_part old.talk old.since old.told) refl
 
 rose_still : (i j : ℕ) → i ≤ j → Rose i i → Rose i j
 rose_still i j later rose = omega (arith, later, rose)

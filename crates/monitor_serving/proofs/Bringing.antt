@@ -1,10 +1,10 @@
 -- What a connection gave and has left is the same, whatever comes of it.
-use Rattle.std.proofs.Common.{◌≡◌, ℕ, sym, ap, ◌∙◌, List, [], ◌∷◌, ◌++◌, append_assoc, arith}
+use Rattle.std.proofs.Common.{◌≡◌, ℕ, sym, ap, ◌∙◌, List, [], ◌∷◌, ◌++◌, append_assoc}
 use Rattle.serve_host.specs.Passing.{ConnKnown, Gives, Waits}
 use Rattle.serve_host.specs.Listening.{Ended, IsFresh, ListenerKnown, TakesBack, brought, ended_of}
 use Rattle.monitor_core.specs.declared.monitor.Monitor.{Monitor}
 use Rattle.monitor_serving.specs.declared.served.Served.TheVariants as served
-use Rattle.monitor_serving.specs.Connections.{HaveCome, HaveComeInPart, Serves, place, still_coming}
+use Rattle.monitor_serving.specs.Connections.{HaveCome, Serves, place, still_coming}
 use Rattle.monitor_serving.specs.Views.{Hosts}
 
 pub waits_bring : (old new : ConnKnown) → Waits old new → new.gave ++ new.left ≡ old.gave ++ old.left
@@ -36,18 +36,7 @@ serves_same monitor hosts a b ended coming s first old = record {
   told = old.told;
 }
 
--- none was let go
-pub come_in_part : (first : ListenerKnown) (since : List Ended) (now : ListenerKnown) → HaveCome first since now
-    → HaveComeInPart first since now
-come_in_part first since now came = record { ended = came.ended; lost = []; few = omega arith; coming = came.coming }
-
--- or one
-pub come_let_go : (first : ListenerKnown) (since : List Ended) (bytes : List ℕ) (now : ListenerKnown)
-    → HaveCome first since (still_coming bytes now) → HaveComeInPart first since now
-come_let_go first since bytes now came =
-    record { ended = came.ended; lost = bytes ∷ []; few = omega arith; coming = came.coming }
-
--- or it was taken back, and is over
+-- one was taken back, and is over
 pub come_back : (first : ListenerKnown) (since : List Ended) (bytes : List ℕ) (listener left : ListenerKnown) (fresh conn : ConnKnown)
     → IsFresh fresh bytes → conn.gave ++ conn.left ≡ fresh.gave ++ fresh.left → TakesBack conn listener left
     → HaveCome first since (still_coming bytes listener) → HaveCome first (ended_of conn ∷ since) left

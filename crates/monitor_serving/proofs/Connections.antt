@@ -26,7 +26,7 @@ use Rattle.monitor_serving.specs.Causes.{IsOver, ServedCause}
 use Rattle.monitor_serving.specs.Connections.{AreTold, AreToldInPart, AreToldOff, BrokeOff, HasGone, HasServed, HaveCome, Place, Serves, WasOver, WasSaid, place, still_coming}
 use Rattle.monitor_serving.specs.Turns.{BreaksOff, EndsConnection, GoesOff, ServedAs}
 use Rattle.monitor_serving.specs.Views.{HasClosed, Hosts, Stands, Talked, View, hosts, view}
-use Rattle.monitor_serving.proofs.Bringing.{come_back, come_in_part}
+use Rattle.monitor_serving.proofs.Bringing.{come_back}
 use Rattle.monitor_serving.proofs.Pieces.{unasked}
 
 -- the connection is as it was accepted, and then as it is given back
@@ -139,8 +139,8 @@ module _ (s : Start) (first : ListenerKnown) (monitor opened : Monitor) (trace t
           host = broke.host;
           unshown = broke.unshown;
           reached = broke.reached;
-          came = come_in_part first (ended_of conn ∷ old.since) left (has_come broke.talked.brought);
-          told = (
+          came = has_come broke.talked.brought;
+          told = inl (
             old.talk,
             broke.unsent,
             broke.unsaid,
@@ -149,6 +149,7 @@ module _ (s : Start) (first : ListenerKnown) (monitor opened : Monitor) (trace t
           );
           shown = broke.shown;
           files = broke.files;
+          behind = broke.behind;
         }
 
 -- by which end
@@ -195,7 +196,7 @@ module _ (monitor opened : Monitor) (trace told : TraceKnown) (sink : SinkKnown)
 -- what was told whole was told in part
 pub in_part : (talk : List Out) (since : List Ended) → AreTold talk since → AreToldInPart talk since
 in_part talk [] told = told
-in_part talk (ended ∷ others) (before, unsent, said, cut, over, told) = (before, unsent, [], said, told)
+in_part talk (ended ∷ others) (before, unsent, said, cut, over, told) = inl (before, unsent, [], said, told)
 
 -- and is so where the guest is off
 pub in_off : (talk : List Out) (since : List Ended) → AreTold talk since → AreToldOff talk since

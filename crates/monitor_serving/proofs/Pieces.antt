@@ -26,7 +26,7 @@ use Rattle.monitor_running.specs.Asked.{AnsweredSince, HostKnown, ItemAsks}
 use Rattle.monitor_running.specs.Reached.{AreFiles, Reached, Seen, Start, known, seen, told_at}
 use Rattle.monitor_running.proofs.Attached.{files_since}
 use Rattle.monitor_running.proofs.Disks.{rests_same}
-use Rattle.monitor_running.proofs.Joins.{goes_with, one_given, reached_still}
+use Rattle.monitor_running.proofs.Joins.{goes_with, none_ahead, one_given, reached_still}
 use Rattle.monitor_serving.specs.declared.served.Served.TheVariants as served
 use Rattle.monitor_serving.specs.Turns.{Broke, Continues}
 use Rattle.monitor_serving.specs.Views.{Talked, View, host_with, hosts, view}
@@ -158,6 +158,7 @@ module _ (s : Start) (m : Machine) (talk : List Out) (bytes : List ℕ) (trace t
         talked = said;
         shown = refl;
         files = t.4;
+        behind = refl;
         reached = subst (λ (l : List ℕ). Reached s (record { took = told.took; taken = l; host = host_with clock old }) t.2 (talk ++ Heard bytes t.1 ∷ []))
             (sym (append-nil sink.taken))
             (was_heard s m talk bytes trace told sink clock old old (uncalled_none old) is_told reached t.0 t.1 t.2 on t.3);
@@ -184,6 +185,7 @@ was_untold s m talk bytes trace now sink host files left monitor after before co
   };
   shown = refl;
   files = filed;
+  behind = (m, none_ahead (told_at s) m host);
   reached = subst (λ (l : List ℕ). Reached s (record { took = now.took; taken = l; host = host }) m (talk ++ []))
       (sym (append-nil sink.taken))
       (subst (λ (t : List Out). Reached s (seen (known now sink host)) m t) (sym (append-nil talk))

@@ -28,6 +28,7 @@ breaks_idle v s m talk stands = record {
   talked = untouched v.conn;
   shown = refl;
   files = stands.is.files;
+  behind = refl;
   reached = subst (λ (l : List ℕ). Reached s (record (seen v.hosts.slices) { taken = l }) m (talk ++ []))
       (sym (append-nil v.hosts.slices.sink.taken))
       (subst (λ (t : List Out). Reached s (seen v.hosts.slices) m t) (sym (append-nil talk)) stands.reached);

@@ -12,14 +12,14 @@ use Rattle.monitor_core.specs.State.{IsMonitor}
 use Rattle.monitor_running.specs.declared.ran.Ran.{Ran}
 use Rattle.monitor_running.specs.declared.ran.Ran.TheVariants as ran
 use Rattle.monitor_running.specs.Ran.{RanOn}
-use Rattle.monitor_running.specs.Reached.{Ahead, Kept, Reached, Start, seen}
+use Rattle.monitor_running.specs.Reached.{Ahead, Kept, Reached, Start, seen, told_at}
 use Rattle.monitor_serving.specs.declared.served.Served.{Served}
 use Rattle.monitor_serving.specs.declared.served.Served.TheVariants as served
 use Rattle.monitor_serving.specs.declared.listening.Heard.{Heard}
 use Rattle.monitor_serving.specs.declared.listening.Heard.TheVariants as heard
 use Rattle.monitor_serving.specs.Ends.{end_of}
 use Rattle.monitor_serving.specs.Hearing.{HearsBy}
-use Rattle.monitor_serving.specs.Turns.{Broke, Continues, GoesOn, MayLack, ServedAs}
+use Rattle.monitor_serving.specs.Turns.{AskedBehind, Broke, Continues, GoesOn, MayLack, ServedAs}
 use Rattle.monitor_serving.specs.Views.{Hosts, Stands, Talked, View, view}
 use Rattle.monitor_serving.proofs.Bringing.{gives_bring, waits_bring}
 use Rattle.monitor_serving.proofs.Filing.{filed, filed_ahead, filed_beside, run_filed}
@@ -107,9 +107,9 @@ came_unsaid heard.Nothing old new buf came took = unheard old new came took
 module _ (monitor now : Monitor) (machine : LiveMachine) (old new : Hosts) (conn left : ConnKnown) (unsaid : List ℕ)
     (talked : Talked conn left [] [] unsaid) (files_same : new.files ≡ old.files) where
   broke_at : (end : Served) (s : Start) (talk : List Out) (at : Machine) (host : HostKnown) (unshown : List ℕ) → MayLack end unshown
-      → AreFilesOf new.files at → Reached s (record (seen new.slices) { taken = new.slices.sink.taken ++ unshown; host = host }) at talk
+      → AskedBehind end (told_at s) at host new.slices.host → AreFilesOf new.files at → Reached s (record (seen new.slices) { taken = new.slices.sink.taken ++ unshown; host = host }) at talk
       → Broke end s (view monitor old conn) (view now new left) talk
-  broke_at end s talk at host unshown shown files reached = record {
+  broke_at end s talk at host unshown shown behind files reached = record {
     at = at;
     host = host;
     unshown = unshown;
@@ -119,15 +119,16 @@ module _ (monitor now : Monitor) (machine : LiveMachine) (old new : Hosts) (conn
     talked = talked;
     shown = shown;
     files = files;
+    behind = behind;
     reached = subst (λ (t : List Out). Reached s (record (seen new.slices) { taken = new.slices.sink.taken ++ unshown; host = host }) at t)
         (sym (append-nil talk)) reached;
   }
 
   -- all that was shown was taken
-  all_shown : (end : Served) (s : Start) (talk : List Out) (at : Machine) (host : HostKnown) → MayLack end [] → AreFilesOf new.files at
-      → Reached s (record (seen new.slices) { host = host }) at talk → Broke end s (view monitor old conn) (view now new left) talk
-  all_shown end s talk at host shown files reached =
-      broke_at end s talk at host [] shown files
+  all_shown : (end : Served) (s : Start) (talk : List Out) (at : Machine) (host : HostKnown) → MayLack end []
+      → AskedBehind end (told_at s) at host new.slices.host → AreFilesOf new.files at → Reached s (record (seen new.slices) { host = host }) at talk → Broke end s (view monitor old conn) (view now new left) talk
+  all_shown end s talk at host shown behind files reached =
+      broke_at end s talk at host [] shown behind files
       (subst (λ (l : List ℕ). Reached s (record (seen new.slices) { taken = l; host = host }) at talk) (sym (append-nil new.slices.sink.taken)) reached)
 
   -- the files are those of a machine that differs in its guest alone
@@ -139,7 +140,7 @@ module _ (monitor now : Monitor) (machine : LiveMachine) (old new : Hosts) (conn
       → (a : Ahead IsLive s m (seen new.slices) machine talk) → AreFilesOf new.files a.told
   ahead s m talk files a =
       filed old.files new.files m a.told files_same
-      (filed_ahead m a.told a.flat (filed_beside m a.flat a.beside) (run_filed a.more a.told a.outs a.flat a.ahead a.unsaid)) files
+      (filed_ahead m a.told a.flat (filed_beside m a.flat a.beside) (run_filed a.ahead.more a.told a.ahead.outs a.flat a.ahead.run a.ahead.unsaid)) files
 
   abbrev served_as : Option Served → Type 0
   served_as None = Unit {0}
@@ -153,21 +154,21 @@ module _ (monitor now : Monitor) (machine : LiveMachine) (old new : Hosts) (conn
       subst (λ (o : Option Served). served_as o) is
       (λ s m talk stands.
       let a = on s m talk stands.is.own.live stands.disks stands.reached in
-      all_shown (served.Fault object.Trace) s talk a.told a.host refl (ahead s m talk stands.is.files a) a.reached)
+      all_shown (served.Fault object.Trace) s talk a.told a.host refl (a.flat, a.ahead) (ahead s m talk stands.is.files a) a.reached)
   slices_broke ran.SinkFailed end on is =
       subst (λ (o : Option Served). served_as o) is
       (λ s m talk stands.
       let a = on s m talk stands.is.own.live stands.disks stands.reached in
-      broke_at (served.Fault object.Sink) s talk a.1.flat new.slices.host a.0 tt (beside m a.1.flat stands.is.files a.1.beside) a.1.reached)
+      broke_at (served.Fault object.Sink) s talk a.1.flat new.slices.host a.0 tt refl (beside m a.1.flat stands.is.files a.1.beside) a.1.reached)
   slices_broke (ran.Torn torn journals histories) end on is =
       subst (λ (o : Option Served). served_as o) is (
         (on.world, on.slice),
         (λ s m talk stands.
             let k = on.kept s m talk stands.is.own.live stands.disks stands.reached in
-            all_shown (served.Torn torn journals histories) s talk k.flat on.host refl (beside m k.flat stands.is.files k.beside) k.reached),
+            all_shown (served.Torn torn journals histories) s talk k.flat on.host refl tt (beside m k.flat stands.is.files k.beside) k.reached),
       )
   slices_broke ran.OutOfMemory end on is =
       subst (λ (o : Option Served). served_as o) is
       (λ s m talk stands.
       let k = on s m talk stands.is.own.live stands.disks stands.reached in
-      all_shown served.OutOfMemory s talk k.flat new.slices.host refl (beside m k.flat stands.is.files k.beside) k.reached)
+      all_shown served.OutOfMemory s talk k.flat new.slices.host refl refl (beside m k.flat stands.is.files k.beside) k.reached)

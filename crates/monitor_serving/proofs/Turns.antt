@@ -83,6 +83,7 @@ module _ (s : Start) (a b c : View) (talk : List Out) (first : Continues s a b t
     talked = talked_on a.conn b.conn c.conn first.heard more.heard more.unsent more.unsaid first.talked more.talked;
     shown = more.shown;
     files = more.files;
+    behind = more.behind;
     reached = subst (λ (t : List Out). Reached s (record (seen c.hosts.slices) { taken = c.hosts.slices.sink.taken ++ more.unshown; host = more.host }) more.at t)
         (append_assoc talk first.heard more.heard) more.reached;
   }

@@ -1,5 +1,5 @@
 -- Connections one after another: what each gave and took is what was said on it.
-use Rattle.std.specs.Prelude.{ℕ, ◌≡◌, ◌⊎◌, ◌<◌, ◌≤◌, true, List, [], ◌∷◌, ◌++◌, Option, Some, None, length}
+use Rattle.std.specs.Prelude.{ℕ, ◌≡◌, ◌⊎◌, ◌<◌, true, List, [], ◌∷◌, ◌++◌, Option, Some, None}
 use Rattle.monitor_running.specs.Asked.{HostKnown}
 use Rattle.vm_host.specs.declared.host.Host.{Host}
 use Rattle.vm_host.specs.Storing.{DiskKnown}
@@ -13,10 +13,10 @@ use Rattle.flat_machine.specs.Machine.{AreFilesOf, Machine, is_off}
 use Rattle.flat_trace.specs.Showing.{Out, given, replied}
 use Rattle.flat_trace.specs.Showing.Out.{Opened}
 use Rattle.monitor_core.specs.declared.monitor.Monitor.{Monitor}
-use Rattle.monitor_running.specs.Reached.{Reached, Start}
+use Rattle.monitor_running.specs.Reached.{Reached, Start, told_at}
 use Rattle.monitor_serving.specs.declared.served.Served.{Served as End}
 use Rattle.monitor_serving.specs.declared.served.Served.TheVariants as served
-use Rattle.monitor_serving.specs.Turns.{IsTorn, MayLack}
+use Rattle.monitor_serving.specs.Turns.{AskedBehind, IsTorn, MayLack}
 use Rattle.monitor_serving.specs.Views.{AreHeard, HasClosed, Hosts, Stands, hosts_of, seen_with}
 
 -- A connection that was given back, as the last of what was said: it gave the bytes that were heard, and behind them the unsaid
@@ -47,12 +47,18 @@ AreToldOff talk (ended ∷ others) =
     (before : List Out) × (unsent : List ℕ) × WasSaid talk before ended unsent []
     × ((unsent ≡ []) ⊎ (0 < ended.faults)) × AreTold before others
 
--- or it may lack more: serving broke off in it
+-- nothing was heard of it, and nothing was said on it
+pub record WasUnheard (ended : Ended) : Type 0 where
+  pub gave : ended.gave ≡ []
+  pub took : ended.took ≡ []
+
+-- or it may lack more: serving broke off in it, or before anything was heard of it
 abbrev pub AreToldInPart : List Out → List Ended → Type 0
 AreToldInPart talk [] = talk ≡ []
 AreToldInPart talk (ended ∷ others) =
-    (before : List Out) × (unsent : List ℕ) × (unsaid : List ℕ) × WasSaid talk before ended unsent unsaid
-    × AreTold before others
+    ((before : List Out) × (unsent : List ℕ) × (unsaid : List ℕ) × WasSaid talk before ended unsent unsaid
+    × AreTold before others)
+    ⊎ (WasUnheard ended × AreTold talk others)
 
 -- the monitor between two connections, and what is known of the host objects and of the listener
 pub record Place : Type 0 where
@@ -67,13 +73,6 @@ place monitor hosts listener = record { monitor = monitor; hosts = hosts; listen
 pub record HaveCome (first : ListenerKnown) (since : List Ended) (now : ListenerKnown) : Type 0 where
   pub ended : now.ended ≡ since ++ first.ended
   pub coming : first.coming ≡ brought since ++ now.coming
-
--- but for one at most that came and was let go before anything was heard of it
-pub record HaveComeInPart (first : ListenerKnown) (since : List Ended) (now : ListenerKnown) : Type 0 where
-  pub ended : now.ended ≡ since ++ first.ended
-  pub lost : List (List ℕ)
-  pub few : length lost ≤ 1
-  pub coming : first.coming ≡ brought since ++ (lost ++ now.coming)
 
 -- the same listener where one connection more is to come, which gives these bytes
 abbrev pub still_coming : List ℕ → ListenerKnown → ListenerKnown
@@ -112,10 +111,11 @@ pub record BrokeOff (end : End) (s : Start) (first : ListenerKnown) (now : Place
   pub host : HostKnown
   pub unshown : List ℕ
   pub reached : Reached s (seen_with now.hosts.slices unshown host) at talk
-  pub came : HaveComeInPart first since now.listener
+  pub came : HaveCome first since now.listener
   pub told : AreToldInPart talk since
   pub shown : MayLack end unshown
   pub files : AreFilesOf now.hosts.files at
+  pub behind : AskedBehind end (told_at s) at host now.hosts.slices.host
 
 abbrev pub Serves : End → Place → Place → Type 0
 Serves served.Ended old new = (s : Start) (first : ListenerKnown) → HasServed s first old → HasServed s first new

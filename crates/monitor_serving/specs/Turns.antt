@@ -4,6 +4,7 @@ use Rattle.std.specs.Prelude.{ℕ, ◌≡◌, ◌⊎◌, true, List, [], ◌++�
 use Rattle.vm_types.specs.Causes.{Rose}
 use Rattle.vm_types.specs.declared.exit.Object.TheVariants as object
 use Rattle.vm_types.specs.declared.torn.Torn.{Torn}
+use Rattle.vm_outside.specs.Known.{Health}
 use Rattle.monitor_running.specs.Asked.{HostKnown}
 use Rattle.stamp_merge.specs.declared.history.History.{History}
 use Rattle.stamp_merge.specs.declared.journal.Journal.{Journal}
@@ -11,7 +12,7 @@ use Rattle.vm_world.specs.Worlds.{WorldValue}
 use Rattle.slice_runner.specs.Slices.{IsTornSlice}
 use Rattle.flat_machine.specs.Machine.{AreFilesOf, Machine, is_off}
 use Rattle.flat_trace.specs.Showing.{Out}
-use Rattle.monitor_running.specs.Reached.{Reached, Start}
+use Rattle.monitor_running.specs.Reached.{LeadsAhead, Reached, Start, told_at}
 use Rattle.monitor_serving.specs.declared.served.Served.{Served}
 use Rattle.monitor_serving.specs.declared.served.Served.TheVariants as served
 use Rattle.monitor_serving.specs.Views.{HasClosed, Stands, Talked, View, seen_with}
@@ -30,8 +31,15 @@ abbrev pub MayLack : Served → List ℕ → Type 0
 MayLack (served.Fault object.Sink) unshown = Unit {0}
 MayLack end unshown = unshown ≡ []
 
--- Serving broke off. What the trace took leads to some machine, whose files are there, and the answers in it to some clock and
--- disks. Of what that shows the sink and the connection took a front, and of the bytes that came the trace has a front.
+-- What the clock and the disks were asked since the trace's end. By a trace that failed: in events that it lacks. In a slice that is
+-- torn: anything. Else nothing.
+abbrev pub AskedBehind : Served → Health → Machine → HostKnown → HostKnown → Type 0
+AskedBehind (served.Fault object.Trace) start at told now = (flat : Machine) × LeadsAhead start at told flat now
+AskedBehind (served.Torn torn journals histories) start at told now = Unit {0}
+AskedBehind end start at told now = now ≡ told
+
+-- Serving broke off. What the trace took leads to some machine, whose files are there, and the answers in it to this of the clock and
+-- the disks. Of what that shows the sink and the connection took a front, and of the bytes that came the trace has a front.
 pub record Broke (end : Served) (s : Start) (old new : View) (talk : List Out) : Type 0 where
   pub at : Machine
   pub host : HostKnown
@@ -43,6 +51,7 @@ pub record Broke (end : Served) (s : Start) (old new : View) (talk : List Out) :
   pub shown : MayLack end unshown
   pub files : AreFilesOf new.hosts.files at
   pub reached : Reached s (seen_with new.hosts.slices unshown host) at (talk ++ heard)
+  pub behind : AskedBehind end (told_at s) at host new.hosts.slices.host
 
 -- However the machine got here, and whatever was said before: nothing is missing
 abbrev pub GoesOn : View → View → Type 0

@@ -21,8 +21,7 @@ use vm_host::{Clock, Disk, Host};
 use vm_outside::{Failed, Files, Sink};
 use vm_types::Object;
 
-// Serves a connection that was accepted, and gives it back to the listener. Where the trace fails before, the connection is
-// let go.
+// Serves a connection that was accepted, and gives it back to the listener, also where the trace fails before.
 fn serve_one<
     D: Disk + Send,
     C: Clock + Send,
@@ -61,6 +60,7 @@ fn serve_one<
     ensures listener_stays { ListenerStays (M.known listener.old) (M.known listener.new) }
 {
     let Ok(()) = trace.add(&Item::Connect) else {
+        listener.end(conn);
         return Served::Fault(Object::Trace);
     };
     monitor.connect();

@@ -8,7 +8,7 @@ use Rattle.monitor_serving.specs.Connections.{place}
 use Rattle.monitor_serving.specs.Views.{Hosts, hosts}
 use Rattle.firecracker_cli.specs.Serving.{ServeKnown, ServersLast, serve_known_of, serve_known, took_before, traced_at}
 use Rattle.firecracker_cli.specs.SoFar.{AtPaths, LeftBy}
-use Rattle.firecracker_cli.proofs.Beginnings.{begun, cut_by, drawn_from, left_by, nothing_served, same_path}
+use Rattle.firecracker_cli.proofs.Beginnings.{begun, cut_by, drawn_from, left_by, none_behind, nothing_served, same_path}
 use Rattle.firecracker_cli.proofs.Causes.{at_rest, close_told, draw_told, open_told}
 use Rattle.firecracker_cli.proofs.Rising.{lasts_more, lasts_same}
 use Rattle.firecracker_cli.proofs.serving.serve_on.Goals as goal
@@ -20,7 +20,9 @@ returns-in-Err-clause-so_far g c = λ tells new.
     let opened : ServeKnown = serve_known (hosts (known (g.T.Trace.known c.open.new.trace) before.hosts.slices.sink before.hosts.slices.host)
     before.hosts.files) before.words (g.M.Listener.known c.open.new.listener) in
     cut_by (words_said c.args.words) before c.in-Err.object opened _ _ _ _ _ _ (c.in-Err.ensures.cause at_rest)
-    (nothing_served (words_said c.args.words) before opened (inl (c.in-Err.ensures.took tells.hosts.trace)) refl (c.open.ensures.same tells.listener).ended (c.open.ensures.same tells.listener).coming refl)
+    (nothing_served (words_said c.args.words) before (Exit.Fault c.in-Err.object) opened (inl (c.in-Err.ensures.took tells.hosts.trace)) refl
+    (c.open.ensures.same tells.listener).ended (c.open.ensures.same tells.listener).coming refl
+    (none_behind (words_said c.args.words) before c.in-Err.object _ _ _ _ _ _ (c.in-Err.ensures.cause at_rest) _ _))
 
 pub returns-in-Err-clause-told : goal.returns-in-Err-clause-told
 returns-in-Err-clause-told g c =
@@ -38,8 +40,10 @@ returns-in-Err-draw_lineage-clause-so_far g c = λ tells new.
     before.hosts.files) (g.W.Words.known c.draw_lineage.new.words) (g.M.Listener.known c.open.new.listener) in
     let still = c.open.ensures.trace_lasts.still tells.hosts.trace in
     cut_by (words_said c.args.words) before c.in-Err-draw_lineage.object drawn _ _ _ _ _ _ (c.in-Err-draw_lineage.ensures.cause at_rest)
-    (nothing_served (words_said c.args.words) before drawn
-    (inr (c.in-Err-draw_lineage.ensures.err.0 still ∙ c.in_default.ensures.empties tells.hosts.trace)) refl (c.open.ensures.same tells.listener).ended (c.open.ensures.same tells.listener).coming refl)
+    (nothing_served (words_said c.args.words) before (Exit.Fault c.in-Err-draw_lineage.object) drawn
+    (inr (c.in-Err-draw_lineage.ensures.err.0 still ∙ c.in_default.ensures.empties tells.hosts.trace)) refl
+    (c.open.ensures.same tells.listener).ended (c.open.ensures.same tells.listener).coming refl
+    (none_behind (words_said c.args.words) before c.in-Err-draw_lineage.object _ _ _ _ _ _ (c.in-Err-draw_lineage.ensures.cause at_rest) _ _))
 
 pub returns-in-Err-draw_lineage-clause-told : goal.returns-in-Err-draw_lineage-clause-told
 returns-in-Err-draw_lineage-clause-told g c =

@@ -1,22 +1,18 @@
-use Rattle.std.proofs.Common.{ap, refl}
-use Rattle.vm_types.specs.declared.exit.Object.TheVariants as object
+use Rattle.std.proofs.Common.{ap}
 use Rattle.monitor_core.specs.declared.monitor.Monitor.{Monitor}
-use Rattle.monitor_serving.specs.declared.served.Served.TheVariants as served
 use Rattle.monitor_running.specs.Asked.{host_known}
 use Rattle.monitor_running.specs.Reached.{known}
-use Rattle.monitor_serving.specs.Connections.{still_coming}
 use Rattle.monitor_serving.specs.Views.{hosts}
-use Rattle.monitor_serving.proofs.Alone.{breaks_idle}
-use Rattle.monitor_serving.proofs.Bringing.{come_let_go}
+use Rattle.monitor_serving.proofs.Alone.{breaks_unheard}
 use Rattle.monitor_serving.proofs.Connections.{one_served}
 use Rattle.monitor_serving.proofs.serving.serve_one.Goals as goal
 
 pub returns-in_default-clause-serves : goal.returns-in_default-clause-serves
 returns-in_default-clause-serves g c = λ tell listens bytes fresh s first old.
-    breaks_idle (served.Fault object.Trace) refl s first c.args.monitor.now (g.T.Trace.known c.args.trace.now) (g.T.Trace.known c.add.new.self) (g.K.Sink.known c.args.sink.now)
-    (host_known g.C.Clock.known g.D.Disk.known c.args.host.now) (g.F.Files.known c.args.files.now)
-    (still_coming bytes (g.M.Listener.known c.args.listener.now)) (g.M.Listener.known c.args.listener.now)
-    (λ since came. come_let_go first since bytes (g.M.Listener.known c.args.listener.now) came) (c.in_default.ensures.adds tell.trace) old
+    breaks_unheard s first c.args.monitor.now (g.T.Trace.known c.args.trace.now) (g.T.Trace.known c.add.new.self) (g.K.Sink.known c.args.sink.now)
+    (host_known g.C.Clock.known g.D.Disk.known c.args.host.now) (g.F.Files.known c.args.files.now) (g.M.Listener.known c.args.listener.now)
+    (g.M.Listener.known c.end.new.self) bytes (g.N.Conn.known c.args.conn) fresh (c.end.ensures.ended listens)
+    (c.in_default.ensures.adds tell.trace) old
 
 pub returns-clause-serves : goal.returns-clause-serves
 returns-clause-serves g c =
