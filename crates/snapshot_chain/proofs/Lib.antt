@@ -1,3 +1,4 @@
 pub mod Answered
 pub mod Created
 pub mod Loaded
+pub mod On

@@ -25,12 +25,13 @@ ghost use Rattle.flat_snapshot.specs.Copies.{IsCopyOf};
 ghost use Rattle.flat_guest.specs.Guest.{Guest, unwritten};
 ghost use Rattle.flat_guest.specs.Same.{AreAlike};
 ghost use Rattle.flat_snapshot.specs.Carried.{carried_guest};
-ghost use Rattle.flat_machine.specs.Machine.{Machine};
+ghost use Rattle.flat_machine.specs.Machine.{Machine, is_off};
 ghost use Rattle.flat_machine.specs.Outcome.Outcome.{Answered};
 ghost use Rattle.flat_machine.specs.Ready.{Ready};
 ghost use Rattle.flat_machine.specs.Requests.{Leaves, RequestStep, allowed, carried, decided, next_identity};
 ghost use Rattle.snapshot_chain.specs.Chains.{
   DiffsLead,
+  IsInside,
   IsSaving,
   Saving,
   diff_since,
@@ -66,6 +67,11 @@ pub fn answered_creates()
         × (contents.Fits (contents_of (record { identity = next_identity m; copy = copy })) →
         IsSaving it.snapshot_type (record { asked = it; before = m; after = n; guest = g; copy = copy })
         × (g.board.off ≡ false → AreAlike (unwritten g) (carried_guest copy g.memory.bytes))) }
+{}
+
+/// No request turns a guest off: where it is on before an item, it is on inside the item, and so at each create of it.
+pub fn on_inside()
+    ensures { (m n : Machine) → IsInside m n → is_off m ≡ false → is_off n ≡ false }
 {}
 
 /// Creates of diffs, each since the one before, find memories of which each is the one before overlaid with its diff. Each

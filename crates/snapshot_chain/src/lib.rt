@@ -7,4 +7,4 @@
 
 mod law;
 
-pub use law::{answered_creates, created_files, diffs_of_creates, merged_then_load};
+pub use law::{answered_creates, created_files, diffs_of_creates, merged_then_load, on_inside};

@@ -1,0 +1,126 @@
+-- No request turns a guest off: inside an item it is on, if it was on before the item.
+use Rattle.std.proofs.Common.{◌≡◌, ℕ, Bool, true, false, if◌then◌else◌, nat_lt, refl, ap, ◌∙◌, List, [], ◌∷◌, Option, Some, None, Result, Ok, Err, inl, inr}
+use Rattle.std.specs.Prelude.{bit_or, ◌^◌}
+use Rattle.vm_types.specs.Saved.{Saved}
+use Rattle.vm_types.specs.declared.ids.ActorId.TheVariants.{Device as DeviceId}
+use Rattle.refusals.specs.declared.refusal.Refusal.{Refusal}
+use Rattle.serde_json.specs.Data.{Data}
+use Rattle.metadata_store.specs.Store.{patched, put}
+use Rattle.http_stream.specs.Stream.{Connection}
+use Rattle.http_stream.specs.declared.request.Next.{Next}
+use Rattle.http_stream.specs.Conversation.{ConversationFront, arrived}
+use Rattle.api_calls.specs.declared.call.SnapshotCreate.{SnapshotCreate}
+use Rattle.api_calls.specs.declared.call.SnapshotLoad.{SnapshotLoad}
+use Rattle.api_calls.specs.declared.call.VmState.TheVariants.{Paused, Resumed}
+use Rattle.vm_config.specs.declared.change.Change.{Change}
+use Rattle.vm_config.specs.declared.change.Change.TheVariants as change
+use Rattle.vm_config.specs.Drives.{device_of}
+use Rattle.response_form.specs.Responses.{Response}
+use Rattle.board_table.specs.Board.{Board}
+use Rattle.board_table.specs.Acts.{line_count, raise_line}
+use Rattle.guest_devices.specs.declared.device.Device.{Device}
+use Rattle.flat_guest.specs.Guest.{Guest}
+use Rattle.flat_snapshot.specs.Found.{Snapshot, found}
+use Rattle.flat_machine.specs.Outcome.{Left, Outcome}
+use Rattle.flat_machine.specs.Outcome.Outcome.{Answered, Failed, NoMemory}
+use Rattle.flat_machine.specs.Machine.{Machine, is_off, off_by}
+use Rattle.flat_machine.specs.Requests.{CreateFails, Creates, Fails, Leaves, LeavesBy, RequestStep, Restores, Stores, allowed, disk_of, halted, image_of, retold, started_from}
+use Rattle.flat_machine.proofs.Between.{leaves_of}
+use Rattle.snapshot_chain.specs.Chains.{IsInside}
+
+abbrev On : Machine → Type 0
+On m = is_off m ≡ false
+
+on_is : (m n : Machine) → n ≡ m → On m → On n
+on_is m n is on = ap is_off is ∙ on
+
+-- ---- what a change leaves of the guest
+
+raised_off : (b : Board) (k : ℕ) → (raise_line b (DeviceId k)).off ≡ b.off
+raised_off b k = by_line (nat_lt k line_count)
+  where
+    by_line : (there : Bool) → (if there then record b { pending = bit_or b.pending (2 ^ k) } else b).off ≡ b.off
+    by_line true = refl
+    by_line false = refl
+
+retold_on : (path : Option (List ℕ)) (number : Option ℕ) (saved : Saved) (guest : Option Guest) → off_by guest ≡ false
+    → off_by (retold path number saved guest) ≡ false
+retold_on (Some path) (Some k) saved (Some g) on = raised_off g.board k ∙ on
+retold_on (Some path) (Some k) saved None on = on
+retold_on (Some path) None saved guest on = on
+retold_on None number saved guest on = on
+
+halted_on : (paused : Bool) (guest : Option Guest) → off_by guest ≡ false → off_by (halted paused guest) ≡ false
+halted_on true guest on = on
+halted_on false None on = on
+halted_on false (Some g) on = on
+
+started_on : (image disk : Option (List ℕ)) (m : Machine) → On m → On (started_from image disk m)
+started_on None disk m on = on
+started_on (Some image) disk m on = refl
+
+create_on : (guest : Option Guest) (m : Machine) (it : SnapshotCreate) (kept : List Device) (n : Machine) → off_by guest ≡ false → On m
+    → Creates guest m it kept n → On n
+create_on None m it kept n own on x = on_is m n x.1 on
+create_on (Some g) m it kept n own on (copy, of, tells, is) = ap is_off is ∙ own
+
+load_on : (it : Result Snapshot Refusal) (m : Machine) (load : SnapshotLoad) (n : Machine) → On m → Restores it m load n → On n
+load_on (Ok it) m load n on is = ap is_off is
+load_on (Err why) m load n on is = on_is m n is on
+
+store_on : (due : Result Data Refusal) (m n : Machine) → On m → Stores due m n → On n
+store_on (Ok kept) m n on is = ap is_off is ∙ on
+store_on (Err why) m n on is = on_is m n is on
+
+leaves_on : (it : Change) (m n : Machine) → On m → Leaves m it n → On n
+leaves_on (change.BootSource source) m n on is = ap is_off is ∙ on
+leaves_on (change.PutDrive drive) m n on is = ap is_off is ∙ on
+leaves_on (change.PatchDrive patch) m n on is =
+    ap is_off is ∙ retold_on patch.path_on_host (device_of m.config.drives patch.drive_id) m.saved m.guest on
+leaves_on (change.MachineConfig machine) m n on is = ap is_off is ∙ on
+leaves_on change.Start m n on is = ap is_off is ∙ started_on (image_of m) (disk_of m) m on
+leaves_on (change.State Paused) m n on is = ap is_off is ∙ halted_on m.paused m.guest on
+leaves_on (change.State Resumed) m n on is = ap is_off is ∙ on
+leaves_on (change.CreateSnapshot it) m n on (kept, x) = create_on m.guest m it kept n on on x
+leaves_on (change.LoadSnapshot load) m n on x = load_on (found m.saved load.files) m load n on x
+leaves_on (change.PutMetadata body) m n on x = store_on (put body) m n on x
+leaves_on (change.PatchMetadata patch) m n on x = store_on (patched m.metadata patch) m n on x
+leaves_on (change.Tell part) m n on is = on_is m n is on
+
+create_fails_on : (guest : Option Guest) (m : Machine) (it : SnapshotCreate) (left : Left) (n : Machine) → On m → CreateFails guest m it left n → On n
+create_fails_on None m it left n on x = absurd x
+create_fails_on (Some g) m it left n on (copy, of, others, calls, is) = ap is_off is ∙ on
+
+fails_on : (it : Change) (m : Machine) (left : Left) (n : Machine) → On m → Fails m it left n → On n
+fails_on (change.BootSource source) m left n on x = absurd x
+fails_on (change.PutDrive drive) m left n on x = absurd x
+fails_on (change.PatchDrive patch) m left n on x = on_is m n x.3 on
+fails_on (change.MachineConfig machine) m left n on x = absurd x
+fails_on change.Start m left n on x = on_is m n x.1 on
+fails_on (change.State state) m left n on x = absurd x
+fails_on (change.CreateSnapshot it) m left n on x = create_fails_on m.guest m it left n on x
+fails_on (change.LoadSnapshot load) m left n on x = on_is m n x.1 on
+fails_on (change.PutMetadata body) m left n on x = absurd x
+fails_on (change.PatchMetadata patch) m left n on x = absurd x
+fails_on (change.Tell part) m left n on x = absurd x
+
+-- ---- what is answered
+
+result_on : (result : Result Change Refusal) (m : Machine) (kept : List Device) (n : Machine) → On m → LeavesBy m result kept n → On n
+result_on (Ok it) m kept n on x = leaves_on it m n on (leaves_of it m kept n x)
+result_on (Err why) m kept n on x = on_is m n x.1 on
+
+request_on : (how : Outcome) (given : Next) (m : Machine) (said : List Response) (n : Machine) → On m → RequestStep how given m said n → On n
+request_on (Answered kept) given m said n on x = result_on (allowed m given) m kept n on x.1
+request_on (Failed left) given m said n on (it, asks, fails, is) = fails_on it m left n on fails
+request_on NoMemory given m said n on x = on_is m n x.1 on
+
+front_on : (outcomes : List Outcome) (c d : Connection) (m n : Machine) (said : List Response) → On m
+    → ConversationFront RequestStep outcomes c m said d n → On n
+front_on [] c d m n said on (given, after, takes, stays_so, none, is) = on_is m n is on
+front_on (how ∷ outcomes) c d m n said on (given, after, first, mid, rest, takes, step, more, text) =
+    front_on outcomes after d mid n rest (request_on how given m first mid on step) more
+
+pub inside_on : (m n : Machine) → IsInside m n → is_off m ≡ false → is_off n ≡ false
+inside_on m n (inl same) on = on_is m n same on
+inside_on m n (inr (bytes, outcomes, said, c, front)) on = front_on outcomes (arrived m.connection bytes) c m n said on front
