@@ -1,0 +1,10 @@
+use Rattle.device_trace.specs.Script.{Ends}
+use Rattle.queue_cases.specs.Filler.{new_filler}
+use Rattle.queue_cases.proofs.Filler.{owes}
+use Rattle.queue_cases.proofs.law.filler_stays.Goals as goal
+
+pub returns : goal.returns
+returns c port pages limits items left few leads =
+    c.queue_stays.ensures.acts port pages left few owes
+    (c.queue_stays.ensures.leads port pages (Ends (new_filler port pages limits)) left items few owes
+    (c.queue_stays.ensures.begins port pages 2) leads)

@@ -1,0 +1,2 @@
+pub mod Filler
+pub mod Sequences

@@ -1,0 +1,6 @@
+pub mod Acting
+pub mod Changes
+pub mod Confined
+pub mod Lanes
+pub mod Rounds
+pub mod Service
