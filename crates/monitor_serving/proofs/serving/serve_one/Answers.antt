@@ -25,7 +25,7 @@ returns-clause-serves g c =
     (g.N.Conn.known c.args.conn) (g.N.Conn.known one.new.conn) fresh one.new.monitor
     (hosts (known (g.T.Trace.known one.new.trace) (g.K.Sink.known one.new.sink) (host_known g.C.Clock.known g.D.Disk.known one.new.host))
     (g.F.Files.known one.new.files))
-    (g.M.Listener.known c.end.new.self) (c.end.ensures.ended listens) one.result
+    (g.M.Listener.known c.end-2.new.self) (c.end-2.ensures.ended listens) one.result
     (one.ensures.served
     (record { trace = c.add.ensures.called.lasts.still tell.trace; sink = tell.sink; files = tell.files }) fresh.tells)
     one.ensures.cause
