@@ -6,9 +6,9 @@ ghost use Rattle.rate_gate.specs.Gate.{Buckets};
 ghost use Rattle.device_trace.specs.Script.{Ends, Script};
 ghost use Rattle.queue_device.specs.Confined.{IsDeviceAct};
 ghost use Rattle.queue_device.specs.Lanes.{new_lane};
-ghost use Rattle.queue_cases.specs.Filler.{Filler, FillerChange, filler_rules, new_filler, no_call};
-ghost use Rattle.queue_cases.specs.Sequences.{finish, limits_at, no_limits, start, until_its_time, until_reset};
-ghost use Rattle.queue_cases.specs.Sequences.{until_unlimited, used_lane, waiting_lane, with_second};
+ghost use Rattle.filler_device.specs.Filler.{Filler, FillerChange, filler_rules, new_filler, no_call};
+ghost use Rattle.filler_device.specs.Sequences.{finish, limits_at, no_limits, start, until_its_time, until_reset};
+ghost use Rattle.filler_device.specs.Sequences.{until_unlimited, used_lane, waiting_lane, with_second};
 
 use queue_device::{QueueDevice, queue_stays};
 
@@ -17,7 +17,7 @@ pub struct FillerKind {}
 
 impl QueueDevice for FillerKind {
     ghost use Rattle.queue_device.specs.Changes.{setting};
-    ghost use Rattle.queue_cases.specs.Filler.{Filler, FillerChange, filler, limited, no_call};
+    ghost use Rattle.filler_device.specs.Filler.{Filler, FillerChange, filler, limited, no_call};
 
     ghost Data = { Filler };
 

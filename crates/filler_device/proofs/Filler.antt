@@ -14,7 +14,7 @@ use Rattle.queue_device.specs.Confined.{Confines, HasInside, IsAskedBy, IsChain,
 use Rattle.queue_device.specs.Lanes.{Chain}
 use Rattle.queue_device.proofs.Acting.{performing_keeps, keeps_either}
 use Rattle.queue_device.proofs.Changes.{keeps_both, no_cut}
-use Rattle.queue_cases.specs.Filler.{Filler, FillerChange, Limits, filled, filler, limited, no_call, served_by, taken_by}
+use Rattle.filler_device.specs.Filler.{Filler, FillerChange, Limits, filled, filler, limited, no_call, served_by, taken_by}
 
 again : (d e f : Filler) → LeavesRounds filler d e → LeavesRounds filler e f → LeavesRounds filler d f
 again d e f before after = after ∙ before

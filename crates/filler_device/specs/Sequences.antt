@@ -10,7 +10,7 @@ use Rattle.vm_types.specs.declared.reply.Reply.TheVariants.{Bytes, Done, Word}
 use Rattle.device_trace.specs.Traces.{Item, Did, Changed}
 use Rattle.rate_gate.specs.Gate.{Buckets}
 use Rattle.queue_device.specs.Lanes.{Lane, LookDue, new_lane}
-use Rattle.queue_cases.specs.Filler.{Filler, FillerChange, Limits, new_filler}
+use Rattle.filler_device.specs.Filler.{Filler, FillerChange, Limits, new_filler}
 
 -- 64 bytes in 1,000 ns, of which none is left at this moment
 abbrev pub limits_at : ℕ → Buckets

@@ -1,7 +1,7 @@
 use Rattle.device_trace.specs.Script.{Ends}
-use Rattle.queue_cases.specs.Filler.{new_filler}
-use Rattle.queue_cases.proofs.Filler.{owes}
-use Rattle.queue_cases.proofs.law.filler_stays.Goals as goal
+use Rattle.filler_device.specs.Filler.{new_filler}
+use Rattle.filler_device.proofs.Filler.{owes}
+use Rattle.filler_device.proofs.law.filler_stays.Goals as goal
 
 pub returns : goal.returns
 returns c port pages limits items left few leads =
