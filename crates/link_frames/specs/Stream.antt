@@ -50,6 +50,11 @@ pub record IsDropped (seen : List ℕ) : Type 0 where
   pub bytes : seen ≡ frame_bytes frame
   pub length : IsFrameLength (length frame) → ⊥
 
+-- a frame that is given is one by its length
+abbrev pub IsGiven : Fed → Type 0
+IsGiven (fed.Frame frame) = IsFrameLength (length frame.items)
+IsGiven other = Unit {0}
+
 -- what has been seen since the last frame ended, with what is told of it, and what is begun then
 abbrev pub Feeds : Fed → List ℕ → Coming → Type 0
 Feeds fed.More seen new = Stands new seen

@@ -1,7 +1,7 @@
 // What the next bytes of a stream come to, by what of a frame has come before.
 ghost use Rattle.std.specs.Prelude.{◌≡◌, ◌≢◌, ◌≤◌, ◌<◌, ◌+◌, ◌++◌, [], List, ℕ, length, IfOk, MatchOption};
 ghost use Rattle.std.specs.Int.{w32, to_be_bytes};
-ghost use Rattle.link_frames.specs.Stream.{Feeds, IsBegun, Stands, wanted_of};
+ghost use Rattle.link_frames.specs.Stream.{Feeds, IsBegun, IsGiven, Stands, wanted_of};
 ghost use Rattle.link_frames.specs.declared.coming.Coming.TheVariants as coming;
 ghost use Rattle.vm_host.specs.Framing.{IsFrameLength};
 
@@ -28,6 +28,7 @@ pub(crate) fn with_bytes(
     requires begun { IsBegun before }
     requires fits { length bytes.now ≤ wanted_of before }
     ensures begun { IfOk result (λ r. IsBegun r.1) }
+    ensures given { IfOk result (λ r. IsGiven r.0) }
     ensures feeds { IfOk result (λ r. (seen : List ℕ) → Stands before seen → Feeds r.0 (seen ++ bytes.now) r.1) }
 {
     match before {
@@ -44,6 +45,7 @@ pub(crate) fn with_bytes(
 fn with_length(alloc: Global, front: Vec<u8>, bytes: &[u8]) -> Result<(Fed, Coming), AllocError>
     requires { length front.items + length bytes.now ≤ 4 }
     ensures begun { IfOk result (λ r. IsBegun r.1) }
+    ensures given { IfOk result (λ r. IsGiven r.0) }
     ensures feeds { IfOk result (λ r. Feeds r.0 (front.items ++ bytes.now) r.1) }
 {
     let mut front = front;
@@ -67,6 +69,7 @@ fn length_of(bytes: &[u8]) -> Option<u32>
 // Behind a frame's length.
 fn begin(alloc: Global, count: u32) -> (Fed, Coming)
     ensures begun { IsBegun result.1 }
+    ensures given { IsGiven result.0 }
     ensures feeds { Feeds result.0 (to_be_bytes w32 count) result.1 }
 {
     if count == 0 {
@@ -89,6 +92,7 @@ fn with_frame(
     requires frame { IsFrameLength count }
     requires fits { length front.items + length bytes.now ≤ count }
     ensures begun { IfOk result (λ r. IsBegun r.1) }
+    ensures given { IfOk result (λ r. IsGiven r.0) }
     ensures feeds { IfOk result (λ r. Feeds r.0 (to_be_bytes w32 count ++ front.items ++ bytes.now) r.1) }
 {
     let mut front = front;
@@ -110,6 +114,7 @@ fn with_dropped(alloc: Global, count: u32, left: u32, bytes: &[u8]) -> (Fed, Com
     requires dropped { IsBegun (coming.Dropped count left) }
     requires fits { length bytes.now ≤ left }
     ensures begun { IsBegun result.1 }
+    ensures given { IsGiven result.0 }
     ensures feeds { (skipped : List ℕ) → length skipped + left ≡ count →
         Feeds result.0 (to_be_bytes w32 count ++ skipped ++ bytes.now) result.1 }
 {

@@ -1,6 +1,6 @@
 // The frames of a stream, from whatever parts it comes in.
 ghost use Rattle.std.specs.Prelude.{◌≡◌, ◌≤◌, ◌<◌, ◌++◌, [], List, ℕ, length, IfOk};
-ghost use Rattle.link_frames.specs.Stream.{Feeds, IsBegun, IsBegun-prop, Stands, most_wanted, wanted_of};
+ghost use Rattle.link_frames.specs.Stream.{Feeds, IsBegun, IsBegun-prop, IsGiven, Stands, most_wanted, wanted_of};
 
 use crate::coming::{Coming, Fed};
 use crate::parts::{nothing, with_bytes};
@@ -42,7 +42,8 @@ impl FrameReader {
     /// Takes the next bytes of the stream. After an `Err`, which is want of memory, it has lost its place there.
     pub fn feed(&mut self, bytes: &[u8]) -> Result<Fed, AllocError>
         requires { length bytes.now ≤ wanted_of self.old.coming }
-        ensures { IfOk result (λ fed. (begun : List ℕ) → Stands self.old.coming begun →
+        ensures given { IfOk result IsGiven }
+        ensures feeds { IfOk result (λ fed. (begun : List ℕ) → Stands self.old.coming begun →
             Feeds fed (begun ++ bytes.now) self.new.coming) }
     {
         let before = replace(&mut self.coming, nothing(self.alloc));
