@@ -1,9 +1,8 @@
 -- A sink that takes a line.
-use Rattle.std.proofs.Common.{◌≡◌, ◌+◌, inl, inr, ℕ, List, [], ◌++◌, length, take, drop, Result, Ok, Err, take-append-drop, refl, sym, ap, ◌∙◌, append_assoc, arith, length-append}
-use Rattle.std.proofs.Math.Seq.{take-append-add}
-use Rattle.std.proofs.lemmas.List.{append-nil, take-append-le}
+use Rattle.std.proofs.Common.{inl, inr, ℕ, List, [], take, drop, Result, Ok, Err, take-append-drop, refl}
+use Rattle.std.proofs.lemmas.List.{append-nil}
 use Rattle.vm_outside.specs.Known.{Called, SinkKnown}
-use Rattle.vm_outside.specs.Passing.{TakesAll, TakesPart}
+use Rattle.vm_outside.specs.Passing.{TakesAll}
 use Rattle.rebase_cli.specs.Command.{TookLine}
 
 pub took_line : {T E : Type 0} (line : List ℕ) (before now : SinkKnown) (result : Result T E) → TakesAll before.taken now.taken result line

@@ -1,7 +1,7 @@
 -- The words of the command `edit-memory rebase --memory-path BASE --diff-path DIFF`.
 use Rattle.std.specs.Prelude.{ℕ, true, if◌then◌else◌, List, [], ◌∷◌, codes, Option, Some, None, option_and_then}
 use Rattle.std.specs.Str.{bytes_eq}
-use Rattle.clap.specs.Words.{App, Row, Shape, Text, first_of, new_app, with_rule, with_subcommand}
+use Rattle.clap.specs.Words.{App, Row, first_of, new_app, with_rule, with_subcommand}
 use Rattle.command_line.specs.Options.{Given, options_in, value_of}
 use Rattle.command_line.specs.Programs.{option_rule, program_app}
 

@@ -1,4 +1,4 @@
-use Rattle.std.proofs.Common.{◌≡◌, ◌∙◌, ap, sym, subst, map, string_bytes, List}
+use Rattle.std.proofs.Common.{◌∙◌, ap, sym, subst, map, string_bytes, List}
 use Rattle.std.proofs.lemmas.Result.{err_from_is_err_and}
 use Rattle.clap.specs.Words.{App, Text, is_simple_and_free}
 use Rattle.command_line.specs.Programs.{IsRead, IsUsage}
