@@ -17,6 +17,8 @@ use Rattle.rv_rows.specs.declared.memory.LoadKind.{LoadKind}
 use Rattle.rv_rows.specs.declared.register.Register.{Register}
 use Rattle.rv_rows.specs.declared.memory.Width.{Width}
 use Rattle.rv_doing.specs.Accesses.{LoadsAs, StoresAs}
+use Rattle.rv_doing.specs.Does.{does}
+use Rattle.rv_doing.specs.Doing.{Asks}
 use Rattle.rv_doing.specs.Replies.{after_load, after_store, with_result}
 use Rattle.rv_doing.proofs.Placing.{placed_result}
 use Rattle.rv_doing.proofs.Widths.{loads_low}
@@ -151,11 +153,11 @@ pub burst_goes : (pages mid later : List PageValue) (first : Hart) (actor : Acto
     → s ≡ record r { x = s.x }
     → ((count : ℕ) (board : Board) (ports : List PortState)
     → Goes mid board ports (fresh (placed pc count Turn.Fetch r)) actor (1 + accesses_in given) later board ports
-    (fresh (after_jump (next_after pc given) (placed pc count Turn.Fetch s))))
-    → Bursts pages first actor (done + 1 + (accesses + accesses_in ended)) later (fresh (counted (done + 1) (next_after pc ended) s))
+    (fresh (after_jump (next_after given) (placed pc count Turn.Fetch s))))
+    → Bursts pages first actor (done + 1 + (accesses + accesses_in ended)) later (fresh (counted (done + 1) (next_after ended) s))
 burst_goes pages mid later first actor done accesses pc given ended r s same gone below turn kept goes =
     let more : ℕ = accesses_in given in
-    let next : ℕ = next_after pc given in
+    let next : ℕ = next_after given in
     let count : s.count ≡ r.count = ap (λ (t : Regs). t.count) kept in
     let fetch : s.turn ≡ Turn.Fetch = ap (λ (t : Regs). t.turn) kept ∙ turn in
     let under : done < s.count = omega (arith, below, count) in
@@ -165,7 +167,7 @@ burst_goes pages mid later first actor done accesses pc given ended r s same gon
     ∙ ap (after_jump next) (sym (counted_placed done pc s under fetch))
     ∙ counted_jump done pc next s under in
     let sum : done + accesses + (1 + more) ≡ done + 1 + (accesses + more) = omega arith in
-    subst (λ (e : Ended). Bursts pages first actor (done + 1 + (accesses + accesses_in e)) later (fresh (counted (done + 1) (next_after pc e) s))) same
+    subst (λ (e : Ended). Bursts pages first actor (done + 1 + (accesses + accesses_in e)) later (fresh (counted (done + 1) (next_after e) s))) same
     (subst (λ (n : ℕ). Bursts pages first actor n later (fresh (counted (done + 1) next s))) sum
     (burst_more pages mid later first (fresh (counted done pc r)) (fresh (counted (done + 1) next s)) actor (done + accesses) (1 + more) gone
     (λ board ports.
@@ -214,20 +216,19 @@ module _ (pages : List PageValue) (board : Board) (ports : List PortState) (k pc
             (sym (plain_next (fresh at) word (after_jump next (placed pc count Turn.Fetch s)) small fetching far (leads count Turn.Fetch))),
       )
 
-  pub load_goes : (kind : LoadKind) (a value : ℕ) → LoadsAs kind word → a ≡ reg r (rs1_field word)
-      → Loads pages kind (address_sum a (i_immediate word)) value
+  pub load_made : (kind : LoadKind) (rd : Register) (address value : ℕ)
+      → does word at ≡ Asks (op.Read address (load_bytes kind)) (λ reply. after_load kind rd address reply at)
+      → Loads pages kind address value
       → Goes pages board ports (fresh at) (ActorId.Hart k) 2 pages board ports
-      (fresh (after_jump ((pc + 4) % 2 ^ 64) (placed pc count Turn.Fetch (with_reg r (rd_field word) value))))
-  load_goes kind a value shown first loads =
-      let address : ℕ = address_sum a (i_immediate word) in
-      let end : Regs = after_jump ((pc + 4) % 2 ^ 64) (placed pc count Turn.Fetch (with_reg r (rd_field word) value)) in
+      (fresh (after_jump ((pc + 4) % 2 ^ 64) (placed pc count Turn.Fetch (with_reg r rd value))))
+  load_made kind rd address value asks loads =
+      let end : Regs = after_jump ((pc + 4) % 2 ^ 64) (placed pc count Turn.Fetch (with_reg r rd value)) in
       let asked : Op = op.Read address (load_bytes kind) in
-      let ends : Reply → Regs = λ reply. after_load kind (rd_field word) address reply at in
+      let ends : Reply → Regs = λ reply. after_load kind rd address reply at in
       let reply : Reply = Bytes (bytes_of (load_bytes kind) loads.word) in
-      let asks = shown at a first loads.aligned in
       let put : ends reply ≡ end =
-      ap (λ (n : ℕ). with_result (rd_field word) n at) (loads_low kind loads.word loads.fits ∙ sym loads.loaded)
-      ∙ placed_result (rd_field word) value pc count Turn.Fetch r in
+      ap (λ (n : ℕ). with_result rd n at) (loads_low kind loads.word loads.fits ∙ sym loads.loaded)
+      ∙ placed_result rd value pc count Turn.Fetch r in
       inr (
         refl,
         mid,
@@ -237,16 +238,21 @@ module _ (pages : List PageValue) (board : Board) (ports : List PortState) (k pc
             (sym (access_ended (fresh at) word asked ends small fetching far asks reply (load_fits kind address loads.word) refl ∙ ap fresh put)),
       )
 
-  pub store_goes : (width : Width) (a b : ℕ) (later : List PageValue) → StoresAs width word → a ≡ reg r (rs1_field word)
-      → b ≡ reg r (rs2_field word) → b < 2 ^ 64
-      → Stores pages (ActorId.Hart k) width (address_sum a (s_immediate word)) b later
+  pub load_goes : (kind : LoadKind) (a value : ℕ) → LoadsAs kind word → a ≡ reg r (rs1_field word)
+      → Loads pages kind (address_sum a (i_immediate word)) value
+      → Goes pages board ports (fresh at) (ActorId.Hart k) 2 pages board ports
+      (fresh (after_jump ((pc + 4) % 2 ^ 64) (placed pc count Turn.Fetch (with_reg r (rd_field word) value))))
+  load_goes kind a value shown first loads =
+      load_made kind (rd_field word) (address_sum a (i_immediate word)) value (shown at a first loads.aligned) loads
+
+  pub store_made : (width : Width) (address b : ℕ) (later : List PageValue)
+      → does word at ≡ Asks (write_of width address b) (λ reply. after_store address reply at)
+      → Stores pages (ActorId.Hart k) width address b later
       → Goes pages board ports (fresh at) (ActorId.Hart k) 2 later board ports
       (fresh (after_jump ((pc + 4) % 2 ^ 64) (placed pc count Turn.Fetch r)))
-  store_goes width a b later shown first second fits stores =
-      let address : ℕ = address_sum a (s_immediate word) in
+  store_made width address b later asks stores =
       let asked : Op = write_of width address b in
       let ends : Reply → Regs = λ reply. after_store address reply at in
-      let asks = shown at a b first second fits stores.aligned in
       inr (
         refl,
         mid,
@@ -255,6 +261,14 @@ module _ (pages : List PageValue) (board : Board) (ports : List PortState) (k pc
             (access_wanted (fresh at) word asked ends small fetching far asks) stores.ram stores.reply stores.memory stores.marks
             stores.count (sym (access_ended (fresh at) word asked ends small fetching far asks Done refl refl)),
       )
+
+  pub store_goes : (width : Width) (a b : ℕ) (later : List PageValue) → StoresAs width word → a ≡ reg r (rs1_field word)
+      → b ≡ reg r (rs2_field word) → b < 2 ^ 64
+      → Stores pages (ActorId.Hart k) width (address_sum a (s_immediate word)) b later
+      → Goes pages board ports (fresh at) (ActorId.Hart k) 2 later board ports
+      (fresh (after_jump ((pc + 4) % 2 ^ 64) (placed pc count Turn.Fetch r)))
+  store_goes width a b later shown first second fits stores =
+      store_made width (address_sum a (s_immediate word)) b later (shown at a b first second fits stores.aligned) stores
 
 -- the register is the one that is put
 pub load_ends : (pages : List PageValue) (board : Board) (ports : List PortState) (k pc count word : ℕ) (r s : Regs) (rd : Register)

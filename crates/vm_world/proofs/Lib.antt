@@ -3,3 +3,4 @@ pub mod Events
 mod Listed
 pub mod Running
 pub mod Bursting
+pub mod Operations

@@ -7,12 +7,15 @@ use Rattle.guest_memory.specs.Ram.{ram_start}
 use Rattle.guest_pages.specs.Marks.{marks_after}
 use Rattle.guest_pages.specs.Pages.{PageValue, flat_of, marks_of}
 use Rattle.guest_pages.specs.Words.{place_among, read_of, read_reply, served, write_of, write_reply}
-use Rattle.hart_trace.specs.States.{Hart}
+use Rattle.hart_trace.specs.States.{Hart, fresh}
+use Rattle.rv_doing.specs.Plain.{placed}
 use Rattle.rv_rows.specs.declared.memory.LoadKind.{LoadKind}
 use Rattle.rv_rows.specs.declared.memory.Width.{Width}
+use Rattle.rv_rows.specs.declared.memory.Width.TheVariants.{Word}
 use Rattle.rv_rows.specs.Loads.{load_bytes, load_value, load_width, width_bytes}
 use Rattle.rv_supervisor.specs.declared.regs.Regs.{Regs}
 use Rattle.rv_supervisor.specs.declared.regs.Turn.TheVariants as Turn
+use Rattle.rv_supervisor.specs.Ends.{after_jump}
 use Rattle.vm_world.specs.Answering.{Goes}
 use Rattle.vm_world.specs.declared.burst.Ended.{Ended}
 use Rattle.vm_world.specs.declared.burst.Ended.TheVariants.{Accessed, Went}
@@ -41,11 +44,22 @@ counted made pc r =
 -- how many accesses an instruction made that ended so, and where the next one is
 abbrev pub accesses_in : Ended → ℕ
 accesses_in (Went next) = 0
-accesses_in Accessed = 1
+accesses_in (Accessed next) = 1
 
-abbrev pub next_after : ℕ → Ended → ℕ
-next_after pc (Went next) = next
-next_after pc Accessed = (pc + 4) % 2 ^ 64
+abbrev pub next_after : Ended → ℕ
+next_after (Went next) = next
+next_after (Accessed next) = next
+
+-- pages have this word at this address
+abbrev pub HaveWord : List PageValue → ℕ → ℕ → Type 0
+HaveWord pages pc word = (actor : ActorId) → read_reply Word (Some word) ≡ (served pages actor (read_of Word pc)).0
+
+-- the hart with these registers at this pc makes an instruction that ends so, however many are left to its next look
+abbrev pub EndsSo : List PageValue → ℕ → Regs → ActorId → Ended → List PageValue → Regs → Type 0
+EndsSo pages pc r actor ended later s =
+    (count : ℕ) (board : Board) (ports : List PortState)
+    → Goes pages board ports (fresh (placed pc count Turn.Fetch r)) actor (1 + accesses_in ended) later board ports
+    (fresh (after_jump (next_after ended) (placed pc count Turn.Fetch s)))
 
 -- a load of this kind is aligned, and reads this value in RAM
 pub record Loads (pages : List PageValue) (kind : LoadKind) (at value : ℕ) : Type 0 where

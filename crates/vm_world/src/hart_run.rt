@@ -15,6 +15,7 @@ ghost use Rattle.vm_world.specs.Answering.{Advances, Goes, IsAnswered, is_low};
 ghost use Rattle.vm_world.specs.Worlds.{Runs, world_with};
 
 use crate::burst::run_burst;
+use decoded_words::DecodedWords;
 use flat_guest::{Layout, place};
 use guest_memory::{PAGE_SIZE, RAM_START};
 use guest_pages::PageSet;
@@ -159,13 +160,14 @@ fn advance(
 }
 
 /// Events of the hart of this number, and how many there were. Whatever the timer, the other harts and the devices are, they
-/// stay.
+/// stay. Words that are kept decoded change nothing but how long it takes.
 #[inline(never)]
 pub fn run_hart(
     pages: &mut PageSet,
     board: &mut Board,
     ports: &mut Vec<Port>,
     hart: &mut Hart,
+    words: &mut DecodedWords,
     number: u8,
     count: u64,
 ) -> u64
@@ -183,7 +185,7 @@ pub fn run_hart(
         return made;
     }
     while made < count {
-        made += run_burst(pages, hart, number, count - made);
+        made += run_burst(pages, hart, words, number, count - made);
         if made < count {
             advance(pages, board, ports, hart, number);
             made += 1;

@@ -32,6 +32,7 @@ use crate::memory::read_pages;
 use crate::step_error::{NoActor, NotRam, StepError, refusal_of};
 pub use crate::world::parting::WorldParts;
 use boot_loader::{BootError, Booted, Loads, boot};
+use decoded_words::DecodedWords;
 use flat_guest::{Layout, place};
 use guest_devices::{Device, NewDrive, give_device, want_of_device};
 use guest_memory::PAGE_SIZE;
@@ -48,7 +49,7 @@ use vm_types::{Actor, ActorId, Entry, GuestAddr, Op, Place, PlaceId, Reply};
 ///
 /// Contracts see its parts, the pages as the list of their values, and of a device what it has still to do. The guests of
 /// the flat machine that it is are those of `IsWorld`: one memory, which the pages are together, the board, the ports, and
-/// for each actor the steps that lead to it.
+/// for each actor the steps that lead to it. The words that are kept decoded for its harts are no part of what it is.
 #[derive(Drop)]
 pub struct World {
     pages: PageSet,
@@ -57,6 +58,7 @@ pub struct World {
     timer: Timer,
     harts: Vec<Hart>,
     devices: Vec<Device>,
+    words: DecodedWords,
 }
 
 impl Model for World {
@@ -135,6 +137,7 @@ impl World {
             timer: Timer::new(),
             harts,
             devices,
+            words: DecodedWords::new(),
         }
     }
 
@@ -353,6 +356,7 @@ impl World {
             &mut self.board,
             &mut self.ports,
             &mut self.harts[at],
+            &mut self.words,
             number,
             count,
         )

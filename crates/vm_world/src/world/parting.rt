@@ -5,6 +5,7 @@ ghost use Rattle.timer_trace.specs.States.{new_timer};
 ghost use Rattle.vm_world.specs.Worlds.{world_with};
 
 use super::World;
+use decoded_words::DecodedWords;
 use guest_devices::Device;
 use guest_pages::{Page, PageSet};
 use hart_rv64::Hart;
@@ -61,6 +62,7 @@ impl World {
             timer: parts.timer,
             harts: parts.harts,
             devices: parts.devices,
+            words: DecodedWords::new(),
         }
     }
 }

@@ -17,14 +17,14 @@ returns-in_ok-value-in-3-clause-goes c = λ count board ports.
     (subst (λ (n : ℕ). Loads c.args.pages.now c.in_ok-kind-in-3.kind (address_sum c.get-a.result n) c.in_ok-value-in-3.value)
     c.i_immediate.ensures c.in_ok-value-in-3.ensures))
 
-pub returns-then-store-clause-goes : goal.returns-then-store-clause-goes
-returns-then-store-clause-goes c = λ count board ports.
+pub returns-then-store_as-clause-goes : goal.returns-then-store_as-clause-goes
+returns-then-store_as-clause-goes c = λ count board ports.
     store_goes c.args.pages.now board ports c.args.number c.args.pc count c.args.word c.args.regs.now c.ranges.word.fits c.requires.ram
-    c.requires.read c.in_ok-width-in-35.width c.get-a.result c.get-b.result c.store.new.pages c.in_ok-width-in-35.ensures
+    c.requires.read c.in_ok-width-in-35.width c.get-a.result c.get-b.result c.store_as.new.pages c.in_ok-width-in-35.ensures
     (c.get-a.ensures ∙ ap (λ (s : Register). reg c.args.regs.now s) c.rs1.ensures)
     (c.get-b.ensures ∙ ap (λ (s : Register). reg c.args.regs.now s) c.rs2.ensures) c.get-b.type_inv
-    (subst (λ (n : ℕ). Stores c.args.pages.now (ActorId.Hart c.args.number) c.in_ok-width-in-35.width (address_sum c.get-a.result n) c.get-b.result c.store.new.pages)
-    c.s_immediate.ensures (c.store.ensures.made c.if-store.true))
+    (subst (λ (n : ℕ). Stores c.args.pages.now (ActorId.Hart c.args.number) c.in_ok-width-in-35.width (address_sum c.get-a.result n) c.get-b.result c.store_as.new.pages)
+    c.s_immediate.ensures (c.store_as.ensures.made c.if-store_as.true))
 
 pub returns-in_ok-plain_at-in_default-clause-goes : goal.returns-in_ok-plain_at-in_default-clause-goes
 returns-in_ok-plain_at-in_default-clause-goes c = λ count board ports.

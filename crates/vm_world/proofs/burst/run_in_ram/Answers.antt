@@ -14,15 +14,15 @@ loop-done-preserved-in-Went c =
     record {
       within = omega (arith, c.loop-done-test.true);
       few = omega (arith, c.loop-done.invariant.few);
-      kept = c.go_on.ensures.kept ∙ ap (λ (t : Regs). record t { x = c.go_on.new.regs.x }) c.loop-done.invariant.kept;
-      code = subst (λ (n : ℕ). IsCode c.fetch.new.code n) (sym c.go_on.ensures.count) c.fetch.ensures.code;
-      gone = subst (λ (n : ℕ). Bursts c.args.pages.now (fresh c.args.regs.now) (ActorId.Hart c.args.number) (c.loop-done.done + 1 + n) c.go_on.new.pages
-          (fresh (counted (c.loop-done.done + 1) c.in-Went.next c.go_on.new.regs))) (omega arith)
-          (burst_goes c.args.pages.now c.loop-done.pages c.go_on.new.pages (fresh c.args.regs.now) (ActorId.Hart c.args.number)
-          c.loop-done.done c.loop-done.accesses c.loop-done.pc c.in-Some-go_on.ended (Went c.in-Went.next) c.loop-done.regs c.go_on.new.regs
+      kept = c.step.ensures.kept ∙ ap (λ (t : Regs). record t { x = c.step.new.regs.x }) c.loop-done.invariant.kept;
+      code = subst (λ (n : ℕ). IsCode c.fetch.new.code n) (sym c.step.ensures.count) c.fetch.ensures.code;
+      gone = subst (λ (n : ℕ). Bursts c.args.pages.now (fresh c.args.regs.now) (ActorId.Hart c.args.number) (c.loop-done.done + 1 + n) c.step.new.pages
+          (fresh (counted (c.loop-done.done + 1) c.in-Went.next c.step.new.regs))) (omega arith)
+          (burst_goes c.args.pages.now c.loop-done.pages c.step.new.pages (fresh c.args.regs.now) (ActorId.Hart c.args.number)
+          c.loop-done.done c.loop-done.accesses c.loop-done.pc c.in-Some-step.ended (Went c.in-Went.next) c.loop-done.regs c.step.new.regs
           c.in-Went.is c.loop-done.invariant.gone (omega (arith, c.loop-done-test.true, c.requires.before_look, count))
-          (ap (λ (t : Regs). t.turn) c.loop-done.invariant.kept ∙ c.requires.fetching) c.go_on.ensures.kept c.in-Some-go_on.ensures.goes);
-      many = c.go_on.ensures.count ∙ c.loop-done.invariant.many;
+          (ap (λ (t : Regs). t.turn) c.loop-done.invariant.kept ∙ c.requires.fetching) c.step.ensures.kept c.in-Some-step.ensures.goes);
+      many = c.step.ensures.count ∙ c.loop-done.invariant.many;
     }
 
 pub loop-done-preserved : goal.loop-done-preserved
@@ -31,11 +31,11 @@ loop-done-preserved c =
     record {
       within = omega (arith, c.loop-done-test.true);
       few = omega (arith, c.loop-done.invariant.few);
-      kept = c.go_on.ensures.kept ∙ ap (λ (t : Regs). record t { x = c.go_on.new.regs.x }) c.loop-done.invariant.kept;
-      code = subst (λ (n : ℕ). IsCode c.fetch.new.code n) (sym c.go_on.ensures.count) c.fetch.ensures.code;
-      gone = (burst_goes c.args.pages.now c.loop-done.pages c.go_on.new.pages (fresh c.args.regs.now) (ActorId.Hart c.args.number)
-          c.loop-done.done c.loop-done.accesses c.loop-done.pc c.in-Some-go_on.ended Accessed c.loop-done.regs c.go_on.new.regs
+      kept = c.step.ensures.kept ∙ ap (λ (t : Regs). record t { x = c.step.new.regs.x }) c.loop-done.invariant.kept;
+      code = subst (λ (n : ℕ). IsCode c.fetch.new.code n) (sym c.step.ensures.count) c.fetch.ensures.code;
+      gone = (burst_goes c.args.pages.now c.loop-done.pages c.step.new.pages (fresh c.args.regs.now) (ActorId.Hart c.args.number)
+          c.loop-done.done c.loop-done.accesses c.loop-done.pc c.in-Some-step.ended (Accessed c.in-Accessed.next) c.loop-done.regs c.step.new.regs
           c.in-Accessed.is c.loop-done.invariant.gone (omega (arith, c.loop-done-test.true, c.requires.before_look, count))
-          (ap (λ (t : Regs). t.turn) c.loop-done.invariant.kept ∙ c.requires.fetching) c.go_on.ensures.kept c.in-Some-go_on.ensures.goes);
-      many = c.go_on.ensures.count ∙ c.loop-done.invariant.many;
+          (ap (λ (t : Regs). t.turn) c.loop-done.invariant.kept ∙ c.requires.fetching) c.step.ensures.kept c.in-Some-step.ensures.goes);
+      many = c.step.ensures.count ∙ c.loop-done.invariant.many;
     }
