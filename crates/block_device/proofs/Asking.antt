@@ -9,9 +9,9 @@ use Rattle.device_trace.specs.Acts.{IsOwnAct, AsksOnly, is_disk_call}
 use Rattle.device_trace.specs.Doing.{Doing, and_then}
 use Rattle.device_trace.specs.Keeps.{Keeps}
 use Rattle.device_trace.specs.Script.{Script, Ends, perform}
-use Rattle.device_trace.specs.Traces.{Item}
+use Rattle.device_trace.specs.Traces.{Item, setting}
 use Rattle.device_trace.specs.States.{wants, stepped, changed_at, Leads, LeadsTo}
-use Rattle.device_trace.proofs.Leading.{wants_keeps, step_keeps, change_keeps, leads_keep}
+use Rattle.device_trace.proofs.Leading.{wants_keeps, step_keeps, change_keeps, leads_keep, no_cut}
 use Rattle.device_trace.proofs.Keeping.{keeps_if, keeps_then, stays_if, stays_perform}
 use Rattle.le_fields.specs.Fields.{field_at}
 use Rattle.vq_split.specs.declared.queue.Part.{Part}
@@ -192,18 +192,22 @@ module _ (port : ℕ) where
   leaves (Sectors n) d = refl
 
   pub wants_own : (t : Script BlockData) → BlockAsks port t → IsBlockAct port (wants block_rules t)
-  wants_own = wants_keeps begins changed (IsBlockAct port) (IsAtPort port) LeavesPort same_port port_on (tt, tt) opens still leaves
+  wants_own = wants_keeps begins (setting changed) (IsBlockAct port) (IsAtPort port) LeavesPort same_port port_on (tt, tt) opens still leaves
+      (no_cut changed)
 
   pub step_asks : (t : Script BlockData) (reply : Reply) → BlockAsks port t → Fits (wants block_rules t) reply
       → BlockAsks port (stepped block_rules t reply)
-  step_asks = step_keeps begins changed (IsBlockAct port) (IsAtPort port) LeavesPort same_port port_on (tt, tt) opens still leaves
+  step_asks = step_keeps begins (setting changed) (IsBlockAct port) (IsAtPort port) LeavesPort same_port port_on (tt, tt) opens still leaves
+      (no_cut changed)
 
   pub change_asks : (t : Script BlockData) (c : Change) → BlockAsks port t → BlockAsks port (changed_at block_rules c t)
-  change_asks = change_keeps begins changed (IsBlockAct port) (IsAtPort port) LeavesPort same_port port_on (tt, tt) opens still leaves
+  change_asks = change_keeps begins (setting changed) (IsBlockAct port) (IsAtPort port) LeavesPort same_port port_on (tt, tt) opens still leaves
+      (no_cut changed)
 
   pub leads_ask : (t : Script BlockData) (items : List (Item Change)) (left : Script BlockData) → BlockAsks port t
       → Leads block_rules t items left → BlockAsks port left
-  leads_ask = leads_keep begins changed (IsBlockAct port) (IsAtPort port) LeavesPort same_port port_on (tt, tt) opens still leaves
+  leads_ask = leads_keep begins (setting changed) (IsBlockAct port) (IsAtPort port) LeavesPort same_port port_on (tt, tt) opens still leaves
+      (no_cut changed)
 
 pub asks : (start : BlockData) (items : List (Item Change)) (left : Script BlockData)
     → LeadsTo block_rules start items left → IsBlockAct start.port (wants block_rules left)

@@ -7,9 +7,9 @@ use Rattle.vm_types.specs.Fits.{Fits}
 use Rattle.device_trace.specs.Doing.{Doing}
 use Rattle.device_trace.specs.Keeps.{Keeps}
 use Rattle.device_trace.specs.Script.{Script, Ends, Asks, perform}
-use Rattle.device_trace.specs.Traces.{Item}
+use Rattle.device_trace.specs.Traces.{Item, setting}
 use Rattle.device_trace.specs.States.{wants, stepped, changed_at, Leads, LeadsTo}
-use Rattle.device_trace.proofs.Leading.{wants_keeps, step_keeps, change_keeps, leads_keep}
+use Rattle.device_trace.proofs.Leading.{wants_keeps, step_keeps, change_keeps, leads_keep, no_cut}
 use Rattle.device_trace.proofs.Keeping.{keeps_if, keeps_then, stays_if, stays_perform}
 use Rattle.le_fields.specs.Fields.{field_at}
 use Rattle.vq_split.specs.declared.queue.Queue.{Queue}
@@ -214,18 +214,22 @@ module _ (pages : ℕ) (few : pages < 2 ^ 32) where
   leaves (Sectors n) d = refl
 
   inside_on : (t : Script BlockData) → BlockStays pages t → IsInside pages (wants block_rules t)
-  inside_on = wants_keeps begins changed (IsInside pages) (IsOfPages pages) LeavesQueue same_queue queue_on tt opens still leaves
+  inside_on = wants_keeps begins (setting changed) (IsInside pages) (IsOfPages pages) LeavesQueue same_queue queue_on tt opens still leaves
+      (no_cut changed)
 
   step_on : (t : Script BlockData) (reply : Reply) → BlockStays pages t → Fits (wants block_rules t) reply
       → BlockStays pages (stepped block_rules t reply)
-  step_on = step_keeps begins changed (IsInside pages) (IsOfPages pages) LeavesQueue same_queue queue_on tt opens still leaves
+  step_on = step_keeps begins (setting changed) (IsInside pages) (IsOfPages pages) LeavesQueue same_queue queue_on tt opens still leaves
+      (no_cut changed)
 
   change_on : (t : Script BlockData) (c : Change) → BlockStays pages t → BlockStays pages (changed_at block_rules c t)
-  change_on = change_keeps begins changed (IsInside pages) (IsOfPages pages) LeavesQueue same_queue queue_on tt opens still leaves
+  change_on = change_keeps begins (setting changed) (IsInside pages) (IsOfPages pages) LeavesQueue same_queue queue_on tt opens still leaves
+      (no_cut changed)
 
   leads_on : (t : Script BlockData) (items : List (Item Change)) (left : Script BlockData) → BlockStays pages t
       → Leads block_rules t items left → BlockStays pages left
-  leads_on = leads_keep begins changed (IsInside pages) (IsOfPages pages) LeavesQueue same_queue queue_on tt opens still leaves
+  leads_on = leads_keep begins (setting changed) (IsInside pages) (IsOfPages pages) LeavesQueue same_queue queue_on tt opens still leaves
+      (no_cut changed)
 
 pub wants_inside : (pages : ℕ) (t : Script BlockData) → pages < 2 ^ 32 → BlockStays pages t
     → IsInside pages (wants block_rules t)

@@ -2,7 +2,7 @@
 use Rattle.std.proofs.Common.{◌≡◌, sym, subst, Bool, true, false, if◌then◌else◌}
 use Rattle.vm_types.specs.declared.op.Op.{Op}
 use Rattle.device_trace.specs.Doing.{Doing, Gives, Wants, and_then}
-use Rattle.device_trace.specs.Script.{Script, Ends, Asks, perform}
+use Rattle.device_trace.specs.Script.{Script, perform}
 use Rattle.device_trace.specs.Keeps.{Keeps, Stays}
 
 pub keeps_if : {A : Type 0} (P : Op → Type 0) (Q : A → Type 0) (test t : Bool) (x w : Doing A) → test ≡ t
@@ -15,6 +15,13 @@ pub keeps_then : {A B : Type 0} (P : Op → Type 0) (Q : A → Type 0) (R : B �
 keeps_then P Q R (Gives a) more keeps on = on a keeps
 keeps_then P Q R (Wants op next) more keeps on =
     (keeps.0, λ reply fit. keeps_then P Q R (next reply) more (keeps.1 reply fit) on)
+
+-- what two tell of the same tree is told together
+pub keeps_both : {A : Type 0} (P O : Op → Type 0) (Q R : A → Type 0) (t : Doing A) → Keeps P Q t → Keeps O R t
+    → Keeps (λ op. P op × O op) (λ a. Q a × R a) t
+keeps_both P O Q R (Gives a) one two = (one, two)
+keeps_both P O Q R (Wants op on) one two =
+    ((one.0, two.0), λ reply fit. keeps_both P O Q R (on reply) (one.1 reply fit) (two.1 reply fit))
 
 module _ {D : Type 0} (P : Op → Type 0) (R : D → Type 0) (S : D → D → Type 0) where
   pub stays_if : (test t : Bool) (x w : Script D) → test ≡ t → (test ≡ true → Stays P R S x)

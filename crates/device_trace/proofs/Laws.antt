@@ -6,9 +6,8 @@ use Rattle.vm_types.specs.declared.reply.Reply.{Reply}
 use Rattle.vm_types.specs.declared.entry.Step.{Step}
 use Rattle.vm_types.specs.Fits.{Fits}
 use Rattle.device_trace.specs.Script.{Script, Ends, Asks}
-use Rattle.device_trace.specs.Traces.{Rules, Item, Did, Changed, Completes, Group, Lead, joined}
+use Rattle.device_trace.specs.Traces.{Rules, Item, Did, Changed, Completes, Group, Lead, Trace, joined}
 use Rattle.device_trace.specs.States.{wants, stepped, changed_at, Leads}
-use Rattle.device_trace.proofs.Rest.{Rest}
 use Rattle.device_trace.proofs.Fitting.{some_fit}
 
 fits_of : (a b : Op) (reply : Reply) → a ≡ b → Fits b reply → Fits a reply
@@ -18,8 +17,8 @@ module _ {D C : Type 0} (rules : Rules D C) where
   abbrev pub Headed : Script D → List (Item C) → D → Type 0
   Headed t [] end = Unit {0}
   Headed t (Did s ∷ items) end = (s.op ≡ wants rules t) × Fits s.op s.reply
-      × Rest rules (stepped rules t s.reply) items end
-  Headed t (Changed c ∷ items) end = Rest rules (changed_at rules c t) items end
+      × Trace rules (stepped rules t s.reply) items end
+  Headed t (Changed c ∷ items) end = Trace rules (changed_at rules c t) items end
 
   group_head : (d : D) (g : List (Item C)) (groups : List (List (Item C))) (after end : D) → Group rules d g after
       → Lead rules after groups end → Headed (Ends d) (g ++ joined groups) end
@@ -44,32 +43,32 @@ module _ {D C : Type 0} (rules : Rules D C) where
       (subst (λ q. Lead rules q groups end) (sym acts) lead)
   parts_head (Ends d) (i ∷ items) groups after end acts lead = absurd acts
 
-  pub headed : (t : Script D) (items : List (Item C)) (end : D) → Rest rules t items end → Headed t items end
+  pub headed : (t : Script D) (items : List (Item C)) (end : D) → Trace rules t items end → Headed t items end
   headed t items end r = subst (λ xs. Headed t xs end) r.5 (parts_head t r.0 r.1 r.2 end r.3 r.4)
 
   -- and back: a step of the wanted op with a fitting reply goes before what may come after the reply
   pub unheaded : (t : Script D) (s : Step) (items : List (Item C)) (end : D) → s.op ≡ wants rules t
-      → Fits s.op s.reply → Rest rules (stepped rules t s.reply) items end → Rest rules t (Did s ∷ items) end
+      → Fits s.op s.reply → Trace rules (stepped rules t s.reply) items end → Trace rules t (Did s ∷ items) end
   unheaded (Asks d op on) s items end is fits r =
       (Did s ∷ r.0, r.1, r.2, (is, fits_of op s.op s.reply (sym is) fits, r.3), r.4, ap (λ xs. Did s ∷ xs) r.5)
   unheaded (Ends d) s items end is fits r =
       ([], (Did s ∷ r.0) ∷ r.1, d, refl, (r.2, (is, fits, r.3), r.4), ap (λ xs. Did s ∷ xs) r.5)
 
   change_first : (d : D) (c : C) (first : List (Item C)) (groups : List (List (Item C))) (after end : D)
-      (items : List (Item C)) → Completes rules (Ends (rules.changed c d)) first after → Lead rules after groups end
-      → first ++ joined groups ≡ items → Rest rules (Ends d) (Changed c ∷ items) end
+      (items : List (Item C)) → Completes rules (Ends (rules.changing.between c d)) first after → Lead rules after groups end
+      → first ++ joined groups ≡ items → Trace rules (Ends d) (Changed c ∷ items) end
   change_first d c [] groups after end items acts lead is =
       ([], (Changed c ∷ []) ∷ groups, d, refl, (after, acts, lead), ap (λ xs. Changed c ∷ xs) is)
   change_first d c (i ∷ first) groups after end items acts lead is = absurd acts
 
   pub unchanged : (t : Script D) (c : C) (items : List (Item C)) (end : D)
-      → Rest rules (changed_at rules c t) items end → Rest rules t (Changed c ∷ items) end
+      → Trace rules (changed_at rules c t) items end → Trace rules t (Changed c ∷ items) end
   unchanged (Asks d op on) c items end r =
       (Changed c ∷ r.0, r.1, r.2, r.3, r.4, ap (λ xs. Changed c ∷ xs) r.5)
   unchanged (Ends d) c items end r = change_first d c r.0 r.1 r.2 end items r.3 r.4 r.5
 
   -- what is begun can end
-  pub some_rest : (t : Script D) → (items : List (Item C)) × (end : D) × Rest rules t items end
+  pub some_rest : (t : Script D) → (items : List (Item C)) × (end : D) × Trace rules t items end
   some_rest (Ends d) = ([], d, ([], [], d, refl, refl, refl))
   some_rest (Asks d op on) =
       let fit = some_fit op in
@@ -79,16 +78,16 @@ module _ {D C : Type 0} (rules : Rules D C) where
 
   -- what may come behind where the items lead may come behind the items
   pub leads_rest : (t : Script D) (items : List (Item C)) (u : Script D) (more : List (Item C)) (end : D)
-      → Leads rules t items u → Rest rules u more end → Rest rules t (items ++ more) end
-  leads_rest t [] u more end l r = subst (λ x. Rest rules x more end) (sym l) r
+      → Leads rules t items u → Trace rules u more end → Trace rules t (items ++ more) end
+  leads_rest t [] u more end l r = subst (λ x. Trace rules x more end) (sym l) r
   leads_rest t (Did s ∷ items) u more end l r =
       unheaded t s (items ++ more) end l.0 l.1 (leads_rest (stepped rules t s.reply) items u more end l.2 r)
   leads_rest t (Changed c ∷ items) u more end l r =
       unchanged t c (items ++ more) end (leads_rest (changed_at rules c t) items u more end l r)
 
   -- items that may come lead somewhere, and what is behind them may come there
-  pub rest_leads : (t : Script D) (items more : List (Item C)) (end : D) → Rest rules t (items ++ more) end
-      → (u : Script D) × Leads rules t items u × Rest rules u more end
+  pub rest_leads : (t : Script D) (items more : List (Item C)) (end : D) → Trace rules t (items ++ more) end
+      → (u : Script D) × Leads rules t items u × Trace rules u more end
   rest_leads t [] more end r = (t, refl, r)
   rest_leads t (Did s ∷ items) more end r =
       let h = headed t (Did s ∷ (items ++ more)) end r in

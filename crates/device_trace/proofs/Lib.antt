@@ -3,5 +3,4 @@ pub mod Keeping
 pub mod Laws
 pub mod Leading
 pub mod Performs
-pub mod Rest
 pub mod Traces

@@ -4,50 +4,30 @@ use Rattle.vm_types.specs.declared.op.Op.{Op}
 use Rattle.vm_types.specs.declared.reply.Reply.{Reply}
 use Rattle.vm_types.specs.declared.entry.Step.{Step}
 use Rattle.vm_types.specs.Fits.{fits}
-use Rattle.device_trace.specs.Script.{Script, Ends}
-use Rattle.device_trace.specs.Traces.{Rules, Item, Did, Changed, Completes, Lead, joined, Trace, IsPrefix, Continues}
-use Rattle.device_trace.specs.States.{wants, stepped, next, changed_at, LeadsTo}
-use Rattle.device_trace.proofs.Rest.{Rest}
+use Rattle.device_trace.specs.Script.{Script}
+use Rattle.device_trace.specs.Traces.{Rules, Item, Did, Changed, IsPrefix, Continues}
+use Rattle.device_trace.specs.States.{wants, stepped, next, changed_at, Leads}
 use Rattle.device_trace.proofs.Fitting.{some_fit}
 use Rattle.device_trace.proofs.Laws.{headed, unheaded, some_rest, leads_rest, rest_leads, leads_one, leads_append}
 
 module _ {D C : Type 0} (rules : Rules D C) where
-  rest_of_trace : (start : D) (items : List (Item C)) (end : D) → Trace rules start items end
-      → Rest rules (Ends start) items end
-  rest_of_trace start items end t = ([], t.0, start, refl, t.1, t.2)
-
-  trace_parts : (start : D) (first : List (Item C)) (items : List (Item C)) (end : D)
-      (r : Rest rules (Ends start) items end) → first ≡ r.0 → Trace rules start items end
-  trace_parts start [] items end r is =
-      let acts = subst (λ xs. Completes rules (Ends start) xs r.2) (sym is) r.3 in
-      (r.1, subst (λ d. Lead rules d r.1 end) (sym acts) r.4, subst (λ xs. xs ++ joined r.1 ≡ items) (sym is) r.5)
-  trace_parts start (i ∷ first) items end r is =
-      absurd (subst (λ xs. Completes rules (Ends start) xs r.2) (sym is) r.3)
-
-  trace_of_rest : (start : D) (items : List (Item C)) (end : D) → Rest rules (Ends start) items end
-      → Trace rules start items end
-  trace_of_rest start items end r = trace_parts start r.0 items end r refl
-
-  pub begins : (start : D) → LeadsTo rules start [] (Ends start)
+  pub begins : (start : Script D) → Leads rules start [] start
   begins start = refl
 
-  pub prefix : (start : D) (items : List (Item C)) (u : Script D) → LeadsTo rules start items u
+  pub prefix : (start : Script D) (items : List (Item C)) (u : Script D) → Leads rules start items u
       → IsPrefix rules start items
   prefix start items u l =
-      let t = some_rest rules u in
-      (t.0, t.1, trace_of_rest start (items ++ t.0) t.1 (leads_rest rules (Ends start) items u t.0 t.1 l t.2))
+      let t = some_rest rules u in (t.0, t.1, leads_rest rules start items u t.0 t.1 l t.2)
 
-  pub some : (start : D) (items : List (Item C)) → IsPrefix rules start items
-      → (u : Script D) × LeadsTo rules start items u
-  some start items p =
-      let q = rest_leads rules (Ends start) items p.0 p.1 (rest_of_trace start (items ++ p.0) p.1 p.2) in
-      (q.0, q.1)
+  pub some : (start : Script D) (items : List (Item C)) → IsPrefix rules start items
+      → (u : Script D) × Leads rules start items u
+  some start items p = let q = rest_leads rules start items p.0 p.1 p.2 in (q.0, q.1)
 
-  pub one : (start : D) (items : List (Item C)) (u v : Script D) → LeadsTo rules start items u
-      → LeadsTo rules start items v → u ≡ v
-  one start items u v l m = leads_one rules (Ends start) items u v l m
+  pub one : (start : Script D) (items : List (Item C)) (u v : Script D) → Leads rules start items u
+      → Leads rules start items v → u ≡ v
+  one start items u v l m = leads_one rules start items u v l m
 
-  pub continued : (start : D) (items : List (Item C)) (u : Script D) → LeadsTo rules start items u
+  pub continued : (start : Script D) (items : List (Item C)) (u : Script D) → Leads rules start items u
       → Continues rules start items (wants rules u)
   continued start items u l =
       let op = wants rules u in
@@ -57,30 +37,36 @@ module _ {D C : Type 0} (rules : Rules D C) where
         s.reply,
         t.0,
         t.1,
-        trace_of_rest start (items ++ Did s
-            ∷ t.0) t.1 (leads_rest rules (Ends start) items u (Did s
-            ∷ t.0) t.1 l (unheaded rules u s t.0 t.1 refl fit.1 t.2)),
+        leads_rest rules start items u (Did s ∷ t.0) t.1 l (unheaded rules u s t.0 t.1 refl fit.1 t.2),
       )
 
-  pub only : (start : D) (items : List (Item C)) (u : Script D) (op : Op) → LeadsTo rules start items u
+  pub only : (start : Script D) (items : List (Item C)) (u : Script D) (op : Op) → Leads rules start items u
       → Continues rules start items op → op ≡ wants rules u
   only start items u op l k =
       let s : Step = record { op = op; reply = k.0 } in
-      let q = rest_leads rules (Ends start) items (Did s
-      ∷ k.1) k.2 (rest_of_trace start (items ++ Did s ∷ k.1) k.2 k.3) in
+      let q = rest_leads rules start items (Did s ∷ k.1) k.2 k.3 in
       let h = headed rules q.0 (Did s ∷ k.1) k.2 q.2 in
-      subst (λ x. op ≡ wants rules x) (leads_one rules (Ends start) items q.0 u q.1 l) h.0
+      subst (λ x. op ≡ wants rules x) (leads_one rules start items q.0 u q.1 l) h.0
+
+  -- where an op continues the items, they lead to what wants it
+  pub wanted : (start : Script D) (items : List (Item C)) (op : Op) → Continues rules start items op
+      → (u : Script D) × Leads rules start items u × (op ≡ wants rules u)
+  wanted start items op k =
+      let s : Step = record { op = op; reply = k.0 } in
+      let q = rest_leads rules start items (Did s ∷ k.1) k.2 k.3 in
+      let h = headed rules q.0 (Did s ∷ k.1) k.2 q.2 in
+      (q.0, q.1, h.0)
 
   -- a step of a trace leads on, whatever fitting reply it has
-  pub goes_on : (start : D) (items : List (Item C)) (u : Script D) (reply : Reply) → LeadsTo rules start items u
+  pub goes_on : (start : Script D) (items : List (Item C)) (u : Script D) (reply : Reply) → Leads rules start items u
       → fits (wants rules u) reply ≡ true
-      → LeadsTo rules start (items ++ Did (record { op = wants rules u; reply = reply }) ∷ []) (next rules u reply)
+      → Leads rules start (items ++ Did (record { op = wants rules u; reply = reply }) ∷ []) (next rules u reply)
   goes_on start items u reply l fit =
-      subst (λ b. LeadsTo rules start (items ++ Did (record { op = wants rules u; reply = reply }) ∷ []) (if b
+      subst (λ b. Leads rules start (items ++ Did (record { op = wants rules u; reply = reply }) ∷ []) (if b
       then stepped rules u reply else u)) (sym fit)
-      (leads_append rules (Ends start) items u (Did (record { op = wants rules u; reply = reply })
+      (leads_append rules start items u (Did (record { op = wants rules u; reply = reply })
       ∷ []) (stepped rules u reply) l (refl, fit, refl))
 
-  pub change : (start : D) (items : List (Item C)) (u : Script D) (c : C) → LeadsTo rules start items u
-      → LeadsTo rules start (items ++ Changed c ∷ []) (changed_at rules c u)
-  change start items u c l = leads_append rules (Ends start) items u (Changed c ∷ []) (changed_at rules c u) l refl
+  pub change : (start : Script D) (items : List (Item C)) (u : Script D) (c : C) → Leads rules start items u
+      → Leads rules start (items ++ Changed c ∷ []) (changed_at rules c u)
+  change start items u c l = leads_append rules start items u (Changed c ∷ []) (changed_at rules c u) l refl

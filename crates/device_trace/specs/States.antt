@@ -5,15 +5,15 @@ use Rattle.vm_types.specs.declared.op.Op.{Op}
 use Rattle.vm_types.specs.declared.reply.Reply.{Reply}
 use Rattle.vm_types.specs.Fits.{fits, Fits}
 use Rattle.device_trace.specs.Script.{Script, Ends, Asks}
-use Rattle.device_trace.specs.Traces.{Rules, Item, Did, Changed}
+use Rattle.device_trace.specs.Traces.{Rules, Item, Did, Changed, root_op, root_next, changed_in}
 
 module _ {D C : Type 0} (rules : Rules D C) where
   abbrev pub wants : Script D → Op
-  wants (Ends d) = rules.opening d
+  wants (Ends d) = root_op (rules.begins d)
   wants (Asks d op on) = op
 
   abbrev pub stepped : Script D → Reply → Script D
-  stepped (Ends d) reply = rules.going d reply
+  stepped (Ends d) reply = root_next (rules.begins d) reply
   stepped (Asks d op on) reply = on d reply
 
   -- a reply that doesn't fit leaves the device
@@ -25,8 +25,8 @@ module _ {D C : Type 0} (rules : Rules D C) where
 
   -- a change from outside
   abbrev pub changed_at : C → Script D → Script D
-  changed_at c (Ends d) = Ends (rules.changed c d)
-  changed_at c (Asks d op on) = rules.changed_in c d op on
+  changed_at c (Ends d) = Ends (rules.changing.between c d)
+  changed_at c (Asks d op on) = changed_in rules.changing c d op on
 
   abbrev pub Leads : Script D → List (Item C) → Script D → Type 0
   Leads t [] u = t ≡ u

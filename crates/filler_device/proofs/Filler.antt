@@ -9,11 +9,12 @@ use Rattle.dev_core.proofs.Asking.{collect_all_asks, put_all_asks}
 use Rattle.dev_core.proofs.Inside.{collect_all_keeps, filter_inside, put_all_keeps}
 use Rattle.rate_gate.specs.Gate.{gate_takes}
 use Rattle.queue_device.specs.Acting.{ActingKeeps}
-use Rattle.queue_device.specs.Changes.{setting}
 use Rattle.queue_device.specs.Confined.{Confines, HasInside, IsAskedBy, IsChain, IsDeviceAct, LeavesRounds}
 use Rattle.queue_device.specs.Lanes.{Chain}
 use Rattle.queue_device.proofs.Acting.{performing_keeps, keeps_either}
-use Rattle.queue_device.proofs.Changes.{keeps_both, no_cut}
+use Rattle.device_trace.specs.Traces.{setting}
+use Rattle.device_trace.proofs.Keeping.{keeps_both}
+use Rattle.device_trace.proofs.Leading.{no_cut}
 use Rattle.filler_device.specs.Filler.{Filler, FillerChange, Limits, filled, filler, limited, no_call, served_by, taken_by}
 
 again : (d e f : Filler) → LeavesRounds filler d e → LeavesRounds filler e f → LeavesRounds filler d f

@@ -2,13 +2,12 @@
 -- as many bytes as its limits allow by then; the first readable byte of a chain of the second queue says which byte.
 use Rattle.std.specs.Prelude.{ℕ, zero, suc, ◌%◌, ◌^◌, ◌==◌, Bool, false, ◌&&◌, if◌then◌else◌, Option, Some, None, List, [], get_or, replicate}
 use Rattle.vm_types.specs.declared.op.OutOp.{OutOp}
-use Rattle.device_trace.specs.Traces.{Rules}
+use Rattle.device_trace.specs.Traces.{Rules, setting}
 use Rattle.vq_split.specs.declared.queue.Part.{Part}
 use Rattle.dev_core.specs.Pieces.{Got, collect_all, put_all, readable, total, writable}
 use Rattle.token_bucket.specs.Kept.{Kept}
 use Rattle.rate_gate.specs.Gate.{Buckets, gate_takes, gate_took, is_limited, with_buckets}
 use Rattle.queue_device.specs.Acting.{Acting, Comes, performing}
-use Rattle.queue_device.specs.Changes.{setting}
 use Rattle.queue_device.specs.Lanes.{Chain, Rounds, lane_of, new_rounds}
 use Rattle.queue_device.specs.Rounds.{queue_rules}
 use Rattle.queue_device.specs.Service.{Service}

@@ -16,7 +16,7 @@ use queue_device::{QueueDevice, queue_stays};
 pub struct FillerKind {}
 
 impl QueueDevice for FillerKind {
-    ghost use Rattle.queue_device.specs.Changes.{setting};
+    ghost use Rattle.device_trace.specs.Traces.{setting};
     ghost use Rattle.filler_device.specs.Filler.{Filler, FillerChange, filler, limited, no_call};
 
     ghost Data = { Filler };

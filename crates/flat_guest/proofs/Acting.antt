@@ -21,7 +21,7 @@ use Rattle.timer_trace.proofs.Leads as timer_leads
 use Rattle.timer_trace.proofs.Traces as timer_traces
 use Rattle.guest_devices.specs.Devices.{DeviceLeads, DeviceLeft, FlatDevice, device_did, device_next, device_wants}
 use Rattle.guest_devices.specs.Kept.{device_want, devices_given}
-use Rattle.guest_devices.proofs.Follows.{did_leads}
+use Rattle.guest_devices.proofs.Follows.{did_leads, left_wants}
 use Rattle.guest_devices.proofs.Soundness.{want_own}
 use Rattle.flat_guest.specs.Guest.{Guest, Wants, WantsFrom, WantsOf, whole_pages}
 use Rattle.flat_guest.specs.Sound.{AreSoundDevices}
@@ -73,7 +73,7 @@ module _ (b : Body) (g : Guest) (is : IsGuest b g) where
   device_wanted k op want =
       let l = left_there (slice_get b.devices k) op want in
       let d = device_leads k l.0 l.1 in
-      subst (λ (o : Option FlatDevice). WantsOf o op) (sym d.1) (l.0, d.2, l.2)
+      subst (λ (o : Option FlatDevice). WantsOf o op) (sym d.1) (left_wants d.0 l.0 op d.2 l.2)
 
   pub want_in : (actor : ActorId) (op : Op) → wants b.timer b.harts b.devices actor ≡ Some op → Wants g actor op
   want_in ActorId.Timer op want =
@@ -97,7 +97,7 @@ module _ (b : Body) (g : Guest) (is : IsGuest b g) where
       let sound = is.devices_are.sound.each k d.0 d.1 in
       own_there (length g.ports) k op
       (ap (λ (n : ℕ). nat_lt k n) is.devices_are.sound.as_many ∙ get_lt g.devices k d.0 d.1)
-      (want_own k (whole_pages g.memory) d.0 op sound (l.0, d.2, l.2))
+      (want_own k (whole_pages g.memory) d.0 op sound (left_wants d.0 l.0 op d.2 l.2))
 
 -- what each is given leads it on
 abbrev entry : PlaceId → ActorId → Op → Reply → Entry

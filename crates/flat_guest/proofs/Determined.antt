@@ -14,7 +14,7 @@ use Rattle.hart_trace.specs.Asks.{is_host_op}
 use Rattle.timer_trace.proofs.Traces as timer_traces
 use Rattle.flat_guest.specs.declared.places.Layout.{Layout}
 use Rattle.guest_devices.specs.Devices.{FlatDevice}
-use Rattle.guest_devices.proofs.Follows.{wants_only}
+use Rattle.guest_devices.proofs.Follows.{wants_left, wants_only}
 use Rattle.flat_guest.specs.Guest.{Guest, Wants, WantsFrom, WantsOf, layout_of}
 use Rattle.flat_guest.specs.Places.{place_of}
 use Rattle.flat_guest.specs.Steps.{Answers, AnswersOut, FlatStep, IsOnBefore, Makes, StepsBy, Stops, Waits, guest_after}
@@ -43,7 +43,7 @@ from_one (Some start) steps a b x y = one_op start steps a b x y
 
 device_one : (d : Option FlatDevice) (a b : Op) → WantsOf d a → WantsOf d b → a ≡ b
 device_one None a b x y = absurd x
-device_one (Some d) a b x y = x.2 ∙ sym (wants_only d x.0 b x.1 y)
+device_one (Some d) a b x y = let left = wants_left d a x in left.2 ∙ sym (wants_only d left.0 b left.1 y)
 
 pub wants_one : (g : Guest) (actor : ActorId) (a b : Op) → Wants g actor a → Wants g actor b → a ≡ b
 wants_one g ActorId.Timer a b x y = timer_traces.one_op (g.steps ActorId.Timer) a b x y

@@ -7,7 +7,7 @@ use Rattle.device_trace.specs.Script.{Script, Ends}
 use Rattle.device_trace.specs.Traces.{Item, Did, Changed, Continues}
 use Rattle.device_trace.specs.States.{wants, next, stepped, changed_at, Leads, LeadsTo}
 use Rattle.device_trace.proofs.Laws.{leads_one, leads_append}
-use Rattle.device_trace.proofs.Traces.{continued, some, only}
+use Rattle.device_trace.proofs.Traces.{continued, only, wanted}
 use Rattle.block_device.specs.declared.data.BlockData.{BlockData}
 use Rattle.block_device.specs.Block.{Change, block_rules}
 use Rattle.guest_devices.specs.Devices.{DeviceLeft, BlockLeft, DeviceChange, BlockChanged, FlatDevice, BlockIs, DeviceLeads, DeviceWants, device_at, device_did, device_told, device_wants, device_next, device_changed}
@@ -20,7 +20,18 @@ one_left (BlockIs start items) (BlockLeft t) (BlockLeft u) l m = ap BlockLeft (l
 
 pub wants_only : (d : FlatDevice) (left : DeviceLeft) (op : Op) → DeviceLeads d left → DeviceWants d op
     → op ≡ device_wants left
-wants_only d left op l w = w.2 ∙ ap device_wants (one_left d w.0 left w.1 l)
+wants_only (BlockIs start items) (BlockLeft t) op l w = only block_rules start items t op l w
+
+-- a device wants the act of what is left where its items lead
+pub left_wants : (d : FlatDevice) (left : DeviceLeft) (op : Op) → DeviceLeads d left → op ≡ device_wants left
+    → DeviceWants d op
+left_wants (BlockIs start items) (BlockLeft t) op l is =
+    subst (λ (o : Op). Continues block_rules start items o) (sym is) (continued block_rules start items t l)
+
+pub wants_left : (d : FlatDevice) (op : Op) → DeviceWants d op
+    → (left : DeviceLeft) × DeviceLeads d left × (op ≡ device_wants left)
+wants_left (BlockIs start items) op w =
+    let q = wanted block_rules start items op w in (BlockLeft q.0, q.1, q.2)
 
 -- a fitting reply leads on
 fit_leads : (t : Script BlockData) (s : Step) → s.op ≡ wants block_rules t → Fits s.op s.reply
@@ -48,23 +59,18 @@ leads_behind t (Did s ∷ before) items start u l m =
 leads_behind t (Changed c ∷ before) items start u l m =
     leads_behind (changed_at block_rules c t) before items start u l m
 
+-- a device that begins where a trace led continues that trace
 module _ (first : BlockData) (before items : List (Item Change)) (start : Script BlockData) (op : Op)
     (begun : LeadsTo block_rules first before start) where
-  continues_at : (left : DeviceLeft) → DeviceLeads (BlockIs start items) left → op ≡ device_wants left
-      → Continues block_rules first (before ++ items) op
-  continues_at (BlockLeft t) l is =
-      subst (λ (o : Op). Continues block_rules first (before ++ items) o) (sym is)
-      (continued block_rules first (before ++ items) t
-      (leads_append block_rules (Ends first) before start items t begun l))
+  pub wants_continues : DeviceWants (BlockIs start items) op → Continues block_rules (Ends first) (before ++ items) op
+  wants_continues w =
+      let q = wanted block_rules start items op w in
+      subst (λ (o : Op). Continues block_rules (Ends first) (before ++ items) o) (sym q.2)
+      (continued block_rules (Ends first) (before ++ items) q.0
+      (leads_append block_rules (Ends first) before start items q.0 begun q.1))
 
-  pub wants_continues : DeviceWants (BlockIs start items) op → Continues block_rules first (before ++ items) op
-  wants_continues w = continues_at w.0 w.1 w.2
-
-  pub continues_wanted : Continues block_rules first (before ++ items) op → DeviceWants (BlockIs start items) op
+  pub continues_wanted : Continues block_rules (Ends first) (before ++ items) op → DeviceWants (BlockIs start items) op
   continues_wanted k =
-      let s : Step = record { op = op; reply = k.0 } in
-      let q = some block_rules first (before ++ items) (Did s ∷ k.1, k.2, k.3) in (
-        BlockLeft q.0,
-        leads_behind (Ends first) before items start q.0 begun q.1,
-        only block_rules first (before ++ items) q.0 op q.1 k,
-      )
+      let q = wanted block_rules (Ends first) (before ++ items) op k in
+      subst (λ (o : Op). Continues block_rules start items o) (sym q.2)
+      (continued block_rules start items q.0 (leads_behind (Ends first) before items start q.0 begun q.1))

@@ -29,7 +29,7 @@ use Rattle.guest_devices.specs.Devices.{DeviceLeads, DeviceWants, FitsChange, de
 use Rattle.guest_devices.specs.Devices.{device_next, device_told, device_wants, new_block_device}
 use Rattle.guest_devices.specs.Kept.{IsBoundedDevice, device_left, device_pages, device_port, is_device_state}
 use Rattle.guest_devices.specs.Sound.{BlockHasKept, HasKept, IsSoundDevice, KeepsToItsOwn}
-use Rattle.guest_devices.proofs.Follows.{at_start, did_leads, one_left, told_leads, wants_only}
+use Rattle.guest_devices.proofs.Follows.{at_start, did_leads, left_wants, one_left, told_leads, wants_only}
 
 module _ (port pages : ℕ) where
   -- ---- kept data
@@ -173,7 +173,8 @@ at_sound port pages d left sound l = (
 )
 
 pub some_want : (port pages : ℕ) (d : FlatDevice) → IsSoundDevice port pages d → (op : Op) × DeviceWants d op
-some_want port pages d sound = (device_wants sound.0, (sound.0, sound.1, refl))
+some_want port pages d sound =
+    (device_wants sound.0, left_wants d sound.0 (device_wants sound.0) sound.1 refl)
 
 pub want_own : (port pages : ℕ) (d : FlatDevice) (op : Op) → IsSoundDevice port pages d → DeviceWants d op
     → IsOwnAct port op

@@ -8,7 +8,7 @@ use Rattle.vm_types.specs.declared.entry.Step.{Step}
 use Rattle.vm_types.specs.Fits.{fits}
 use Rattle.device_trace.specs.Acts.{is_disk_call}
 use Rattle.device_trace.specs.Script.{Script, Ends}
-use Rattle.device_trace.specs.Traces.{Item, Did, Changed}
+use Rattle.device_trace.specs.Traces.{Item, Did, Changed, Continues}
 use Rattle.device_trace.specs.States.{wants, next, leaves, changed_at, Leads}
 use Rattle.block_device.specs.declared.data.BlockData.{BlockData}
 use Rattle.block_device.specs.Block.{Change, block_rules, new_block}
@@ -55,9 +55,9 @@ device_did (BlockIs start items) s = BlockIs start (items ++ Did s ∷ [])
 abbrev pub device_told : FlatDevice → DeviceChange → FlatDevice
 device_told (BlockIs start items) (BlockChanged c) = BlockIs start (items ++ Changed c ∷ [])
 
--- a device wants the act of what is left where its items lead
+-- a device wants the act that continues its items to a trace
 abbrev pub DeviceWants : FlatDevice → Op → Type 0
-DeviceWants d op = (left : DeviceLeft) × DeviceLeads d left × (op ≡ device_wants left)
+DeviceWants (BlockIs start items) op = Continues block_rules start items op
 
 -- a device whose items begin where this is still to be done
 abbrev pub device_at : DeviceLeft → FlatDevice

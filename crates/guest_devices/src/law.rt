@@ -4,7 +4,7 @@ ghost use Rattle.vm_types.specs.declared.entry.Step.{Step};
 ghost use Rattle.vm_types.specs.declared.op.Op.{Op};
 ghost use Rattle.vm_types.specs.Fits.{Fits};
 ghost use Rattle.device_trace.specs.Acts.{AsksOnly, IsOwnAct};
-ghost use Rattle.device_trace.specs.Script.{Script};
+ghost use Rattle.device_trace.specs.Script.{Script, Ends};
 ghost use Rattle.device_trace.specs.States.{LeadsTo};
 ghost use Rattle.device_trace.specs.Traces.{Continues, Item};
 ghost use Rattle.vq_split.specs.Inside.{IsInside};
@@ -21,15 +21,19 @@ ghost use Rattle.guest_devices.specs.Devices.{device_told, device_wants, new_blo
 ghost use Rattle.guest_devices.specs.Kept.{IsBoundedDevice, device_left, device_pages, device_port, is_device_state};
 ghost use Rattle.guest_devices.specs.Sound.{IsSoundDevice};
 
-/// The items of a device lead to one thing that is still to be done. With a step of the act that it wants, or with a
-/// change, they lead to what comes next. Where a block device begins where a trace led, it wants the one act that
-/// continues this trace with its items.
+/// The items of a device lead to one thing that is still to be done, and the act that this wants is the one that the
+/// device wants. With a step of it, or with a change, they lead to what comes next. Where a block device begins where a
+/// trace led, it wants the one act that continues this trace with its items.
 pub fn devices_follow()
     ensures begins { (left : DeviceLeft) → DeviceLeads (device_at left) left }
     ensures one { (d : FlatDevice) (left other : DeviceLeft) →
         DeviceLeads d left → DeviceLeads d other → left ≡ other }
     ensures only { (d : FlatDevice) (left : DeviceLeft) (op : Op) →
         DeviceLeads d left → DeviceWants d op → op ≡ device_wants left }
+    ensures wants { (d : FlatDevice) (left : DeviceLeft) (op : Op) →
+        DeviceLeads d left → op ≡ device_wants left → DeviceWants d op }
+    ensures left { (d : FlatDevice) (op : Op) → DeviceWants d op →
+        (left : DeviceLeft) × DeviceLeads d left × (op ≡ device_wants left) }
     ensures goes_on { (d : FlatDevice) (left : DeviceLeft) (s : Step) →
         DeviceLeads d left → s.op ≡ device_wants left → Fits s.op s.reply →
         DeviceLeads (device_did d s) (device_next left s.reply) }
@@ -37,9 +41,9 @@ pub fn devices_follow()
         DeviceLeads d left → DeviceLeads (device_told d c) (device_changed c left) }
     ensures continues { (first : BlockData) (before items : List (Item Change)) (start : Script BlockData) (op : Op) →
         LeadsTo block_rules first before start → DeviceWants (BlockIs start items) op →
-        Continues block_rules first (before ++ items) op }
+        Continues block_rules (Ends first) (before ++ items) op }
     ensures wanted { (first : BlockData) (before items : List (Item Change)) (start : Script BlockData) (op : Op) →
-        LeadsTo block_rules first before start → Continues block_rules first (before ++ items) op →
+        LeadsTo block_rules first before start → Continues block_rules (Ends first) (before ++ items) op →
         DeviceWants (BlockIs start items) op }
 {}
 

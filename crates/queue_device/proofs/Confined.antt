@@ -10,8 +10,8 @@ use Rattle.device_trace.specs.Doing.{Doing, Gives, Wants}
 use Rattle.device_trace.specs.Keeps as trees
 use Rattle.device_trace.specs.Script.{Script, Ends}
 use Rattle.device_trace.specs.States.{wants, Leads}
-use Rattle.device_trace.specs.Traces.{Item}
-use Rattle.device_trace.proofs.Keeping.{stays_if, stays_perform}
+use Rattle.device_trace.specs.Traces.{Changing, Item}
+use Rattle.device_trace.proofs.Keeping.{keeps_both, stays_if, stays_perform}
 use Rattle.le_fields.specs.Fields.{field_at}
 use Rattle.vq_split.specs.declared.queue.Queue.{Queue}
 use Rattle.vq_split.specs.declared.queue.Part.{Part}
@@ -27,7 +27,6 @@ use Rattle.dev_core.specs.Pieces.{Got}
 use Rattle.dev_core.specs.Returns.{returned, broken}
 use Rattle.dev_core.proofs.Asking.{broken_asks, returned_asks, walk_asks}
 use Rattle.dev_core.proofs.Inside.{returned_keeps, broken_keeps}
-use Rattle.queue_device.specs.Changes.{Changing}
 use Rattle.queue_device.specs.Confined.{Confines, HasInside, HasRounds, IsAskedBy, IsChain, IsConfined, IsDeviceAct, LeavesRounds}
 use Rattle.queue_device.specs.Confined.{are_rounds, is_lane, is_queue, is_waiting}
 use Rattle.queue_device.specs.Lanes.{Chain, Due, LookDue, QuestionDue, LaneDue, WaitDue, Lane, Rounds}
@@ -38,7 +37,7 @@ use Rattle.queue_device.specs.Rounds.{round_broken, round_from, served, serving,
 use Rattle.queue_device.specs.Rounds.{waits, walk_begun, walk_from, walked}
 use Rattle.queue_device.specs.Service.{Service}
 use Rattle.queue_device.proofs.Acting.{stays_during}
-use Rattle.queue_device.proofs.Changes.{keeps_both, leads_keep, wants_keeps}
+use Rattle.device_trace.proofs.Leading.{leads_keep, wants_keeps}
 use Rattle.queue_device.proofs.Lanes.{begun_are, chain_of, lane_is, lane_with, over_are, rounds_of, test_of_chain}
 
 module _ {D C : Type 0} (s : Service D) (changing : Changing D C) (calls : OutOp → Bool) (port pages : ℕ)

@@ -1,4 +1,3 @@
 pub mod Acting
-pub mod Changes
 pub mod Confined
 pub mod Lanes

@@ -10,6 +10,7 @@ use Rattle.vm_types.specs.Fits.{Fits}
 use Rattle.device_trace.specs.Acts.{IsOwnAct, AsksOnly}
 use Rattle.device_trace.specs.Keeps.{Stays}
 use Rattle.device_trace.specs.Script.{Script}
+use Rattle.device_trace.specs.Traces.{Changing}
 use Rattle.vq_split.specs.declared.queue.Queue.{Queue}
 use Rattle.vq_split.specs.declared.queue.Part.{Part}
 use Rattle.vq_split.specs.Inside.{AreInside, IsInside}
@@ -17,7 +18,6 @@ use Rattle.vq_split.specs.Kept.{are_inside, is_sound}
 use Rattle.vq_split.specs.Walking.{IsSound}
 use Rattle.dev_core.specs.Pieces.{Got}
 use Rattle.queue_device.specs.Acting.{ActingKeeps}
-use Rattle.queue_device.specs.Changes.{Changing}
 use Rattle.queue_device.specs.Lanes.{Chain, Lane, Rounds}
 use Rattle.queue_device.specs.Service.{Service}
 

@@ -1,5 +1,4 @@
 pub mod Acting
-pub mod Changes
 pub mod Confined
 pub mod Lanes
 pub mod Rounds

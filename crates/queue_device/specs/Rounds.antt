@@ -7,7 +7,7 @@ use Rattle.vm_types.specs.declared.op.BoardOp.TheVariants.{Time}
 use Rattle.vm_types.specs.declared.reply.Reply.{Reply}
 use Rattle.device_trace.specs.Doing.{Doing, Gives, Wants}
 use Rattle.device_trace.specs.Script.{Script, Ends, Asks, perform}
-use Rattle.device_trace.specs.Traces.{Rules}
+use Rattle.device_trace.specs.Traces.{Changing, Rules}
 use Rattle.le_fields.specs.Fields.{field_at}
 use Rattle.vq_split.specs.declared.queue.Queue.{Queue}
 use Rattle.vq_split.specs.declared.queue.Part.{Part}
@@ -18,7 +18,6 @@ use Rattle.vq_split.specs.Chain.{queue_flaw, chain_walk, read_bytes}
 use Rattle.dev_core.specs.Pieces.{Got}
 use Rattle.dev_core.specs.Returns.{returned, broken}
 use Rattle.queue_device.specs.Acting.{during}
-use Rattle.queue_device.specs.Changes.{Changing, changing_rules}
 use Rattle.queue_device.specs.Lanes.{Chain, Lane, Due, LookDue, QuestionDue, LaneDue, WaitDue, Rounds}
 use Rattle.queue_device.specs.Lanes.{lane_of, with_lane, with_due, busy, is_running, round_begun, round_over}
 use Rattle.queue_device.specs.Service.{Service}
@@ -171,4 +170,4 @@ module _ {D : Type 0} (s : Service D) where
 
   -- the kind, with these changes from outside
   abbrev pub queue_rules : {C : Type 0} → Changing D C → Rules D C
-  queue_rules changing = changing_rules begins changing
+  queue_rules changing = record { begins = begins; changing = changing }

@@ -11,7 +11,7 @@ ghost use Rattle.queue_device.specs.Rounds.{queue_rules};
 pub trait QueueDevice {
     ghost use Rattle.std.specs.Prelude.{Bool};
     ghost use Rattle.vm_types.specs.declared.op.OutOp.{OutOp};
-    ghost use Rattle.queue_device.specs.Changes.{Changing};
+    ghost use Rattle.device_trace.specs.Traces.{Changing};
     ghost use Rattle.queue_device.specs.Service.{Service};
 
     ghost Data: { Type 0 };

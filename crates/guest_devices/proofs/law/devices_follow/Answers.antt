@@ -1,4 +1,4 @@
-use Rattle.guest_devices.proofs.Follows.{at_start, continues_wanted, did_leads, one_left, told_leads, wants_continues, wants_only}
+use Rattle.guest_devices.proofs.Follows.{at_start, continues_wanted, did_leads, left_wants, one_left, told_leads, wants_continues, wants_left, wants_only}
 use Rattle.guest_devices.proofs.law.devices_follow.Goals as goal
 
 pub returns-clause-begins : goal.returns-clause-begins
@@ -9,6 +9,12 @@ returns-clause-one c = one_left
 
 pub returns-clause-only : goal.returns-clause-only
 returns-clause-only c = wants_only
+
+pub returns-clause-wants : goal.returns-clause-wants
+returns-clause-wants c = left_wants
+
+pub returns-clause-left : goal.returns-clause-left
+returns-clause-left c = wants_left
 
 pub returns-clause-goes_on : goal.returns-clause-goes_on
 returns-clause-goes_on c = did_leads
