@@ -1,8 +1,8 @@
 -- Which acts are a device's own.
-use Rattle.std.specs.Prelude.{ℕ, ◌≡◌, Bool, true, false}
+use Rattle.std.specs.Prelude.{ℕ, ◌≡◌, ◌⊎◌, Bool, true, false}
 use Rattle.vm_types.specs.declared.op.Op.{Op}
 use Rattle.vm_types.specs.declared.op.BoardOp.{BoardOp}
-use Rattle.vm_types.specs.declared.op.BoardOp.TheVariants.{RaiseLine}
+use Rattle.vm_types.specs.declared.op.BoardOp.TheVariants.{RaiseLine, Time}
 use Rattle.vm_types.specs.declared.op.OutOp.{OutOp}
 use Rattle.vm_types.specs.declared.op.OutOp.TheVariants.{Clock, DiskRead, DiskWrite, DiskFlush}
 
@@ -40,3 +40,8 @@ IsOwnAct port Op.Idle = Unit {0}
 abbrev pub AsksOnly : (OutOp → Bool) → Op → Type 0
 AsksOnly calls (Op.Out act) = calls act ≡ true
 AsksOnly calls op = Unit {0}
+
+-- What a device at this port may ask: an act of its own, with these calls of host objects alone; and guest time, where it has
+-- limits that need it.
+abbrev pub IsAskedBy : Bool → (OutOp → Bool) → ℕ → Op → Type 0
+IsAskedBy times calls port op = ((times ≡ true) × (op ≡ Op.Board Time)) ⊎ (IsOwnAct port op × AsksOnly calls op)

@@ -1,8 +1,9 @@
 -- What an actor's op is answered by its place: what the flat machine says, and a reply that fits.
-use Rattle.std.proofs.Common.{◌≡◌, ℕ, ◌+◌, ◌-◌, ◌/◌, ◌%◌, nat_le, nat_lt, Bool, true, false, cond, ◌&&◌, refl, ap, ◌∙◌, List, Option, Some, None, length, slice_get}
+use Rattle.std.proofs.Common.{◌≡◌, ℕ, ◌+◌, ◌-◌, ◌/◌, ◌%◌, nat_le, nat_lt, Bool, true, false, cond, ◌&&◌, refl, sym, ap, subst, ◌∙◌, inl, inr, List, Option, Some, None, length, slice_get}
 use Rattle.vm_types.specs.declared.ids.ActorId.{ActorId}
 use Rattle.vm_types.specs.declared.ids.PlaceId.{PlaceId}
 use Rattle.vm_types.specs.declared.op.Op.{Op}
+use Rattle.vm_types.specs.declared.op.OutOp.{OutOp}
 use Rattle.vm_types.specs.declared.reply.Reply.{Reply}
 use Rattle.vm_types.specs.Fits.{fits}
 use Rattle.guest_memory.specs.Memory as memory
@@ -14,7 +15,7 @@ use Rattle.board_table.specs.Board.{Board}
 use Rattle.board_table.specs.Acts.{is_board_op}
 use Rattle.board_table.specs.Fitting.{board_reply_fits}
 use Rattle.flat_guest.specs.Guest.{Guest, layout_of}
-use Rattle.device_trace.specs.Acts.{IsOwnAct}
+use Rattle.device_trace.specs.Acts.{IsAskedBy, IsOwnAct}
 use Rattle.port_table.specs.Acts as ports_acts
 use Rattle.port_table.specs.Fitting.{port_reply_fits}
 use Rattle.port_table.specs.declared.state.PortState.{PortState}
@@ -41,7 +42,7 @@ no_port_there count (Op.Board act) is = tt
 no_port_there count (Op.Out act) is = tt
 no_port_there count Op.Idle is = tt
 
-pub own_there : (count k : ℕ) (op : Op) → nat_lt k count ≡ true → IsOwnAct k op → IsPortThere count op
+own_there : (count k : ℕ) (op : Op) → nat_lt k count ≡ true → IsOwnAct k op → IsPortThere count op
 own_there count k (Op.Port port act) lt own = ap (λ (n : ℕ). nat_lt n count) own ∙ lt
 own_there count k (Op.Read at len) lt own = tt
 own_there count k (Op.Write at piece) lt own = tt
@@ -51,6 +52,11 @@ own_there count k (Op.Sc at value wide) lt own = tt
 own_there count k (Op.Board act) lt own = tt
 own_there count k (Op.Out act) lt own = tt
 own_there count k Op.Idle lt own = tt
+
+pub asked_there : (count k : ℕ) (times : Bool) (calls : OutOp → Bool) (op : Op) → nat_lt k count ≡ true
+    → IsAskedBy times calls k op → IsPortThere count op
+asked_there count k times calls op lt (inl time) = subst (λ (o : Op). IsPortThere count o) (sym time.1) tt
+asked_there count k times calls op lt (inr own) = own_there count k op lt own.0
 
 -- the bytes are in one page of RAM
 abbrev in_page : ℕ → ℕ → ℕ → Bool

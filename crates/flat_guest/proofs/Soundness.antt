@@ -2,8 +2,7 @@
 use Rattle.std.proofs.Common.{◌≡◌, ℕ, zero, suc, nat_lt, Bool, true, false, cond, refl, sym, ap, subst, ◌∙◌, List, [], ◌∷◌}
 use Rattle.std.proofs.Common.{◌++◌, length, Option, Some, None, slice_get, get_or, ◌<◌, ◌≤◌, ◌^◌, ◌⊎◌, inl, inr, arith}
 use Rattle.std.specs.List.{All}
-use Rattle.std.proofs.lemmas.Bool.{eqb-true}
-use borrow.Author.Tests.{ltb-true}
+use Rattle.std.proofs.lemmas.Bool.{eqb-true, ltb-true}
 use Rattle.std.proofs.lemmas.Option.{slice_get_cases}
 use Rattle.vm_types.specs.declared.ids.ActorId.{ActorId}
 use Rattle.vm_types.specs.declared.ids.PlaceId.{PlaceId}
@@ -25,7 +24,7 @@ use Rattle.timer_trace.specs.Traces as timer
 use Rattle.timer_trace.proofs.Traces as timer_traces
 use Rattle.guest_memory.specs.Boot.{Loads, boot_memory}
 use Rattle.guest_devices.specs.declared.drive.NewDrive.{NewDrive}
-use Rattle.guest_devices.specs.Devices.{FlatDevice}
+use Rattle.guest_devices.specs.Devices.{FlatDevice, device_calls, device_times}
 use Rattle.guest_devices.proofs.Soundness.{some_want as device_want, want_own}
 use Rattle.flat_guest.specs.Changes.{resized}
 use Rattle.flat_guest.specs.Guest.{Guest, Wants, WantsFrom, WantsOf, is_actor, layout_of, whole_pages}
@@ -35,7 +34,7 @@ use Rattle.flat_guest.specs.Sound.{IsSound}
 use Rattle.flat_guest.specs.Start.{started, timer_restarted}
 use Rattle.flat_guest.specs.Steps.{IsOnBefore, IsUnstamped, StepsBy, Stops, Answers, AnswersOut, FlatStep, guest_after, is_given}
 use Rattle.flat_guest.specs.Body.{reply_at, out_reply}
-use Rattle.flat_guest.proofs.Answering.{IsPortThere, answers_at, answer_fits, no_port_there, own_there}
+use Rattle.flat_guest.proofs.Answering.{IsPortThere, answers_at, answer_fits, asked_there, no_port_there}
 use Rattle.flat_guest.proofs.Devices as devices
 use Rattle.flat_guest.proofs.Lists.{get_lt, lt_get}
 
@@ -90,7 +89,7 @@ device_port : (g : Guest) (k : ℕ) (op : Op) (o : Option FlatDevice) → slice_
     → WantsOf o op → IsPortThere (length g.ports) op
 device_port g k op None is sound wants = absurd wants
 device_port g k op (Some d) is sound wants =
-    own_there (length g.ports) k op
+    asked_there (length g.ports) k (device_times d) (device_calls d) op
     (ap (λ (n : ℕ). nat_lt k n) sound.devices_on.as_many ∙ get_lt g.devices k d is)
     (want_own k (whole_pages g.memory) d op (sound.devices_on.each k d is) wants)
 

@@ -1,10 +1,10 @@
 -- A sound device keeps to its own, and stays sound.
-use Rattle.std.proofs.Common.{◌≡◌, ℕ, ◌<◌, ◌≤◌, ◌^◌, refl, sym, subst, ap, ◌∙◌, Bool, true, if◌then◌else◌, List}
+use Rattle.std.proofs.Common.{◌≡◌, ℕ, ◌<◌, ◌≤◌, ◌^◌, refl, sym, subst, ap, ◌∙◌, Bool, true, if◌then◌else◌, inr, List}
 use Rattle.vm_types.specs.declared.op.Op.{Op}
 use Rattle.vm_types.specs.declared.entry.Step.{Step}
 use Rattle.vm_types.specs.declared.reply.Reply.{Reply}
 use Rattle.vm_types.specs.Fits.{Fits}
-use Rattle.device_trace.specs.Acts.{IsOwnAct, AsksOnly}
+use Rattle.device_trace.specs.Acts.{AsksOnly, IsAskedBy}
 use Rattle.device_trace.specs.Script.{Script, Ends}
 use Rattle.device_trace.specs.States.{changed_at, stepped, wants}
 use Rattle.vq_split.specs.Inside.{IsInside}
@@ -26,7 +26,7 @@ use Rattle.guest_devices.specs.declared.device.Device.{Device}
 use Rattle.guest_devices.specs.declared.device.Device.TheVariants as device
 use Rattle.guest_devices.specs.Devices.{DeviceLeft, BlockLeft, DeviceChange, BlockChanged, FlatDevice, BlockIs}
 use Rattle.guest_devices.specs.Devices.{DeviceLeads, DeviceWants, FitsChange, device_at, device_calls, device_changed, device_did}
-use Rattle.guest_devices.specs.Devices.{device_next, device_told, device_wants, new_block_device}
+use Rattle.guest_devices.specs.Devices.{device_next, device_times, device_told, device_wants, new_block_device}
 use Rattle.guest_devices.specs.Kept.{IsBoundedDevice, device_left, device_pages, device_port, is_device_state}
 use Rattle.guest_devices.specs.Sound.{BlockHasKept, HasKept, IsSoundDevice, KeepsToItsOwn}
 use Rattle.guest_devices.proofs.Follows.{at_start, did_leads, left_wants, one_left, told_leads, wants_only}
@@ -110,8 +110,9 @@ module _ (port pages : ℕ) where
     kept = λ small. change_kept t sectors size (own.kept small);
   }
 
-  own_keeps : (left : DeviceLeft) → KeepsToItsOwn port pages left → IsOwnAct port (device_wants left)
-  own_keeps (BlockLeft t) own = (wants_own port t own.asks).0
+  own_keeps : (d : FlatDevice) (left : DeviceLeft) → DeviceLeads d left → KeepsToItsOwn port pages left
+      → IsAskedBy (device_times d) (device_calls d) port (device_wants left)
+  own_keeps (BlockIs start items) (BlockLeft t) l own = inr (wants_own port t own.asks)
 
   inside_keeps : (left : DeviceLeft) → pages < 2 ^ 32 → KeepsToItsOwn port pages left → IsInside pages (device_wants left)
   inside_keeps (BlockLeft t) few own = wants_inside pages t few (own.stays few)
@@ -177,10 +178,10 @@ some_want port pages d sound =
     (device_wants sound.0, left_wants d sound.0 (device_wants sound.0) sound.1 refl)
 
 pub want_own : (port pages : ℕ) (d : FlatDevice) (op : Op) → IsSoundDevice port pages d → DeviceWants d op
-    → IsOwnAct port op
+    → IsAskedBy (device_times d) (device_calls d) port op
 want_own port pages d op sound want =
-    subst (λ (o : Op). IsOwnAct port o) (sym (wants_only d sound.0 op sound.1 want))
-    (own_keeps port pages sound.0 sound.2)
+    subst (λ (o : Op). IsAskedBy (device_times d) (device_calls d) port o) (sym (wants_only d sound.0 op sound.1 want))
+    (own_keeps port pages d sound.0 sound.1 sound.2)
 
 pub want_inside : (port pages : ℕ) (d : FlatDevice) (op : Op) → pages < 2 ^ 32 → IsSoundDevice port pages d
     → DeviceWants d op → IsInside pages op

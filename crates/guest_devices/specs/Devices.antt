@@ -70,3 +70,7 @@ new_block_device port pages id sectors read_only = device_at (BlockLeft (Ends (n
 -- the calls of a device's host object
 abbrev pub device_calls : FlatDevice → OutOp → Bool
 device_calls (BlockIs start items) = is_disk_call
+
+-- it has limits that need guest time
+abbrev pub device_times : FlatDevice → Bool
+device_times (BlockIs start items) = false

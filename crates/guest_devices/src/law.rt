@@ -3,7 +3,7 @@ ghost use Rattle.std.specs.Prelude.{◌≡◌, ◌<◌, ◌≤◌, ◌^◌, ◌+
 ghost use Rattle.vm_types.specs.declared.entry.Step.{Step};
 ghost use Rattle.vm_types.specs.declared.op.Op.{Op};
 ghost use Rattle.vm_types.specs.Fits.{Fits};
-ghost use Rattle.device_trace.specs.Acts.{AsksOnly, IsOwnAct};
+ghost use Rattle.device_trace.specs.Acts.{AsksOnly, IsAskedBy};
 ghost use Rattle.device_trace.specs.Script.{Script, Ends};
 ghost use Rattle.device_trace.specs.States.{LeadsTo};
 ghost use Rattle.device_trace.specs.Traces.{Continues, Item};
@@ -17,7 +17,7 @@ ghost use Rattle.block_device.specs.States.{block_left};
 ghost use Rattle.guest_devices.specs.declared.device.Device.{Device};
 ghost use Rattle.guest_devices.specs.Devices.{BlockIs, BlockLeft, DeviceChange, DeviceLeads, DeviceLeft, DeviceWants, FitsChange};
 ghost use Rattle.guest_devices.specs.Devices.{FlatDevice, device_at, device_calls, device_changed, device_did, device_next};
-ghost use Rattle.guest_devices.specs.Devices.{device_told, device_wants, new_block_device};
+ghost use Rattle.guest_devices.specs.Devices.{device_times, device_told, device_wants, new_block_device};
 ghost use Rattle.guest_devices.specs.Kept.{IsBoundedDevice, device_left, device_pages, device_port, is_device_state};
 ghost use Rattle.guest_devices.specs.Sound.{IsSoundDevice};
 
@@ -47,8 +47,8 @@ pub fn devices_follow()
         DeviceWants (BlockIs start items) op }
 {}
 
-/// A sound device always wants something: an act of its own, and of host objects a call of its own; inside RAM, where
-/// there are less than 2^32 pages. It is sound from its start on, with each fitting reply and each change that fits, where
+/// A sound device always wants something: an act of its own, and of host objects a call of its own, or guest time where it
+/// has limits; inside RAM, where there are less than 2^32 pages. It is sound from its start on, with each fitting reply and each change that fits, where
 /// it goes on from what was left of another, and with whatever bounded data a device may keep. In a guest of at most 2^20
 /// pages some device keeps what its items lead to.
 pub fn sound_devices()
@@ -71,7 +71,7 @@ pub fn sound_devices()
     ensures some { (port pages : ℕ) (d : FlatDevice) →
         IsSoundDevice port pages d → (op : Op) × DeviceWants d op }
     ensures own { (port pages : ℕ) (d : FlatDevice) (op : Op) →
-        IsSoundDevice port pages d → DeviceWants d op → IsOwnAct port op }
+        IsSoundDevice port pages d → DeviceWants d op → IsAskedBy (device_times d) (device_calls d) port op }
     ensures inside { (port pages : ℕ) (d : FlatDevice) (op : Op) →
         pages < 2 ^ 32 → IsSoundDevice port pages d → DeviceWants d op → IsInside pages op }
     ensures host { (port pages : ℕ) (d : FlatDevice) (op : Op) →
