@@ -15,14 +15,14 @@ use Rattle.le_fields.specs.Fields.{bytes_of}
 use Rattle.port_table.specs.Acts as port
 use Rattle.port_table.specs.declared.state.PortState.{PortState}
 use Rattle.block_device.specs.Block.Change.{Sectors}
-use Rattle.guest_devices.specs.declared.drive.NewDrive.{NewDrive}
-use Rattle.guest_devices.specs.Devices.{BlockChanged, DeviceChange, FlatDevice, device_did, device_told, new_block_device}
+use Rattle.guest_devices.specs.declared.new_device.NewDevice.{NewDevice}
+use Rattle.guest_devices.specs.Devices.{BlockChanged, DeviceChange, FitsNew, FlatDevice, device_did, device_told, new_device}
 use Rattle.guest_devices.specs.Sound.{IsSoundDevice}
 use Rattle.guest_devices.proofs.Soundness.{did_sound, new_sound, told_sound}
 use Rattle.flat_guest.specs.Changes.{sectors_shown, sectors_told}
 use Rattle.flat_guest.specs.Guest.{Guest, Wants, WantsOf, whole_pages}
 use Rattle.flat_guest.specs.Sound.{AreSoundDevices}
-use Rattle.flat_guest.specs.Start.{drive_devices, drive_port}
+use Rattle.flat_guest.specs.Start.{devices_at_start, port_at_start}
 use Rattle.flat_guest.specs.Steps.{device_after, devices_after, memory_after, port_after, ports_after}
 use Rattle.flat_guest.proofs.Lengths.{pages_kept}
 use Rattle.flat_guest.proofs.Lists.{get_set_other, get_set_same, some_is}
@@ -125,33 +125,28 @@ sound_resized pages ports devices sound k sectors size = record {
 }
 
 -- and at the start
-started_many : (pages n : ℕ) (drives : List NewDrive) → length (map drive_port drives) ≡ length (drive_devices pages n drives)
+started_many : (pages n : ℕ) (all : List NewDevice) → length (map port_at_start all) ≡ length (devices_at_start pages n all)
 started_many pages n [] = refl
-started_many pages n (d ∷ drives) = ap suc (started_many pages (suc n) drives)
+started_many pages n (what ∷ others) = ap suc (started_many pages (suc n) others)
 
--- a drive has less than 2^64 sectors
-abbrev pub FitsDrive : NewDrive → Type 0
-FitsDrive d = d.sectors < 2 ^ 64
-
-started_each : (pages n : ℕ) (drives : List NewDrive) (k : ℕ) (d : FlatDevice) → All FitsDrive drives
-    → slice_get (drive_devices pages n drives) k ≡ Some d → IsSoundDevice (n + k) pages d
+started_each : (pages n : ℕ) (all : List NewDevice) (k : ℕ) (d : FlatDevice) → All FitsNew all
+    → slice_get (devices_at_start pages n all) k ≡ Some d → IsSoundDevice (n + k) pages d
 started_each pages n [] k d fit is = cc
-started_each pages n (x ∷ drives) zero d fit is =
-    let same : new_block_device n pages x.drive_id x.sectors x.is_read_only ≡ d = some_is _ d is in
+started_each pages n (what ∷ others) zero d fit is =
+    let same : new_device n pages what ≡ d = some_is _ d is in
     let first : n ≡ n + 0 = omega arith in
     subst (λ (i : ℕ). IsSoundDevice i pages d) first
-    (subst (λ (e : FlatDevice). IsSoundDevice n pages e) same
-    (new_sound n pages x.drive_id x.sectors x.is_read_only (All-head FitsDrive x drives fit)))
-started_each pages n (x ∷ drives) (suc k) d fit is =
+    (subst (λ (e : FlatDevice). IsSoundDevice n pages e) same (new_sound n pages what (All-head FitsNew what others fit)))
+started_each pages n (what ∷ others) (suc k) d fit is =
     let next : suc n + k ≡ n + suc k = omega arith in
     subst (λ (i : ℕ). IsSoundDevice i pages d) next
-    (started_each pages (suc n) drives k d (All-tail FitsDrive x drives fit) is)
+    (started_each pages (suc n) others k d (All-tail FitsNew what others fit) is)
 
-pub sound_drives : (pages : ℕ) (drives : List NewDrive) → All FitsDrive drives
-    → AreSoundDevices pages (map drive_port drives) (drive_devices pages 0 drives)
-sound_drives pages drives fit = record {
-  as_many = started_many pages 0 drives;
+pub sound_at_start : (pages : ℕ) (all : List NewDevice) → All FitsNew all
+    → AreSoundDevices pages (map port_at_start all) (devices_at_start pages 0 all)
+sound_at_start pages all fit = record {
+  as_many = started_many pages 0 all;
   each = λ k d is.
       let here : 0 + k ≡ k = omega arith in
-      subst (λ (i : ℕ). IsSoundDevice i pages d) here (started_each pages 0 drives k d fit is);
+      subst (λ (i : ℕ). IsSoundDevice i pages d) here (started_each pages 0 all k d fit is);
 }

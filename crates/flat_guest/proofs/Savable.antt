@@ -50,12 +50,14 @@ use Rattle.hart_trace.proofs.Traces.{leads_start, some_hart, wants_only}
 use Rattle.timer_trace.specs.States.{wants_by}
 use Rattle.timer_trace.proofs.Traces as timer_traces
 use Rattle.guest_devices.specs.declared.drive.NewDrive.{NewDrive}
+use Rattle.guest_devices.specs.declared.new_device.NewDevice.{NewDevice}
+use Rattle.guest_devices.specs.declared.new_device.NewDevice.TheVariants as kinds
 use Rattle.flat_guest.specs.Body.{out_reply, reply_at}
 use Rattle.flat_guest.specs.Changes.{resized, sectors_shown}
 use Rattle.flat_guest.specs.Guest.{Guest, Wants, WantsFrom, unwritten}
 use Rattle.flat_guest.specs.Savable.{IsSavable, IsSmallAct}
 use Rattle.flat_guest.specs.Sound.{IsSound}
-use Rattle.flat_guest.specs.Start.{drive_port, feature_if, offered, start_of_harts, started, timer_restarted}
+use Rattle.flat_guest.specs.Start.{drive_port, feature_if, offered, port_at_start, start_of_harts, started, timer_restarted}
 use Rattle.flat_guest.specs.Steps.{FlatStep, board_after, guest_after, memory_after, port_after, port_reply, ports_after}
 use Rattle.flat_guest.proofs.Lists.{get_lt}
 use Rattle.flat_guest.proofs.Soundness.{fit, hart_port_by, replied, same_hart, wants_from}
@@ -334,9 +336,10 @@ offered_small d =
 drive_kept : (d : NewDrive) → port_kept.IsKept Block (drive_port d)
 drive_kept d = port.new_stays Block (offered d) (bytes_of 8 d.sectors) (offered_small d) (all_bytes 8 d.sectors)
 
-drive_ports : (drives : List NewDrive) → All (port_kept.IsKept Block) (map drive_port drives)
-drive_ports [] = All-nil (port_kept.IsKept Block)
-drive_ports (d ∷ drives) = All-cons (port_kept.IsKept Block) (drive_port d) (map drive_port drives) (drive_kept d) (drive_ports drives)
+start_ports : (all : List NewDevice) → All (port_kept.IsKept Block) (map port_at_start all)
+start_ports [] = All-nil (port_kept.IsKept Block)
+start_ports (kinds.Block d ∷ others) =
+    All-cons (port_kept.IsKept Block) (drive_port d) (map port_at_start others) (drive_kept d) (start_ports others)
 
 starts_kept : (harts mib pages : ℕ) → mib ≤ 1024 → All (λ (r : Regs). IsKept (page_size * pages) (fresh r)) (start_of_harts harts mib)
 starts_kept harts mib pages few =
@@ -345,14 +348,14 @@ starts_kept harts mib pages few =
     (start_kept size image_start 0 (tree_start mib) (omega arith) refl (omega arith) (omega (arith, few)))
     (All-replicate (λ (r : Regs). IsKept size (fresh r)) harts stopped_regs (stopped_kept size))
 
-pub savable_start : (harts mib : ℕ) (loads : Loads) (drives : List NewDrive) → harts ≤ hart_limit → mib ≤ 1024
+pub savable_start : (harts mib : ℕ) (loads : Loads) (devices : List NewDevice) → harts ≤ hart_limit → mib ≤ 1024
     → memory_kept.AreLoads loads → length (boot_memory mib loads).bytes ≡ bytes_of_mib mib
-    → IsSavable (256 * mib) harts (started harts mib loads drives)
-savable_start harts mib loads drives few small all whole = record {
+    → IsSavable (256 * mib) harts (started harts mib loads devices)
+savable_start harts mib loads devices few small all whole = record {
   few = few;
   memory = booted_kept mib harts loads all whole;
   board = board.new_kept harts;
-  ports = drive_ports drives;
+  ports = start_ports devices;
   many =
       length-set (replicate harts stopped_regs) 0 (start_regs image_start 0 (tree_start mib))
       ∙ length-replicate {A = Regs} harts stopped_regs;

@@ -32,12 +32,13 @@ use Rattle.hart_trace.specs.Stopped.{stopped_regs}
 use Rattle.hart_trace.proofs.Leads.{leads_next}
 use Rattle.hart_trace.proofs.OneHart.{one_hart}
 use Rattle.hart_trace.proofs.Traces.{leads_start, some_hart, wants_only}
-use Rattle.guest_devices.specs.declared.drive.NewDrive.{NewDrive}
+use Rattle.guest_devices.specs.declared.new_device.NewDevice.{NewDevice}
+use Rattle.guest_devices.specs.declared.new_device.NewDevice.TheVariants as kinds
 use Rattle.flat_guest.specs.Body.{out_reply, reply_at}
 use Rattle.flat_guest.specs.Changes.{resized, sectors_shown}
 use Rattle.flat_guest.specs.Guest.{Guest, Wants, WantsFrom, unwritten}
 use Rattle.flat_guest.specs.Sound.{IsSound}
-use Rattle.flat_guest.specs.Start.{drive_port, start_of_harts, started, timer_restarted}
+use Rattle.flat_guest.specs.Start.{drive_port, port_at_start, start_of_harts, started, timer_restarted}
 use Rattle.flat_guest.specs.Steps.{FlatStep, board_after, guest_after, memory_after, port_after, port_reply, ports_after}
 use Rattle.flat_guest.proofs.Lists.{get_lt}
 use Rattle.flat_guest.proofs.Soundness.{fit, hart_port_by, replied, same_hart, wants_from}
@@ -184,9 +185,10 @@ shaped_makes pages harts (e ∷ es) g h actor sound is (unstamped, mid, step, mo
 
 -- ---- a start
 
-drive_ports : (drives : List NewDrive) → All IsBlockPort (map drive_port drives)
-drive_ports [] = All-nil IsBlockPort
-drive_ports (d ∷ drives) = All-cons IsBlockPort (drive_port d) (map drive_port drives) refl (drive_ports drives)
+start_ports : (all : List NewDevice) → All IsBlockPort (map port_at_start all)
+start_ports [] = All-nil IsBlockPort
+start_ports (kinds.Block d ∷ others) =
+    All-cons IsBlockPort (drive_port d) (map port_at_start others) refl (start_ports others)
 
 starts_shaped : (harts mib size : ℕ) → All (λ (r : Regs). hart.IsShaped size (fresh r)) (start_of_harts harts mib)
 starts_shaped harts mib size =
@@ -194,13 +196,13 @@ starts_shaped harts mib size =
     (start_shaped size image_start 0 (tree_start mib) refl)
     (All-replicate (λ (r : Regs). hart.IsShaped size (fresh r)) harts stopped_regs (stopped_shaped size))
 
-pub shaped_start : (harts mib : ℕ) (loads : Loads) (drives : List NewDrive) → harts ≤ hart_limit
-    → length (boot_memory mib loads).bytes ≡ bytes_of_mib mib → IsShaped (256 * mib) harts (started harts mib loads drives)
-shaped_start harts mib loads drives few whole = record {
+pub shaped_start : (harts mib : ℕ) (loads : Loads) (devices : List NewDevice) → harts ≤ hart_limit
+    → length (boot_memory mib loads).bytes ≡ bytes_of_mib mib → IsShaped (256 * mib) harts (started harts mib loads devices)
+shaped_start harts mib loads devices few whole = record {
   few = few;
   memory = booted_whole mib harts loads whole;
   board = new_long harts;
-  ports = drive_ports drives;
+  ports = start_ports devices;
   many =
       length-set (replicate harts stopped_regs) 0 (start_regs image_start 0 (tree_start mib))
       ∙ length-replicate {A = Regs} harts stopped_regs;

@@ -23,8 +23,8 @@ use Rattle.timer_trace.specs.States.{new_timer, wants_by}
 use Rattle.timer_trace.specs.Traces as timer
 use Rattle.timer_trace.proofs.Traces as timer_traces
 use Rattle.guest_memory.specs.Boot.{Loads, boot_memory}
-use Rattle.guest_devices.specs.declared.drive.NewDrive.{NewDrive}
-use Rattle.guest_devices.specs.Devices.{FlatDevice, device_calls, device_times}
+use Rattle.guest_devices.specs.declared.new_device.NewDevice.{NewDevice}
+use Rattle.guest_devices.specs.Devices.{FitsNew, FlatDevice, device_calls, device_times}
 use Rattle.guest_devices.proofs.Soundness.{some_want as device_want, want_own}
 use Rattle.flat_guest.specs.Changes.{resized}
 use Rattle.flat_guest.specs.Guest.{Guest, Wants, WantsFrom, WantsOf, is_actor, layout_of, whole_pages}
@@ -41,12 +41,12 @@ use Rattle.flat_guest.proofs.Lists.{get_lt, lt_get}
 no_steps : timer.IsPrefix []
 no_steps = timer_traces.timer_prefix [] new_timer timer_traces.leads_start
 
-pub sound_start : (harts mib : ℕ) (loads : Loads) (drives : List NewDrive) → All devices.FitsDrive drives
-    → IsSound (started harts mib loads drives)
-sound_start harts mib loads drives fit = record {
+pub sound_start : (harts mib : ℕ) (loads : Loads) (all : List NewDevice) → All FitsNew all
+    → IsSound (started harts mib loads all)
+sound_start harts mib loads all fit = record {
   timer_on = no_steps;
   harts_on = λ k start is. hart_prefix start [] (fresh start) (leads_start start);
-  devices_on = devices.sound_drives (whole_pages (boot_memory mib loads)) drives fit;
+  devices_on = devices.sound_at_start (whole_pages (boot_memory mib loads)) all fit;
 }
 
 pub sound_restart : (g : Guest) → IsSound g → IsSound (timer_restarted g)

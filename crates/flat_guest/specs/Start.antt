@@ -15,7 +15,9 @@ use Rattle.rv_supervisor.specs.declared.regs.Regs.{Regs}
 use Rattle.rv_supervisor.specs.Start.{start_regs}
 use Rattle.hart_trace.specs.Stopped.{stopped_regs}
 use Rattle.guest_devices.specs.declared.drive.NewDrive.{NewDrive}
-use Rattle.guest_devices.specs.Devices.{FlatDevice, new_block_device}
+use Rattle.guest_devices.specs.declared.new_device.NewDevice.{NewDevice}
+use Rattle.guest_devices.specs.declared.new_device.NewDevice.TheVariants as kinds
+use Rattle.guest_devices.specs.Devices.{FlatDevice, new_device}
 use Rattle.flat_guest.specs.Guest.{Guest, none_written, whole_pages}
 
 -- Hart 0 starts at the image, its number 0 in a0 and the device tree's address in a1, every other register 0. All
@@ -35,21 +37,24 @@ offered d = bit_or (feature_if d.is_read_only BlockReadOnly) (feature_if d.offer
 abbrev pub drive_port : NewDrive → PortState
 drive_port d = new_port Block (offered d) (bytes_of 8 d.sectors)
 
--- the devices of these drives in a guest of so many pages, numbered from k on
-abbrev pub drive_devices : ℕ → ℕ → List NewDrive → List FlatDevice
-drive_devices pages k [] = []
-drive_devices pages k (d ∷ drives) =
-    new_block_device k pages d.drive_id d.sectors d.is_read_only ∷ drive_devices pages (suc k) drives
+-- the port of a device, by its kind
+abbrev pub port_at_start : NewDevice → PortState
+port_at_start (kinds.Block d) = drive_port d
 
--- so many harts, with this much memory and this loaded into it, and a block device for each of these drives
-abbrev pub started : ℕ → ℕ → Loads → List NewDrive → Guest
-started harts mib loads drives = record {
+-- these devices, which have done nothing, in a guest of so many pages, numbered from k on
+abbrev pub devices_at_start : ℕ → ℕ → List NewDevice → List FlatDevice
+devices_at_start pages k [] = []
+devices_at_start pages k (what ∷ others) = new_device k pages what ∷ devices_at_start pages (suc k) others
+
+-- so many harts, with this much memory and this loaded into it, and these devices, each with its port
+abbrev pub started : ℕ → ℕ → Loads → List NewDevice → Guest
+started harts mib loads devices = record {
   memory = boot_memory mib loads;
   board = new_board harts;
-  ports = map drive_port drives;
+  ports = map port_at_start devices;
   starts = start_of_harts harts mib;
   steps = λ actor. [];
-  devices = drive_devices (whole_pages (boot_memory mib loads)) 0 drives;
+  devices = devices_at_start (whole_pages (boot_memory mib loads)) 0 devices;
   written = none_written;
 }
 

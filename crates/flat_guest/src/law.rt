@@ -8,7 +8,8 @@ ghost use Rattle.vm_types.specs.declared.op.Op.{Op};
 ghost use Rattle.vm_types.specs.declared.reply.Reply.{Reply};
 ghost use Rattle.guest_memory.specs.Boot.{Loads, boot_memory, bytes_of_mib};
 ghost use Rattle.guest_memory.specs.Reserved.{hart_limit};
-ghost use Rattle.guest_devices.specs.declared.drive.NewDrive.{NewDrive};
+ghost use Rattle.guest_devices.specs.declared.new_device.NewDevice.{NewDevice};
+ghost use Rattle.guest_devices.specs.Devices.{FitsNew};
 ghost use Rattle.flat_guest.specs.Changes.{resized};
 ghost use Rattle.flat_guest.specs.Guest.{Guest, Wants, is_actor};
 ghost use Rattle.flat_guest.specs.Same.{AreAlike};
@@ -36,8 +37,8 @@ pub fn one_step()
 /// A guest that has started is never stuck: each of its actors always wants something, which is done with whatever reply
 /// is due to it, and so on. A hart never waits for a reply of a host object.
 pub fn some_step()
-    ensures start { (harts mib : ℕ) (loads : Loads) (drives : List NewDrive) →
-        All (λ (d : NewDrive). d.sectors < 2 ^ 64) drives → IsSound (started harts mib loads drives) }
+    ensures start { (harts mib : ℕ) (loads : Loads) (devices : List NewDevice) →
+        All FitsNew devices → IsSound (started harts mib loads devices) }
     ensures restart { (g : Guest) → IsSound g → IsSound (timer_restarted g) }
     ensures resize { (g : Guest) (k sectors : ℕ) → sectors < 2 ^ 64 → IsSound g → IsSound (resized k sectors g) }
     ensures step { (g : Guest) (actor : ActorId) → IsSound g → is_actor g actor ≡ true →
@@ -54,9 +55,9 @@ pub fn some_step()
 
 /// A guest that has started with at most 32 harts is of the shape that a state file asks, and stays so.
 pub fn same_shape()
-    ensures start { (harts mib : ℕ) (loads : Loads) (drives : List NewDrive) → harts ≤ hart_limit →
+    ensures start { (harts mib : ℕ) (loads : Loads) (devices : List NewDevice) → harts ≤ hart_limit →
         length (boot_memory mib loads).bytes ≡ bytes_of_mib mib →
-        IsShaped (256 * mib) harts (started harts mib loads drives) }
+        IsShaped (256 * mib) harts (started harts mib loads devices) }
     ensures restart { (pages harts : ℕ) (g : Guest) → IsShaped pages harts g →
         IsShaped pages harts (timer_restarted g) }
     ensures resize { (pages harts : ℕ) (g : Guest) (k sectors : ℕ) → IsShaped pages harts g →

@@ -36,12 +36,12 @@ use Rattle.script_text.specs.declared.item.Item.{Item}
 use Rattle.script_text.specs.declared.item.Item.TheVariants as item
 use Rattle.response_form.specs.Responses.{Response}
 use Rattle.guest_devices.specs.declared.device.Device.{Device}
-use Rattle.guest_devices.specs.declared.drive.NewDrive.{NewDrive}
+use Rattle.guest_devices.specs.declared.new_device.NewDevice.{NewDevice}
 use Rattle.flat_guest.specs.Changes.{resized}
 use Rattle.flat_guest.specs.Guest.{Guest, is_actor, unwritten}
 use Rattle.flat_guest.specs.Shaped.{IsShaped}
 use Rattle.flat_guest.specs.Sound.{IsSound}
-use Rattle.flat_guest.specs.Start.{drive_port, started as started_guest, timer_restarted}
+use Rattle.flat_guest.specs.Start.{port_at_start, started as started_guest, timer_restarted}
 use Rattle.flat_guest.specs.Steps.{FlatStep, Makes, is_given}
 use Rattle.flat_guest.proofs.Devices.{told_many}
 use Rattle.flat_guest.proofs.Shaped.{shaped_drained, shaped_makes, shaped_next, shaped_resize, shaped_restart, shaped_start, shaped_unwritten}
@@ -58,12 +58,12 @@ use Rattle.flat_machine.specs.Outcome.Outcome.{Answered, Failed, NoMemory}
 use Rattle.flat_machine.specs.Machine.{Machine, drained, drained_guest, new_machine, phase_of, running_by}
 use Rattle.flat_machine.specs.Items.{ItemStep, MemoryLine, RegisterLine, RepliesLine, StepsLine, Talks}
 use Rattle.flat_machine.specs.Ready.{CanBeCopied, IsReadyGuest, IsTaken, Ready, ReadyBy}
-use Rattle.flat_machine.specs.Requests.{CreateFails, Creates, Fails, Leaves, LeavesBy, RequestStep, Restores, Stores, allowed, configured, disk_of, drive_from, drives_from, halted, image_by, image_of, loads_from, parent_in, created, patched_drive, carried, retold, sectors_of, start_refusal, started_from}
+use Rattle.flat_machine.specs.Requests.{CreateFails, Creates, Fails, Leaves, LeavesBy, RequestStep, Restores, Stores, allowed, configured, disk_of, devices_from, drive_from, halted, image_by, image_of, loads_from, parent_in, created, patched_drive, carried, retold, sectors_of, start_refusal, started_from}
 use Rattle.flat_machine.specs.Run.{Act, Run}
 use Rattle.flat_machine.proofs.Allowed.{IsAllowed, allowed_is, not_refused}
 use Rattle.flat_machine.proofs.Between.{allowed_later, by_either, leaves_of, one_many, several_many, started}
 use Rattle.flat_machine.proofs.Drives.{length-path}
-use Rattle.flat_machine.proofs.Sizes.{booted_size, drives_fit, few_sectors, start_fits}
+use Rattle.flat_machine.proofs.Sizes.{booted_size, devices_fit, few_sectors, start_fits}
 use Rattle.flat_machine.proofs.Taken.{allowed_fits, bounded, changed_taken, configured_taken, taken_configured}
 
 -- ---- one that is this one
@@ -185,12 +185,12 @@ module _ (m : Machine) (image : List ℕ) (ready : Ready m) (there : image_of m 
   abbrev new_guest : Guest
   new_guest =
       started_guest m.config.machine.vcpu_count m.config.machine.mem_size_mib (loads_from m.config image (disk_of m))
-      (drives_from m.config m.saved)
+      (devices_from m.config m.saved)
 
   new_sound : IsSound new_guest
   new_sound =
       sound_start m.config.machine.vcpu_count m.config.machine.mem_size_mib (loads_from m.config image (disk_of m))
-      (drives_from m.config m.saved) (drives_fit m.config m.saved)
+      (devices_from m.config m.saved) (devices_fit m.config m.saved)
 
   source_there : IsConfigured m.config
   source_there =
@@ -200,14 +200,14 @@ module _ (m : Machine) (image : List ℕ) (ready : Ready m) (there : image_of m 
   start_guest : IsReadyGuest (changed m.config change.Start) false new_guest
   start_guest =
       let within = bounded m.config ready.taken in
-      let drives : List NewDrive = drives_from m.config m.saved in record {
+      let devices : List NewDevice = devices_from m.config m.saved in record {
         sound = new_sound;
         ready = record {
           configured = record { source = source_there.source; drives = source_there.drives; machine = source_there.machine };
           shaped =
-              shaped_start m.config.machine.vcpu_count m.config.machine.mem_size_mib (loads_from m.config image (disk_of m)) drives
+              shaped_start m.config.machine.vcpu_count m.config.machine.mem_size_mib (loads_from m.config image (disk_of m)) devices
               within.harts (booted_size m.config image (disk_of m) within (start_fits m image none there));
-          devices = sym new_sound.devices_on.as_many ∙ length-map drives drive_port ∙ many_drives m.config.drives m.saved;
+          devices = sym new_sound.devices_on.as_many ∙ length-map devices port_at_start ∙ many_drives m.config.drives m.saved;
         };
         rests = λ stands. refl;
       }

@@ -16,10 +16,10 @@ use Rattle.api_rules.specs.declared.actions.InitrdFile.{InitrdFile}
 use Rattle.guest_memory.specs.Memory.{put_at}
 use Rattle.guest_memory.specs.Ram.{ram_start}
 use Rattle.guest_memory.specs.Boot.{Loads, boot_memory, bytes_of_mib, image_fits, image_offset, image_start, initrd_fits, initrd_start, laid, loads_fit, tree_size, tree_start, with_initrd}
-use Rattle.guest_devices.specs.declared.drive.NewDrive.{NewDrive}
+use Rattle.guest_devices.specs.Devices.{FitsNew}
 use Rattle.devtree.proofs.Sizes.{tree_fits}
 use Rattle.flat_machine.specs.Machine.{Machine}
-use Rattle.flat_machine.specs.Requests.{disk_by, disk_of, drive_from, drives_from, file_by, file_with, have_files, image_of, initrd_name, loads_from, place_of, sectors_of, start_refusal}
+use Rattle.flat_machine.specs.Requests.{disk_by, disk_of, devices_from, drive_from, file_by, file_with, have_files, image_of, initrd_name, loads_from, place_of, sectors_of, start_refusal}
 use Rattle.flat_machine.proofs.Taken.{IsBounded}
 
 -- ---- memory
@@ -88,10 +88,8 @@ pub few_sectors : (file : Option (List ℕ)) → sectors_of file < 2 ^ 64
 few_sectors None = omega arith
 few_sectors (Some bytes) = omega arith
 
-pub drives_fit : (config : Config) (saved : Saved) → All (λ (d : NewDrive). d.sectors < 2 ^ 64) (drives_from config saved)
-drives_fit config saved =
-    All-map (λ (d : NewDrive). d.sectors < 2 ^ 64) (drive_from saved) (in_order config.drives)
-    (λ k d lt. few_sectors _)
+pub devices_fit : (config : Config) (saved : Saved) → All FitsNew (devices_from config saved)
+devices_fit config saved = All-map FitsNew (drive_from saved) (in_order config.drives) (λ k d lt. few_sectors _)
 
 -- ---- what isn't refused
 

@@ -40,7 +40,8 @@ use Rattle.devtree.specs.declared.machine.InitrdPlace.{InitrdPlace}
 use Rattle.devtree.specs.Machine.{tree_bytes}
 use Rattle.response_form.specs.Responses.{Response}
 use Rattle.guest_devices.specs.declared.device.Device.{Device}
-use Rattle.guest_devices.specs.declared.drive.NewDrive.{NewDrive}
+use Rattle.guest_devices.specs.declared.new_device.NewDevice.{NewDevice}
+use Rattle.guest_devices.specs.declared.new_device.NewDevice.TheVariants as kinds
 use Rattle.flat_guest.specs.Changes.{resized}
 use Rattle.flat_guest.specs.Guest.{Guest, unwritten}
 use Rattle.flat_guest.specs.Start.{started, timer_restarted}
@@ -167,25 +168,25 @@ abbrev pub is_writeback : CacheType → Bool
 is_writeback cache.Unsafe = false
 is_writeback cache.Writeback = true
 
--- what a start makes of a drive, by the file under its name
-abbrev pub drive_from : Saved → Drive → NewDrive
-drive_from saved d = record {
+-- what a start makes of a drive, by the file under its name: a block device
+abbrev pub drive_from : Saved → Drive → NewDevice
+drive_from saved d = kinds.Block (record {
   drive_id = id_bytes d.drive_id;
   sectors = sectors_of (get saved d.path_on_host);
   is_read_only = d.is_read_only;
   offers_flush = is_writeback d.cache_type;
-}
+})
 
--- the drives of its devices: the root drive first
-abbrev pub drives_from : Config → Saved → List NewDrive
-drives_from config saved = map (drive_from saved) (in_order config.drives)
+-- the devices by their numbers: one for each drive, the root drive first
+abbrev pub devices_from : Config → Saved → List NewDevice
+devices_from config saved = map (drive_from saved) (in_order config.drives)
 
--- a start makes the guest of what it loads and of the drives, which runs
+-- a start makes the guest of what it loads and of the devices, which runs
 abbrev pub started_from : Option (List ℕ) → Option (List ℕ) → Machine → Machine
 started_from (Some image) disk m =
     record m {
       guest = Some (started m.config.machine.vcpu_count m.config.machine.mem_size_mib (loads_from m.config image disk)
-          (drives_from m.config m.saved));
+          (devices_from m.config m.saved));
       paused = false;
     }
 started_from None disk m = m

@@ -24,9 +24,11 @@ use Rattle.block_device.proofs.KeptStays.{kept_stays}
 use Rattle.block_device.proofs.Staying.{wants_inside, step_stays, change_stays}
 use Rattle.guest_devices.specs.declared.device.Device.{Device}
 use Rattle.guest_devices.specs.declared.device.Device.TheVariants as device
+use Rattle.guest_devices.specs.declared.new_device.NewDevice.{NewDevice}
+use Rattle.guest_devices.specs.declared.new_device.NewDevice.TheVariants as kinds
 use Rattle.guest_devices.specs.Devices.{DeviceLeft, BlockLeft, DeviceChange, BlockChanged, FlatDevice, BlockIs}
-use Rattle.guest_devices.specs.Devices.{DeviceLeads, DeviceWants, FitsChange, device_at, device_calls, device_changed, device_did}
-use Rattle.guest_devices.specs.Devices.{device_next, device_times, device_told, device_wants, new_block_device}
+use Rattle.guest_devices.specs.Devices.{DeviceLeads, DeviceWants, FitsChange, FitsNew, device_at, device_calls, device_changed, device_did}
+use Rattle.guest_devices.specs.Devices.{device_next, device_times, device_told, device_wants, new_device}
 use Rattle.guest_devices.specs.Kept.{IsBoundedDevice, device_left, device_pages, device_port, is_device_state}
 use Rattle.guest_devices.specs.Sound.{BlockHasKept, HasKept, IsSoundDevice, KeepsToItsOwn}
 use Rattle.guest_devices.proofs.Follows.{at_start, did_leads, left_wants, one_left, told_leads, wants_only}
@@ -121,12 +123,15 @@ module _ (port pages : ℕ) where
       → AsksOnly (device_calls d) (device_wants left)
   host_keeps (BlockIs start items) (BlockLeft t) l own = (wants_own port t own.asks).1
 
-pub new_sound : (port pages : ℕ) (id : List ℕ) (sectors : ℕ) (read_only : Bool) → sectors < 2 ^ 64
-    → IsSoundDevice port pages (new_block_device port pages id sectors read_only)
-new_sound port pages id sectors read_only size = (
+pub new_sound : (port pages : ℕ) (what : NewDevice) → FitsNew what → IsSoundDevice port pages (new_device port pages what)
+new_sound port pages (kinds.Block d) size = (
   BlockLeft _,
   refl,
-  record { asks = refl; stays = λ few. refl; kept = new_kept port pages id sectors read_only size },
+  record {
+    asks = refl;
+    stays = λ few. refl;
+    kept = new_kept port pages d.drive_id d.sectors d.is_read_only size;
+  },
 )
 
 pub kept_sound : (b : BlockState) → is_state b ≡ true → IsBounded b

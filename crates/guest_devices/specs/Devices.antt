@@ -13,6 +13,8 @@ use Rattle.device_trace.specs.States.{wants, next, leaves, changed_at, Leads}
 use Rattle.block_device.specs.declared.data.BlockData.{BlockData}
 use Rattle.block_device.specs.Block.{Change, block_rules, new_block}
 use Rattle.block_device.specs.Block.Change.{Sectors}
+use Rattle.guest_devices.specs.declared.new_device.NewDevice.{NewDevice}
+use Rattle.guest_devices.specs.declared.new_device.NewDevice.TheVariants as kinds
 
 -- what a device has still to do
 pub data DeviceLeft : Type 0 where
@@ -63,9 +65,17 @@ DeviceWants (BlockIs start items) op = Continues block_rules start items op
 abbrev pub device_at : DeviceLeft → FlatDevice
 device_at (BlockLeft t) = BlockIs t []
 
--- the block device of this port that has done nothing, in a guest of so many pages
-abbrev pub new_block_device : ℕ → ℕ → List ℕ → ℕ → Bool → FlatDevice
-new_block_device port pages id sectors read_only = device_at (BlockLeft (Ends (new_block port pages id sectors read_only)))
+-- what the device of this port has to do that has done nothing, in a guest of so many pages
+abbrev pub new_left : ℕ → ℕ → NewDevice → DeviceLeft
+new_left port pages (kinds.Block d) = BlockLeft (Ends (new_block port pages d.drive_id d.sectors d.is_read_only))
+
+-- that device
+abbrev pub new_device : ℕ → ℕ → NewDevice → FlatDevice
+new_device port pages what = device_at (new_left port pages what)
+
+-- its disk has less than 2^64 sectors
+abbrev pub FitsNew : NewDevice → Type 0
+FitsNew (kinds.Block d) = d.sectors < 2 ^ 64
 
 -- the calls of a device's host object
 abbrev pub device_calls : FlatDevice → OutOp → Bool

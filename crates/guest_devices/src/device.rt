@@ -1,13 +1,11 @@
 // A device of any kind as an actor.
 ghost use Rattle.std.specs.Prelude.{◌≡◌, true};
-ghost use Rattle.device_trace.specs.Script.{Ends};
-ghost use Rattle.block_device.specs.Block.{new_block};
 ghost use Rattle.block_device.specs.Block.Change.{Sectors};
-ghost use Rattle.guest_devices.specs.Devices.{BlockChanged, BlockLeft, device_changed};
+ghost use Rattle.guest_devices.specs.Devices.{BlockChanged, device_changed, new_left};
 ghost use Rattle.guest_devices.specs.Kept.{device_left, device_pages, device_port, is_kept};
 
 use crate::again::{block_again, block_port};
-use crate::drive::NewDrive;
+use crate::new_device::NewDevice;
 use block_device::Block;
 use vm_types::{Actor, Op, Reply};
 
@@ -18,18 +16,19 @@ pub enum Device {
 }
 
 impl Device {
-    /// The block device of this port that has done nothing, in a guest of so many pages.
-    pub fn block(port: u8, pages: u32, drive: &NewDrive) -> Device
-        ensures { device_left result ≡ BlockLeft (Ends
-            (new_block port pages drive.now.drive_id drive.now.sectors drive.now.is_read_only)) }
+    /// The device of this port that has done nothing, in a guest of so many pages.
+    pub fn new(port: u8, pages: u32, what: &NewDevice) -> Device
+        ensures { device_left result ≡ new_left port pages what.now }
     {
-        Device::Block(Block::new(
-            port,
-            pages,
-            drive.drive_id,
-            drive.sectors,
-            drive.is_read_only,
-        ))
+        match what {
+            NewDevice::Block(drive) => Device::Block(Block::new(
+                port,
+                pages,
+                drive.drive_id,
+                drive.sectors,
+                drive.is_read_only,
+            )),
+        }
     }
 
     /// The number of its port.

@@ -1,5 +1,5 @@
 // What holds of every device of a guest.
-ghost use Rattle.std.specs.Prelude.{◌≡◌, ◌<◌, ◌≤◌, ◌^◌, ◌++◌, ℕ, Bool, true, List};
+ghost use Rattle.std.specs.Prelude.{◌≡◌, ◌<◌, ◌≤◌, ◌^◌, ◌++◌, ℕ, true, List};
 ghost use Rattle.vm_types.specs.declared.entry.Step.{Step};
 ghost use Rattle.vm_types.specs.declared.op.Op.{Op};
 ghost use Rattle.vm_types.specs.Fits.{Fits};
@@ -15,9 +15,10 @@ ghost use Rattle.block_device.specs.GoesOn.{IsBounded};
 ghost use Rattle.block_device.specs.Kept.{is_state};
 ghost use Rattle.block_device.specs.States.{block_left};
 ghost use Rattle.guest_devices.specs.declared.device.Device.{Device};
-ghost use Rattle.guest_devices.specs.Devices.{BlockIs, BlockLeft, DeviceChange, DeviceLeads, DeviceLeft, DeviceWants, FitsChange};
+ghost use Rattle.guest_devices.specs.declared.new_device.NewDevice.{NewDevice};
+ghost use Rattle.guest_devices.specs.Devices.{BlockIs, BlockLeft, DeviceChange, DeviceLeads, DeviceLeft, DeviceWants, FitsChange, FitsNew};
 ghost use Rattle.guest_devices.specs.Devices.{FlatDevice, device_at, device_calls, device_changed, device_did, device_next};
-ghost use Rattle.guest_devices.specs.Devices.{device_times, device_told, device_wants, new_block_device};
+ghost use Rattle.guest_devices.specs.Devices.{device_times, device_told, device_wants, new_device};
 ghost use Rattle.guest_devices.specs.Kept.{IsBoundedDevice, device_left, device_pages, device_port, is_device_state};
 ghost use Rattle.guest_devices.specs.Sound.{IsSoundDevice};
 
@@ -52,8 +53,8 @@ pub fn devices_follow()
 /// it goes on from what was left of another, and with whatever bounded data a device may keep. In a guest of at most 2^20
 /// pages some device keeps what its items lead to.
 pub fn sound_devices()
-    ensures begins { (port pages : ℕ) (id : List ℕ) (sectors : ℕ) (read_only : Bool) → sectors < 2 ^ 64 →
-        IsSoundDevice port pages (new_block_device port pages id sectors read_only) }
+    ensures begins { (port pages : ℕ) (what : NewDevice) → FitsNew what →
+        IsSoundDevice port pages (new_device port pages what) }
     ensures stays { (port pages : ℕ) (d : FlatDevice) (s : Step) →
         IsSoundDevice port pages d → DeviceWants d s.op → Fits s.op s.reply →
         IsSoundDevice port pages (device_did d s) }

@@ -2,16 +2,19 @@
 //!
 //! `specs/Devices.antt` says what a device of any kind has still to do, and what it is in the flat machine:
 //! `devices_follow` and `sound_devices` have what holds of it. `Device` is the actor, and `want_of_device` and
-//! `give_device` are what is asked of one of several. `NewDrive` is what a block device starts with.
+//! `give_device` are what is asked of one of several. `NewDevice` is what a device of any kind starts with, and `NewDrive`
+//! what a block device does.
 #![tactic(auto)]
 
 mod again;
 mod device;
 mod drive;
 mod law;
+mod new_device;
 mod several;
 
 pub use device::Device;
 pub use drive::NewDrive;
 pub use law::{devices_follow, sound_devices};
+pub use new_device::NewDevice;
 pub use several::{give_device, want_of_device};

@@ -22,7 +22,7 @@ use Rattle.flat_guest.specs.Start.{started}
 use Rattle.flat_machine.specs.Machine.{Machine}
 use Rattle.flat_snapshot.specs.Found.{Snapshot}
 use Rattle.flat_machine.specs.Requests.{allowed, by_contents, decided, disk_of}
-use Rattle.flat_machine.specs.Requests.{drives_from, file_refusal, image_of, loads_from, start_refusal}
+use Rattle.flat_machine.specs.Requests.{devices_from, file_refusal, image_of, loads_from, start_refusal}
 use Rattle.vm_world.specs.Worlds.{IsWorld, WorldValue}
 use Rattle.monitor_plans.specs.declared.plan.Plan.{Plan}
 use Rattle.monitor_plans.specs.declared.plan.Plan.TheVariants as plan
@@ -179,14 +179,14 @@ refusal_is live known m is =
 
 loads_same : (live : LiveMachine) (known : FilesKnown) (m : Machine) (w : WorldValue) (image : List ℕ) → IsMachine live known m
     → IsWorld w (started live.config.machine.vcpu_count live.config.machine.mem_size_mib
-    (loads_from live.config image (disk_in live.config known.saved)) (drives_from live.config known.saved))
+    (loads_from live.config image (disk_in live.config known.saved)) (devices_from live.config known.saved))
     → IsWorld w (started m.config.machine.vcpu_count m.config.machine.mem_size_mib (loads_from m.config image (disk_of m))
-    (drives_from m.config m.saved))
+    (devices_from m.config m.saved))
 loads_same live known m w image is world =
     subst (λ (s : Saved). IsWorld w (started m.config.machine.vcpu_count m.config.machine.mem_size_mib
-    (loads_from m.config image (disk_in m.config s)) (drives_from m.config s))) is.files.saved_is
+    (loads_from m.config image (disk_in m.config s)) (devices_from m.config s))) is.files.saved_is
     (subst (λ (c : Config). IsWorld w (started c.machine.vcpu_count c.machine.mem_size_mib
-    (loads_from c image (disk_in c known.saved)) (drives_from c known.saved))) is.own.config_is world)
+    (loads_from c image (disk_in c known.saved)) (devices_from c known.saved))) is.own.config_is world)
 
 pub start_plan : (it : Plan) (live : LiveMachine) (known : FilesKnown) (m : Machine) (given : Next) → IsMachine live known m
     → decided m given ≡ Ok change.Start → StartGives it live.config known.saved → IsPlan it m given

@@ -32,7 +32,7 @@ use Rattle.flat_snapshot.specs.Found.{Snapshot, found}
 use Rattle.response_form.specs.declared.form.ResponseForm.{ResponseForm}
 use Rattle.response_form.specs.Responses.{Response, written_as}
 use Rattle.flat_machine.specs.Machine.{Machine}
-use Rattle.flat_machine.specs.Requests.{allowed, decided, disk_of, drives_from, image_of, loads_from, next_identity, parent_in, sectors_of}
+use Rattle.flat_machine.specs.Requests.{allowed, decided, disk_of, devices_from, image_of, loads_from, next_identity, parent_in, sectors_of}
 use Rattle.vm_world.specs.Worlds.{IsWorld, WorldValue}
 use Rattle.create_end.specs.Marks.{unmarked_world}
 use Rattle.monitor_plans.specs.declared.creating.Creation.{Creation}
@@ -134,7 +134,7 @@ IsPlan (plan.Stores kept) m given = (it : Change) × (allowed m given ≡ Ok it)
 IsPlan (plan.Starts w) m given =
     (allowed m given ≡ Ok change.Start) × (image : List ℕ) × (image_of m ≡ Some image)
     × IsWorld w (started m.config.machine.vcpu_count m.config.machine.mem_size_mib (loads_from m.config image (disk_of m))
-    (drives_from m.config m.saved))
+    (devices_from m.config m.saved))
 IsPlan (plan.Restores r) m given = IsRestore r m given
 IsPlan plan.FilesFailed m given = (it : Change) × (decided m given ≡ Ok it) × (reads_files it ≡ true)
 IsPlan plan.NoMemory m given = Unit {0}

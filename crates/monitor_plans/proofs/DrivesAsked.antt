@@ -13,7 +13,7 @@ use Rattle.vm_outside.specs.Filing.{SameFiles}
 use Rattle.vm_outside.specs.Known.{FilesKnown, Lasts, Tells}
 use Rattle.api_calls.specs.declared.call.Drive.{Drive}
 use Rattle.vm_config.specs.Drives.{in_order, is_root}
-use Rattle.guest_devices.specs.declared.drive.NewDrive.{NewDrive}
+use Rattle.guest_devices.specs.declared.new_device.NewDevice.{NewDevice}
 use Rattle.flat_machine.specs.Requests.{drive_from, have_files}
 use Rattle.monitor_plans.specs.declared.drives.DriveFiles.{DriveFiles}
 
@@ -89,7 +89,7 @@ cut_or_filled id k n is = by_test (nat_le n (length id)) refl
 
 module _ (saved : Saved) (drives : List Drive) where
   -- what was asked of the first of them
-  abbrev pub drives_to : ℕ → List NewDrive
+  abbrev pub drives_to : ℕ → List NewDevice
   drives_to i = map (drive_from saved) (take i (in_order drives))
 
   abbrev pub there_to : ℕ → Bool
@@ -98,10 +98,10 @@ module _ (saved : Saved) (drives : List Drive) where
   abbrev pub has_file : Drive → Bool
   has_file d = is_some (get saved d.path_on_host)
 
-  drive_more : (i : ℕ) (d : Drive) (before after : List NewDrive) → slice_get (in_order drives) i ≡ Some d
+  drive_more : (i : ℕ) (d : Drive) (before after : List NewDevice) → slice_get (in_order drives) i ≡ Some d
       → before ≡ drives_to i → after ≡ before ++ drive_from saved d ∷ [] → after ≡ drives_to (i + 1)
   drive_more i d before after is so_far more =
-      more ∙ ap (λ (l : List NewDrive). l ++ drive_from saved d ∷ []) so_far
+      more ∙ ap (λ (l : List NewDevice). l ++ drive_from saved d ∷ []) so_far
       ∙ sym (map-append (drive_from saved) (take i (in_order drives)) (d ∷ []))
       ∙ ap (map (drive_from saved)) (sym (one_more (in_order drives) i d is) ∙ ap (λ (n : ℕ). take n (in_order drives)) (sym (add-one i)))
 
@@ -124,7 +124,7 @@ module _ (saved : Saved) (drives : List Drive) where
       ∙ length-filter_both is_root (λ d. not (is_root d)) (λ d. refl) drives in
       ap (λ (n : ℕ). take n (in_order drives)) (sym many) ∙ take-length (in_order drives)
 
-  all_drives : (found : List NewDrive) → found ≡ drives_to (length drives) → found ≡ map (drive_from saved) (in_order drives)
+  all_drives : (found : List NewDevice) → found ≡ drives_to (length drives) → found ≡ map (drive_from saved) (in_order drives)
   all_drives found is = is ∙ ap (map (drive_from saved)) whole
 
   all_there : (there : Bool) → there ≡ there_to (length drives) → there ≡ have_files drives saved

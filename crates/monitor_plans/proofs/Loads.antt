@@ -13,15 +13,15 @@ use Rattle.guest_memory.specs.Boot.{Loads}
 use Rattle.vm_config.specs.declared.config.Config.{Config}
 use Rattle.devtree.specs.declared.machine.InitrdPlace.{InitrdPlace}
 use Rattle.devtree.specs.Machine.{tree_bytes}
-use Rattle.guest_devices.specs.declared.drive.NewDrive.{NewDrive}
+use Rattle.guest_devices.specs.declared.new_device.NewDevice.{NewDevice}
 use Rattle.flat_guest.specs.Start.{started}
-use Rattle.flat_machine.specs.Requests.{disk_by, drives_from, file_by, have_files, image_by, initrd_name, loads_from, place_of, start_refusal}
+use Rattle.flat_machine.specs.Requests.{disk_by, devices_from, file_by, have_files, image_by, initrd_name, loads_from, place_of, start_refusal}
 use Rattle.vm_world.specs.Worlds.{IsWorld, WorldValue}
 use Rattle.monitor_plans.specs.declared.plan.Plan.TheVariants as plan
 use Rattle.monitor_plans.specs.Starting.{StartGives, disk_in, image_in}
 
 pub loads_are : (config : Config) (image : List ℕ) (disk initrd : Option (List ℕ)) (place : Option InitrdPlace) (tree lent : List ℕ)
-    (drives : List NewDrive) (w : WorldValue) → initrd ≡ disk → place ≡ place_of config.machine.mem_size_mib disk → tree ≡ tree_bytes config place → lent ≡ tree
+    (drives : List NewDevice) (w : WorldValue) → initrd ≡ disk → place ≡ place_of config.machine.mem_size_mib disk → tree ≡ tree_bytes config place → lent ≡ tree
     → IsWorld w (started config.machine.vcpu_count config.machine.mem_size_mib (record { image = image; initrd = initrd; tree = lent }) drives)
     → IsWorld w (started config.machine.vcpu_count config.machine.mem_size_mib (loads_from config image disk) drives)
 loads_are config image disk initrd place tree lent drives w e p t l world =
@@ -47,10 +47,10 @@ there config len (initrd.There size) drives clear = refl
 
 -- a start that nothing refuses, by what each call on the files gave
 pub start_gives : (config : Config) (source : BootSource) (s0 s1 s2 s3 s4 : Saved) (path : List ℕ) (size : Option ℕ) (len : ℕ) (file : InitrdFile)
-    (image lent : List ℕ) (disk : Option (List ℕ)) (drives given : List NewDrive) (have : Bool) (w : WorldValue)
+    (image lent : List ℕ) (disk : Option (List ℕ)) (drives given : List NewDevice) (have : Bool) (w : WorldValue)
     → config.boot_source ≡ Some source → path ≡ source.kernel_image_path
     → size ≡ option_map length (get s0 path) → size ≡ Some len → s1 ≡ s0 → s2 ≡ s1 → s3 ≡ s2 → s4 ≡ s3 → file ≡ file_by source.initrd_path s1
-    → drives ≡ drives_from config s2 → have ≡ have_files config.drives s2
+    → drives ≡ devices_from config s2 → have ≡ have_files config.drives s2
     → None ≡ boot_refusal config (Some len) file have → length image ≡ len → IsReadAt (get s3 path) 0 image
     → (file ≡ file_by source.initrd_path s4 → is_missing file ≡ false → disk ≡ disk_by source.initrd_path s4) → lent ≡ image → given ≡ drives
     → IsWorld w (started config.machine.vcpu_count config.machine.mem_size_mib (loads_from config lent disk) given) → StartGives (plan.Starts w) config s0
@@ -80,13 +80,13 @@ start_gives config source s0 s1 s2 s3 s4 path size len file image lent disk driv
     dk (fe ∙ ap (file_by source.initrd_path) (sym (e4 ∙ e3 ∙ e2))) missing
     ∙ ap (λ (s : Saved). disk_by source.initrd_path s) (e4 ∙ e3 ∙ e2 ∙ e1)
     ∙ ap (λ (b : Option BootSource). disk_by (initrd_name b) s0) (sym eq) in
-    let drives_is : given ≡ drives_from config s0 = ge ∙ de ∙ ap (drives_from config) (e2 ∙ e1) in
-    let Made : List ℕ → Option (List ℕ) → List NewDrive → Type 0 = λ l d ds.
+    let drives_is : given ≡ devices_from config s0 = ge ∙ de ∙ ap (devices_from config) (e2 ∙ e1) in
+    let Made : List ℕ → Option (List ℕ) → List NewDevice → Type 0 = λ l d ds.
     IsWorld w (started config.machine.vcpu_count config.machine.mem_size_mib (loads_from config l d) ds) in (
       none,
       image,
       image_is,
-      subst (λ (ds : List NewDrive). Made image (disk_in config s0) ds) drives_is
+      subst (λ (ds : List NewDevice). Made image (disk_in config s0) ds) drives_is
           (subst (λ (d : Option (List ℕ)). Made image d given) disk_is
           (subst (λ (l : List ℕ). Made l disk given) le wd)),
     )

@@ -3,7 +3,7 @@ use Rattle.std.specs.Prelude.{◌≡◌, ℕ, List, Option, Some, None}
 use Rattle.vm_types.specs.Saved.{Saved}
 use Rattle.vm_config.specs.declared.config.Config.{Config}
 use Rattle.flat_guest.specs.Start.{started}
-use Rattle.flat_machine.specs.Requests.{disk_by, drives_from, image_by, initrd_name, loads_from, start_refusal}
+use Rattle.flat_machine.specs.Requests.{disk_by, devices_from, image_by, initrd_name, loads_from, start_refusal}
 use Rattle.vm_world.specs.Worlds.{IsWorld}
 use Rattle.monitor_plans.specs.declared.plan.Plan.{Plan}
 use Rattle.monitor_plans.specs.declared.plan.Plan.TheVariants as plan
@@ -19,7 +19,7 @@ abbrev pub StartGives : Plan → Config → Saved → Type 0
 StartGives (plan.Starts w) config saved =
     (start_refusal config saved ≡ None) × (image : List ℕ) × (image_in config saved ≡ Some image)
     × IsWorld w (started config.machine.vcpu_count config.machine.mem_size_mib (loads_from config image (disk_in config saved))
-    (drives_from config saved))
+    (devices_from config saved))
 StartGives (plan.Refused why) config saved = start_refusal config saved ≡ Some why
 StartGives plan.FilesFailed config saved = Unit {0}
 StartGives plan.NoMemory config saved = Unit {0}

@@ -10,7 +10,7 @@ ghost use Rattle.gate_file.specs.Reading.{FileCause};
 
 use api_calls::{CacheType, Drive};
 use gate_file::FileError;
-use guest_devices::NewDrive;
+use guest_devices::{NewDevice, NewDrive};
 use std::alloc::Global;
 use vm_config::Drives;
 use vm_outside::Files;
@@ -25,7 +25,7 @@ const SECTOR: u64 = 512;
 #[derive(Drop)]
 pub(crate) struct DriveFiles {
     /// What the block devices start with, in the order of devices.
-    pub drives: Vec<NewDrive>,
+    pub drives: Vec<NewDevice>,
     /// Whether each drive has its file.
     pub are_there: bool,
 }
@@ -60,16 +60,16 @@ pub(crate) fn sectors_of(size: Option<u64>) -> u64
 }
 
 // What a drive starts with whose file has this size.
-fn new_drive(drive: &Drive, size: Option<u64>) -> NewDrive
+fn new_drive(drive: &Drive, size: Option<u64>) -> NewDevice
     ensures { (saved : Saved) → size ≡ option_map length (get saved drive.now.path_on_host) →
         result ≡ drive_from saved drive.now }
 {
-    NewDrive {
+    NewDevice::Block(NewDrive {
         drive_id: id_bytes(drive.drive_id.as_bytes()),
         sectors: sectors_of(size),
         is_read_only: drive.is_read_only,
         offers_flush: is_writeback(drive.cache_type),
-    }
+    })
 }
 
 impl DriveFiles {

@@ -19,7 +19,7 @@ use boot_loader::Loads;
 use devtree::{InitrdPlace, write_tree};
 use flat_guest::MOST_MIB;
 use gate_file::{FileError, read_front};
-use guest_devices::NewDrive;
+use guest_devices::NewDevice;
 use guest_memory::initrd_start;
 use refusals::Refusal;
 use std::alloc::Global;
@@ -114,7 +114,7 @@ fn world_of(
     alloc: Global,
     machine: MachineConfig,
     loads: &Loads<'_>,
-    drives: &[NewDrive],
+    drives: &[NewDevice],
 ) -> Option<World>
     requires few { machine.vcpu_count ≤ 32 }
     requires small { machine.mem_size_mib ≤ 2 ^ 20 }
@@ -138,7 +138,7 @@ fn guest_of(
     config: &Config,
     image: &[u8],
     disk: &Option<ByteList>,
-    drives: &[NewDrive],
+    drives: &[NewDevice],
 ) -> Option<World>
     ensures { IfSome result (λ guest.
         IsWorld guest (started config.now.machine.vcpu_count config.now.machine.mem_size_mib

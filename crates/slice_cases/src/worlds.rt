@@ -1,6 +1,6 @@
 // Worlds of two harts, and a clock for their slices.
 use boot_loader::Loads;
-use guest_devices::NewDrive;
+use guest_devices::{NewDevice, NewDrive};
 use std::alloc::Global;
 use vm_host::{Clock, Host};
 use vm_types::{Entry, Op, is_same_op, is_same_place, is_same_reply};
@@ -51,13 +51,13 @@ fn loads_of(image: &[u8]) -> Loads<'_> {
     }
 }
 
-fn drive(sectors: u64) -> NewDrive {
-    NewDrive {
+fn drive(sectors: u64) -> NewDevice {
+    NewDevice::Block(NewDrive {
         drive_id: [0; 20],
         sectors,
         is_read_only: false,
         offers_flush: false,
-    }
+    })
 }
 
 /// Whether each step, one after the other, is as its event says.

@@ -13,12 +13,13 @@ use Rattle.boot_loader.specs.declared.loading.Start.{Start}
 use Rattle.board_table.specs.Board.{new_board}
 use Rattle.rv_supervisor.specs.Start.{start_regs}
 use Rattle.timer_trace.specs.States.{new_timer}
-use Rattle.guest_devices.specs.declared.drive.NewDrive.{NewDrive}
+use Rattle.guest_devices.specs.declared.new_device.NewDevice.{NewDevice}
+use Rattle.guest_devices.specs.Devices.{FitsNew}
 use Rattle.flat_guest.proofs.Marked.{none_marked}
 use Rattle.flat_guest.specs.Body.{Body, IsGuest, with_reply}
 use Rattle.flat_guest.specs.Guest.{whole_pages}
-use Rattle.flat_guest.specs.Start.{drive_port, started, start_of_harts}
-use Rattle.flat_guest.proofs.Devices.{FitsDrive, sound_drives}
+use Rattle.flat_guest.specs.Start.{port_at_start, started, start_of_harts}
+use Rattle.flat_guest.proofs.Devices.{sound_at_start}
 use Rattle.vm_world.specs.Starting.{harts_at_start, lefts_at_start}
 use Rattle.vm_world.proofs.Beginning.{all_pages, lefts_lead, lefts_many}
 
@@ -80,17 +81,17 @@ module _ (mib : ℕ) where
   abbrev pages_with : Loads → ℕ
   pages_with loads = whole_pages (boot_memory mib loads)
 
-  at_start : (n : ℕ) (loads : Loads) (drives : List NewDrive) (count : ℕ) → All FitsDrive drives
+  at_start : (n : ℕ) (loads : Loads) (given : List NewDevice) (count : ℕ) → All FitsNew given
       → IsGuest (record {
         memory = boot_memory mib loads;
         marks = replicate count false;
         board = new_board n;
-        ports = map drive_port drives;
+        ports = map port_at_start given;
         timer = new_timer;
         harts = harts_at_start n image_start (tree_start mib);
-        devices = lefts_at_start (pages_with loads) 0 drives;
-      }) (started n mib loads drives)
-  at_start n loads drives count fit = record {
+        devices = lefts_at_start (pages_with loads) 0 given;
+      }) (started n mib loads given)
+  at_start n loads given count fit = record {
     memory_is = refl;
     marks_are = none_marked count;
     board_is = refl;
@@ -98,31 +99,31 @@ module _ (mib : ℕ) where
     timer_is = timer_traces.leads_start;
     harts_are = record { count = as_many n; each = λ k start hart start_is hart_is. each_from n k start hart start_is hart_is };
     devices_are = record {
-      count = lefts_many (pages_with loads) 0 drives;
-      each = λ k d left is here. lefts_lead (pages_with loads) 0 drives k d left is here;
-      sound = sound_drives (pages_with loads) drives fit;
+      count = lefts_many (pages_with loads) 0 given;
+      each = λ k d left is here. lefts_lead (pages_with loads) 0 given k d left is here;
+      sound = sound_at_start (pages_with loads) given fit;
     };
   }
 
-  pub started_is : (n : ℕ) (loads : Loads) (drives : List NewDrive) (count pages : ℕ) (b : Body) (start : Start)
+  pub started_is : (n : ℕ) (loads : Loads) (given : List NewDevice) (count pages : ℕ) (b : Body) (start : Start)
       → b.memory ≡ boot_memory mib loads → b.marks ≡ replicate count false → b.board ≡ new_board n
-      → b.ports ≡ map drive_port drives → b.timer ≡ new_timer → start ≡ record { pc = image_start; tree = tree_start mib }
+      → b.ports ≡ map port_at_start given → b.timer ≡ new_timer → start ≡ record { pc = image_start; tree = tree_start mib }
       → b.harts ≡ harts_at_start n start.pc start.tree → length b.memory.bytes ≡ 4096 * pages
-      → b.devices ≡ lefts_at_start pages 0 drives → All FitsDrive drives → IsGuest b (started n mib loads drives)
-  started_is n loads drives count pages b start memory unmarked board ports timer begins harts long devices fit =
+      → b.devices ≡ lefts_at_start pages 0 given → All FitsNew given → IsGuest b (started n mib loads given)
+  started_is n loads given count pages b start memory unmarked board ports timer begins harts long devices fit =
       let here : b.harts ≡ harts_at_start n image_start (tree_start mib) =
       harts ∙ ap (λ (s : Start). harts_at_start n s.pc s.tree) begins in
       let all : pages ≡ pages_with loads = all_pages b.memory pages long ∙ ap whole_pages memory in
-      let lefts : b.devices ≡ lefts_at_start (pages_with loads) 0 drives =
-      devices ∙ ap (λ (k : ℕ). lefts_at_start k 0 drives) all in
+      let lefts : b.devices ≡ lefts_at_start (pages_with loads) 0 given =
+      devices ∙ ap (λ (k : ℕ). lefts_at_start k 0 given) all in
       let is : record {
         memory = boot_memory mib loads;
         marks = replicate count false;
         board = new_board n;
-        ports = map drive_port drives;
+        ports = map port_at_start given;
         timer = new_timer;
         harts = harts_at_start n image_start (tree_start mib);
-        devices = lefts_at_start (pages_with loads) 0 drives;
+        devices = lefts_at_start (pages_with loads) 0 given;
       } ≡ b = sym (λ i. record {
         memory = memory i;
         marks = unmarked i;
@@ -132,4 +133,4 @@ module _ (mib : ℕ) where
         harts = here i;
         devices = lefts i;
       }) in
-      subst (λ (c : Body). IsGuest c (started n mib loads drives)) is (at_start n loads drives count fit)
+      subst (λ (c : Body). IsGuest c (started n mib loads given)) is (at_start n loads given count fit)

@@ -8,9 +8,9 @@
 
 mod actors;
 mod burst;
-mod drives;
 mod hart_run;
 mod memory;
+mod starting;
 mod step_error;
 mod world;
 

@@ -26,15 +26,15 @@ mod changing;
 mod parting;
 
 use crate::actors::{give_hart, start_harts, want_of_hart};
-use crate::drives::{drive_devices, drive_ports};
 use crate::hart_run::{act_on_port, run_hart};
 use crate::memory::read_pages;
+use crate::starting::{devices_at_start, ports_at_start};
 use crate::step_error::{NoActor, NotRam, StepError, refusal_of};
 pub use crate::world::parting::WorldParts;
 use boot_loader::{BootError, Booted, Loads, boot};
 use decoded_words::DecodedWords;
 use flat_guest::{Layout, place};
-use guest_devices::{Device, NewDrive, give_device, want_of_device};
+use guest_devices::{Device, NewDevice, give_device, want_of_device};
 use guest_memory::PAGE_SIZE;
 use guest_pages::PageSet;
 use hart_rv64::Hart;
@@ -81,7 +81,7 @@ impl Model for World {
 
 impl World {
     /// The world as a start makes it, with so many harts, so many MiB of memory, at most `flat_guest::MOST_MIB`, and
-    /// this in it, and a block device with its port for each drive, of which there are at most 16. No page is marked.
+    /// this in it, and these devices with their ports, of which there are at most 16. No page is marked.
     ///
     /// Errors: `NoRoom` exactly where what is loaded does not fit, unless memory is wanting first, and `OutOfMemory`.
     pub fn start(
@@ -89,13 +89,13 @@ impl World {
         harts: usize,
         mem_size_mib: u64,
         loads: &Loads<'_>,
-        drives: &[NewDrive],
+        devices: &[NewDevice],
     ) -> Result<World, BootError>
         requires few { harts ≤ 32 }
         requires small { mem_size_mib ≤ 2 ^ 20 }
-        requires few_drives { length drives.now ≤ 16 }
+        requires few_devices { length devices.now ≤ 16 }
         ensures world { IfOk result (λ world.
-            IsWorld world (started harts mem_size_mib (loads_of loads.now) drives.now)) }
+            IsWorld world (started harts mem_size_mib (loads_of loads.now) devices.now)) }
         ensures marks { IfOk result (λ world. marks_of world.pages ≡ replicate (256 * mem_size_mib) false) }
         ensures room { OnOk result (have_room mem_size_mib (loads_of loads.now) ≡ true) }
         ensures no_room { IfErr result (λ why.
@@ -108,13 +108,13 @@ impl World {
         let Ok(harts) = start_harts(alloc, harts, start) else {
             return Err(BootError::OutOfMemory);
         };
-        let Ok(ports) = drive_ports(alloc, drives) else {
+        let Ok(ports) = ports_at_start(alloc, devices) else {
             return Err(BootError::OutOfMemory);
         };
-        let Ok(devices) = drive_devices(alloc, pages.len() as u32, drives) else {
+        let Ok(made) = devices_at_start(alloc, pages.len() as u32, devices) else {
             return Err(BootError::OutOfMemory);
         };
-        Ok(World::from_parts(pages, board, harts, ports, devices))
+        Ok(World::from_parts(pages, board, harts, ports, made))
     }
 
     /// The world that has these parts, with the timer at its start. There are at most 2^28 pages and 16 ports. It takes

@@ -8,7 +8,7 @@ ghost use Rattle.flat_guest.specs.Guest.{Guest};
 ghost use Rattle.vm_world.specs.Worlds.{IsWorld};
 
 use super::World;
-use crate::drives::capacity_bytes;
+use crate::starting::capacity_bytes;
 use guest_devices::Device;
 use mmio_port::Port;
 use vm_types::{ActorId, BoardOp, Op, Place};

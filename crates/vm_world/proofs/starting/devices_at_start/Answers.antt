@@ -2,10 +2,10 @@
 use Rattle.std.proofs.Common.{◌∙◌, ap}
 use Rattle.guest_devices.specs.Kept.{devices_left}
 use Rattle.vm_world.proofs.Beginning.{one_made}
-use Rattle.vm_world.proofs.drives.drive_devices.Goals as goal
+use Rattle.vm_world.proofs.starting.devices_at_start.Goals as goal
 
 pub loop-number-preserved : goal.loop-number-preserved
 loop-number-preserved c =
     ap devices_left c.in_ok-push.ensures.items
-    ∙ one_made c.args.pages c.loop-number.number c.loop-number.devices.items c.args.drives.now c.block.result _
-    c.loop-number-test.true c.loop-number.invariant c.block.ensures
+    ∙ one_made c.args.pages c.loop-number.number c.loop-number.made.items c.args.devices.now c.new-1.result _
+    c.loop-number-test.true c.loop-number.invariant c.new-1.ensures

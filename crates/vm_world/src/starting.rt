@@ -1,12 +1,12 @@
-// The ports and the devices of drives, as a start makes them.
+// The ports and the devices as a start makes them.
 ghost use Rattle.std.specs.Prelude.{◌≡◌, ◌≤◌, ◌<◌, ◌^◌, All, IfOk, OnOk, length, map};
 ghost use Rattle.le_fields.specs.Fields.{bytes_of};
-ghost use Rattle.guest_devices.specs.declared.drive.NewDrive.{NewDrive};
+ghost use Rattle.guest_devices.specs.Devices.{FitsNew};
 ghost use Rattle.guest_devices.specs.Kept.{devices_left};
 ghost use Rattle.flat_guest.specs.Start as start;
 ghost use Rattle.vm_world.specs.Starting.{lefts_at_start};
 
-use guest_devices::{Device, NewDrive};
+use guest_devices::{Device, NewDevice, NewDrive};
 use le_fields::put64;
 use mmio_port::Port;
 use port_table::{DeviceKind, Feature};
@@ -45,30 +45,39 @@ fn drive_port(drive: &NewDrive) -> Port
     )
 }
 
-/// A port for each drive, each of which has less than 2^64 sectors.
-pub fn drive_ports(alloc: Global, drives: &[NewDrive]) -> Result<Vec<Port>, AllocError>
-    ensures ports { IfOk result (λ ports. ports.items ≡ map start.drive_port drives.now) }
-    ensures fit { OnOk result (All (λ (d : NewDrive). d.sectors < 2 ^ 64) drives.now) }
+fn port_at_start(what: &NewDevice) -> Port
+    ensures port { result ≡ start.port_at_start what.now }
+    ensures fits { FitsNew what.now }
+{
+    match what {
+        NewDevice::Block(drive) => drive_port(drive),
+    }
+}
+
+/// A port for each device. What a device starts with fits.
+pub fn ports_at_start(alloc: Global, devices: &[NewDevice]) -> Result<Vec<Port>, AllocError>
+    ensures ports { IfOk result (λ ports. ports.items ≡ map start.port_at_start devices.now) }
+    ensures fit { OnOk result (All FitsNew devices.now) }
 {
     let mut ports = Vec::new(alloc);
-    for drive in drives {
-        ports.push(drive_port(drive))?;
+    for what in devices {
+        ports.push(port_at_start(what))?;
     }
     Ok(ports)
 }
 
-/// A block device for each drive, in a guest of so many pages. The first has the number 0.
-pub fn drive_devices(
+/// The devices, which have done nothing, in a guest of so many pages. The first has the number 0.
+pub fn devices_at_start(
     alloc: Global,
     pages: u32,
-    drives: &[NewDrive],
+    devices: &[NewDevice],
 ) -> Result<Vec<Device>, AllocError>
-    requires { length drives.now ≤ 16 }
-    ensures { IfOk result (λ devices. devices_left devices.items ≡ lefts_at_start pages 0 drives.now) }
+    requires { length devices.now ≤ 16 }
+    ensures { IfOk result (λ made. devices_left made.items ≡ lefts_at_start pages 0 devices.now) }
 {
-    let mut devices = Vec::new(alloc);
-    for (number, drive) in drives.iter().enumerate() {
-        devices.push(Device::block(number as u8, pages, drive))?;
+    let mut made = Vec::new(alloc);
+    for (number, what) in devices.iter().enumerate() {
+        made.push(Device::new(number as u8, pages, what))?;
     }
-    Ok(devices)
+    Ok(made)
 }
