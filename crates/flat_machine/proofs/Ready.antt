@@ -64,7 +64,7 @@ use Rattle.flat_machine.proofs.Allowed.{IsAllowed, allowed_is, not_refused}
 use Rattle.flat_machine.proofs.Between.{allowed_later, by_either, leaves_of, one_many, several_many, started}
 use Rattle.flat_machine.proofs.Drives.{length-path}
 use Rattle.flat_machine.proofs.Sizes.{booted_size, devices_fit, few_sectors, start_fits}
-use Rattle.flat_machine.proofs.Taken.{allowed_fits, bounded, changed_taken, configured_taken, taken_configured}
+use Rattle.flat_machine.proofs.Taken.{allowed_fits, bounded, changed_taken, configured_taken, default_taken, taken_configured}
 
 -- ---- one that is this one
 
@@ -455,7 +455,7 @@ run_ready (act ∷ acts) m n text ready (first, mid, rest, step, more, is) =
 -- one hart, 128 MiB and nothing else
 pub new_ready : (id : List ℕ) (saved : Saved) (calls : List FileCall) → Ready (new_machine id saved calls)
 new_ready id saved calls = record {
-  taken = record { source = tt; drives = refl; machine = refl };
+  taken = default_taken;
   guest = tt;
   next = omega arith;
 }

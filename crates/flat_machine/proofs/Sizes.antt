@@ -94,7 +94,7 @@ devices_fit config saved = All-map FitsNew (drive_from saved) (in_order config.d
 -- ---- what isn't refused
 
 -- what isn't refused by its files fits
-fits_last : (first second third fits : Bool) (why because last late : Refusal)
+pub fits_last : (first second third fits : Bool) (why because last late : Refusal)
     → (if first then Some why else (if second then Some because else (if third then Some last else (if not fits then Some late else None))))
     ≡ None → fits ≡ true
 fits_last true second third fits why because last late none = absurd cc

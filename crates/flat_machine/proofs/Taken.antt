@@ -1,29 +1,37 @@
 -- What the API takes is as a state file has it, and stays so with every change that is allowed.
-use Rattle.std.proofs.Common.{◌≡◌, ◌≤◌, ℕ, Bool, true, false, nat_le, if◌then◌else◌, refl, sym, subst, List, length, Option, Some, None, arith}
-use Rattle.std.specs.Prelude.{unwrap_or}
+use Rattle.std.proofs.Common.{◌≡◌, ◌≤◌, ◌*◌, ℕ, Bool, true, false, nat_le, if◌then◌else◌, refl, sym, subst, List, length, replicate, Option, Some, None, Ok, arith}
+use Rattle.std.specs.Prelude.{IsTrue, unwrap_or}
 use Rattle.std.proofs.lemmas.Bool.{and_from, and_parts, le-leb, leb-true}
+use Rattle.std.proofs.lemmas.List.{length-replicate}
 use Rattle.refusals.specs.declared.refusal.Refusal.{Refusal}
+use Rattle.http_stream.specs.declared.request.Request.{Request}
+use Rattle.guest_memory.specs.Ram.{page_size}
 use Rattle.api_calls.specs.declared.call.ApiCall.{ApiCall}
 use Rattle.api_calls.specs.declared.call.ApiCall.TheVariants as call
 use Rattle.api_calls.specs.declared.call.BootSource.{BootSource}
 use Rattle.api_calls.specs.declared.call.MachineConfig.{MachineConfig}
+use Rattle.api_calls.specs.Call.{call_of}
 use Rattle.api_calls.specs.Form.{holds, is_path}
 use Rattle.api_calls.proofs.Asked.{IsAsked, asked_is}
 use Rattle.api_calls.proofs.Ranges.{IsWithin}
 use Rattle.vm_config.specs.declared.config.Config.{Config}
 use Rattle.vm_config.specs.declared.change.Change.{Change}
 use Rattle.vm_config.specs.declared.change.Change.TheVariants as change
-use Rattle.vm_config.specs.Changes.{changed}
+use Rattle.vm_config.specs.declared.config.Phase.{Phase}
+use Rattle.vm_config.specs.Changes.{changed, default_config}
 use Rattle.vm_config.specs.Devices.{device_count}
-use Rattle.vm_config.specs.Drives.{put_drive}
-use Rattle.api_rules.specs.Table.{change_of, own_refusal, patched}
+use Rattle.api_rules.specs.declared.ids.Ids.{Ids}
+use Rattle.api_rules.specs.Table.{change_of, decision, misplaced, own_refusal, patched, unless, when_allowed}
 use Rattle.devtree.specs.Machine.{args_by}
-use Rattle.snap_state.specs.Valid.{are_drives, are_paths, is_machine, is_source}
+use Rattle.snap_state.specs.Valid.{are_paths, is_machine, is_source, is_valid}
+use Rattle.snap_state.specs.declared.copy.StateCopy.{StateCopy}
+use Rattle.flat_snapshot.specs.Carried.{carried_config}
 use Rattle.flat_snapshot.specs.Copies.{source_of}
 use Rattle.flat_snapshot.specs.Ready.{IsConfigured}
+use Rattle.flat_snapshot.proofs.CarriedReady.{carried_ready}
 use Rattle.flat_machine.specs.Machine.{Machine, phase_of}
-use Rattle.flat_machine.specs.Ready.{IsSourceBy, IsTaken}
-use Rattle.flat_machine.proofs.Allowed.{IsAllowed}
+use Rattle.flat_machine.specs.Ready.{IsFitting, IsSourceBy, IsTaken}
+use Rattle.flat_machine.proofs.Allowed.{IsAllowed, not_refused, same_change}
 use Rattle.flat_machine.proofs.Drives.{drives_few, path_told, put_told}
 
 -- ---- within bounds
@@ -65,14 +73,6 @@ bounded config taken =
 
 -- ---- a change of what is asked
 
--- what a change makes of a configuration is so too
-abbrev pub IsFitting : Config → Change → Type 0
-IsFitting config (change.BootSource source) = is_source (source_of (Some source)) ≡ true
-IsFitting config (change.PutDrive drive) = are_drives (put_drive config.drives drive) ≡ true
-IsFitting config (change.PatchDrive patch) = holds is_path patch.path_on_host ≡ true
-IsFitting config (change.MachineConfig machine) = is_machine machine ≡ true
-IsFitting config it = Unit {0}
-
 first_row : (first second : Bool) (why because : Refusal) → (if first then Some why else (if second then Some because else None)) ≡ None
     → first ≡ false
 first_row true second why because none = absurd cc
@@ -93,32 +93,46 @@ given_within : (o : Option ℕ) (n least most : ℕ) → IsWithin least most n �
 given_within None n least most old new = old
 given_within (Some k) n least most old new = new k refl
 
-call_fits : (m : Machine) (c : ApiCall) → IsTaken m.config → IsAsked c → own_refusal (phase_of m) m.config m.ids c ≡ None
-    → IsFitting m.config (change_of m.config c)
-call_fits m (call.PutBootSource source) taken asked own =
-    and_from _ (nat_le (length source.boot_args) 2048)
-    (and_from (is_path source.kernel_image_path) (are_paths source.initrd_path) asked.0 (paths_are source.initrd_path asked.1))
-    (le-leb (length source.boot_args) 2048 asked.2)
-call_fits m (call.PutDrive drive) taken asked own =
-    put_told drive m.config.drives taken.drives (and_from _ _ asked.0 asked.1) (first_row _ _ _ _ own) (second_row _ _ _ _ own)
-call_fits m (call.PatchDrive patch) taken asked own = asked.1
-call_fits m (call.PutMachineConfig machine) taken asked own = machine_is machine asked.0 asked.1
-call_fits m (call.PatchMachineConfig patch) taken asked own =
-    let old = machine_within m.config.machine taken.machine in
-    machine_is (patched m.config.machine patch) (given_within patch.vcpu_count m.config.machine.vcpu_count 1 32 old.0 asked.0)
-    (given_within patch.mem_size_mib m.config.machine.mem_size_mib 4 1024 old.1 asked.1)
-call_fits m (call.PutMetadata body) taken asked own = tt
-call_fits m (call.PatchMetadata patch) taken asked own = tt
-call_fits m call.InstanceStart taken asked own = tt
-call_fits m (call.PatchVm state) taken asked own = tt
-call_fits m (call.CreateSnapshot it) taken asked own = tt
-call_fits m (call.LoadSnapshot load) taken asked own = tt
-call_fits m (call.Get part) taken asked own = tt
+module _ (p : Phase) (config : Config) (ids : Ids) (taken : IsTaken config) where
+  call_fits : (c : ApiCall) → IsAsked c → own_refusal p config ids c ≡ None → IsFitting config (change_of config c)
+  call_fits (call.PutBootSource source) asked own =
+      and_from _ (nat_le (length source.boot_args) 2048)
+      (and_from (is_path source.kernel_image_path) (are_paths source.initrd_path) asked.0 (paths_are source.initrd_path asked.1))
+      (le-leb (length source.boot_args) 2048 asked.2)
+  call_fits (call.PutDrive drive) asked own =
+      put_told drive config.drives taken.drives (and_from _ _ asked.0 asked.1) (first_row _ _ _ _ own) (second_row _ _ _ _ own)
+  call_fits (call.PatchDrive patch) asked own = asked.1
+  call_fits (call.PutMachineConfig machine) asked own = machine_is machine asked.0 asked.1
+  call_fits (call.PatchMachineConfig patch) asked own =
+      let old = machine_within config.machine taken.machine in
+      machine_is (patched config.machine patch) (given_within patch.vcpu_count config.machine.vcpu_count 1 32 old.0 asked.0)
+      (given_within patch.mem_size_mib config.machine.mem_size_mib 4 1024 old.1 asked.1)
+  call_fits (call.PutMetadata body) asked own = tt
+  call_fits (call.PatchMetadata patch) asked own = tt
+  call_fits call.InstanceStart asked own = tt
+  call_fits (call.PatchVm state) asked own = tt
+  call_fits (call.CreateSnapshot it) asked own = tt
+  call_fits (call.LoadSnapshot load) asked own = tt
+  call_fits (call.Get part) asked own = tt
+
+  -- what a call comes to, where it isn't refused
+  pub asked_fits : (request : Request) (c : ApiCall) (it : Change) → call_of request ≡ Ok c → own_refusal p config ids c ≡ None
+      → change_of config c ≡ it → IsFitting config it
+  asked_fits request c it is own same =
+      subst (λ (x : Change). IsFitting config x) same (call_fits c (asked_is request c is) own)
+
+  pub decided_fits : (request : Request) (c : ApiCall) (it : Change) → call_of request ≡ Ok c → decision p config ids c ≡ Ok it
+      → IsFitting config it
+  decided_fits request c it is asks =
+      let due : Change = change_of config c in
+      let own : Option Refusal = own_refusal p config ids c in
+      let placed = not_refused (misplaced (when_allowed c) p) (unless own (Ok due)) it asks in
+      let known = not_refused own (Ok due) it placed.1 in
+      asked_fits request c it is known.0 (same_change due it known.1)
 
 pub allowed_fits : (m : Machine) (it : Change) → IsTaken m.config → IsAllowed m it → IsFitting m.config it
 allowed_fits m it taken known =
-    subst (λ (c : Change). IsFitting m.config c) known.change_is
-    (call_fits m known.asked taken (asked_is known.request known.asked known.call_is) known.own)
+    asked_fits (phase_of m) m.config m.ids taken known.request known.asked it known.call_is known.own known.change_is
 
 pub changed_taken : (config : Config) (it : Change) → IsTaken config → IsFitting config it → IsTaken (changed config it)
 changed_taken config (change.BootSource source) taken fit = record { source = fit; drives = taken.drives; machine = taken.machine }
@@ -154,3 +168,15 @@ taken_configured config source there taken = record {
   drives = taken.drives;
   machine = taken.machine;
 }
+
+-- ---- at first, and behind a load
+
+pub default_taken : IsTaken default_config
+default_taken = record { source = tt; drives = refl; machine = refl }
+
+-- what goes on from a copy that a file can have; its bytes don't matter
+pub carried_taken : (tracking : Bool) (copy : StateCopy) → IsTrue (is_valid copy) → IsTaken (carried_config tracking copy.configuration)
+carried_taken tracking copy valid =
+    let bytes : List ℕ = replicate (page_size * copy.pages) 0 in
+    configured_taken (carried_config tracking copy.configuration)
+    (carried_ready copy bytes tracking valid (length-replicate {A = ℕ} (page_size * copy.pages) 0)).configured

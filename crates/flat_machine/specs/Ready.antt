@@ -2,7 +2,11 @@
 use Rattle.std.specs.Prelude.{◌≡◌, ◌≤◌, ◌*◌, Bool, true, [], length, IsTrue, Option, Some, None}
 use Rattle.vm_types.specs.declared.ids.ActorId.TheVariants.{Timer}
 use Rattle.api_calls.specs.declared.call.BootSource.{BootSource}
+use Rattle.api_calls.specs.Form.{holds, is_path}
 use Rattle.vm_config.specs.declared.config.Config.{Config}
+use Rattle.vm_config.specs.declared.change.Change.{Change}
+use Rattle.vm_config.specs.declared.change.Change.TheVariants as change
+use Rattle.vm_config.specs.Drives.{put_drive}
 use Rattle.guest_memory.specs.Ram.{page_size}
 use Rattle.flat_guest.specs.Guest.{Guest}
 use Rattle.flat_guest.specs.Sound.{IsSound}
@@ -23,6 +27,14 @@ pub record IsTaken (config : Config) : Type 0 where
   pub source : IsSourceBy config.boot_source
   pub drives : are_drives config.drives ≡ true
   pub machine : is_machine config.machine ≡ true
+
+-- a change leaves it so
+abbrev pub IsFitting : Config → Change → Type 0
+IsFitting config (change.BootSource source) = is_source (source_of (Some source)) ≡ true
+IsFitting config (change.PutDrive drive) = are_drives (put_drive config.drives drive) ≡ true
+IsFitting config (change.PatchDrive patch) = holds is_path patch.path_on_host ≡ true
+IsFitting config (change.MachineConfig machine) = is_machine machine ≡ true
+IsFitting config it = Unit {0}
 
 -- The guest is never stuck, and has what is configured. Where it stands still, its timer is at its start.
 pub record IsReadyGuest (config : Config) (paused : Bool) (g : Guest) : Type 0 where

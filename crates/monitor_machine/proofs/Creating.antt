@@ -104,6 +104,20 @@ create_task (task.Create c) live w it parent identity there since own gives = (
       },
 )
 
+-- and it leaves what is configured as it was
+pub create_fits : (made : Task) (config of_guest : Config) (parent : Option Identity) (identity : Identity) (w : WorldValue) (names : SnapshotFiles)
+    → CreateGives made of_guest parent identity w names → IsFittingTask made config
+create_fits (task.Plan plan.NoMemory) config of_guest parent identity w names gives = tt
+create_fits (task.Plan (plan.Refused why)) config of_guest parent identity w names gives = absurd gives
+create_fits (task.Plan (plan.Changes c)) config of_guest parent identity w names gives = absurd gives
+create_fits (task.Plan (plan.Drives drives)) config of_guest parent identity w names gives = absurd gives
+create_fits (task.Plan (plan.Resizes r)) config of_guest parent identity w names gives = absurd gives
+create_fits (task.Plan (plan.Stores kept)) config of_guest parent identity w names gives = absurd gives
+create_fits (task.Plan (plan.Starts guest)) config of_guest parent identity w names gives = absurd gives
+create_fits (task.Plan (plan.Restores r)) config of_guest parent identity w names gives = absurd gives
+create_fits (task.Plan plan.FilesFailed) config of_guest parent identity w names gives = absurd gives
+create_fits (task.Create c) config of_guest parent identity w names gives = tt
+
 -- the bytes of the pages that are written
 abbrev pub written_of : Creation → WorldValue → List ℕ
 written_of c w = selected (numbers_in c.numbers) (flat_of w.pages).bytes

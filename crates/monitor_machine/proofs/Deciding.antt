@@ -6,6 +6,7 @@ use Rattle.http_stream.specs.declared.request.Request.{Request}
 use Rattle.http_stream.specs.declared.request.Next.TheVariants as next
 use Rattle.api_calls.specs.declared.call.ApiCall.{ApiCall}
 use Rattle.api_calls.specs.declared.call.ApiCall.TheVariants as call
+use Rattle.api_calls.specs.declared.call.SnapshotCreate.{SnapshotCreate}
 use Rattle.api_calls.specs.Call.{call_of, ◌>>=◌}
 use Rattle.api_calls.proofs.Asked.{asked_is}
 use Rattle.vm_config.specs.declared.config.Config.{Config}
@@ -19,7 +20,7 @@ use Rattle.flat_machine.specs.Machine as machine
 use Rattle.flat_machine.specs.Requests.{decided}
 use Rattle.vm_world.specs.Worlds.{WorldValue}
 use Rattle.monitor_machine.specs.declared.machine.LiveMachine.{LiveMachine}
-use Rattle.monitor_machine.specs.Plans.{HasTwoFiles, needs_files, phase_by, phase_of}
+use Rattle.monitor_machine.specs.Plans.{HasGuest, HasTwoFiles, needs_files, phase_by, phase_of}
 use Rattle.monitor_machine.specs.Replying.{calls_files}
 use Rattle.monitor_machine.specs.State.{IsGuestBy, IsLive}
 
@@ -76,6 +77,30 @@ two_files p config ids it c is request asks = subst HasTwoFiles (change_is p con
     by_call (call.CreateSnapshot files) asks = (asked_is request (call.CreateSnapshot files) asks).2
     by_call (call.LoadSnapshot load) asks = tt
     by_call (call.Get part) asks = tt
+
+-- a create has a guest: it comes after a start
+pub has_guest : (guest : Option WorldValue) (paused : Bool) (config : Config) (ids : Ids) (it : ApiCall) (c : Change)
+    → decision (phase_by guest paused) config ids it ≡ Ok c → HasGuest c guest
+has_guest guest paused config ids it c is = subst (λ (x : Change). HasGuest x guest) (change_is (phase_by guest paused) config ids it c is) (by_call it is)
+  where
+    behind : (w : Option WorldValue) (files : SnapshotCreate) → decision (phase_by w paused) config ids (call.CreateSnapshot files) ≡ Ok c
+        → is_some w ≡ true
+    behind None files is = absurd cc
+    behind (Some w) files is = refl
+
+    by_call : (it : ApiCall) → decision (phase_by guest paused) config ids it ≡ Ok c → HasGuest (change_of config it) guest
+    by_call (call.PutBootSource source) is = tt
+    by_call (call.PutDrive drive) is = tt
+    by_call (call.PatchDrive patch) is = tt
+    by_call (call.PutMachineConfig machine) is = tt
+    by_call (call.PatchMachineConfig patch) is = tt
+    by_call (call.PutMetadata body) is = tt
+    by_call (call.PatchMetadata patch) is = tt
+    by_call call.InstanceStart is = tt
+    by_call (call.PatchVm state) is = tt
+    by_call (call.CreateSnapshot files) is = behind guest files is
+    by_call (call.LoadSnapshot load) is = tt
+    by_call (call.Get part) is = tt
 
 -- ---- which calls call the files
 

@@ -32,7 +32,8 @@ use Rattle.flat_snapshot.specs.Found.{Snapshot, found}
 use Rattle.response_form.specs.declared.form.ResponseForm.{ResponseForm}
 use Rattle.response_form.specs.Responses.{Response, written_as}
 use Rattle.flat_machine.specs.Machine.{Machine}
-use Rattle.flat_machine.specs.Requests.{allowed, decided, disk_of, devices_from, image_of, loads_from, next_identity, parent_in, sectors_of}
+use Rattle.flat_machine.specs.Ready.{IsFitting}
+use Rattle.flat_machine.specs.Requests.{allowed, decided, devices_from, disk_of, image_of, loads_from, next_identity, parent_in, sectors_of}
 use Rattle.vm_world.specs.Worlds.{IsWorld, WorldValue}
 use Rattle.create_end.specs.Marks.{unmarked_world}
 use Rattle.monitor_plans.specs.declared.creating.Creation.{Creation}
@@ -150,6 +151,18 @@ HasTwoNames names = names.mem_file_path ≢ names.snapshot_path
 abbrev pub HasTwoFiles : Change → Type 0
 HasTwoFiles (change.CreateSnapshot it) = HasTwoNames it.files
 HasTwoFiles it = Unit {0}
+
+-- a create is of a guest that is there
+abbrev pub HasGuest : Change → Option WorldValue → Type 0
+HasGuest (change.CreateSnapshot it) world = is_some world ≡ true
+HasGuest it world = Unit {0}
+
+-- what is known of a change that the machine decided for: it leaves what is configured as the API takes it, and a create has a
+-- guest and two files
+pub record IsDue (live : LiveMachine) (it : Change) : Type 0 where
+  pub fits : IsFitting live.config it
+  pub guest : HasGuest it live.guest
+  pub two : HasTwoFiles it
 
 -- there is a world, and it has the pages that a create writes
 abbrev pub HasPages : Option WorldValue → Creation → Type 0

@@ -3,9 +3,10 @@ ghost use Rattle.std.specs.Prelude.{◌≡◌};
 ghost use Rattle.vm_outside.specs.Known.{FilesKnown};
 ghost use Rattle.flat_machine.specs.Machine.{Machine, is_off, console_of, new_machine};
 
-use api_rules::{Config, Ids};
+use api_rules::Ids;
 pub use lines::drain_all;
 use metadata_store::Store;
+use monitor_plans::Taken;
 use std::alloc::Global;
 use vm_types::TextList;
 use vm_world::World;
@@ -24,7 +25,7 @@ pub struct LiveMachine {
     alloc: Global,
     id: TextList,
     ids: Ids,
-    config: Config,
+    config: Taken,
     metadata: Store,
     guest: Option<World>,
     paused: bool,
@@ -45,7 +46,7 @@ impl LiveMachine {
                 base: None,
                 next: 1,
             },
-            config: Config::new(alloc),
+            config: Taken::new(alloc),
             metadata: Store::new(alloc),
             guest: None,
             paused: false,

@@ -1,5 +1,5 @@
 -- The files of the drives, asked one after another.
-use Rattle.std.proofs.Common.{◌≡◌, ℕ, zero, suc, ◌+◌, ◌-◌, ◌≤◌, nat_le, min, Bool, true, false, not, ◌&&◌, cond, refl, sym, ap, ◌∙◌, List, [], ◌∷◌, ◌++◌, Some, None, length, map, take, drop, replicate, slice_get, arith, add-one}
+use Rattle.std.proofs.Common.{◌≡◌, ℕ, zero, suc, ◌+◌, ◌-◌, ◌≤◌, ◌<◌, nat_le, min, Bool, true, false, not, ◌&&◌, cond, refl, sym, ap, ◌∙◌, List, [], ◌∷◌, ◌++◌, Some, None, length, map, take, drop, replicate, slice_get, arith, add-one}
 use Rattle.std.specs.Prelude.{is_some}
 use Rattle.std.specs.FinMap.{get}
 use Rattle.std.specs.List.{filter, list_all}
@@ -7,15 +7,22 @@ use Rattle.std.proofs.lemmas.Bool.{leb-false, leb-true}
 use Rattle.std.proofs.lemmas.List.{append-nil, drop-replicate, length-append, map-append, take-append-le, take-replicate}
 use Rattle.std.proofs.lemmas.List.Filters.{length-filter_both}
 use Rattle.std.proofs.lemmas.List.Folds.{list_all-append}
+use Rattle.std.proofs.lemmas.List.Quantifiers.{position-Some}
 use Rattle.std.proofs.Math.Seq.{take-append-add, take-length}
 use Rattle.vm_types.specs.Saved.{Saved}
 use Rattle.vm_outside.specs.Filing.{SameFiles}
 use Rattle.vm_outside.specs.Known.{FilesKnown, Lasts, Tells}
 use Rattle.api_calls.specs.declared.call.Drive.{Drive}
-use Rattle.vm_config.specs.Drives.{in_order, is_root}
+use Rattle.vm_config.specs.Drives.{device_of, in_order, is_named, is_root}
 use Rattle.guest_devices.specs.declared.new_device.NewDevice.{NewDevice}
 use Rattle.flat_machine.specs.Requests.{drive_from, have_files}
 use Rattle.monitor_plans.specs.declared.drives.DriveFiles.{DriveFiles}
+
+-- each drive is one of the devices
+pub length-in_order : (drives : List Drive) → length (in_order drives) ≡ length drives
+length-in_order drives =
+    length-append (filter is_root drives) (filter (λ d. not (is_root d)) drives)
+    ∙ length-filter_both is_root (λ d. not (is_root d)) (λ d. refl) drives
 
 -- the first elements, with the next or without one
 one_more : {A : Type 0} (xs : List A) (i : ℕ) (x : A) → slice_get xs i ≡ Some x → take (suc i) xs ≡ take i xs ++ x ∷ []
@@ -118,11 +125,7 @@ module _ (saved : Saved) (drives : List Drive) where
 
   -- all of them were asked
   whole : take (length drives) (in_order drives) ≡ in_order drives
-  whole =
-      let many : length (in_order drives) ≡ length drives =
-      length-append (filter is_root drives) (filter (λ d. not (is_root d)) drives)
-      ∙ length-filter_both is_root (λ d. not (is_root d)) (λ d. refl) drives in
-      ap (λ (n : ℕ). take n (in_order drives)) (sym many) ∙ take-length (in_order drives)
+  whole = ap (λ (n : ℕ). take n (in_order drives)) (sym (length-in_order drives)) ∙ take-length (in_order drives)
 
   all_drives : (found : List NewDevice) → found ≡ drives_to (length drives) → found ≡ map (drive_from saved) (in_order drives)
   all_drives found is = is ∙ ap (map (drive_from saved)) whole
@@ -134,6 +137,7 @@ module _ (saved : Saved) (drives : List Drive) where
 pub record HasAsked (drives : List Drive) (before now : FilesKnown) (found : DriveFiles) (i : ℕ) : Type 0 where
   pub drives_are : Tells before.health → found.drives.items ≡ drives_to before.saved drives i
   pub there_is : Tells before.health → found.are_there ≡ there_to before.saved drives i
+  pub few : length found.drives.items ≤ i
   pub same : Tells before.health → SameFiles before now
   pub kept : now.health.faults ≡ before.health.faults
   pub lasts : Lasts before.health now.health
@@ -142,9 +146,10 @@ pub one_asked : (drives : List Drive) (before mid now : FilesKnown) (found after
     → HasAsked drives before mid found i → Some d ≡ slice_get (in_order drives) i
     → (Tells mid.health → after.drives.items ≡ found.drives.items ++ drive_from mid.saved d ∷ [])
     → (Tells mid.health → after.are_there ≡ (found.are_there && has_file mid.saved drives d))
+    → length after.drives.items ≡ length found.drives.items + 1
     → (Tells mid.health → SameFiles mid now) → now.health.faults ≡ mid.health.faults → Lasts mid.health now.health
     → HasAsked drives before now after (i + 1)
-one_asked drives before mid now found after i d so_far is drive there same kept lasts = record {
+one_asked drives before mid now found after i d so_far is drive there more same kept lasts = record {
   drives_are = λ told.
       let on = so_far.lasts.still told in let held = (so_far.same told).saved in
       drive_more before.saved drives i d found.drives.items after.drives.items (sym is) (so_far.drives_are told)
@@ -153,6 +158,7 @@ one_asked drives before mid now found after i d so_far is drive there same kept 
       let on = so_far.lasts.still told in let held = (so_far.same told).saved in
       there_more before.saved drives i d found.are_there after.are_there (sym is) (so_far.there_is told)
       (there on ∙ ap (λ (s : Saved). found.are_there && has_file s drives d) held);
+  few = let x = so_far.few in omega (arith, x, more);
   same = λ told.
       let first = so_far.same told in let second = same (so_far.lasts.still told) in
       record { saved = second.saved ∙ first.saved; calls = second.calls ∙ first.calls };
@@ -171,6 +177,7 @@ none_asked drives before now found i so_far is =
     record {
       drives_are = λ told. so_far.drives_are told ∙ ap (map (drive_from before.saved)) more;
       there_is = λ told. so_far.there_is told ∙ ap (λ (l : List Drive). have_files l before.saved) more;
+      few = let x = so_far.few in omega (arith, x);
       same = so_far.same;
       kept = so_far.kept;
       lasts = so_far.lasts;
@@ -184,3 +191,13 @@ all_asked drives before now found i so_far all told = (
   all_drives before.saved drives found.drives.items (so_far.drives_are told ∙ ap (drives_to before.saved drives) all),
   all_there before.saved drives found.are_there (so_far.there_is told ∙ ap (there_to before.saved drives) all),
 )
+
+-- ---- their numbers
+
+-- a device has a number below as many as there are
+pub is_numbered : (drives : List Drive) (id : List ℕ) (most number : ℕ) (one : Drive) → length drives ≤ most
+    → Some number ≡ device_of drives id → number < most
+is_numbered drives id most number one few is =
+    let below = (position-Some (is_named id) (in_order drives) number one (sym is)).0 in
+    let many = length-in_order drives in
+    omega (arith, below, many, few)

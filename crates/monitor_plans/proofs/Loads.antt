@@ -1,21 +1,28 @@
 -- What is loaded is what the machine loads.
-use Rattle.std.proofs.Common.{◌≡◌, ℕ, List, length, take, Option, Some, None, Bool, false, refl, sym, subst, ◌∙◌, ap}
+use Rattle.std.proofs.Common.{◌≡◌, ◌≤◌, ℕ, List, length, take, Option, Some, None, Bool, true, false, not, nat_le, refl, sym, subst, ◌∙◌, ap}
 use Rattle.std.proofs.Math.Seq.{take-length}
-use Rattle.std.specs.Prelude.{option_map}
+use Rattle.std.specs.Prelude.{IfSome, is_none, option_map}
+use Rattle.std.proofs.lemmas.Bool.{and_from, and_parts, le-leb}
 use Rattle.std.specs.FinMap.{get}
 use Rattle.vm_types.specs.Saved.{Saved}
 use Rattle.vm_outside.specs.Filing.{IsReadAt}
 use Rattle.api_calls.specs.declared.call.BootSource.{BootSource}
 use Rattle.api_rules.specs.declared.actions.InitrdFile.{InitrdFile}
 use Rattle.api_rules.specs.declared.actions.InitrdFile.TheVariants as initrd
-use Rattle.api_rules.specs.Table.{boot_refusal, is_missing}
-use Rattle.guest_memory.specs.Boot.{Loads}
+use Rattle.api_rules.specs.Table.{boot_refusal, fits_by, is_missing, len_of}
+use Rattle.refusals.specs.declared.refusal.Refusal.TheVariants as refusal
+use Rattle.guest_memory.specs.Boot.{Loads, image_fits, initrd_fits, loads_fit, tree_size}
+use Rattle.boot_loader.specs.Loading.{have_room}
 use Rattle.vm_config.specs.declared.config.Config.{Config}
 use Rattle.devtree.specs.declared.machine.InitrdPlace.{InitrdPlace}
 use Rattle.devtree.specs.Machine.{tree_bytes}
+use Rattle.devtree.proofs.Sizes.{tree_fits}
 use Rattle.guest_devices.specs.declared.new_device.NewDevice.{NewDevice}
 use Rattle.flat_guest.specs.Start.{started}
-use Rattle.flat_machine.specs.Requests.{disk_by, devices_from, file_by, have_files, image_by, initrd_name, loads_from, place_of, start_refusal}
+use Rattle.flat_machine.specs.Ready.{IsTaken}
+use Rattle.flat_machine.proofs.Sizes.{fits_last}
+use Rattle.flat_machine.proofs.Taken.{bounded}
+use Rattle.flat_machine.specs.Requests.{devices_from, disk_by, file_by, have_files, image_by, initrd_name, loads_from, place_of, start_refusal}
 use Rattle.vm_world.specs.Worlds.{IsWorld, WorldValue}
 use Rattle.monitor_plans.specs.declared.plan.Plan.TheVariants as plan
 use Rattle.monitor_plans.specs.Starting.{StartGives, disk_in, image_in}
@@ -90,3 +97,38 @@ start_gives config source s0 s1 s2 s3 s4 path size len file image lent disk driv
           (subst (λ (d : Option (List ℕ)). Made image d given) disk_is
           (subst (λ (l : List ℕ). Made l disk given) le wd)),
     )
+
+-- ---- what isn't refused fits
+
+fits_with : (mib image : ℕ) (len : Option ℕ) (disk : Option (List ℕ)) → loads_fit mib image len ≡ true
+    → IfSome disk (λ bytes. len ≡ Some (length bytes)) → loads_fit mib image (option_map length disk) ≡ true
+fits_with mib image len None fits sized =
+    and_from (image_fits mib image) true (and_parts (image_fits mib image) (initrd_fits mib image len) fits).0 refl
+fits_with mib image len (Some bytes) fits sized = subst (λ (l : Option ℕ). loads_fit mib image l ≡ true) sized fits
+
+pub fits_here : (config : Config) (len : ℕ) (file : InitrdFile) (have : Bool) (image lent : List ℕ) (disk : Option (List ℕ))
+    → None ≡ boot_refusal config (Some len) file have → length image ≡ len → lent ≡ image
+    → IfSome disk (λ bytes. len_of file ≡ Some (length bytes))
+    → loads_fit config.machine.mem_size_mib (length lent) (option_map length disk) ≡ true
+fits_here config len file have image lent disk clear sized same whole =
+    let mib : ℕ = config.machine.mem_size_mib in
+    let fits =
+    fits_last (is_none (Some len)) (is_missing file) (not have) (fits_by (Some len) file mib) refusal.NoSuchFile refusal.NoSuchFile
+    refusal.NoSuchFile refusal.DoesNotFit (sym clear) in
+    subst (λ (n : ℕ). loads_fit mib n (option_map length disk) ≡ true) (sym (ap (λ (l : List ℕ). length l) same ∙ sized))
+    (fits_with mib len (len_of file) disk fits whole)
+
+-- and the tree of what the API takes has room
+pub has_room : (config : Config) (loads : Loads) (image : List ℕ) (disk : Option (List ℕ)) (place : Option InitrdPlace) → IsTaken config
+    → loads.image ≡ image → loads.initrd ≡ disk → loads.tree ≡ tree_bytes config place
+    → loads_fit config.machine.mem_size_mib (length image) (option_map length disk) ≡ true
+    → have_room config.machine.mem_size_mib loads ≡ true
+has_room config loads image disk place taken i d t fits =
+    let mib : ℕ = config.machine.mem_size_mib in
+    let within = bounded config taken in
+    let small : length loads.tree ≤ tree_size =
+    subst (λ (l : List ℕ). length l ≤ tree_size) (sym t) (tree_fits config place within.args within.harts within.drives) in
+    and_from (loads_fit mib (length loads.image) (option_map length loads.initrd)) (nat_le (length loads.tree) tree_size)
+    (subst (λ (l : List ℕ). loads_fit mib (length l) (option_map length loads.initrd) ≡ true) (sym i)
+    (subst (λ (o : Option (List ℕ)). loads_fit mib (length image) (option_map length o) ≡ true) (sym d) fits))
+    (le-leb (length loads.tree) tree_size small)

@@ -1,8 +1,8 @@
 // The file of the initial RAM disk.
-ghost use Rattle.std.specs.Prelude.{◌≡◌, false, IfOk};
+ghost use Rattle.std.specs.Prelude.{◌≡◌, false, IfOk, IfSome, Some, length};
 ghost use Rattle.vm_outside.specs.Filing.{SameFiles};
 ghost use Rattle.vm_outside.specs.Known.{Called, Lasts, Tells};
-ghost use Rattle.api_rules.specs.Table.{is_missing};
+ghost use Rattle.api_rules.specs.Table.{is_missing, len_of};
 ghost use Rattle.flat_machine.specs.Requests.{disk_by, file_by, file_with};
 ghost use Rattle.gate_file.specs.Reading.{FileCause};
 
@@ -47,6 +47,7 @@ pub fn load_disk<F: Files>(
     ensures disk { IfOk result (λ disk. Tells (F.known files.old).health →
         file ≡ file_by path.now (F.known files.old).saved → is_missing file ≡ false →
         disk ≡ disk_by path.now (F.known files.old).saved) }
+    ensures size { IfOk result (λ disk. IfSome disk (λ bytes. len_of file ≡ Some (length bytes))) }
     ensures same { Tells (F.known files.old).health → SameFiles (F.known files.old) (F.known files.new) }
     ensures cause { FileCause result (F.known files.old).health.faults (F.known files.new).health.faults }
     ensures lasts { Lasts (F.known files.old).health (F.known files.new).health }

@@ -2,16 +2,20 @@
 ghost use Rattle.std.specs.Prelude.{◌≡◌, ℕ, true, List, None, Some, is_some};
 ghost use Rattle.std.specs.FinMap.{get};
 ghost use Rattle.vm_types.specs.Saved.{Saved};
+ghost use Rattle.vm_config.specs.Drives.{device_of};
+ghost use Rattle.vm_config.specs.declared.change.Change.TheVariants as change;
+ghost use Rattle.flat_machine.specs.Ready.{IsFitting};
 ghost use Rattle.vm_outside.specs.Filing.{SameFiles};
 ghost use Rattle.vm_outside.specs.Known.{Lasts, Tells};
 ghost use Rattle.flat_machine.specs.Requests.{sectors_of};
 ghost use Rattle.monitor_plans.specs.DriveChanges.{DrivesGive, PatchGives};
-ghost use Rattle.monitor_plans.specs.Plans.{PlanCause};
+ghost use Rattle.monitor_plans.specs.Plans.{IsFittingPlan, PlanCause};
 
 use crate::drives::sectors_of;
 use crate::plan::Plan;
+use crate::taken::Taken;
 use api_calls::{Drive, DrivePatch};
-use api_rules::{Change, Config};
+use api_rules::Change;
 use refusals::Refusal;
 use std::alloc::Global;
 use vm_outside::Files;
@@ -28,19 +32,23 @@ pub struct Resize {
 }
 
 /// What comes of a PUT of a drive that the machine allows.
-pub fn put_drive(alloc: Global, config: &Config, drive: Drive) -> Plan
+pub fn put_drive(alloc: Global, config: &Taken, drive: Drive) -> Plan
+    requires { IsFitting config.now (change.PutDrive drive) }
     ensures gives { DrivesGive result config.now drive }
+    ensures fits { IsFittingPlan result config.now }
     ensures cause { (n : ℕ) → PlanCause result n n }
 {
-    match config.with_drive(alloc, drive) {
+    match config.get().with_drive(alloc, drive) {
         Ok(drives) => Plan::Drives(drives),
         Err(_) => Plan::NoMemory,
     }
 }
 
 /// What comes of a PATCH of a drive that the machine allows, by the file that it names, if it names one.
-pub fn patch_drive<F: Files>(config: &Config, patch: DrivePatch, files: &mut F) -> Plan
+pub fn patch_drive<F: Files>(config: &Taken, patch: DrivePatch, files: &mut F) -> Plan
+    requires { IsFitting config.now (change.PatchDrive patch) }
     ensures gives { Tells (F.known files.old).health → PatchGives result config.now patch (F.known files.old).saved }
+    ensures fits { IsFittingPlan result config.now }
     ensures same { Tells (F.known files.old).health → SameFiles (F.known files.old) (F.known files.new) }
     ensures cause { PlanCause result (F.known files.old).health.faults (F.known files.new).health.faults }
     ensures uncalled { patch.path_on_host ≡ None →
@@ -59,23 +67,29 @@ pub fn patch_drive<F: Files>(config: &Config, patch: DrivePatch, files: &mut F) 
     }
 }
 
-// What comes of another file, which has so many sectors. No configuration comes to a device of a number past 255.
-fn other_file(config: &Config, patch: DrivePatch, sectors: u64) -> Plan
+// What comes of another file, which has so many sectors.
+fn other_file(config: &Taken, patch: DrivePatch, sectors: u64) -> Plan
+    requires { IsFitting config.now (change.PatchDrive patch) }
     ensures gives { (saved : Saved) (path : List ℕ) → patch.path_on_host ≡ Some path →
         is_some (get saved path) ≡ true → sectors ≡ sectors_of (get saved path) →
         PatchGives result config.now patch saved }
+    ensures fits { IsFittingPlan result config.now }
     ensures cause { (n : ℕ) → PlanCause result n n }
 {
-    let device = match config.drives.device_number(patch.drive_id.as_str()) {
-        None => None,
-        Some(number) => match u8::try_from(number) {
-            Ok(number) => Some(number),
-            Err(_) => return Plan::NoMemory,
-        },
-    };
+    let device = device_number(config, patch.drive_id.as_str());
     Plan::Resizes(Resize {
         patch,
         device,
         sectors,
     })
+}
+
+// The number of the device that the drive of this id is: the API takes 16 devices at most.
+fn device_number(config: &Taken, id: &str) -> Option<u8>
+    ensures { result ≡ device_of config.now.drives id.now }
+{
+    match config.get().drives.device_number(id) {
+        None => None,
+        Some(number) => Some(number as u8),
+    }
 }

@@ -1,5 +1,5 @@
 // The files of the drives, as a start asks for them.
-ghost use Rattle.std.specs.Prelude.{◌≡◌, ◌++◌, ◌∷◌, ◌&&◌, [], ℕ, true, List, Option, IfOk, OnOk, is_some, length, map, option_map};
+ghost use Rattle.std.specs.Prelude.{◌≡◌, ◌≤◌, ◌+◌, ◌++◌, ◌∷◌, ◌&&◌, [], ℕ, true, List, Option, IfOk, OnOk, is_some, length, map, option_map};
 ghost use Rattle.std.specs.FinMap.{get};
 ghost use Rattle.vm_types.specs.Saved.{Saved};
 ghost use Rattle.vm_outside.specs.Filing.{SameFiles};
@@ -89,6 +89,7 @@ impl DriveFiles {
             ≡ self.old.drives.items ++ drive_from (F.known files.old).saved drive.now ∷ []) }
         ensures there { OnOk result (Tells (F.known files.old).health → self.new.are_there
             ≡ (self.old.are_there && is_some (get (F.known files.old).saved drive.now.path_on_host))) }
+        ensures more { OnOk result (length self.new.drives.items ≡ length self.old.drives.items + 1) }
         ensures same { Tells (F.known files.old).health → SameFiles (F.known files.old) (F.known files.new) }
         ensures cause { FileCause result (F.known files.old).health.faults (F.known files.new).health.faults }
         ensures lasts { Lasts (F.known files.old).health (F.known files.new).health }
@@ -114,6 +115,7 @@ pub(crate) fn drive_files<F: Files>(
         it.drives.items ≡ map (drive_from (F.known files.old).saved) (in_order drives.now)) }
     ensures there { IfOk result (λ it. Tells (F.known files.old).health →
         it.are_there ≡ have_files drives.now (F.known files.old).saved) }
+    ensures few { IfOk result (λ it. length it.drives.items ≤ length drives.now) }
     ensures same { Tells (F.known files.old).health → SameFiles (F.known files.old) (F.known files.new) }
     ensures cause { FileCause result (F.known files.old).health.faults (F.known files.new).health.faults }
     ensures lasts { Lasts (F.known files.old).health (F.known files.new).health }

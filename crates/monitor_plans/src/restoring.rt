@@ -2,12 +2,13 @@
 ghost use Rattle.std.specs.Prelude.{◌≡◌};
 ghost use Rattle.vm_outside.specs.Filing.{SameFiles};
 ghost use Rattle.vm_outside.specs.Known.{Lasts, Tells};
-ghost use Rattle.monitor_plans.specs.Plans.{PlanCause};
+ghost use Rattle.vm_config.specs.declared.config.Config.{Config};
+ghost use Rattle.monitor_plans.specs.Plans.{IsFittingPlan, PlanCause};
 ghost use Rattle.monitor_plans.specs.Restoring.{RestoreGives};
 
 use crate::plan::Plan;
+use crate::taken::Taken;
 use api_calls::SnapshotLoad;
-use api_rules::Config;
 use snap_finding::{FindError, find};
 use std::alloc::Global;
 use vm_outside::Files;
@@ -22,7 +23,7 @@ pub struct Restored {
     pub identity: Identity,
     /// The number of the snapshot after it.
     pub next: u64,
-    pub config: Config,
+    pub config: Taken,
     pub guest: World,
     /// Whether it runs at once.
     pub resumes: bool,
@@ -31,6 +32,7 @@ pub struct Restored {
 /// What comes of a load that the machine allows, by the two files that it names.
 pub fn restore<F: Files>(alloc: Global, load: &SnapshotLoad, files: &mut F) -> Plan
     ensures gives { Tells (F.known files.old).health → RestoreGives result load.now (F.known files.old).saved }
+    ensures fits { (config : Config) → IsFittingPlan result config }
     ensures same { Tells (F.known files.old).health → SameFiles (F.known files.old) (F.known files.new) }
     ensures cause { PlanCause result (F.known files.old).health.faults (F.known files.new).health.faults }
     ensures lasts { Lasts (F.known files.old).health (F.known files.new).health }
@@ -44,7 +46,7 @@ pub fn restore<F: Files>(alloc: Global, load: &SnapshotLoad, files: &mut F) -> P
             Plan::Restores(Restored {
                 identity: found.identity,
                 next: found.identity.number + 1,
-                config: config_of(copy.configuration, load.track_dirty_pages),
+                config: Taken::of(config_of(copy.configuration, load.track_dirty_pages)),
                 guest,
                 resumes: load.resume_vm,
             })

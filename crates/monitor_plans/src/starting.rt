@@ -1,45 +1,43 @@
 // What a start comes to.
-ghost use Rattle.std.specs.Prelude.{◌≡◌, ◌+◌, ◌≤◌, ◌^◌, IfSome, length, option_map};
+ghost use Rattle.std.specs.Prelude.{◌≡◌, ◌+◌, ◌≤◌, ◌^◌, IfOk, length, option_map, true};
 ghost use Rattle.guest_memory.specs.Boot as boot;
-ghost use Rattle.boot_loader.specs.Loading.{loads_of};
+ghost use Rattle.guest_memory.specs.Boot.{loads_fit};
+ghost use Rattle.boot_loader.specs.Loading.{have_room, loads_of};
 ghost use Rattle.flat_guest.specs.Start.{started};
+ghost use Rattle.flat_machine.specs.Ready.{IsTaken};
 ghost use Rattle.flat_machine.specs.Requests.{loads_from, place_of};
 ghost use Rattle.vm_outside.specs.Filing.{SameFiles};
 ghost use Rattle.vm_outside.specs.Known.{Lasts, Tells};
 ghost use Rattle.vm_world.specs.Worlds.{IsWorld};
-ghost use Rattle.monitor_plans.specs.Plans.{PlanCause};
+ghost use Rattle.monitor_plans.specs.Plans.{IsFittingPlan, PlanCause};
 ghost use Rattle.monitor_plans.specs.Starting.{StartGives};
 
 use crate::disk::{disk_file, load_disk};
 use crate::drives::drive_files;
 use crate::plan::Plan;
+use crate::taken::Taken;
 use api_calls::MachineConfig;
 use api_rules::{Config, boot_refusal};
-use boot_loader::Loads;
+use boot_loader::{BootError, Loads};
 use devtree::{InitrdPlace, write_tree};
-use flat_guest::MOST_MIB;
 use gate_file::{FileError, read_front};
 use guest_devices::NewDevice;
 use guest_memory::initrd_start;
 use refusals::Refusal;
-use std::alloc::Global;
+use std::alloc::{AllocError, Global};
 use vm_outside::{Failed, Files};
 use vm_types::ByteList;
 use vm_world::World;
 
-/// The most harts that a machine has.
-const MOST_HARTS: u64 = 32;
-
-/// The most devices that a machine has.
-const MOST_DEVICES: usize = 16;
-
 /// What comes of a start that the configuration allows, by the files of its kernel image, its disk and its drives.
-pub fn start<F: Files>(alloc: Global, config: &Config, files: &mut F) -> Plan
+pub fn start<F: Files>(alloc: Global, config: &Taken, files: &mut F) -> Plan
     ensures gives { Tells (F.known files.old).health → StartGives result config.now (F.known files.old).saved }
+    ensures fits { IsFittingPlan result config.now }
     ensures same { Tells (F.known files.old).health → SameFiles (F.known files.old) (F.known files.new) }
     ensures cause { PlanCause result (F.known files.old).health.faults (F.known files.new).health.faults }
     ensures lasts { Lasts (F.known files.old).health (F.known files.new).health }
 {
+    let config = config.get();
     let Some(source) = &config.boot_source else {
         return Plan::Refused(Refusal::NoSuchFile);
     };
@@ -68,8 +66,8 @@ pub fn start<F: Files>(alloc: Global, config: &Config, files: &mut F) -> Plan
     };
     match load_disk(alloc, files, &source.initrd_path, file) {
         Ok(disk) => match guest_of(alloc, config, &image, &disk, &drives.drives) {
-            Some(guest) => Plan::Starts(guest),
-            None => Plan::NoMemory,
+            Ok(guest) => Plan::Starts(guest),
+            Err(_) => Plan::NoMemory,
         },
         Err(FileError::Fault) => Plan::FilesFailed,
         Err(FileError::OutOfMemory) => Plan::NoMemory,
@@ -110,55 +108,50 @@ fn initrd_of(disk: &Option<ByteList>) -> Option<&[u8]>
     }
 }
 
+// The world of this machine, with what there is room for in its memory, and these drives.
 fn world_of(
     alloc: Global,
     machine: MachineConfig,
     loads: &Loads<'_>,
     drives: &[NewDevice],
-) -> Option<World>
+) -> Result<World, AllocError>
     requires few { machine.vcpu_count ≤ 32 }
     requires small { machine.mem_size_mib ≤ 2 ^ 20 }
     requires few_drives { length drives.now ≤ 16 }
-    ensures { IfSome result (λ world.
+    requires room { have_room machine.mem_size_mib (loads_of loads.now) ≡ true }
+    ensures { IfOk result (λ world.
         IsWorld world (started machine.vcpu_count machine.mem_size_mib (loads_of loads.now) drives.now)) }
 {
-    World::start(
-        alloc,
-        machine.vcpu_count as usize,
-        machine.mem_size_mib,
-        loads,
-        drives,
-    )
-    .ok()
+    let harts = machine.vcpu_count as usize;
+    match World::start(alloc, harts, machine.mem_size_mib, loads, drives) {
+        Ok(world) => Ok(world),
+        Err(BootError::OutOfMemory) => Err(AllocError),
+        Err(BootError::NoRoom) => unreachable!(),
+    }
 }
 
-// The guest of this configuration, image, disk and drives, if there is memory for it and they fit.
+// The guest of this configuration, image, disk and drives, which fit.
 fn guest_of(
     alloc: Global,
     config: &Config,
     image: &[u8],
     disk: &Option<ByteList>,
     drives: &[NewDevice],
-) -> Option<World>
-    ensures { IfSome result (λ guest.
+) -> Result<World, AllocError>
+    requires taken { IsTaken config.now }
+    requires few { length drives.now ≤ 16 }
+    requires fits { loads_fit config.now.machine.mem_size_mib (length image.now) (option_map length disk.now) ≡ true }
+    ensures { IfOk result (λ guest.
         IsWorld guest (started config.now.machine.vcpu_count config.now.machine.mem_size_mib
         (loads_from config.now image.now disk.now) drives.now)) }
 {
     let machine = config.machine;
-    if machine.vcpu_count > MOST_HARTS || machine.mem_size_mib > MOST_MIB {
-        return None;
-    }
-    if drives.len() > MOST_DEVICES {
-        return None;
-    }
-    let Ok(tree) = write_tree(alloc, config, place_of(machine.mem_size_mib, disk)) else {
-        return None;
-    };
+    let tree = write_tree(alloc, config, place_of(machine.mem_size_mib, disk))?;
     let loads = Loads {
         image,
         initrd: initrd_of(disk),
         tree: tree.as_slice(),
     };
     let world = world_of(alloc, machine, &loads, drives)?;
-    Some(world)
+    Ok(world)
 }

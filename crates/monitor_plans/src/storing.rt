@@ -3,7 +3,8 @@ ghost use Rattle.std.specs.Prelude.{ℕ, Result};
 ghost use Rattle.serde_json.specs.Data.{Data};
 ghost use Rattle.refusals.specs.declared.refusal.Refusal.{Refusal};
 ghost use Rattle.metadata_store.specs.Store.{Refuses, patched, put};
-ghost use Rattle.monitor_plans.specs.Plans.{PlanCause};
+ghost use Rattle.vm_config.specs.declared.config.Config.{Config};
+ghost use Rattle.monitor_plans.specs.Plans.{IsFittingPlan, PlanCause};
 ghost use Rattle.monitor_plans.specs.Storing.{StoreGives};
 
 use crate::plan::Plan;
@@ -13,6 +14,7 @@ use std::alloc::Global;
 /// What comes of a PUT of this body.
 pub fn put_metadata(alloc: Global, body: Tree) -> Plan
     ensures gives { StoreGives result (put body) }
+    ensures fits { (config : Config) → IsFittingPlan result config }
     ensures cause { (n : ℕ) → PlanCause result n n }
 {
     match Store::of_put(alloc, body) {
@@ -24,6 +26,7 @@ pub fn put_metadata(alloc: Global, body: Tree) -> Plan
 /// What comes of this patch of what is stored.
 pub fn patch_metadata(stored: &Store, patch: &Tree) -> Plan
     ensures gives { StoreGives result (patched stored.now patch.now) }
+    ensures fits { (config : Config) → IsFittingPlan result config }
     ensures cause { (n : ℕ) → PlanCause result n n }
 {
     match stored.patched(patch) {
@@ -35,6 +38,7 @@ pub fn patch_metadata(stored: &Store, patch: &Tree) -> Plan
 // Nothing is stored.
 fn plan_of(why: StoreError) -> Plan
     ensures gives { (due : Result Data Refusal) → Refuses why due → StoreGives result due }
+    ensures fits { (config : Config) → IsFittingPlan result config }
     ensures cause { (n : ℕ) → PlanCause result n n }
 {
     match why {

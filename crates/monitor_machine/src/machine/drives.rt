@@ -1,7 +1,9 @@
 // What a PATCH of a drive changes, and which file is whose disk.
 ghost use Rattle.std.specs.Prelude.{ℕ, ◌≡◌, ◌≢◌};
 ghost use Rattle.vm_outside.specs.Known.{Tells};
+ghost use Rattle.vm_config.specs.declared.change.Change.TheVariants as change;
 ghost use Rattle.flat_machine.specs.Machine.{Machine};
+ghost use Rattle.flat_machine.specs.Ready.{IsFitting};
 ghost use Rattle.monitor_machine.specs.Disks.{DiskUncalled, HasFile, HasFiles};
 ghost use Rattle.monitor_machine.specs.Plans.{Resizes};
 ghost use Rattle.monitor_machine.specs.State.{IsLive};
@@ -31,6 +33,7 @@ impl LiveMachine {
 
     // The name of the file is replaced, and the device is told how many sectors it has.
     pub(super) fn take_file(&mut self, resize: Resize)
+        requires { IsFitting self.old.config (change.PatchDrive resize.patch) }
         ensures { TakesFile resize self.old self.new }
     {
         self.tell_sectors(resize.device, resize.sectors);
@@ -62,7 +65,7 @@ impl LiveMachine {
             return;
         }
         for device in 0..MOST_DEVICES {
-            attach_disk(&self.config, device, disk);
+            attach_disk(self.config.get(), device, disk);
         }
     }
 }

@@ -7,9 +7,10 @@ ghost use Rattle.api_calls.specs.Call.{call_of};
 ghost use Rattle.api_rules.specs.Table.{decision};
 ghost use Rattle.guest_devices.specs.declared.device.Device.{Device};
 ghost use Rattle.flat_machine.specs.Machine.{Machine};
+ghost use Rattle.flat_machine.specs.Ready.{IsTaken};
 ghost use Rattle.flat_machine.specs.Requests.{decided, parent_of};
 ghost use Rattle.vm_config.specs.declared.change.Change.TheVariants as change;
-ghost use Rattle.monitor_plans.specs.Plans.{TaskCause};
+ghost use Rattle.monitor_plans.specs.Plans.{IsFittingTask, TaskCause};
 ghost use Rattle.monitor_machine.specs.Replying.{AsksFiles, calls_files};
 
 use crate::machine::LiveMachine;
@@ -25,7 +26,7 @@ use vm_outside::Files;
 use vm_types::Identity;
 
 impl LiveMachine {
-    ghost use Rattle.monitor_machine.specs.Plans.{CallsLater, CallsNone, HasTwoFiles, HasTwoNames, IsReady, IsTask};
+    ghost use Rattle.monitor_machine.specs.Plans.{CallsLater, CallsNone, IsDue, IsReady, IsTask};
     ghost use Rattle.monitor_machine.specs.Plans.{needs_files, phase_of};
     ghost use Rattle.monitor_machine.specs.State.{IsMachine};
 
@@ -40,9 +41,10 @@ impl LiveMachine {
     }
 
     fn decided(&self, call: ApiCall) -> Result<Change, Refusal>
-        ensures { result ≡ decision (phase_of self.now) self.now.config self.now.ids call }
+        ensures is { result ≡ decision (phase_of self.now) self.now.config self.now.ids call }
+        ensures taken { IsTaken self.now.config }
     {
-        decide(self.phase(), &self.config, &self.ids, call)
+        decide(self.phase(), self.config.get(), &self.ids, call)
     }
 
     // What comes of a call. The files are asked for a start, a load and another file of a drive alone.
@@ -52,6 +54,7 @@ impl LiveMachine {
             IsMachine self.now (F.known files.old) m → (request : Request) → call_of request ≡ Ok call →
             IsTask result m (Next.Request request) kept) }
         ensures ready { IsReady result self.now.guest }
+        ensures fits { IsFittingTask result self.now.config }
         ensures later { CallsLater result (F.known files.old) (F.known files.new) }
         ensures cause { TaskCause result (F.known files.old).health.faults (F.known files.new).health.faults }
         ensures uncalled { (calls_files call ≡ true → ⊥) → CallsNone result
@@ -67,11 +70,12 @@ impl LiveMachine {
 
     // What comes of a change that is allowed, but for what the files and the metadata say.
     fn task_of_change<F: Files>(&self, change: Change, files: &mut F) -> Task
-        requires { HasTwoFiles change }
+        requires { IsDue self.now change }
         ensures task { (kept : List Device) × (Tells (F.known files.old).health → (m : Machine) →
             IsMachine self.now (F.known files.old) m → (given : Next) → decided m given ≡ Ok change →
             IsTask result m given kept) }
         ensures ready { IsReady result self.now.guest }
+        ensures fits { IsFittingTask result self.now.config }
         ensures later { CallsLater result (F.known files.old) (F.known files.new) }
         ensures cause { TaskCause result (F.known files.old).health.faults (F.known files.new).health.faults }
         ensures uncalled { needs_files change ≡ false → CallsNone result
@@ -91,12 +95,13 @@ impl LiveMachine {
         }
     }
 
-    // What comes of a create. Only a machine that has started comes here.
+    // What comes of a create.
     fn task_of_create(&self, it: SnapshotCreate) -> Task
-        requires { HasTwoNames it.files }
+        requires { IsDue self.now (change.CreateSnapshot it) }
         ensures task { (kept : List Device) × ((known : FilesKnown) (m : Machine) → IsMachine self.now known m →
             (given : Next) → decided m given ≡ Ok (change.CreateSnapshot it) → IsTask result m given kept) }
         ensures ready { IsReady result self.now.guest }
+        ensures fits { IsFittingTask result self.now.config }
         ensures cause { (n : ℕ) → TaskCause result n n }
     {
         let identity = Identity {
@@ -104,10 +109,11 @@ impl LiveMachine {
             number: self.ids.next,
         };
         let parent = self.parent(it.snapshot_type);
-        match &self.guest {
-            None => Task::Plan(Plan::NoMemory),
-            Some(guest) => create(self.alloc, &self.config, parent, identity, guest, it.files),
-        }
+        let Some(guest) = &self.guest else {
+            unreachable!()
+        };
+        let config = self.config.get();
+        create(self.alloc, config, parent, identity, guest, it.files)
     }
 
     // What a snapshot of this type is a diff of.
@@ -125,6 +131,7 @@ impl LiveMachine {
         ensures task { (kept : List Device) × (Tells (F.known files.old).health → (m : Machine) →
             IsMachine self.now (F.known files.old) m → IsTask result m (Next.Request request.now) kept) }
         ensures ready { IsReady result self.now.guest }
+        ensures fits { IsFittingTask result self.now.config }
         ensures later { CallsLater result (F.known files.old) (F.known files.new) }
         ensures cause { TaskCause result (F.known files.old).health.faults (F.known files.new).health.faults }
         ensures uncalled { (AsksFiles request.now → ⊥) → CallsNone result

@@ -23,6 +23,7 @@ use vm_types::ByteList;
 impl LiveMachine {
     ghost use Rattle.monitor_machine.specs.Plans.{Answers, PlanLeaves, plan_outcome, plan_response};
     ghost use Rattle.monitor_machine.specs.Replying.{AsksFiles, Replies};
+    ghost use Rattle.monitor_plans.specs.Plans.{IsFittingPlan};
 
     // Puts the plan's response behind the text.
     pub(super) fn write_response(
@@ -40,7 +41,7 @@ impl LiveMachine {
             self.alloc,
             self.id.as_str(),
             self.phase(),
-            &self.config,
+            self.config.get(),
             &self.metadata,
         )?;
         let bytes = write_response(self.alloc, form, &answer, closes)?;
@@ -58,6 +59,7 @@ impl LiveMachine {
         ensures which { IfOk result (λ done. (done ≡ plan) ⊎ (done ≡ Plan.NoMemory)) }
         ensures response { IfOk result (λ done.
             text.new ≡ text.old ++ written_as form (plan_response done closes self.now)) }
+        ensures fits { IfOk result (λ done. IsFittingPlan plan self.now.config → IsFittingPlan done self.now.config) }
     {
         match self.write_response(form, &plan, closes, text) {
             Ok(()) => Ok(plan),
@@ -98,6 +100,7 @@ impl LiveMachine {
 
     // Does what was answered, which takes no memory.
     fn perform(&mut self, plan: Plan) -> Outcome
+        requires { IsFittingPlan plan self.old.config }
         ensures how { result ≡ plan_outcome plan }
         ensures leaves { PlanLeaves plan self.old self.new }
     {
@@ -148,6 +151,7 @@ impl LiveMachine {
         closes: bool,
         text: &mut ByteList,
     ) -> Result<Outcome, AllocError>
+        requires { IsFittingPlan plan self.old.config }
         ensures ok { IfOk result (λ how. Answers form plan closes how self.old self.new text.old text.new) }
         ensures err { OnErr result (self.new ≡ self.old) }
     {

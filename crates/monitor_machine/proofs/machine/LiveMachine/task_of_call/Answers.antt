@@ -1,14 +1,21 @@
 use Rattle.std.proofs.Common.{sym, ◌∙◌, []}
 use Rattle.http_stream.specs.declared.request.Next.TheVariants as next
 use Rattle.monitor_machine.specs.Plans.{phase_of}
-use Rattle.monitor_machine.proofs.Deciding.{decided_is, no_files, two_files}
+use Rattle.flat_machine.proofs.Taken.{decided_fits}
+use Rattle.monitor_machine.proofs.Deciding.{decided_is, has_guest, no_files, two_files}
 use Rattle.monitor_machine.proofs.Planning.{refused_plan}
 use Rattle.monitor_machine.proofs.machine.LiveMachine.task_of_call.Goals as goal
 
 pub task_of_change-requires : goal.task_of_change-requires
 task_of_change-requires g c =
     let live = c.args.self.now in
-    two_files (phase_of live) live.config live.ids c.args.call c.in-Ok.change (sym c.decided.ensures ∙ c.in-Ok.is) c.requires.0 c.requires.1
+    let asks = sym c.decided.ensures.is ∙ c.in-Ok.is in record {
+      fits =
+          decided_fits (phase_of live) live.config live.ids c.decided.ensures.taken c.requires.0 c.args.call c.in-Ok.change c.requires.1
+          asks;
+      guest = has_guest live.guest live.paused live.config live.ids c.args.call c.in-Ok.change asks;
+      two = two_files (phase_of live) live.config live.ids c.args.call c.in-Ok.change asks c.requires.0 c.requires.1;
+    }
 
 pub returns-in-Ok-clause-task : goal.returns-in-Ok-clause-task
 returns-in-Ok-clause-task g c =
@@ -16,19 +23,19 @@ returns-in-Ok-clause-task g c =
       task.0,
       λ told m is request asks.
           task.1 told m is (next.Request request)
-          (sym (decided_is c.args.self.now m request c.args.call is.own asks) ∙ (sym c.decided.ensures ∙ c.in-Ok.is)),
+          (sym (decided_is c.args.self.now m request c.args.call is.own asks) ∙ (sym c.decided.ensures.is ∙ c.in-Ok.is)),
     )
 
 pub returns-in-Ok-clause-uncalled : goal.returns-in-Ok-clause-uncalled
 returns-in-Ok-clause-uncalled g c = λ never.
     let live = c.args.self.now in
     c.task_of_change.ensures.uncalled
-    (no_files (phase_of live) live.config live.ids c.args.call c.in-Ok.change (sym c.decided.ensures ∙ c.in-Ok.is) never)
+    (no_files (phase_of live) live.config live.ids c.args.call c.in-Ok.change (sym c.decided.ensures.is ∙ c.in-Ok.is) never)
 
 pub returns-in-Err-clause-task : goal.returns-in-Err-clause-task
 returns-in-Err-clause-task g c = (
   [],
   λ told m is request asks.
       refused_plan m (next.Request request) c.in-Err.why
-      (sym (decided_is c.args.self.now m request c.args.call is.own asks) ∙ (sym c.decided.ensures ∙ c.in-Err.is)),
+      (sym (decided_is c.args.self.now m request c.args.call is.own asks) ∙ (sym c.decided.ensures.is ∙ c.in-Err.is)),
 )

@@ -1,0 +1,77 @@
+// What is configured, as the API takes it.
+ghost use Rattle.std.specs.Prelude.{◌≡◌, IsOk, OnOk, OnErr, false, true};
+ghost use Rattle.vm_config.specs.Changes.{changed, default_config, takes_memory};
+ghost use Rattle.flat_machine.specs.Ready.{IsFitting, IsTaken};
+ghost use Rattle.snap_state.specs.Valid.{are_drives};
+
+use api_rules::{Change, Config};
+use std::alloc::{AllocError, Global};
+use std::marker::Model;
+use vm_config::Drives;
+
+/// What is configured, each part of which is as the API takes it. So it has from 1 to 32 harts, from 4 to 1,024 MiB of memory
+/// and at most 16 devices, and a start of it comes to no bound of the machine.
+#[derive(Drop)]
+pub struct Taken {
+    config: Config,
+}
+
+impl Model for Taken {
+    ghost use Rattle.vm_config.specs.declared.config.Config.{Config};
+    ghost use Rattle.flat_machine.specs.Ready.{IsTaken};
+
+    ghost Value = { Config };
+
+    ghost view = { λ t. t.config };
+
+    ghost invariant = { λ t. IsTaken t.config };
+}
+
+impl Taken {
+    /// What a machine has before the first call.
+    pub fn new(alloc: Global) -> Taken
+        ensures { result ≡ default_config }
+    {
+        Taken {
+            config: Config::new(alloc),
+        }
+    }
+
+    /// This configuration, which is as the API takes it.
+    pub fn of(config: Config) -> Taken
+        requires { IsTaken config }
+        ensures { result ≡ config }
+    {
+        Taken { config }
+    }
+
+    /// What is configured.
+    pub fn get(&self) -> &Config
+        ensures same { result.now ≡ self.now }
+        ensures taken { IsTaken self.now }
+    {
+        &self.config
+    }
+
+    /// Takes what an accepted call changes, which leaves it as the API takes it. Only one drive more takes memory. An `Err`
+    /// changes nothing.
+    pub fn apply(&mut self, change: Change) -> Result<(), AllocError>
+        requires { IsFitting self.old change }
+        ensures succeeds { takes_memory change ≡ false → IsOk result }
+        ensures ok { OnOk result (self.new ≡ changed self.old change) }
+        ensures err { OnErr result (self.new ≡ self.old) }
+    {
+        match self.config.apply(change) {
+            Ok(()) => Ok(()),
+            Err(short) => Err(short),
+        }
+    }
+
+    /// Takes the drives that a PUT of one leaves, which are as the API takes them.
+    pub fn set_drives(&mut self, drives: Drives)
+        requires { are_drives drives ≡ true }
+        ensures { self.new ≡ record self.old { drives = drives; configured = true } }
+    {
+        self.config.set_drives(drives);
+    }
+}
