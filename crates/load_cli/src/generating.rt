@@ -1,5 +1,5 @@
 // The command `generate N`.
-ghost use Rattle.std.specs.Prelude.{◌≡◌, ℕ, List, Some, map, string_bytes};
+ghost use Rattle.std.specs.Prelude.{◌≡◌, ◌≢◌, ℕ, List, Some, map, string_bytes};
 ghost use Rattle.command_line.specs.Commands.{generate_number};
 ghost use Rattle.load_cli.specs.Generating.{Generated};
 
@@ -34,6 +34,7 @@ pub fn generate_main<I: Source, O: Sink, F: Files>(
 pub fn generate_by<I: Source, O: Sink, F: Files>(number: u32, out: &mut Outside<I, O, F>) -> Exit
     ensures generated { (words : List (List ℕ)) → generate_number words ≡ Some number →
         Generated words result (O.known out.old.sink) (O.known out.new.sink) }
+    ensures no_shortage { result ≢ Exit.OutOfMemory }
     ensures untouched { (out.new.source ≡ out.old.source) × (out.new.files ≡ out.old.files) }
 {
     match generate(number, &mut out.sink) {

@@ -315,7 +315,8 @@ pub fn run_once<
 
 /// Why turns end at a closed gate: `Closed` where the guest is on, and `Off` where it is off.
 pub fn end_of_closed(machine: &LiveMachine) -> Ran
-    ensures { (k : Known) → Went IsLive (Some result) k machine.now k machine.now }
+    ensures went { (k : Known) → Went IsLive (Some result) k machine.now k machine.now }
+    ensures ends { (result ≡ ran.Closed) ⊎ (result ≡ ran.Off) }
 {
     if machine.is_off() {
         Ran::Off

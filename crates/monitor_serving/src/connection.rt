@@ -108,7 +108,7 @@ pub fn serve_connection<
         return Served::OutOfMemory;
     };
     let Some(mut reader) = passes.pop() else {
-        return Served::OutOfMemory;
+        unreachable!()
     };
     serve_turns(
         rt,

@@ -15,7 +15,7 @@ loop-init g c = record {
 
 pub returns-then-not-is_open-clause-went : goal.returns-then-not-is_open-clause-went
 returns-then-not-is_open-clause-went g c =
-    went_on IsLive (Some c.end_of_closed.result) _ _ _ _ _ _ c.loop.invariant.went (c.end_of_closed.ensures _)
+    went_on IsLive (Some c.end_of_closed.result) _ _ _ _ _ _ c.loop.invariant.went (c.end_of_closed.ensures.went _)
 
 pub returns-then-not-is_open-clause-passes : goal.returns-then-not-is_open-clause-passes
 returns-then-not-is_open-clause-passes g c =
