@@ -16,7 +16,7 @@ use Rattle.hart_trace.specs.States.{Hart, LeadsTo, hart_next, hart_wants}
 use Rattle.timer_trace.specs.declared.timer.Timer.{Timer}
 use Rattle.timer_trace.specs.States as timer
 use Rattle.block_device.specs.Block.Change.{Sectors}
-use Rattle.guest_devices.specs.Devices.{BlockChanged, DeviceLeads, DeviceLeft, FlatDevice, device_changed}
+use Rattle.guest_devices.specs.Devices.{BlockChanged, DeviceChange, DeviceLeads, DeviceLeft, FlatDevice, device_changed}
 use Rattle.guest_devices.specs.Kept.{device_want, devices_given}
 use Rattle.flat_guest.specs.declared.places.Layout.{Layout}
 use Rattle.flat_guest.specs.Guest.{Guest, whole_pages}
@@ -87,11 +87,14 @@ abbrev pub lefts_after : ActorId → List DeviceLeft → Reply → List DeviceLe
 lefts_after (actors.Device k) devices reply = devices_given (slice_get devices k) devices k reply
 lefts_after actor devices reply = devices
 
--- what a change of its disk's size makes of a device that is there; the others stay
+-- what a change makes of a device that is there; the others stay
+abbrev pub lefts_told : Option DeviceLeft → List DeviceLeft → ℕ → DeviceChange → List DeviceLeft
+lefts_told None devices k change = devices
+lefts_told (Some left) devices k change = slice_set devices k (device_changed change left)
+
+-- another size of its disk
 abbrev pub lefts_resized : Option DeviceLeft → List DeviceLeft → ℕ → ℕ → List DeviceLeft
-lefts_resized None devices k sectors = devices
-lefts_resized (Some left) devices k sectors =
-    slice_set devices k (device_changed (BlockChanged (Sectors sectors)) left)
+lefts_resized left devices k sectors = lefts_told left devices k (BlockChanged (Sectors sectors))
 
 -- the reply of an act with no place: what is given, where a host object is asked
 abbrev pub out_reply : Op → Option Reply → Reply

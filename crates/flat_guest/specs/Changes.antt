@@ -2,28 +2,55 @@
 use Rattle.std.specs.Prelude.{ℕ, List, Option, Some, None, slice_get, slice_set}
 use Rattle.vm_types.specs.declared.ids.ActorId.TheVariants.{Device}
 use Rattle.board_table.specs.Acts.{raise_line}
+use Rattle.board_table.specs.Board.{Board}
 use Rattle.le_fields.specs.Fields.{bytes_of}
 use Rattle.port_table.specs.declared.state.PortState.{PortState}
 use Rattle.port_table.specs.Acts.{configured}
 use Rattle.block_device.specs.Block.Change.{Sectors}
-use Rattle.guest_devices.specs.Devices.{BlockChanged, FlatDevice, device_told}
+use Rattle.guest_devices.specs.Devices.{BlockChanged, DeviceChange, FlatDevice, device_told}
 use Rattle.flat_guest.specs.Guest.{Guest}
 
--- a device that is there is told how many sectors its disk has
-abbrev pub sectors_told : Option FlatDevice → List FlatDevice → ℕ → ℕ → List FlatDevice
-sectors_told None devices k sectors = devices
-sectors_told (Some d) devices k sectors = slice_set devices k (device_told d (BlockChanged (Sectors sectors)))
+-- the device of this number, if it is there, is told of a change
+abbrev pub devices_told : Option FlatDevice → List FlatDevice → ℕ → DeviceChange → List FlatDevice
+devices_told None devices k change = devices
+devices_told (Some d) devices k change = slice_set devices k (device_told d change)
 
--- and its port shows it (VIRTIO 1.2, 5.2.4)
-abbrev pub sectors_shown : Option PortState → List PortState → ℕ → ℕ → List PortState
-sectors_shown None ports k sectors = ports
-sectors_shown (Some p) ports k sectors = slice_set ports k (configured p (bytes_of 8 sectors))
+-- its port, if it is there, shows these bytes as its configuration
+abbrev pub ports_shown : Option PortState → List PortState → ℕ → List ℕ → List PortState
+ports_shown None ports k shown = ports
+ports_shown (Some p) ports k shown = slice_set ports k (configured p shown)
 
--- The disk of block device k has another size, in sectors of 512 bytes, and the driver is told by the device's line. Where
--- there is no such device, and so no port of it, only the line of that number is raised, if the board has it.
-abbrev pub resized : ℕ → ℕ → Guest → Guest
-resized k sectors g = record g {
-  board = raise_line g.board (Device k);
-  ports = sectors_shown (slice_get g.ports k) g.ports k sectors;
-  devices = sectors_told (slice_get g.devices k) g.devices k sectors;
+-- and what it shows anew its driver is told of, by the device's line
+abbrev pub board_shown : Option (List ℕ) → Board → ℕ → Board
+board_shown None board k = board
+board_shown (Some shown) board k = raise_line board (Device k)
+
+abbrev pub ports_with : Option (List ℕ) → List PortState → ℕ → List PortState
+ports_with None ports k = ports
+ports_with (Some shown) ports k = ports_shown (slice_get ports k) ports k shown
+
+-- Device k is told of a change, and shows these bytes, if there are any. Where there is no such device, and so no port of it,
+-- only the line of that number is raised, if the board has it.
+abbrev pub told : ℕ → DeviceChange → Option (List ℕ) → Guest → Guest
+told k change shown g = record g {
+  board = board_shown shown g.board k;
+  ports = ports_with shown g.ports k;
+  devices = devices_told (slice_get g.devices k) g.devices k change;
 }
+
+-- a block device's change of the number of sectors, and what it shows of it (VIRTIO 1.2, 5.2.4)
+abbrev pub sectors_change : ℕ → DeviceChange
+sectors_change sectors = BlockChanged (Sectors sectors)
+
+abbrev pub capacity_shown : ℕ → Option (List ℕ)
+capacity_shown sectors = Some (bytes_of 8 sectors)
+
+abbrev pub sectors_told : Option FlatDevice → List FlatDevice → ℕ → ℕ → List FlatDevice
+sectors_told d devices k sectors = devices_told d devices k (sectors_change sectors)
+
+abbrev pub sectors_shown : Option PortState → List PortState → ℕ → ℕ → List PortState
+sectors_shown p ports k sectors = ports_shown p ports k (bytes_of 8 sectors)
+
+-- the disk of block device k has another size, in sectors of 512 bytes
+abbrev pub resized : ℕ → ℕ → Guest → Guest
+resized k sectors g = told k (sectors_change sectors) (capacity_shown sectors) g

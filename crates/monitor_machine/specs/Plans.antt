@@ -21,7 +21,8 @@ use Rattle.api_rules.specs.declared.answer.Answer.{Answer}
 use Rattle.api_rules.specs.Ids.{based, spent}
 use Rattle.timer_trace.specs.States.{new_timer}
 use Rattle.guest_devices.specs.declared.device.Device.{Device}
-use Rattle.flat_guest.specs.Changes.{resized}
+use Rattle.guest_devices.specs.Devices.{DeviceChange}
+use Rattle.flat_guest.specs.Changes.{capacity_shown, sectors_change, told}
 use Rattle.flat_guest.specs.Guest.{Guest}
 use Rattle.flat_guest.specs.Start.{started}
 use Rattle.snap_state.specs.declared.copy.StateCopy.{StateCopy}
@@ -241,12 +242,16 @@ plan_after (plan.Restores r) live =
     }
 plan_after it live = live
 
--- what becomes of the world where a device is told the size of its disk, if both are there
+-- what becomes of the world where a device is told of a change, and shows this, if both are there
+abbrev pub TellsDevice : Option ℕ → DeviceChange → Option (List ℕ) → Option WorldValue → Option WorldValue → Type 0
+TellsDevice None change shown world after = after ≡ world
+TellsDevice (Some k) change shown None after = after ≡ None
+TellsDevice (Some k) change shown (Some w) None = ⊥
+TellsDevice (Some k) change shown (Some w) (Some v) = (g : Guest) → IsWorld w g → IsWorld v (told k change shown g)
+
+-- the size of its disk
 abbrev pub Resizes : Option ℕ → ℕ → Option WorldValue → Option WorldValue → Type 0
-Resizes None sectors world after = after ≡ world
-Resizes (Some k) sectors None after = after ≡ None
-Resizes (Some k) sectors (Some w) None = ⊥
-Resizes (Some k) sectors (Some w) (Some v) = (g : Guest) → IsWorld w g → IsWorld v (resized k sectors g)
+Resizes device sectors world after = TellsDevice device (sectors_change sectors) (capacity_shown sectors) world after
 
 -- and of the machine where a drive has another file
 pub record TakesFile (r : Resize) (live after : LiveMachine) : Type 0 where
