@@ -13,6 +13,7 @@ use Rattle.hart_trace.specs.Shown.{register_of}
 use Rattle.hart_trace.proofs.OneHart.{one_hart}
 use Rattle.http_stream.specs.Conversation.{IsDetermined, arrived}
 use Rattle.http_stream.specs.Sent.{sent}
+use Rattle.http_stream.specs.declared.request.Next.{Next}
 use Rattle.http_stream.proofs.ConversationLemmas.{one_conversation}
 use Rattle.script_text.specs.declared.item.Item.{Item}
 use Rattle.script_text.specs.declared.item.Item.TheVariants as item
@@ -33,11 +34,12 @@ use Rattle.api_calls.specs.declared.call.SnapshotCreate.{SnapshotCreate}
 use Rattle.api_calls.specs.declared.call.SnapshotLoad.{SnapshotLoad}
 use Rattle.flat_snapshot.specs.Found.{Snapshot, found}
 use Rattle.flat_snapshot.proofs.Copied.{same_copy}
-use Rattle.flat_machine.specs.Requests.{CreateFails, Creates, Fails, LeavesBy, Restores, RequestStep, Stores, allowed, created, parent_in}
+use Rattle.flat_machine.specs.Requests.{AnswersBy, CreateFails, Creates, Fails, LeavesBy, Responds, Restores, RequestStep, Stores, TellsOf, Told, allowed, answer_told, created, parent_in, respond}
 use Rattle.serde_json.specs.Data.{Data}
 use Rattle.metadata_store.specs.Store.{patched, put}
 use Rattle.vm_config.specs.declared.change.Change.{Change}
 use Rattle.vm_config.specs.declared.change.Change.TheVariants as change
+use Rattle.api_rules.specs.declared.answer.Answer.{Answer}
 use Rattle.api_calls.specs.declared.call.VmState.TheVariants.{Paused, Resumed}
 use Rattle.refusals.specs.declared.refusal.Refusal.{Refusal}
 use Rattle.flat_machine.specs.Run.{Act, Run}
@@ -104,8 +106,26 @@ fails_one (change.CreateSnapshot it) m left n k x y = create_fails_one m.guest m
 fails_one (change.LoadSnapshot load) m left n k x y = x.1 ∙ sym y.1
 fails_one (change.Tell part) m left n k x y = absurd x
 
+told_one : (m : Machine) (a b : Told) → TellsOf m a → TellsOf m b → a ≡ b
+told_one m a b x y = λ i. record {
+  id = (x.id_is ∙ sym y.id_is) i;
+  phase = (x.phase_is ∙ sym y.phase_is) i;
+  config = (x.config_is ∙ sym y.config_is) i;
+  metadata = (x.metadata_is ∙ sym y.metadata_is) i;
+}
+
+answer_one : (r : Result Change Refusal) (m : Machine) (a b : Answer) → AnswersBy m r a → AnswersBy m r b → a ≡ b
+answer_one (Ok it) m a b (told, tells, is) (other, says, be) =
+    is ∙ ap (λ (t : Told). answer_told it t) (told_one m told other tells says) ∙ sym be
+answer_one (Err why) m a b is be = is ∙ sym be
+
+responds_one : (m : Machine) (given : Next) (t u : List Response) → Responds m given t → Responds m given u → t ≡ u
+responds_one m given t u (answer, by, is) (other, also, be) =
+    is ∙ ap (respond given) (answer_one (allowed m given) m answer other by also) ∙ sym be
+
 request_one : IsDetermined RequestStep
-request_one (Answered kept) given m t u n k x y = (x.0 ∙ sym y.0, result_one (allowed m given) m kept n k x.1 y.1)
+request_one (Answered kept) given m t u n k x y =
+    (responds_one m given t u x.0 y.0, result_one (allowed m given) m kept n k x.1 y.1)
 request_one (Failed left) given m t u n k (it, asks, fails, is) (other, asked, failed, be) =
     let same = same_change other it (sym asked ∙ asks) in
     (is ∙ sym be, fails_one it m left n k fails (subst (λ (c : Change). Fails m c left k) same failed))

@@ -13,6 +13,8 @@ use Rattle.api_calls.specs.declared.call.VmState.TheVariants.{Paused, Resumed}
 use Rattle.vm_config.specs.declared.config.Config.{Config}
 use Rattle.vm_config.specs.declared.change.Change.{Change}
 use Rattle.vm_config.specs.declared.change.Change.TheVariants as change
+use Rattle.api_rules.specs.declared.answer.Answer.{Answer}
+use Rattle.api_rules.specs.Answers.{refused}
 use Rattle.response_form.specs.Responses.{Response}
 use Rattle.guest_devices.specs.declared.device.Device.{Device}
 use Rattle.flat_guest.specs.Guest.{Guest, whole_pages}
@@ -21,9 +23,9 @@ use Rattle.flat_snapshot.proofs.Copied.{some_copy}
 use Rattle.flat_machine.specs.Outcome.{AreAnswered, Outcome}
 use Rattle.flat_machine.specs.Outcome.Outcome.{Answered}
 use Rattle.flat_machine.specs.Items.{TalkLines, response_lines}
-use Rattle.flat_machine.specs.Machine.{Machine}
+use Rattle.flat_machine.specs.Machine.{Machine, phase_of}
 use Rattle.flat_machine.specs.Ready.{IsReadyGuest, IsTaken, Ready, ReadyBy}
-use Rattle.flat_machine.specs.Requests.{Creates, LeavesBy, Restores, RequestStep, Stores, allowed, answer_by, carried, configured, created, disk_of, halted, image_of, parent_in, patched_drive, respond, started_from}
+use Rattle.flat_machine.specs.Requests.{AnswersBy, Creates, LeavesBy, Responds, Restores, RequestStep, Stores, Told, allowed, answer_told, carried, configured, created, disk_of, halted, image_of, parent_in, patched_drive, respond, started_from}
 use Rattle.flat_machine.proofs.Ready.{request_ready}
 use Rattle.flat_machine.proofs.Taken.{bounded}
 
@@ -78,12 +80,21 @@ some_result (Err why) m ready = ([], m, (refl, refl))
 
 -- ---- what is due is answered
 
+-- by what there is to tell
+some_answer : (made : Result Change Refusal) (m : Machine) → (answer : Answer) × AnswersBy m made answer
+some_answer (Ok it) m =
+    let told : Told = record { id = m.id; phase = phase_of m; config = m.config; metadata = m.metadata } in
+    (answer_told it told, (told, record { id_is = refl; phase_is = refl; config_is = refl; metadata_is = refl }, refl))
+some_answer (Err why) m = (refused why, refl)
+
 some_request : (given : Next) (m : Machine) → Ready m
     → (said : List Response) × (n : Machine) × AnsweredStep tt given m said n × Ready n
 some_request given m ready =
     let left = some_result (allowed m given) m ready in
-    let said : List Response = respond given (answer_by m (allowed m given)) in
-    (said, left.1, (left.0, (refl, left.2)), request_ready (Answered left.0) given m said left.1 ready (refl, left.2))
+    let answer = some_answer (allowed m given) m in
+    let said : List Response = respond given answer.0 in
+    let responds : Responds m given said = (answer.0, answer.1, refl) in
+    (said, left.1, (left.0, (responds, left.2)), request_ready (Answered left.0) given m said left.1 ready (responds, left.2))
 
 -- where each is answered by the machine, with something kept each time
 answered_each : (count : ℕ) (c d : Connection) (m n : Machine) (text : List Response)

@@ -25,6 +25,7 @@ use Rattle.api_calls.specs.declared.call.VmState.TheVariants.{Paused, Resumed}
 use Rattle.api_calls.specs.Call.{call_of, ◌>>=◌}
 use Rattle.metadata_store.specs.Store.{patched, put}
 use Rattle.vm_config.specs.declared.config.Config.{Config}
+use Rattle.vm_config.specs.declared.config.Phase.{Phase}
 use Rattle.vm_config.specs.declared.change.Change.{Change}
 use Rattle.vm_config.specs.declared.change.Change.TheVariants as change
 use Rattle.vm_config.specs.Changes.{changed}
@@ -128,10 +129,27 @@ allowed m given = do
   it ← decided m given
   by_contents m it
 
--- what is answered
-abbrev pub answer_by : Machine → Result Change Refusal → Answer
-answer_by m (Ok it) = accepted it m.id (phase_of m) m.config m.metadata
-answer_by m (Err why) = refused why
+-- what there is to tell of a machine
+pub record Told : Type 0 where
+  pub id : List ℕ
+  pub phase : Phase
+  pub config : Config
+  pub metadata : Data
+
+-- and what it is of this one
+pub record TellsOf (m : Machine) (told : Told) : Type 0 where
+  pub id_is : told.id ≡ m.id
+  pub phase_is : told.phase ≡ phase_of m
+  pub config_is : told.config ≡ m.config
+  pub metadata_is : told.metadata ≡ m.metadata
+
+-- what is answered by that
+abbrev pub answer_told : Change → Told → Answer
+answer_told it told = accepted it told.id told.phase told.config told.metadata
+
+abbrev pub AnswersBy : Machine → Result Change Refusal → Answer → Type 0
+AnswersBy m (Ok it) answer = (told : Told) × TellsOf m told × (answer ≡ answer_told it told)
+AnswersBy m (Err why) answer = answer ≡ refused why
 
 -- ---- what a change leaves
 
@@ -316,11 +334,15 @@ closes given = false
 abbrev pub respond : Next → Answer → List Response
 respond given answer = record { answer = answer; closes = closes given } ∷ []
 
+abbrev pub Responds : Machine → Next → List Response → Type 0
+Responds m given responses =
+    (answer : Answer) × AnswersBy m (allowed m given) answer × (responses ≡ respond given answer)
+
 -- What is answered and left where something is due, by how it went: answered by the machine; 500 where a call on the
 -- files failed; 503 where there was no memory, which changes nothing.
 abbrev pub RequestStep : Outcome → Next → Machine → List Response → Machine → Type 0
 RequestStep (Answered kept) given m responses n =
-    (responses ≡ respond given (answer_by m (allowed m given))) × LeavesBy m (allowed m given) kept n
+    Responds m given responses × LeavesBy m (allowed m given) kept n
 RequestStep (Failed left) given m responses n =
     (it : Change) × (decided m given ≡ Ok it) × Fails m it left n
     × (responses ≡ respond given (refused refusal.OutsideFailed))

@@ -42,6 +42,7 @@ use Rattle.flat_machine.specs.Requests.{CreateFails, Creates, RequestStep, by_co
 use Rattle.vm_world.specs.Worlds.{IsWorld, WorldValue}
 use Rattle.vm_world.proofs.Events.{unwritten_is}
 use Rattle.monitor_plans.specs.Creating.{CreateGives}
+use Rattle.monitor_plans.specs.Plans.{IsFittingTask}
 use Rattle.monitor_plans.specs.declared.creating.Creation.{Creation}
 use Rattle.monitor_plans.specs.declared.plan.Plan.TheVariants as plan
 use Rattle.monitor_plans.specs.declared.plan.Task.{Task}
@@ -52,7 +53,7 @@ use Rattle.monitor_machine.specs.declared.outcome.Outcome.{Outcome}
 use Rattle.monitor_machine.specs.Plans.{IsCreate, IsTask, created_after, failed_after}
 use Rattle.monitor_machine.specs.Replying.{Replies, left_by, open_response}
 use Rattle.monitor_machine.specs.State.{IsGuestBy, IsMachine}
-use Rattle.monitor_machine.proofs.Leaving.{answered}
+use Rattle.monitor_machine.proofs.Leaving.{answered, tells_is, told_of}
 
 -- the world of a live machine is the guest of the machine
 world_is : (live : Option WorldValue) (w : WorldValue) (guest : Option Guest) (g : Guest) → IsGuestBy live guest → live ≡ Some w
@@ -154,7 +155,7 @@ module _ (c : Creation) (live : LiveMachine) (w : WorldValue) (known left : File
       → RequestStep (flat.Outcome.Answered kept) given m (respond given no_content) end × IsMachine (created_after c live) left end
   create_does wrote = (
     answered live known m end given (Ok (change.CreateSnapshot due.it)) no_content kept
-        (ap (λ (r : Result Change Refusal). r >>= by_contents m) due.asks) refl
+        (ap (λ (r : Result Change Refusal). r >>= by_contents m) due.asks) (told_of live, tells_is live m is.own, refl)
         (subst (λ (o : Option Guest). Creates o m due.it kept end) (sym due.there) (due.copy, due.copied, due.kept_is, refl)),
     record {
       own = record {

@@ -10,39 +10,40 @@ use Rattle.vm_outside.specs.Known.{FilesKnown}
 use Rattle.api_calls.specs.declared.call.VmState.TheVariants.{Paused, Resumed}
 use Rattle.metadata_store.specs.Store.{put}
 use Rattle.vm_config.specs.declared.config.Config.{Config}
-use Rattle.vm_config.specs.declared.config.Phase.{Phase}
 use Rattle.vm_config.specs.declared.change.Change.{Change}
 use Rattle.vm_config.specs.declared.change.Change.TheVariants as change
 use Rattle.vm_config.specs.Changes.{changed, takes_memory}
 use Rattle.vm_config.specs.Drives.{device_of}
 use Rattle.api_rules.specs.declared.answer.Answer.{Answer}
-use Rattle.api_rules.specs.Answers.{accepted, no_content}
+use Rattle.api_rules.specs.Answers.{no_content}
 use Rattle.guest_devices.specs.declared.device.Device.{Device}
 use Rattle.flat_guest.specs.Guest.{Guest}
 use Rattle.flat_machine.specs.Outcome as flat
 use Rattle.flat_machine.specs.Machine.{AreFilesOf, Machine}
-use Rattle.flat_machine.specs.Machine as machine
 use Rattle.flat_snapshot.specs.Found.{Snapshot}
-use Rattle.flat_machine.specs.Requests.{Fails, LeavesBy, RequestStep, Restores, Stores, allowed, answer_by, carried, configured, disk_of}
+use Rattle.flat_machine.specs.Requests.{AnswersBy, Fails, LeavesBy, RequestStep, Restores, Stores, TellsOf, Told, allowed, answer_told, carried, configured, disk_of}
 use Rattle.flat_machine.specs.Requests.{halted, patched_drive, respond, retold, sectors_of, started_from}
 use Rattle.vm_world.specs.Worlds.{WorldValue}
 use Rattle.vm_world.proofs.Events.{restarted}
 use Rattle.monitor_plans.specs.declared.plan.Plan.{Plan}
 use Rattle.monitor_plans.specs.declared.plan.Plan.TheVariants as plan
-use Rattle.monitor_plans.specs.Plans.{plan_answer}
 use Rattle.monitor_machine.specs.declared.machine.LiveMachine.{LiveMachine}
 use Rattle.monitor_machine.specs.Plans.{IsKept, IsPlan, PlanLeaves, Resizes, answer_of, halted_world, is_plain, paused_by, phase_of, plan_outcome, reads_files, world_by}
 use Rattle.monitor_machine.specs.Replying.{left_by, outcome_by}
 use Rattle.monitor_machine.specs.State.{IsGuestBy, IsLive, IsMachine}
 use Rattle.monitor_machine.proofs.Deciding.{phase_is}
 
-answer_is : (it : Plan) (live : LiveMachine) (m : Machine) → IsLive live m
-    → answer_of it live ≡ plan_answer it m.id (machine.phase_of m) m.config m.metadata
-answer_is it live m own =
-    ap (λ (i : List ℕ). plan_answer it i (phase_of live) live.config live.metadata) own.id_is
-    ∙ ap (λ (p : Phase). plan_answer it m.id p live.config live.metadata) (phase_is live m own)
-    ∙ ap (λ (c : Config). plan_answer it m.id (machine.phase_of m) c live.metadata) own.config_is
-    ∙ ap (λ (d : Data). plan_answer it m.id (machine.phase_of m) m.config d) own.metadata_is
+-- what there is to tell of it is what there is to tell of the machine
+abbrev pub told_of : LiveMachine → Told
+told_of live = record { id = live.id; phase = phase_of live; config = live.config; metadata = live.metadata }
+
+pub tells_is : (live : LiveMachine) (m : Machine) → IsLive live m → TellsOf m (told_of live)
+tells_is live m own = record {
+  id_is = own.id_is;
+  phase_is = phase_is live m own;
+  config_is = own.config_is;
+  metadata_is = own.metadata_is;
+}
 
 abbrev pub Does : Plan → Machine → Next → Answer → LiveMachine → FilesKnown → Type 0
 Does it m given answer after known =
@@ -51,10 +52,10 @@ Does it m given answer after known =
 
 -- an answer of the machine, whose change leaves n
 pub answered : (live : LiveMachine) (known : FilesKnown) (m n : Machine) (given : Next) (made : Result Change Refusal) (answer : Answer)
-    (kept : List Device) → allowed m given ≡ made → answer ≡ answer_by m made → LeavesBy m made kept n
+    (kept : List Device) → allowed m given ≡ made → AnswersBy m made answer → LeavesBy m made kept n
     → RequestStep (flat.Outcome.Answered kept) given m (respond given answer) n
 answered live known m n given made answer kept asks is leaves = (
-  ap (respond given) (is ∙ ap (answer_by m) (sym asks)),
+  (answer, subst (λ (r : Result Change Refusal). AnswersBy m r answer) (sym asks) is, refl),
   subst (λ (r : Result Change Refusal). LeavesBy m r kept n) (sym asks) leaves,
 )
 
@@ -147,21 +148,21 @@ retold_is device number sectors path name saved w v g named same size is told =
     by_device (Some k) (Some w) (Some v) (Some g) is told = told g is
 
 -- what is stored leaves the machine with it
-keeps : (it : Change) (m : Machine) (kept : Data) → IsKept kept m it
-    → LeavesBy m (Ok it) [] (record m { metadata = kept }) × (accepted it m.id (machine.phase_of m) m.config m.metadata ≡ no_content)
-keeps (change.PutMetadata body) m kept is =
+keeps : (it : Change) (m : Machine) (told : Told) (kept : Data) → IsKept kept m it
+    → LeavesBy m (Ok it) [] (record m { metadata = kept }) × (answer_told it told ≡ no_content)
+keeps (change.PutMetadata body) m told kept is =
     ((refl, subst (λ (due : Result Data Refusal). Stores due m (record m { metadata = kept })) (sym is) refl), refl)
-keeps (change.PatchMetadata patch) m kept is =
+keeps (change.PatchMetadata patch) m told kept is =
     ((refl, subst (λ (due : Result Data Refusal). Stores due m (record m { metadata = kept })) (sym is) refl), refl)
-keeps (change.BootSource source) m kept is = absurd is
-keeps (change.PutDrive drive) m kept is = absurd is
-keeps (change.PatchDrive patch) m kept is = absurd is
-keeps (change.MachineConfig machine) m kept is = absurd is
-keeps change.Start m kept is = absurd is
-keeps (change.State state) m kept is = absurd is
-keeps (change.CreateSnapshot files) m kept is = absurd is
-keeps (change.LoadSnapshot load) m kept is = absurd is
-keeps (change.Tell part) m kept is = absurd is
+keeps (change.BootSource source) m told kept is = absurd is
+keeps (change.PutDrive drive) m told kept is = absurd is
+keeps (change.PatchDrive patch) m told kept is = absurd is
+keeps (change.MachineConfig machine) m told kept is = absurd is
+keeps change.Start m told kept is = absurd is
+keeps (change.State state) m told kept is = absurd is
+keeps (change.CreateSnapshot files) m told kept is = absurd is
+keeps (change.LoadSnapshot load) m told kept is = absurd is
+keeps (change.Tell part) m told kept is = absurd is
 
 -- a start, a load or another file for a drive leaves the files as they were
 given_path : (path : Option (List ℕ)) → is_some path ≡ true → (name : List ℕ) × (path ≡ Some name)
@@ -189,12 +190,12 @@ pub plan_does : (it : Plan) (live after : LiveMachine) (known : FilesKnown) (m :
     → IsPlan it m given → PlanLeaves it live after → Does it m given (answer_of it live) after known
 plan_does (plan.Refused why) live after known m given is asks leaves = (
   m,
-  answered live known m m given (Err why) _ [] asks (answer_is (plan.Refused why) live m is.own) (refl, refl),
+  answered live known m m given (Err why) _ [] asks refl (refl, refl),
   subst (λ (l : LiveMachine). IsMachine l known m) (sym leaves) is,
 )
 plan_does (plan.Changes it) live after known m given is (asks, plain) leaves = (
   plainly m it,
-  answered live known m (plainly m it) given (Ok it) _ [] asks (answer_is (plan.Changes it) live m is.own) (plain_leaves m it plain),
+  answered live known m (plainly m it) given (Ok it) _ [] asks (told_of live, tells_is live m is.own, refl) (plain_leaves m it plain),
   subst (λ (l : LiveMachine). IsMachine l known (plainly m it)) (sym (leaves (plain_free it plain))) (record {
     own = record {
       id_is = is.own.id_is;
@@ -212,7 +213,7 @@ plan_does (plan.Changes it) live after known m given is (asks, plain) leaves = (
 plan_does (plan.Drives drives) live after known m given is (drive, asks, put) leaves =
     let n : Machine = configured m (change.PutDrive drive) in (
       n,
-      answered live known m n given (Ok (change.PutDrive drive)) _ [] asks (answer_is (plan.Drives drives) live m is.own) (refl, refl),
+      answered live known m n given (Ok (change.PutDrive drive)) _ [] asks (told_of live, tells_is live m is.own, refl) (refl, refl),
       subst (λ (l : LiveMachine). IsMachine l known n) (sym leaves) (record {
         own = record {
           id_is = is.own.id_is;
@@ -229,7 +230,7 @@ plan_does (plan.Resizes r) live after known m given is asks leaves =
     let it : Change = change.PatchDrive r.patch in
     let n : Machine = configured (patched_drive m r.patch) it in (
       n,
-      answered live known m n given (Ok it) _ [] asks.asks (answer_is (plan.Resizes r) live m is.own) (refl, refl),
+      answered live known m n given (Ok it) _ [] asks.asks (told_of live, tells_is live m is.own, refl) (refl, refl),
       subst (λ (l : LiveMachine). IsMachine l known n) (sym leaves.rest) (record {
         own = record {
           id_is = is.own.id_is;
@@ -244,9 +245,9 @@ plan_does (plan.Resizes r) live after known m given is asks leaves =
       }),
     )
 plan_does (plan.Stores kept) live after known m given is (it, asks, stores) leaves =
-    let left = keeps it m kept stores in (
+    let left = keeps it m (told_of live) kept stores in (
       record m { metadata = kept },
-      answered live known m (record m { metadata = kept }) given (Ok it) _ [] asks (sym left.1) left.0,
+      answered live known m (record m { metadata = kept }) given (Ok it) _ [] asks (told_of live, tells_is live m is.own, sym left.1) left.0,
       subst (λ (l : LiveMachine). IsMachine l known (record m { metadata = kept })) (sym leaves) (record {
         own = record {
           id_is = is.own.id_is;
@@ -262,7 +263,7 @@ plan_does (plan.Stores kept) live after known m given is (it, asks, stores) leav
 plan_does (plan.Starts w) live after known m given is (asks, image, there, world) leaves =
     let n : Machine = configured (started_from (Some image) (disk_of m) m) change.Start in (
       n,
-      answered live known m n given (Ok change.Start) _ [] asks (answer_is (plan.Starts w) live m is.own)
+      answered live known m n given (Ok change.Start) _ [] asks (told_of live, tells_is live m is.own, refl)
           (refl, ap (λ (o : Option (List ℕ)). configured (started_from o (disk_of m) m) change.Start) (sym there)),
       subst (λ (l : LiveMachine). IsMachine l known n) (sym leaves) (record {
         own = record {
@@ -280,7 +281,7 @@ plan_does (plan.Restores r) live after known m given is asks leaves =
     let n : Machine = carried m asks.load asks.it in (
       n,
       answered live known m n given (Ok (change.LoadSnapshot asks.load)) _ [] asks.asks
-          (answer_is (plan.Restores r) live m is.own)
+          (told_of live, tells_is live m is.own, refl)
           (refl, subst (λ (f : Result Snapshot Refusal). Restores f m asks.load n) (sym asks.there) refl),
       subst (λ (l : LiveMachine). IsMachine l known n) (sym leaves) (record {
         own = record {

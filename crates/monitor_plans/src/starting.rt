@@ -37,7 +37,17 @@ pub fn start<F: Files>(alloc: Global, config: &Taken, files: &mut F) -> Plan
     ensures cause { PlanCause result (F.known files.old).health.faults (F.known files.new).health.faults }
     ensures lasts { Lasts (F.known files.old).health (F.known files.new).health }
 {
-    let config = config.get();
+    start_by(alloc, config.get(), files)
+}
+
+fn start_by<F: Files>(alloc: Global, config: &Config, files: &mut F) -> Plan
+    requires { IsTaken config.now }
+    ensures gives { Tells (F.known files.old).health → StartGives result config.now (F.known files.old).saved }
+    ensures fits { IsFittingPlan result config.now }
+    ensures same { Tells (F.known files.old).health → SameFiles (F.known files.old) (F.known files.new) }
+    ensures cause { PlanCause result (F.known files.old).health.faults (F.known files.new).health.faults }
+    ensures lasts { Lasts (F.known files.old).health (F.known files.new).health }
+{
     let Some(source) = &config.boot_source else {
         return Plan::Refused(Refusal::NoSuchFile);
     };

@@ -50,7 +50,7 @@ respond_closes given first answer closing is = ap ends is ∙ ap (λ (b : Bool).
 
 step_closes : (how : Outcome) (given : Next) (m : Machine) (first : List Response) (mid : Machine) → RequestStep how given m first mid
     → requests.closes given ≡ true → ends first ≡ true
-step_closes (Answered kept) given m first mid step closing = respond_closes given first _ closing step.0
+step_closes (Answered kept) given m first mid step closing = respond_closes given first step.0.0 closing step.0.2
 step_closes (Failed left) given m first mid step closing = respond_closes given first _ closing step.3
 step_closes NoMemory given m first mid step closing = respond_closes given first _ closing step.0
 

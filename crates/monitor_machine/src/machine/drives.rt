@@ -9,21 +9,21 @@ ghost use Rattle.monitor_machine.specs.Plans.{Resizes};
 ghost use Rattle.monitor_machine.specs.State.{IsLive};
 
 use crate::machine::LiveMachine;
-use api_rules::{Change, Config};
-use monitor_plans::Resize;
+use api_rules::Change;
+use monitor_plans::{Resize, Taken};
 use vm_host::Disk;
 
 /// A guest has at most so many devices, one at each port.
 const MOST_DEVICES: u8 = 16;
 
 // The device's disk is the file of its drive, if it has one.
-fn attach_disk<D: Disk>(config: &Config, device: u8, disk: &mut D)
+fn attach_disk<D: Disk>(config: &Taken, device: u8, disk: &mut D)
     ensures attached { HasFile (D.known disk.old).health config.now device (D.known disk.new) }
     ensures others { Tells (D.known disk.old).health → (other : ℕ) → other ≢ device →
         (D.known disk.new).files other ≡ (D.known disk.old).files other }
     ensures uncalled { DiskUncalled (D.known disk.old) (D.known disk.new) }
 {
-    if let Some(drive) = config.drives.at_device(device as usize) {
+    if let Some(drive) = config.get().drives.at_device(device as usize) {
         disk.attach(device, drive.path_on_host.as_str());
     }
 }
@@ -65,7 +65,7 @@ impl LiveMachine {
             return;
         }
         for device in 0..MOST_DEVICES {
-            attach_disk(self.config.get(), device, disk);
+            attach_disk(&self.config, device, disk);
         }
     }
 }

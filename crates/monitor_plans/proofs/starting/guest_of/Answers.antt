@@ -1,5 +1,21 @@
+use Rattle.std.proofs.Common.{arith, refl, ◌∙◌}
+use Rattle.flat_machine.proofs.Taken.{bounded}
 use Rattle.monitor_plans.proofs.Loads.{has_room, loads_are}
 use Rattle.monitor_plans.proofs.starting.guest_of.Goals as goal
+
+pub place_of-requires : goal.place_of-requires
+place_of-requires c = let mib = (bounded c.args.config.now c.requires.taken).mib in omega (arith, mib)
+
+pub world_of-requires-clause-few : goal.world_of-requires-clause-few
+world_of-requires-clause-few c = (bounded c.args.config.now c.requires.taken).harts
+
+pub world_of-requires-clause-small : goal.world_of-requires-clause-small
+world_of-requires-clause-small c = let mib = (bounded c.args.config.now c.requires.taken).mib in omega (arith, mib)
+
+pub world_of-requires-clause-room : goal.world_of-requires-clause-room
+world_of-requires-clause-room c =
+    has_room c.args.config.now (record { image = c.args.image.now; initrd = _; tree = _ }) c.args.image.now c.args.disk.now _ c.requires.taken
+    refl c.initrd_of.ensures (c.as_slice.ensures.value ∙ c.in_ok-tree.ensures) c.requires.fits
 
 pub returns : goal.returns
 returns c =

@@ -1,10 +1,13 @@
-use Rattle.std.proofs.Common.{[], refl}
-use Rattle.monitor_machine.proofs.Creating.{create_task}
+use Rattle.std.proofs.Common.{refl, subst}
+use Rattle.vm_config.specs.declared.config.Config.{Config}
+use Rattle.monitor_plans.specs.Creating.{CreateGives}
+use Rattle.monitor_machine.proofs.Creating.{create_fits, create_task}
 use Rattle.monitor_machine.proofs.machine.LiveMachine.task_of_create.Goals as goal
 
-pub returns-in-None-clause-task : goal.returns-in-None-clause-task
-returns-in-None-clause-task c = ([], λ known m is given asks. tt)
+pub returns-clause-task : goal.returns-clause-task
+returns-clause-task c =
+    create_task c.create.result c.args.self.now c.in-Some.guest c.args.it c.parent-parent.result _ c.in-Some.is c.parent-parent.ensures refl
+    (subst (λ (k : Config). CreateGives c.create.result k c.parent-parent.result _ c.in-Some.guest c.args.it.files) c.get-config.ensures.same c.create.ensures)
 
-pub returns-in-Some-clause-task : goal.returns-in-Some-clause-task
-returns-in-Some-clause-task c =
-    create_task c.create.result c.args.self.now c.in-Some.guest c.args.it c.parent-parent.result _ c.in-Some.is c.parent-parent.ensures refl c.create.ensures
+pub returns-clause-fits : goal.returns-clause-fits
+returns-clause-fits c = create_fits c.create.result c.args.self.now.config c.get-config.result.now _ _ _ _ c.create.ensures

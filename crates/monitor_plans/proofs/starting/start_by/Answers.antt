@@ -1,5 +1,20 @@
-use Rattle.monitor_plans.proofs.Loads.{start_gives}
-use Rattle.monitor_plans.proofs.starting.start.Goals as goal
+use Rattle.std.proofs.Common.{ap, arith, length}
+use Rattle.flat_machine.proofs.Taken.{bounded}
+use Rattle.monitor_plans.proofs.Loads.{fits_here, start_gives}
+use Rattle.monitor_plans.proofs.starting.start_by.Goals as goal
+
+pub guest_of-requires-clause-few : goal.guest_of-requires-clause-few
+guest_of-requires-clause-few g c =
+    let few = c.in-Ok-drive_files.ensures.few in
+    let lent = ap length c.deref-in-Ok-load_disk.ensures.value in
+    let most = (bounded c.args.config.now c.requires).drives in
+    omega (arith, few, lent, most)
+
+pub guest_of-requires-clause-fits : goal.guest_of-requires-clause-fits
+guest_of-requires-clause-fits g c =
+    fits_here c.args.config.now c.in-Some-size.len c.in-Ok-disk_file.file c.in-Ok-drive_files.drives.are_there
+    c.in-Ok-read_front.image.items c.deref.result.now c.in-Ok-load_disk.disk c.in_default-boot_refusal.ensures
+    c.in-Ok-read_front.ensures.size c.deref.ensures.value c.in-Ok-load_disk.ensures.size
 
 pub returns-in-Ok-guest_of-clause-gives : goal.returns-in-Ok-guest_of-clause-gives
 returns-in-Ok-guest_of-clause-gives g c t =
@@ -7,7 +22,7 @@ returns-in-Ok-guest_of-clause-gives g c t =
     let t2 = c.in-Ok-disk_file.ensures.called.lasts.still t1 in
     let t3 = c.in-Ok-drive_files.ensures.lasts.still t2 in
     let t4 = c.in-Ok-read_front.ensures.lasts.still t3 in
-    start_gives c.get.result.now c.in-Some.source _ _ _ _ _ c.as_str-path.result.now c.in-Ok.size c.in-Some-size.len c.in-Ok-disk_file.file
+    start_gives c.args.config.now c.in-Some.source _ _ _ _ _ c.as_str-path.result.now c.in-Ok.size c.in-Some-size.len c.in-Ok-disk_file.file
     c.in-Ok-read_front.image.items c.deref.result.now c.in-Ok-load_disk.disk c.in-Ok-drive_files.drives.drives.items c.deref-in-Ok-load_disk.result.now
     c.in-Ok-drive_files.drives.are_there c.in-Ok-guest_of.guest
     c.in-Some.is c.as_str-path.ensures (c.in-Ok.ensures.size t) c.in-Some-size.is
