@@ -159,8 +159,8 @@ module _ (m n : Machine) (g : Guest) (given : Next) (it : SnapshotCreate) (kept 
       carried_alike m.config g copy (next_identity m) own.sound is.is_copy is.saved is.whole on
       (own.rests (paused_is m g it known.asked there asks known.own)) (omega (arith, bytes, slots, whole))
 
-  pub some_saving : (copy : StateCopy) × IsCopyOf m.config g copy
+  pub some_saving : (copy : StateCopy) × IsCopyOf m.config g copy × (copy.devices ≡ kept)
       × (contents.Fits (contents_of (record { identity = next_identity m; copy = copy }))
       → IsSaving it.snapshot_type (record { asked = it; before = m; after = n; guest = g; copy = copy })
       × (g.board.off ≡ false → AreAlike (unwritten g) (carried_guest copy g.memory.bytes)))
-  some_saving = let x = of_guest in (x.0, x.1, λ fits. let is = by_copy x.0 x.1 x.2 fits in (is, is_alike x.0 is))
+  some_saving = let x = of_guest in (x.0, x.1, x.2, λ fits. let is = by_copy x.0 x.1 x.2 fits in (is, is_alike x.0 is))

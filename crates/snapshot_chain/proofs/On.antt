@@ -1,5 +1,5 @@
--- No request turns a guest off: inside an item it is on, if it was on before the item.
-use Rattle.std.proofs.Common.{◌≡◌, ℕ, Bool, true, false, if◌then◌else◌, nat_lt, refl, ap, ◌∙◌, List, [], ◌∷◌, Option, Some, None, Result, Ok, Err, inl, inr}
+-- Inside an item a machine is ready, and its guest on, if it was so before the item.
+use Rattle.std.proofs.Common.{◌≡◌, ℕ, Bool, true, false, if◌then◌else◌, nat_lt, refl, ap, sym, subst, ◌∙◌, List, [], ◌∷◌, Option, Some, None, Result, Ok, Err, inl, inr}
 use Rattle.std.specs.Prelude.{bit_or, ◌^◌}
 use Rattle.vm_types.specs.Saved.{Saved}
 use Rattle.vm_types.specs.declared.ids.ActorId.TheVariants.{Device as DeviceId}
@@ -24,8 +24,10 @@ use Rattle.flat_snapshot.specs.Found.{Snapshot, found}
 use Rattle.flat_machine.specs.Outcome.{Left, Outcome}
 use Rattle.flat_machine.specs.Outcome.Outcome.{Answered, Failed, NoMemory}
 use Rattle.flat_machine.specs.Machine.{Machine, is_off, off_by}
+use Rattle.flat_machine.specs.Ready.{Ready}
 use Rattle.flat_machine.specs.Requests.{CreateFails, Creates, Fails, Leaves, LeavesBy, RequestStep, Restores, Stores, allowed, disk_of, halted, image_of, retold, started_from}
 use Rattle.flat_machine.proofs.Between.{leaves_of}
+use Rattle.flat_machine.proofs.Ready.{request_ready}
 use Rattle.snapshot_chain.specs.Chains.{IsInside}
 
 abbrev On : Machine → Type 0
@@ -124,3 +126,18 @@ front_on (how ∷ outcomes) c d m n said on (given, after, first, mid, rest, tak
 pub inside_on : (m n : Machine) → IsInside m n → is_off m ≡ false → is_off n ≡ false
 inside_on m n (inl same) on = on_is m n same on
 inside_on m n (inr (bytes, outcomes, said, c, front)) on = front_on outcomes (arrived m.connection bytes) c m n said on front
+
+-- ---- and it stays ready
+
+ready_is : (m n : Machine) → n ≡ m → Ready m → Ready n
+ready_is m n is ready = subst (λ (q : Machine). Ready q) (sym is) ready
+
+front_ready : (outcomes : List Outcome) (c d : Connection) (m n : Machine) (said : List Response) → Ready m
+    → ConversationFront RequestStep outcomes c m said d n → Ready n
+front_ready [] c d m n said ready (given, after, takes, stays_so, none, is) = ready_is m n is ready
+front_ready (how ∷ outcomes) c d m n said ready (given, after, first, mid, rest, takes, step, more, text) =
+    front_ready outcomes after d mid n rest (request_ready how given m first mid ready step) more
+
+pub inside_ready : (m n : Machine) → IsInside m n → Ready m → Ready n
+inside_ready m n (inl same) ready = ready_is m n same ready
+inside_ready m n (inr (bytes, outcomes, said, c, front)) ready = front_ready outcomes (arrived m.connection bytes) c m n said ready front

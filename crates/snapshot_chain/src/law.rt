@@ -57,21 +57,24 @@ pub fn created_files()
 {}
 
 /// A create that a ready machine answers is one of a chain, where each number of its copy fits its field of a state file: the
-/// copy passes every test of a load, its memory is all of its pages, its number is one that files can have, and its two names
-/// differ. If its guest is on, the guest that goes on from the snapshot is alike with the one that was saved, as it went on.
+/// copy, with the devices as they were kept, passes every test of a load, its memory is all of its pages, its number is one that
+/// files can have, and its two names differ. If its guest is on, the guest that goes on from the snapshot is alike with the one
+/// that was saved, as it went on.
 pub fn answered_creates()
     ensures { (m n : Machine) (g : Guest) (given : Next) (it : SnapshotCreate) (kept : List Device) (said : List Response) →
         Ready m → m.guest ≡ Some g → allowed m given ≡ Ok (change.CreateSnapshot it) →
         RequestStep (Answered kept) given m said n →
-        (copy : StateCopy) × IsCopyOf m.config g copy
+        (copy : StateCopy) × IsCopyOf m.config g copy × (copy.devices ≡ kept)
         × (contents.Fits (contents_of (record { identity = next_identity m; copy = copy })) →
         IsSaving it.snapshot_type (record { asked = it; before = m; after = n; guest = g; copy = copy })
         × (g.board.off ≡ false → AreAlike (unwritten g) (carried_guest copy g.memory.bytes))) }
 {}
 
-/// No request turns a guest off: where it is on before an item, it is on inside the item, and so at each create of it.
+/// A machine that is ready before an item is ready inside it, and so at each create of it. No request turns a guest off: where
+/// it is on before an item, it is on inside the item too.
 pub fn on_inside()
-    ensures { (m n : Machine) → IsInside m n → is_off m ≡ false → is_off n ≡ false }
+    ensures ready { (m n : Machine) → IsInside m n → Ready m → Ready n }
+    ensures on { (m n : Machine) → IsInside m n → is_off m ≡ false → is_off n ≡ false }
 {}
 
 /// Creates of diffs, each since the one before, find memories of which each is the one before overlaid with its diff. Each

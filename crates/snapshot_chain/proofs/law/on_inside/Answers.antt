@@ -1,5 +1,8 @@
-use Rattle.snapshot_chain.proofs.On.{inside_on}
+use Rattle.snapshot_chain.proofs.On.{inside_on, inside_ready}
 use Rattle.snapshot_chain.proofs.law.on_inside.Goals as goal
 
-pub returns : goal.returns
-returns c = inside_on
+pub returns-clause-ready : goal.returns-clause-ready
+returns-clause-ready c = inside_ready
+
+pub returns-clause-on : goal.returns-clause-on
+returns-clause-on c = inside_on
