@@ -220,12 +220,13 @@ leaves_on g (change.Tell part) m n there later is = same g m n there is
 create_fails_on : (g : Guest) (guest : Option Guest) (m : Machine) (it : SnapshotCreate) (left : Left) (n : Machine) → m.guest ≡ Some g
     → CreateFails guest m it left n → GoesOn g m n
 create_fails_on g None m it left n there x = absurd x
-create_fails_on g (Some q) m it left n there (copy, of, others, calls, is) = record {
+create_fails_on g (Some q) m it left n there short = record {
   guest = g;
-  there = ap (λ (k : Machine). k.guest) is ∙ there;
+  there = ap (λ (k : Machine). k.guest) short.leaves ∙ there;
   devices = refl;
-  numbers = (let number : n.ids.next ≡ m.ids.next + 1 = ap (λ (k : Machine). k.ids.next) is in omega (arith, number));
-  since = inl (record { base = ap (λ (k : Machine). k.ids.base) is; keeps = keeps_same g g refl });
+  numbers =
+      (let number : n.ids.next ≡ m.ids.next + 1 = ap (λ (k : Machine). k.ids.next) short.leaves in omega (arith, number));
+  since = inl (record { base = ap (λ (k : Machine). k.ids.base) short.leaves; keeps = keeps_same g g refl });
 }
 
 fails_on : (g : Guest) (it : Change) (m : Machine) (left : Left) (n : Machine) → m.guest ≡ Some g → Fails m it left n → GoesOn g m n

@@ -1,5 +1,12 @@
 -- Requests, items and runs are determined.
-use Rattle.std.proofs.Common.{◌≡◌, Bool, true, false, MatchBool, refl, sym, ap, subst, ◌∙◌, List, [], ◌∷◌, ◌++◌, length, Option, Some, None, Result, Ok, Err, ℕ, slice_get}
+use Rattle.std.proofs.Common.{◌≡◌, ◌≢◌, Bool, true, false, MatchBool, refl, sym, ap, subst, ◌∙◌, List, [], ◌∷◌, ◌++◌, length, take, Option, Some, None, Result, Ok, Err, ℕ, ◌+◌, slice_get}
+use Rattle.std.specs.FinMap.{get}
+use Rattle.std.specs.Str.{bytes_eq}
+use Rattle.std.proofs.lemmas.Slice.Eq.{bytes_eq-Decides}
+use Rattle.vm_types.specs.Saved.{Saved}
+use Rattle.gate_file.proofs.Inserts.{same_saved}
+use Rattle.api_rules.specs.Ids.{spent}
+use Rattle.api_calls.specs.declared.call.SnapshotFiles.{SnapshotFiles}
 use Rattle.vm_types.specs.declared.ids.ActorId.{ActorId}
 use Rattle.vm_types.specs.declared.ids.ActorId.TheVariants.{Hart as HartId}
 use Rattle.vm_types.specs.declared.entry.Step.{Step}
@@ -34,7 +41,7 @@ use Rattle.api_calls.specs.declared.call.SnapshotCreate.{SnapshotCreate}
 use Rattle.api_calls.specs.declared.call.SnapshotLoad.{SnapshotLoad}
 use Rattle.flat_snapshot.specs.Found.{Snapshot, found}
 use Rattle.flat_snapshot.proofs.Copied.{same_copy}
-use Rattle.flat_machine.specs.Requests.{AnswersBy, CreateFails, Creates, Fails, LeavesBy, Responds, Restores, RequestStep, Stores, TellsOf, Told, allowed, answer_told, created, parent_in, respond}
+use Rattle.flat_machine.specs.Requests.{AnswersBy, CreateFails, Creates, Fails, LeavesBy, Responds, Restores, RequestStep, Stores, TellsOf, Told, allowed, answer_told, calls_in, created, parent_in, respond}
 use Rattle.serde_json.specs.Data.{Data}
 use Rattle.metadata_store.specs.Store.{patched, put}
 use Rattle.vm_config.specs.declared.change.Change.{Change}
@@ -69,10 +76,40 @@ stores_one : (due : Result Data Refusal) (m n k : Machine) → Stores due m n �
 stores_one (Ok kept) m n k x y = x ∙ sym y
 stores_one (Err why) m n k x y = x ∙ sym y
 
+-- two files that agree under both names of a create, and elsewhere with the files before it
+one_text : (files : SnapshotFiles) (old a b : Saved) → get a files.mem_file_path ≡ get b files.mem_file_path
+    → get a files.snapshot_path ≡ get b files.snapshot_path
+    → ((q : List ℕ) → q ≢ files.mem_file_path → q ≢ files.snapshot_path → get a q ≡ get old q)
+    → ((q : List ℕ) → q ≢ files.mem_file_path → q ≢ files.snapshot_path → get b q ≡ get old q)
+    → (q : List ℕ) → get a q ≡ get b q
+one_text files old a b memory state first second q = by_memory (bytes_eq q files.mem_file_path) refl
+  where
+    at : (name : List ℕ) → q ≡ name → get a name ≡ get b name → get a q ≡ get b q
+    at name is same = subst (λ (t : List ℕ). get a t ≡ get b t) (sym is) same
+
+    is_other : (name : List ℕ) → bytes_eq q name ≡ false → q ≢ name
+    is_other name nay is = let bad : true ≡ false = sym ((bytes_eq-Decides q name).1 is) ∙ nay in cc
+
+    by_state : (t : Bool) → bytes_eq q files.snapshot_path ≡ t → q ≢ files.mem_file_path → get a q ≡ get b q
+    by_state true is other = at files.snapshot_path ((bytes_eq-Decides q files.snapshot_path).0 is) state
+    by_state false nay other =
+        first q other (is_other files.snapshot_path nay) ∙ sym (second q other (is_other files.snapshot_path nay))
+
+    by_memory : (t : Bool) → bytes_eq q files.mem_file_path ≡ t → get a q ≡ get b q
+    by_memory true is = at files.mem_file_path ((bytes_eq-Decides q files.mem_file_path).0 is) memory
+    by_memory false nay = by_state (bytes_eq q files.snapshot_path) refl (is_other files.mem_file_path nay)
+
 create_fails_one : (guest : Option Guest) (m : Machine) (it : SnapshotCreate) (left : Left) (n k : Machine) → CreateFails guest m it left n
     → CreateFails guest m it left k → n ≡ k
 create_fails_one None m it left n k x y = absurd x
-create_fails_one (Some g) m it left n k x y = x.4 ∙ sym y.4
+create_fails_one (Some g) m it left n k x y =
+    let one = same_copy m.config g x.copy y.copy (x.tells ∙ sym y.tells) x.is_copy y.is_copy in
+    let calls : n.calls ≡ k.calls =
+    x.begun ∙ ap (λ (c : StateCopy). m.calls ++ take left.begun (calls_in m g it c)) one ∙ sym y.begun in
+    let saved : n.saved ≡ k.saved =
+    same_saved n.saved k.saved
+    (one_text it.files m.saved n.saved k.saved (x.memory ∙ sym y.memory) (x.state ∙ sym y.state) x.others y.others) in
+    x.leaves ∙ (λ i. record m { saved = saved i; calls = calls i; ids = spent (m.ids.next + 1) m.ids }) ∙ sym y.leaves
 
 result_one : (r : Result Change Refusal) (m : Machine) (kept : List Device) (n k : Machine) → LeavesBy m r kept n → LeavesBy m r kept k
     → n ≡ k

@@ -302,8 +302,8 @@ leaves_ready (change.Tell part) m n ready known is = ready_is m n is ready
 create_fails_ready : (guest : Option Guest) (m : Machine) (it : SnapshotCreate) (left : Left) (n : Machine) → Ready m
     → CreateFails guest m it left n → Ready n
 create_fails_ready None m it left n ready x = absurd x
-create_fails_ready (Some g) m it left n ready (copy, of, others, calls, is) =
-    ready_is _ n is (record { taken = ready.taken; guest = ready.guest; next = omega arith })
+create_fails_ready (Some g) m it left n ready short =
+    ready_is _ n short.leaves (record { taken = ready.taken; guest = ready.guest; next = omega arith })
 
 fails_ready : (it : Change) (m : Machine) (left : Left) (n : Machine) → Ready m → Fails m it left n → Ready n
 fails_ready (change.BootSource source) m left n ready x = absurd x

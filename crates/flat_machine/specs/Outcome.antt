@@ -1,17 +1,21 @@
 -- How a request went.
-use Rattle.std.specs.Prelude.{ℕ, ◌≡◌, ◌+◌, List, [], ◌∷◌, map}
-use Rattle.vm_types.specs.Saved.{Saved}
-use Rattle.vm_outside.specs.Calls.{FileCall}
+use Rattle.std.specs.Prelude.{ℕ, ◌≡◌, ◌+◌, List, [], ◌∷◌, map, Option, None}
 use Rattle.guest_devices.specs.declared.device.Device.{Device}
 
--- what a call of the API left where one of its calls on the files failed: what each name holds, and the calls that were
--- made, the oldest first
+-- what a create left where one of its calls on the files failed: what was kept of the devices, how many of its calls were
+-- begun, the oldest first, and what its two names hold, if they hold anything
 pub record Left : Type 0 where
-  pub saved : Saved
-  pub calls : List FileCall
+  pub kept : List Device
+  pub begun : ℕ
+  pub memory : Option (List ℕ)
+  pub state : Option (List ℕ)
+
+-- what each other call of the API left
+abbrev pub nothing_left : Left
+nothing_left = record { kept = []; begun = 0; memory = None; state = None }
 
 -- Answered by the machine, with what was kept of the devices where a snapshot was written; 500 because a call on the files
--- failed, with what it left of them; or 503 for want of memory. The run goes on after each.
+-- failed, with what it left; or 503 for want of memory. The run goes on after each.
 pub data Outcome : Type 0 where
   Answered : List Device → Outcome
   Failed : Left → Outcome

@@ -1,10 +1,10 @@
 -- What the flat machine makes of a request.
-use Rattle.std.specs.Prelude.{ℕ, ◌≡◌, ◌≢◌, ◌+◌, ◌/◌, ◌%◌, ◌^◌, Bool, true, false, not, if◌then◌else◌, List, [], ◌∷◌, ◌++◌, length, map, take}
+use Rattle.std.specs.Prelude.{ℕ, ◌≡◌, ◌≢◌, ◌<◌, ◌+◌, ◌/◌, ◌%◌, ◌^◌, Bool, true, false, not, if◌then◌else◌, List, [], ◌∷◌, ◌++◌, length, map, take}
 use Rattle.std.specs.Prelude.{replicate, Option, Some, None, is_some, option_and_then, option_map, Result, Ok, Err}
 use Rattle.std.specs.List.{list_all}
 use Rattle.std.specs.FinMap.{get, insert}
 use Rattle.vm_types.specs.declared.identity.Identity.{Identity}
-use Rattle.vm_outside.specs.Calls.{MakesFront}
+use Rattle.vm_outside.specs.Calls.{FileCall}
 use Rattle.vm_types.specs.Saved.{Saved}
 use Rattle.refusals.specs.declared.refusal.Refusal.{Refusal}
 use Rattle.refusals.specs.declared.refusal.Refusal.TheVariants as refusal
@@ -51,7 +51,7 @@ use Rattle.flat_snapshot.specs.Carried.{carried_config, carried_guest}
 use Rattle.flat_snapshot.specs.Copies.{IsCopyOf}
 use Rattle.flat_snapshot.specs.Files.{calls_of, head_of, saved_pages, state_file}
 use Rattle.flat_snapshot.specs.Found.{Snapshot, found}
-use Rattle.flat_machine.specs.Outcome.{Left, Outcome}
+use Rattle.flat_machine.specs.Outcome.{Left, Outcome, nothing_left}
 use Rattle.flat_machine.specs.Outcome.Outcome.{Answered, Failed, NoMemory}
 use Rattle.flat_machine.specs.Machine.{Machine, phase_of}
 
@@ -299,28 +299,35 @@ LeavesBy m (Err why) kept n = (kept ≡ []) × (n ≡ m)
 
 -- ---- what it leaves where a call on the files failed
 
--- the files as before
-abbrev pub untouched : Machine → Left
-untouched m = record { saved = m.saved; calls = m.calls }
+-- the calls of a create of this copy of a guest, in their order
+abbrev pub calls_in : Machine → Guest → SnapshotCreate → StateCopy → List FileCall
+calls_in m g it copy =
+    calls_of it.files.mem_file_path it.files.snapshot_path (parent_in m it) (next_identity m) copy g
 
--- A create: its two names hold anything, the first of its calls were made, and not all; its number is spent, and the
--- pages that were written stay so.
+-- A create of a copy of the guest, which has these devices: so many of its calls were begun, and not all. Its two names hold
+-- what is left under them, and each other name what it held. Its number is spent, and the pages that were written stay so.
+pub record IsCutShort (g : Guest) (m : Machine) (it : SnapshotCreate) (left : Left) (n : Machine) : Type 0 where
+  pub copy : StateCopy
+  pub is_copy : IsCopyOf m.config g copy
+  pub tells : copy.devices ≡ left.kept
+  pub lacks : left.begun < length (calls_in m g it copy)
+  pub begun : n.calls ≡ m.calls ++ take left.begun (calls_in m g it copy)
+  pub memory : get n.saved it.files.mem_file_path ≡ left.memory
+  pub state : get n.saved it.files.snapshot_path ≡ left.state
+  pub others : (name : List ℕ) → name ≢ it.files.mem_file_path → name ≢ it.files.snapshot_path
+      → get n.saved name ≡ get m.saved name
+  pub leaves : n ≡ record m { saved = n.saved; calls = n.calls; ids = spent (m.ids.next + 1) m.ids }
+
 abbrev pub CreateFails : Option Guest → Machine → SnapshotCreate → Left → Machine → Type 0
 CreateFails None m it left n = ⊥
-CreateFails (Some g) m it left n =
-    (copy : StateCopy) × IsCopyOf m.config g copy
-    × ((name : List ℕ) → name ≢ it.files.mem_file_path → name ≢ it.files.snapshot_path
-    → get left.saved name ≡ get m.saved name)
-    × MakesFront (calls_of it.files.mem_file_path it.files.snapshot_path (parent_in m it) (next_identity m) copy g)
-    m.calls left.calls
-    × (n ≡ record m { saved = left.saved; calls = left.calls; ids = spent (m.ids.next + 1) m.ids })
+CreateFails (Some g) m it left n = IsCutShort g m it left n
 
 -- a start, a load or another file for a drive changes nothing; no other change calls the files
 abbrev pub Fails : Machine → Change → Left → Machine → Type 0
 Fails m (change.PatchDrive patch) left n =
-    (path : List ℕ) × (patch.path_on_host ≡ Some path) × (left ≡ untouched m) × (n ≡ m)
-Fails m change.Start left n = (left ≡ untouched m) × (n ≡ m)
-Fails m (change.LoadSnapshot load) left n = (left ≡ untouched m) × (n ≡ m)
+    (path : List ℕ) × (patch.path_on_host ≡ Some path) × (left ≡ nothing_left) × (n ≡ m)
+Fails m change.Start left n = (left ≡ nothing_left) × (n ≡ m)
+Fails m (change.LoadSnapshot load) left n = (left ≡ nothing_left) × (n ≡ m)
 Fails m (change.CreateSnapshot it) left n = CreateFails m.guest m it left n
 Fails m it left n = ⊥
 

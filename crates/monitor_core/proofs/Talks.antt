@@ -11,7 +11,6 @@ use Rattle.http_stream.specs.Stream.{Connection, Judged}
 use Rattle.http_stream.specs.Conversation.{IsQuiet, Takes, Conversation, ConversationFront}
 use Rattle.http_stream.proofs.CutLemmas.{made, bad_failed, request_falls, request_lives}
 use Rattle.http_stream.proofs.AnswerLemmas.{some_reading}
-use Rattle.guest_devices.specs.declared.device.Device.{Device}
 use Rattle.flat_machine.specs.Outcome as flat
 use Rattle.flat_machine.specs.Requests.{RequestStep}
 use Rattle.response_form.specs.declared.form.ResponseForm.{ResponseForm}
@@ -19,7 +18,7 @@ use Rattle.response_form.specs.Responses.{Response, all_written, written_as}
 use Rattle.monitor_core.specs.declared.monitor.Monitor.{Monitor}
 use Rattle.monitor_machine.specs.declared.outcome.Outcome.{Outcome}
 use Rattle.monitor_machine.specs.declared.outcome.Outcome.TheVariants.{Answered, Failed, NoMemory}
-use Rattle.monitor_machine.specs.Replying.{AsksFiles, OutcomeCause, outcome_by}
+use Rattle.monitor_machine.specs.Replying.{AsksFiles, OutcomeCause, WentAs}
 use Rattle.monitor_core.specs.Going.{CountsFaults, GivesFiling}
 use Rattle.monitor_core.specs.Replying.{Replied, Rests}
 use Rattle.monitor_core.specs.Talking.{Begins, HasAnswered, HasStopped, HasTalked, IsStillDue}
@@ -128,25 +127,30 @@ answered_front (flat.Outcome.Answered kept ∷ hows) how good = answered_front h
 answered_front (flat.Outcome.Failed left ∷ hows) how good = absurd good
 answered_front (flat.Outcome.NoMemory ∷ hows) how good = absurd good
 
-one_rose : (how : Outcome) (kept : List Device) (left : FilesKnown) (before now : ℕ) → OutcomeCause how before now
-    → RoseBy (flat.failed_in (outcome_by how kept left ∷ [])) before now
-one_rose Answered kept left before now cause = omega (arith, cause)
-one_rose Failed kept left before now cause = cause
-one_rose NoMemory kept left before now cause = omega (arith, cause)
+one_rose : (how : Outcome) (outcome : flat.Outcome) (before now : ℕ) → WentAs how outcome → OutcomeCause how before now
+    → RoseBy (flat.failed_in (outcome ∷ [])) before now
+one_rose Answered outcome before now (kept, is) cause =
+    subst (λ (o : flat.Outcome). RoseBy (flat.failed_in (o ∷ [])) before now) (sym is) (omega (arith, cause))
+one_rose Failed outcome before now (left, is) cause =
+    subst (λ (o : flat.Outcome). RoseBy (flat.failed_in (o ∷ [])) before now) (sym is) cause
+one_rose NoMemory outcome before now is cause =
+    subst (λ (o : flat.Outcome). RoseBy (flat.failed_in (o ∷ [])) before now) (sym is) (omega (arith, cause))
 
-one_kept : (how : Outcome) (kept : List Device) (left : FilesKnown) (before now : ℕ) → OutcomeCause how before now
-    → flat.AreAnswered (outcome_by how kept left ∷ []) → now ≡ before
-one_kept Answered kept left before now cause good = cause
-one_kept Failed kept left before now cause good = absurd good
-one_kept NoMemory kept left before now cause good = absurd good
+one_kept : (how : Outcome) (outcome : flat.Outcome) (before now : ℕ) → WentAs how outcome → OutcomeCause how before now
+    → flat.AreAnswered (outcome ∷ []) → now ≡ before
+one_kept Answered outcome before now went cause good = cause
+one_kept Failed outcome before now (left, is) cause good =
+    absurd (subst (λ (o : flat.Outcome). flat.AreAnswered (o ∷ [])) is good)
+one_kept NoMemory outcome before now is cause good =
+    absurd (subst (λ (o : flat.Outcome). flat.AreAnswered (o ∷ [])) is good)
 
-counts_more : (hows : List flat.Outcome) (how : Outcome) (kept : List Device) (left : FilesKnown) (before mid now : ℕ)
-    → CountsFaults hows before mid → OutcomeCause how mid now → CountsFaults (hows ++ outcome_by how kept left ∷ []) before now
-counts_more hows how kept left before mid now counted cause = record {
-  rose = let one = one_rose how kept left mid now cause in let many = counted.rose in
-      let sum = failed_more hows (outcome_by how kept left) in omega (arith, one, many, sum);
-  kept = λ good. let both = answered_front hows (outcome_by how kept left) good in
-      one_kept how kept left mid now cause both.1 ∙ counted.kept both.0;
+counts_more : (hows : List flat.Outcome) (how : Outcome) (outcome : flat.Outcome) (before mid now : ℕ) → WentAs how outcome
+    → CountsFaults hows before mid → OutcomeCause how mid now → CountsFaults (hows ++ outcome ∷ []) before now
+counts_more hows how outcome before mid now went counted cause = record {
+  rose = let one = one_rose how outcome mid now went cause in let many = counted.rose in
+      let sum = failed_more hows outcome in omega (arith, one, many, sum);
+  kept = λ good. let both = answered_front hows outcome good in
+      one_kept how outcome mid now went cause both.1 ∙ counted.kept both.0;
 }
 
 not_empty : (hows : List flat.Outcome) (how : flat.Outcome) → hows ++ how ∷ [] ≡ [] → ⊥
@@ -175,19 +179,19 @@ pub answers_more : (form : ResponseForm) (monitor now after : Monitor) (text wri
     → HasAnswered form monitor now text known mid → Replied form now after text written mid left
     → Lasts mid.health left.health → HasAnswered form monitor after written known left
 answers_more form monitor now after text written known mid left a r lasts = record {
-  outcomes = a.outcomes ++ outcome_by r.how r.replies.kept left ∷ [];
+  outcomes = a.outcomes ++ r.replies.outcome ∷ [];
   responses = a.responses ++ r.replies.responses;
   writes = writes_more form a.responses r.replies.responses text written a.writes r.replies.writes;
-  given = begins_more {W = flat.Outcome} {M = Unit {0}} {A = Unit {0}} (λ how given m said n. Unit {0}) a.outcomes (outcome_by r.how r.replies.kept left)
+  given = begins_more {W = flat.Outcome} {M = Unit {0}} {A = Unit {0}} (λ how given m said n. Unit {0}) a.outcomes r.replies.outcome
       monitor.front now.front after.front tt tt tt [] [] r.given a.given r.takes tt;
-  counted = counts_more a.outcomes r.how r.replies.kept left known.health.faults mid.health.faults left.health.faults a.counted r.replies.cause;
+  counted = counts_more a.outcomes r.how r.replies.outcome known.health.faults mid.health.faults left.health.faults r.replies.went_as a.counted r.replies.cause;
   uncalled = λ never. r.uncalled (λ start. never (filing_later a.outcomes monitor.front now.front [] a.given start)) ∙ a.uncalled never;
-  same = λ none. absurd (not_empty a.outcomes (outcome_by r.how r.replies.kept left) none);
+  same = λ none. absurd (not_empty a.outcomes r.replies.outcome none);
   went = λ told m is.
       let p = a.went told m is in
       let q = r.replies.went (a.lasts.still told) p.0 p.2 in (
         q.0,
-        begins_more RequestStep a.outcomes (outcome_by r.how r.replies.kept left) monitor.front now.front after.front m p.0 q.0 a.responses r.replies.responses r.given p.1 r.takes q.1,
+        begins_more RequestStep a.outcomes r.replies.outcome monitor.front now.front after.front m p.0 q.0 a.responses r.replies.responses r.given p.1 r.takes q.1,
         q.2,
       );
   lasts = record {

@@ -1,7 +1,7 @@
 -- A create that is due does what the machine does.
 use Rattle.std.specs.Prelude.{IfErr, IfOk}
-use Rattle.std.proofs.Common.{◌≡◌, ℕ, ◌+◌, List, [], ◌∷◌, ◌++◌, Option, Some, None, Ok, Err, Result, refl, sym, ap, subst, ◌∙◌}
-use Rattle.std.proofs.lemmas.List.{append-nil}
+use Rattle.std.proofs.Common.{◌≡◌, ◌≢◌, ◌<◌, ℕ, ◌+◌, ◌-◌, List, [], ◌∷◌, ◌++◌, length, take, Option, Some, None, Ok, Err, Result, refl, sym, ap, subst, ◌∙◌, arith}
+use Rattle.std.proofs.lemmas.List.{append-nil, length-append, take_at}
 use Rattle.std.specs.FinMap.{get, insert}
 use Rattle.vm_types.specs.Causes.{Rose}
 use Rattle.vm_types.specs.declared.identity.Identity.{Identity}
@@ -38,7 +38,7 @@ use Rattle.snap_writer.specs.Selected.{selected}
 use Rattle.monitor_plans.specs.Headings.{numbers_in}
 use Rattle.flat_machine.specs.Machine.{Machine}
 use Rattle.flat_machine.specs.Outcome as flat
-use Rattle.flat_machine.specs.Requests.{CreateFails, Creates, RequestStep, by_contents, created, decided, next_identity, parent_in, parent_of, respond}
+use Rattle.flat_machine.specs.Requests.{CreateFails, Creates, RequestStep, by_contents, calls_in, created, decided, next_identity, parent_in, parent_of, respond}
 use Rattle.vm_world.specs.Worlds.{IsWorld, WorldValue}
 use Rattle.vm_world.proofs.Events.{unwritten_is}
 use Rattle.monitor_plans.specs.Creating.{CreateGives}
@@ -51,7 +51,7 @@ use Rattle.create_end.specs.Marks.{unmarked_world}
 use Rattle.monitor_machine.specs.declared.machine.LiveMachine.{LiveMachine}
 use Rattle.monitor_machine.specs.declared.outcome.Outcome.{Outcome}
 use Rattle.monitor_machine.specs.Plans.{IsCreate, IsTask, created_after, failed_after}
-use Rattle.monitor_machine.specs.Replying.{Replies, left_by, open_response}
+use Rattle.monitor_machine.specs.Replying.{Replies, open_response}
 use Rattle.monitor_machine.specs.State.{IsGuestBy, IsMachine}
 use Rattle.monitor_machine.proofs.Leaving.{answered, tells_is, told_of}
 
@@ -119,6 +119,41 @@ create_fits (task.Plan (plan.Restores r)) config of_guest parent identity w name
 create_fits (task.Plan plan.FilesFailed) config of_guest parent identity w names gives = absurd gives
 create_fits (task.Create c) config of_guest parent identity w names gives = tt
 
+-- ---- what a create left where a call on the files failed
+
+-- as many calls were begun as were made since
+abbrev pub left_by : SnapshotFiles → List Device → FilesKnown → FilesKnown → flat.Left
+left_by names kept known left = record {
+  kept = kept;
+  begun = length left.calls - length known.calls;
+  memory = get left.saved names.mem_file_path;
+  state = get left.saved names.snapshot_path;
+}
+
+some_left : (calls : List FileCall) → calls ≢ [] → 0 < length calls
+some_left [] never = absurd (never refl)
+some_left (call ∷ calls) never = omega arith
+
+module _ (script before now : List FileCall) (part : MakesFront script before now) where
+  since : length now - length before ≡ length part.done
+  since =
+      let many : length now ≡ length before + length part.done = ap length part.calls ∙ length-append before part.done in
+      omega (arith, many)
+
+  front_lacks : length now - length before < length script
+  front_lacks =
+      let many : length script ≡ length part.done + length part.rest = ap length (sym part.parts) ∙ length-append part.done part.rest in
+      let some = some_left part.rest part.lacks in
+      let made = since in omega (arith, many, some, made)
+
+  front_begun : now ≡ before ++ take (length now - length before) script
+  front_begun =
+      part.calls
+      ∙ ap (λ (l : List FileCall). before ++ l)
+      (sym (ap (take (length now - length before)) (sym part.parts) ∙ take_at part.done part.rest (length now - length before) (sym since)))
+
+-- ---- its calls
+
 -- the bytes of the pages that are written
 abbrev pub written_of : Creation → WorldValue → List ℕ
 written_of c w = selected (numbers_in c.numbers) (flat_of w.pages).bytes
@@ -178,26 +213,39 @@ module _ (c : Creation) (live : LiveMachine) (w : WorldValue) (known left : File
     },
   )
 
+  -- so many of its calls were begun, and not all
+  front : writes.CreatesPart c.names.mem_file_path c.head (written_of c w) c.names.snapshot_path c.body known left
+      → MakesFront (calls_in m due.guest due.it due.copy) known.calls left.calls
+  front part = subst (λ (script : List FileCall). MakesFront script known.calls left.calls) calls_are part.calls
+
   abbrev stopped : Machine
   stopped = record m { saved = left.saved; calls = left.calls; ids = spent (m.ids.next + 1) m.ids }
 
   pub create_fails : writes.CreatesPart c.names.mem_file_path c.head (written_of c w) c.names.snapshot_path c.body known left
-      → RequestStep (flat.Outcome.Failed (left_by left)) given m (respond given (refused refusal.OutsideFailed)) stopped
+      → RequestStep (flat.Outcome.Failed (left_by c.names kept known left)) given m (respond given (refused refusal.OutsideFailed)) stopped
       × IsMachine (failed_after c live) left stopped
   create_fails part = (
     (
       change.CreateSnapshot due.it,
       due.asks,
-      subst (λ (o : Option Guest). CreateFails o m due.it (left_by left) stopped) (sym due.there) (
-        due.copy,
-        due.copied,
-        (λ name nm ns. part.others name (λ e. nm (e ∙ ap (λ (f : SnapshotFiles). f.mem_file_path) due.names_is))
-            (λ e. ns (e ∙ ap (λ (f : SnapshotFiles). f.snapshot_path) due.names_is))
-            ∙ ap (λ (s : Saved). get s name) is.files.saved_is),
-        subst (λ (b : List FileCall). MakesFront (calls_of files.mem_file_path files.snapshot_path parent (next_identity m) due.copy due.guest) b left.calls) is.files.calls_is
-            (subst (λ (script : List FileCall). MakesFront script known.calls left.calls) calls_are part.calls),
-        refl,
-      ),
+      subst (λ (o : Option Guest). CreateFails o m due.it (left_by c.names kept known left) stopped) (sym due.there)
+          (record {
+            copy = due.copy;
+            is_copy = due.copied;
+            tells = due.kept_is;
+            lacks = front_lacks (calls_in m due.guest due.it due.copy) known.calls left.calls (front part);
+            begun =
+                front_begun (calls_in m due.guest due.it due.copy) known.calls left.calls (front part)
+                ∙ ap (λ (l : List FileCall). l ++ take (length left.calls - length known.calls) (calls_in m due.guest due.it due.copy))
+                is.files.calls_is;
+            memory = ap (λ (f : SnapshotFiles). get left.saved f.mem_file_path) (sym due.names_is);
+            state = ap (λ (f : SnapshotFiles). get left.saved f.snapshot_path) (sym due.names_is);
+            others = λ name nm ns.
+                part.others name (λ e. nm (e ∙ ap (λ (f : SnapshotFiles). f.mem_file_path) due.names_is))
+                (λ e. ns (e ∙ ap (λ (f : SnapshotFiles). f.snapshot_path) due.names_is))
+                ∙ ap (λ (s : Saved). get s name) is.files.saved_is;
+            leaves = refl;
+          }),
       refl,
     ),
     record {
@@ -268,7 +316,8 @@ module _ (form : ResponseForm) (c : Creation) (live after : LiveMachine) (w : Wo
       → Replies form given Outcome.Answered live after text written known left
   is_written leaves writes faults wrote = record {
     cause = faults;
-    kept = kept;
+    outcome = flat.Outcome.Answered kept;
+    went_as = (kept, refl);
     responses = respond given no_content;
     writes = alone (open_response no_content) writes;
     went = λ told m is.
@@ -286,7 +335,8 @@ module _ (form : ResponseForm) (c : Creation) (live after : LiveMachine) (w : Wo
       → Replies form given Outcome.Failed live after text written known left
   is_unwritten leaves writes rose part = record {
     cause = rose;
-    kept = kept;
+    outcome = flat.Outcome.Failed (left_by c.names kept known left);
+    went_as = (left_by c.names kept known left, refl);
     responses = respond given (refused refusal.OutsideFailed);
     writes = alone (open_response (refused refusal.OutsideFailed)) writes;
     went = λ told m is.

@@ -29,7 +29,9 @@ use Rattle.monitor_plans.specs.declared.plan.Plan.{Plan}
 use Rattle.monitor_plans.specs.declared.plan.Plan.TheVariants as plan
 use Rattle.monitor_machine.specs.declared.machine.LiveMachine.{LiveMachine}
 use Rattle.monitor_machine.specs.Plans.{IsKept, IsPlan, PlanLeaves, Resizes, answer_of, halted_world, is_plain, paused_by, phase_of, plan_outcome, reads_files, world_by}
-use Rattle.monitor_machine.specs.Replying.{left_by, outcome_by}
+use Rattle.monitor_machine.specs.declared.outcome.Outcome.{Outcome}
+use Rattle.monitor_machine.specs.declared.outcome.Outcome.TheVariants.{Answered, Failed, NoMemory}
+use Rattle.monitor_machine.specs.Replying.{WentAs}
 use Rattle.monitor_machine.specs.State.{IsGuestBy, IsLive, IsMachine}
 use Rattle.monitor_machine.proofs.Deciding.{phase_is}
 
@@ -45,9 +47,20 @@ tells_is live m own = record {
   metadata_is = own.metadata_is;
 }
 
+-- how what writes no snapshot went
+abbrev pub outcome_of : Outcome → flat.Outcome
+outcome_of Answered = flat.Outcome.Answered []
+outcome_of Failed = flat.Outcome.Failed flat.nothing_left
+outcome_of NoMemory = flat.Outcome.NoMemory
+
+pub as_it_went : (how : Outcome) → WentAs how (outcome_of how)
+as_it_went Answered = ([], refl)
+as_it_went Failed = (flat.nothing_left, refl)
+as_it_went NoMemory = refl
+
 abbrev pub Does : Plan → Machine → Next → Answer → LiveMachine → FilesKnown → Type 0
 Does it m given answer after known =
-    (n : Machine) × RequestStep (outcome_by (plan_outcome it) [] known) given m (respond given answer) n
+    (n : Machine) × RequestStep (outcome_of (plan_outcome it)) given m (respond given answer) n
     × IsMachine after known n
 
 -- an answer of the machine, whose change leaves n
@@ -169,21 +182,20 @@ given_path : (path : Option (List ℕ)) → is_some path ≡ true → (name : Li
 given_path None given = cc
 given_path (Some name) given = (name, refl)
 
-fails_alone : (it : Change) (m : Machine) (known : FilesKnown) → AreFilesOf known m → reads_files it ≡ true
-    → Fails m it (left_by known) m
-fails_alone (change.BootSource source) m known files reads = cc
-fails_alone (change.PutDrive drive) m known files reads = cc
-fails_alone (change.PatchDrive patch) m known files reads =
+fails_alone : (it : Change) (m : Machine) → reads_files it ≡ true → Fails m it flat.nothing_left m
+fails_alone (change.BootSource source) m reads = cc
+fails_alone (change.PutDrive drive) m reads = cc
+fails_alone (change.PatchDrive patch) m reads =
     let named = given_path patch.path_on_host reads in
-    (named.0, named.1, (λ i. record { saved = files.saved_is i; calls = files.calls_is i }), refl)
-fails_alone (change.MachineConfig machine) m known files reads = cc
-fails_alone (change.PutMetadata body) m known files reads = cc
-fails_alone (change.PatchMetadata patch) m known files reads = cc
-fails_alone change.Start m known files reads = (λ i. record { saved = files.saved_is i; calls = files.calls_is i }, refl)
-fails_alone (change.State state) m known files reads = cc
-fails_alone (change.CreateSnapshot names) m known files reads = cc
-fails_alone (change.LoadSnapshot load) m known files reads = (λ i. record { saved = files.saved_is i; calls = files.calls_is i }, refl)
-fails_alone (change.Tell part) m known files reads = cc
+    (named.0, named.1, refl, refl)
+fails_alone (change.MachineConfig machine) m reads = cc
+fails_alone (change.PutMetadata body) m reads = cc
+fails_alone (change.PatchMetadata patch) m reads = cc
+fails_alone change.Start m reads = (refl, refl)
+fails_alone (change.State state) m reads = cc
+fails_alone (change.CreateSnapshot names) m reads = cc
+fails_alone (change.LoadSnapshot load) m reads = (refl, refl)
+fails_alone (change.Tell part) m reads = cc
 
 -- what comes of a plan that leaves this
 pub plan_does : (it : Plan) (live after : LiveMachine) (known : FilesKnown) (m : Machine) (given : Next) → IsMachine live known m
@@ -301,7 +313,7 @@ plan_does (plan.Restores r) live after known m given is asks leaves =
     )
 plan_does plan.FilesFailed live after known m given is (it, asks, reads) leaves = (
   m,
-  (it, asks, fails_alone it m known is.files reads, refl),
+  (it, asks, fails_alone it m reads, refl),
   subst (λ (l : LiveMachine). IsMachine l known m) (sym leaves) is,
 )
 plan_does plan.NoMemory live after known m given is asks leaves =

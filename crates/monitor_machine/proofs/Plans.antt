@@ -5,8 +5,6 @@ use Rattle.std.proofs.lemmas.List.{append-nil}
 use Rattle.http_stream.specs.declared.request.Next.{Next}
 use Rattle.vm_outside.specs.Filing.{SameFiles}
 use Rattle.vm_outside.specs.Known.{FilesKnown, Lasts, Tells}
-use Rattle.guest_devices.specs.declared.device.Device.{Device}
-use Rattle.flat_machine.specs.Outcome as flat
 use Rattle.flat_machine.specs.Machine.{Machine}
 use Rattle.flat_machine.specs.Requests.{RequestStep, closes, respond}
 use Rattle.response_form.specs.declared.form.ResponseForm.{ResponseForm}
@@ -17,9 +15,9 @@ use Rattle.monitor_plans.specs.Plans.{PlanCause}
 use Rattle.monitor_machine.specs.declared.machine.LiveMachine.{LiveMachine}
 use Rattle.monitor_machine.specs.declared.outcome.Outcome.{Outcome}
 use Rattle.monitor_machine.specs.Plans.{Answers, IsPlan, answer_of, plan_outcome, plan_response}
-use Rattle.monitor_machine.specs.Replying.{OutcomeCause, Replies, outcome_by}
+use Rattle.monitor_machine.specs.Replying.{OutcomeCause, Replies}
 use Rattle.monitor_machine.specs.State.{IsMachine}
-use Rattle.monitor_machine.proofs.Leaving.{plan_does}
+use Rattle.monitor_machine.proofs.Leaving.{as_it_went, outcome_of, plan_does}
 
 cause_by : (it done : Plan) (how : Outcome) (before now : ℕ) → (done ≡ it) ⊎ (done ≡ plan.NoMemory) → how ≡ plan_outcome done → PlanCause it before now
     → before ≤ now → OutcomeCause how before now
@@ -44,13 +42,6 @@ done_plan it done m given (inl same) is = subst (λ (p : Plan). IsPlan p m given
 done_plan it done m given (inr same) is = subst (λ (p : Plan). IsPlan p m given) (sym same) tt
 
 -- files that hold what they held, and on which no call was made, are as good
-same_left : (how : Outcome) (kept : List Device) (known left : FilesKnown) → SameFiles known left
-    → outcome_by how kept known ≡ outcome_by how kept left
-same_left Outcome.Answered kept known left same = refl
-same_left Outcome.Failed kept known left same =
-    ap flat.Outcome.Failed (λ i. record { saved = sym same.saved i; calls = sym same.calls i })
-same_left Outcome.NoMemory kept known left same = refl
-
 pub on_same : (live : LiveMachine) (known left : FilesKnown) (m : Machine) → SameFiles known left → IsMachine live known m → IsMachine live left m
 on_same live known left m same is = record {
   own = is.own;
@@ -64,15 +55,16 @@ pub replies : (form : ResponseForm) (it : Plan) (how : Outcome) (live after : Li
     → Replies form given how live after text written known left
 replies form it how live after text written known left given a cause lasts same is_plan = record {
   cause = cause_by it a.done how known.health.faults left.health.faults a.which a.how_is cause lasts.later;
-  kept = [];
+  outcome = outcome_of how;
+  went_as = as_it_went how;
   responses = respond given (answer_of a.done live);
   writes = a.writes
       ∙ ap (λ (l : List ℕ). text ++ l) (sym (append-nil (written_as form (plan_response a.done (closes given) live))));
   went = λ told m here.
       let does = plan_does a.done live after known m given here (done_plan it a.done m given a.which (is_plan told m here)) a.leaves in (
         does.0,
-        subst (λ (h : flat.Outcome). RequestStep h given m (respond given (answer_of a.done live)) does.0)
-            (ap (λ (h : Outcome). outcome_by h [] known) (sym a.how_is) ∙ same_left how [] known left (same told)) does.1,
+        subst (λ (h : Outcome). RequestStep (outcome_of h) given m (respond given (answer_of a.done live)) does.0)
+            (sym a.how_is) does.1,
         on_same after known left does.0 (same told) does.2,
       );
 }

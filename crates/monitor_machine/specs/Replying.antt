@@ -31,15 +31,11 @@ calls_files it = false
 abbrev pub AsksFiles : Request → Type 0
 AsksFiles request = (it : ApiCall) × (call_of request ≡ Ok it) × (calls_files it ≡ true)
 
--- what is left of the files, as the flat machine has it
-abbrev pub left_by : FilesKnown → flat.Left
-left_by known = record { saved = known.saved; calls = known.calls }
-
--- how a request went, as the flat machine has it, where this was kept of the devices
-abbrev pub outcome_by : Outcome → List Device → FilesKnown → flat.Outcome
-outcome_by Answered kept known = flat.Outcome.Answered kept
-outcome_by Failed kept known = flat.Outcome.Failed (left_by known)
-outcome_by NoMemory kept known = flat.Outcome.NoMemory
+-- how a request went, as the flat machine has it
+abbrev pub WentAs : Outcome → flat.Outcome → Type 0
+WentAs Answered outcome = (kept : List Device) × (outcome ≡ flat.Outcome.Answered kept)
+WentAs Failed outcome = (left : flat.Left) × (outcome ≡ flat.Outcome.Failed left)
+WentAs NoMemory outcome = outcome ≡ flat.Outcome.NoMemory
 
 -- each 500 has a fault of its own, and an answer has none
 abbrev pub OutcomeCause : Outcome → ℕ → ℕ → Type 0
@@ -52,12 +48,13 @@ abbrev pub open_response : Answer → Response
 open_response answer = record { answer = answer; closes = false }
 
 -- What was due was answered so, its responses are behind what was written, and each machine that it was is the machine
--- after it. Of the devices this was kept where a snapshot was written, and else nothing.
+-- after it.
 pub record Replies (form : ResponseForm) (given : Next) (how : Outcome) (live after : LiveMachine)
     (text written : List ℕ) (known left : FilesKnown) : Type 0 where
   pub cause : OutcomeCause how known.health.faults left.health.faults
-  pub kept : List Device
+  pub outcome : flat.Outcome
+  pub went_as : WentAs how outcome
   pub responses : List Response
   pub writes : written ≡ text ++ all_written form responses
   pub went : Tells known.health → (m : Machine) → IsMachine live known m
-      → (n : Machine) × RequestStep (outcome_by how kept left) given m responses n × IsMachine after left n
+      → (n : Machine) × RequestStep outcome given m responses n × IsMachine after left n

@@ -91,7 +91,7 @@ leaves_on (change.Tell part) m n on is = on_is m n is on
 
 create_fails_on : (guest : Option Guest) (m : Machine) (it : SnapshotCreate) (left : Left) (n : Machine) → On m → CreateFails guest m it left n → On n
 create_fails_on None m it left n on x = absurd x
-create_fails_on (Some g) m it left n on (copy, of, others, calls, is) = ap is_off is ∙ on
+create_fails_on (Some g) m it left n on short = ap is_off short.leaves ∙ on
 
 fails_on : (it : Change) (m : Machine) (left : Left) (n : Machine) → On m → Fails m it left n → On n
 fails_on (change.BootSource source) m left n on x = absurd x
