@@ -27,7 +27,7 @@ pub record IsAllowed (m : Machine) (it : Change) : Type 0 where
   pub contents : by_contents m it ≡ Ok it
 
 -- what came of both came of the first
-both : {A B : Type 0} (r : Result A Refusal) (f : A → Result B Refusal) (b : B) → (r >>= f) ≡ Ok b → (a : A) × (r ≡ Ok a) × (f a ≡ Ok b)
+pub both : {A B : Type 0} (r : Result A Refusal) (f : A → Result B Refusal) (b : B) → (r >>= f) ≡ Ok b → (a : A) × (r ≡ Ok a) × (f a ≡ Ok b)
 both (Ok a) f b is = (a, refl, is)
 both (Err why) f b is = absurd cc
 

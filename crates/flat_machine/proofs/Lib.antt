@@ -3,6 +3,7 @@ pub mod Between
 pub mod Carries
 pub mod Determined
 pub mod Drives
+pub mod Numbered
 pub mod OneReplay
 pub mod Plain
 pub mod Pushed

@@ -1,10 +1,11 @@
 -- A machine that is ready stays so, whatever it is asked and whatever its guest does, and its guest can be copied.
-use Rattle.std.proofs.Common.{◌≡◌, ◌<◌, ◌*◌, ◌^◌, ℕ, Bool, true, false, not, refl, sym, subst, ◌∙◌, List, [], ◌∷◌, length, map, Option, Some, None, Result, Ok, Err, slice_get, arith, length-append}
+use Rattle.std.proofs.Common.{◌≡◌, ◌<◌, ◌≤◌, ◌+◌, ◌*◌, ◌^◌, ℕ, Bool, true, false, not, refl, sym, subst, ◌∙◌, List, [], ◌∷◌, length, map, Option, Some, None, Result, Ok, Err, slice_get, arith, length-append}
 use Rattle.std.specs.FinMap.{get}
 use Rattle.std.specs.List.{filter}
 use Rattle.std.proofs.lemmas.List.{length-map}
 use Rattle.std.proofs.lemmas.List.Filters.{length-filter_both}
 use Rattle.vm_types.specs.Saved.{Saved}
+use Rattle.vm_types.specs.declared.identity.Identity.{Identity}
 use Rattle.vm_types.specs.declared.ids.ActorId.{ActorId}
 use Rattle.vm_types.specs.declared.ids.ActorId.TheVariants.{Hart as HartId}
 use Rattle.vm_types.specs.declared.entry.Entry.{Entry}
@@ -57,12 +58,13 @@ use Rattle.flat_machine.specs.Outcome.{Left, Outcome}
 use Rattle.flat_machine.specs.Outcome.Outcome.{Answered, Failed, NoMemory}
 use Rattle.flat_machine.specs.Machine.{Machine, drained, drained_guest, new_machine, phase_of, running_by}
 use Rattle.flat_machine.specs.Items.{ItemStep, MemoryLine, RegisterLine, RepliesLine, StepsLine, Talks}
-use Rattle.flat_machine.specs.Ready.{CanBeCopied, IsReadyGuest, IsTaken, Ready, ReadyBy}
+use Rattle.flat_machine.specs.Ready.{CanBeCopied, IsBaseBefore, IsReadyGuest, IsTaken, Ready, ReadyBy}
 use Rattle.flat_machine.specs.Requests.{CreateFails, Creates, Fails, Leaves, LeavesBy, RequestStep, Restores, Stores, allowed, configured, disk_of, devices_from, drive_from, halted, image_by, image_of, loads_from, parent_in, created, patched_drive, carried, retold, sectors_of, start_refusal, started_from}
 use Rattle.flat_machine.specs.Run.{Act, Run}
 use Rattle.flat_machine.proofs.Allowed.{IsAllowed, allowed_is, not_refused}
 use Rattle.flat_machine.proofs.Between.{allowed_later, by_either, leaves_of, one_many, several_many, started}
 use Rattle.flat_machine.proofs.Drives.{length-path}
+use Rattle.flat_machine.proofs.Numbered.{found_numbered}
 use Rattle.flat_machine.proofs.Sizes.{booted_size, devices_fit, few_sectors, start_fits}
 use Rattle.flat_machine.proofs.Taken.{allowed_fits, bounded, changed_taken, configured_taken, default_taken, taken_configured}
 
@@ -73,6 +75,10 @@ ready_is m n is ready = subst (λ (q : Machine). Ready q) (sym is) ready
 
 pub guest_ready : (m : Machine) (g : Guest) → Ready m → m.guest ≡ Some g → IsReadyGuest m.config m.paused g
 guest_ready m g ready there = subst (λ (o : Option Guest). ReadyBy m.config m.paused o) there ready.guest
+
+base_later : (next more : ℕ) (base : Option Identity) → next ≤ more → IsBaseBefore next base → IsBaseBefore more base
+base_later next more None later is = tt
+base_later next more (Some base) later (first, below) = (first, omega (arith, below, later))
 
 -- ---- a guest that is changed
 
@@ -218,11 +224,13 @@ start_ready None m ready there none new = record {
   taken = changed_taken m.config change.Start ready.taken tt;
   guest = early m (changed m.config change.Start) m.guest refl new;
   next = ready.next;
+  base = ready.base;
 }
 start_ready (Some image) m ready there none new = record {
   taken = changed_taken m.config change.Start ready.taken tt;
   guest = start_guest m image ready there none;
   next = ready.next;
+  base = ready.base;
 }
 
 -- ---- what a change leaves
@@ -232,7 +240,12 @@ create_ready : (guest : Option Guest) (m : Machine) (it : SnapshotCreate) (kept 
 create_ready None m it kept n ready own x = ready_is m n x.1 ready
 create_ready (Some g) m it kept n ready own (copy, of, tells, is) =
     ready_is (created m g it.files (parent_in m it) copy) n is
-    (record { taken = ready.taken; guest = unwritten_ready m.config m.paused g own; next = omega arith })
+    (record {
+      taken = ready.taken;
+      guest = unwritten_ready m.config m.paused g own;
+      next = omega arith;
+      base = (ready.next, omega arith);
+    })
 
 load_ready : (it : Result Snapshot Refusal) (m : Machine) (load : SnapshotLoad) (n : Machine) → found m.saved load.files ≡ it → Ready m
     → Restores it m load n → Ready n
@@ -244,18 +257,19 @@ load_ready (Ok it) m load n there ready is =
       taken = configured_taken _ own.configured;
       guest = record { sound = carried_sound it.copy it.bytes good.0 good.1; ready = own; rests = λ stands. refl };
       next = omega arith;
+      base = (found_numbered m.saved load.files it there, omega arith);
     })
 load_ready (Err why) m load n there ready is = ready_is m n is ready
 
 store_ready : (due : Result Data Refusal) (m n : Machine) → Ready m → Stores due m n → Ready n
 store_ready (Ok kept) m n ready is =
-    ready_is (record m { metadata = kept }) n is (record { taken = ready.taken; guest = ready.guest; next = ready.next })
+    ready_is (record m { metadata = kept }) n is (record { taken = ready.taken; guest = ready.guest; next = ready.next; base = ready.base })
 store_ready (Err why) m n ready is = ready_is m n is ready
 
 -- a change of what is configured before a start
 configures : (m : Machine) (it : Change) → Ready m → IsTaken (changed m.config it) → (has_started (phase_of m) ≡ true → ⊥)
     → Ready (configured m it)
-configures m it ready taken new = record { taken = taken; guest = early m (changed m.config it) m.guest refl new; next = ready.next }
+configures m it ready taken new = record { taken = taken; guest = early m (changed m.config it) m.guest refl new; next = ready.next; base = ready.base }
 
 pub leaves_ready : (it : Change) (m n : Machine) → Ready m → IsAllowed m it → Leaves m it n → Ready n
 leaves_ready (change.BootSource source) m n ready known is =
@@ -280,6 +294,7 @@ leaves_ready (change.PatchDrive patch) m n ready known is =
           retold_ready m.config patch m.paused taken patch.path_on_host (device_of m.config.drives patch.drive_id) m.saved m.guest
           ready.guest;
       next = ready.next;
+      base = ready.base;
     })
 leaves_ready change.Start m n ready known is =
     let none = (not_refused (start_refusal m.config m.saved) (Ok change.Start) change.Start known.contents).0 in
@@ -287,10 +302,10 @@ leaves_ready change.Start m n ready known is =
     (start_ready (image_of m) m ready refl none (λ on. allowed_later m change.Start on known))
 leaves_ready (change.State Paused) m n ready known is =
     ready_is (record m { guest = halted m.paused m.guest; paused = true }) n is
-    (record { taken = ready.taken; guest = halted_ready m.config m.paused m.guest ready.guest; next = ready.next })
+    (record { taken = ready.taken; guest = halted_ready m.config m.paused m.guest ready.guest; next = ready.next; base = ready.base })
 leaves_ready (change.State Resumed) m n ready known is =
     ready_is (record m { paused = false }) n is
-    (record { taken = ready.taken; guest = resumed_ready m.config m.paused m.guest ready.guest; next = ready.next })
+    (record { taken = ready.taken; guest = resumed_ready m.config m.paused m.guest ready.guest; next = ready.next; base = ready.base })
 leaves_ready (change.CreateSnapshot it) m n ready known (kept, x) = create_ready m.guest m it kept n ready ready.guest x
 leaves_ready (change.LoadSnapshot load) m n ready known x = load_ready (found m.saved load.files) m load n refl ready x
 leaves_ready (change.PutMetadata body) m n ready known x = store_ready (put body) m n ready x
@@ -303,7 +318,12 @@ create_fails_ready : (guest : Option Guest) (m : Machine) (it : SnapshotCreate) 
     → CreateFails guest m it left n → Ready n
 create_fails_ready None m it left n ready x = absurd x
 create_fails_ready (Some g) m it left n ready short =
-    ready_is _ n short.leaves (record { taken = ready.taken; guest = ready.guest; next = omega arith })
+    ready_is _ n short.leaves (record {
+      taken = ready.taken;
+      guest = ready.guest;
+      next = omega arith;
+      base = base_later m.ids.next (m.ids.next + 1) m.ids.base (omega arith) ready.base;
+    })
 
 fails_ready : (it : Change) (m : Machine) (left : Left) (n : Machine) → Ready m → Fails m it left n → Ready n
 fails_ready (change.BootSource source) m left n ready x = absurd x
@@ -342,7 +362,7 @@ conversation_ready (how ∷ outcomes) c d m n said ready (given, after, first, m
 talks_ready : (bytes : List ℕ) (outcomes : List Outcome) (m n : Machine) (said : List Response) → Ready m → Talks bytes outcomes m said n → Ready n
 talks_ready bytes outcomes m n said ready (after, mid, talk, is) =
     let left = conversation_ready outcomes (arrived m.connection bytes) after m mid said ready talk in
-    ready_is (record mid { connection = after }) n is (record { taken = left.taken; guest = left.guest; next = left.next })
+    ready_is (record mid { connection = after }) n is (record { taken = left.taken; guest = left.guest; next = left.next; base = left.base })
 
 -- ---- events
 
@@ -365,6 +385,7 @@ runs_ready m g h ready own runs sound shaped many = record {
         rests = λ stands. absurd cc;
       });
   next = ready.next;
+  base = ready.base;
 }
 
 pub makes_ready : (m : Machine) (g h : Guest) (actor : ActorId) (es : List Entry) → Ready m → IsReadyGuest m.config false g
@@ -417,8 +438,8 @@ memory_ready (Some g) at len m n text ready x =
 
 -- what it is made of stays
 same_ready : (m n q : Machine) → Ready m → n ≡ q → q.config ≡ m.config → q.paused ≡ m.paused → q.guest ≡ m.guest → q.ids.next ≡ m.ids.next
-    → Ready n
-same_ready m n q ready is config paused guest next =
+    → q.ids.base ≡ m.ids.base → Ready n
+same_ready m n q ready is config paused guest next base =
     ready_is q n is (record {
       taken = subst IsTaken (sym config) ready.taken;
       guest =
@@ -426,22 +447,25 @@ same_ready m n q ready is config paused guest next =
           (subst (λ (b : Bool). ReadyBy m.config b q.guest) (sym paused)
           (subst (λ (o : Option Guest). ReadyBy m.config m.paused o) (sym guest) ready.guest));
       next = let first = ready.next in omega (arith, first, next);
+      base =
+          subst (λ (o : Option Identity). IsBaseBefore q.ids.next o) (sym base)
+          (base_later m.ids.next q.ids.next m.ids.base (omega (arith, next)) ready.base);
     })
 
 pub item_ready : (it : Item) (outcomes : List Outcome) (m n : Machine) (text : List ℕ) → Ready m → ItemStep it outcomes m text n → Ready n
 item_ready (item.Bytes bytes) outcomes m n text ready x = talks_ready bytes outcomes m n x.0 ready x.1
 item_ready (item.Api method path body) outcomes m n text ready x = talks_ready (sent method path body) outcomes m n x.0 ready x.1
 item_ready item.Nothing outcomes m n text ready x = ready_is m n x.1.1 ready
-item_ready (item.File name content) outcomes m n text ready x = same_ready m n _ ready x.1.1 refl refl refl refl
-item_ready (item.Lineage lineage) outcomes m n text ready x = same_ready m n _ ready x.1.1 refl refl refl refl
-item_ready item.Connect outcomes m n text ready x = same_ready m n _ ready x.1.1 refl refl refl refl
+item_ready (item.File name content) outcomes m n text ready x = same_ready m n _ ready x.1.1 refl refl refl refl refl
+item_ready (item.Lineage lineage) outcomes m n text ready x = same_ready m n _ ready x.1.1 refl refl refl refl refl
+item_ready item.Connect outcomes m n text ready x = same_ready m n _ ready x.1.1 refl refl refl refl refl
 item_ready (item.Step actor count) outcomes m n text ready x =
     steps_ready m.guest m.paused actor count m n text ready ready.guest refl x.1
 item_ready (item.Reply actor reply) outcomes m n text ready x =
     replies_ready m.guest m.paused actor (reply_given reply) m n text ready ready.guest refl x.1
 item_ready item.Console outcomes m n text ready x =
     ready_is (drained m) n x.1.1
-    (record { taken = ready.taken; guest = drained_ready m.config m.paused m.guest ready.guest; next = ready.next })
+    (record { taken = ready.taken; guest = drained_ready m.config m.paused m.guest ready.guest; next = ready.next; base = ready.base })
 item_ready (item.Register hart number) outcomes m n text ready x = register_ready m.guest hart number m n text ready x.1
 item_ready (item.Memory at len) outcomes m n text ready x = memory_ready m.guest at len m n text ready x.1
 
@@ -458,6 +482,7 @@ new_ready id saved calls = record {
   taken = default_taken;
   guest = tt;
   next = omega arith;
+  base = tt;
 }
 
 pub every_run : (acts : List Act) (id : List ℕ) (saved : Saved) (calls : List FileCall) (text : List ℕ) (n : Machine)

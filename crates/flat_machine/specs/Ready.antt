@@ -1,5 +1,6 @@
 -- A machine of whose guest, once it has started, each copy passes the tests of a state file.
-use Rattle.std.specs.Prelude.{◌≡◌, ◌≤◌, ◌*◌, Bool, true, [], length, IsTrue, Option, Some, None}
+use Rattle.std.specs.Prelude.{ℕ, ◌≡◌, ◌<◌, ◌≤◌, ◌*◌, Bool, true, [], length, IsTrue, Option, Some, None}
+use Rattle.vm_types.specs.declared.identity.Identity.{Identity}
 use Rattle.vm_types.specs.declared.ids.ActorId.TheVariants.{Timer}
 use Rattle.api_calls.specs.declared.call.BootSource.{BootSource}
 use Rattle.api_calls.specs.Form.{holds, is_path}
@@ -46,11 +47,17 @@ abbrev pub ReadyBy : Config → Bool → Option Guest → Type 0
 ReadyBy config paused None = Unit {0}
 ReadyBy config paused (Some g) = IsReadyGuest config paused g
 
--- and the next snapshot has a number, from 1 on
+-- the base, if there is one, has a number from 1 on, below the one of the next snapshot
+abbrev pub IsBaseBefore : ℕ → Option Identity → Type 0
+IsBaseBefore next None = Unit {0}
+IsBaseBefore next (Some base) = (1 ≤ base.number) × (base.number < next)
+
+-- and the next snapshot has a number, from 1 on, above the one of the base
 pub record Ready (m : Machine) : Type 0 where
   pub taken : IsTaken m.config
   pub guest : ReadyBy m.config m.paused m.guest
   pub next : 1 ≤ m.ids.next
+  pub base : IsBaseBefore m.ids.next m.ids.base
 
 -- each copy of its guest passes each test of a state file, and its pages are all of the guest's memory
 abbrev pub CanBeCopied : Machine → Type 0
