@@ -19,7 +19,7 @@ use Rattle.api_rules.specs.Answers.{no_content}
 use Rattle.guest_devices.specs.declared.device.Device.{Device}
 use Rattle.flat_guest.specs.Guest.{Guest}
 use Rattle.flat_machine.specs.Outcome as flat
-use Rattle.flat_machine.specs.Machine.{AreFilesOf, Machine}
+use Rattle.flat_machine.specs.Machine.{Machine}
 use Rattle.flat_snapshot.specs.Found.{Snapshot}
 use Rattle.flat_machine.specs.Requests.{AnswersBy, Fails, LeavesBy, RequestStep, Restores, Stores, TellsOf, Told, allowed, answer_told, carried, configured, disk_of}
 use Rattle.flat_machine.specs.Requests.{halted, patched_drive, respond, retold, sectors_of, started_from}
