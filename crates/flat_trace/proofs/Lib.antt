@@ -3,4 +3,5 @@ mod Boards
 pub mod Lines
 mod Off
 mod Readiness
+mod Replies
 mod Scripts

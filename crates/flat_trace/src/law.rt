@@ -1,9 +1,14 @@
 // What a script's line does that an item of a trace does.
-ghost use Rattle.std.specs.Prelude.{◌≡◌, ◌++◌, ℕ, List, [], false, true};
+ghost use Rattle.std.specs.Prelude.{◌≡◌, ◌≤◌, ◌++◌, ℕ, List, [], Some, false, length, true};
+ghost use Rattle.vm_types.specs.Fits.{out_fits};
 ghost use Rattle.vm_types.specs.declared.exit.Exit.{Exit};
 ghost use Rattle.vm_types.specs.declared.ids.ActorId.{ActorId};
+ghost use Rattle.vm_types.specs.declared.op.OutOp.{OutOp};
+ghost use Rattle.vm_types.specs.declared.reply.Reply.{Reply};
 ghost use Rattle.script_text.specs.declared.item.HostReply.{HostReply};
 ghost use Rattle.script_text.specs.declared.item.Item.TheVariants as item;
+ghost use Rattle.serve_host.specs.Events.{host_reply};
+ghost use Rattle.flat_machine.specs.Given.{reply_given};
 ghost use Rattle.flat_machine.specs.Items.{ItemStep};
 ghost use Rattle.flat_machine.specs.Machine.{Machine, is_off};
 ghost use Rattle.flat_machine.specs.Ready.{Ready};
@@ -23,6 +28,13 @@ pub fn line_of_event()
 pub fn line_of_reply()
     ensures { (actor : ActorId) (reply : HostReply) (m n : Machine) →
         TraceStep (item.Reply actor reply) [] m Quiet n → ItemStep (item.Reply actor reply) [] m [] n }
+{}
+
+/// The line of what a host object answered gives the actor that same answer. A piece has at most 64 bytes.
+pub fn reply_again()
+    ensures { (act : OutOp) (reply : Reply) → out_fits act reply ≡ true →
+        ((piece : List ℕ) (connection : ℕ) → reply ≡ Reply.Received piece connection → length piece ≤ 64) →
+        reply_given (host_reply reply) ≡ Some reply }
 {}
 
 /// A trace is a script, as long as the guest is on before each of its items: the run of its lines leaves the same machine,

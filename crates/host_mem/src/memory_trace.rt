@@ -1,13 +1,16 @@
 // A trace in memory.
-ghost use Rattle.std.specs.Prelude.{◌≡◌, ◌≤◌, ◌∷◌, ◌++◌, [], length, option_map, true, None, OnOk, OnErr};
+ghost use Rattle.std.specs.Prelude.{◌≡◌, ◌≤◌, ◌∷◌, ◌++◌, [], length, option_map, take, true, None, OnOk, OnErr};
+ghost use Rattle.vm_outside.specs.Known.{Called};
+ghost use Rattle.serve_host.specs.Events.{item_of};
+ghost use Rattle.serve_host.specs.Tracing.{Adds};
 
 use crate::item_copy::item_copy;
 use outside_mem::Failing;
 use script_text::Item;
-use serve_host::Trace;
+use serve_host::{Trace, event_item};
 use std::alloc::{AllocError, Global};
 use vm_outside::Failed;
-use vm_types::{ActorId, TextList};
+use vm_types::{ActorId, Entry, TextList};
 
 /// Takes copies of items, under any path, and before it is opened too. That there is no memory is a failure, and a failed call
 /// changes nothing.
@@ -70,6 +73,21 @@ impl MemoryTrace {
     {
         self.failing.faults()
     }
+
+    // The item of an event, as by `add`.
+    fn add_event(&mut self, event: &Entry) -> Result<(), Failed>
+        ensures adds { Adds self.old.took.items self.new.took.items result (item_of event.now) }
+        ensures keeps { take self.new.kept self.new.took.items ≡ take self.old.kept self.old.took.items }
+        ensures path { self.new.path ≡ self.old.path }
+        ensures called { Called (⟦<MemoryTrace as Trace>⟧.known self.old).health
+            (⟦<MemoryTrace as Trace>⟧.known self.new).health result }
+    {
+        let Ok(item) = event_item(self.alloc, event) else {
+            self.failing.count();
+            return Err(Failed);
+        };
+        self.add(&item)
+    }
 }
 
 impl Trace for MemoryTrace {
@@ -116,8 +134,14 @@ impl Trace for MemoryTrace {
         Ok(())
     }
 
-    fn is_heard(&self) -> bool {
-        true
+    /// Each item is a call of its own among those that may fail.
+    fn add_events(&mut self, events: &[Entry]) -> Result<(), Failed> {
+        let mut at = 0;
+        while at < events.len() {
+            self.add_event(&events[at])?;
+            at += 1;
+        }
+        Ok(())
     }
 
     fn finish(&mut self) -> Result<(), Failed> {

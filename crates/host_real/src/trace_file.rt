@@ -9,13 +9,13 @@ use script_text::Item;
 use serve_host::Trace;
 use std::{io, rt};
 use vm_outside::Failed;
-use vm_types::ActorId;
+use vm_types::{ActorId, Entry};
 
 /// Writes each item as a line of a script, and hands it to the system before anything that it shows is shown (`TraceLines`).
 /// Opening it takes the place of a file that was there. Before that nothing is kept. An item that there is no memory for is
 /// a failure, and so is one that would take a regular file past the process's limit on sizes. Where the system doesn't take a
 /// line, the lines of events that were held back before it are lost with it. A new file is its owner's alone. Where it was not
-/// opened nobody hears it.
+/// opened it drops what it takes.
 #[derive(Drop)]
 pub struct TraceFile<'a, R: rt::Files> {
     rt: &'a R,
@@ -73,8 +73,12 @@ impl<'a, R: rt::Files + AllocGlobal> Trace for TraceFile<'a, R> {
         )
     }
 
-    fn is_heard(&self) -> bool {
-        self.lines.is_some()
+    /// Where it was not opened, no item is made.
+    fn add_events(&mut self, events: &[Entry]) -> Result<(), Failed> {
+        let Some(lines) = &mut self.lines else {
+            return Ok(());
+        };
+        counted(&mut self.faults, lines.add_events(self.rt.alloc(), events))
     }
 
     fn finish(&mut self) -> Result<(), Failed> {

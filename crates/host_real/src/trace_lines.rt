@@ -5,10 +5,11 @@ ghost use Rattle.serve_host.specs.Tracing.{steps_of};
 
 use outside_real::tries;
 use script_text::{Item, write_item};
+use serve_host::event_item;
 use std::alloc::{AllocError, Global};
 use std::io;
 use std::io::Write;
-use vm_types::ActorId;
+use vm_types::{ActorId, Entry};
 
 /// So many bytes are held back at most before they are written.
 const MOST_HELD: usize = 65_536;
@@ -66,6 +67,15 @@ impl<W: Write + Drop> TraceLines<W> {
         }
         let last = step_lines(alloc, actor, count % LINES_AT_ONCE)?;
         self.hold(last.as_slice())?;
+        Ok(())
+    }
+
+    /// The lines of these events, one after another, as by `add`. After an `Err` the first of them may be held or written, or none.
+    pub fn add_events(&mut self, alloc: Global, events: &[Entry]) -> io::Result<()> {
+        for event in events {
+            let item = event_item(alloc, event)?;
+            self.add(alloc, &item)?;
+        }
         Ok(())
     }
 

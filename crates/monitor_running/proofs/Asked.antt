@@ -1,6 +1,5 @@
 -- Who asks a host object: the timer its clock, and a device its disk.
 use Rattle.std.proofs.Common.{◌≡◌, ℕ, Bool, true, false, cond, refl, sym, ap, ◌∙◌, subst, List, [], ◌∷◌, Option, Some, None, slice_get, ◌⊎◌, inl, inr}
-use Rattle.std.specs.List.{AllByRecursion}
 use Rattle.vm_types.specs.declared.ids.ActorId.{ActorId}
 use Rattle.vm_types.specs.declared.ids.PlaceId.{PlaceId}
 use Rattle.vm_types.specs.declared.entry.Entry.{Entry}
@@ -30,7 +29,8 @@ use Rattle.flat_guest.proofs.Soundness.{sound_next}
 use Rattle.monitor_running.specs.Waiting.{takes_turn}
 use Rattle.flat_guest.specs.Steps.{Answers, FlatStep}
 use Rattle.slice_runner.specs.Slices.{Leads, answer_in, answers_of, event_of}
-use Rattle.flat_trace.specs.Events.{answer_by, answers_in, event_items, host_reply, is_received, item_by, item_of, needs_room, needs_room_by}
+use Rattle.serve_host.specs.Events.{event_items, host_reply, item_by, item_of}
+use Rattle.flat_trace.specs.Events.{answer_by, answers_in}
 
 -- the timer asks its clock and nothing else
 pub record IsAsking (e : Entry) (act : OutOp) : Type 0 where
@@ -132,36 +132,6 @@ clock_by e (inr disk) = let never = disk.call in cc
 pub clock_asking : (g : Guest) (event : Event) (e : Entry) (h : Guest) → IsSound g → FlatStep g event e h
     → e.op ≡ Op.Out Clock → IsAsking e Clock
 clock_asking g event e h sound step is = clock_by e (is_asking g event e h Clock sound step is)
-
--- so no item needs room
-not_received : (act : OutOp) (reply : Reply) → is_disk_call act ≡ true → out_fits act reply ≡ true → is_received reply ≡ false
-not_received (DiskRead sector part) (Reply.Bytes piece) call fits = refl
-not_received (DiskRead sector part) Reply.Failed call fits = refl
-not_received (DiskRead sector part) reply call fits = cc
-not_received (DiskWrite sector part bytes) Reply.Done call fits = refl
-not_received (DiskWrite sector part bytes) Reply.Failed call fits = refl
-not_received (DiskWrite sector part bytes) reply call fits = cc
-not_received DiskFlush Reply.Done call fits = refl
-not_received DiskFlush Reply.Failed call fits = refl
-not_received DiskFlush reply call fits = cc
-not_received act reply call fits = cc
-
-roomy_out : (e : Entry) (act : OutOp) → IsAsking e act ⊎ IsDiskAct e act → is_received e.reply ≡ false
-roomy_out e act (inl asking) = ap is_received asking.reply
-roomy_out e act (inr disk) = not_received act e.reply disk.call disk.fits
-
-roomy_by : (e : Entry) (op : Op) → e.op ≡ op → ((act : OutOp) → e.op ≡ Op.Out act → IsAsking e act ⊎ IsDiskAct e act)
-    → needs_room_by op e.reply ≡ false
-roomy_by e (Op.Out act) is asking = roomy_out e act (asking act is)
-roomy_by e op is asking = refl
-
-pub roomy : (es : List Entry) (g h : Guest) → IsSound g → Leads g es h
-    → AllByRecursion (λ (e : Entry). needs_room e ≡ false) es
-roomy [] g h sound leads = tt
-roomy (e ∷ es) g h sound leads = (
-  roomy_by e e.op refl (λ act is. is_asking g (event_of e) e leads.0 act sound leads.1 is),
-  roomy es leads.0 h (sound_next g (event_of e) e leads.0 sound leads.1) leads.2,
-)
 
 -- and the items tell what the clock answered the timer
 plain_at : (e : Entry) (b : Bool) (es : List Entry) → answer_in e.op e.reply (answers_of es) ≡ answers_of es

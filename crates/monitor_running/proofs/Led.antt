@@ -23,7 +23,8 @@ use Rattle.flat_guest.proofs.Soundness.{sound_next}
 use Rattle.vm_types.specs.declared.op.OutOp.{OutOp}
 use Rattle.vm_types.specs.declared.op.OutOp.TheVariants.{DiskFlush, DiskRead, DiskWrite}
 use Rattle.vm_types.specs.Fits.{out_fits}
-use Rattle.flat_trace.specs.Events.{drain_items, event_acts, event_items, host_reply, item_by, item_of, quiet_act}
+use Rattle.serve_host.specs.Events.{event_items, host_reply, item_by, item_of}
+use Rattle.flat_trace.specs.Events.{drain_items, event_acts, quiet_act}
 use Rattle.vm_host.specs.Storing.{DiskKnown}
 use Rattle.vm_outside.specs.Known.{Health, Tells}
 use Rattle.port_table.specs.Window.{most_ports}

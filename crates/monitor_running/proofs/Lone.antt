@@ -1,7 +1,6 @@
 -- Events of one hart alone, and how they are told.
 use Rattle.std.proofs.Common.{◌≡◌, ◌≤◌, ◌<◌, ◌+◌, ℕ, zero, suc, min, nat_eq, eqb→eq, T, Bool, true, false, Some, arith, refl, sym, ap, ◌∙◌, subst, List, [], ◌∷◌, ◌++◌, replicate, length, None, ◌⊎◌, inl, inr}
 use Rattle.std.specs.List.{AllByRecursion}
-use Rattle.std.proofs.lemmas.List.{take-replicate}
 use lib.Dec.{eqb_refl}
 use lib.ListN.{replicate-append-replicate}
 use Rattle.vm_types.specs.declared.ids.ActorId.{ActorId}
@@ -15,10 +14,9 @@ use Rattle.flat_guest.specs.Guest.{Guest, Wants}
 use Rattle.flat_guest.specs.Steps.{FlatStep, Makes}
 use Rattle.vm_world.specs.Worlds.{Runs, WorldValue, want_in}
 use Rattle.slice_runner.specs.Slices.{Leads}
-use Rattle.flat_trace.specs.Events.{event_items, item_by, item_of}
+use Rattle.serve_host.specs.Events.{event_items, item_by, item_of}
 use Rattle.monitor_running.specs.Alone.{HasRun}
 use Rattle.monitor_running.specs.Asked.{HostKnown}
-use Rattle.monitor_running.specs.Items.{TellsPart}
 use Rattle.monitor_running.specs.Waiting.{IsAlone, OthersIdle}
 use Rattle.monitor_running.proofs.Asked.{hart_asks}
 use Rattle.monitor_running.proofs.Attached.{ports_hart}
@@ -103,13 +101,6 @@ run_more k made next count w v u run runs g is =
           ∙ replicate-append-replicate made (length two.0) step
           ∙ ap (λ (n : ℕ). replicate (made + n) step) (counted (length two.0) count next _ two.3 two.2.all),
     )
-
--- ---- a trace that took the first of them
-
-pub steps_part : (old new : List Item) (actor : ActorId) (count n : ℕ) → n ≤ count → new ≡ old ++ steps_of actor n
-    → TellsPart old (steps_of actor count) new
-steps_part old new actor count n few is =
-    (n, is ∙ ap (λ (l : List Item). old ++ l) (sym (take-replicate n count (item.Step actor 1) few)))
 
 -- ---- which hart is alone
 

@@ -1,7 +1,6 @@
 -- What a slice leaves, told to its end or not.
-use Rattle.std.proofs.Common.{inl, inr, ◌≡◌, ◌<◌, ℕ, zero, suc, false, refl, sym, ap, ◌∙◌, subst, List, [], ◌∷◌, ◌++◌, take, drop, All, append_assoc, append-nil, take-append-drop, length, Option, Some, None, arith}
-use Rattle.std.specs.Prelude.{Result, Ok, Err, OnErr}
-use Rattle.std.proofs.lemmas.List.Elements.{All-from_recursion}
+use Rattle.std.proofs.Common.{inl, inr, ◌≡◌, ◌<◌, ℕ, refl, sym, ap, ◌∙◌, subst, List, [], ◌∷◌, ◌++◌, take, drop, All, append_assoc, append-nil, take-append-drop, length, Option, Some, None, arith}
+use Rattle.std.specs.Prelude.{Result, Ok, Err}
 use Rattle.vm_types.specs.declared.entry.Entry.{Entry}
 use Rattle.vm_types.specs.declared.torn.Torn.{Torn}
 use Rattle.vm_types.specs.Causes.{Rose}
@@ -28,8 +27,10 @@ use Rattle.monitor_running.specs.declared.ran.Ran.{Ran}
 use Rattle.monitor_running.specs.declared.ran.Ran.TheVariants as ran
 use Rattle.monitor_running.specs.declared.telling.Untold.{Untold}
 use Rattle.monitor_running.specs.declared.telling.Untold.TheVariants as untold
-use Rattle.flat_trace.specs.Events.{answers_in, drain_items, event_acts, event_items, item_of, needs_room}
-use Rattle.monitor_running.specs.Items.{DrainStops, HasDrained, HasGoneOn, HasKept, IsShort, MayDrain, TellStops, TellsItems, TellsPart, drained_world}
+use Rattle.serve_host.specs.Events.{event_items}
+use Rattle.serve_host.proofs.Items.{items_take}
+use Rattle.flat_trace.specs.Events.{answers_in, drain_items, event_acts}
+use Rattle.monitor_running.specs.Items.{DrainStops, HasDrained, HasGoneOn, HasKept, MayDrain, TellStops, TellsItems, TellsPart, drained_world}
 use Rattle.monitor_running.specs.Ran.{HasFault, IsRunning, IsTornOff, RanOn, Went, end_by, slice_end}
 use Rattle.monitor_running.specs.Waiting.{HasGone, makers, turns}
 use Rattle.monitor_running.specs.Asked.{HostKnown}
@@ -39,7 +40,7 @@ use Rattle.monitor_machine.specs.Disks.{HasFile}
 use Rattle.monitor_running.specs.Reached.{Ahead, AreFiles, GetsAhead, IsCut, Keeps, Known, Reached, Seen, Start, known, told_at}
 use Rattle.flat_trace.specs.Showing.{Out}
 use Rattle.flat_guest.specs.Sound.{IsSound}
-use Rattle.monitor_running.proofs.Asked.{answers_same, roomy}
+use Rattle.monitor_running.proofs.Asked.{answers_same}
 use Rattle.monitor_running.proofs.Sound.{sound_led, world_sound}
 use Rattle.monitor_running.proofs.Attached.{HavePorts, file_kept, files_rest, files_was, ports_devices, ports_split, ports_there, ports_turns}
 use Rattle.monitor_running.proofs.Disks.{asked_split, clock_rests, unasked_there, unasked_turns}
@@ -101,37 +102,19 @@ joins_or w v took mid now its taken all told (inr kept) = inr (record {
   sunk = kept.sunk;
 })
 
-stops_then : (why : Untold) (short : Type 0) (its : List Item) (w v : WorldValue) (took mid now : List Item) (taken all : List ℕ)
-    → mid ≡ took ++ its → DrainStops why w mid taken v now all → TellStops why short its w took taken v now all
-stops_then untold.Trace short its w v took mid now taken all told stops = (
+stops_then : (why : Untold) (its : List Item) (w v : WorldValue) (took mid now : List Item) (taken all : List ℕ)
+    → mid ≡ took ++ its → DrainStops why w mid taken v now all → TellStops why its w took taken v now all
+stops_then untold.Trace its w v took mid now taken all told stops = (
   stops.0,
   (length its, stops.1 ∙ told ∙ ap (λ (l : List Item). took ++ l) (sym (take_length its))),
   stops.2,
 )
-stops_then untold.Sink short its w v took mid now taken all told stops = (joins w v took mid now its told stops.0, stops.1)
-stops_then untold.OutOfMemory short its w v took mid now taken all told stops = absurd stops
+stops_then untold.Sink its w v took mid now taken all told stops = (joins w v took mid now its told stops.0, stops.1)
 
-pub told_then : {T : Type 0} (result : Result T Untold) (short : Type 0) (its : List Item) (w v : WorldValue)
-    (took mid now : List Item) (taken all : List ℕ) → mid ≡ took ++ its → MayDrain result w mid taken v now all
-    → TellsItems result short its w took taken v now all
-told_then (Ok done) short its w v took mid now taken all told drains = joins_or w v took mid now its taken all told drains
-told_then (Err why) short its w v took mid now taken all told drains =
-    stops_then why short its w v took mid now taken all told drains
-
--- the first of the events are told by the first of the items
-pub items_take : (n : ℕ) (es : List Entry) → event_items (take n es) ≡ take n (event_items es)
-items_take zero es = refl
-items_take (suc n) [] = refl
-items_take (suc n) (e ∷ es) = ap (λ (l : List Item). item_of e ∷ l) (items_take n es)
-
-pub events_part : (old mid now : List Item) (es : List Entry) (n : ℕ) → mid ≡ old ++ event_items (take n es) → now ≡ mid
-    → TellsPart old (event_items es) now
-events_part old mid now es n before same = (n, same ∙ before ∙ ap (λ (l : List Item). old ++ l) (items_take n es))
-
--- what holds where a call failed
-pub on_err : {T E : Type 0} (result : Result T E) (P : Type 0) → P → OnErr result P
-on_err (Ok done) P is = tt
-on_err (Err why) P is = is
+pub told_then : {T : Type 0} (result : Result T Untold) (its : List Item) (w v : WorldValue) (took mid now : List Item)
+    (taken all : List ℕ) → mid ≡ took ++ its → MayDrain result w mid taken v now all → TellsItems result its w took taken v now all
+told_then (Ok done) its w v took mid now taken all told drains = joins_or w v took mid now its taken all told drains
+told_then (Err why) its w v took mid now taken all told drains = stops_then why its w v took mid now taken all told drains
 
 -- ---- events that lead from the guest of a machine that the world was
 
@@ -352,23 +335,13 @@ items_cut took took' taken taken' asked now w v u its gone drained part s m talk
       items_told took took' taken (taken' ++ drop part.0 bytes) asked now now w v u its gone drained whole (host_same now) s m talk is f r,
     )
 
-events_short : (took took' : List Item) (taken taken' : List ℕ) (asked now : HostKnown) (w v u : WorldValue) (es : List Entry)
-    → EventsGone es w v asked now → IsShort es
-    → Keeps IsRunning (seen_by took taken asked) w (seen_by took' taken' now) u
-events_short took took' taken taken' asked now w v u es gone short s m talk is f r =
-    let h = (gone is.0 is.2).0 in
-    absurd (short (All-from_recursion (λ (e : Entry). needs_room e ≡ false) es (roomy es is.0 h.0 (world_sound w is.0 is.2) h.1)))
-
-items_stop : (why : Untold) (short : Type 0) (took took' : List Item) (taken taken' : List ℕ) (asked now : HostKnown)
-    (w v u : WorldValue) (its : List Item) → HostGone its w v asked now
-    → (short → Keeps IsRunning (seen_by took taken asked) w (seen_by took' taken' now) u)
-    → TellStops why short its v took taken u took' taken'
+items_stop : (why : Untold) (took took' : List Item) (taken taken' : List ℕ) (asked now : HostKnown)
+    (w v u : WorldValue) (its : List Item) → HostGone its w v asked now → TellStops why its v took taken u took' taken'
     → RanOn IsRunning (Some (end_by why)) (seen_by took taken asked) w (seen_by took' taken' now) u
-items_stop untold.Trace short took took' taken taken' asked now w v u its gone out stops =
+items_stop untold.Trace took took' taken taken' asked now w v u its gone stops =
     items_ahead took took' taken taken' asked now w v u its gone stops.0 stops.1 stops.2
-items_stop untold.Sink short took took' taken taken' asked now w v u its gone out stops =
+items_stop untold.Sink took took' taken taken' asked now w v u its gone stops =
     items_cut took took' taken taken' asked now w v u its gone stops.0 stops.1
-items_stop untold.OutOfMemory short took took' taken taken' asked now w v u its gone out stops = out stops
 
 pub slice_torn : (took : List Item) (taken : List ℕ) (asked now : HostKnown) (w : WorldValue) (torn : Torn)
     (journals : List Journal) (histories : List History) → IsTornSlice w torn journals histories
@@ -424,21 +397,19 @@ fault_of : (why : Untold) (before now : Known) → (why ≡ untold.Trace → Ros
     → (why ≡ untold.Sink → Rose before.sink.health.faults now.sink.health.faults) → HasFault (Some (end_by why)) before now
 fault_of untold.Trace before now trace sink = trace refl
 fault_of untold.Sink before now trace sink = sink refl
-fault_of untold.OutOfMemory before now trace sink = tt
 
-pub went_items_untold : (end : Ran) (why : Untold) (short : Type 0) (trace traced : TraceKnown) (sink sunk : SinkKnown)
-    (asked now : HostKnown) (w v u : WorldValue) (its : List Item) → end ≡ end_by why → HostGone its w v asked now
-    → (short → Keeps IsRunning (seen_by trace.took sink.taken asked) w (seen_by traced.took sunk.taken now) u)
+pub went_items_untold : (end : Ran) (why : Untold) (trace traced : TraceKnown) (sink sunk : SinkKnown) (asked now : HostKnown)
+    (w v u : WorldValue) (its : List Item) → end ≡ end_by why → HostGone its w v asked now
     → (objects.Tells trace.health → objects.Tells sink.health
-    → TellStops why short its v trace.took sink.taken u traced.took sunk.taken)
+    → TellStops why its v trace.took sink.taken u traced.took sunk.taken)
     → (why ≡ untold.Trace → Rose trace.health.faults traced.health.faults)
     → (why ≡ untold.Sink → Rose sink.health.faults sunk.health.faults)
     → objects.Lasts trace.health traced.health → TraceStays trace traced → objects.Lasts sink.health sunk.health
     → Went IsRunning (Some end) (known trace sink asked) w (known traced sunk now) u
-went_items_untold end why short trace traced sink sunk asked now w v u its is gone out stops trace_rose sink_rose trace_lasts trace_stays sink_lasts = record {
+went_items_untold end why trace traced sink sunk asked now w v u its is gone stops trace_rose sink_rose trace_lasts trace_stays sink_lasts = record {
   ran = λ t k.
       subst (λ (r : Ran). RanOn IsRunning (Some r) (seen_by trace.took sink.taken asked) w (seen_by traced.took sunk.taken now) u) (sym is)
-      (items_stop why short trace.took traced.took sink.taken sunk.taken asked now w v u its gone out (stops t k));
+      (items_stop why trace.took traced.took sink.taken sunk.taken asked now w v u its gone (stops t k));
   fault = subst (λ (r : Ran). HasFault (Some r) (known trace sink asked) (known traced sunk now)) (sym is)
       (fault_of why (known trace sink asked) (known traced sunk now) trace_rose sink_rose);
   trace_lasts = trace_lasts;
@@ -449,16 +420,14 @@ went_items_untold end why short trace traced sink sunk asked now w v u its is go
 pub went_untold : (end : Ran) (why : Untold) (trace traced : TraceKnown) (sink sunk : SinkKnown) (asked now : HostKnown)
     (w v u : WorldValue) (es told : List Entry) → end ≡ end_by why → told ≡ es → EventsGone es w v asked now
     → (objects.Tells trace.health → objects.Tells sink.health
-    → TellStops why (IsShort told) (event_items told) v trace.took sink.taken u traced.took sunk.taken)
+    → TellStops why (event_items told) v trace.took sink.taken u traced.took sunk.taken)
     → (why ≡ untold.Trace → Rose trace.health.faults traced.health.faults)
     → (why ≡ untold.Sink → Rose sink.health.faults sunk.health.faults)
     → objects.Lasts trace.health traced.health → TraceStays trace traced → objects.Lasts sink.health sunk.health
     → Went IsRunning (Some end) (known trace sink asked) w (known traced sunk now) u
 went_untold end why trace traced sink sunk asked now w v u es told is same gone =
     let own : EventsGone told w v asked now = subst (λ (l : List Entry). EventsGone l w v asked now) (sym same) gone in
-    went_items_untold end why (IsShort told) trace traced sink sunk asked now w v u (event_items told) is
-    (events_host told w v asked now own)
-    (events_short trace.took traced.took sink.taken sunk.taken asked now w v u told own)
+    went_items_untold end why trace traced sink sunk asked now w v u (event_items told) is (events_host told w v asked now own)
 
 -- no slice, and no disk was asked
 failed_by : {Q : Type 0} (why : SliceError) (trace : TraceKnown) (sink : SinkKnown) (asked now : HostKnown) (w v : WorldValue)
@@ -495,4 +464,3 @@ unclosed_failed end error.OutOfMemory is closed = cc
 pub unclosed_untold : (end : Ran) (why : Untold) → end ≡ end_by why → Some end ≡ Some ran.Closed → ⊥
 unclosed_untold end untold.Trace is closed = cc
 unclosed_untold end untold.Sink is closed = cc
-unclosed_untold end untold.OutOfMemory is closed = cc

@@ -1,14 +1,15 @@
 -- What telling a slice's events, and a drain or none, leave of the trace and the sink.
-use Rattle.std.specs.Prelude.{ℕ, ◌≡◌, ◌⊎◌, false, List, [], ◌++◌, take, All, Result, MatchResult}
+use Rattle.std.specs.Prelude.{ℕ, ◌≡◌, ◌⊎◌, false, List, [], ◌++◌, take, Result, MatchResult}
 use Rattle.vm_types.specs.declared.entry.Entry.{Entry}
 use Rattle.vm_types.specs.declared.ids.ActorId.{ActorId}
 use Rattle.vm_outside.specs.Passing.{TakesPart}
 use Rattle.script_text.specs.declared.item.Item.{Item}
+use Rattle.serve_host.specs.Events.{event_items}
 use Rattle.serve_host.specs.Tracing.{steps_of}
 use Rattle.vm_world.specs.Worlds.{WorldValue}
 use Rattle.monitor_running.specs.declared.telling.Untold.{Untold}
 use Rattle.monitor_running.specs.declared.telling.Untold.TheVariants as untold
-use Rattle.flat_trace.specs.Events.{drain_items, event_items, needs_room}
+use Rattle.flat_trace.specs.Events.{drain_items}
 
 -- the first of the items were told
 abbrev pub TellsPart : List Item → List Item → List Item → Type 0
@@ -40,7 +41,6 @@ HasGoneOn w took more taken v now all =
 abbrev pub DrainStops : Untold → WorldValue → List Item → List ℕ → WorldValue → List Item → List ℕ → Type 0
 DrainStops untold.Trace w took taken v now all = (v ≡ w) × (now ≡ took) × (all ≡ taken)
 DrainStops untold.Sink w took taken v now all = HasDrained w took [] v now × TakesPart taken all w.board.console
-DrainStops untold.OutOfMemory w took taken v now all = ⊥
 
 abbrev pub Drains : {T : Type 0} → Result T Untold → WorldValue → List Item → List ℕ → WorldValue → List Item → List ℕ → Type 0
 Drains result w took taken v now all =
@@ -52,28 +52,20 @@ abbrev pub MayDrain : {T : Type 0} → Result T Untold → WorldValue → List I
 MayDrain result w took taken v now all =
     MatchResult result (λ _. HasGoneOn w took [] taken v now all) (λ why. DrainStops why w took taken v now all)
 
--- where these items were to be told, and memory is short only for this cause
-abbrev pub TellStops : Untold → Type 0 → List Item → WorldValue → List Item → List ℕ → WorldValue → List Item → List ℕ → Type 0
-TellStops untold.Trace short its w took taken v now all = (v ≡ w) × TellsPart took its now × (all ≡ taken)
-TellStops untold.Sink short its w took taken v now all = HasDrained w took its v now × TakesPart taken all w.board.console
-TellStops untold.OutOfMemory short its w took taken v now all = short
+-- where these items were to be told
+abbrev pub TellStops : Untold → List Item → WorldValue → List Item → List ℕ → WorldValue → List Item → List ℕ → Type 0
+TellStops untold.Trace its w took taken v now all = (v ≡ w) × TellsPart took its now × (all ≡ taken)
+TellStops untold.Sink its w took taken v now all = HasDrained w took its v now × TakesPart taken all w.board.console
 
-abbrev pub TellsItems : {T : Type 0} → Result T Untold → Type 0 → List Item → WorldValue → List Item → List ℕ → WorldValue
-    → List Item → List ℕ → Type 0
-TellsItems result short its w took taken v now all =
-    MatchResult result (λ _. HasGoneOn w took its taken v now all)
-    (λ why. TellStops why short its w took taken v now all)
-
--- only an event that brings bytes of a connection finds no memory
-abbrev pub IsShort : List Entry → Type 0
-IsShort events = All (λ e. needs_room e ≡ false) events → ⊥
+abbrev pub TellsItems : {T : Type 0} → Result T Untold → List Item → WorldValue → List Item → List ℕ → WorldValue → List Item
+    → List ℕ → Type 0
+TellsItems result its w took taken v now all =
+    MatchResult result (λ _. HasGoneOn w took its taken v now all) (λ why. TellStops why its w took taken v now all)
 
 abbrev pub TellsSlice : {T : Type 0} → Result T Untold → List Entry → WorldValue → List Item → List ℕ → WorldValue
     → List Item → List ℕ → Type 0
-TellsSlice result events w took taken v now all =
-    TellsItems result (IsShort events) (event_items events) w took taken v now all
+TellsSlice result events w took taken v now all = TellsItems result (event_items events) w took taken v now all
 
--- and so many steps of an actor always do
 abbrev pub TellsSteps : {T : Type 0} → Result T Untold → ActorId → ℕ → WorldValue → List Item → List ℕ → WorldValue
     → List Item → List ℕ → Type 0
-TellsSteps result actor count w took taken v now all = TellsItems result ⊥ (steps_of actor count) w took taken v now all
+TellsSteps result actor count w took taken v now all = TellsItems result (steps_of actor count) w took taken v now all

@@ -6,3 +6,4 @@ pub mod Passes
 pub mod Ran
 pub mod Reached
 pub mod Waiting
+pub mod Working

@@ -67,4 +67,3 @@ slice_end error.OutOfMemory = ran.OutOfMemory
 abbrev pub end_by : Untold → Ran
 end_by untold.Trace = ran.TraceFailed
 end_by untold.Sink = ran.SinkFailed
-end_by untold.OutOfMemory = ran.OutOfMemory

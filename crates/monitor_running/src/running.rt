@@ -107,7 +107,7 @@ fn run_guest<
         Ok(slice) => slice,
         Err(why) => return Some(slice_end(why)),
     };
-    if let Err(why) = tell_slice(alloc, slice.events.as_slice(), world, trace, sink) {
+    if let Err(why) = tell_slice(slice.events.as_slice(), world, trace, sink) {
         return Some(end_by(why));
     }
     None
@@ -138,7 +138,7 @@ fn act<D: Disk, L, V, C: Clock, T: Trace, K: Sink>(
     let Ok(events) = run_devices(alloc, world, &mut host.disk, each) else {
         return Some(Ran::OutOfMemory);
     };
-    if let Err(why) = tell_slice(alloc, events.as_slice(), world, trace, sink) {
+    if let Err(why) = tell_slice(events.as_slice(), world, trace, sink) {
         return Some(end_by(why));
     }
     None
@@ -268,7 +268,7 @@ fn run_world<
 ///
 /// Each event goes to the trace, as `step ACTOR 1`, or `reply ACTOR R` with the answer of a host object; then, where the
 /// console holds anything, `console` goes there too, and then what it held goes to the sink, as it is. Where the sink isn't ready
-/// the console of a guest that is on keeps what it holds, for a later turn. No item is made for a trace that nobody hears.
+/// the console of a guest that is on keeps what it holds, for a later turn.
 pub fn run_once<
     Q: Send + Drop,
     D: Disk,

@@ -1,19 +1,16 @@
 // Events told to a trace, and the console to a sink.
-ghost use Rattle.std.specs.Prelude.{◌≡◌, ◌≢◌, ℕ, ◌++◌, ◌∷◌, [], false, true, All, IfErr, OnErr, OnOk};
+ghost use Rattle.std.specs.Prelude.{◌≡◌, IfErr};
 ghost use Rattle.serve_host.specs.Tracing.{TraceStays};
-ghost use Rattle.vm_outside.specs.Known.{Called, Lasts, Tells};
+ghost use Rattle.vm_outside.specs.Known.{Lasts, Tells};
 ghost use Rattle.vm_types.specs.Causes.{Rose};
 ghost use Rattle.monitor_running.specs.declared.telling.Untold.TheVariants as untold;
-ghost use Rattle.flat_trace.specs.Events.{event_items, item_of, needs_room};
-ghost use Rattle.monitor_running.specs.Items.{Drains, MayDrain, TellsPart, TellsSlice, TellsSteps};
+ghost use Rattle.monitor_running.specs.Items.{Drains, MayDrain, TellsSlice, TellsSteps};
 ghost use Rattle.monitor_running.specs.Ran.{end_by};
 
 use crate::ran::Ran;
-use flat_trace::event_item;
 use monitor_machine::drain_all;
 use script_text::Item;
 use serve_host::Trace;
-use std::alloc::Global;
 use vm_outside::{Sink, write_all};
 use vm_types::{ActorId, Entry};
 use vm_world::World;
@@ -23,7 +20,6 @@ use vm_world::World;
 pub enum Untold {
     Trace,
     Sink,
-    OutOfMemory,
 }
 
 /// The end for which something was not told.
@@ -33,54 +29,7 @@ pub fn end_by(why: Untold) -> Ran
     match why {
         Untold::Trace => Ran::TraceFailed,
         Untold::Sink => Ran::SinkFailed,
-        Untold::OutOfMemory => Ran::OutOfMemory,
     }
-}
-
-// Tells the trace one event.
-fn tell_event<T: Trace>(alloc: Global, event: &Entry, trace: &mut T) -> Result<(), Untold>
-    ensures ok { OnOk result (Tells (T.known trace.old).health →
-        (T.known trace.new).took ≡ (T.known trace.old).took ++ item_of event.now ∷ []) }
-    ensures err { OnErr result (Tells (T.known trace.old).health →
-        (T.known trace.new).took ≡ (T.known trace.old).took) }
-    ensures short { IfErr result (λ why. why ≡ untold.OutOfMemory → needs_room event.now ≡ true) }
-    ensures cause { IfErr result (λ why. why ≡ untold.Trace →
-        Rose (T.known trace.old).health.faults (T.known trace.new).health.faults) }
-    ensures unsunk { IfErr result (λ why. why ≢ untold.Sink) }
-    ensures lasts { Lasts (T.known trace.old).health (T.known trace.new).health }
-    ensures stays { TraceStays (T.known trace.old) (T.known trace.new) }
-{
-    let Ok(item) = event_item(alloc, event) else {
-        return Err(Untold::OutOfMemory);
-    };
-    let Ok(()) = trace.add(&item) else {
-        return Err(Untold::Trace);
-    };
-    Ok(())
-}
-
-// Tells the trace these events, one after another, if anybody hears it. After an `Err` it has a front of them.
-fn tell_events<T: Trace>(alloc: Global, events: &[Entry], trace: &mut T) -> Result<(), Untold>
-    ensures ok { OnOk result (Tells (T.known trace.old).health →
-        (T.known trace.new).took ≡ (T.known trace.old).took ++ event_items events.now) }
-    ensures err { OnErr result (Tells (T.known trace.old).health →
-        TellsPart (T.known trace.old).took (event_items events.now) (T.known trace.new).took) }
-    ensures short { IfErr result (λ why. why ≡ untold.OutOfMemory → All (λ e. needs_room e ≡ false) events.now → ⊥) }
-    ensures cause { IfErr result (λ why. why ≡ untold.Trace →
-        Rose (T.known trace.old).health.faults (T.known trace.new).health.faults) }
-    ensures unsunk { IfErr result (λ why. why ≢ untold.Sink) }
-    ensures lasts { Lasts (T.known trace.old).health (T.known trace.new).health }
-    ensures stays { TraceStays (T.known trace.old) (T.known trace.new) }
-{
-    if !trace.is_heard() {
-        return Ok(());
-    }
-    let mut at = 0;
-    while at < events.len() {
-        tell_event(alloc, &events[at], trace)?;
-        at += 1;
-    }
-    Ok(())
 }
 
 // Drains a console that holds something: its item goes to the trace, and then its bytes to the sink, as they are.
@@ -136,7 +85,6 @@ fn drain_if_ready<T: Trace, K: Sink>(
 
 /// Tells the trace the events of a slice, and then drains the console, or leaves that for later (`drain_if_ready`).
 pub fn tell_slice<T: Trace, K: Sink>(
-    alloc: Global,
     events: &[Entry],
     guest: &mut World,
     trace: &mut T,
@@ -153,7 +101,9 @@ pub fn tell_slice<T: Trace, K: Sink>(
     ensures trace_stays { TraceStays (T.known trace.old) (T.known trace.new) }
     ensures sink_lasts { Lasts (K.known sink.old).health (K.known sink.new).health }
 {
-    tell_events(alloc, events, trace)?;
+    let Ok(()) = trace.add_events(events) else {
+        return Err(Untold::Trace);
+    };
     drain_if_ready(guest, trace, sink)
 }
 

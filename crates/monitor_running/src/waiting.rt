@@ -202,7 +202,7 @@ pub fn pass_round<D: Disk, L, V, C: Clock, T: Trace, K: Sink>(
     let Ok(events) = pass_time(alloc, world, but, &mut host.clock) else {
         return Some(Ran::OutOfMemory);
     };
-    if let Err(why) = tell_slice(alloc, events.as_slice(), world, trace, sink) {
+    if let Err(why) = tell_slice(events.as_slice(), world, trace, sink) {
         return Some(end_by(why));
     }
     None

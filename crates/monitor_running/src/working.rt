@@ -1,11 +1,16 @@
 // Whether devices have something to do.
+ghost use Rattle.std.specs.Prelude.{◌≡◌, ◌↔◌, true, slice_get};
+ghost use Rattle.monitor_running.specs.Working.{HasWork, is_called_at, works_in};
+
 use crate::devices::MOST_DEVICES;
 use vm_types::{ActorId, Op, PortOp};
 use vm_world::World;
 
 /// Whether a device has something to do: one that is in the middle of it, or one whose port has a kick or a reset that its next look
 /// finds.
-pub fn device_works(world: &World) -> bool {
+pub fn device_works(world: &World) -> bool
+    ensures { (result ≡ true) ↔ HasWork world.now }
+{
     for number in 0..world.devices().len().min(MOST_DEVICES) {
         if works(world, number as u8) {
             return true;
@@ -15,7 +20,9 @@ pub fn device_works(world: &World) -> bool {
 }
 
 // One that waits, or looks at its port, has only what is there.
-fn works(world: &World, device: u8) -> bool {
+fn works(world: &World, device: u8) -> bool
+    ensures { result ≡ works_in world.now device }
+{
     match world.want(ActorId::Device(device)) {
         None => false,
         Some(Op::Idle) => is_called(world, device),
@@ -29,7 +36,9 @@ fn works(world: &World, device: u8) -> bool {
     }
 }
 
-fn is_called(world: &World, device: u8) -> bool {
+fn is_called(world: &World, device: u8) -> bool
+    ensures { result ≡ is_called_at (slice_get world.now.ports device) }
+{
     match world.ports().get(device as usize) {
         Some(port) => {
             let state = port.state();

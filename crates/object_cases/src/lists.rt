@@ -7,7 +7,7 @@ use serve_host::{Trace, Words};
 use std::alloc::{AllocError, Global};
 use vm_host::Clock;
 use vm_outside::Failed;
-use vm_types::{ActorId, ByteList};
+use vm_types::{ActorId, ByteList, Entry, Op, OutOp, PlaceId, Reply};
 
 pub fn show(alloc: Global, shown: &mut Shown) -> Result<(), AllocError> {
     let bytes = ByteList::copy_of(alloc, b"ab")?;
@@ -57,13 +57,32 @@ fn steps_trace(alloc: Global) -> Result<MemoryTrace, AllocError> {
 }
 
 fn show_steps(trace: &mut MemoryTrace, shown: &mut Shown) {
-    shown.show("trace: heard", &trace.is_heard());
     shown.show("trace: add 2 steps", &trace.add_steps(ActorId::Hart(1), 2));
     show_taken(trace, shown);
     shown.show("trace: add 3 steps", &trace.add_steps(ActorId::Hart(1), 3));
     show_taken(trace, shown);
     let steps = trace.took().iter().filter(|item| is_step(item)).count();
     shown.show("trace: steps of hart 1", &steps);
+    shown.show("trace: add 2 events", &trace.add_events(&two_events()));
+    show_taken(trace, shown);
+}
+
+/// The clock's answer to the timer, and a wait of a hart.
+pub fn two_events() -> [Entry; 2] {
+    let asked = event_of(ActorId::Timer, Op::Out(OutOp::Clock), Reply::Word(7));
+    let waited = event_of(ActorId::Hart(1), Op::Idle, Reply::Done);
+    [asked, waited]
+}
+
+fn event_of(actor: ActorId, op: Op, reply: Reply) -> Entry {
+    Entry {
+        stamp: 0,
+        before: 0,
+        actor,
+        place: PlaceId::Out,
+        op,
+        reply,
+    }
 }
 
 fn is_step(item: &Item) -> bool {

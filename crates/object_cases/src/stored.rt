@@ -1,6 +1,6 @@
 // A trace in a file, a disk in a file, random words and the system's clock.
 use crate::devices::show_part;
-use crate::lists::added;
+use crate::lists::{added, two_events};
 use crate::showing::{Shown, alike, part_of, text_of};
 use host_real::{Bell, DiskFiles, RandomWords, SystemClock, TraceFile};
 use script_text::Item;
@@ -15,6 +15,7 @@ pub fn show(rt: &HostRuntime, shown: &mut Shown) -> io::Result<()> {
     show_next(rt, &mut TraceFile::new(rt), shown)?;
     show_full(&mut TraceFile::new(rt), shown);
     show_steps(rt, &mut TraceFile::new(rt), shown)?;
+    show_events(rt, &mut TraceFile::new(rt), shown)?;
     fs::remove_file(rt, "trace")?;
     show_disks(rt, shown)?;
     show_words(&mut RandomWords::new(rt), shown);
@@ -53,7 +54,6 @@ fn show_steps(
     trace: &mut TraceFile<'_, HostRuntime>,
     shown: &mut Shown,
 ) -> io::Result<()> {
-    shown.show("unopened trace: heard", &trace.is_heard());
     shown.show(
         "unopened trace: add steps",
         &trace.add_steps(ActorId::Hart(3), 1),
@@ -72,7 +72,6 @@ fn steps_file(
     shown: &mut Shown,
 ) -> io::Result<Vec<u8>> {
     shown.show("trace of steps: open", &trace.open("trace"));
-    shown.show("trace of steps: heard", &trace.is_heard());
     let told = if at_once {
         trace.add_steps(ActorId::Hart(3), 7000)
     } else {
@@ -80,6 +79,22 @@ fn steps_file(
     };
     shown.show("trace of steps: add, finish", &(told, trace.finish()));
     fs::read(rt, "trace")
+}
+
+// Nothing where the trace was not opened, and else the line of each event.
+fn show_events(
+    rt: &HostRuntime,
+    trace: &mut TraceFile<'_, HostRuntime>,
+    shown: &mut Shown,
+) -> io::Result<()> {
+    let unopened = trace.add_events(&two_events());
+    shown.show(
+        "trace of events: add, open",
+        &(unopened, trace.open("trace")),
+    );
+    let told = trace.add_events(&two_events());
+    shown.show("trace of events: add, finish", &(told, trace.finish()));
+    show_lines(rt, shown)
 }
 
 fn one_by_one(trace: &mut TraceFile<'_, HostRuntime>) -> Result<(), Failed> {

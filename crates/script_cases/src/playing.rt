@@ -7,10 +7,10 @@ use monitor_machine::LiveMachine;
 use outside_mem::Failing;
 use pause_gate::{Gate, HoldGate};
 use script_text::{HostReply, Item};
-use serve_host::Trace;
+use serve_host::{Trace, event_item};
 use std::alloc::{AllocError, Global};
 use vm_outside::Failed;
-use vm_types::{ActorId, ByteList, PlaceId, TextList};
+use vm_types::{ActorId, ByteList, Entry, PlaceId, TextList};
 use vm_world::World;
 
 /// Who decides a meeting with itself.
@@ -20,6 +20,7 @@ pub const NOBODY: ActorId = ActorId::Device(0);
 /// itself, if the gate waits for one: then the gate is closed to whoever asks. It may fail to take items.
 #[derive(Drop)]
 pub struct Player<'a> {
+    alloc: Global,
     pub machine: LiveMachine,
     answered: ByteList,
     moments: u64,
@@ -41,6 +42,7 @@ impl<'a> Player<'a> {
         consoles_alone: bool,
     ) -> Player<'a> {
         Player {
+            alloc,
             machine,
             answered: ByteList::new(alloc),
             moments: 0,
@@ -140,8 +142,15 @@ impl Trace for Player<'_> {
         Ok(())
     }
 
-    fn is_heard(&self) -> bool {
-        true
+    fn add_events(&mut self, events: &[Entry]) -> Result<(), Failed> {
+        for event in events {
+            let Ok(item) = event_item(self.alloc, event) else {
+                self.failing.count();
+                return Err(Failed);
+            };
+            self.add(&item)?;
+        }
+        Ok(())
     }
 
     fn finish(&mut self) -> Result<(), Failed> {

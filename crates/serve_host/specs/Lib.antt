@@ -1,4 +1,5 @@
 pub mod Drawing
+pub mod Events
 pub mod Listening
 pub mod Passing
 pub mod Tracing

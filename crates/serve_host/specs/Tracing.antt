@@ -1,12 +1,12 @@
 -- What is known of a trace, and what each call leaves of that.
-use Rattle.std.specs.Prelude.{ℕ, ◌≡◌, ◌≤◌, List, [], ◌∷◌, ◌++◌, replicate, Option, Some, Result, MatchResult}
+use Rattle.std.specs.Prelude.{ℕ, ◌≡◌, ◌≤◌, List, [], ◌∷◌, ◌++◌, length, replicate, take, Option, Some, Result, MatchResult}
 use Rattle.vm_types.specs.declared.ids.ActorId.{ActorId}
 use Rattle.vm_outside.specs.Known.{Health, Tells}
 use Rattle.script_text.specs.declared.item.Item.{Item}
 use Rattle.script_text.specs.declared.item.Item.TheVariants as item
 
--- the path under which a trace was opened, the items that it took, the oldest first, and those of them that `finish` has put
--- where they are kept
+-- The path under which a trace was opened. The items that it took, the oldest first. Those that it had taken when it was finished
+-- last: they are where the trace is kept.
 pub record TraceKnown : Type 0 where
   pub health : Health
   pub path : Option (List ℕ)
@@ -28,6 +28,10 @@ abbrev pub Opens : {T E : Type 0} → TraceKnown → List ℕ → Result T E →
 Opens old under result new =
     MatchResult result (λ _. IsNew under new) (λ _. (new.path ≡ old.path) × (new.took ≡ old.took))
 
+-- what is kept stays so until the trace is finished or opened
+abbrev pub KeepsSame : TraceKnown → TraceKnown → Type 0
+KeepsSame old new = Tells old.health → new.kept ≡ old.kept
+
 -- `add` takes the item behind the others; where it fails, it takes none
 abbrev pub Adds : {T E : Type 0} → List Item → List Item → Result T E → Item → Type 0
 Adds old new result item = MatchResult result (λ _. new ≡ old ++ item ∷ []) (λ _. new ≡ old)
@@ -36,8 +40,8 @@ Adds old new result item = MatchResult result (λ _. new ≡ old ++ item ∷ [])
 abbrev pub steps_of : ActorId → ℕ → List Item
 steps_of actor count = replicate count (item.Step actor 1)
 
--- `add_steps` takes so many of them behind the others; where it fails, it takes the first of them, or none
-abbrev pub AddsSteps : {T E : Type 0} → List Item → List Item → Result T E → ActorId → ℕ → Type 0
-AddsSteps old new result actor count =
-    MatchResult result (λ _. new ≡ old ++ steps_of actor count)
-    (λ _. (n : ℕ) × (n ≤ count) × (new ≡ old ++ steps_of actor n))
+-- `add_steps` and `add_events` take these items behind the others; where they fail, they take the first of them, or none
+abbrev pub AddsAll : {T E : Type 0} → List Item → List Item → Result T E → List Item → Type 0
+AddsAll old new result items =
+    MatchResult result (λ _. new ≡ old ++ items)
+    (λ _. (n : ℕ) × (n ≤ length items) × (new ≡ old ++ take n items))

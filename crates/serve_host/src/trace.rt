@@ -1,11 +1,12 @@
 // Where what happened goes, item by item.
-ghost use Rattle.std.specs.Prelude.{◌≡◌, false, OnOk};
-ghost use Rattle.serve_host.specs.Tracing.{Adds, AddsSteps, Opens, TraceStays};
+ghost use Rattle.std.specs.Prelude.{◌≡◌, OnOk};
+ghost use Rattle.serve_host.specs.Events.{event_items};
+ghost use Rattle.serve_host.specs.Tracing.{Adds, AddsAll, KeepsSame, Opens, TraceStays, steps_of};
 ghost use Rattle.vm_outside.specs.Known.{Called, Tells};
 
 use script_text::Item;
 use vm_outside::Failed;
-use vm_types::ActorId;
+use vm_types::{ActorId, Entry};
 
 /// Takes items in order.
 pub trait Trace: Drop {
@@ -22,19 +23,26 @@ pub trait Trace: Drop {
     fn add(&mut self, item: &Item) -> Result<(), Failed>
         ensures adds { Tells (known self.old).health →
             Adds (known self.old).took (known self.new).took result item.now }
+        ensures keeps { KeepsSame (known self.old) (known self.new) }
         ensures stays { TraceStays (known self.old) (known self.new) }
         ensures called { Called (known self.old).health (known self.new).health result };
 
     /// Takes so many items `step ACTOR 1`, one after another. After an `Err` it has taken the first of them, or none.
     fn add_steps(&mut self, actor: ActorId, count: u64) -> Result<(), Failed>
         ensures adds { Tells (known self.old).health →
-            AddsSteps (known self.old).took (known self.new).took result actor count }
+            AddsAll (known self.old).took (known self.new).took result (steps_of actor count) }
+        ensures keeps { KeepsSame (known self.old) (known self.new) }
         ensures stays { TraceStays (known self.old) (known self.new) }
         ensures called { Called (known self.old).health (known self.new).health result };
 
-    /// Whether anybody is told what it takes. Where nobody is, no item need be made.
-    fn is_heard(&self) -> bool
-        ensures { result ≡ false → Tells (known self.now).health → ⊥ };
+    /// Takes the items of these events, one after another. After an `Err` it has taken the first of them, or none. That there is no
+    /// memory for an item is a failure.
+    fn add_events(&mut self, events: &[Entry]) -> Result<(), Failed>
+        ensures adds { Tells (known self.old).health →
+            AddsAll (known self.old).took (known self.new).took result (event_items events.now) }
+        ensures keeps { KeepsSame (known self.old) (known self.new) }
+        ensures stays { TraceStays (known self.old) (known self.new) }
+        ensures called { Called (known self.old).health (known self.new).health result };
 
     /// Puts what it holds still where it is kept, and takes nothing.
     fn finish(&mut self) -> Result<(), Failed>

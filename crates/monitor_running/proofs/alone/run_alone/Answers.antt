@@ -10,8 +10,8 @@ pub returns-in-Err-clause-went : goal.returns-in-Err-clause-went
 returns-in-Err-clause-went g c =
     let told = c.in-Err.ensures in
     went_on IsRunning (Some c.end_by.result) _ _ _ _ _ _ c.in_default.ensures.went
-    (went_items_untold c.end_by.result c.in-Err.why ⊥ _ _ _ _ _ _ _ _ _ _ c.end_by.ensures
-    (steps_gone c.args.turn.hart c.run_hart-made.result _ _ _ c.run_hart-made.ensures.run) (λ never. absurd never)
+    (went_items_untold c.end_by.result c.in-Err.why _ _ _ _ _ _ _ _ _ _ c.end_by.ensures
+    (steps_gone c.args.turn.hart c.run_hart-made.result _ _ _ c.run_hart-made.ensures.run)
     told.told told.trace_cause told.sink_cause told.trace_lasts told.trace_stays told.sink_lasts)
 
 pub returns-clause-went : goal.returns-clause-went

@@ -9,5 +9,6 @@ loop-taken-preserved c =
     record {
       path = search rules;
       took = steps_more _ _ _ _ _ before.took (added.adds refl);
+      finished = added.keeps refl ∙ before.finished;
       kept = added.called.kept ∙ before.kept;
     }

@@ -1,9 +1,6 @@
 // Items that tell events.
-ghost use Rattle.std.specs.Prelude.{◌≡◌, true, IfOk, OnErr, Some};
-ghost use Rattle.vm_types.specs.Fits.{out_fits};
-ghost use Rattle.vm_types.specs.declared.op.OutOp.{OutOp};
-ghost use Rattle.flat_machine.specs.Given.{reply_given};
-ghost use Rattle.flat_trace.specs.Events.{host_reply, is_received, item_of, needs_room};
+ghost use Rattle.std.specs.Prelude.{◌≡◌, true, IfOk, OnErr};
+ghost use Rattle.serve_host.specs.Events.{host_reply, is_received, item_of, needs_room};
 
 use script_text::{HostReply, Item};
 use std::alloc::{AllocError, Global};
@@ -12,11 +9,9 @@ use vm_types::{ByteList, Entry, Op, Reply};
 /// The longest frame of a link.
 const LONGEST_FRAME: u64 = 1514;
 
-/// What a host object answered, as a script's line says it. The line gives an actor that same reply. Bytes of a connection
-/// alone take memory.
+/// What a host object answered, as a script's line says it. Bytes of a connection alone take memory.
 pub fn host_reply(alloc: Global, reply: &Reply) -> Result<HostReply, AllocError>
     ensures said { IfOk result (λ said. said ≡ host_reply reply.now) }
-    ensures given { IfOk result (λ said. (act : OutOp) → out_fits act reply.now ≡ true → reply_given said ≡ Some reply.now) }
     ensures short { OnErr result (is_received reply.now ≡ true) }
 {
     let said = match reply {
