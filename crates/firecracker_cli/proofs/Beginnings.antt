@@ -27,7 +27,7 @@ use Rattle.monitor_serving.specs.Turns.{IsTorn}
 use Rattle.monitor_serving.specs.Views.{Hosts, hosts}
 use Rattle.monitor_serving.specs.declared.served.Served.{Served}
 use Rattle.monitor_serving.specs.declared.served.Served.TheVariants as served
-use Rattle.firecracker_cli.specs.Serving.{AskedSince, Differ, HasBegun, HasParted, ServeKnown, ServedPart, closing_line, serve_known, took_before}
+use Rattle.firecracker_cli.specs.Serving.{AskedSince, Differ, HasBegun, HasParted, OpensPart, ServeKnown, ServedPart, closing_line, serve_known, took_before}
 use Rattle.firecracker_cli.specs.SoFar.{AtPaths, BeginCause, CameToEnd, Cut, IsFinished, LeftBy, ServedSoFar, TakesLineage, exit_of, start_at, with_lineage, with_trace}
 use Rattle.firecracker_cli.proofs.Lineages.{all_acts, all_begun, all_outs, all_ran, all_took}
 
@@ -54,11 +54,11 @@ module _ (given : ServeWords) (before : ServeKnown) where
 
   -- nothing has happened
   pub nothing_served : (exit : Exit) (now : ServeKnown)
-      → (now.hosts.slices.trace.took ≡ before.hosts.slices.trace.took) ⊎ (now.hosts.slices.trace.took ≡ took_before given.trace before.hosts.slices.trace.took)
+      → OpensPart given before.listener before.hosts.slices.trace now.listener now.hosts.slices.trace
       → now.hosts.slices.sink.taken ≡ before.hosts.slices.sink.taken → now.listener.ended ≡ before.listener.ended
       → now.listener.coming ≡ before.listener.coming → now.hosts.files ≡ before.hosts.files
       → AskedSince exit before.hosts.slices.host.disk.health start before.hosts.slices.host now.hosts.slices.host → Cut exit given before now
-  nothing_served exit now told sunk ended coming files behind = record {
+  nothing_served exit now opened sunk ended coming files behind = record {
     acts = [];
     outs = [];
     at = start;
@@ -69,7 +69,7 @@ module _ (given : ServeWords) (before : ServeKnown) where
       asked = none_asked before.hosts.slices.host.disk.health start before.hosts.slices.host;
     };
     behind = behind;
-    begun = inl (record { none = refl; took = told });
+    begun = inl (record { none = refl; opened = opened });
     came = record { ended = ended; coming = sym coming };
     sink = sunk ∙ sym (append-nil before.hosts.slices.sink.taken);
     told = refl;

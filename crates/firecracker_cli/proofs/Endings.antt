@@ -42,7 +42,7 @@ module _ (given : ServeWords) (before : ServeKnown) (mid : Hosts) (words : Words
 
   begun_by : (all : List Act) → HasNotBegun given before (serve_known mid words listener) all ⊎ HasBegun given before (serve_known mid words listener) all
       → HasNotBegun given before now all ⊎ HasBegun given before now all
-  begun_by all (inl it) = inl (record { none = it.none; took = it.took })
+  begun_by all (inl it) = inl (record { none = it.none; opened = it.opened })
   begun_by all (inr it) = inr (record {
     opened = record { listening = it.opened.listening; traced = it.opened.traced; took = it.opened.took };
     lineage = it.lineage;

@@ -22,7 +22,7 @@ module _ (given : ServeWords) (before : ServeKnown) (sink : SinkKnown) where
 
   begun_still : (all : List Act) → HasNotBegun given before before all ⊎ HasBegun given before before all
       → HasNotBegun given before now all ⊎ HasBegun given before now all
-  begun_still all (inl it) = inl (record { none = it.none; took = it.took })
+  begun_still all (inl it) = inl (record { none = it.none; opened = it.opened })
   begun_still all (inr it) = inr (record {
     opened = record { listening = it.opened.listening; traced = it.opened.traced; took = it.opened.took };
     lineage = it.lineage;
@@ -31,7 +31,7 @@ module _ (given : ServeWords) (before : ServeKnown) (sink : SinkKnown) where
 
   served_none : TookText Exit.OutOfMemory (last_line Exit.OutOfMemory) before.hosts.slices.sink sink → ServedPart Exit.OutOfMemory given before now
   served_none text =
-      let cut = nothing_served given before Exit.OutOfMemory before (inl refl) refl refl refl refl refl in
+      let cut = nothing_served given before Exit.OutOfMemory before (inl (refl, record { path = refl; took = refl })) refl refl refl refl refl in
       let had = before.hosts.slices.sink.taken in
       let line = last_line Exit.OutOfMemory in record {
         acts = cut.acts;

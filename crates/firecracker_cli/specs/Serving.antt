@@ -151,12 +151,22 @@ pub record HasBegun (it : ServeWords) (before now : ServeKnown) (acts : List Act
   pub lineage : HasLineage before.words now.words acts
   pub kept : IsKept before.hosts.slices.trace now.hosts.slices.trace
 
--- Nothing happened. The trace took nothing since the call, or since it was opened.
+-- the trace is the one of this path, and took these items
+pub record IsTrace (under : Option (List ℕ)) (items : List Item) (trace : TraceKnown) : Type 0 where
+  pub path : trace.path ≡ under
+  pub took : trace.took ≡ items
+
+-- Nothing was opened. Or connections are taken where the words say, and then the trace was opened as they say, or not.
+abbrev pub OpensPart : ServeWords → ListenerKnown → TraceKnown → ListenerKnown → TraceKnown → Type 0
+OpensPart it listened traced listener trace =
+    ((listener.path ≡ listened.path) × IsTrace traced.path traced.took trace)
+    ⊎ ((listener.path ≡ Some it.socket)
+    × (IsTrace traced.path traced.took trace ⊎ IsTrace (traced_at it.trace traced.path) (took_before it.trace traced.took) trace))
+
+-- nothing happened but that some of it was opened
 pub record HasNotBegun (it : ServeWords) (before now : ServeKnown) (acts : List Act) : Type 0 where
   pub none : acts ≡ []
-  pub took :
-      (now.hosts.slices.trace.took ≡ before.hosts.slices.trace.took)
-      ⊎ (now.hosts.slices.trace.took ≡ took_before it.trace before.hosts.slices.trace.took)
+  pub opened : OpensPart it before.listener before.hosts.slices.trace now.listener now.hosts.slices.trace
 
 -- what the clock and the disks were asked since the trace's end: by a trace that failed, in events that it lacks; in a slice that is
 -- torn, anything; else nothing

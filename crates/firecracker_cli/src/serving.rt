@@ -6,7 +6,7 @@ ghost use Rattle.serve_host.specs.Tracing.{TraceStays};
 ghost use Rattle.command_line.specs.Said.{words_said};
 ghost use Rattle.flat_machine.specs.Machine.{new_machine};
 ghost use Rattle.monitor_core.specs.State.{IsMonitor};
-ghost use Rattle.firecracker_cli.specs.Serving.{ServeCause, Serves, ServersLast, ServersTell, serve_known_of, took_before, traced_at};
+ghost use Rattle.firecracker_cli.specs.Serving.{OpensPart, ServeCause, Serves, ServersLast, ServersTell, serve_known_of, took_before, traced_at};
 ghost use Rattle.firecracker_cli.specs.SoFar.{BeginCause, ServedSoFar, TakesLineage, exit_of};
 
 use crate::closing::close;
@@ -30,7 +30,8 @@ fn open<N: Conn, M: Listener<N>, T: Trace>(
     listener: &mut M,
     trace: &mut T,
 ) -> Result<(), Object>
-    ensures took { OnErr result (Tells (T.known trace.old).health → (T.known trace.new).took ≡ (T.known trace.old).took) }
+    ensures part { OnErr result (Tells (M.known listener.old).health → Tells (T.known trace.old).health →
+        OpensPart (words_said words.entry) (M.known listener.old) (T.known trace.old) (M.known listener.new) (T.known trace.new)) }
     ensures same { Tells (M.known listener.old).health → SameConnections (M.known listener.old) (M.known listener.new) }
     ensures listens { OnOk result (Tells (M.known listener.old).health →
         (M.known listener.new).path ≡ Some (words_said words.entry).socket) }

@@ -234,7 +234,7 @@ none_asked start m host = record { clock = record { still = λ tells. tells; are
 -- a trace that lacks nothing
 pub none_ahead : (start : Health) (m : Machine) (host : HostKnown) → LeadsAhead start m host m host
 none_ahead start m host = record {
-  more = [];
+  events = [];
   outs = [];
   run = (refl, refl);
   unshown = refl;

@@ -223,7 +223,7 @@ module _ (s : Start) (m : Machine) (talk : List Out) (took : List Item) (taken :
             (events_unlineaged (take n es));
         flat = after;
         ahead = record {
-          more = event_acts (drop n es);
+          events = drop n es;
           outs = quiets (drop n es);
           run = events_run (drop n es) (with_guest m parts.0) parts.0 led.0 led_sound runs parts.2;
           unshown = quiets_show (drop n es);

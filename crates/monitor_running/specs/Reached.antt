@@ -1,11 +1,13 @@
 -- Trace fidelity: what a trace took is a run of the flat machine, which leaves the machine and shows what was taken.
 use Rattle.std.specs.Prelude.{ℕ, ◌≡◌, Bool, true, false, All, List, [], ◌++◌}
+use Rattle.vm_types.specs.declared.entry.Entry.{Entry}
 use Rattle.script_text.specs.declared.item.Item.{Item}
 use Rattle.script_text.specs.declared.item.Item.TheVariants as item
 use Rattle.serve_host.specs.Tracing.{TraceKnown}
 use Rattle.vm_outside.specs.Known.{Health, SinkKnown}
 use Rattle.flat_machine.specs.Machine.{Machine, is_off}
 use Rattle.flat_machine.specs.Run.{Act}
+use Rattle.flat_trace.specs.Events.{event_acts}
 use Rattle.flat_trace.specs.Showing.{Out, Run, items_of, said, shown}
 use Rattle.monitor_machine.specs.Disks.{HasFiles}
 use Rattle.monitor_running.specs.Asked.{AnsweredSince, HostKnown}
@@ -79,15 +81,15 @@ pub record Kept {B : Type 0} (Is : B → Machine → Type 0) (s : Start) (m : Ma
   pub files : AreFiles s flat now
   pub reached : Reached s now flat talk
 
--- Events that a trace lacks, and that show nothing, lead on from one machine to the other. In them the timer was given the clock's
--- answers, and each device its disk's.
+-- Events that a trace lacks lead on from one machine to the other, and show nothing. In them the timer was given the clock's answers,
+-- and each device its disk's.
 pub record LeadsAhead (start : Health) (told : Machine) (asked : HostKnown) (flat : Machine) (now : HostKnown) : Type 0 where
-  pub more : List Act
+  pub events : List Entry
   pub outs : List Out
-  pub run : Run more told outs flat
+  pub run : Run (event_acts events) told outs flat
   pub unshown : shown outs ≡ []
   pub unsaid : said outs ≡ []
-  pub answered : AnsweredSince start more told outs flat run asked now
+  pub answered : AnsweredSince start (event_acts events) told outs flat run asked now
 
 -- The trace lacks the last events: they lead from where it leads to the body.
 pub record Ahead {B : Type 0} (Is : B → Machine → Type 0) (s : Start) (m : Machine) (now : Seen) (b : B) (talk : List Out) :

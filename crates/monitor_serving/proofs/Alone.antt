@@ -3,6 +3,7 @@ use Rattle.std.proofs.Common.{◌≡◌, ℕ, true, inr, refl, sym, ◌∙◌, s
 use Rattle.vm_types.specs.Causes.{Rose}
 use Rattle.vm_types.specs.declared.exit.Object.{Object}
 use Rattle.vm_types.specs.declared.exit.Object.TheVariants as object
+use Rattle.flat_trace.specs.Events.{event_acts}
 use Rattle.monitor_running.specs.Asked.{HostKnown}
 use Rattle.vm_outside.specs.Known.{FilesKnown, Health, Lasts, SinkKnown}
 use Rattle.serve_host.specs.Passing.{ConnKnown}
@@ -102,7 +103,7 @@ module _ (monitor now_monitor : Monitor) (machine : LiveMachine) (k now : Known)
       let it = on s old.flat old.talk old.stands.is.own.live old.stands.disks old.stands.reached in
       all_shown (served.Fault object.Trace) s first old it.told it.host refl (it.flat, it.ahead)
       (filed_ahead old.flat it.told it.flat (filed_beside old.flat it.flat it.beside)
-      (run_filed it.ahead.more it.told it.ahead.outs it.flat it.ahead.run it.ahead.unsaid))
+      (run_filed (event_acts it.ahead.events) it.told it.ahead.outs it.flat it.ahead.run it.ahead.unsaid))
       it.reached
   ran_alone (Some ran.SinkFailed) on never = λ s first old.
       let it = on s old.flat old.talk old.stands.is.own.live old.stands.disks old.stands.reached in

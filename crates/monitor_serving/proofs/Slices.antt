@@ -4,6 +4,7 @@ use Rattle.monitor_running.specs.Asked.{HostKnown}
 use Rattle.serve_host.specs.Passing.{ConnKnown, Waits}
 use Rattle.vm_types.specs.declared.exit.Object.TheVariants as object
 use Rattle.flat_machine.specs.Machine.{AreFilesOf, Machine}
+use Rattle.flat_trace.specs.Events.{event_acts}
 use Rattle.flat_trace.specs.Showing.{Out}
 use Rattle.monitor_machine.specs.declared.machine.LiveMachine.{LiveMachine}
 use Rattle.monitor_machine.specs.State.{IsLive}
@@ -140,7 +141,7 @@ module _ (monitor now : Monitor) (machine : LiveMachine) (old new : Hosts) (conn
       → (a : Ahead IsLive s m (seen new.slices) machine talk) → AreFilesOf new.files a.told
   ahead s m talk files a =
       filed old.files new.files m a.told files_same
-      (filed_ahead m a.told a.flat (filed_beside m a.flat a.beside) (run_filed a.ahead.more a.told a.ahead.outs a.flat a.ahead.run a.ahead.unsaid)) files
+      (filed_ahead m a.told a.flat (filed_beside m a.flat a.beside) (run_filed (event_acts a.ahead.events) a.told a.ahead.outs a.flat a.ahead.run a.ahead.unsaid)) files
 
   abbrev served_as : Option Served → Type 0
   served_as None = Unit {0}

@@ -7,7 +7,7 @@ use Rattle.firecracker_cli.proofs.Beginnings.{nothing_served}
 use Rattle.firecracker_cli.proofs.serving.run_serve.Goals as goal
 
 pub returns-in_default-clause-so_far : goal.returns-in_default-clause-so_far
-returns-in_default-clause-so_far g c = λ tells. nothing_served _ _ Exit.OutOfMemory _ (inl refl) refl refl refl refl refl
+returns-in_default-clause-so_far g c = λ tells. nothing_served _ _ Exit.OutOfMemory _ (inl (refl, record { path = refl; took = refl })) refl refl refl refl refl
 
 pub returns-in-Ok-new-clause-so_far : goal.returns-in-Ok-new-clause-so_far
 returns-in-Ok-new-clause-so_far g c = λ tells.
@@ -16,4 +16,4 @@ returns-in-Ok-new-clause-so_far g c = λ tells.
     c.in-Ok.ensures c.in-Ok-new.ensures)
 
 pub returns-in-Err-clause-so_far : goal.returns-in-Err-clause-so_far
-returns-in-Err-clause-so_far g c = λ tells. nothing_served _ _ Exit.OutOfMemory _ (inl refl) refl refl refl refl refl
+returns-in-Err-clause-so_far g c = λ tells. nothing_served _ _ Exit.OutOfMemory _ (inl (refl, record { path = refl; took = refl })) refl refl refl refl refl

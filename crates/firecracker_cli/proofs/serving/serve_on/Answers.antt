@@ -1,4 +1,4 @@
-use Rattle.std.proofs.Common.{inl, inr, refl, sym, ◌∙◌, subst, arith}
+use Rattle.std.proofs.Common.{inr, refl, sym, ◌∙◌, subst, arith}
 use Rattle.vm_types.specs.declared.exit.Exit.{Exit}
 use Rattle.command_line.specs.Commands.{ServeWords}
 use Rattle.command_line.specs.Said.{words_said}
@@ -20,7 +20,7 @@ returns-in-Err-clause-so_far g c = λ tells new.
     let opened : ServeKnown = serve_known (hosts (known (g.T.Trace.known c.open.new.trace) before.hosts.slices.sink before.hosts.slices.host)
     before.hosts.files) before.words (g.M.Listener.known c.open.new.listener) in
     cut_by (words_said c.args.words) before c.in-Err.object opened _ _ _ _ _ _ (c.in-Err.ensures.cause at_rest)
-    (nothing_served (words_said c.args.words) before (Exit.Fault c.in-Err.object) opened (inl (c.in-Err.ensures.took tells.hosts.trace)) refl
+    (nothing_served (words_said c.args.words) before (Exit.Fault c.in-Err.object) opened (c.in-Err.ensures.part tells.listener tells.hosts.trace) refl
     (c.open.ensures.same tells.listener).ended (c.open.ensures.same tells.listener).coming refl
     (none_behind (words_said c.args.words) before c.in-Err.object _ _ _ _ _ _ (c.in-Err.ensures.cause at_rest) _ _))
 
@@ -41,7 +41,10 @@ returns-in-Err-draw_lineage-clause-so_far g c = λ tells new.
     let still = c.open.ensures.trace_lasts.still tells.hosts.trace in
     cut_by (words_said c.args.words) before c.in-Err-draw_lineage.object drawn _ _ _ _ _ _ (c.in-Err-draw_lineage.ensures.cause at_rest)
     (nothing_served (words_said c.args.words) before (Exit.Fault c.in-Err-draw_lineage.object) drawn
-    (inr (c.in-Err-draw_lineage.ensures.err.0 still ∙ c.in_default.ensures.empties tells.hosts.trace)) refl
+    (inr (c.in_default.ensures.listens tells.listener, inr (record {
+      path = c.draw_lineage.ensures.trace_stays still ∙ c.in_default.ensures.opens tells.hosts.trace;
+      took = c.in-Err-draw_lineage.ensures.err.0 still ∙ c.in_default.ensures.empties tells.hosts.trace;
+    }))) refl
     (c.open.ensures.same tells.listener).ended (c.open.ensures.same tells.listener).coming refl
     (none_behind (words_said c.args.words) before c.in-Err-draw_lineage.object _ _ _ _ _ _ (c.in-Err-draw_lineage.ensures.cause at_rest) _ _))
 
