@@ -142,6 +142,6 @@ load_agrees creates calls saved files it are holds each image is =
     let same : made ≡ it = let e = two.2 in cc in
     let disk : Disk = λ name. get saved name in
     let of : (name text : List ℕ) → get saved name ≡ Some text → IsBytes text × AgreesText creates text =
-    λ name text there. (holds disk name text image there, each disk image name text there) in
+    λ name text there. (holds disk image name text there, each disk image name text there) in
     subst (λ (x : Snapshot). (c : Create) × (IsAmong c creates × (x ≡ snapshot_of c))) same
     (load_of creates are one.0.0 one.0.1 two.0 (get saved files.snapshot_path) (get saved files.mem_file_path) (of files.snapshot_path) (of files.mem_file_path) one.1 two.1)

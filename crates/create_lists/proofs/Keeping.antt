@@ -20,12 +20,12 @@ use Rattle.snapshot_merge.specs.declared.error.RebaseError.{RebaseError}
 use Rattle.snapshot_merge.specs.declared.error.RebaseError.TheVariants.{Refused, Fault, OutOfMemory}
 use Rattle.snapshot_merge.specs.Calls.{stages}
 use Rattle.snapshot_merge.specs.Plans.{Plan, plan_by, planned, planned_in}
-use Rattle.snapshot_merge.specs.Rebasing.{MergesPart, Rebases}
+use Rattle.snapshot_merge.specs.Rebasing.{MergesPart, Rebases, Refuses}
 use Rattle.snapshot_merge.specs.Stops.{IsMerge}
-use Rattle.snapshot_merge.proofs.Meanwhile.{front_moment, none_made}
-use Rattle.snapshot_merge.proofs.Standing.{from_at}
+use Rattle.snapshot_merge.proofs.Meanwhile.{front_moment, none_made, refused_each}
+use Rattle.snapshot_merge.proofs.Standing.{at_bytes, from_at}
 use Rattle.snapshot_merge.proofs.Stopping.{calls_are, in_calls, same_some}
-use Rattle.create_lists.specs.Listed.{AgreeAll, Agrees, AgreesText, AreCreates, Create, HoldBytes, diff_since, memory_of}
+use Rattle.create_lists.specs.Listed.{AgreeAll, Agrees, AgreesText, AreCreates, Create, HoldBytes, HoldsBytes, diff_since, memory_of}
 use Rattle.create_lists.proofs.Planning.{AtText, at_text, c, e, is_diff, left_agrees, parent, text_joins}
 
 -- a diff that isn't there has no plan
@@ -39,10 +39,10 @@ not_both p wrong = cc
 module _ (creates : List Create) (are : AreCreates creates) (base diff : List ℕ) (before : List FileCall) (holds : HoldBytes before) (each : AgreeAll creates before) where
   module _ (file : List ℕ) (calls : List FileCall) (merge : IsMerge base diff file before calls) (disk : Disk) (moment : Moment before calls disk) where
     of_text : IsBytes merge.text
-    of_text = holds merge.image base merge.text merge.is merge.there
+    of_text = holds merge.image merge.is base merge.text merge.there
 
     of_file : IsBytes file
-    of_file = holds merge.image diff file merge.is merge.diff_there
+    of_file = holds merge.image merge.is diff file merge.diff_there
 
     base_agrees : AgreesText creates merge.text
     base_agrees = each merge.image merge.is base merge.text merge.there
@@ -68,28 +68,41 @@ module _ (creates : List Create) (are : AreCreates creates) (base diff : List �
     at_first : AtOf merge.text
     at_first = at_text creates are merge.text file of_text of_file base_agrees diff_agrees merge.plan merge.planned
 
-    in_base : (now : List ℕ) → disk base ≡ Some now → AgreesText creates now
+    -- it agrees with the list, and is of bytes
+    abbrev IsGood : List ℕ → Type 0
+    IsGood now = AgreesText creates now × IsBytes now
+
+    of_image : (old : Disk) → Images before old → (name now : List ℕ) → old name ≡ Some now → IsGood now
+    of_image old image name now there = (each old image name now there, holds old image name now there)
+
+    in_base : (now : List ℕ) → disk base ≡ Some now → IsGood now
     in_base now there =
         ⊎_elim
         (λ going.
-        ⊎_elim (λ image. each disk image base now there)
-        (λ at. subst (AgreesText creates) (same_some at.0 now (sym at.1.0 ∙ there)) (left_agrees creates are merge.text file of_text of_file base_agrees diff_agrees merge.plan merge.planned at.0 at.1.1))
+        ⊎_elim (λ image. of_image disk image base now there)
+        (λ at. subst IsGood (same_some at.0 now (sym at.1.0 ∙ there)) (
+          left_agrees creates are merge.text file of_text of_file base_agrees diff_agrees merge.plan merge.planned at.0 at.1.1,
+          at_bytes base_copy of_diff joined file of_file is_d at.0 at.1.1,
+        ))
         (in_calls base diff file base_copy of_diff joined of_file is_d before merge.text going moment.done moment.rest
         (moment.parts ∙ calls_are base diff file base_copy of_diff joined of_file is_d before calls merge going) disk (left_then NoFile before moment.done disk moment.left)))
         (λ over. absurd (not_both merge.plan (sym merge.planned ∙ over.1)))
         (from_at base_copy of_diff joined file of_file is_d merge.text at_first)
 
-    by_name : (b : Bool) (name now : List ℕ) → bytes_eq name base ≡ b → disk name ≡ Some now → ((name ≡ base → ⊥) → (old : Disk) × Images before old × (disk name ≡ old name)) → AgreesText creates now
+    by_name : (b : Bool) (name now : List ℕ) → bytes_eq name base ≡ b → disk name ≡ Some now → ((name ≡ base → ⊥) → (old : Disk) × Images before old × (disk name ≡ old name)) → IsGood now
     by_name true name now is there of_other_name = in_base now (ap disk (sym ((bytes_eq-Decides name base).0 is)) ∙ there)
     by_name false name now is there of_other_name =
         let old = of_other_name (λ same. let wrong : true ≡ false = sym ((bytes_eq-Decides name base).1 same) ∙ is in cc) in
-        each old.0 old.1 name now (sym old.2 ∙ there)
+        of_image old.0 old.1 name now (sym old.2 ∙ there)
 
-    pub merge_agrees : Agrees creates disk
-    merge_agrees name now there =
-        by_name (bytes_eq name base) name now refl there
-        (λ other. of_other base before name other (stages merge.plan.merge merge.plan.diff) merge.text disk
-        (record { done = moment.done; rest = moment.rest; parts = moment.parts ∙ merge.makes; left = moment.left }))
+    pub merge_keeps : Agrees creates disk × HoldsBytes disk
+    merge_keeps = ((λ name now there. (good name now there).0), (λ name now there. (good name now there).1))
+      where
+        good : (name now : List ℕ) → disk name ≡ Some now → IsGood now
+        good name now there =
+            by_name (bytes_eq name base) name now refl there
+            (λ other. of_other base before name other (stages merge.plan.merge merge.plan.diff) merge.text disk
+            (record { done = moment.done; rest = moment.rest; parts = moment.parts ∙ merge.makes; left = moment.left }))
 
 -- ---- by what a merge says of its calls
 
@@ -102,8 +115,18 @@ file_in saved diff text plan is = by (saved diff) refl is
 
 module _ (creates : List Create) (are : AreCreates creates) (base diff : List ℕ) (old new : FilesKnown) (holds : HoldBytes old.calls) (each : AgreeAll creates old.calls)
     (image : Images old.calls (λ name. get old.saved name)) (disk : Disk) (left : LeftMeanwhile old.calls new.calls disk) where
-  nothing_made : SameFiles old new → Agrees creates disk
-  nothing_made same = each disk (none_made old.calls new.calls disk same.calls left)
+  abbrev Kept : Type 0
+  Kept = Agrees creates disk × HoldsBytes disk
+
+  nothing_made : SameFiles old new → Kept
+  nothing_made same = let image = none_made old.calls new.calls disk same.calls left in (each disk image, holds disk image)
+
+  refused_made : (why : Refusal) → Refuses base diff why old new → Kept
+  refused_made why refuses =
+      let was = refused_each base diff old new image why disk refuses left in (
+        (λ name text there. each (was name).0 (was name).1 name text (sym (was name).2 ∙ there)),
+        (λ name text there. holds (was name).0 (was name).1 name text (sym (was name).2 ∙ there)),
+      )
 
   module _ (plan : Plan) (text : List ℕ) (is : planned_in old.saved base diff ≡ Ok plan) (there : get old.saved base ≡ Some text) where
     abbrev script : List FileCall
@@ -127,21 +150,21 @@ module _ (creates : List Create) (are : AreCreates creates) (base diff : List �
       makes = refl;
     }
 
-    some_made : (done rest : List FileCall) → done ++ rest ≡ script → new.calls ≡ old.calls ++ done → Agrees creates disk
+    some_made : (done rest : List FileCall) → done ++ rest ≡ script → new.calls ≡ old.calls ++ done → Kept
     some_made done rest parts calls =
-        merge_agrees creates are base diff old.calls holds each other.0 script is_merge disk
+        merge_keeps creates are base diff old.calls holds each other.0 script is_merge disk
         (front_moment old.calls new.calls script done rest disk parts calls left)
 
-  part_made : MergesPart base diff old new → Agrees creates disk
+  part_made : MergesPart base diff old new → Kept
   part_made merges =
       let front = merges.runs.calls in
       some_made merges.plan merges.text merges.planned merges.there front.done front.rest front.parts front.calls
 
-  pub rebase_agrees : (result : Result (Unit {0}) RebaseError) → Rebases base diff result old new → Agrees creates disk
-  rebase_agrees (Ok done) merges =
+  pub rebase_keeps : (result : Result (Unit {0}) RebaseError) → Rebases base diff result old new → Kept
+  rebase_keeps (Ok done) merges =
       let script : List FileCall = calls_of base (stages merges.plan.merge merges.plan.diff) merges.text in
       some_made merges.plan merges.text merges.planned merges.there script [] (append-nil script) merges.runs.calls
-  rebase_agrees (Err (Refused why)) refused = nothing_made refused.1
-  rebase_agrees (Err Fault) (inl same) = nothing_made same
-  rebase_agrees (Err Fault) (inr merges) = part_made merges
-  rebase_agrees (Err OutOfMemory) same = nothing_made same
+  rebase_keeps (Err (Refused why)) refuses = refused_made why refuses
+  rebase_keeps (Err Fault) (inl same) = nothing_made same
+  rebase_keeps (Err Fault) (inr merges) = part_made merges
+  rebase_keeps (Err OutOfMemory) same = nothing_made same

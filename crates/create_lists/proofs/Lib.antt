@@ -4,3 +4,4 @@ pub mod Listing
 pub mod Planning
 pub mod Keeping
 pub mod Creating
+pub mod Unfinished

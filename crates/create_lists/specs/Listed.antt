@@ -97,9 +97,13 @@ Agrees creates disk = (name text : List ℕ) → disk name ≡ Some text → Agr
 abbrev pub AgreeAll : List Create → List FileCall → Type 0
 AgreeAll creates before = (disk : Disk) → Images before disk → Agrees creates disk
 
--- what each file holds, in every image, are bytes
+-- what each file holds are bytes
+abbrev pub HoldsBytes : Disk → Type 0
+HoldsBytes disk = (name text : List ℕ) → disk name ≡ Some text → IsBytes text
+
+-- in every image
 abbrev pub HoldBytes : List FileCall → Type 0
-HoldBytes before = (disk : Disk) (name text : List ℕ) → Images before disk → disk name ≡ Some text → IsBytes text
+HoldBytes before = (disk : Disk) → Images before disk → HoldsBytes disk
 
 -- ---- the files of a create
 

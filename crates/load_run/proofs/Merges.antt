@@ -6,8 +6,8 @@ use Rattle.refusals.specs.declared.refusal.Refusal.{Refusal}
 use Rattle.vm_outside.specs.Filing.{SameFiles}
 use Rattle.vm_outside.specs.Known.{FilesKnown, Health, Lasts}
 use Rattle.snap_diff.specs.Found.{diff_found}
-use Rattle.snapshot_merge.specs.Plans.{Plan, planned_in}
-use Rattle.snapshot_merge.specs.Rebasing.{Merges}
+use Rattle.snapshot_merge.specs.Plans.{Plan}
+use Rattle.snapshot_merge.specs.Rebasing.{Merges, Refuses}
 use Rattle.load_run.specs.Merging.{diff_name, memory_name, merged, merged_by, pages_by, pages_in, with_diff}
 
 pub one_merged : (diff : List ℕ) (old new : FilesKnown) → Merges memory_name diff old new → new.saved ≡ with_diff diff old.saved
@@ -15,10 +15,9 @@ one_merged diff old new m =
     m.runs.saved ∙ sym (ap (λ (p : Result Plan Refusal). merged_by p (get old.saved memory_name) old.saved) m.planned
     ∙ ap (λ (t : Option (List ℕ)). merged_by (Ok m.plan) t old.saved) m.there)
 
-pub none_merged : (diff : List ℕ) (why : Refusal) (old new : FilesKnown) → planned_in old.saved memory_name diff ≡ Err why → SameFiles old new
-    → new.saved ≡ with_diff diff old.saved
-none_merged diff why old new refused same =
-    same.saved ∙ sym (ap (λ (p : Result Plan Refusal). merged_by p (get old.saved memory_name) old.saved) refused)
+pub none_merged : (diff : List ℕ) (why : Refusal) (old new : FilesKnown) → Refuses memory_name diff why old new → new.saved ≡ with_diff diff old.saved
+none_merged diff why old new refuses =
+    refuses.saved ∙ sym (ap (λ (p : Result Plan Refusal). merged_by p (get old.saved memory_name) old.saved) refuses.planned)
 
 pub merged_more : (before : ℕ) (saved mid now : Saved) → mid ≡ merged before saved → now ≡ with_diff (diff_name (before + 1)) mid → now ≡ merged (before + 1) saved
 merged_more before saved mid now was is =

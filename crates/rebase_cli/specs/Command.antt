@@ -1,9 +1,8 @@
 -- What the command owes for its words.
-use Rattle.std.specs.Prelude.{◌≡◌, ◌⊎◌, ℕ, List, [], ◌++◌, Err}
+use Rattle.std.specs.Prelude.{◌≡◌, ◌⊎◌, ℕ, List, [], ◌++◌}
 use Rattle.vm_types.specs.Causes.{Rose}
 use Rattle.vm_outside.specs.Known.{FilesKnown, SinkKnown}
-use Rattle.snapshot_merge.specs.Plans.{planned_in}
-use Rattle.snapshot_merge.specs.Rebasing.{Merges, MergesPart}
+use Rattle.snapshot_merge.specs.Rebasing.{Merges, MergesPart, Refuses}
 use Rattle.vm_outside.specs.Filing.{SameFiles}
 use Rattle.rebase_cli.specs.declared.end.End.{End}
 use Rattle.rebase_cli.specs.declared.end.End.TheVariants.{Done, Usage, Refused, FilesFailed, OutOfMemory}
@@ -12,7 +11,7 @@ use Rattle.rebase_cli.specs.Words.{Names}
 -- the files by how it ended: all of the merge was done; refused by the first rule that fits; a call on them failed
 abbrev pub EndsBy : End → Names → FilesKnown → FilesKnown → Type 0
 EndsBy Done names old new = Merges names.base names.diff old new
-EndsBy (Refused why) names old new = (planned_in old.saved names.base names.diff ≡ Err why) × SameFiles old new
+EndsBy (Refused why) names old new = Refuses names.base names.diff why old new
 EndsBy FilesFailed names old new = SameFiles old new ⊎ MergesPart names.base names.diff old new
 EndsBy OutOfMemory names old new = SameFiles old new
 EndsBy Usage names old new = ⊥

@@ -1,12 +1,13 @@
 // The command.
 ghost use Rattle.std.specs.Prelude.{◌≡◌, ◌≢◌, ◌⊎◌, List, None, Some, map, string_bytes, ℕ};
+ghost use Rattle.refusals.specs.declared.refusal.Refusal.TheVariants as refusal;
 ghost use Rattle.gate_file.specs.Stages.{LeftMeanwhile};
 ghost use Rattle.rebase_cli.specs.Command.{EndCause, EndsBy, TookLine};
 ghost use Rattle.rebase_cli.specs.Ends.{last_line};
 ghost use Rattle.rebase_cli.specs.Words.{Names, names_in};
 ghost use Rattle.snap_diff.specs.Copies.{DiffCopy, MemoryCopy};
 ghost use Rattle.snapshot_merge.specs.Stops.{IsMerged, StandsOn, WasBegun};
-ghost use Rattle.vm_outside.specs.Crashes.{Disk, Images};
+ghost use Rattle.vm_outside.specs.Crashes.{Disk};
 ghost use Rattle.vm_outside.specs.Known.{Called, Lasts, Tells};
 
 use crate::end::End;
@@ -24,8 +25,8 @@ use vm_outside::{Files, Sink};
 /// nothing is read then, as where there is no memory to read them. `Refused`: by the first rule that fits. `FilesFailed`: a call on the files failed.
 /// `OutOfMemory`: there was no memory. A sink that fails at the last line leaves the answer as it is.
 ///
-/// A stop at any moment leaves a base that the same command goes on with, or that is merged, and behind `Done` the latter
-/// (`snapshot_merge::rebase`).
+/// A stop at any moment leaves a base that the same command goes on with, or that is merged; and behind `Done`, or a refusal
+/// with 27 of a merge that was begun, the latter (`snapshot_merge::rebase`).
 pub fn rebase_main<F: Files, S: Sink>(
     alloc: Global,
     words: &[String],
@@ -47,10 +48,13 @@ pub fn rebase_main<F: Files, S: Sink>(
         WasBegun names.base names.diff m d file (F.known files.old).calls →
         LeftMeanwhile (F.known files.old).calls (F.known files.new).calls disk →
         StandsOn names.base names.diff m d file disk }
-    ensures lasting { result ≡ End.Done → Tells (F.known files.old).health → (names : Names) →
-        names_in (map string_bytes words.now) ≡ Some names → (file : List ℕ) (m : MemoryCopy) (d : DiffCopy) (disk : Disk) →
-        WasBegun names.base names.diff m d file (F.known files.old).calls →
-        Images (F.known files.new).calls disk → IsMerged names.base names.diff m d file disk }
+    ensures lasting { (result ≡ End.Done) ⊎ (result ≡ End.Refused refusal.ParentDiffers) →
+        Tells (F.known files.old).health → (names : Names) → names_in (map string_bytes words.now) ≡ Some names →
+        (file : List ℕ) (m : MemoryCopy) (d : DiffCopy) → WasBegun names.base names.diff m d file (F.known files.old).calls →
+        IsMerged names.base names.diff m d file (F.known files.new) }
+    ensures begun { Tells (F.known files.old).health → (names : Names) → names_in (map string_bytes words.now) ≡ Some names →
+        (file : List ℕ) (m : MemoryCopy) (d : DiffCopy) → WasBegun names.base names.diff m d file (F.known files.old).calls →
+        WasBegun names.base names.diff m d file (F.known files.new).calls }
 {
     let end = run(alloc, words, files);
     let _ = write_last(out, end);

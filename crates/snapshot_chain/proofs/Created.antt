@@ -1,5 +1,5 @@
 -- What a create left, and that each diff is of the memory before it.
-use Rattle.std.proofs.Common.{◌≡◌, ◌≢◌, ℕ, ◌+◌, ◌≤◌, ◌==◌, ◌&&◌, Bool, true, false, not, List, [], ◌∷◌, ◌++◌, length, Option, Some, None, refl, sym, ap, subst, ◌∙◌, ◌⊎◌, inl, inr, arith}
+use Rattle.std.proofs.Common.{◌≡◌, ◌≢◌, ℕ, ◌+◌, ◌<◌, ◌≤◌, ◌==◌, ◌&&◌, Bool, true, false, not, List, [], ◌∷◌, ◌++◌, length, Option, Some, None, refl, sym, ap, subst, ◌∙◌, ◌⊎◌, inl, inr, arith}
 use Rattle.std.specs.Prelude.{IsTrue}
 use Rattle.std.specs.FinMap.{get, insert}
 use Rattle.std.proofs.lemmas.Bool.{and_parts, eqb-true, false_from_ne_true}
@@ -157,12 +157,16 @@ module _ (type : SnapshotType) (first s : Saving) (of : IsSaving type first) (is
   on : GoesOn start.guest follows.start s.before
   on = by_place follows.inside
 
+  pub number_rises : first.before.ids.next < s.before.ids.next
+  number_rises =
+      let rise = on.numbers in
+      let next = start.next in
+      omega (arith, rise, next)
+
   pub is_other : identity_of first ≢ identity_of s
   is_other same =
       let number : first.before.ids.next ≡ s.before.ids.next = ap (λ (i : Identity). i.number) same in
-      let rise = on.numbers in
-      let next = start.next in
-      omega (arith, number, rise, next)
+      omega (arith, number, number_rises)
 
   by_since : NoCreate follows.start s.before start.guest on.guest ⊎ SomeCreate follows.start s.before → KeepsUnwritten (unwritten first.guest) on.guest
   by_since (inl none) = keeps_joined (unwritten first.guest) start.guest on.guest start.keeps none.keeps

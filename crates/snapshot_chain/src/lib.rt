@@ -6,5 +6,7 @@
 #![tactic(auto)]
 
 mod law;
+mod listed;
 
 pub use law::{answered_creates, created_files, diffs_of_creates, merged_then_load, on_inside};
+pub use listed::listed_creates;

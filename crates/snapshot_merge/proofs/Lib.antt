@@ -3,6 +3,7 @@ pub mod Planned
 pub mod Staged
 pub mod Paging
 pub mod Whole
+pub mod Refusing
 pub mod Texts
 pub mod Overlaid
 pub mod InOrder

@@ -28,7 +28,7 @@ use Rattle.gate_file.specs.Stages.{text_after}
 use Rattle.snapshot_merge.specs.Calls.{filling, stages}
 use Rattle.snapshot_merge.specs.Memories.{Holds, IsMemoryFile}
 use Rattle.snapshot_merge.specs.Merges.{new_merge, open_slots, unfinished_merge}
-use Rattle.snapshot_merge.specs.Plans.{plan_by, plan_with, planned}
+use Rattle.snapshot_merge.specs.Plans.{both_by, merged_by, plan_by, plan_with, planned}
 use Rattle.snapshot_merge.proofs.Judged.{base_good}
 use Rattle.snapshot_merge.proofs.Texts.{gated, marked, named, paged}
 
@@ -281,6 +281,9 @@ same_when a b e =
     let both = and_parts (a.lineage == b.lineage) (a.number == b.number) e in
     λ i. record { lineage = eqb-true a.lineage b.lineage both.0 i; number = eqb-true a.number b.number both.1 i }
 
+all_three : (a b c : Bool) → a ≡ true → b ≡ true → c ≡ true → (a && b && c) ≡ true
+all_three a b c p q r = rw (p, q, r) refl
+
 module _ (given file : List ℕ) (head : MemHeader) (m : MemoryCopy) (d : DiffCopy) (holds : Holds given head m) (diff : IsDiffFile file d) (pages : d.pages ≡ m.pages) where
   front_is : take 4096 given ≡ memory.header.bytes head
   front_is = ap (take 4096) holds.bytes ∙ take_at (memory.header.bytes head) m.bytes 4096 (length-header head holds.fits)
@@ -317,6 +320,14 @@ module _ (given file : List ℕ) (head : MemHeader) (m : MemoryCopy) (d : DiffCo
       let differs : is_same d.parent (memory.identity_of head) ≡ false = false_from_ne_true _ (λ e. other (same_when d.parent (memory.identity_of head) e ∙ holds.identity)) in
       planned_new settled
       ∙ ap (λ (b : Bool). plan_with d (cond (not b) (Err refusal.ParentDiffers) (cond (open_slots head.slots == 100) (Err refusal.NoSlotLeft) (Ok (Begin (open_slots head.slots)))))) differs
+
+  -- the diff was merged before
+  pub is_merged_by : head.merging ≡ 0 → d.identity ≡ m.identity → merged_by (both_by (base_found (Some given)) (diff_found (Some file))) ≡ true
+  is_merged_by settled own =
+      let name : is_same (memory.identity_of head) d.identity ≡ true = ap (λ (i : Identity). is_same i d.identity) (holds.identity ∙ sym own) ∙ same_identity d.identity in
+      ap (λ (r : Result MemHeader Refusal). merged_by (both_by r (diff_found (Some file)))) base_is
+      ∙ ap (λ (r : Result DiffCopy Refusal). merged_by (both_by (Ok head) r)) (files.found_again file d diff)
+      ∙ all_three (d.pages == head.pages) (head.merging == 0) (is_same (memory.identity_of head) d.identity) (eq-eqb d.pages head.pages (pages ∙ sym holds.pages)) (eq-eqb head.merging 0 settled) name
 
 module _ (given file : List ℕ) (m : MemoryCopy) (d : DiffCopy) (is : IsMemoryFile given m) (diff : IsDiffFile file d) (pages : d.pages ≡ m.pages) where
   pub is_begun : d.parent ≡ m.identity → open_slots is.head.slots < 100 → planned (Some given) (Some file) ≡ Ok (record { diff = d; merge = Begin (open_slots is.head.slots) })

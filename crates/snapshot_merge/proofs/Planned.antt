@@ -23,10 +23,11 @@ use Rattle.snapshot_merge.specs.declared.merge.Merge.{Merge}
 use Rattle.snapshot_merge.specs.declared.error.RebaseError.{RebaseError}
 use Rattle.snapshot_merge.specs.declared.error.RebaseError.TheVariants.{Refused, Fault, OutOfMemory}
 use Rattle.snapshot_merge.specs.declared.finding.DiffStart.{DiffStart}
-use Rattle.snapshot_merge.specs.Answering.{Answers, IsStartIn, IsStartOf, Same, StartJudged, TableJudged}
+use Rattle.snapshot_merge.specs.declared.finding.Pair.{Pair}
+use Rattle.snapshot_merge.specs.Answering.{Answers, IsPairIn, IsStartIn, IsStartOf, Same, StartJudged, TableJudged}
 use Rattle.snapshot_merge.specs.Bases.{base_front, base_found, base_read}
-use Rattle.snapshot_merge.specs.Merges.{merge_of}
-use Rattle.snapshot_merge.specs.Plans.{Plan, plan_by, plan_with, planned}
+use Rattle.snapshot_merge.specs.Merges.{merge_of, was_merged}
+use Rattle.snapshot_merge.specs.Plans.{Plan, both_by, merged_by, plan_by, plan_of, plan_with, planned}
 
 -- a base is what its front says
 pub base_of : (size : ℕ) (front : List ℕ) (o : Option (List ℕ)) (r : Result MemHeader RebaseError)
@@ -65,23 +66,33 @@ start_header : (o : Option (List ℕ)) (start : DiffStart) (d : DiffCopy) → Is
 start_header None start d is = absurd is
 start_header (Some given) start d is = is.header
 
-module _ (b : Result MemHeader Refusal) (o p : Option (List ℕ)) (h what : MemHeader) (start : DiffStart) (d : DiffCopy) (same : o ≡ p)
-    (base : b ≡ Ok what) (base_is : h ≡ what) (diff : diff_found o ≡ Ok d) (is : IsStartIn o start d) where
-  pub plan_good : (m : Merge) → Ok m ≡ merge_of h start.header → plan_by b (diff_found p) ≡ Ok (record { diff = d; merge = m })
-  plan_good m merges =
-      ap (λ (q : Option (List ℕ)). plan_by b (diff_found q)) (sym same)
-      ∙ ap (plan_by b) diff ∙ ap (λ (c : Result MemHeader Refusal). plan_by c (Ok d)) base
-      ∙ ap (λ (g : MemHeader). plan_with d (merge_of g (header_of d))) (sym base_is)
-      ∙ ap (λ (g : DiffHeader). plan_with d (merge_of h g)) (sym (start_header o start d is))
-      ∙ ap (plan_with d) (sym merges)
+-- both, of which the base was found before
+pub both_good : (b : Result MemHeader Refusal) (o p : Option (List ℕ)) (h what : MemHeader) (start : DiffStart) (d : DiffCopy) → o ≡ p → b ≡ Ok what → h ≡ what → diff_found o ≡ Ok d → IsStartIn o start d
+    → Answers (IsPairIn p) (Ok (record { base = h; diff = start })) (both_by b (diff_found p))
+both_good b o p h what start d same base base_is diff is = (
+  (what, d),
+  (
+    ap (λ (q : Option (List ℕ)). both_by b (diff_found q)) (sym same) ∙ ap (both_by b) diff ∙ ap (λ (c : Result MemHeader Refusal). both_by c (Ok d)) base,
+    record { base = base_is; start = subst (λ (q : Option (List ℕ)). IsStartIn q start d) same is },
+  ),
+)
 
-  pub plan_bad : (why : Refusal) → Err why ≡ merge_of h start.header → plan_by b (diff_found p) ≡ Err why
-  plan_bad why merges =
-      ap (λ (q : Option (List ℕ)). plan_by b (diff_found q)) (sym same)
-      ∙ ap (plan_by b) diff ∙ ap (λ (c : Result MemHeader Refusal). plan_by c (Ok d)) base
-      ∙ ap (λ (g : MemHeader). plan_with d (merge_of g (header_of d))) (sym base_is)
-      ∙ ap (λ (g : DiffHeader). plan_with d (merge_of h g)) (sym (start_header o start d is))
-      ∙ ap (plan_with d) (sym merges)
+module _ (r : Result (MemHeader × DiffCopy) Refusal) (both : MemHeader × DiffCopy) (pair : Pair) (o : Option (List ℕ)) (found : r ≡ Ok both) (is : IsPairIn o pair both) where
+  merges_as : plan_of r ≡ plan_with both.1 (merge_of pair.base pair.diff.header)
+  merges_as =
+      ap plan_of found ∙ ap (λ (g : MemHeader). plan_with both.1 (merge_of g (header_of both.1))) (sym is.base)
+      ∙ ap (λ (g : DiffHeader). plan_with both.1 (merge_of pair.base g)) (sym (start_header o pair.diff both.1 is.start))
+
+  pub plan_good : (m : Merge) → Ok m ≡ merge_of pair.base pair.diff.header → plan_of r ≡ Ok (record { diff = both.1; merge = m })
+  plan_good m merges = merges_as ∙ ap (plan_with both.1) (sym merges)
+
+  pub plan_bad : (why : Refusal) → Err why ≡ merge_of pair.base pair.diff.header → plan_of r ≡ Err why
+  plan_bad why merges = merges_as ∙ ap (plan_with both.1) (sym merges)
+
+  pub merged_as : merged_by r ≡ was_merged pair.base pair.diff.header
+  merged_as =
+      ap merged_by found ∙ ap (λ (g : MemHeader). was_merged g (header_of both.1)) (sym is.base)
+      ∙ ap (λ (g : DiffHeader). was_merged pair.base g) (sym (start_header o pair.diff both.1 is.start))
 
 -- ---- where a plan is found
 

@@ -105,6 +105,12 @@ module _ (m : MemoryCopy) (d : DiffCopy) (joins : Joins m d) (file : List ℕ) (
     at_slot : (f : Full text) → (f.head.merging == 0) ≡ false → At text
     at_end : (f : Full text) → f.head.merging ≡ 0 → At text
 
+  pub at_bytes : (text : List ℕ) → At text → IsBytes text
+  at_bytes text (at_start f) = f.are_bytes
+  at_bytes text (at_pages b) = b.are_bytes
+  at_bytes text (at_slot f unsettled) = f.are_bytes
+  at_bytes text (at_end f settled) = f.are_bytes
+
   pub length_of : (text pages : List ℕ) (head : MemHeader) → memory.header.Fits head → length pages ≡ 4096 * m.pages
       → text ≡ memory.header.bytes head ++ pages → length text ≡ 4096 + 4096 * m.pages
   length_of text pages head fits whole is = omega (arith, ap length is, length-append (memory.header.bytes head) pages, length-header head fits, whole)

@@ -7,6 +7,7 @@ use Rattle.refusals.specs.declared.refusal.Refusal.TheVariants as refusal
 use Rattle.gate_file.specs.declared.file_error.FileError.{FileError}
 use Rattle.guest_memory.specs.Ram.{page_size}
 use Rattle.file_format.specs.declared.error.DecodeError.{DecodeError}
+use Rattle.snap_memory.specs.declared.header.MemHeader.{MemHeader}
 use Rattle.snap_diff.specs.Copies.{DiffCopy}
 use Rattle.snap_diff.specs.declared.header.DiffHeader.{DiffHeader}
 use Rattle.snap_diff.specs.Diffs.{Begins, IsTable}
@@ -15,8 +16,7 @@ use Rattle.snap_diff.specs.Headers.{header_of}
 use Rattle.snapshot_merge.specs.declared.error.RebaseError.{RebaseError}
 use Rattle.snapshot_merge.specs.declared.error.RebaseError.TheVariants.{Refused, Fault, OutOfMemory}
 use Rattle.snapshot_merge.specs.declared.finding.DiffStart.{DiffStart}
-use Rattle.snapshot_merge.specs.declared.finding.Merging.{Merging}
-use Rattle.snapshot_merge.specs.Plans.{Plan}
+use Rattle.snapshot_merge.specs.declared.finding.Pair.{Pair}
 
 -- it is what is found, or refused so; a fault and want of memory say nothing
 abbrev pub Answers : {A B : Type 0} → (A → B → Type 0) → Result A RebaseError → Result B Refusal → Type 0
@@ -51,9 +51,10 @@ abbrev pub IsStartIn : Option (List ℕ) → DiffStart → DiffCopy → Type 0
 IsStartIn None start d = ⊥
 IsStartIn (Some given) start d = IsStartOf given start d
 
-pub record IsMergingIn (diff : Option (List ℕ)) (merging : Merging) (plan : Plan) : Type 0 where
-  pub merge : merging.merge ≡ plan.merge
-  pub start : IsStartIn diff merging.diff plan.diff
+-- what both files are found as
+pub record IsPairIn (diff : Option (List ℕ)) (pair : Pair) (both : MemHeader × DiffCopy) : Type 0 where
+  pub base : pair.base ≡ both.0
+  pub start : IsStartIn diff pair.diff both.1
 
 -- a diff's file by its first 64 bytes and its size
 abbrev pub StartJudged : List ℕ → Result DiffHeader RebaseError → Type 0

@@ -1,5 +1,5 @@
 -- What is left to do of the merge of a diff into a base, or why it isn't done.
-use Rattle.std.specs.Prelude.{ℕ, suc, ◌==◌, ◌&&◌, not, if◌then◌else◌, List, [], ◌∷◌, Option, Some, None, Result, Ok, Err, slice_get}
+use Rattle.std.specs.Prelude.{ℕ, suc, Bool, ◌==◌, ◌&&◌, not, if◌then◌else◌, List, [], ◌∷◌, Option, Some, None, Result, Ok, Err, slice_get}
 use Rattle.refusals.specs.declared.refusal.Refusal.{Refusal}
 use Rattle.refusals.specs.declared.refusal.Refusal.TheVariants as refusal
 use Rattle.file_format.specs.Identities.{is_same}
@@ -45,3 +45,8 @@ merge_of base diff =
     if not (diff.pages == base.pages) then Err refusal.SizesDiffer
     else (if base.merging == 0 then new_merge base diff
     else unfinished_merge base diff (slice_get base.slots (open_slots base.slots)))
+
+-- No merge is unfinished, and the base holds the diff's own snapshot: the diff was merged before. Its parent is another
+-- identity than its own, so it is refused for that.
+abbrev pub was_merged : MemHeader → DiffHeader → Bool
+was_merged base diff = (diff.pages == base.pages) && (base.merging == 0) && is_same (identity_of base) diff.identity

@@ -1,8 +1,10 @@
 -- A merge that is stopped at any moment, and run again.
 use Rattle.std.specs.Prelude.{◌≡◌, ◌≢◌, ◌<◌, ℕ, List, [], ◌∷◌, Some, Ok, Err}
+use Rattle.std.specs.FinMap.{get}
 use Rattle.refusals.specs.declared.refusal.Refusal.TheVariants as refusal
 use Rattle.vm_outside.specs.Calls.{FileCall}
 use Rattle.vm_outside.specs.Crashes.{Disk, Images}
+use Rattle.vm_outside.specs.Known.{FilesKnown}
 use Rattle.gate_file.specs.Stages.{Moment, calls_of, text_after}
 use Rattle.file_format.specs.Format.{IsBytes}
 use Rattle.snap_memory.specs.declared.header.MemHeader.{MemHeader}
@@ -49,12 +51,14 @@ pub record StandsOn (base diff : List ℕ) (m : MemoryCopy) (d : DiffCopy) (file
   pub stands : Stands m d file text
   pub diff_there : disk diff ≡ Some file
 
--- a disk on which all is done
-pub record IsMerged (base diff : List ℕ) (m : MemoryCopy) (d : DiffCopy) (file : List ℕ) (disk : Disk) : Type 0 where
+-- All is done, and lasts: the base holds these bytes, which are a file of the copy that the diff makes, and so it does in every
+-- image, in which the diff's file is there too.
+pub record IsMerged (base diff : List ℕ) (m : MemoryCopy) (d : DiffCopy) (file : List ℕ) (now : FilesKnown) : Type 0 where
   pub text : List ℕ
-  pub there : disk base ≡ Some text
+  pub there : get now.saved base ≡ Some text
+  pub are_bytes : IsBytes text
   pub merged : IsMemoryFile text (overlaid m d)
-  pub diff_there : disk diff ≡ Some file
+  pub settled : (disk : Disk) → Images now.calls disk → (disk base ≡ Some text) × (disk diff ≡ Some file)
 
 -- ---- the stops
 
@@ -75,9 +79,13 @@ pub record IsMerge (base diff file : List ℕ) (before calls : List FileCall) : 
   pub planned : planned (Some text) (Some file) ≡ Ok plan
   pub makes : calls ≡ calls_of base (stages plan.merge plan.diff) text
 
--- Files as another process finds them after a stop left this disk: whatever calls they tell, their images have these two.
-abbrev pub Restarts : List ℕ → List ℕ → Disk → List FileCall → Type 0
-Restarts base diff disk next = (d : Disk) → Images next d → (d base ≡ disk base) × (d diff ≡ disk diff)
+-- Files as they are found after a stop: whatever calls they tell, each of their images has these two as some moment of the
+-- stopped merge had them. After a power cut that is one moment for all images. After a killed process, or a call that failed,
+-- the files may tell the calls that were made, and then each image is a moment of its own.
+abbrev pub Restarts : List ℕ → List ℕ → List FileCall → List FileCall → List FileCall → Type 0
+Restarts base diff before calls next =
+    (disk : Disk) → Images next disk
+    → (old : Disk) × Moment before calls old × ((disk base ≡ old base) × (disk diff ≡ old diff))
 
 -- The merge was begun on files that told the first of these calls, and stopped at some moment; and so once for each of these
 -- lives of the files, each time over what the last stop left. The files tell the last calls now.
@@ -85,7 +93,7 @@ abbrev pub Stopped : List ℕ → List ℕ → List ℕ → List FileCall → Li
 Stopped base diff file before [] now = before ≡ now
 Stopped base diff file before (next ∷ lives) now =
     (calls : List FileCall) × IsMerge base diff file before calls
-    × ((disk : Disk) × (Moment before calls disk × (Restarts base diff disk next × Stopped base diff file next lives now)))
+    × (Restarts base diff before calls next × Stopped base diff file next lives now)
 
 -- A diff of the base's copy, whose merge may have been begun and stopped before, as often as may be, on files that tell these
 -- calls now.

@@ -4,16 +4,15 @@ ghost use Rattle.std.specs.FinMap.{get};
 ghost use Rattle.guest_memory.specs.Ram.{page_size};
 ghost use Rattle.snap_diff.specs.Diffs.{Begins};
 ghost use Rattle.snap_diff.specs.Found.{diff_found};
-ghost use Rattle.snapshot_merge.specs.Answering.{Answers, HasPages, IsMergingIn, IsStartIn, IsStartOf, Same};
+ghost use Rattle.snapshot_merge.specs.Answering.{Answers, HasPages, IsPairIn, IsStartIn, IsStartOf, Same};
 ghost use Rattle.snapshot_merge.specs.Bases.{base_found};
-ghost use Rattle.snapshot_merge.specs.Plans.{planned_in};
+ghost use Rattle.snapshot_merge.specs.Plans.{both_in};
 ghost use Rattle.snapshot_merge.specs.Rebasing.{RebaseCause};
 ghost use Rattle.vm_outside.specs.Filing.{SameFiles};
 ghost use Rattle.vm_outside.specs.Known.{Lasts, Tells};
 
 use crate::error::RebaseError;
 use crate::judging::{failed_by, judge_base, judge_diff, judge_table};
-use crate::merge::{Merge, merge_of};
 use gate_file::{read_front, read_start};
 use refusals::Refusal;
 use snap_diff::DiffHeader;
@@ -33,10 +32,10 @@ pub struct DiffStart {
     pub bytes: Vec<u8>,
 }
 
-/// A diff, and what is left to do of its merge.
+/// A base, and a diff of the same number of pages or of another.
 #[derive(Drop)]
-pub struct Merging {
-    pub merge: Merge,
+pub struct Pair {
+    pub base: MemHeader,
     pub diff: DiffStart,
 }
 
@@ -118,32 +117,28 @@ fn read_table<F: Files>(
     }
 }
 
-/// What is left to do of the merge of the second file into the first, or why it is refused.
+/// What is found under the names of a base and a diff, or the first refusal that fits.
 pub(crate) fn find<F: Files>(
     alloc: Global,
     files: &mut F,
     base: &str,
     diff: &str,
-) -> Result<Merging, RebaseError>
+) -> Result<Pair, RebaseError>
     ensures finds { Tells (F.known files.old).health →
-        Answers (IsMergingIn (get (F.known files.old).saved diff.now)) result
-        (planned_in (F.known files.old).saved base.now diff.now) }
-    ensures size { IfOk result (λ merging.
-        length merging.diff.bytes.items ≡ 64 + 4 * merging.diff.header.count) }
+        Answers (IsPairIn (get (F.known files.old).saved diff.now)) result
+        (both_in (F.known files.old).saved base.now diff.now) }
+    ensures size { IfOk result (λ pair.
+        length pair.diff.bytes.items ≡ 64 + 4 * pair.diff.header.count) }
     ensures same { Tells (F.known files.old).health → SameFiles (F.known files.old) (F.known files.new) }
     ensures cause { RebaseCause result (F.known files.old).health.faults (F.known files.new).health.faults }
     ensures lasts { Lasts (F.known files.old).health (F.known files.new).health }
 {
-    let header = match find_base(alloc, files, base) {
+    let base = match find_base(alloc, files, base) {
         Ok(header) => header,
         Err(why) => return Err(why),
     };
-    let start = match find_diff(alloc, files, diff) {
-        Ok(start) => start,
-        Err(why) => return Err(why),
-    };
-    match merge_of(&header, &start.header) {
-        Ok(merge) => Ok(Merging { merge, diff: start }),
-        Err(why) => Err(RebaseError::Refused(why)),
+    match find_diff(alloc, files, diff) {
+        Ok(diff) => Ok(Pair { base, diff }),
+        Err(why) => Err(why),
     }
 }

@@ -8,6 +8,7 @@ ghost use Rattle.snapshot_merge.specs.Merges.{
   new_merge,
   open_slots,
   unfinished_merge,
+  was_merged,
 };
 
 use file_format::is_same;
@@ -41,6 +42,16 @@ pub fn merge_of(base: &MemHeader, diff: &DiffHeader) -> Result<Merge, Refusal>
     } else {
         unfinished_merge(base, diff)
     }
+}
+
+/// Whether a diff of this header was merged into a base of this header before: no merge is unfinished, and the base has the
+/// diff's own identity.
+pub(crate) fn was_merged(base: &MemHeader, diff: &DiffHeader) -> bool
+    ensures { result ≡ was_merged base.now diff.now }
+{
+    diff.pages == base.pages
+        && base.merging == 0
+        && is_same(base.identity(), diff.identity)
 }
 
 // How many slots at the front are open.

@@ -16,9 +16,9 @@ returns-in_err-sync-clause-begun g c =
     let known = g.F.Files.known in
     let base = c.args.base.now in
     let part : Tells (known c.args.files.now).health → (plan : Plan) (text : List ℕ) → get (known c.args.files.now).saved base ≡ Some text
-    → c.args.merging.now.merge ≡ plan.merge → AreThere base c.args.diff.now c.args.merging.now.diff plan.diff (known c.args.files.now).saved
+    → c.args.rest ≡ plan.merge → AreThere base c.args.diff.now c.args.start.now plan.diff (known c.args.files.now).saved
     → RunsPart base (calls_of base (stages plan.merge plan.diff) text) (known c.args.files.now) (known c.sync.new.self) = λ t plan text there merges are.
-    not_synced base c.args.diff.now c.args.merging.now.diff plan text _ there are _ (c.in_err-sync.ensures.same t) in
+    not_synced base c.args.diff.now c.args.start.now plan text _ there are _ (c.in_err-sync.ensures.same t) in
     on_err _ _ part
 
 pub returns-in-Finish-clause-done : goal.returns-in-Finish-clause-done
@@ -26,7 +26,7 @@ returns-in-Finish-clause-done g c = ok_map c.mark.result _ _ (λ h t plan text t
     let synced = c.in_ok-sync.ensures.synced t in
     let base = c.args.base.now in
     let diff = c.args.diff.now in
-    let start = c.args.merging.now.diff in
+    let start = c.args.start.now in
     rest_done base diff start plan text _ there are _ synced ((marking 0 ∷ []) ∷ []) (ap (λ (m : Merge). stages m plan.diff) (sym c.in-Finish.is ∙ merges)) _
     (h (c.sync.ensures.called.lasts.still t) text (there_synced base diff start plan text _ there are _ synced)))
     c.mark.ensures.done
@@ -36,7 +36,7 @@ returns-in-Finish-clause-begun g c = err_map c.mark.result _ _ (λ h t plan text
     let synced = c.in_ok-sync.ensures.synced t in
     let base = c.args.base.now in
     let diff = c.args.diff.now in
-    let start = c.args.merging.now.diff in
+    let start = c.args.start.now in
     rest_fails base diff start plan text _ there are _ synced ((marking 0 ∷ []) ∷ []) (ap (λ (m : Merge). stages m plan.diff) (sym c.in-Finish.is ∙ merges)) _
     (h (c.sync.ensures.called.lasts.still t) text (there_synced base diff start plan text _ there are _ synced)))
     c.mark.ensures.begun
@@ -46,7 +46,7 @@ returns-in-GoOn-clause-done g c = ok_map c.fill-in-GoOn.result _ _ (λ h t plan 
     let synced = c.in_ok-sync.ensures.synced t in
     let base = c.args.base.now in
     let diff = c.args.diff.now in
-    let start = c.args.merging.now.diff in
+    let start = c.args.start.now in
     rest_done base diff start plan text _ there are _ synced (filling c.in-GoOn.slot plan.diff) (ap (λ (m : Merge). stages m plan.diff) (sym c.in-GoOn.is ∙ merges)) _
     (h (c.sync.ensures.called.lasts.still t) plan.diff text (there_synced base diff start plan text _ there are _ synced) (are_synced base diff start plan text _ there are _ synced)))
     c.fill-in-GoOn.ensures.done
@@ -56,7 +56,7 @@ returns-in-GoOn-clause-begun g c = err_map c.fill-in-GoOn.result _ _ (λ h t pla
     let synced = c.in_ok-sync.ensures.synced t in
     let base = c.args.base.now in
     let diff = c.args.diff.now in
-    let start = c.args.merging.now.diff in
+    let start = c.args.start.now in
     rest_fails base diff start plan text _ there are _ synced (filling c.in-GoOn.slot plan.diff) (ap (λ (m : Merge). stages m plan.diff) (sym c.in-GoOn.is ∙ merges)) _
     (h (c.sync.ensures.called.lasts.still t) plan.diff text (there_synced base diff start plan text _ there are _ synced) (are_synced base diff start plan text _ there are _ synced)))
     c.fill-in-GoOn.ensures.begun
@@ -66,9 +66,9 @@ returns-in_err-begin-in-Begin-clause-begun g c =
     let known = g.F.Files.known in
     let base = c.args.base.now in
     let diff = c.args.diff.now in
-    let start = c.args.merging.now.diff in
+    let start = c.args.start.now in
     let part : Tells (known c.args.files.now).health → (plan : Plan) (text : List ℕ) → get (known c.args.files.now).saved base ≡ Some text
-    → c.args.merging.now.merge ≡ plan.merge → AreThere base diff start plan.diff (known c.args.files.now).saved
+    → c.args.rest ≡ plan.merge → AreThere base diff start plan.diff (known c.args.files.now).saved
     → RunsPart base (calls_of base (stages plan.merge plan.diff) text) (known c.args.files.now) (known c.begin.new.files) = λ t plan text there merges are.
     let synced = c.in_ok-sync.ensures.synced t in
     let named = name_is _ start plan.diff _ are.there (c.deref.ensures.value ∙ c.requires.name) in
@@ -80,7 +80,7 @@ pub returns-in_ok-begin-in-Begin-clause-done : goal.returns-in_ok-begin-in-Begin
 returns-in_ok-begin-in-Begin-clause-done g c = ok_map c.fill.result _ _ (λ h t plan text there merges are.
     let base = c.args.base.now in
     let diff = c.args.diff.now in
-    let start = c.args.merging.now.diff in
+    let start = c.args.start.now in
     let synced = c.in_ok-sync.ensures.synced t in
     let told = c.sync.ensures.called.lasts.still t in
     let named = name_is _ start plan.diff _ are.there (c.deref.ensures.value ∙ c.requires.name) in
@@ -94,7 +94,7 @@ pub returns-in_ok-begin-in-Begin-clause-begun : goal.returns-in_ok-begin-in-Begi
 returns-in_ok-begin-in-Begin-clause-begun g c = err_map c.fill.result _ _ (λ h t plan text there merges are.
     let base = c.args.base.now in
     let diff = c.args.diff.now in
-    let start = c.args.merging.now.diff in
+    let start = c.args.start.now in
     let synced = c.in_ok-sync.ensures.synced t in
     let told = c.sync.ensures.called.lasts.still t in
     let named = name_is _ start plan.diff _ are.there (c.deref.ensures.value ∙ c.requires.name) in
