@@ -2,7 +2,7 @@
 use Rattle.std.proofs.Common.{◌≡◌, ℕ, suc, ◌<◌, ◌≤◌, ◌==◌, ne_eqb, Bool, true, false, not, cond, List, [], ◌∷◌, map, length, refl, sym, ap, ◌∙◌, subst, arith}
 use Rattle.std.specs.List.{AllByRecursion}
 use Rattle.std.specs.List.Sorted.{IsPermutation}
-use Rattle.std.proofs.lemmas.List.Sorted.{IsPermutation-refl}
+use Rattle.std.proofs.lemmas.List.Sorted.{IsPermutation-refl, IsPermutation-sym, IsPermutation-trans}
 use native.Mathlib.Decide.{dec_le}
 use Rattle.vm_types.specs.declared.ids.ActorId.{ActorId}
 use Rattle.vm_types.specs.declared.ids.PlaceId.{PlaceId}
@@ -15,13 +15,17 @@ use Rattle.vm_types.specs.Histories.{Replays, Rises}
 use Rattle.vm_types.specs.Serial.{OutFits}
 use Rattle.stamp_merge.specs.Journals.{all_of}
 use Rattle.stamp_merge.specs.Legal.{AreFollowed, Legal}
-use Rattle.stamp_merge.specs.Order.{Climbs}
+use Rattle.stamp_merge.specs.Order.{Climbs, IsOrder}
+use Rattle.stamp_merge.specs.Stamps.{AreRising, AreStamped, StampsRun}
+use Rattle.stamp_merge.proofs.Legal.{to_history}
+use Rattle.stamp_merge.proofs.Stamps.{stamps_run}
 use Rattle.turn_table.specs.declared.held.Held.{Held}
 use Rattle.turn_table.specs.declared.view.View.{View}
 use Rattle.turn_table.specs.declared.view.Noted.{Noted}
 use Rattle.turn_table.specs.Views.{entries_at}
 use Rattle.turn_table.specs.Steps.{Told}
-use Rattle.turn_law.specs.Rounds.{AreIndexed, AreValues, IsIndex, entry_of, placed}
+use Rattle.turn_law.specs.Rounds.{AreIndexed, AreNoted, AreValues, IsIndex, entry_of, placed}
+use Rattle.turn_law.proofs.Filtered.{picked_permutation}
 
 climbs : (last : ℕ) (es : List Entry) → Rises last es → Climbs last es
 climbs last [] h = tt
@@ -62,40 +66,62 @@ none_past n i (x ∷ xs) past h =
     ap (λ (b : Bool). let r : List Entry = cond b (x.entry ∷ entries_at i xs) (entries_at i xs) in r) (ne_eqb x.place i (λ e. absurd (omega (arith, below, past, e))))
     ∙ none_past n i xs past h.1
 
-module _ {P V S : Type 0} (touch : V → ActorId → Op → Reply × V) (value : P → V) (made : P → Type 0) (want : S → Op) (next : S → Reply → S) (route : Op → PlaceId) (index : PlaceId → ℕ) (opening ends : PlaceId → V) (start lasts : ActorId → S) (journals : List (ActorId × List Entry)) (v : View P) (now : List (Held P)) (followed : AreFollowed want next route OutFits start lasts journals) (is : IsIndex index) (indexed : AreIndexed index v.entries) (below : AllByRecursion (λ (x : Noted). x.place < length v.round.opens) v.entries) (same : map entry_of v.entries ≡ placed (all_of journals)) (values : AreValues value index v.round.opens now opening ends) (told : Told touch value made v now) where
-  entries : (p : PlaceId) → is_out p ≡ false → entries_at (index p) v.entries ≡ at_place p (all_of journals)
+module _ {P V : Type 0} (touch : V → ActorId → Op → Reply × V) (value : P → V) (made : P → Type 0) (index : PlaceId → ℕ) (journals : List (ActorId × List Entry)) (v : View P) (now : List (Held P)) (is : IsIndex index) (noted : AreNoted index journals v) (told : Told touch value made v now) where
+  entries : (p : PlaceId) → is_out p ≡ false → IsPermutation (at_place p (all_of journals)) (entries_at (index p) v.entries)
   entries p inner =
-      at_index index p v.entries is indexed ∙ ap (λ (l : List Entry). at_place p l) same ∙ at_placed p (all_of journals) inner
+      let mine : List Entry = at_place p (map entry_of v.entries) in
+      let all : List Entry = at_place p (all_of journals) in
+      let same : IsPermutation mine (at_place p (placed (all_of journals))) = picked_permutation (λ (e : Entry). same_place e.place p) (map entry_of v.entries) (placed (all_of journals)) noted.same in
+      let back : IsPermutation all mine = IsPermutation-sym mine all (subst (λ (l : List Entry). IsPermutation mine l) (at_placed p (all_of journals) inner) same) in
+      subst (λ (l : List Entry). IsPermutation all l) (sym (at_index index p v.entries is noted.indexed)) back
 
   abbrev pick : (p : PlaceId) → Dec (suc (index p) ≤ length v.round.opens) → List Entry
   pick p (yes lt) = (told (index p) lt).2
   pick p (no past) = []
 
-  abbrev Good : PlaceId → List Entry → Type 0
-  Good p es = Replays touch (opening p) es (ends p) × Climbs 0 es × IsPermutation (at_place p (all_of journals)) es
-
-  good : (p : PlaceId) → is_out p ≡ false → (d : Dec (suc (index p) ≤ length v.round.opens)) → Good p (pick p d)
-  good p inner (yes lt) =
-      let t = told (index p) lt in
-      let leads = t.6 in
-      let first : value t.0.place ≡ opening p = sym (values.first p t.0 t.3) in
-      let last : value t.1.place ≡ ends p = sym (values.last p t.1 t.4) in (
-        subst (λ (w : V). Replays touch w t.2 (ends p)) first (subst (λ (w : V). Replays touch (value t.0.place) t.2 w) last leads.history.replays),
-        climbs 0 t.2 leads.history.rises,
-        subst (λ (l : List Entry). IsPermutation l t.2) (entries p inner) t.5,
-      )
-  good p inner (no past) =
-      let far : length v.round.opens ≤ index p = omega (arith, past) in
-      let none : at_place p (all_of journals) ≡ [] = sym (entries p inner) ∙ none_past (length v.round.opens) (index p) v.entries far below in
-      (values.none p far, tt, subst (λ (l : List Entry). IsPermutation l []) (sym none) (IsPermutation-refl []))
-
   abbrev pub history : PlaceId → List Entry
   history p = pick p (dec_le (suc (index p)) (length v.round.opens))
 
-  pub legal : Legal touch want next route OutFits opening ends start lasts journals history
-  legal = record {
-    followed = followed;
-    replayed = record { replay = λ p inner. (good p inner (dec_le (suc (index p)) (length v.round.opens))).0 };
-    rise = λ p inner. (good p inner (dec_le (suc (index p)) (length v.round.opens))).1;
-    parts = λ p inner. (good p inner (dec_le (suc (index p)) (length v.round.opens))).2;
+  -- which has just the journals' entries of the place, and rises
+  record Good (p : PlaceId) (es : List Entry) : Type 0 where
+    pub rises : Rises 0 es
+    pub parts : IsPermutation (at_place p (all_of journals)) es
+
+  good : (p : PlaceId) → is_out p ≡ false → (d : Dec (suc (index p) ≤ length v.round.opens)) → Good p (pick p d)
+  good p inner (yes lt) =
+      let t = told (index p) lt in record {
+        rises = t.6.history.rises;
+        parts = IsPermutation-trans (at_place p (all_of journals)) (entries_at (index p) v.entries) t.2 (entries p inner) t.5;
+      }
+  good p inner (no past) = record {
+    rises = tt;
+    parts = subst (λ (l : List Entry). IsPermutation (at_place p (all_of journals)) l) (none_past (length v.round.opens) (index p) v.entries (omega (arith, past)) noted.inside) (entries p inner);
   }
+
+  of_place : (p : PlaceId) → is_out p ≡ false → Good p (history p)
+  of_place p inner = good p inner (dec_le (suc (index p)) (length v.round.opens))
+
+  pub rising : AreRising history
+  rising = record { rise = λ p inner. (of_place p inner).rises }
+
+  pub stamped : (es : List Entry) → AreStamped journals → IsOrder (all_of journals) es → StampsRun (λ actor. 0) (λ place. 0) es
+  stamped es stamps order =
+      stamps_run journals history es stamps rising order
+      (to_history journals history es (λ p inner. (of_place p inner).parts) (λ p inner. climbs 0 (history p) (of_place p inner).rises) order)
+
+  module _ {S : Type 0} (want : S → Op) (next : S → Reply → S) (route : Op → PlaceId) (opening ends : PlaceId → V) (start lasts : ActorId → S) (followed : AreFollowed want next route OutFits start lasts journals) (values : AreValues value index v.round.opens now opening ends) where
+    replays : (p : PlaceId) (d : Dec (suc (index p) ≤ length v.round.opens)) → Replays touch (opening p) (pick p d) (ends p)
+    replays p (yes lt) =
+        let t = told (index p) lt in
+        let first : value t.0.place ≡ opening p = sym (values.first p t.0 t.3) in
+        let last : value t.1.place ≡ ends p = sym (values.last p t.1 t.4) in
+        subst (λ (w : V). Replays touch w t.2 (ends p)) first (subst (λ (w : V). Replays touch (value t.0.place) t.2 w) last t.6.history.replays)
+    replays p (no past) = values.none p (omega (arith, past))
+
+    pub legal : Legal touch want next route OutFits opening ends start lasts journals history
+    legal = record {
+      followed = followed;
+      replayed = record { replay = λ p inner. replays p (dec_le (suc (index p)) (length v.round.opens)) };
+      rise = λ p inner. climbs 0 (history p) (of_place p inner).rises;
+      parts = λ p inner. (of_place p inner).parts;
+    }

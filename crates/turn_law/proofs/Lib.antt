@@ -1,1 +1,2 @@
+mod Filtered
 mod Histories

@@ -1,6 +1,7 @@
 -- The journals of a round of turns, and what the seat with all parts is told of it.
 use Rattle.std.specs.Prelude.{ℕ, ◌≡◌, ◌<◌, ◌≤◌, not, List, map, length, ◌==◌}
 use Rattle.std.specs.List.{AllByRecursion, filter}
+use Rattle.std.specs.List.Sorted.{IsPermutation}
 use mathlib.Core.Option.{some}
 use lib.ListN.{get_elem?}
 use Rattle.vm_types.specs.declared.ids.ActorId.{ActorId}
@@ -13,6 +14,7 @@ use Rattle.vm_types.specs.Serial.{OutFits}
 use Rattle.stamp_merge.specs.Journals.{all_of}
 use Rattle.stamp_merge.specs.Legal.{AreFollowed, IsRun}
 use Rattle.stamp_merge.specs.Order.{IsOrder}
+use Rattle.stamp_merge.specs.Stamps.{AreStamped, StampsRun}
 use Rattle.turn_table.specs.declared.held.Held.{Held}
 use Rattle.turn_table.specs.declared.view.View.{View}
 use Rattle.turn_table.specs.declared.view.Noted.{Noted}
@@ -39,18 +41,32 @@ pub record AreValues {P V : Type 0} (value : P → V) (index : PlaceId → ℕ) 
   pub last : (p : PlaceId) (h : Held P) → get_elem? now (index p) ≡ some h → ends p ≡ value h.place
   pub none : (p : PlaceId) → length opens ≤ index p → opening p ≡ ends p
 
--- what the seat with all parts is told, with journals that have just its entries and follow their actors' wants, is a run in the
--- order of the stamps
+-- the seat with all parts has these journals' entries, each once, in any order, each at the index of its place
+pub record AreNoted {P : Type 0} (index : PlaceId → ℕ) (journals : List (ActorId × List Entry)) (v : View P) : Type 0 where
+  pub indexed : AreIndexed index v.entries
+  pub inside : AllByRecursion (λ (x : Noted). x.place < length v.round.opens) v.entries
+  pub same : IsPermutation (map entry_of v.entries) (placed (all_of journals))
+
+-- what it is told, with journals that follow their actors' wants, is a run in the order of the stamps
 abbrev pub ToldIsRun : {P V S : Type 0} → (V → ActorId → Op → Reply × V) → (P → V) → (P → Type 0) → (S → Op) → (S → Reply → S) → Type 0
 ToldIsRun {P} {V} {S} touch value made want next =
     (route : Op → PlaceId) (index : PlaceId → ℕ) (opening ends : PlaceId → V) (start lasts : ActorId → S)
     (journals : List (ActorId × List Entry)) (v : View P) (now : List (Held P)) (es : List Entry)
     → AreFollowed want next route OutFits start lasts journals
     → IsIndex index
-    → AreIndexed index v.entries
-    → AllByRecursion (λ (x : Noted). x.place < length v.round.opens) v.entries
-    → map entry_of v.entries ≡ placed (all_of journals)
+    → AreNoted index journals v
     → AreValues value index v.round.opens now opening ends
     → Told touch value made v now
     → IsOrder (all_of journals) es
     → IsRun touch want next route OutFits opening ends start lasts es
+
+-- in that order, each stamp of stamped journals is one more than the larger of its actor's and its place's last
+abbrev pub ToldIsStamped : {P V : Type 0} → (V → ActorId → Op → Reply × V) → (P → V) → (P → Type 0) → Type 0
+ToldIsStamped {P} {V} touch value made =
+    (index : PlaceId → ℕ) (journals : List (ActorId × List Entry)) (v : View P) (now : List (Held P)) (es : List Entry)
+    → AreStamped journals
+    → IsIndex index
+    → AreNoted index journals v
+    → Told touch value made v now
+    → IsOrder (all_of journals) es
+    → StampsRun (λ actor. 0) (λ place. 0) es

@@ -6,4 +6,4 @@
 
 mod law;
 
-pub use law::told_is_run;
+pub use law::{told_is_run, told_is_stamped};
