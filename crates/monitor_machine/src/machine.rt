@@ -6,7 +6,7 @@ ghost use Rattle.flat_machine.specs.Machine.{Machine, is_off, console_of, new_ma
 use api_rules::Ids;
 pub use lines::drain_all;
 use metadata_store::Store;
-use monitor_plans::Taken;
+use monitor_plans::TakenConfig;
 use std::alloc::Global;
 use vm_types::TextList;
 use vm_world::World;
@@ -25,7 +25,7 @@ pub struct LiveMachine {
     alloc: Global,
     id: TextList,
     ids: Ids,
-    config: Taken,
+    config: TakenConfig,
     metadata: Store,
     guest: Option<World>,
     paused: bool,
@@ -46,7 +46,7 @@ impl LiveMachine {
                 base: None,
                 next: 1,
             },
-            config: Taken::new(alloc),
+            config: TakenConfig::new(alloc),
             metadata: Store::new(alloc),
             guest: None,
             paused: false,

@@ -13,7 +13,7 @@ ghost use Rattle.monitor_plans.specs.Plans.{IsFittingPlan, PlanCause};
 
 use crate::drives::sectors_of;
 use crate::plan::Plan;
-use crate::taken::Taken;
+use crate::taken_config::TakenConfig;
 use api_calls::{Drive, DrivePatch};
 use api_rules::Change;
 use refusals::Refusal;
@@ -32,7 +32,7 @@ pub struct Resize {
 }
 
 /// What comes of a PUT of a drive that the machine allows.
-pub fn put_drive(alloc: Global, config: &Taken, drive: Drive) -> Plan
+pub fn put_drive(alloc: Global, config: &TakenConfig, drive: Drive) -> Plan
     requires { IsFitting config.now (change.PutDrive drive) }
     ensures gives { DrivesGive result config.now drive }
     ensures fits { IsFittingPlan result config.now }
@@ -45,7 +45,7 @@ pub fn put_drive(alloc: Global, config: &Taken, drive: Drive) -> Plan
 }
 
 /// What comes of a PATCH of a drive that the machine allows, by the file that it names, if it names one.
-pub fn patch_drive<F: Files>(config: &Taken, patch: DrivePatch, files: &mut F) -> Plan
+pub fn patch_drive<F: Files>(config: &TakenConfig, patch: DrivePatch, files: &mut F) -> Plan
     requires { IsFitting config.now (change.PatchDrive patch) }
     ensures gives { Tells (F.known files.old).health → PatchGives result config.now patch (F.known files.old).saved }
     ensures fits { IsFittingPlan result config.now }
@@ -68,7 +68,7 @@ pub fn patch_drive<F: Files>(config: &Taken, patch: DrivePatch, files: &mut F) -
 }
 
 // What comes of another file, which has so many sectors.
-fn other_file(config: &Taken, patch: DrivePatch, sectors: u64) -> Plan
+fn other_file(config: &TakenConfig, patch: DrivePatch, sectors: u64) -> Plan
     requires { IsFitting config.now (change.PatchDrive patch) }
     ensures gives { (saved : Saved) (path : List ℕ) → patch.path_on_host ≡ Some path →
         is_some (get saved path) ≡ true → sectors ≡ sectors_of (get saved path) →
@@ -85,7 +85,7 @@ fn other_file(config: &Taken, patch: DrivePatch, sectors: u64) -> Plan
 }
 
 // The number of the device that the drive of this id is: the API takes 16 devices at most.
-fn device_number(config: &Taken, id: &str) -> Option<u8>
+fn device_number(config: &TakenConfig, id: &str) -> Option<u8>
     ensures { result ≡ device_of config.now.drives id.now }
 {
     match config.get().drives.device_number(id) {

@@ -3,7 +3,7 @@
 //! A `Plan` has all that the answer needs in memory, so what it asks for is done without taking any. `start` plans a
 //! start by the files of its kernel image, its disk and its drives, `create` a snapshot of a guest, `restore` what goes on
 //! from the files of one, `put_drive` and `patch_drive` what is configured of drives, and `put_metadata` and
-//! `patch_metadata` what is stored. `Taken` is what is configured, as the API takes it.
+//! `patch_metadata` what is stored. `TakenConfig` is what is configured, as the API takes it.
 #![tactic(auto)]
 
 mod creating;
@@ -15,7 +15,7 @@ mod plan;
 mod restoring;
 mod starting;
 mod storing;
-mod taken;
+mod taken_config;
 
 pub use creating::{Creation, create, pages_of};
 pub use drive_changes::{Resize, patch_drive, put_drive};
@@ -23,4 +23,4 @@ pub use plan::{Plan, Task};
 pub use restoring::{Restored, restore};
 pub use starting::start;
 pub use storing::{patch_metadata, put_metadata};
-pub use taken::Taken;
+pub use taken_config::TakenConfig;

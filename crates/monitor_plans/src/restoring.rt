@@ -7,7 +7,7 @@ ghost use Rattle.monitor_plans.specs.Plans.{IsFittingPlan, PlanCause};
 ghost use Rattle.monitor_plans.specs.Restoring.{RestoreGives};
 
 use crate::plan::Plan;
-use crate::taken::Taken;
+use crate::taken_config::TakenConfig;
 use api_calls::SnapshotLoad;
 use snap_finding::{FindError, find};
 use std::alloc::Global;
@@ -23,7 +23,7 @@ pub struct Restored {
     pub identity: Identity,
     /// The number of the snapshot after it.
     pub next: u64,
-    pub config: Taken,
+    pub config: TakenConfig,
     pub guest: World,
     /// Whether it runs at once.
     pub resumes: bool,
@@ -46,7 +46,7 @@ pub fn restore<F: Files>(alloc: Global, load: &SnapshotLoad, files: &mut F) -> P
             Plan::Restores(Restored {
                 identity: found.identity,
                 next: found.identity.number + 1,
-                config: Taken::of(config_of(copy.configuration, load.track_dirty_pages)),
+                config: TakenConfig::of(config_of(copy.configuration, load.track_dirty_pages)),
                 guest,
                 resumes: load.resume_vm,
             })

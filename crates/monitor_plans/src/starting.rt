@@ -15,7 +15,7 @@ ghost use Rattle.monitor_plans.specs.Starting.{StartGives};
 use crate::disk::{disk_file, load_disk};
 use crate::drives::drive_files;
 use crate::plan::Plan;
-use crate::taken::Taken;
+use crate::taken_config::TakenConfig;
 use api_calls::MachineConfig;
 use api_rules::{Config, boot_refusal};
 use boot_loader::{BootError, Loads};
@@ -30,7 +30,7 @@ use vm_types::ByteList;
 use vm_world::World;
 
 /// What comes of a start that the configuration allows, by the files of its kernel image, its disk and its drives.
-pub fn start<F: Files>(alloc: Global, config: &Taken, files: &mut F) -> Plan
+pub fn start<F: Files>(alloc: Global, config: &TakenConfig, files: &mut F) -> Plan
     ensures gives { Tells (F.known files.old).health → StartGives result config.now (F.known files.old).saved }
     ensures fits { IsFittingPlan result config.now }
     ensures same { Tells (F.known files.old).health → SameFiles (F.known files.old) (F.known files.new) }

@@ -10,14 +10,14 @@ ghost use Rattle.monitor_machine.specs.State.{IsLive};
 
 use crate::machine::LiveMachine;
 use api_rules::Change;
-use monitor_plans::{Resize, Taken};
+use monitor_plans::{Resize, TakenConfig};
 use vm_host::Disk;
 
 /// A guest has at most so many devices, one at each port.
 const MOST_DEVICES: u8 = 16;
 
 // The device's disk is the file of its drive, if it has one.
-fn attach_disk<D: Disk>(config: &Taken, device: u8, disk: &mut D)
+fn attach_disk<D: Disk>(config: &TakenConfig, device: u8, disk: &mut D)
     ensures attached { HasFile (D.known disk.old).health config.now device (D.known disk.new) }
     ensures others { Tells (D.known disk.old).health → (other : ℕ) → other ≢ device →
         (D.known disk.new).files other ≡ (D.known disk.old).files other }

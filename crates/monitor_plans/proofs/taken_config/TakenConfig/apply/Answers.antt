@@ -2,7 +2,7 @@ use Rattle.std.proofs.Common.{sym, subst}
 use Rattle.vm_config.specs.declared.config.Config.{Config}
 use Rattle.flat_machine.specs.Ready.{IsFitting}
 use Rattle.flat_machine.proofs.Taken.{changed_taken}
-use Rattle.monitor_plans.proofs.taken.Taken.apply.Goals as goal
+use Rattle.monitor_plans.proofs.taken_config.TakenConfig.apply.Goals as goal
 
 pub invariant_of-self-in-Ok : goal.invariant_of-self-in-Ok
 invariant_of-self-in-Ok c =

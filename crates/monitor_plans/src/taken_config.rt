@@ -12,11 +12,11 @@ use vm_config::Drives;
 /// What is configured, each part of which is as the API takes it. So it has from 1 to 32 harts, from 4 to 1,024 MiB of memory
 /// and at most 16 devices, and a start of it comes to no bound of the machine.
 #[derive(Drop)]
-pub struct Taken {
+pub struct TakenConfig {
     config: Config,
 }
 
-impl Model for Taken {
+impl Model for TakenConfig {
     ghost use Rattle.vm_config.specs.declared.config.Config.{Config};
     ghost use Rattle.flat_machine.specs.Ready.{IsTaken};
 
@@ -27,22 +27,22 @@ impl Model for Taken {
     ghost invariant = { λ t. IsTaken t.config };
 }
 
-impl Taken {
+impl TakenConfig {
     /// What a machine has before the first call.
-    pub fn new(alloc: Global) -> Taken
+    pub fn new(alloc: Global) -> TakenConfig
         ensures { result ≡ default_config }
     {
-        Taken {
+        TakenConfig {
             config: Config::new(alloc),
         }
     }
 
     /// This configuration, which is as the API takes it.
-    pub fn of(config: Config) -> Taken
+    pub fn of(config: Config) -> TakenConfig
         requires { IsTaken config }
         ensures { result ≡ config }
     {
-        Taken { config }
+        TakenConfig { config }
     }
 
     /// What is configured.
