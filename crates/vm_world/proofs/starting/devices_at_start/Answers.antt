@@ -7,5 +7,5 @@ use Rattle.vm_world.proofs.starting.devices_at_start.Goals as goal
 pub loop-number-preserved : goal.loop-number-preserved
 loop-number-preserved c =
     ap devices_left c.in_ok-push.ensures.items
-    ∙ one_made c.args.pages c.loop-number.number c.loop-number.made.items c.args.devices.now c.new-1.result _
-    c.loop-number-test.true c.loop-number.invariant c.new-1.ensures
+    ∙ one_made c.args.pages c.loop-number.number c.loop-number.made.items c.args.devices.now c.new.result _
+    c.loop-number-test.true c.loop-number.invariant c.new.ensures
