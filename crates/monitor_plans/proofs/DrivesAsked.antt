@@ -1,13 +1,12 @@
 -- The files of the drives, asked one after another.
-use Rattle.std.proofs.Common.{◌≡◌, ℕ, zero, suc, ◌+◌, ◌-◌, ◌≤◌, ◌<◌, nat_le, min, Bool, true, false, not, ◌&&◌, cond, refl, sym, ap, ◌∙◌, List, [], ◌∷◌, ◌++◌, Some, None, length, map, take, drop, replicate, slice_get, arith, add-one}
+use Rattle.std.proofs.Common.{◌≡◌, ℕ, zero, suc, ◌+◌, ◌-◌, ◌≤◌, ◌<◌, nat_le, nat_lt, min, Bool, true, false, not, ◌&&◌, cond, refl, sym, ap, ◌∙◌, List, [], ◌∷◌, ◌++◌, Some, None, length, map, take, drop, replicate, slice_get, arith, add-one}
 use Rattle.std.specs.Prelude.{is_some}
 use Rattle.std.specs.FinMap.{get}
-use Rattle.std.specs.List.{filter, list_all}
-use Rattle.std.proofs.lemmas.Bool.{leb-false, leb-true}
+use Rattle.std.specs.List.{filter, list_all, position_or_len}
+use Rattle.std.proofs.lemmas.Bool.{leb-false, leb-true, ltb-true}
 use Rattle.std.proofs.lemmas.List.{append-nil, drop-replicate, length-append, map-append, take-append-le, take-replicate}
 use Rattle.std.proofs.lemmas.List.Filters.{length-filter_both}
 use Rattle.std.proofs.lemmas.List.Folds.{list_all-append}
-use Rattle.std.proofs.lemmas.List.Quantifiers.{position-Some}
 use Rattle.std.proofs.Math.Seq.{take-append-add, take-length}
 use Rattle.vm_types.specs.Saved.{Saved}
 use Rattle.vm_outside.specs.Filing.{SameFiles}
@@ -194,10 +193,19 @@ all_asked drives before now found i so_far all told = (
 
 -- ---- their numbers
 
--- a device has a number below as many as there are
-pub is_numbered : (drives : List Drive) (id : List ℕ) (most number : ℕ) (one : Drive) → length drives ≤ most
-    → Some number ≡ device_of drives id → number < most
-is_numbered drives id most number one few is =
-    let below = (position-Some (is_named id) (in_order drives) number one (sym is)).0 in
+found_below : (at many number : ℕ) (b : Bool) → nat_lt at many ≡ b → cond b (Some at) None ≡ Some number → number < many
+found_below at many number true lt is =
+    let less = ltb-true at many lt in
+    let same : at ≡ number = cc in
+    omega (arith, less, same)
+found_below at many number false lt is = absurd cc
+
+-- a device has a number below as many as there may be
+pub below_most : (drives : List Drive) (id : List ℕ) (most number : ℕ) → length drives ≤ most → Some number ≡ device_of drives id
+    → number < most
+below_most drives id most number few is =
+    let below =
+    found_below (position_or_len (is_named id) (in_order drives)) (length (in_order drives)) number
+    (nat_lt (position_or_len (is_named id) (in_order drives)) (length (in_order drives))) refl (sym is) in
     let many = length-in_order drives in
     omega (arith, below, many, few)

@@ -88,8 +88,9 @@ fn other_file(config: &TakenConfig, patch: DrivePatch, sectors: u64) -> Plan
 fn device_number(config: &TakenConfig, id: &str) -> Option<u8>
     ensures { result ≡ device_of config.now.drives id.now }
 {
-    match config.get().drives.device_number(id) {
-        None => None,
-        Some(number) => Some(number as u8),
-    }
+    let Some(number) = config.get().drives.device_number(id) else {
+        return None;
+    };
+    let device = number as u8;
+    Some(device)
 }

@@ -48,7 +48,7 @@ impl TakenConfig {
     /// What is configured.
     pub fn get(&self) -> &Config
         ensures same { result.now ≡ self.now }
-        ensures taken { IsTaken self.now }
+        ensures taken { IsTaken result.now }
     {
         &self.config
     }

@@ -6,6 +6,9 @@ use Rattle.monitor_machine.specs.State.{IsMachine}
 use Rattle.monitor_machine.proofs.Plans.{replies}
 use Rattle.monitor_machine.proofs.machine.LiveMachine.answer_request.Goals as goal
 
+pub answer-requires : goal.answer-requires
+answer-requires g c = c.in-Plan.ensures.fits
+
 pub returns-in_ok-how-in-Plan-clause-ok : goal.returns-in_ok-how-in-Plan-clause-ok
 returns-in_ok-how-in-Plan-clause-ok g c =
     let e = c.in-Plan.ensures in

@@ -1,4 +1,7 @@
-use Rattle.std.proofs.Common.{ap, ◌∙◌, [], Ok}
+use Rattle.std.proofs.Common.{ap, subst, ◌∙◌, [], Ok}
+use Rattle.vm_config.specs.declared.change.Change.{Change}
+use Rattle.flat_machine.specs.Ready.{IsFitting}
+use Rattle.monitor_machine.specs.Plans.{IsDue}
 use Rattle.monitor_machine.proofs.Planning.{drives_plan, patch_plan, put_plan, refile_plan, restore_plan, start_plan}
 use Rattle.monitor_machine.proofs.machine.LiveMachine.task_of_change.Goals as goal
 
@@ -53,3 +56,21 @@ returns-in-PatchMetadata-clause-task g c = (
       patch_plan c.patch_metadata.result c.args.self.now.metadata c.in-PatchMetadata.patch m given is.own.metadata_is
       (asks ∙ ap Ok c.in-PatchMetadata.is) c.patch_metadata.ensures.gives,
 )
+
+pub put_drive-requires : goal.put_drive-requires
+put_drive-requires g c = subst (λ (x : Change). IsFitting c.args.self.now.config x) c.in-PutDrive.is c.requires.fits
+
+pub patch_drive-requires : goal.patch_drive-requires
+patch_drive-requires g c = subst (λ (x : Change). IsFitting c.args.self.now.config x) c.in-PatchDrive.is c.requires.fits
+
+pub task_of_create-requires : goal.task_of_create-requires
+task_of_create-requires g c = subst (λ (x : Change). IsDue c.args.self.now x) c.in-CreateSnapshot.is c.requires
+
+pub returns-in-LoadSnapshot-clause-fits : goal.returns-in-LoadSnapshot-clause-fits
+returns-in-LoadSnapshot-clause-fits g c = c.restore.ensures.fits c.args.self.now.config
+
+pub returns-in-PutMetadata-clause-fits : goal.returns-in-PutMetadata-clause-fits
+returns-in-PutMetadata-clause-fits g c = c.put_metadata.ensures.fits c.args.self.now.config
+
+pub returns-in-PatchMetadata-clause-fits : goal.returns-in-PatchMetadata-clause-fits
+returns-in-PatchMetadata-clause-fits g c = c.patch_metadata.ensures.fits c.args.self.now.config

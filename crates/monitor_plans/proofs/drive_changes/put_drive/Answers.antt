@@ -1,0 +1,14 @@
+use Rattle.std.proofs.Common.{◌≡◌, true, sym, ap, subst, ◌∙◌, List}
+use Rattle.api_calls.specs.declared.call.Drive.{Drive}
+use Rattle.vm_config.specs.declared.config.Config.{Config}
+use Rattle.vm_config.specs.Drives.{put_drive}
+use Rattle.snap_state.specs.Valid.{are_drives}
+use Rattle.monitor_plans.proofs.drive_changes.put_drive.Goals as goal
+
+pub returns-in-Ok-clause-gives : goal.returns-in-Ok-clause-gives
+returns-in-Ok-clause-gives c = c.in-Ok.ensures ∙ ap (λ (k : Config). put_drive k.drives c.args.drive) c.get.ensures.same
+
+pub returns-in-Ok-clause-fits : goal.returns-in-Ok-clause-fits
+returns-in-Ok-clause-fits c =
+    subst (λ (drives : List Drive). are_drives drives ≡ true)
+    (sym (c.in-Ok.ensures ∙ ap (λ (k : Config). put_drive k.drives c.args.drive) c.get.ensures.same)) c.requires
