@@ -1,4 +1,4 @@
-use Rattle.monitor_plans.proofs.taken.Taken.set_drives.Goals as goal
+use Rattle.monitor_plans.proofs.taken_config.TakenConfig.set_drives.Goals as goal
 
 pub invariant_of-self : goal.invariant_of-self
 invariant_of-self c =
