@@ -51,29 +51,34 @@ at_placed : (p : PlaceId) (es : List Entry) → is_out p ≡ false → at_place 
 at_placed p [] inner = refl
 at_placed p (e ∷ es) inner = placed_by p e (placed es) es inner (at_placed p es inner) (is_out e.place) refl
 
-at_index : (index : PlaceId → ℕ) (p : PlaceId) (xs : List Noted) → IsIndex index → AreIndexed index xs → entries_at (index p) xs ≡ at_place p (map entry_of xs)
-at_index index p [] is h = refl
-at_index index p (x ∷ xs) is h =
-    let test : (x.place == index p) ≡ same_place x.entry.place p = ap (λ (k : ℕ). k == index p) h.0 ∙ is x.entry.place p in
-    let rest : entries_at (index p) xs ≡ at_place p (map entry_of xs) = at_index index p xs is h.1 in
+at_index : {P : Type 0} (index : PlaceId → ℕ) (n : ℕ) (p : PlaceId) (xs : List (Noted P)) → IsIndex index n → AreIndexed index xs → AllByRecursion (λ (x : Noted P). x.place < n) xs → entries_at (index p) xs ≡ at_place p (map entry_of xs)
+at_index index n p [] is h below = refl
+at_index index n p (x ∷ xs) is h below =
+    let test : (x.place == index p) ≡ same_place x.entry.place p = ap (λ (k : ℕ). k == index p) h.0 ∙ is x.entry.place p (subst (λ (k : ℕ). k < n) h.0 below.0) in
+    let rest : entries_at (index p) xs ≡ at_place p (map entry_of xs) = at_index index n p xs is h.1 below.1 in
     ap (λ (b : Bool). let r : List Entry = cond b (x.entry ∷ entries_at (index p) xs) (entries_at (index p) xs) in r) test
     ∙ ap (λ (l : List Entry). let r : List Entry = cond (same_place x.entry.place p) (x.entry ∷ l) l in r) rest
 
-none_past : (n i : ℕ) (xs : List Noted) → n ≤ i → AllByRecursion (λ (x : Noted). x.place < n) xs → entries_at i xs ≡ []
+none_past : {P : Type 0} (n i : ℕ) (xs : List (Noted P)) → n ≤ i → AllByRecursion (λ (x : Noted P). x.place < n) xs → entries_at i xs ≡ []
 none_past n i [] past h = refl
 none_past n i (x ∷ xs) past h =
     let below : x.place < n = h.0 in
     ap (λ (b : Bool). let r : List Entry = cond b (x.entry ∷ entries_at i xs) (entries_at i xs) in r) (ne_eqb x.place i (λ e. absurd (omega (arith, below, past, e))))
     ∙ none_past n i xs past h.1
 
-module _ {P V : Type 0} (touch : V → ActorId → Op → Reply × V) (value : P → V) (made : P → Type 0) (index : PlaceId → ℕ) (journals : List (ActorId × List Entry)) (v : View P) (now : List (Held P)) (is : IsIndex index) (noted : AreNoted index journals v) (told : Told touch value made v now) where
+-- these are just the journals' entries of the place, and their stamps rise
+record IsPart (journals : List (ActorId × List Entry)) (p : PlaceId) (es : List Entry) : Type 0 where
+  pub rises : Rises 0 es
+  pub parts : IsPermutation (at_place p (all_of journals)) es
+
+module _ {P V : Type 0} (touch : V → ActorId → Op → Reply × V) (value : P → V) (made : P → Type 0) (index : PlaceId → ℕ) (journals : List (ActorId × List Entry)) (v : View P) (now : List (Held P)) (is : IsIndex index (length v.round.opens)) (noted : AreNoted index journals v) (told : Told touch value made v now) where
   entries : (p : PlaceId) → is_out p ≡ false → IsPermutation (at_place p (all_of journals)) (entries_at (index p) v.entries)
   entries p inner =
       let mine : List Entry = at_place p (map entry_of v.entries) in
       let all : List Entry = at_place p (all_of journals) in
       let same : IsPermutation mine (at_place p (placed (all_of journals))) = picked_permutation (λ (e : Entry). same_place e.place p) (map entry_of v.entries) (placed (all_of journals)) noted.same in
       let back : IsPermutation all mine = IsPermutation-sym mine all (subst (λ (l : List Entry). IsPermutation mine l) (at_placed p (all_of journals) inner) same) in
-      subst (λ (l : List Entry). IsPermutation all l) (sym (at_index index p v.entries is noted.indexed)) back
+      subst (λ (l : List Entry). IsPermutation all l) (sym (at_index index (length v.round.opens) p v.entries is noted.indexed noted.inside)) back
 
   abbrev pick : (p : PlaceId) → Dec (suc (index p) ≤ length v.round.opens) → List Entry
   pick p (yes lt) = (told (index p) lt).2
@@ -82,12 +87,7 @@ module _ {P V : Type 0} (touch : V → ActorId → Op → Reply × V) (value : P
   abbrev pub history : PlaceId → List Entry
   history p = pick p (dec_le (suc (index p)) (length v.round.opens))
 
-  -- which has just the journals' entries of the place, and rises
-  record Good (p : PlaceId) (es : List Entry) : Type 0 where
-    pub rises : Rises 0 es
-    pub parts : IsPermutation (at_place p (all_of journals)) es
-
-  good : (p : PlaceId) → is_out p ≡ false → (d : Dec (suc (index p) ≤ length v.round.opens)) → Good p (pick p d)
+  good : (p : PlaceId) → is_out p ≡ false → (d : Dec (suc (index p) ≤ length v.round.opens)) → IsPart journals p (pick p d)
   good p inner (yes lt) =
       let t = told (index p) lt in record {
         rises = t.6.history.rises;
@@ -98,7 +98,7 @@ module _ {P V : Type 0} (touch : V → ActorId → Op → Reply × V) (value : P
     parts = subst (λ (l : List Entry). IsPermutation (at_place p (all_of journals)) l) (none_past (length v.round.opens) (index p) v.entries (omega (arith, past)) noted.inside) (entries p inner);
   }
 
-  of_place : (p : PlaceId) → is_out p ≡ false → Good p (history p)
+  of_place : (p : PlaceId) → is_out p ≡ false → IsPart journals p (history p)
   of_place p inner = good p inner (dec_le (suc (index p)) (length v.round.opens))
 
   pub rising : AreRising history

@@ -20,7 +20,7 @@ use Rattle.turn_table.specs.declared.view.View.{View}
 use Rattle.turn_table.specs.declared.view.Noted.{Noted}
 use Rattle.turn_table.specs.Steps.{Told}
 
-abbrev pub entry_of : Noted → Entry
+abbrev pub entry_of : {P : Type 0} → Noted P → Entry
 entry_of x = x.entry
 
 -- the entries that have a place
@@ -28,12 +28,12 @@ abbrev pub placed : List Entry → List Entry
 placed es = filter (λ e. not (is_out e.place)) es
 
 -- each entry is noted at the index of its place
-abbrev pub AreIndexed : (PlaceId → ℕ) → List Noted → Type 0
-AreIndexed index xs = AllByRecursion (λ (x : Noted). x.place ≡ index x.entry.place) xs
+abbrev pub AreIndexed : {P : Type 0} → (PlaceId → ℕ) → List (Noted P) → Type 0
+AreIndexed {P} index xs = AllByRecursion (λ (x : Noted P). x.place ≡ index x.entry.place) xs
 
--- no two places have one index
-abbrev pub IsIndex : (PlaceId → ℕ) → Type 0
-IsIndex index = (p q : PlaceId) → (index p == index q) ≡ same_place p q
+-- no two places have one index below n
+abbrev pub IsIndex : (PlaceId → ℕ) → ℕ → Type 0
+IsIndex index n = (p q : PlaceId) → index p < n → (index p == index q) ≡ same_place p q
 
 -- these values are those of the places at their indices; a place with no index there is as it was
 pub record AreValues {P V : Type 0} (value : P → V) (index : PlaceId → ℕ) (opens now : List (Held P)) (opening ends : PlaceId → V) : Type 0 where
@@ -44,7 +44,7 @@ pub record AreValues {P V : Type 0} (value : P → V) (index : PlaceId → ℕ) 
 -- the seat with all parts has these journals' entries, each once, in any order, each at the index of its place
 pub record AreNoted {P : Type 0} (index : PlaceId → ℕ) (journals : List (ActorId × List Entry)) (v : View P) : Type 0 where
   pub indexed : AreIndexed index v.entries
-  pub inside : AllByRecursion (λ (x : Noted). x.place < length v.round.opens) v.entries
+  pub inside : AllByRecursion (λ (x : Noted P). x.place < length v.round.opens) v.entries
   pub same : IsPermutation (map entry_of v.entries) (placed (all_of journals))
 
 -- what it is told, with journals that follow their actors' wants, is a run in the order of the stamps
@@ -53,7 +53,7 @@ ToldIsRun {P} {V} {S} touch value made want next =
     (route : Op → PlaceId) (index : PlaceId → ℕ) (opening ends : PlaceId → V) (start lasts : ActorId → S)
     (journals : List (ActorId × List Entry)) (v : View P) (now : List (Held P)) (es : List Entry)
     → AreFollowed want next route OutFits start lasts journals
-    → IsIndex index
+    → IsIndex index (length v.round.opens)
     → AreNoted index journals v
     → AreValues value index v.round.opens now opening ends
     → Told touch value made v now
@@ -65,7 +65,7 @@ abbrev pub ToldIsStamped : {P V : Type 0} → (V → ActorId → Op → Reply ×
 ToldIsStamped {P} {V} touch value made =
     (index : PlaceId → ℕ) (journals : List (ActorId × List Entry)) (v : View P) (now : List (Held P)) (es : List Entry)
     → AreStamped journals
-    → IsIndex index
+    → IsIndex index (length v.round.opens)
     → AreNoted index journals v
     → Told touch value made v now
     → IsOrder (all_of journals) es

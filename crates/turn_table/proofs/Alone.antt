@@ -30,7 +30,7 @@ module _ {P V : Type 0} (touch : V → ActorId → Op → Reply × V) (value : P
       let s' : State (Held P) (View P) = record { words = set s.words i (2 * m); homes = s.homes; views = s.views } in
       let k = recounted touch value made parts s h id me.0 at free whole part i m there (omega (arith, few, big)) in
       let h' : IsKept touch value made parts s' = k.0 in
-      let place = subst (λ (o : maybe.Option ℕ). Stands touch value made h'.round s' (h'.base i) (h'.history i) i o) k.1 (h'.places i (inside touch value made parts s' h' len lt)) in
+      let place = subst (λ (o : maybe.Option ℕ). Stands touch value made h'.round s' (h'.base i) (h'.history i) (h'.lefts i) i o) k.1 (h'.places i (inside touch value made parts s' h' len lt)) in
       let word : slice_index s'.words i ≡ 2 * m = index_at s'.words i (2 * m) (set_here s.words i (2 * m) (omega (arith, there, h.words))) in
       let t : Took touch value made parts slots id i (2 * m) me s' (2 * m + 1) = taken touch value made parts slots id i (2 * m) me s' h' free part (twice_even m) at word maybe.none k.1 place in
       let got : IsTaken made i (slice_index s'.words i) me (t.0, carried_after me.1 t.1) = MatchBool-at_true (IsTaken made i (slice_index s'.words i) me (t.0, carried_after me.1 t.1)) ((t.0, carried_after me.1 t.1) ≡ me) (eq-eqb (slice_index s'.words i) (2 * m) word) t.4 in (

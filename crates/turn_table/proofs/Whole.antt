@@ -1,7 +1,8 @@
 -- Who has every part knows what all did; seats that are cut in two and put together.
-use Rattle.std.proofs.Common.{◌≡◌, ◌≢◌, ◌⊎◌, ⊎_elim, inl, inr, ℕ, zero, suc, ◌+◌, ◌-◌, ◌*◌, ◌^◌, ◌<◌, ◌≤◌, Bool, true, false, cond, eqb, eq-eqb, ne_eqb, List, [], ◌∷◌, ◌++◌, length, set, replicate, refl, sym, ap, ◌∙◌, subst, arith, append-nil, length-append, Option, Some, None, slice_index}
+use Rattle.std.proofs.Common.{◌≡◌, ◌≢◌, ◌⊎◌, ⊎_elim, inl, inr, ℕ, zero, suc, ◌+◌, ◌-◌, ◌*◌, ◌^◌, ◌<◌, ◌≤◌, Bool, true, false, cond, eqb, eq-eqb, ne_eqb, List, [], ◌∷◌, ◌++◌, length, All, set, replicate, refl, sym, ap, ◌∙◌, subst, arith, append-nil, length-append, Option, Some, None, slice_index}
 use Rattle.std.proofs.lemmas.List.{length-set, append_assoc, length-replicate, length-map}
 use Rattle.std.specs.List.{AllByRecursion}
+use Rattle.std.proofs.lemmas.List.Elements.{All-append, All-nil}
 use Rattle.std.specs.List.Sorted.{IsPermutation}
 use Rattle.std.proofs.lemmas.List.Sorted.{IsPermutation-refl, IsPermutation-sym, IsPermutation-trans, IsPermutation-append_left, IsPermutation-append_right, IsPermutation-append_comm}
 use mathlib.Core.Option as maybe
@@ -20,13 +21,13 @@ use Rattle.turn_table.specs.declared.view.Round.{Round}
 use Rattle.turn_table.specs.declared.view.Turn.{Turn}
 use Rattle.turn_table.specs.declared.view.Noted.{Noted}
 use Rattle.turn_table.specs.Views.{entries_at, all_at, parts_of, newcomer, fewer, joined}
-use Rattle.turn_table.specs.Rule.{IsAt, Stands, Fits, Leads, IsKept, before_of, IsNew}
+use Rattle.turn_table.specs.Rule.{IsAmong, IsAt, Stands, Fits, Leads, IsKept, before_of, IsNew}
 use Rattle.turn_table.specs.Steps.{Mine, Told, Settles}
 use Rattle.turn_table.proofs.Gathered.{others, split_out, others_set, parts_set}
-use Rattle.turn_table.proofs.Taking.{index_at, there}
+use Rattle.turn_table.proofs.Taking.{index_at, still_made, there}
 use Rattle.turn_table.proofs.Moved.{put, put_here, put_else}
 
-at_joined : (i : ℕ) (xs ys : List Noted) → entries_at i (xs ++ ys) ≡ entries_at i xs ++ entries_at i ys
+at_joined : {P : Type 0} (i : ℕ) (xs ys : List (Noted P)) → entries_at i (xs ++ ys) ≡ entries_at i xs ++ entries_at i ys
 at_joined i [] ys = refl
 at_joined i (x ∷ xs) ys =
     let rest = at_joined i xs ys in
@@ -35,9 +36,17 @@ at_joined i (x ∷ xs) ys =
       | false ↦ rest
     ]
 
-none_at : (i : ℕ) (xs : List Noted) → length xs ≤ 0 → entries_at i xs ≡ []
+none_at : {P : Type 0} (i : ℕ) (xs : List (Noted P)) → length xs ≤ 0 → entries_at i xs ≡ []
 none_at i [] h = refl
 none_at i (x ∷ xs) h = absurd (omega arith)
+
+-- no act left a place
+abbrev no_left : {P : Type 0} → ℕ → List P
+no_left i = []
+
+-- of no elements anything is so
+none_all : {A : Type 0} (P : A → Type 0) (xs : List A) → length xs ≤ 0 → All P xs
+none_all P xs none k d lt = absurd (omega (arith, none, lt))
 
 module _ {P : Type 0} where
   part_le : (vs : List (View P)) (id : ℕ) (v : View P) → get_elem? vs id ≡ maybe.some v → v.parts ≤ parts_of vs
@@ -103,25 +112,27 @@ module _ {P : Type 0} where
       subst (λ l. IsPermutation (all_at i l) (all_at i vs)) (set_swap vs other id spent both ne) r3
 
 module _ {P V : Type 0} (touch : V → ActorId → Op → Reply × V) (value : P → V) (made : P → Type 0) (parts : ℕ) where
-  stands_on : (r : Round P) (s : State (Held P) (View P)) (views : List (View P)) (base : ℕ) (es : List Entry) (i : ℕ) → ((b : ℕ) (u : View P) (t : Turn P) → get_elem? s.views b ≡ maybe.some u → u.turn ≡ Some t → get_elem? views b ≡ maybe.some u) → (o : maybe.Option ℕ) → Stands touch value made r s base es i o → Stands touch value made r (record { words = s.words; homes = s.homes; views = views }) base es i o
-  stands_on r s views base es i on maybe.none st = st
-  stands_on r s views base es i on (maybe.some b) st = (st.0, (st.1.0, st.1.1, on b st.1.0 st.1.1 st.1.2 st.1.3, st.1.3, st.1.4))
+  stands_on : (r : Round P) (s : State (Held P) (View P)) (views : List (View P)) (base : ℕ) (es : List Entry) (ls : List P) (i : ℕ) → ((b : ℕ) (u : View P) (t : Turn P) → get_elem? s.views b ≡ maybe.some u → u.turn ≡ Some t → get_elem? views b ≡ maybe.some u) → (o : maybe.Option ℕ) → Stands touch value made r s base es ls i o → Stands touch value made r (record { words = s.words; homes = s.homes; views = views }) base es ls i o
+  stands_on r s views base es ls i on maybe.none st = st
+  stands_on r s views base es ls i on (maybe.some b) st = (st.0, (st.1.0, st.1.1, on b st.1.0 st.1.1 st.1.2 st.1.3, st.1.3, st.1.4))
 
-  fits_none : (r : Round P) (base : ℕ → ℕ) (history : ℕ → List Entry) (who : ℕ → maybe.Option ℕ) (id : ℕ) (v : View P) (m : Option (Turn P)) → m ≡ None → Fits touch value made r base history who id v m
-  fits_none r base history who id v m is = subst (λ n. Fits touch value made r base history who id v n) (sym is) tt
+  fits_none : (r : Round P) (base : ℕ → ℕ) (history : ℕ → List Entry) (lefts : ℕ → List P) (who : ℕ → maybe.Option ℕ) (id : ℕ) (v : View P) (m : Option (Turn P)) → m ≡ None → Fits touch value made r base history lefts who id v m
+  fits_none r base history lefts who id v m is = subst (λ n. Fits touch value made r base history lefts who id v n) (sym is) tt
 
   -- words and slots stay, and so does each view that has a turn
-  views_kept : (s : State (Held P) (View P)) (h : IsKept touch value made parts s) (views : List (View P)) → ((b : ℕ) (u : View P) (t : Turn P) → get_elem? s.views b ≡ maybe.some u → u.turn ≡ Some t → get_elem? views b ≡ maybe.some u) → ((b : ℕ) (u : View P) → get_elem? views b ≡ maybe.some u → (get_elem? s.views b ≡ maybe.some u) ⊎ ((u.turn ≡ None) × (length u.entries ≤ 2 ^ 32 * u.parts) × (0 < u.parts → u.round ≡ h.round))) → parts_of views ≡ parts_of s.views → ((i : ℕ) → IsPermutation (all_at i views) (all_at i s.views)) → IsKept touch value made parts (record { words = s.words; homes = s.homes; views = views })
+  views_kept : (s : State (Held P) (View P)) (h : IsKept touch value made parts s) (views : List (View P)) → ((b : ℕ) (u : View P) (t : Turn P) → get_elem? s.views b ≡ maybe.some u → u.turn ≡ Some t → get_elem? views b ≡ maybe.some u) → ((b : ℕ) (u : View P) → get_elem? views b ≡ maybe.some u → (get_elem? s.views b ≡ maybe.some u) ⊎ ((u.turn ≡ None) × (length u.entries ≤ 2 ^ 32 * u.parts) × (0 < u.parts → u.round ≡ h.round) × All (IsAmong h.lefts) u.entries)) → parts_of views ≡ parts_of s.views → ((i : ℕ) → IsPermutation (all_at i views) (all_at i s.views)) → IsKept touch value made parts (record { words = s.words; homes = s.homes; views = views })
   views_kept s h views on from sums same = record {
     round = h.round;
     base = h.base;
     history = h.history;
+    lefts = h.lefts;
     who = h.who;
     words = h.words;
     homes = h.homes;
-    places = λ i lt. stands_on h.round s views (h.base i) (h.history i) i on (h.who i) (h.places i lt);
+    places = λ i lt. stands_on h.round s views (h.base i) (h.history i) (h.lefts i) i on (h.who i) (h.places i lt);
     turns = λ b u at.
-        ⊎_elim (λ e. h.turns b u e) (λ n. fits_none h.round h.base h.history h.who b u u.turn n.0) (from b u at);
+        ⊎_elim (λ e. h.turns b u e) (λ n. fits_none h.round h.base h.history h.lefts h.who b u u.turn n.0) (from b u at);
+    left = λ b u at. ⊎_elim (λ e. h.left b u e) (λ n. n.3) (from b u at);
     room = λ b u at. ⊎_elim (λ e. h.room b u e) (λ n. n.1) (from b u at);
     knows = λ b u at part. ⊎_elim (λ e. h.knows b u e part) (λ n. n.2 part) (from b u at);
     all = sums ∙ h.all;
@@ -143,10 +154,10 @@ module _ {P V : Type 0} (touch : V → ActorId → Op → Reply × V) (value : P
       (set_else s.views id b l (λ e. let same : u ≡ v = maybe.some-injective u v (sym at' ∙ ap (λ (k : ℕ). get_elem? s.views k) e ∙ at) in
       let none : u.turn ≡ None = ap (λ (z : View P). z.turn) same ∙ free in absurd (cc)) ∙ at'))
       (λ b u at'.
-      ⊎_elim (λ old. ⊎_elim (λ e. inr (subst (λ (z : View P). (z.turn ≡ None) × (length z.entries ≤ 2 ^ 32 * z.parts) × (0 < z.parts → z.round ≡ h.round)) e.1 (free, omega (arith, empty), (λ p. mine))))
+      ⊎_elim (λ old. ⊎_elim (λ e. inr (subst (λ (z : View P). (z.turn ≡ None) × (length z.entries ≤ 2 ^ 32 * z.parts) × (0 < z.parts → z.round ≡ h.round) × All (IsAmong h.lefts) z.entries) e.1 (free, omega (arith, empty), (λ p. mine), h.left id v at)))
       (λ e. inl e.1)
       (at_set s.views id b l u old))
-      (λ new. inr (subst (λ (z : View P). (z.turn ≡ None) × (length z.entries ≤ 2 ^ 32 * z.parts) × (0 < z.parts → z.round ≡ h.round)) new (refl, omega arith, (λ p. mine))))
+      (λ new. inr (subst (λ (z : View P). (z.turn ≡ None) × (length z.entries ≤ 2 ^ 32 * z.parts) × (0 < z.parts → z.round ≡ h.round) × All (IsAmong h.lefts) z.entries) new (refl, omega arith, (λ p. mine), All-nil (IsAmong h.lefts))))
       (at_snoc vs n u b at'))
       (let a = parts_snoc vs n in let b = parts_set s.views id v l at in omega (arith, a, b, two))
       (λ i.
@@ -165,7 +176,7 @@ module _ {P V : Type 0} (touch : V → ActorId → Op → Reply × V) (value : P
       let mine : v.round ≡ h.round = h.knows id v at part in
       let rv = h.room id v at in
       let rw' = h.room other w at' in
-      let Ok : View P → Type 0 = λ z. (z.turn ≡ None) × (length z.entries ≤ 2 ^ 32 * z.parts) × (0 < z.parts → z.round ≡ h.round) in
+      let Ok : View P → Type 0 = λ z. (z.turn ≡ None) × (length z.entries ≤ 2 ^ 32 * z.parts) × (0 < z.parts → z.round ≡ h.round) × All (IsAmong h.lefts) z.entries in
       views_kept s h (set vs other spent)
       (λ b u t old turn.
       set_else vs other b spent (λ e. let same : u ≡ w = maybe.some-injective u w (sym old ∙ ap (λ (k : ℕ). get_elem? s.views k) e ∙ at') in
@@ -174,8 +185,8 @@ module _ {P V : Type 0} (touch : V → ActorId → Op → Reply × V) (value : P
       let none : u.turn ≡ None = ap (λ (z : View P). z.turn) same ∙ free in absurd (cc))
       ∙ old)
       (λ b u new.
-      ⊎_elim (λ e. inr (subst Ok e.1 (refl, omega arith, (λ p. absurd (omega arith)))))
-      (λ e. ⊎_elim (λ f. inr (subst Ok f.1 (free, omega (arith, rv, rw', length-append v.entries w.entries), (λ p. mine)))) (λ f. inl f.1) (at_set s.views id b both u e.1))
+      ⊎_elim (λ e. inr (subst Ok e.1 (refl, omega arith, (λ p. absurd (omega arith)), All-nil (IsAmong h.lefts))))
+      (λ e. ⊎_elim (λ f. inr (subst Ok f.1 (free, omega (arith, rv, rw', length-append v.entries w.entries), (λ p. mine), All-append (IsAmong h.lefts) v.entries w.entries (h.left id v at) (h.left other w at')))) (λ f. inl f.1) (at_set s.views id b both u e.1))
       (at_set vs other b spent u new))
       (let a = parts_set vs other w spent at2 in let b = parts_set s.views id v both at in omega (arith, a, b))
       (λ i. all_joined i s.views id v other w both spent at ne at' (at_joined i v.entries w.entries) refl)
@@ -200,7 +211,7 @@ home_length (maybe.none ∷ hs) home =
 home_length (maybe.some b ∷ hs) home = ap suc (home_length hs (λ j lt. home (suc j) (omega (arith, lt))))
 
 module _ {P V : Type 0} (touch : V → ActorId → Op → Reply × V) (value : P → V) (made : P → Type 0) (parts : ℕ) (s : State (Held P) (View P)) (h : IsKept touch value made parts s) (id : ℕ) (v : View P) (at : get_elem? s.views id ≡ maybe.some v) (free : v.turn ≡ None) (whole : v.parts ≡ parts) (part : 0 < v.parts) where
-  none_by : (b : ℕ) (u : View P) (m : Option (Turn P)) → Fits touch value made h.round h.base h.history h.who b u m → u.parts ≡ 0 → m ≡ None
+  none_by : (b : ℕ) (u : View P) (m : Option (Turn P)) → Fits touch value made h.round h.base h.history h.lefts h.who b u m → u.parts ≡ 0 → m ≡ None
   none_by b u None f z = refl
   none_by b u (Some t) f z = absurd (omega (arith, f.0, z))
 
@@ -216,14 +227,14 @@ module _ {P V : Type 0} (touch : V → ActorId → Op → Reply × V) (value : P
   bare_else b u at' ne = let r = h.room b u at' in let z = lacks b u at' ne in omega (arith, r, z)
 
   -- every place is at home
-  home_by : (i : ℕ) (o : maybe.Option ℕ) → Stands touch value made h.round s (h.base i) (h.history i) i o → (get_elem? s.words i ≡ maybe.some (2 * (h.base i + length (h.history i)))) × ((now : Held P) × (get_elem? s.homes i ≡ maybe.some (maybe.some now)) × IsAt touch value made h.round (h.history i) i now)
+  home_by : (i : ℕ) (o : maybe.Option ℕ) → Stands touch value made h.round s (h.base i) (h.history i) (h.lefts i) i o → (get_elem? s.words i ≡ maybe.some (2 * (h.base i + length (h.history i)))) × ((now : Held P) × (get_elem? s.homes i ≡ maybe.some (maybe.some now)) × IsAt touch value made h.round (h.history i) (h.lefts i) i now)
   home_by i maybe.none st = st
   home_by i (maybe.some b) st =
       let none : st.1.0.turn ≡ None = no_turn b st.1.0 st.1.2 (ℕ_discrete b id) in
       let some' : st.1.0.turn ≡ Some st.1.1 = st.1.3 in
       absurd (cc)
 
-  pub home : (i : ℕ) → i < length h.round.opens → (get_elem? s.words i ≡ maybe.some (2 * (h.base i + length (h.history i)))) × ((now : Held P) × (get_elem? s.homes i ≡ maybe.some (maybe.some now)) × IsAt touch value made h.round (h.history i) i now)
+  pub home : (i : ℕ) → i < length h.round.opens → (get_elem? s.words i ≡ maybe.some (2 * (h.base i + length (h.history i)))) × ((now : Held P) × (get_elem? s.homes i ≡ maybe.some (maybe.some now)) × IsAt touch value made h.round (h.history i) (h.lefts i) i now)
   home i lt = home_by i (h.who i) (h.places i lt)
 
   home' : (i : ℕ) → i < length s.homes → (a : Held P) × (get_elem? s.homes i ≡ maybe.some (maybe.some a))
@@ -244,18 +255,20 @@ module _ {P V : Type 0} (touch : V → ActorId → Op → Reply × V) (value : P
           round = r;
           base = base;
           history = h.history;
+          lefts = h.lefts;
           who = λ j. maybe.none;
           words = length-set s.words i (2 * m) ∙ h.words;
           homes = h.homes;
           places = λ j lt'.
               dite (ℕ_discrete i j)
-              (λ e. subst (λ (k : ℕ). Stands touch value made r new (base k) (h.history k) k maybe.none) e
+              (λ e. subst (λ (k : ℕ). Stands touch value made r new (base k) (h.history k) (h.lefts k) k maybe.none) e
               (set_here s.words i (2 * m) (omega (arith, lt, h.words)) ∙ ap maybe.some count, (home i lt).1))
               (λ ne. let a = home j lt' in (
                 set_else s.words i j (2 * m) (λ e. ne (sym e)) ∙ a.0 ∙ ap (λ (b : ℕ). maybe.some (2 * (b + length (h.history j)))) (sym (put_else i j (m - length (h.history i)) h.base ne)),
                 a.1,
               ));
-          turns = λ b u at'. fits_none touch value made parts r base h.history (λ j. maybe.none) b u u.turn (no_turn b u at' (ℕ_discrete b id));
+          turns = λ b u at'. fits_none touch value made parts r base h.history h.lefts (λ j. maybe.none) b u u.turn (no_turn b u at' (ℕ_discrete b id));
+          left = h.left;
           room = h.room;
           knows = h.knows;
           all = h.all;
@@ -287,6 +300,7 @@ module _ {P V : Type 0} (touch : V → ActorId → Op → Reply × V) (value : P
         same i a.1.0 a.1.1,
         mine_all i,
         subst (λ (r : Round P). Leads touch value made r.number f.0 (h.history i) a.1.0) (sym mine) f.2,
+        still_made touch value made parts s h id v at part i a.1.0 f,
       )
 
   anew : (n : ℕ) (now : Held P) → now.round ≤ n → before_of (n + 1) now ≡ 0
@@ -305,6 +319,7 @@ module _ {P V : Type 0} (touch : V → ActorId → Op → Reply × V) (value : P
         round = r;
         base = base;
         history = λ i. [];
+        lefts = λ i. [];
         who = λ i. maybe.none;
         words = h.words ∙ sym h.homes ∙ sym (home_length s.homes home');
         homes = sym (home_length s.homes home');
@@ -315,12 +330,14 @@ module _ {P V : Type 0} (touch : V → ActorId → Op → Reply × V) (value : P
             let old : now.round ≤ n = subst (λ (q : Round P). now.round ≤ q.number) (sym mine) f.2.old in
             let z : before_of (n + 1) now ≡ 0 = anew n now old in (
               a.0 ∙ ap maybe.some (omega arith),
-              (now, a.1.1, (now, all_home s.homes home' i now a.1.1, record { history = record { replays = refl; rises = tt; own = tt }; last = record { is = z; low = omega (arith, z) }; id = refl; old = omega (arith, old); stays = λ m. m })),
+              (now, a.1.1, (now, all_home s.homes home' i now a.1.1, record { history = record { replays = refl; rises = tt; own = tt }; last = record { is = z; low = omega (arith, z) }; id = refl; old = omega (arith, old); stays = λ m. m }, All-nil (λ (p : P). made p → made now.place))),
             );
         turns = λ b u at'.
-            ⊎_elim (λ e. fits_none touch value made parts r base (λ i. []) (λ i. maybe.none) b u u.turn (ap (λ (z : View P). z.turn) (sym e.1)))
-            (λ e. fits_none touch value made parts r base (λ i. []) (λ i. maybe.none) b u u.turn (no_turn b u e.1 (ℕ_discrete b id)))
+            ⊎_elim (λ e. fits_none touch value made parts r base (λ i. []) (λ i. []) (λ i. maybe.none) b u u.turn (ap (λ (z : View P). z.turn) (sym e.1)))
+            (λ e. fits_none touch value made parts r base (λ i. []) (λ i. []) (λ i. maybe.none) b u u.turn (no_turn b u e.1 (ℕ_discrete b id)))
             (at_set s.views id b w u at');
+        left = λ b u at'.
+            ⊎_elim (λ e. subst (λ (z : View P). All (IsAmong (no_left {P = P})) z.entries) e.1 (All-nil (IsAmong (no_left {P = P})))) (λ e. none_all (IsAmong (no_left {P = P})) u.entries (bare_else b u e.1 e.0)) (at_set s.views id b w u at');
         room = λ b u at'.
             ⊎_elim (λ e. subst (λ (z : View P). length z.entries ≤ 2 ^ 32 * z.parts) e.1 (omega arith)) (λ e. h.room b u e.1) (at_set s.views id b w u at');
         knows = λ b u at' has.
@@ -396,6 +413,7 @@ module _ {P V : Type 0} (touch : V → ActorId → Op → Reply × V) (value : P
         round = r;
         base = λ i. 0;
         history = λ i. [];
+        lefts = λ i. [];
         who = λ i. maybe.none;
         words = ap (λ l. length l) is ∙ length-replicate (length xs) 0;
         homes = length-map xs maybe.some;
@@ -404,9 +422,10 @@ module _ {P V : Type 0} (touch : V → ActorId → Op → Reply × V) (value : P
             let n = opened xs new i x.0 x.1 in
             let z : before_of 0 x.0 ≡ 0 = ap (λ (b : Bool). let k : ℕ = cond b x.0.last 0 in k) (eq-eqb x.0.round 0 n.0) ∙ n.1 in (
               at_start ws (length xs) i is lt,
-              (x.0, at_map maybe.some xs i x.0 x.1, (x.0, x.1, record { history = record { replays = refl; rises = tt; own = tt }; last = record { is = z; low = omega (arith, z) }; id = refl; old = omega (arith, n.0); stays = λ m. m })),
+              (x.0, at_map maybe.some xs i x.0 x.1, (x.0, x.1, record { history = record { replays = refl; rises = tt; own = tt }; last = record { is = z; low = omega (arith, z) }; id = refl; old = omega (arith, n.0); stays = λ m. m }, All-nil (λ (p : P). made p → made x.0.place))),
             );
-        turns = λ b u at. one_view (λ z. Fits touch value made r (λ i. 0) (λ i. []) (λ i. maybe.none) b z z.turn) v b u at tt;
+        turns = λ b u at. one_view (λ z. Fits touch value made r (λ i. 0) (λ i. []) (λ i. []) (λ i. maybe.none) b z z.turn) v b u at tt;
+        left = λ b u at. one_view (λ (z : View P). All (IsAmong (no_left {P = P})) z.entries) v b u at (All-nil (IsAmong (no_left {P = P})));
         room = λ b u at. one_view (λ z. length z.entries ≤ 2 ^ 32 * z.parts) v b u at (omega arith);
         knows = λ b u at. one_view (λ z. 0 < z.parts → z.round ≡ r) v b u at (λ p. refl);
         all = omega arith;

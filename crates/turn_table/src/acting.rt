@@ -3,10 +3,9 @@ ghost use Rattle.std.specs.Prelude.{◌≡◌, ◌+◌, ◌*◌, ◌%◌, ◌^�
 ghost use Rattle.place_locks.specs.Held.{IsEntryOf};
 ghost use Rattle.turn_table.specs.declared.held.Held.{Held};
 ghost use Rattle.turn_table.specs.declared.view.Turn.{Turn};
-ghost use Rattle.turn_table.specs.Views.{wrote};
 ghost use Rattle.turn_table.specs.Rule.{before_of};
 ghost use Rattle.turn_table.specs.Acts.{IsActed, IsEntryAt};
-ghost use Rattle.turn_table.specs.Blanks.{CanFeed, IsMadeAt, IsOneAtMost};
+ghost use Rattle.turn_table.specs.Blanks.{CanFeed, IsMadeAt, IsNoted, IsOneAtMost};
 ghost use Rattle.turn_table.specs.Steps.{IsTaken, Acted, HasTurn, IsReady};
 
 use crate::fed::Fed;
@@ -25,28 +24,36 @@ const LAST: u64 = 1 << 63;
 /// From here on the turns at a place are counted that are taken at once.
 const ANEW: u64 = 1 << 49;
 
+/// Where an actor acts, and its last stamp in this round.
+#[derive(Clone, Copy, Drop)]
+struct Post {
+    place: usize,
+    actor: ActorId,
+    clock: u64,
+}
+
 // Acts on what lies in a slot.
 fn act_on<P: Fed>(
     held: &mut Held<P>,
     round: u64,
-    actor: ActorId,
-    clock: u64,
+    post: Post,
     pool: &mut P::Pool,
     op: &Op,
 ) -> Entry
     requires fed { P.made held.old.place ⊎ (0 < P.blanks pool.old) }
-    requires low { (before_of round held.old ≤ 2 ^ 63 + 2 ^ 48) × (clock < 2 ^ 63) }
-    ensures entry { IsEntryOf result actor held.old.id op.now clock }
+    requires low { (before_of round held.old ≤ 2 ^ 63 + 2 ^ 48) × (post.clock < 2 ^ 63) }
+    ensures entry { IsEntryOf result post.actor held.old.id op.now post.clock }
     ensures acted { IsActed P.touch P.value P.made round result held.old held.new }
     ensures one { IsOneAtMost (P.blanks pool.old) (P.blanks pool.new) }
     ensures none { P.made held.old.place → P.blanks pool.new ≡ P.blanks pool.old }
+    ensures spent { P.blanks pool.new < P.blanks pool.old → P.made held.new.place }
 {
     let before = if held.round == round { held.last } else { 0 };
-    let reply = held.place.act_fed(pool, actor, op);
+    let reply = held.place.act_fed(pool, post.actor, op);
     let entry = Entry {
-        stamp: before.max(clock) + 1,
+        stamp: before.max(post.clock) + 1,
         before,
-        actor,
+        actor: post.actor,
         place: held.id,
         op: op.again(),
         reply,
@@ -79,23 +86,21 @@ impl<P: Fed> Turns<P> {
         &self,
         gate: &G,
         seat: &mut TurnSeat<P>,
-        place: usize,
-        actor: ActorId,
-        clock: u64,
+        post: Post,
         pool: &mut P::Pool,
         op: &Op,
     ) -> Entry
         requires seat { seat.old.table_id ≡ self.now.table.shared.table_id }
-        requires held { (held : Held P) × (seat.old.me.1 ≡ (place, held) ∷ []) × (before_of self.now.round held ≤ 2 ^ 63 + 2 ^ 48) × (P.made held.place ⊎ (0 < P.blanks pool.old)) }
-        requires clock { clock < 2 ^ 63 }
+        requires held { (held : Held P) × (seat.old.me.1 ≡ (post.place, held) ∷ []) × (before_of self.now.round held ≤ 2 ^ 63 + 2 ^ 48) × (P.made held.place ⊎ (0 < P.blanks pool.old)) }
+        requires clock { post.clock < 2 ^ 63 }
         ensures seat { (seat.new.table_id ≡ seat.old.table_id) × (seat.new.id ≡ seat.old.id) × (seat.new.me.0 ≡ seat.old.me.0) }
-        ensures acted { Acted P.touch P.value P.made self.now.round result actor op.now clock place seat.old.me.1 seat.new.me.1 }
+        ensures acted { Acted P.touch P.value P.made self.now.round result post.actor op.now post.clock post.place seat.old.me.1 seat.new.me.1
+            (P.blanks pool.old) (P.blanks pool.new) }
         ensures one { IsOneAtMost (P.blanks pool.old) (P.blanks pool.new) }
-        ensures none { (held : Held P) → seat.old.me.1 ≡ (place, held) ∷ [] → P.made held.place → P.blanks pool.new ≡ P.blanks pool.old }
     {
-        let held = seat.slot_mut(&self.table.shared, place);
-        gate.inside(actor, held.id);
-        act_on(held, self.round, actor, clock, pool, op)
+        let held = seat.slot_mut(&self.table.shared, post.place);
+        gate.inside(post.actor, held.id);
+        act_on(held, self.round, post, pool, op)
     }
 
     // Acts in a turn that the seat has, and gives it up.
@@ -103,35 +108,34 @@ impl<P: Fed> Turns<P> {
         &self,
         gate: &G,
         seat: &mut TurnSeat<P>,
-        place: usize,
         word: u64,
-        actor: ActorId,
-        clock: u64,
+        post: Post,
         pool: &mut P::Pool,
         op: &Op,
     ) -> Entry
         requires seat { seat.old.table_id ≡ self.now.table.shared.table_id }
         requires round { seat.old.me.0.round.number ≡ self.now.round }
-        requires fed { CanFeed P.made seat.old.me.0 place (P.blanks pool.old) }
-        requires turn { (t : Turn P) × HasTurn P.made place word t seat.old.me }
+        requires fed { CanFeed P.made seat.old.me.0 post.place (P.blanks pool.old) }
+        requires turn { (t : Turn P) × HasTurn P.made post.place word t seat.old.me }
         requires room { (0 < seat.old.me.0.parts) × (length seat.old.me.0.entries < 2 ^ 32 * seat.old.me.0.parts) }
-        requires place { place < self.now.table.shared.table_id.words }
+        requires place { post.place < self.now.table.shared.table_id.words }
         requires word { word + 2 < 2 ^ 64 }
-        requires clock { clock < 2 ^ 63 }
-        ensures seat { (seat.new.table_id ≡ seat.old.table_id) × (seat.new.id ≡ seat.old.id) }
-        ensures noted { seat.new.me ≡ (wrote seat.old.me.0 place result, []) }
-        ensures entry { IsEntryAt seat.old.me.0 place result actor op.now clock }
+        requires clock { post.clock < 2 ^ 63 }
+        ensures seat { IsReady self.now.table.shared.table_id self.now.round seat.new }
+        ensures noted { IsNoted P.made post.place result seat.old.me.0 seat.new.me.0 (P.blanks pool.old) (P.blanks pool.new) }
+        ensures entry { IsEntryAt seat.old.me.0 post.place result post.actor op.now post.clock }
         ensures one { IsOneAtMost (P.blanks pool.old) (P.blanks pool.new) }
-        ensures none { IsMadeAt P.made seat.old.me.0 place → P.blanks pool.new ≡ P.blanks pool.old }
+        ensures none { IsMadeAt P.made seat.old.me.0 post.place → P.blanks pool.new ≡ P.blanks pool.old }
     {
-        let entry = self.act_there(gate, seat, place, actor, clock, pool, op);
-        self.table.shared.store::<Release>(seat, place, word + 2);
+        let entry = self.act_there(gate, seat, post, pool, op);
+        self.table.shared.store::<Release>(seat, post.place, word + 2);
         entry
     }
 
     /// One act of this actor on the place at this index, in a turn; there `gate.inside` is called first, with the place's id. `clock` is
-    /// the actor's last stamp in this round, 0 at first, and below 2^63. Of the pool it takes one blank at most, and none if the place
-    /// was made when the round began. It takes no memory and refuses nothing; it waits until the seat has the turn.
+    /// the actor's last stamp in this round, 0 at first, and below 2^63. Of the pool it takes one blank at most, and none if the seat
+    /// knows that the place is made: it was when the round began, or an act from this seat left it so, as each does that takes a
+    /// blank. It takes no memory and refuses nothing; it waits until the seat has the turn.
     pub fn act_turn<R: Wait, G: Gate>(
         &self,
         rt: &R,
@@ -149,7 +153,7 @@ impl<P: Fed> Turns<P> {
         requires clock { clock.old < 2 ^ 63 }
         requires fed { CanFeed P.made seat.old.me.0 place (P.blanks pool.old) }
         ensures seat { IsReady self.now.table.shared.table_id self.now.round seat.new }
-        ensures noted { seat.new.me.0 ≡ wrote seat.old.me.0 place result }
+        ensures noted { IsNoted P.made place result seat.old.me.0 seat.new.me.0 (P.blanks pool.old) (P.blanks pool.new) }
         ensures entry { IsEntryAt seat.old.me.0 place result actor op.now clock.old }
         ensures clock { clock.new ≡ result.stamp }
         ensures one { IsOneAtMost (P.blanks pool.old) (P.blanks pool.new) }
@@ -159,7 +163,12 @@ impl<P: Fed> Turns<P> {
             let word = self.table.shared.peek(place);
             if word % 2 == 0 && word < LAST {
                 if self.take(seat, place, word) {
-                    let entry = self.act_and_give(gate, seat, place, word, actor, *clock, pool, op);
+                    let post = Post {
+                        place,
+                        actor,
+                        clock: *clock,
+                    };
+                    let entry = self.act_and_give(gate, seat, word, post, pool, op);
                     *clock = entry.stamp;
                     return entry;
                 }
@@ -198,14 +207,19 @@ impl<P: Fed> Turns<P> {
         requires clock { clock.old < 2 ^ 63 }
         requires fed { CanFeed P.made seat.old.me.0 place (P.blanks pool.old) }
         ensures seat { IsReady self.now.table.shared.table_id self.now.round seat.new }
-        ensures noted { seat.new.me.0 ≡ wrote seat.old.me.0 place result }
+        ensures noted { IsNoted P.made place result seat.old.me.0 seat.new.me.0 (P.blanks pool.old) (P.blanks pool.new) }
         ensures entry { IsEntryAt seat.old.me.0 place result actor op.now clock.old }
         ensures clock { clock.new ≡ result.stamp }
         ensures one { IsOneAtMost (P.blanks pool.old) (P.blanks pool.new) }
         ensures none { IsMadeAt P.made seat.old.me.0 place → P.blanks pool.new ≡ P.blanks pool.old }
     {
         self.grab(seat, place);
-        let entry = self.act_and_give(gate, seat, place, ANEW, actor, *clock, pool, op);
+        let post = Post {
+            place,
+            actor,
+            clock: *clock,
+        };
+        let entry = self.act_and_give(gate, seat, ANEW, post, pool, op);
         *clock = entry.stamp;
         entry
     }

@@ -16,12 +16,14 @@ pub trait Fed: Place {
     /// How many blanks there are.
     ghost blanks: { Self.Pool → ℕ };
 
-    /// As `act`. It takes one blank at most, none if the place is made, and no other memory. A place that is made stays so.
+    /// As `act`. It takes one blank at most, none if the place is made, and no other memory. A place that is made stays so, and one
+    /// that took a blank is made.
     fn act_fed(&mut self, pool: &mut Self::Pool, actor: ActorId, op: &Op) -> Reply
         requires fed { made self.old ⊎ (0 < blanks pool.old) }
         ensures reply { result ≡ (Self.touch (Self.value self.old) actor op.now).0 }
         ensures value { Self.value self.new ≡ (Self.touch (Self.value self.old) actor op.now).1 }
         ensures stays { made self.old → made self.new }
+        ensures spent { blanks pool.new < blanks pool.old → made self.new }
         ensures one { IsOneAtMost (blanks pool.old) (blanks pool.new) }
         ensures none { made self.old → blanks pool.new ≡ blanks pool.old };
 }

@@ -1,5 +1,5 @@
 // Places, and who may act on them.
-ghost use Rattle.std.specs.Prelude.{◌≡◌, ◌+◌, ◌^◌, ◌<◌, ◌≤◌, [], length, IfOk, All, vec_capacity};
+ghost use Rattle.std.specs.Prelude.{◌≡◌, ◌+◌, ◌^◌, ◌<◌, ◌≤◌, [], length, IfErr, IfOk, All, vec_capacity};
 ghost use Rattle.std.specs.Mem.Slots.{slots_items, slots_len, IsFull};
 ghost use Rattle.turn_table.specs.Views.{fewer, joined, newcomer};
 ghost use Rattle.turn_table.specs.Rule.{IsNew};
@@ -11,7 +11,7 @@ use crate::law::{Both, Law, Part, Settle};
 use crate::note::Note;
 use crate::view::View;
 use atomic_table::{Closed, Seat, Table};
-use std::alloc::{AllocError, Global};
+use std::alloc::Global;
 
 /// What a thread acts with: some parts of the right to act, and what was done with it in this round. It has no bytes.
 pub type TurnSeat<P> = Seat<Held<P>, View<P>>;
@@ -41,12 +41,12 @@ fn empty<P: Drop>(mut closed: Closed<Held<P>, Global>, mut room: Vec<Held<P>>) -
 
 impl<P: Fed> Turns<P> {
     /// Places on which nobody acted yet, and the seat with all parts of the right to act on them, 1 to 65,535. Each place has the
-    /// index that it has in the list. The only error is want of memory.
+    /// index that it has in the list. The only error is want of memory, and it gives the places back.
     pub fn new(
         alloc: Global,
         places: Vec<Held<P>>,
         parts: u32,
-    ) -> Result<(Turns<P>, TurnSeat<P>), AllocError>
+    ) -> Result<(Turns<P>, TurnSeat<P>), Vec<Held<P>>>
         requires new { All IsNew places.items }
         requires parts { (0 < parts) × (parts < 2 ^ 16) }
         ensures seat { IfOk result (λ made. IsReady made.0.table.shared.table_id made.0.round made.1) }
@@ -54,24 +54,29 @@ impl<P: Fed> Turns<P> {
         ensures whole { IfOk result (λ made. made.0.table.shared.key.parts ≡ parts) }
         ensures first { IfOk result (λ made. made.0.round ≡ 0) }
         ensures view { IfOk result (λ made. made.1.me.0 ≡ newcomer parts (record { number = 0; opens = places.items })) }
+        ensures back { IfErr result (λ back. back.items ≡ places.items) }
     {
         let opening = Opening {
             parts,
             places: Note::of(&places),
         };
-        let room = Vec::with_capacity(alloc, places.len())?;
-        let words = vec![in alloc; 0u64; places.len()]?;
-        let Ok((table, seat)) = Table::new(alloc, &words, places, &opening) else {
-            return Err(AllocError);
+        let Ok(room) = Vec::with_capacity(alloc, places.len()) else {
+            return Err(places);
         };
-        Ok((
-            Turns {
-                table,
-                round: 0,
-                room,
-            },
-            seat,
-        ))
+        let Ok(words) = vec![in alloc; 0u64; places.len()] else {
+            return Err(places);
+        };
+        match Table::new(alloc, &words, places, &opening) {
+            Ok((table, seat)) => Ok((
+                Turns {
+                    table,
+                    round: 0,
+                    room,
+                },
+                seat,
+            )),
+            Err(refused) => Err(refused.slots),
+        }
     }
 
     /// A seat with one of the parts that this seat has. This seat has at least two, and nothing was done with it in this round. It

@@ -3,10 +3,11 @@ use crate::held::Held;
 use std::collections::LinkedList;
 use vm_types::Entry;
 
-/// An entry, at the index of its place in the table.
-pub struct Noted {
+/// An act, at the index of its place in the table: its entry, and how it left the place.
+pub struct Noted<P> {
     pub place: usize,
     pub entry: Entry,
+    pub left: P,
 }
 
 /// A round's number, and how the places stood when it began.
@@ -26,6 +27,6 @@ pub struct Turn<P> {
 pub struct View<P> {
     pub parts: u32,
     pub turn: Option<Turn<P>>,
-    pub entries: LinkedList<Noted>,
+    pub entries: LinkedList<Noted<P>>,
     pub round: Round<P>,
 }
