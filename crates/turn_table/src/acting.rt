@@ -33,13 +33,7 @@ struct Post {
 }
 
 // Acts on what lies in a slot.
-fn act_on<P: Fed>(
-    held: &mut Held<P>,
-    round: u64,
-    post: Post,
-    pool: &mut P::Pool,
-    op: &Op,
-) -> Entry
+fn act_on<P: Fed>(held: &mut Held<P>, round: u64, post: Post, pool: &mut P::Pool, op: &Op) -> Entry
     requires fed { P.made held.old.place ⊎ (0 < P.blanks pool.old) }
     requires low { (before_of round held.old ≤ 2 ^ 63 + 2 ^ 48) × (post.clock < 2 ^ 63) }
     ensures entry { IsEntryOf result post.actor held.old.id op.now post.clock }
@@ -128,7 +122,9 @@ impl<P: Fed> Turns<P> {
         ensures none { IsMadeAt P.made seat.old.me.0 post.place → P.blanks pool.new ≡ P.blanks pool.old }
     {
         let entry = self.act_there(gate, seat, post, pool, op);
-        self.table.shared.store::<Release>(seat, post.place, word + 2);
+        self.table
+            .shared
+            .store::<Release>(seat, post.place, word + 2);
         entry
     }
 
