@@ -152,7 +152,10 @@ fn held_of(alloc: Global, files: &MemoryFiles, names: &[String]) -> Result<Vec<H
     for name in names {
         if let Some(content) = files.find(name.as_str()) {
             let content = Some(content.to_vec(alloc)?);
-            held.push(Held { name: name.clone()?, content })?;
+            held.push(Held {
+                name: name.clone()?,
+                content,
+            })?;
         }
     }
     Ok(held)
@@ -167,7 +170,11 @@ fn tell_files(
 ) -> Result<(), AllocError> {
     for name in names {
         let name = name.as_str();
-        let state = state_of(content_of(before, name), content_of(whole, name), left.find(name));
+        let state = state_of(
+            content_of(before, name),
+            content_of(whole, name),
+            left.find(name),
+        );
         write!(line, " {name} {state};")?;
     }
     Ok(())

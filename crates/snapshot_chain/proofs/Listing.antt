@@ -100,14 +100,13 @@ based type base first last [] of leads e parent among is_base = absurd among
 based type base first last (s ∷ savings) of (is, follows, rest) e parent (inl here) is_base =
     let same : identity_of first ≡ parent = some_same (identity_of first) parent (ap (λ (x : Create). x.base) (sym here) ∙ is_base) in
     let since : IsDiffOf (memory_of (create_of base first)) (memory_of (create_of (Some (identity_of first)) s)) (diff_since (identity_of first) (create_of (Some (identity_of first)) s)) =
-    is_diff type first s of is follows in
-    (
+    is_diff type first s of is follows in (
       create_of base first,
       (
         inl refl,
         same,
         subst (λ (x : Create). IsDiffOf (memory_of (create_of base first)) (memory_of x) (diff_since parent x)) (sym here)
-        (subst (λ (i : Identity). IsDiffOf (memory_of (create_of base first)) (memory_of (create_of (Some (identity_of first)) s)) (diff_since i (create_of (Some (identity_of first)) s))) same since),
+            (subst (λ (i : Identity). IsDiffOf (memory_of (create_of base first)) (memory_of (create_of (Some (identity_of first)) s)) (diff_since i (create_of (Some (identity_of first)) s))) same since),
       ),
     )
 based type base first last (s ∷ savings) of (is, follows, rest) e parent (inr among) is_base =

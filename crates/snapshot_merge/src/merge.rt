@@ -49,9 +49,7 @@ pub fn merge_of(base: &MemHeader, diff: &DiffHeader) -> Result<Merge, Refusal>
 pub(crate) fn was_merged(base: &MemHeader, diff: &DiffHeader) -> bool
     ensures { result ≡ was_merged base.now diff.now }
 {
-    diff.pages == base.pages
-        && base.merging == 0
-        && is_same(base.identity(), diff.identity)
+    diff.pages == base.pages && base.merging == 0 && is_same(base.identity(), diff.identity)
 }
 
 // How many slots at the front are open.

@@ -88,12 +88,7 @@ fn rebase_files<F: Files>(
 }
 
 // The refusal. A base into which the diff was merged before is synced first.
-fn refuse<F: Files>(
-    files: &mut F,
-    base: &str,
-    why: Refusal,
-    again: bool,
-) -> Result<(), RebaseError>
+fn refuse<F: Files>(files: &mut F, base: &str, why: Refusal, again: bool) -> Result<(), RebaseError>
     ensures refused { Tells (F.known files.old).health → (diff : List ℕ) →
         planned_in (F.known files.old).saved base.now diff ≡ Err why →
         merged_by (both_in (F.known files.old).saved base.now diff) ≡ again →

@@ -41,10 +41,13 @@ returns-in-Err-draw_lineage-clause-so_far g c = λ tells new.
     let still = c.open.ensures.trace_lasts.still tells.hosts.trace in
     cut_by (words_said c.args.words) before c.in-Err-draw_lineage.object drawn _ _ _ _ _ _ (c.in-Err-draw_lineage.ensures.cause at_rest)
     (nothing_served (words_said c.args.words) before (Exit.Fault c.in-Err-draw_lineage.object) drawn
-    (inr (c.in_default.ensures.listens tells.listener, inr (record {
-      path = c.draw_lineage.ensures.trace_stays still ∙ c.in_default.ensures.opens tells.hosts.trace;
-      took = c.in-Err-draw_lineage.ensures.err.0 still ∙ c.in_default.ensures.empties tells.hosts.trace;
-    }))) refl
+    (inr (
+      c.in_default.ensures.listens tells.listener,
+      inr (record {
+        path = c.draw_lineage.ensures.trace_stays still ∙ c.in_default.ensures.opens tells.hosts.trace;
+        took = c.in-Err-draw_lineage.ensures.err.0 still ∙ c.in_default.ensures.empties tells.hosts.trace;
+      }),
+    )) refl
     (c.open.ensures.same tells.listener).ended (c.open.ensures.same tells.listener).coming refl
     (none_behind (words_said c.args.words) before c.in-Err-draw_lineage.object _ _ _ _ _ _ (c.in-Err-draw_lineage.ensures.cause at_rest) _ _))
 
