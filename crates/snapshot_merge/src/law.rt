@@ -1,16 +1,20 @@
 // What a merge makes of its base.
-ghost use Rattle.std.specs.Prelude.{◌≡◌, ◌≢◌, ◌<◌, ◌≤◌, ◌+◌, List, ℕ, Some, Ok, Err, length, slice_get};
+ghost use Rattle.std.specs.Prelude.{◌≡◌, ◌≢◌, ◌<◌, ◌≤◌, ◌+◌, ◌++◌, List, ℕ, Some, Ok, Err, length, slice_get};
 ghost use Rattle.refusals.specs.declared.refusal.Refusal.TheVariants as refusal;
 ghost use Rattle.snap_memory.specs.declared.header.MemHeader.{MemHeader};
 ghost use Rattle.snap_memory.specs.declared.slot.Slot.{Slot};
 ghost use Rattle.snap_diff.specs.Copies.{DiffCopy, JoinAll, Joins, MemoryCopy, overlaid, overlaid_all};
 ghost use Rattle.snap_diff.specs.Diffs.{IsDiffFile};
-ghost use Rattle.gate_file.specs.Stages.{text_after};
+ghost use Rattle.vm_outside.specs.Calls.{FileCall};
+ghost use Rattle.vm_outside.specs.Crashes.{Disk, Images};
+ghost use Rattle.vm_outside.specs.Known.{FilesKnown};
+ghost use Rattle.gate_file.specs.Stages.{IsSettled, Moment, text_after};
 ghost use Rattle.snapshot_merge.specs.Calls.{stages};
 ghost use Rattle.snapshot_merge.specs.InOrder.{AreDiffFiles, MergeAll};
 ghost use Rattle.snapshot_merge.specs.Memories.{Holds, IsMemoryFile};
 ghost use Rattle.snapshot_merge.specs.Merges.{open_slots};
 ghost use Rattle.snapshot_merge.specs.Plans.{planned};
+ghost use Rattle.snapshot_merge.specs.Stops.{Begins, IsMerged, Restarts};
 ghost use Rattle.snapshot_merge.specs.declared.merge.Merge.{Merge};
 
 /// A diff that is of the base's copy is merged where a slot is left, and what its stages leave is a file of the copy
@@ -40,4 +44,19 @@ pub fn merged_in_order()
         (is : IsMemoryFile given m) → AreDiffFiles files diffs → JoinAll m diffs →
         open_slots is.head.slots + length diffs ≤ 100 → MergeAll given files last →
         IsMemoryFile last (overlaid_all m diffs) }
+{}
+
+/// What merges that are stopped, and merges one after another, begin with.
+///
+/// A stopped merge is begun again on what a power cut at some moment left, or on what a killed process or a failed call left: files
+/// that tell a front of its calls. A merge that is done leaves what the merge of the next diff begins with, where a slot is left.
+pub fn stops()
+    ensures cut { (base diff : List ℕ) (before calls next : List FileCall) (left : Disk) → Moment before calls left →
+        ((disk : Disk) → Images next disk → (disk base ≡ left base) × (disk diff ≡ left diff)) →
+        Restarts base diff before calls next }
+    ensures failed { (base diff : List ℕ) (before calls done rest : List FileCall) → done ++ rest ≡ calls →
+        Restarts base diff before calls (before ++ done) }
+    ensures next { (base diff other : List ℕ) (m : MemoryCopy) (d : DiffCopy) (file text : List ℕ) (now : FilesKnown)
+        (is : IsMerged base diff m d file now) → open_slots is.merged.head.slots < 100 → IsSettled now.calls other text →
+        Begins base other (overlaid m d) text now.calls }
 {}

@@ -17,6 +17,6 @@ mod stages;
 
 pub use error::RebaseError;
 pub use finding::diff_pages;
-pub use law::{merged, merged_in_order};
+pub use law::{merged, merged_in_order, stops};
 pub use merge::{Merge, merge_of};
 pub use rebasing::rebase;
