@@ -118,6 +118,7 @@ module _ (base diff : List ℕ) (old new : FilesKnown) (image : Images old.calls
     -- ---- where it is done
 
     pub over : Merges base diff old new → IsMerged base diff m d file new
+    unfolding of_merge is_merge
     over merges =
         let merge = of_merge merges in
         let script : List FileCall = script_of merges.plan merges.text in

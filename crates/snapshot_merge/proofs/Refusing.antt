@@ -1,10 +1,9 @@
--- A refusal, with a sync of the base or without, and what was found before the first call that writes.
+-- A refusal, with a sync of the base or without, and what a stop inside it leaves.
 use Rattle.std.proofs.Common.{◌≡◌, ◌≢◌, ℕ, Bool, true, false, cond, List, [], ◌∷◌, ◌++◌, Option, Result, Ok, Err, inl, inr, refl, sym, ◌∙◌, ap, subst, append-nil}
 use Rattle.std.specs.FinMap.{get}
 use Rattle.std.specs.Str.{bytes_eq}
 use Rattle.std.proofs.lemmas.Slice.Eq.{bytes_eq-Decides}
 use Rattle.vm_types.specs.Saved.{Saved}
-use Rattle.refusals.specs.declared.refusal.Refusal.{Refusal}
 use Rattle.vm_outside.specs.Calls.{FileCall}
 use Rattle.vm_outside.specs.Calls.FileCall.{Synced}
 use Rattle.vm_outside.specs.Crashes.{Disk, Images, Left, NoFile}
@@ -12,35 +11,11 @@ use Rattle.vm_outside.specs.Filing.{SameFiles}
 use Rattle.vm_outside.specs.Known.{FilesKnown}
 use Rattle.gate_file.specs.Moments.{AsBefore}
 use Rattle.gate_file.proofs.Staging.{Step, left_then}
-use Rattle.snap_memory.specs.declared.header.MemHeader.{MemHeader}
-use Rattle.snap_diff.specs.Copies.{DiffCopy}
 use Rattle.snapshot_merge.specs.declared.error.RebaseError.{RebaseError}
 use Rattle.snapshot_merge.specs.declared.error.RebaseError.TheVariants.{Refused, Fault, OutOfMemory}
-use Rattle.snapshot_merge.specs.Answering.{Answers, IsPairIn}
-use Rattle.snapshot_merge.specs.Plans.{both_in, merged_by, plan_of, planned_in}
-use Rattle.snapshot_merge.specs.Rebasing.{Rebases, Refuses, refused_calls}
+use Rattle.snapshot_merge.specs.Plans.{planned_in}
+use Rattle.snapshot_merge.specs.Rebasing.{Rebases, refused_calls}
 use Rattle.snapshot_merge.proofs.Whole.{all_since, part_since}
-
--- by one of the two files alone
-pub refused_early : (base diff : List ℕ) (o : Option (List ℕ)) (why : RebaseError) (old new : FilesKnown) → Answers (IsPairIn o) (Err why) (both_in old.saved base diff) → SameFiles old new
-    → Rebases {T = Unit {0}} base diff (Err why) old new
-refused_early base diff o (Refused why) old new is same = record {
-  planned = ap plan_of is;
-  saved = same.saved;
-  calls = same.calls ∙ sym (append-nil old.calls)
-      ∙ ap (λ (r : Result (MemHeader × DiffCopy) Refusal). old.calls ++ cond (merged_by r) (Synced base (get old.saved base) ∷ []) []) (sym is);
-}
-refused_early base diff o Fault old new is same = inl same
-refused_early base diff o OutOfMemory old new is same = same
-
--- by both, with the sync or without
-pub refused_by_both : (base diff : List ℕ) (why : Refusal) (old new : FilesKnown) (again : Bool) → planned_in old.saved base diff ≡ Err why → merged_by (both_in old.saved base diff) ≡ again
-    → new.saved ≡ old.saved → new.calls ≡ old.calls ++ cond again (Synced base (get old.saved base) ∷ []) [] → Refuses base diff why old new
-refused_by_both base diff why old new again planned is saved calls = record {
-  planned = planned;
-  saved = saved;
-  calls = calls ∙ ap (λ (b : Bool). old.calls ++ cond b (Synced base (get old.saved base) ∷ []) []) (sym is);
-}
 
 -- ---- from before the files were read
 

@@ -1,5 +1,5 @@
 -- A merge that is stopped, and run again, as often as may be.
-use Rattle.std.proofs.Common.{◌≡◌, ◌≢◌, ◌⊎◌, ℕ, List, [], ◌∷◌, ◌++◌, Option, Some, Result, Ok, Err, inl, inr, ⊎_elim, sym, ◌∙◌, ap, subst, append-nil}
+use Rattle.std.proofs.Common.{◌≡◌, ◌≢◌, ◌⊎◌, ℕ, List, [], ◌∷◌, ◌++◌, Option, Some, Result, Ok, Err, inl, inr, ⊎_elim, sym, ◌∙◌, ap, subst, append-nil, refl}
 use Rattle.refusals.specs.declared.refusal.Refusal.{Refusal}
 use Rattle.refusals.specs.declared.refusal.Refusal.TheVariants as refusal
 use Rattle.vm_outside.specs.Calls.{FileCall}
@@ -170,7 +170,7 @@ module _ (base diff file : List ℕ) (m : MemoryCopy) (d : DiffCopy) (now : List
   -- the files are as they were, or lack some of the images
   pub goes_on : (next : List FileCall) → ((disk : Disk) → Images next disk → (old : Disk) × Images now old × ((disk base ≡ old base) × (disk diff ≡ old diff)))
       → WasBegun base diff m d file next
-  goes_on next as = by_lives was.lives was.first was.begins was.stopped
+  goes_on next found = by_lives was.lives was.first was.begins was.stopped
     where
       last_life : (life : List FileCall) (lives : List (List FileCall)) (before : List FileCall) → Stopped base diff file before (life ∷ lives) now
           → (others : List (List FileCall)) × Stopped base diff file before others next
@@ -181,7 +181,7 @@ module _ (base diff file : List ℕ) (m : MemoryCopy) (d : DiffCopy) (now : List
           merge,
           (
             (λ disk image.
-            let mid = as disk image in
+            let mid = found disk image in
             let old = restarts mid.0 (subst (λ (l : List FileCall). Images l mid.0) (sym same) mid.1) in
             (old.0, old.1, (mid.2.0 ∙ old.2.0, mid.2.1 ∙ old.2.1))),
             refl,
@@ -199,7 +199,7 @@ module _ (base diff file : List ℕ) (m : MemoryCopy) (d : DiffCopy) (now : List
         first = next;
         lives = [];
         begins = λ disk image.
-            let mid = as disk image in
+            let mid = found disk image in
             let b = begins mid.0 (subst (λ (l : List FileCall). Images l mid.0) (sym same) mid.1) in
             (b.0, (mid.2.0 ∙ b.1.0, b.1.1, mid.2.1 ∙ b.1.2));
         stopped = refl;
