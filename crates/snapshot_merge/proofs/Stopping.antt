@@ -181,9 +181,9 @@ module _ (base diff file : List ℕ) (m : MemoryCopy) (d : DiffCopy) (now : List
           merge,
           (
             (λ disk image.
-            let mid = found disk image in
-            let old = restarts mid.0 (subst (λ (l : List FileCall). Images l mid.0) (sym same) mid.1) in
-            (old.0, old.1, (mid.2.0 ∙ old.2.0, mid.2.1 ∙ old.2.1))),
+                let mid = found disk image in
+                let old = restarts mid.0 (subst (λ (l : List FileCall). Images l mid.0) (sym same) mid.1) in
+                (old.0, old.1, (mid.2.0 ∙ old.2.0, mid.2.1 ∙ old.2.1))),
             refl,
           ),
         ),
