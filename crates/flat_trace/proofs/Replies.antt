@@ -66,7 +66,7 @@ within : (count : ℕ) → count ≤ 64 → nat_le count 64 ≡ true
 within count less = grind arith
 
 wrong : {P : Type 0} (b : Bool) → b ≡ false → b ≡ true → P
-wrong b no yes = absurd (never (sym no ∙ yes))
+wrong b unmet met = absurd (never (sym unmet ∙ met))
 
 pub again : (act : OutOp) (reply : Reply) → out_fits act reply ≡ true
     → ((piece : List ℕ) (connection : ℕ) → reply ≡ Reply.Received piece connection → length piece ≤ 64)
