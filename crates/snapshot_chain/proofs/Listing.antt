@@ -65,26 +65,37 @@ later type first last (s ∷ savings) of (is, follows, rest) c (inr among) =
     let more = later snapshot.Diff s last savings is rest c among in
     omega (arith, rise, more)
 
+one_more : (x : Create) (others : List Create) → ((c : Create) → IsAmong c others → x.identity.number < c.identity.number)
+    → ((c e : Create) → IsAmong c others → IsAmong e others → c.identity ≡ e.identity → c ≡ e)
+    → (c e : Create) → IsAmong c (x ∷ others) → IsAmong e (x ∷ others) → c.identity ≡ e.identity → c ≡ e
+one_more x others above differ c e (inl here) (inl there) same = here ∙ sym there
+one_more x others above differ c e (inl here) (inr among) same =
+    let number : x.identity.number ≡ e.identity.number = ap (λ (y : Create). y.identity.number) (sym here) ∙ ap (λ (i : Identity). i.number) same in
+    let rise = above e among in
+    absurd (omega (arith, number, rise))
+one_more x others above differ c e (inr among) (inl there) same =
+    let number : x.identity.number ≡ c.identity.number = ap (λ (y : Create). y.identity.number) (sym there) ∙ ap (λ (i : Identity). i.number) (sym same) in
+    let rise = above c among in
+    absurd (omega (arith, number, rise))
+one_more x others above differ c e (inr among) (inr other) same = differ c e among other same
+
 one : (type : SnapshotType) (base : Option Identity) (first last : Saving) (savings : List Saving) → IsSaving type first → DiffsLead first savings last
     → (c e : Create) → IsAmong c (create_of base first ∷ diffs_from first savings) → IsAmong e (create_of base first ∷ diffs_from first savings) → c.identity ≡ e.identity → c ≡ e
-one type base first last savings of leads c e (inl here) (inl there) same = here ∙ sym there
-one type base first last savings of leads c e (inl here) (inr among) same =
-    let number : first.before.ids.next ≡ e.identity.number = ap (λ (x : Create). x.identity.number) (sym here) ∙ ap (λ (i : Identity). i.number) same in
-    let rise = later type first last savings of leads e among in
-    absurd (omega (arith, number, rise))
-one type base first last savings of leads c e (inr among) (inl there) same =
-    let number : first.before.ids.next ≡ c.identity.number = ap (λ (x : Create). x.identity.number) (sym there) ∙ ap (λ (i : Identity). i.number) (sym same) in
-    let rise = later type first last savings of leads c among in
-    absurd (omega (arith, number, rise))
-one type base first last [] of leads c e (inr among) (inr other) same = absurd among
-one type base first last (s ∷ savings) of (is, follows, rest) c e (inr among) (inr other) same =
-    one snapshot.Diff (Some (identity_of first)) s last savings is rest c e among other same
+one type base first last [] of leads = one_more (create_of base first) [] (λ c among. absurd among) (λ c e among other same. absurd among)
+one type base first last (s ∷ savings) of (is, follows, rest) =
+    one_more (create_of base first) (diffs_from first (s ∷ savings)) (later type first last (s ∷ savings) of (is, follows, rest))
+    (one snapshot.Diff (Some (identity_of first)) s last savings is rest)
+
+whole_more : (x : Create) (others : List Create) → IsWhole (memory_of x) → ((c : Create) → IsAmong c others → IsWhole (memory_of c))
+    → (c : Create) → IsAmong c (x ∷ others) → IsWhole (memory_of c)
+whole_more x others all rest c (inl here) = subst (λ (y : Create). IsWhole (memory_of y)) (sym here) all
+whole_more x others all rest c (inr among) = rest c among
 
 whole : (type : SnapshotType) (base : Option Identity) (first last : Saving) (savings : List Saving) → IsSaving type first → DiffsLead first savings last
     → (c : Create) → IsAmong c (create_of base first ∷ diffs_from first savings) → IsWhole (memory_of c)
-whole type base first last savings of leads c (inl here) = subst (λ (x : Create). IsWhole (memory_of x)) (sym here) of.whole
-whole type base first last [] of leads c (inr among) = absurd among
-whole type base first last (s ∷ savings) of (is, follows, rest) c (inr among) = whole snapshot.Diff (Some (identity_of first)) s last savings is rest c among
+whole type base first last [] of leads = whole_more (create_of base first) [] of.whole (λ c among. absurd among)
+whole type base first last (s ∷ savings) of (is, follows, rest) =
+    whole_more (create_of base first) (diffs_from first (s ∷ savings)) of.whole (whole snapshot.Diff (Some (identity_of first)) s last savings is rest)
 
 some_same : (i j : Identity) → ◌≡◌ {A = Option Identity} (Some i) (Some j) → i ≡ j
 some_same i j is = cc
