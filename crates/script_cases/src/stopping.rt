@@ -30,7 +30,7 @@ fn print_sweep<R: Print + AllocGlobal>(rt: &R, name: &str, sweep: &Sweep) -> Res
         let stop = sweep.first.saturating_add(call);
         let left = stop_at(alloc, sweep, &before, &[stop], &mut line)?;
         tell_files(&sweep.names, &before, &whole, &left, &mut line)?;
-        try_then(alloc, &sweep.then, left, &mut line)?;
+        try_all(alloc, &sweep.tried, left, &mut line)?;
         println!(rt; "{name}, {call}:{line}")?;
     }
     Ok(())
@@ -63,8 +63,8 @@ fn stop_at(
 }
 
 // The same files, as they are left, in which nothing fails any more.
-fn try_then(alloc: Global, then: &[Told], left: MemoryFiles, line: &mut String) -> Result<()> {
-    let _ = do_all(alloc, then, left, line)?;
+fn try_all(alloc: Global, acts: &[Told], left: MemoryFiles, line: &mut String) -> Result<()> {
+    let _ = do_all(alloc, acts, left, line)?;
     Ok(())
 }
 
@@ -139,9 +139,12 @@ fn answer_of(output: &str) -> &str {
     for line in output.lines() {
         last = line;
     }
-    match last.split_once("fault_message\":\"") {
-        Some((_, why)) => why.split_once(':').map_or(why, |(number, _)| number),
-        None => last,
+    let Some((_, why)) = last.split_once("fault_message\":\"") else {
+        return last;
+    };
+    match why.split_once(':') {
+        Some((number, _)) => number,
+        None => why,
     }
 }
 
@@ -190,13 +193,23 @@ fn content_of<'a>(files: &'a [Held], name: &str) -> Option<&'a [u8]> {
 }
 
 fn state_of(before: Option<&[u8]>, whole: Option<&[u8]>, left: Option<&[u8]>) -> &'static str {
-    match left {
-        None => "absent",
-        _ if left == before => "as before",
-        _ if left == whole => "whole",
-        Some([_]) => "shut",
-        Some([]) => "shut",
-        Some([0, ..]) => "shut",
-        Some(_) => "changed",
+    let Some(bytes) = left else {
+        return "absent";
+    };
+    if left == before {
+        "as before"
+    } else if left == whole {
+        "whole"
+    } else if is_shut(bytes) {
+        "shut"
+    } else {
+        "changed"
+    }
+}
+
+fn is_shut(bytes: &[u8]) -> bool {
+    match bytes.first() {
+        Some(gate) => *gate != 1,
+        None => true,
     }
 }

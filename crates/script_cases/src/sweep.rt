@@ -24,7 +24,7 @@ pub struct Told {
 pub struct Sweep {
     pub before: Vec<Told>,
     pub stopped: Vec<Told>,
-    pub then: Vec<Told>,
+    pub tried: Vec<Told>,
     /// The first call at which they are stopped, counted from 0, and how many there are.
     pub first: u64,
     pub count: u64,
@@ -40,7 +40,7 @@ pub fn read_sweep<R: Files + AllocGlobal>(rt: &R, name: &str) -> Result<Sweep> {
     let mut sweep = Sweep {
         before: Vec::new(alloc),
         stopped: Vec::new(alloc),
-        then: Vec::new(alloc),
+        tried: Vec::new(alloc),
         first: 0,
         count: 0,
         names: Vec::new(alloc),
@@ -58,7 +58,7 @@ fn take_line<R: Files + AllocGlobal>(rt: &R, sweep: &mut Sweep, line: &str) -> R
     } else if kind == "stop" {
         sweep.stopped.push(told_from(rt, rest)?)?;
     } else if kind == "then" {
-        sweep.then.push(told_from(rt, rest)?)?;
+        sweep.tried.push(told_from(rt, rest)?)?;
     } else if kind == "files" {
         sweep.names = words_of(rt.alloc(), rest)?;
     } else if kind == "from" {
