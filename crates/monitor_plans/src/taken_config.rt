@@ -61,10 +61,7 @@ impl TakenConfig {
         ensures ok { OnOk result (self.new ≡ changed self.old change) }
         ensures err { OnErr result (self.new ≡ self.old) }
     {
-        match self.config.apply(change) {
-            Ok(()) => Ok(()),
-            Err(short) => Err(short),
-        }
+        self.config.apply(change)
     }
 
     /// Takes the drives that a PUT of one leaves, which are as the API takes them.
