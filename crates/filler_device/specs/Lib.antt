@@ -1,2 +1,3 @@
 pub mod Filler
 pub mod Sequences
+pub mod Work

@@ -9,20 +9,26 @@ use Rattle.vm_types.specs.declared.reply.Reply.{Reply}
 use Rattle.vm_types.specs.declared.reply.Reply.TheVariants.{Bytes, Done, Word}
 use Rattle.device_trace.specs.Traces.{Item, Did, Changed}
 use Rattle.rate_gate.specs.Gate.{Buckets}
-use Rattle.queue_device.specs.Lanes.{Lane, LookDue, new_lane}
-use Rattle.filler_device.specs.Filler.{Filler, FillerChange, Limits, new_filler}
+use Rattle.token_bucket.specs.Kept.{Kept}
+use Rattle.queue_device.specs.declared.lanes.Due.TheVariants as due
+use Rattle.queue_device.specs.declared.lanes.Lane.{Lane}
+use Rattle.queue_device.specs.Lanes.{new_lane}
+use Rattle.queue_device.specs.Service.{Queued}
+use Rattle.filler_device.specs.declared.kind.FillerChange.{FillerChange}
+use Rattle.filler_device.specs.declared.kind.FillerChange.TheVariants.{Limits}
+use Rattle.filler_device.specs.Filler.{Filler, new_filler, no_bytes}
 
 -- 64 bytes in 1,000 ns, of which none is left at this moment
+abbrev pub bucket_at : ℕ → Kept
+bucket_at moment = record { rate = record { size = 64; refill = 1000 }; burst = 0; owes = 64000; moment = moment }
+
 abbrev pub limits_at : ℕ → Buckets
-limits_at moment = record {
-  bandwidth = Some (record { rate = record { size = 64; refill = 1000 }; burst = 0; owes = 64000; moment = moment });
-  ops = None;
-}
+limits_at moment = record { bandwidth = Some (bucket_at moment); ops = None }
 
 abbrev pub no_limits : Buckets
 no_limits = record { bandwidth = None; ops = None }
 
-abbrev pub start : Filler
+abbrev pub start : Queued Filler
 start = new_filler 3 1024 (limits_at 0)
 
 -- a lane of which one chain was given back
@@ -38,15 +44,22 @@ waiting_lane = record new_lane {
     queue = record { descriptors = 0x80002000; available = 0x80002100; used = 0x80002200; size = 4; pages = 1024 };
     head = 0;
     parts = record { at = 0x80001000; len = 64; writable = true } ∷ [];
-    got = record { bytes = []; parts = [] };
+    got = no_bytes;
   });
 }
 
-abbrev pub finish : Lane → Lane → ℕ → Buckets → Filler
+abbrev pub finish : Lane → Lane → ℕ → Buckets → Queued Filler
 finish first second byte limits = record {
-  rounds = record { port = 3; pages = 1024; lanes = first ∷ second ∷ []; due = LookDue; is_busy = false };
-  byte = byte;
-  limits = limits;
+  rounds = record {
+    first = first;
+    second = second;
+    third = new_lane;
+    pages = 1024;
+    port = 3;
+    due = due.Look;
+    is_busy = false;
+  };
+  own = record { byte = byte; limits = limits };
 }
 
 abbrev pub did : Op → Reply → Item FillerChange
@@ -120,9 +133,16 @@ first_waits = looks true false ∷ first_chain ++ time_told 0 ∷ waited ∷ []
 abbrev pub until_its_time : List (Item FillerChange)
 until_its_time = first_waits ++ looks false false ∷ time_told 1000 ∷ first_served 0
 
--- it goes on without a question for guest time once the API has taken the limit away, here right before its turn
+-- it goes on without a question for guest time once the API has taken the limit away, here while that is wanted
 abbrev pub until_unlimited : List (Item FillerChange)
 until_unlimited = first_waits ++ looks false false ∷ Changed (Limits (Some None) None) ∷ first_served 0
+
+-- where the API gives it a limit again before that, guest time is asked
+abbrev pub until_limited : List (Item FillerChange)
+until_limited =
+    first_waits
+    ++ looks false false ∷ Changed (Limits (Some None) None) ∷ Changed (Limits (Some (Some (bucket_at 0))) None)
+    ∷ time_told 1000 ∷ first_served 0
 
 -- the driver resets the device meanwhile
 abbrev pub until_reset : List (Item FillerChange)

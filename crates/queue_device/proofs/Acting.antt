@@ -5,27 +5,34 @@ use Rattle.device_trace.specs.Doing.{Doing, Gives, Wants}
 use Rattle.device_trace.specs.Keeps as trees
 use Rattle.device_trace.specs.Keeps.{Stays}
 use Rattle.device_trace.specs.Script.{Script}
-use Rattle.queue_device.specs.Acting.{Acting, ActingKeeps, Acts, Comes, during, performing}
+use Rattle.queue_device.specs.declared.lanes.Rounds.{Rounds}
+use Rattle.queue_device.specs.Acting.{Acting, ActingKeeps, Acts, Comes, performing}
+use Rattle.queue_device.specs.Confined.{LeavesRounds}
+use Rattle.queue_device.specs.Rounds.{during}
+use Rattle.queue_device.specs.Service.{Queued}
 
-module _ {D : Type 0} (P : Op → Type 0) (S : D → D → Type 0) where
-  pub stays_during : {A : Type 0} (R : D → Type 0) (Q : D → A → Type 0) (t : Acting D A) (more : D → A → Script D)
-      → ActingKeeps P Q S t → ((e : D) (a : A) → Q e a → Stays P R S (more e a)) → Stays P R S (during t more)
-  stays_during R Q (Comes d a) more keeps on = on d a keeps
-  stays_during R Q (Acts d op next) more keeps on =
-      (keeps.0, λ e reply left fit. stays_during R Q (next e reply) more (keeps.1 e reply left fit) on)
-
-  -- from data that an earlier moment leaves so
-  pub performing_keeps : {A B : Type 0} (again : (d e f : D) → S d e → S e f → S d f) (Q : A → Type 0) (R : D → B → Type 0)
-      (t : Doing A) (c d : D) (more : D → A → Acting D B) → S c d → trees.Keeps P Q t
-      → ((e : D) (a : A) → S c e → Q a → ActingKeeps P R S (more e a)) → ActingKeeps P R S (performing t d more)
-  performing_keeps again Q R (Gives a) c d more left keeps on = on d a left keeps
-  performing_keeps again Q R (Wants op next) c d more left keeps on = (
+module _ {E : Type 0} (P : Op → Type 0) where
+  -- what a kind does leaves the rounds
+  pub stays_during : {A : Type 0} (R : Queued E → Type 0) (Q : A → Type 0) (t : Acting E A) (r : Rounds) (more : Queued E
+      → A → Script (Queued E)) → ((d e : Queued E) → R d → LeavesRounds d e → R e)
+      → ((e : E) → R (record { rounds = r; own = e })) → ActingKeeps P Q t
+      → ((d : Queued E) (a : A) → R d → Q a → Stays P R LeavesRounds (more d a)) → Stays P R LeavesRounds (during t r more)
+  stays_during R Q (Comes e a) r more left has keeps on = on (record { rounds = r; own = e }) a (has e) keeps
+  stays_during R Q (Acts e op next) r more left has keeps on = (
     keeps.0,
-    λ e reply after fit.
-        performing_keeps again Q R (next reply) c e more (again c d e left after) (keeps.1 reply fit) on,
+    λ d reply same fit.
+        let here : R d = left (record { rounds = r; own = e }) d (has e) same in
+        stays_during R Q (next d.own reply) d.rounds more left
+        (λ f. left d (record { rounds = d.rounds; own = f }) here refl) (keeps.1 d.own reply fit) on,
   )
 
-  pub keeps_either : {B : Type 0} (R : D → B → Type 0) (test : Bool) (x y : Acting D B)
-      → (test ≡ true → ActingKeeps P R S x) → (test ≡ false → ActingKeeps P R S y) → ActingKeeps P R S (if test then x else y)
+  pub performing_keeps : {A B : Type 0} (Q : A → Type 0) (R : B → Type 0) (t : Doing A) (e : E) (more : E → A → Acting E B)
+      → trees.Keeps P Q t → ((f : E) (a : A) → Q a → ActingKeeps P R (more f a)) → ActingKeeps P R (performing t e more)
+  performing_keeps Q R (Gives a) e more keeps on = on e a keeps
+  performing_keeps Q R (Wants op next) e more keeps on =
+      (keeps.0, λ f reply fit. performing_keeps Q R (next reply) f more (keeps.1 reply fit) on)
+
+  pub keeps_either : {B : Type 0} (R : B → Type 0) (test : Bool) (x y : Acting E B)
+      → (test ≡ true → ActingKeeps P R x) → (test ≡ false → ActingKeeps P R y) → ActingKeeps P R (if test then x else y)
   keeps_either R true x y on off = on refl
   keeps_either R false x y on off = off refl

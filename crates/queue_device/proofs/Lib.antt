@@ -1,3 +1,5 @@
 pub mod Acting
 pub mod Confined
-pub mod Lanes
+pub mod Keeping
+pub mod Spilling
+pub mod Steps

@@ -1,66 +1,72 @@
 -- The queues of a device, each with where the device stands in it, and the round in hand.
-use Rattle.std.specs.Prelude.{ℕ, ◌/◌, ◌%◌, ◌==◌, Bool, true, false, ◌||◌, if◌then◌else◌, Option, Some, None, List, [], ◌∷◌, map, replicate, get_or, slice_set}
+use Rattle.std.specs.Prelude.{ℕ, ◌+◌, ◌/◌, ◌%◌, ◌^◌, ◌==◌, Bool, true, false, ◌||◌, if◌then◌else◌, Option, Some, None}
 use Rattle.vm_types.specs.declared.port_look.PortLook.{PortLook}
 use Rattle.vm_types.specs.declared.port_look.QueueShown.{QueueShown}
-use Rattle.vq_split.specs.declared.queue.Queue.{Queue}
-use Rattle.vq_split.specs.declared.queue.Part.{Part}
 use Rattle.dev_core.specs.Looks.{queue_shown, is_workable}
-use Rattle.dev_core.specs.Pieces.{Got}
-
--- a chain that was taken: the queue as it was then, the number of its first descriptor, its parts, and what was read of it
--- before it may be served
-pub record Chain : Type 0 where
-  pub queue : Queue
-  pub head : ℕ
-  pub parts : List Part
-  pub got : Got
-
--- A queue of a device: its registers, where the round in hand works on it; the number of the next chain, and how many were
--- given back, both modulo 65,536; whether it was kicked since it was last found empty; and the chain that waits for guest
--- time.
-pub record Lane : Type 0 where
-  pub queue : Option Queue
-  pub next : ℕ
-  pub used : ℕ
-  pub is_kicked : Bool
-  pub waiting : Option Chain
+use Rattle.queue_device.specs.declared.lanes.Due.{Due}
+use Rattle.queue_device.specs.declared.lanes.Due.TheVariants as due
+use Rattle.queue_device.specs.declared.lanes.Lane.{Lane}
+use Rattle.queue_device.specs.declared.lanes.Rounds.{Rounds}
+use Rattle.queue_device.specs.declared.lanes.Which.{Which}
+use Rattle.queue_device.specs.declared.lanes.Which.TheVariants.{First, Second, Third}
+use Rattle.queue_device.specs.Chains.{Chain}
 
 abbrev pub new_lane : Lane
-new_lane = record { queue = None; next = 0; used = 0; is_kicked = false; waiting = None }
+new_lane = record { queue = None; waiting = None; next = 0; used = 0; is_kicked = false }
 
--- what is due: a look at the port, which begins a round; the question to the host object; a lane, by its number; a wait
-pub data Due : Type 0 where
-  LookDue : Due
-  QuestionDue : Due
-  LaneDue : ℕ → Due
-  WaitDue : Due
+-- those of a device that has done nothing
+abbrev pub new_rounds : ℕ → ℕ → Rounds
+new_rounds port pages = record {
+  first = new_lane;
+  second = new_lane;
+  third = new_lane;
+  pages = pages;
+  port = port;
+  due = due.Look;
+  is_busy = false;
+}
 
--- The rounds of a device: the number of its port, how many pages its guest has, its lanes by their queues' numbers, what is
--- due, and whether the round in hand gave a chain back or received something.
-pub record Rounds : Type 0 where
-  pub port : ℕ
-  pub pages : ℕ
-  pub lanes : List Lane
-  pub due : Due
-  pub is_busy : Bool
-
--- those of a device that has done nothing, with so many queues
-abbrev pub new_rounds : ℕ → ℕ → ℕ → Rounds
-new_rounds port pages count =
-    record { port = port; pages = pages; lanes = replicate count new_lane; due = LookDue; is_busy = false }
-
-abbrev pub lane_of : ℕ → Rounds → Lane
-lane_of k r = get_or r.lanes k new_lane
+abbrev pub lane_of : Which → Rounds → Lane
+lane_of First r = r.first
+lane_of Second r = r.second
+lane_of Third r = r.third
 
 -- the lane of this number becomes another
-abbrev pub with_lane : ℕ → Lane → Rounds → Rounds
-with_lane k lane r = record r { lanes = slice_set r.lanes k lane }
+abbrev pub with_lane : Which → Lane → Rounds → Rounds
+with_lane First lane r = record r { first = lane }
+with_lane Second lane r = record r { second = lane }
+with_lane Third lane r = record r { third = lane }
 
 abbrev pub with_due : Due → Rounds → Rounds
 with_due due r = record r { due = due }
 
 abbrev pub busy : Rounds → Rounds
 busy r = record r { is_busy = true }
+
+-- ---- what becomes of a lane
+
+-- a chain was begun
+abbrev pub lane_counted : Lane → Lane
+lane_counted lane = record lane { next = (lane.next + 1) % 2 ^ 16 }
+
+-- a chain was given back
+abbrev pub lane_given : Lane → Lane
+lane_given lane = record lane { used = (lane.used + 1) % 2 ^ 16 }
+
+-- it was found empty
+abbrev pub lane_emptied : Lane → Lane
+lane_emptied lane = record lane { is_kicked = false }
+
+-- a chain waits for guest time
+abbrev pub lane_waiting : Chain → Lane → Lane
+lane_waiting c lane = record lane { waiting = Some c }
+
+-- it waits no longer
+abbrev pub lane_freed : Lane → Lane
+lane_freed lane = record lane { waiting = None }
+
+abbrev pub in_lane : Which → (Lane → Lane) → Rounds → Rounds
+in_lane k change r = with_lane k (change (lane_of k r)) r
 
 -- ---- what a look shows (VIRTIO 1.2, 2.1, 4.2.2)
 
@@ -83,24 +89,30 @@ lane_looked pages status shown lane = record lane {
 abbrev pub lane_closed : Lane → Lane
 lane_closed lane = record lane { queue = None }
 
--- the lanes by the queues of their numbers; a look shows three, and no device has more
-abbrev pub lanes_looked : ℕ → PortLook → List QueueShown → List Lane → List Lane
-lanes_looked pages look queues [] = []
-lanes_looked pages look [] (lane ∷ lanes) = lane_closed lane ∷ lanes_looked pages look [] lanes
-lanes_looked pages look (shown ∷ queues) (lane ∷ lanes) =
-    lane_looked pages look.status shown (lane_reset look.was_reset lane) ∷ lanes_looked pages look queues lanes
-
 -- a look begins a round
 abbrev pub round_begun : PortLook → Rounds → Rounds
 round_begun look r = record r {
-  lanes = lanes_looked r.pages look (look.first ∷ look.second ∷ look.third ∷ []) r.lanes;
+  first = lane_looked r.pages look.status look.first (lane_reset look.was_reset r.first);
+  second = lane_looked r.pages look.status look.second (lane_reset look.was_reset r.second);
+  third = lane_looked r.pages look.status look.third (lane_reset look.was_reset r.third);
   is_busy = false;
 }
 
 -- a round that gave a chain back or received something is followed by a look, any other one by a wait
 abbrev pub after_round : Bool → Due
-after_round true = LookDue
-after_round false = WaitDue
+after_round true = due.Look
+after_round false = due.Wait
 
 abbrev pub round_over : Rounds → Rounds
-round_over r = record r { lanes = map lane_closed r.lanes; due = after_round r.is_busy; is_busy = false }
+round_over r = record r {
+  first = lane_closed r.first;
+  second = lane_closed r.second;
+  third = lane_closed r.third;
+  due = after_round r.is_busy;
+  is_busy = false;
+}
+
+-- the round goes on with a queue, or is over
+abbrev pub next_rounds : Option Which → Rounds → Rounds
+next_rounds (Some k) r = with_due (due.Lane k) r
+next_rounds None r = round_over r

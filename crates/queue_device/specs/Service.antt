@@ -1,31 +1,41 @@
 -- What a kind of device has of its own, beside its queues.
 use Rattle.std.specs.Prelude.{ℕ, Bool, Option, List}
+use Rattle.vm_types.specs.declared.op.Op.{Op}
+use Rattle.vm_types.specs.declared.reply.Reply.{Reply}
 use Rattle.vq_split.specs.declared.queue.Part.{Part}
 use Rattle.dev_core.specs.Pieces.{Got}
+use Rattle.queue_device.specs.declared.lanes.Rounds.{Rounds}
+use Rattle.queue_device.specs.declared.lanes.Which.{Which}
 use Rattle.queue_device.specs.Acting.{Acting}
-use Rattle.queue_device.specs.Lanes.{Chain, Rounds}
+use Rattle.queue_device.specs.Chains.{Chain}
 
--- A kind of device by its data, among which are the rounds. A lane is meant by its number. Whatever is asked is judged by
--- the data of that moment.
-pub record Service (D : Type 0) : Type 0 where
-  pub rounds : D → Rounds
-  pub with_rounds : Rounds → D → D
-  -- under DRIVER_OK a round asks the host object first, where there is something to ask; whether something was received
-  pub asks : D → Bool
-  pub question : D → Acting D Bool
-  -- the lane's next chain is wanted, as where it was kicked
-  pub wants_chain : ℕ → D → Bool
+-- the data of a device: its rounds, and its kind's own data
+pub record Queued (E : Type 0) : Type 0 where
+  pub rounds : Rounds
+  pub own : E
+
+-- A kind of device by its own data. Whatever is asked is judged by the data of that moment.
+pub record Service (E : Type 0) : Type 0 where
+  -- under DRIVER_OK a round asks the host object first, where there is something to ask: by which act, and whether its
+  -- answer is that something was received
+  pub asks : E → Bool
+  pub question : E → Op
+  pub answer : E → Reply → Acting E Bool
+  -- the next chain of the queue is wanted, which was kicked or wasn't
+  pub wants_chain : Which → Bool → E → Bool
   -- the available ring shows a chain, which is so begun
-  pub begun : ℕ → D → D
+  pub begun : Which → E → E
   -- what is read of a chain before it may be served; none breaks the queue
-  pub take : ℕ → List Part → D → Acting D (Option Got)
+  pub take : Which → List Part → E → Acting E (Option Got)
+  -- a chain of these parts of which this was read may be served
+  pub is_taken : Which → List Part → Got → Bool
   -- guest time is asked for a chain that was taken
-  pub is_timed : ℕ → Chain → D → Bool
+  pub is_timed : Which → Chain → E → Bool
   -- at that guest time in nanoseconds it passes, and leaves such data; else it waits
-  pub passes : ℕ → Chain → ℕ → D → Option D
+  pub passes : Which → Chain → ℕ → E → Option E
   -- its service, and how many bytes were written; none breaks the queue
-  pub serve : ℕ → Chain → D → Acting D (Option ℕ)
+  pub serve : Which → Chain → E → Acting E (Option ℕ)
   -- the chain was given back, or the queue was found broken
-  pub over : ℕ → D → D
+  pub over : Which → E → E
   -- the driver reset the device
-  pub reset : D → D
+  pub reset : E → E

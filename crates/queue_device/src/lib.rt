@@ -1,10 +1,27 @@
 //! A device with queues (VIRTIO 1.2, 2.6): its rounds, once for all kinds.
 //!
 //! `specs/Lanes.antt` has the queues with where the device stands in each, `specs/Service.antt` what a kind has of its own,
-//! and `specs/Rounds.antt` the groups of acts: a look at the port, a question to the host object, a chain of a queue with
-//! guest time where the kind has a limit, a wait. `specs/Confined.antt` says what such a device may do. No kind is named.
+//! and `specs/Rounds.antt` the groups of acts: a look at the port, a question to the host object, a chain of a queue, guest
+//! time where the kind has a limit, a wait. `specs/Confined.antt` says what such a device may do. No kind is named.
+//! `QueueRounds` is such a device in code, over what a `Kind` does.
 #![tactic(auto)]
 
+mod begun;
+mod chain;
+mod device;
+mod going;
+mod inside;
+mod kind;
+mod lanes;
 mod law;
+mod opening;
+mod phase;
+mod spill;
 
-pub use law::{QueueDevice, queue_stays};
+pub use chain::{SoundQueue, TakenChain};
+pub use device::QueueRounds;
+pub use kind::{Begin, Kind};
+pub use lanes::{Due, Lane, Rounds, Which, is_running};
+pub use law::queue_stays;
+pub use phase::{InHand, Phase};
+pub use spill::Spill;

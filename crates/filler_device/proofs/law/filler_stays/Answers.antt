@@ -7,4 +7,4 @@ pub returns : goal.returns
 returns c port pages limits items left few leads =
     c.queue_stays.ensures.acts port pages left few owes
     (c.queue_stays.ensures.leads port pages (Ends (new_filler port pages limits)) left items few owes
-    (c.queue_stays.ensures.begins port pages 2) leads)
+    (c.queue_stays.ensures.begins port pages) leads)

@@ -1,0 +1,107 @@
+// A chain that was taken of a queue.
+ghost use Rattle.std.specs.Prelude.{◌≡◌};
+ghost use Rattle.vq_split.specs.Walking.{IsSound};
+ghost use Rattle.queue_device.specs.Chains.{got_of};
+
+use dev_core::Collect;
+use std::marker::Model;
+use vq_split::{ChainWalk, Part, PartList, Queue};
+
+/// A queue whose own fields have no flaw, as its registers were at a look.
+#[derive(Clone, Copy, Drop)]
+pub struct SoundQueue {
+    inner: Queue,
+}
+
+impl Model for SoundQueue {
+    ghost use Rattle.vq_split.specs.declared.queue.Queue.{Queue};
+    ghost use Rattle.vq_split.specs.Walking.{IsSound};
+
+    ghost Value = { Queue };
+
+    ghost view = { λ q. q.inner };
+
+    ghost invariant = { λ q. IsSound q.inner };
+
+    ghost inverse = { λ q. record { inner = q } };
+}
+
+impl SoundQueue {
+    /// The queue that a walk is made on.
+    pub fn of(walk: &ChainWalk) -> SoundQueue
+        ensures { result ≡ walk.now.queue }
+    {
+        walk.wanting();
+        SoundQueue {
+            inner: *walk.queue(),
+        }
+    }
+
+    /// Its fields.
+    pub fn fields(&self) -> Queue
+        ensures queue { result ≡ self.now }
+        ensures sound { IsSound self.now }
+    {
+        self.inner
+    }
+}
+
+/// A chain that was taken: the queue as it was then, the number of its first descriptor, its parts, and what was read of it
+/// before it may be served.
+#[derive(Drop)]
+pub struct TakenChain {
+    queue: SoundQueue,
+    head: u16,
+    parts: PartList,
+    got: Collect,
+}
+
+impl Model for TakenChain {
+    ghost use Rattle.queue_device.specs.Chains.{Chain, got_of};
+
+    ghost Value = { Chain };
+
+    ghost view = { λ c. record { queue = c.queue; head = c.head; parts = c.parts; got = got_of c.got } };
+}
+
+impl TakenChain {
+    /// A chain of these parts, of which this was read.
+    pub fn new(queue: SoundQueue, head: u16, parts: PartList, got: Collect) -> TakenChain
+        ensures { result ≡ record { queue = queue; head = head; parts = parts; got = got_of got } }
+    {
+        TakenChain {
+            queue,
+            head,
+            parts,
+            got,
+        }
+    }
+
+    /// Its queue, as it was when the chain was taken.
+    pub fn queue(&self) -> SoundQueue
+        ensures { result ≡ self.now.queue }
+    {
+        self.queue
+    }
+
+    /// The number of its first descriptor.
+    pub fn head(&self) -> u16
+        ensures { result ≡ self.now.head }
+    {
+        self.head
+    }
+
+    /// Its parts.
+    pub fn parts(&self) -> &PartList
+        ensures { result.now ≡ self.now.parts }
+    {
+        &self.parts
+    }
+
+    /// What was read of it before it may be served.
+    pub fn got(&self) -> &Collect
+        ensures { got_of result.now ≡ self.now.got }
+    {
+        &self.got
+    }
+}

@@ -1,0 +1,318 @@
+// Which queue is next, and what a chain comes to.
+ghost use Rattle.std.specs.Prelude.{◌≡◌, ℕ, Bool, true, Option, option_map};
+ghost use Rattle.vm_types.specs.Fits.{fits};
+ghost use Rattle.device_trace.specs.Doing.{led};
+ghost use Rattle.device_trace.specs.Script.{Ends, perform};
+ghost use Rattle.vq_split.specs.Walking.{walk_left, walk_wants};
+ghost use Rattle.dev_core.specs.Pieces.{Got};
+ghost use Rattle.dev_core.specs.Returning.{break_left, return_left};
+ghost use Rattle.queue_device.specs.Acting.{Acting, Works};
+ghost use Rattle.queue_device.specs.Chains.{got_of};
+ghost use Rattle.queue_device.specs.Left.{Hand, TakeWorks, left_at, queued, used_chain};
+ghost use Rattle.queue_device.specs.Lanes.{lane_of};
+ghost use Rattle.queue_device.specs.Rounds.{answered, broken_off, due_behind, due_from, during, given_back, is_due, second_due};
+ghost use Rattle.queue_device.specs.Rounds.{served, serving, taken, taking, third_due, took, walked};
+ghost use Rattle.queue_device.specs.Service.{Queued};
+
+use crate::chain::{SoundQueue, TakenChain};
+use crate::kind::Kind;
+use crate::lanes::{Rounds, Which};
+use crate::phase::{InHand, Phase};
+use dev_core::{BreakStage, Collect, ReturnStage, UsedChain};
+use vm_types::Reply;
+use vq_split::{ChainWalk, PartList, Walk};
+
+// Whether the round works on a queue of which a chain waits or is wanted.
+fn is_due<K: Kind>(rounds: &Rounds, kind: &K, which: Which) -> bool
+    ensures { result ≡ is_due K.service which (queued rounds.now (K.own kind.now)) }
+{
+    let lane = rounds.lane(which);
+    lane.queue.is_some() && (lane.waiting.is_some() || kind.wants_chain(which, lane.is_kicked))
+}
+
+fn third_due<K: Kind>(rounds: &Rounds, kind: &K) -> Option<Which>
+    ensures { result ≡ third_due K.service (queued rounds.now (K.own kind.now)) }
+{
+    if is_due(rounds, kind, Which::Third) {
+        Some(Which::Third)
+    } else {
+        None
+    }
+}
+
+fn second_due<K: Kind>(rounds: &Rounds, kind: &K) -> Option<Which>
+    ensures { result ≡ second_due K.service (queued rounds.now (K.own kind.now)) }
+{
+    if is_due(rounds, kind, Which::Second) {
+        Some(Which::Second)
+    } else {
+        third_due(rounds, kind)
+    }
+}
+
+/// The first queue with something to do, from this one on.
+pub fn due_from<K: Kind>(rounds: &Rounds, kind: &K, which: Which) -> Option<Which>
+    ensures { result ≡ due_from K.service which (queued rounds.now (K.own kind.now)) }
+{
+    match which {
+        Which::First => {
+            if is_due(rounds, kind, Which::First) {
+                Some(Which::First)
+            } else {
+                second_due(rounds, kind)
+            }
+        }
+        Which::Second => second_due(rounds, kind),
+        Which::Third => third_due(rounds, kind),
+    }
+}
+
+/// And behind it.
+pub fn due_behind<K: Kind>(rounds: &Rounds, kind: &K, which: Which) -> Option<Which>
+    ensures { result ≡ due_behind K.service which (queued rounds.now (K.own kind.now)) }
+{
+    match which {
+        Which::First => second_due(rounds, kind),
+        Which::Second => third_due(rounds, kind),
+        Which::Third => None,
+    }
+}
+
+/// The chain in hand, as it is given back with so many bytes written.
+pub fn used_chain(rounds: &Rounds, chain: InHand, len: u32) -> UsedChain
+    ensures { result ≡ used_chain chain len rounds.now }
+{
+    UsedChain {
+        queue: chain.queue.fields(),
+        len,
+        used: rounds.lane(chain.which).used,
+        head: chain.head,
+        port: rounds.port,
+    }
+}
+
+// ---- what a chain comes to
+
+/// A chain was served, with so many bytes written, or its queue is broken.
+pub fn served<K: Kind>(chain: InHand, len: Option<u32>) -> Phase
+    ensures { (h : Hand K.Own) (d : Queued K.Own) →
+        left_at K.service result h d ≡ served K.service chain.which chain.queue chain.head d len }
+{
+    match len {
+        None => Phase::Break {
+            which: chain.which,
+            stage: BreakStage::Port,
+        },
+        Some(len) => Phase::Return {
+            chain,
+            len,
+            stage: ReturnStage::Pair,
+        },
+    }
+}
+
+/// What a kind tells of the service of a chain.
+pub fn serve_told<K: Kind>(
+    rounds: &Rounds,
+    kind: &K,
+    chain: InHand,
+    told: Option<Option<u32>>,
+) -> Phase
+    ensures { (t : Acting K.Own (Option ℕ)) →
+        Works t told (K.own kind.now) (K.hand kind.now).op (K.hand kind.now).serving →
+        left_at K.service result (K.hand kind.now) (queued rounds.now (K.own kind.now)) ≡
+        during t rounds.now (served K.service chain.which chain.queue chain.head) }
+{
+    let _ = rounds;
+    let _ = kind;
+    match told {
+        None => Phase::Serve { chain },
+        Some(len) => served::<K>(chain, len),
+    }
+}
+
+/// A chain is served.
+pub fn serve<K: Kind>(rounds: &Rounds, kind: &mut K, which: Which, chain: &TakenChain) -> Phase
+    ensures { left_at K.service result (K.hand kind.new) (queued rounds.now (K.own kind.new)) ≡
+        serving K.service which chain.now (queued rounds.now (K.own kind.old)) }
+{
+    let told = kind.serve(which, chain);
+    let chain = InHand {
+        which,
+        queue: chain.queue(),
+        head: chain.head(),
+    };
+    serve_told(rounds, kind, chain, told)
+}
+
+// A chain was taken, of which this was read, or its queue is broken.
+fn took<K: Kind>(
+    rounds: &mut Rounds,
+    kind: &mut K,
+    chain: InHand,
+    parts: PartList,
+    got: Option<Collect>,
+) -> Phase
+    ensures { left_at K.service result (K.hand kind.new) (queued rounds.new (K.own kind.new)) ≡
+        took K.service chain.which chain.queue chain.head parts (queued rounds.old (K.own kind.old))
+        (option_map got_of got) }
+{
+    let which = chain.which;
+    match got {
+        None => Phase::Break {
+            which,
+            stage: BreakStage::Port,
+        },
+        Some(got) => {
+            let chain = TakenChain::new(chain.queue, chain.head, parts, got);
+            if kind.is_timed(which, &chain) {
+                rounds.wait(which, chain);
+                Phase::Between
+            } else {
+                serve(rounds, kind, which, &chain)
+            }
+        }
+    }
+}
+
+/// What a kind tells of a chain that is taken.
+pub fn take_told<K: Kind>(
+    rounds: &mut Rounds,
+    kind: &mut K,
+    chain: InHand,
+    parts: PartList,
+    told: Option<Option<Collect>>,
+) -> Phase
+    ensures { (t : Acting K.Own (Option Got)) → TakeWorks t told (K.own kind.old) (K.hand kind.old) →
+        left_at K.service result (K.hand kind.new) (queued rounds.new (K.own kind.new)) ≡
+        during t rounds.old (took K.service chain.which chain.queue chain.head parts) }
+{
+    match told {
+        None => Phase::Take { chain, parts },
+        Some(got) => took(rounds, kind, chain, parts, got),
+    }
+}
+
+/// What a walk came to.
+pub fn walked<K: Kind>(
+    rounds: &mut Rounds,
+    kind: &mut K,
+    which: Which,
+    queue: SoundQueue,
+    came: Walk,
+) -> Phase
+    ensures { left_at K.service result (K.hand kind.new) (queued rounds.new (K.own kind.new)) ≡
+        walked K.service which queue (queued rounds.old (K.own kind.old)) came }
+{
+    match came {
+        Walk::More => Phase::Between,
+        Walk::Empty => {
+            rounds.empty(which);
+            let due = due_behind(rounds, kind, which);
+            rounds.next(due);
+            Phase::Between
+        }
+        Walk::Broken { why: _ } => Phase::Break {
+            which,
+            stage: BreakStage::Port,
+        },
+        Walk::Chain { head, parts } => {
+            rounds.count(which);
+            let told = kind.take(which, &parts);
+            let chain = InHand { which, queue, head };
+            take_told(rounds, kind, chain, parts, told)
+        }
+    }
+}
+
+/// A reply came to the act of a walk.
+pub fn walk_given<K: Kind>(
+    rounds: &mut Rounds,
+    kind: &mut K,
+    which: Which,
+    walk: ChainWalk,
+    reply: Reply,
+) -> Phase
+    requires { fits (walk_wants walk) reply ≡ true }
+    ensures { left_at K.service result (K.hand kind.new) (queued rounds.new (K.own kind.new)) ≡
+        perform (led (walk_left walk) reply) (queued rounds.old (K.own kind.old)) (walked K.service which walk.queue) }
+{
+    let queue = SoundQueue::of(&walk);
+    let mut walk = walk;
+    match walk.give(reply) {
+        Walk::More => Phase::Walk { which, walk },
+        came => walked(rounds, kind, which, queue, came),
+    }
+}
+
+/// A reply came to the giving back of a chain.
+pub fn return_given<K: Kind>(
+    rounds: &mut Rounds,
+    kind: &mut K,
+    chain: InHand,
+    len: u32,
+    stage: ReturnStage,
+    reply: &Reply,
+) -> Phase
+    ensures { left_at K.service result (K.hand kind.new) (queued rounds.new (K.own kind.new)) ≡
+        perform (led (return_left stage (used_chain chain len rounds.old)) reply.now)
+        (queued rounds.old (K.own kind.old)) (λ e done. Ends (given_back K.service chain.which e)) }
+{
+    let _ = reply;
+    let mut stage = stage;
+    let used = used_chain(rounds, chain, len);
+    let _queue = chain.queue.fields();
+    match stage.give(&used) {
+        None => Phase::Return { chain, len, stage },
+        Some(()) => {
+            rounds.give(chain.which);
+            kind.over(chain.which);
+            let due = due_from(rounds, kind, chain.which);
+            rounds.next(due);
+            Phase::Between
+        }
+    }
+}
+
+/// A reply came to what is told of a broken queue.
+pub fn break_given<K: Kind>(
+    rounds: &mut Rounds,
+    kind: &mut K,
+    which: Which,
+    stage: BreakStage,
+    reply: &Reply,
+) -> Phase
+    ensures { left_at K.service result (K.hand kind.new) (queued rounds.new (K.own kind.new)) ≡
+        perform (led (break_left stage rounds.old.port) reply.now)
+        (queued rounds.old (K.own kind.old)) (λ e done. Ends (broken_off K.service which e)) }
+{
+    let mut stage = stage;
+    match stage.give(rounds.port, reply) {
+        None => Phase::Break { which, stage },
+        Some(()) => {
+            kind.over(which);
+            rounds.end();
+            Phase::Between
+        }
+    }
+}
+
+/// What a kind tells of the answer to its question.
+pub fn answer_told<K: Kind>(rounds: &mut Rounds, kind: &K, told: Option<bool>) -> Phase
+    ensures { (t : Acting K.Own Bool) →
+        Works t told (K.own kind.now) (K.hand kind.now).op (K.hand kind.now).answering →
+        left_at K.service result (K.hand kind.now) (queued rounds.new (K.own kind.now)) ≡
+        during t rounds.old (answered K.service) }
+{
+    match told {
+        None => Phase::Question,
+        Some(received) => {
+            if received {
+                rounds.is_busy = true;
+            }
+            let due = due_from(rounds, kind, Which::First);
+            rounds.next(due);
+            Phase::Between
+        }
+    }
+}

@@ -1,0 +1,133 @@
+// What a kind of device with queues does, beside its rounds.
+use crate::chain::TakenChain;
+use crate::lanes::Which;
+use dev_core::Collect;
+use vm_types::{Op, Reply};
+use vq_split::PartList;
+
+/// How the service of a chain begins.
+#[derive(Clone, Copy, Drop)]
+pub enum Begin {
+    /// With this act.
+    Wants(Op),
+    /// With none: so many bytes were written, or the queue is broken.
+    Comes(Option<u32>),
+}
+
+/// What a kind of device does. It keeps its own data, and where it is in the work that was begun: a question to the host
+/// object, what is read of a chain before it may be served, or a chain's service. `None` says that the work goes on with
+/// the act that `want` gives, and `Some` what it came to.
+///
+/// `service` is its definition, and `changing` what changes from outside make of its data. It may ask guest time where `times`
+/// says so, and its host object for the calls of `calls` alone. `own` are its data, and `hand` the work that was begun.
+pub trait Kind: Drop {
+    ghost use Rattle.std.specs.Prelude.{◌≡◌, Bool, true, false, Option, Some, None, if◌then◌else◌, IfSome};
+    ghost use Rattle.vm_types.specs.declared.op.OutOp.{OutOp};
+    ghost use Rattle.vm_types.specs.Fits.{fits};
+    ghost use Rattle.device_trace.specs.Traces.{Changing};
+    ghost use Rattle.queue_device.specs.Acting.{Works};
+    ghost use Rattle.queue_device.specs.Left.{Hand, TakeWorks, begin_of};
+    ghost use Rattle.queue_device.specs.Service.{Service};
+
+    /// What may be changed from outside.
+    type Change: Drop;
+
+    ghost Own: { Type 0 };
+
+    ghost service: { Service Self.Own };
+
+    ghost changing: { Changing Self.Own Self.Change };
+
+    ghost times: { Bool };
+
+    ghost calls: { OutOp → Bool };
+
+    ghost own: { Self → Self.Own };
+
+    ghost hand: { Self → Hand Self.Own };
+
+    /// The act that is wanted by the work that was begun.
+    fn want(&self) -> Op
+        ensures { result ≡ (hand self.now).op };
+
+    /// Whether there is something to ask the host object.
+    fn asks(&self) -> bool
+        ensures { result ≡ service.asks (own self.now) };
+
+    /// By which act it is asked.
+    fn question(&self) -> Op
+        ensures { result ≡ service.question (own self.now) };
+
+    /// The host object answered. Whether something was received.
+    fn answer(&mut self, reply: &Reply) -> Option<bool>
+        requires { fits (service.question (own self.old)) reply.now ≡ true }
+        ensures { Works (service.answer (own self.old) reply.now) result
+            (own self.new) (hand self.new).op (hand self.new).answering };
+
+    /// A reply came to the work that follows the answer.
+    fn answer_on(&mut self, reply: &Reply) -> Option<bool>
+        requires { fits (hand self.old).op reply.now ≡ true }
+        ensures { Works ((hand self.old).answering (own self.old) reply.now) result
+            (own self.new) (hand self.new).op (hand self.new).answering };
+
+    /// Whether the next chain of a queue is wanted, which was kicked or wasn't.
+    fn wants_chain(&self, which: Which, is_kicked: bool) -> bool
+        ensures { result ≡ service.wants_chain which is_kicked (own self.now) };
+
+    /// The available ring of a queue shows a chain, which is so begun.
+    fn begun(&mut self, which: Which)
+        ensures { own self.new ≡ service.begun which (own self.old) };
+
+    /// A chain of these parts is taken. What was read of it, or nothing where it breaks the queue.
+    fn take(&mut self, which: Which, parts: &PartList) -> Option<Option<Collect>>
+        ensures { TakeWorks (service.take which parts.now (own self.old)) result (own self.new) (hand self.new) };
+
+    /// A reply came to that.
+    fn take_on(&mut self, reply: &Reply) -> Option<Option<Collect>>
+        requires { fits (hand self.old).op reply.now ≡ true }
+        ensures { TakeWorks ((hand self.old).taking (own self.old) reply.now) result (own self.new) (hand self.new) };
+
+    /// Whether guest time is asked for a chain.
+    fn is_timed(&self, which: Which, chain: &TakenChain) -> bool
+        ensures { result ≡ service.is_timed which chain.now (own self.now) };
+
+    /// Whether a chain passes at this guest time, in nanoseconds. Where it doesn't, nothing changes.
+    fn passes(&mut self, which: Which, chain: &TakenChain, now: u64) -> bool
+        ensures passes { service.passes which chain.now now (own self.old) ≡
+            (if result then Some (own self.new) else None) }
+        ensures waits { result ≡ false → own self.new ≡ own self.old };
+
+    /// How the service of a chain would begin now.
+    fn serves(&self, which: Which, chain: &TakenChain) -> Begin
+        ensures { result ≡ begin_of (service.serve which chain.now (own self.now)) };
+
+    /// A chain is served. How many bytes were written, or nothing where the queue is broken.
+    fn serve(&mut self, which: Which, chain: &TakenChain) -> Option<Option<u32>>
+        ensures { Works (service.serve which chain.now (own self.old)) result
+            (own self.new) (hand self.new).op (hand self.new).serving };
+
+    /// A reply came to that.
+    fn serve_on(&mut self, reply: &Reply) -> Option<Option<u32>>
+        requires { fits (hand self.old).op reply.now ≡ true }
+        ensures { Works ((hand self.old).serving (own self.old) reply.now) result
+            (own self.new) (hand self.new).op (hand self.new).serving };
+
+    /// The chain in hand was given back, or its queue was found broken.
+    fn over(&mut self, which: Which)
+        ensures { own self.new ≡ service.over which (own self.old) };
+
+    /// The driver reset the device.
+    fn reset(&mut self)
+        ensures { own self.new ≡ service.reset (own self.old) };
+
+    /// A change from outside between two groups.
+    fn change(&mut self, change: Self::Change)
+        ensures { own self.new ≡ changing.between change (own self.old) };
+
+    /// A change from outside while `op` is wanted. The reply by which that act is left out, if it is.
+    fn change_inside(&mut self, change: Self::Change, op: &Op) -> Option<Reply>
+        ensures own { own self.new ≡ changing.inside change (own self.old) }
+        ensures hand { hand self.new ≡ hand self.old }
+        ensures cut { result ≡ changing.cut change (own self.old) op.now }
+        ensures fits { IfSome result (λ reply. fits op.now reply ≡ true) };
+}
