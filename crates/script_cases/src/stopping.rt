@@ -11,6 +11,9 @@ use rebase_cli::rebase_main;
 use std::alloc::{AllocError, Global};
 use std::rt::Files;
 
+// A call that none of these acts comes to.
+const NO_CALL: u64 = u64::MAX;
+
 /// A line for each call of each sweep: what the act that is stopped answered, what each file holds, and then each act that is
 /// tried on these files, with its answer.
 pub fn print<R: Files + Print + AllocGlobal + Clone + Drop>(rt: &R) -> Result<()> {
@@ -21,116 +24,121 @@ pub fn print<R: Files + Print + AllocGlobal + Clone + Drop>(rt: &R) -> Result<()
     Ok(())
 }
 
+type With = Outside<MemorySource, MemorySink, MemoryFiles>;
+
 fn print_sweep<R: Print + AllocGlobal>(rt: &R, name: &str, sweep: &Sweep) -> Result<()> {
     let alloc = rt.alloc();
     let before = held_before(alloc, sweep)?;
     let whole = held_whole(alloc, sweep, &before)?;
-    for call in 0..=sweep.count {
-        let mut line = String::new(alloc);
+    for call in 0..sweep.count {
         let stop = sweep.first.saturating_add(call);
-        let left = stop_at(alloc, sweep, &before, &[stop], &mut line)?;
-        tell_files(&sweep.names, &before, &whole, &left, &mut line)?;
-        try_all(alloc, &sweep.tried, left, &mut line)?;
+        let line = line_of(alloc, sweep, &before, &whole, stop)?;
         println!(rt; "{name}, {call}:{line}")?;
     }
+    let line = line_of(alloc, sweep, &before, &whole, NO_CALL)?;
+    println!(rt; "{name}, {}:{line}", sweep.count)?;
     Ok(())
+}
+
+// What is stopped at this call, and what is told of it.
+fn line_of(
+    alloc: Global,
+    sweep: &Sweep,
+    before: &[Held],
+    whole: &[Held],
+    stop: u64,
+) -> Result<String> {
+    let mut line = String::new(alloc);
+    let mut with = with_files(alloc, before, &[stop])?;
+    do_all(alloc, &sweep.stopped, &mut with, &mut line)?;
+    tell_files(&sweep.names, before, whole, &with.files, &mut line)?;
+    do_all(alloc, &sweep.tried, &mut with, &mut line)?;
+    Ok(line)
 }
 
 // What the files hold before the act that is stopped.
 fn held_before(alloc: Global, sweep: &Sweep) -> Result<Vec<Held>> {
-    let mut untold = String::new(alloc);
-    let none = files_of(alloc, &[], &[])?;
-    let files = do_all(alloc, &sweep.before, none, &mut untold)?;
-    held_of(alloc, &files, &sweep.names)
+    held_after(alloc, sweep, &sweep.before, &[])
 }
 
 // And what they hold where nothing stops it.
 fn held_whole(alloc: Global, sweep: &Sweep, before: &[Held]) -> Result<Vec<Held>> {
+    held_after(alloc, sweep, &sweep.stopped, before)
+}
+
+fn held_after(alloc: Global, sweep: &Sweep, acts: &[Told], held: &[Held]) -> Result<Vec<Held>> {
     let mut untold = String::new(alloc);
-    let files = stop_at(alloc, sweep, before, &[], &mut untold)?;
-    held_of(alloc, &files, &sweep.names)
+    let mut with = with_files(alloc, held, &[])?;
+    do_all(alloc, acts, &mut with, &mut untold)?;
+    held_of(alloc, &with.files, &sweep.names)
 }
 
-fn stop_at(
-    alloc: Global,
-    sweep: &Sweep,
-    before: &[Held],
-    fails: &[u64],
-    line: &mut String,
-) -> Result<MemoryFiles> {
-    let files = files_of(alloc, before, fails)?;
-    do_all(alloc, &sweep.stopped, files, line)
+// These files, of whose calls those of these numbers fail.
+fn with_files(alloc: Global, held: &[Held], fails: &[u64]) -> Result<With> {
+    let files = files_of(alloc, held, fails)?;
+    Ok(Outside {
+        source: source_of(alloc, "")?,
+        sink: MemorySink::new(alloc, 4096, never(alloc)),
+        files,
+    })
 }
 
-// The same files, as they are left, in which nothing fails any more.
-fn try_all(alloc: Global, acts: &[Told], left: MemoryFiles, line: &mut String) -> Result<()> {
-    let _ = do_all(alloc, acts, left, line)?;
+fn source_of(alloc: Global, script: &str) -> Result<MemorySource, AllocError> {
+    let bytes = script.as_bytes().to_vec(alloc)?;
+    Ok(MemorySource::new(bytes, 4096, never(alloc)))
+}
+
+fn never(alloc: Global) -> Failing {
+    Failing::new(Vec::new(alloc))
+}
+
+// ---- acts
+
+fn do_all(alloc: Global, acts: &[Told], with: &mut With, line: &mut String) -> Result<()> {
+    for told in acts {
+        write!(line, " {} => ", told.words)?;
+        do_act(alloc, &told.act, with, line)?;
+        line.push_str(";")?;
+    }
     Ok(())
 }
 
-fn do_all(
-    alloc: Global,
-    acts: &[Told],
-    files: MemoryFiles,
-    line: &mut String,
-) -> Result<MemoryFiles> {
-    let mut files = files;
-    for told in acts {
-        line.push_str(" ")?;
-        line.push_str(told.words.as_str())?;
-        line.push_str(" => ")?;
-        files = do_act(alloc, &told.act, files, line)?;
-        line.push_str(";")?;
-    }
-    Ok(files)
-}
-
-fn do_act(alloc: Global, act: &Act, files: MemoryFiles, line: &mut String) -> Result<MemoryFiles> {
+fn do_act(alloc: Global, act: &Act, with: &mut With, line: &mut String) -> Result<(), AllocError> {
     match act {
-        Act::Replay { script } => replay(alloc, script.as_str(), files, line),
-        Act::Merge { base, diff } => merge(alloc, base.as_str(), diff.as_str(), files, line),
+        Act::Replay { script } => replay(alloc, script.as_str(), with, line),
+        Act::Merge { base, diff } => merge(alloc, base.as_str(), diff.as_str(), with, line),
     }
 }
 
 fn replay(
     alloc: Global,
     script: &str,
-    files: MemoryFiles,
+    with: &mut With,
     line: &mut String,
-) -> Result<MemoryFiles> {
+) -> Result<(), AllocError> {
     let words = words_of(alloc, "replay")?;
-    let mut out = Outside {
-        source: MemorySource::new(script.as_bytes().to_vec(alloc)?, 4096, never(alloc)),
-        sink: MemorySink::new(alloc, 4096, never(alloc)),
-        files,
-    };
-    let _ = replay_main(alloc, &words, &mut out);
-    line.push_str(answer_of(text_of(out.sink.taken())))?;
-    Ok(out.files)
+    with.source = source_of(alloc, script)?;
+    with.sink = MemorySink::new(alloc, 4096, never(alloc));
+    let _ = replay_main(alloc, &words, with);
+    line.push_str(answer_of(text_of(with.sink.taken())))
 }
 
 fn merge(
     alloc: Global,
     base: &str,
     diff: &str,
-    files: MemoryFiles,
+    with: &mut With,
     line: &mut String,
-) -> Result<MemoryFiles> {
-    let mut files = files;
+) -> Result<(), AllocError> {
     let words = merge_words(alloc, base, diff)?;
     let mut out = MemorySink::new(alloc, 80, never(alloc));
-    let end = rebase_main(alloc, &words, &mut files, &mut out);
-    write!(line, "{end:?}")?;
-    Ok(files)
+    let end = rebase_main(alloc, &words, &mut with.files, &mut out);
+    write!(line, "{end:?}")
 }
 
 fn merge_words(alloc: Global, base: &str, diff: &str) -> Result<Vec<String>, AllocError> {
     let line = format!(in alloc; "edit-memory rebase --memory-path {base} --diff-path {diff}")?;
     words_of(alloc, line.as_str())
-}
-
-fn never(alloc: Global) -> Failing {
-    Failing::new(Vec::new(alloc))
 }
 
 // The last reply of an output: its refusal's number, or its status.
@@ -154,14 +162,19 @@ fn held_of(alloc: Global, files: &MemoryFiles, names: &[String]) -> Result<Vec<H
     let mut held = Vec::new(alloc);
     for name in names {
         if let Some(content) = files.find(name.as_str()) {
-            let content = Some(content.to_vec(alloc)?);
-            held.push(Held {
-                name: name.clone()?,
-                content,
-            })?;
+            held.push(copied(alloc, name.as_str(), content)?)?;
         }
     }
     Ok(held)
+}
+
+fn copied(alloc: Global, name: &str, content: &[u8]) -> Result<Held, AllocError> {
+    let name = String::from_str(alloc, name)?;
+    let content = content.to_vec(alloc)?;
+    Ok(Held {
+        name,
+        content: Some(content),
+    })
 }
 
 fn tell_files(
