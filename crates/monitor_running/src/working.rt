@@ -1,8 +1,11 @@
 // Whether devices have something to do.
 ghost use Rattle.std.specs.Prelude.{◌≡◌, ◌↔◌, true, slice_get};
-ghost use Rattle.monitor_running.specs.Working.{HasWork, is_called_at, works_in};
+ghost use Rattle.std.specs.List.{list_any};
+ghost use Rattle.monitor_running.specs.Working.{HasWork, is_called, is_called_at, works_in};
 
 use crate::devices::MOST_DEVICES;
+use mmio_port::Port;
+use port_table::PortQueue;
 use vm_types::{ActorId, Op, PortOp};
 use vm_world::World;
 
@@ -25,25 +28,35 @@ fn works(world: &World, device: u8) -> bool
 {
     match world.want(ActorId::Device(device)) {
         None => false,
-        Some(Op::Idle) => is_called(world, device),
+        Some(Op::Idle) => is_called_at(world.ports(), device),
         Some(
             Op::Port {
                 act: PortOp::Look,
                 ..
             },
-        ) => is_called(world, device),
+        ) => is_called_at(world.ports(), device),
         Some(_) => true,
     }
 }
 
-fn is_called(world: &World, device: u8) -> bool
-    ensures { result ≡ is_called_at (slice_get world.now.ports device) }
+fn is_called_at(ports: &[Port], device: u8) -> bool
+    ensures { result ≡ is_called_at (slice_get ports.now device) }
 {
-    match world.ports().get(device as usize) {
-        Some(port) => {
-            let state = port.state();
-            state.is_reset_asked || state.queues.iter().any(|queue| queue.is_kicked)
-        }
+    match ports.get(device as usize) {
+        Some(port) => is_called(port),
         None => false,
     }
+}
+
+fn is_called(port: &Port) -> bool
+    ensures { result ≡ is_called port.now }
+{
+    let state = port.state();
+    state.is_reset_asked || has_kick(&state.queues)
+}
+
+fn has_kick(queues: &[PortQueue]) -> bool
+    ensures { result ≡ list_any (λ queue. queue.is_kicked) queues.now }
+{
+    queues.iter().any(|queue| queue.is_kicked)
 }
