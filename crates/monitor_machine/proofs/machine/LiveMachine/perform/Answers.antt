@@ -6,8 +6,8 @@ use Rattle.monitor_plans.specs.Plans.{IsFittingPlan}
 use Rattle.monitor_machine.specs.declared.machine.LiveMachine.{LiveMachine}
 use Rattle.monitor_machine.proofs.machine.LiveMachine.perform.Goals as goal
 
-pub apply-_applied-requires : goal.apply-_applied-requires
-apply-_applied-requires c =
+pub apply-applied-requires : goal.apply-applied-requires
+apply-applied-requires c =
     subst (λ (k : Config). IsFitting k c.in-Changes.change) (sym (ap (λ (l : LiveMachine). l.config) c.stand.ensures))
     (subst (λ (p : Plan). IsFittingPlan p c.args.self.now.config) c.in-Changes.is c.requires)
 
