@@ -1,5 +1,5 @@
 // Turns of a machine until a gate is closed.
-ghost use Rattle.std.specs.Prelude.{◌≡◌, ◌≢◌, ◌≤◌, ◌<◌, ◌+◌, true, length, All, MatchBool};
+ghost use Rattle.std.specs.Prelude.{◌≡◌, ◌≢◌, ◌⊎◌, ◌≤◌, ◌<◌, ◌+◌, true, length, All, MatchBool};
 ghost use Rattle.vm_host.specs.Telling as clocks;
 ghost use Rattle.monitor_machine.specs.State.{IsLive};
 ghost use Rattle.monitor_running.specs.declared.ran.Ran.TheVariants as ran;
