@@ -6,12 +6,13 @@ use Rattle.vm_types.specs.declared.ids.PlaceId.{PlaceId}
 use Rattle.vm_types.specs.declared.op.Op.{Op}
 use Rattle.vm_types.specs.declared.reply.Reply.{Reply}
 use Rattle.vm_types.specs.declared.entry.Entry.{Entry}
-use Rattle.vm_types.specs.declared.entry.Event.{Event}
 use Rattle.guest_memory.specs.Memory as memory
 use Rattle.board_table.specs.Board.{Board}
 use Rattle.board_table.specs.Acts as board
 use Rattle.port_table.specs.declared.state.PortState.{PortState}
 use Rattle.rv_supervisor.specs.declared.regs.Regs.{Regs}
+use Rattle.flat_guest.specs.Given.{Event, Given}
+use Rattle.flat_guest.specs.Given.Given.{Nothing}
 use Rattle.hart_trace.specs.Asks.{is_host_op}
 use Rattle.hart_trace.specs.States.{Hart, hart_wants}
 use Rattle.timer_trace.specs.States as timer
@@ -59,37 +60,37 @@ module _ (b : Body) (g : Guest) (is : IsGuest b g) where
 
 -- ---- what is answered has what it is to be given
 
-out_none : (op : Op) (given : Option Reply) (reply : Reply) → is_host_op op ≡ false → AnswersOut op given reply
-    → given ≡ None
+out_none : (op : Op) (given : Given) (reply : Reply) → is_host_op op ≡ false → AnswersOut op given reply
+    → given ≡ Nothing
 out_none (Op.Out act) given reply host answer = cc
 out_none (Op.Port port act) given reply host answer = answer.0
 out_none (Op.Board act) given reply host answer = answer.0
 out_none Op.Idle given reply host answer = answer.0
 out_none op given reply host answer = answer.0
 
-given_none : (p : PlaceId) (g : Guest) (actor : ActorId) (op : Op) (given : Option Reply) (reply : Reply)
-    → is_host_op op ≡ false → Answers p g actor op given reply → given ≡ None
+given_none : (p : PlaceId) (g : Guest) (actor : ActorId) (op : Op) (given : Given) (reply : Reply)
+    → is_host_op op ≡ false → Answers p g actor op given reply → given ≡ Nothing
 given_none (PlaceId.Page i) g actor op given reply host answer = answer.0
 given_none PlaceId.Board g actor op given reply host answer = answer.0
 given_none (PlaceId.Port k) g actor op given reply host answer = answer.0
 given_none PlaceId.Out g actor op given reply host answer = out_none op given reply host answer
 
-host_given : (g : Guest) (actor : ActorId) (op : Op) (given : Option Reply) (reply : Reply) → is_host_op op ≡ true
+host_given : (g : Guest) (actor : ActorId) (op : Op) (given : Given) (reply : Reply) → is_host_op op ≡ true
     → Answers (place_of (layout_of g) op) g actor op given reply → is_given op given ≡ true
 host_given g actor (Op.Out act) given reply host answer =
-    subst (λ (o : Option Reply). is_given (Op.Out act) o ≡ true) (sym answer.0) answer.1
+    subst (λ (o : Given). is_given (Op.Out act) o ≡ true) (sym answer.0) answer.1
 host_given g actor op given reply host answer = cc
 
-given_by : (g : Guest) (actor : ActorId) (op : Op) (given : Option Reply) (reply : Reply) (host : Bool)
+given_by : (g : Guest) (actor : ActorId) (op : Op) (given : Given) (reply : Reply) (host : Bool)
     → is_host_op op ≡ host → Answers (place_of (layout_of g) op) g actor op given reply → is_given op given ≡ true
 given_by g actor op given reply true host answer = host_given g actor op given reply host answer
 given_by g actor op given reply false host answer =
-    subst (λ (o : Option Reply). is_given op o ≡ true)
+    subst (λ (o : Given). is_given op o ≡ true)
     (sym (given_none (place_of (layout_of g) op) g actor op given reply host answer)) (none_given op host)
 
 -- ---- the same is answered in both
 
-answers_too : (p : PlaceId) (g h : Guest) (actor : ActorId) (op : Op) (given : Option Reply) (reply : Reply)
+answers_too : (p : PlaceId) (g h : Guest) (actor : ActorId) (op : Op) (given : Given) (reply : Reply)
     → g.memory ≡ h.memory → g.board ≡ h.board → g.ports ≡ h.ports → Answers p g actor op given reply
     → Answers p h actor op given reply
 answers_too (PlaceId.Page i) g h actor op given reply m b ports answer =
@@ -107,10 +108,10 @@ module _ (b : Body) (g h k : Guest) (first : IsGuest b g) (second : IsGuest b h)
   want : wants b.timer b.harts b.devices e.actor ≡ Some e.op
   want = want_there b g first e.actor e.op step.want
 
-  fit : is_given e.op event.reply ≡ true
+  fit : is_given e.op event.given ≡ true
   fit =
-      given_by g e.actor e.op event.reply e.reply (is_host_op e.op) refl
-      (subst (λ (p : PlaceId). Answers p g e.actor e.op event.reply e.reply) step.place step.answer)
+      given_by g e.actor e.op event.given e.reply (is_host_op e.op) refl
+      (subst (λ (p : PlaceId). Answers p g e.actor e.op event.given e.reply) step.place step.answer)
 
   same_memory : g.memory ≡ h.memory
   same_memory = sym first.memory_is ∙ second.memory_is
@@ -132,7 +133,7 @@ module _ (b : Body) (g h k : Guest) (first : IsGuest b g) (second : IsGuest b h)
         step.place ∙ ap (λ (m : memory.Memory). place_by m g.ports) same_memory
         ∙ ap (λ (ports : List PortState). place_by h.memory ports) same_ports;
     answer =
-        answers_too e.place g h e.actor e.op event.reply e.reply same_memory same_board same_ports step.answer;
+        answers_too e.place g h e.actor e.op event.given e.reply same_memory same_board same_ports step.answer;
     after = refl;
   }
 
@@ -140,31 +141,31 @@ module _ (b : Body) (g h k : Guest) (first : IsGuest b g) (second : IsGuest b h)
   placed = place_of (body_layout b) e.op
 
   abbrev replied : Reply
-  replied = reply_at placed b.memory b.board b.ports e.actor e.op event.reply
+  replied = reply_at placed b.memory b.board b.ports e.actor e.op event.given
 
-  mine : FlatStep g (record { actor = e.actor; reply = event.reply }) (entry_of placed e.actor e.op replied)
+  mine : FlatStep g (record { actor = e.actor; given = event.given }) (entry_of placed e.actor e.op replied)
       (guest_after g (entry_of placed e.actor e.op replied))
-  mine = step_is b g e.actor e.op event.reply placed replied first want fit refl refl
+  mine = step_is b g e.actor e.op event.given placed replied first want fit refl refl
 
-  again : FlatStep g (record { actor = e.actor; reply = event.reply }) e k
+  again : FlatStep g (record { actor = e.actor; given = event.given }) e k
   again = record { actor = refl; want = step.want; place = step.place; answer = step.answer; after = step.after }
 
   at : placed ≡ e.place
   at =
       same_place g (guest_after g (entry_of placed e.actor e.op replied)) k
-      (record { actor = e.actor; reply = event.reply }) (entry_of placed e.actor e.op replied) e mine again
+      (record { actor = e.actor; given = event.given }) (entry_of placed e.actor e.op replied) e mine again
 
   says : replied ≡ e.reply
   says =
       same_reply g (guest_after g (entry_of placed e.actor e.op replied)) k
-      (record { actor = e.actor; reply = event.reply }) (entry_of placed e.actor e.op replied) e mine again
+      (record { actor = e.actor; given = event.given }) (entry_of placed e.actor e.op replied) e mine again
 
-  reply_is : e.reply ≡ reply_at e.place b.memory b.board b.ports e.actor e.op event.reply
-  reply_is = sym says ∙ ap (λ (p : PlaceId). reply_at p b.memory b.board b.ports e.actor e.op event.reply) at
+  reply_is : e.reply ≡ reply_at e.place b.memory b.board b.ports e.actor e.op event.given
+  reply_is = sym says ∙ ap (λ (p : PlaceId). reply_at p b.memory b.board b.ports e.actor e.op event.given) at
 
   stays_in : (q : Guest) → IsGuest b q → IsGuest (body_after e.place e.actor e.op e.reply b) (guest_after q e)
   stays_in q is =
-      stays b (body_after e.place e.actor e.op e.reply b) q e.actor e.op event.reply e.place e.reply is want fit (sym at)
+      stays b (body_after e.place e.actor e.op e.reply b) q e.actor e.op event.given e.place e.reply is want fit (sym at)
       reply_is refl
 
   pub alike_after : AreAlike k (guest_after h e)
@@ -193,7 +194,7 @@ several_too : (es : List Entry) (g h k : Guest) (actor : ActorId) → AreAlike g
 several_too [] g h k actor alike made on = (h, refl, tt, subst (λ (q : Guest). AreAlike q h) made alike)
 several_too (e ∷ es) g h k actor alike made on =
     let mid : Guest = made.1 in
-    let step = same_step g h mid (record { actor = actor; reply = None }) e alike made.2 in
+    let step = same_step g h mid (record { actor = actor; given = Nothing }) e alike made.2 in
     let later : IsOnBefore mid es = subst (λ (q : Guest). IsOnBefore q es) (sym made.2.after) on.1 in
     let rest = several_too es mid (guest_after h e) k actor step.1 made.3 later in
     (rest.0, (made.0, guest_after h e, step.0, rest.1), (alike_on g h alike on.0, rest.2), rest.3)

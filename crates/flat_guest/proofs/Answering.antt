@@ -14,6 +14,8 @@ use Rattle.guest_memory.specs.Ram.{ram_start, page_size, is_ram}
 use Rattle.board_table.specs.Board.{Board}
 use Rattle.board_table.specs.Acts.{is_board_op}
 use Rattle.board_table.specs.Fitting.{board_reply_fits}
+use Rattle.flat_guest.specs.Given.{Given}
+use Rattle.flat_guest.specs.Given.Given.{Host, Nothing, Short}
 use Rattle.flat_guest.specs.Guest.{Guest, layout_of}
 use Rattle.device_trace.specs.Acts.{IsAskedBy, IsOwnAct}
 use Rattle.port_table.specs.Acts as ports_acts
@@ -68,14 +70,14 @@ page_place page i = cond page (PlaceId.Page i) PlaceId.Out
 
 module _ (g : Guest) (actor : ActorId) (op : Op) where
   abbrev Answered : PlaceId → Type 0
-  Answered place = Answers place g actor op None (reply_at place g.memory g.board g.ports actor op None)
+  Answered place = Answers place g actor op Nothing (reply_at place g.memory g.board g.ports actor op Nothing)
 
-  at_port : (there : Bool) (k : ℕ) → AnswersOut op None (out_reply op None)
+  at_port : (there : Bool) (k : ℕ) → AnswersOut op Nothing (out_reply op Nothing)
       → Answered (cond there (PlaceId.Port k) PlaceId.Out)
   at_port true k out = (refl, refl)
   at_port false k out = out
 
-  at_place : (registers : Bool) (port : Option ℕ) (page : Bool) (i : ℕ) → AnswersOut op None (out_reply op None)
+  at_place : (registers : Bool) (port : Option ℕ) (page : Bool) (i : ℕ) → AnswersOut op Nothing (out_reply op Nothing)
       → Answered (place_by (length g.ports) registers port (page_place page i))
   at_place true port page i out = (refl, refl)
   at_place false (Some k) page i out = at_port (nat_lt k (length g.ports)) k out
@@ -86,9 +88,9 @@ module _ (g : Guest) (actor : ActorId) (op : Op) where
   at_own true k is = (refl, refl)
   at_own false k is = cc
 
-answers_none : (g : Guest) (actor : ActorId) (op : Op) → IsPortThere (length g.ports) op → is_given op None ≡ true
-    → Answers (place_of (layout_of g) op) g actor op None
-    (reply_at (place_of (layout_of g) op) g.memory g.board g.ports actor op None)
+answers_none : (g : Guest) (actor : ActorId) (op : Op) → IsPortThere (length g.ports) op → is_given op Nothing ≡ true
+    → Answers (place_of (layout_of g) op) g actor op Nothing
+    (reply_at (place_of (layout_of g) op) g.memory g.board g.ports actor op Nothing)
 answers_none g actor (Op.Read at len) is none =
     at_place g actor (Op.Read at len) (are_registers at len) (port_accessed (Op.Read at len))
     (in_page (length g.memory.bytes) at len) ((at - ram_start) / page_size) (refl, refl)
@@ -109,18 +111,27 @@ answers_none g actor (Op.Board act) is none = (refl, refl)
 answers_none g actor (Op.Out act) is none = cc
 answers_none g actor Op.Idle is none = (refl, refl)
 
-some_given : (g : Guest) (actor : ActorId) (op : Op) (reply : Reply) → is_given op (Some reply) ≡ true
-    → Answers (place_of (layout_of g) op) g actor op (Some reply)
-    (reply_at (place_of (layout_of g) op) g.memory g.board g.ports actor op (Some reply))
+some_given : (g : Guest) (actor : ActorId) (op : Op) (reply : Reply) → is_given op (Host reply) ≡ true
+    → Answers (place_of (layout_of g) op) g actor op (Host reply)
+    (reply_at (place_of (layout_of g) op) g.memory g.board g.ports actor op (Host reply))
 some_given g actor (Op.Out act) reply fit = (refl, fit)
 some_given g actor op reply fit = cc
 
-pub answers_at : (g : Guest) (actor : ActorId) (op : Op) (given : Option Reply)
+-- nothing is short of memory
+pub short_not : (op : Op) → is_given op Short ≡ true → ⊥
+short_not (Op.Out act) fit = cc
+short_not (Op.Port port act) fit = cc
+short_not (Op.Board act) fit = cc
+short_not Op.Idle fit = cc
+short_not op fit = cc
+
+pub answers_at : (g : Guest) (actor : ActorId) (op : Op) (given : Given)
     → IsPortThere (length g.ports) op → is_given op given ≡ true
     → Answers (place_of (layout_of g) op) g actor op given
     (reply_at (place_of (layout_of g) op) g.memory g.board g.ports actor op given)
-answers_at g actor op None is fit = answers_none g actor op is fit
-answers_at g actor op (Some reply) is fit = some_given g actor op reply fit
+answers_at g actor op Nothing is fit = answers_none g actor op is fit
+answers_at g actor op (Host reply) is fit = some_given g actor op reply fit
+answers_at g actor op Short is fit = absurd (short_not op fit)
 
 -- what a port replies, there or not
 port_fits : (o : Option PortState) (actor : ActorId) (op : Op) → ports_acts.is_port_op op ≡ true
@@ -135,16 +146,16 @@ there_fits (Some q) p actor op is there = port_reply_fits q actor op is
 
 module _ (m : memory.Memory) (b : Board) (ports : List PortState) (actor : ActorId) (op : Op) where
   abbrev Fitting : PlaceId → Type 0
-  Fitting place = fits op (reply_at place m b ports actor op None) ≡ true
+  Fitting place = fits op (reply_at place m b ports actor op Nothing) ≡ true
 
   fits_port : (there : Bool) (k : ℕ) → ports_acts.is_port_op op ≡ true → fits op Reply.AccessFault ≡ true
-      → fits op (out_reply op None) ≡ true → Fitting (cond there (PlaceId.Port k) PlaceId.Out)
+      → fits op (out_reply op Nothing) ≡ true → Fitting (cond there (PlaceId.Port k) PlaceId.Out)
   fits_port true k is fault out = port_fits (slice_get ports k) actor op is fault
   fits_port false k is fault out = out
 
   fits_place : (registers : Bool) (port : Option ℕ) (page : Bool) (i : ℕ) → is_access op ≡ true
       → is_board_op op ≡ true → ports_acts.is_port_op op ≡ true → fits op Reply.AccessFault ≡ true
-      → fits op (out_reply op None) ≡ true → Fitting (place_by (length ports) registers port (page_place page i))
+      → fits op (out_reply op Nothing) ≡ true → Fitting (place_by (length ports) registers port (page_place page i))
   fits_place true port page i access board is fault out = board_reply_fits b actor op board
   fits_place false (Some k) page i access board is fault out = fits_port (nat_lt k (length ports)) k is fault out
   fits_place false None true i access board is fault out = memory_fits m actor op access
@@ -158,8 +169,8 @@ module _ (m : memory.Memory) (b : Board) (ports : List PortState) (actor : Actor
   fits_own false k is here lt = cc
 
 none_fits : (size : ℕ) (m : memory.Memory) (b : Board) (ports : List PortState) (actor : ActorId) (op : Op)
-    → IsPortThere (length ports) op → is_given op None ≡ true
-    → fits op (reply_at (place_of (record { memory_size = size; ports = length ports }) op) m b ports actor op None) ≡ true
+    → IsPortThere (length ports) op → is_given op Nothing ≡ true
+    → fits op (reply_at (place_of (record { memory_size = size; ports = length ports }) op) m b ports actor op Nothing) ≡ true
 none_fits size m b ports actor (Op.Read at len) is none =
     fits_place m b ports actor (Op.Read at len) (are_registers at len) (port_accessed (Op.Read at len))
     (in_page size at len) ((at - ram_start) / page_size) refl refl refl refl refl
@@ -184,13 +195,14 @@ none_fits size m b ports actor (Op.Out act) is none = cc
 none_fits size m b ports actor Op.Idle is none = refl
 
 some_fits : (there : Layout) (m : memory.Memory) (b : Board) (ports : List PortState) (actor : ActorId) (op : Op) (reply : Reply)
-    → is_given op (Some reply) ≡ true → fits op (reply_at (place_of there op) m b ports actor op (Some reply)) ≡ true
+    → is_given op (Host reply) ≡ true → fits op (reply_at (place_of there op) m b ports actor op (Host reply)) ≡ true
 some_fits there m b ports actor (Op.Out act) reply fit = fit
 some_fits there m b ports actor op reply fit = cc
 
 pub answer_fits : (size : ℕ) (m : memory.Memory) (b : Board) (ports : List PortState) (actor : ActorId) (op : Op)
-    (given : Option Reply) → IsPortThere (length ports) op → is_given op given ≡ true
+    (given : Given) → IsPortThere (length ports) op → is_given op given ≡ true
     → fits op (reply_at (place_of (record { memory_size = size; ports = length ports }) op) m b ports actor op given) ≡ true
-answer_fits size m b ports actor op None is fit = none_fits size m b ports actor op is fit
-answer_fits size m b ports actor op (Some reply) is fit =
+answer_fits size m b ports actor op Nothing is fit = none_fits size m b ports actor op is fit
+answer_fits size m b ports actor op (Host reply) is fit =
     some_fits (record { memory_size = size; ports = length ports }) m b ports actor op reply fit
+answer_fits size m b ports actor op Short is fit = absurd (short_not op fit)

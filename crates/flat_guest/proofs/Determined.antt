@@ -7,8 +7,9 @@ use Rattle.vm_types.specs.declared.op.Op.{Op}
 use Rattle.vm_types.specs.declared.reply.Reply.{Reply}
 use Rattle.vm_types.specs.declared.entry.Step.{Step}
 use Rattle.vm_types.specs.declared.entry.Entry.{Entry}
-use Rattle.vm_types.specs.declared.entry.Event.{Event}
 use Rattle.rv_supervisor.specs.declared.regs.Regs.{Regs}
+use Rattle.flat_guest.specs.Given.{Event, Given}
+use Rattle.flat_guest.specs.Given.Given.{Nothing}
 use Rattle.hart_trace.proofs.Traces.{one_op}
 use Rattle.hart_trace.specs.Asks.{is_host_op}
 use Rattle.timer_trace.proofs.Traces as timer_traces
@@ -19,7 +20,7 @@ use Rattle.flat_guest.specs.Guest.{Guest, Wants, WantsFrom, WantsOf, layout_of}
 use Rattle.flat_guest.specs.Places.{place_of}
 use Rattle.flat_guest.specs.Steps.{Answers, AnswersOut, FlatStep, IsOnBefore, Makes, StepsBy, Stops, Waits, guest_after}
 
-out_one : (op : Op) (given : Option Reply) (r s : Reply) → AnswersOut op given r → AnswersOut op given s → r ≡ s
+out_one : (op : Op) (given : Given) (r s : Reply) → AnswersOut op given r → AnswersOut op given s → r ≡ s
 out_one (Op.Out act) given r s a b =
     let first = a.0 in
     let second = b.0 in
@@ -29,7 +30,7 @@ out_one (Op.Board act) given r s a b = absurd a.1
 out_one Op.Idle given r s a b = a.1 ∙ sym b.1
 out_one op given r s a b = a.1 ∙ sym b.1
 
-answers_one : (p : PlaceId) (g : Guest) (actor : ActorId) (op : Op) (given : Option Reply) (r s : Reply)
+answers_one : (p : PlaceId) (g : Guest) (actor : ActorId) (op : Op) (given : Given) (r s : Reply)
     → Answers p g actor op given r → Answers p g actor op given s → r ≡ s
 answers_one (PlaceId.Page i) g actor op given r s a b = a.1 ∙ sym b.1
 answers_one PlaceId.Board g actor op given r s a b = a.1 ∙ sym b.1
@@ -67,10 +68,10 @@ module _ (g h k : Guest) (event : Event) (d e : Entry) (x : FlatStep g event d h
 
   pub same_reply : d.reply ≡ e.reply
   same_reply =
-      answers_one e.place g e.actor e.op event.reply d.reply e.reply
-      (subst (λ (o : Op). Answers e.place g e.actor o event.reply d.reply) same_op
-      (subst (λ (a : ActorId). Answers e.place g a d.op event.reply d.reply) same_actor_id
-      (subst (λ (p : PlaceId). Answers p g d.actor d.op event.reply d.reply) same_place x.answer)))
+      answers_one e.place g e.actor e.op event.given d.reply e.reply
+      (subst (λ (o : Op). Answers e.place g e.actor o event.given d.reply) same_op
+      (subst (λ (a : ActorId). Answers e.place g a d.op event.given d.reply) same_actor_id
+      (subst (λ (p : PlaceId). Answers p g d.actor d.op event.given d.reply) same_place x.answer)))
       y.answer
 
   pub same_after : h ≡ k
@@ -81,30 +82,30 @@ module _ (g h k : Guest) (event : Event) (d e : Entry) (x : FlatStep g event d h
 
 -- where a host object's reply is waited for, no event is made without one
 not_answered : (there : Layout) (g : Guest) (actor : ActorId) (op : Op) (reply : Reply) → is_host_op op ≡ true
-    → Answers (place_of there op) g actor op None reply → ⊥
+    → Answers (place_of there op) g actor op Nothing reply → ⊥
 not_answered there g actor (Op.Out act) reply host answer = let none = answer.0 in cc
 not_answered there g actor op reply host answer = cc
 
 not_made : (g mid : Guest) (actor : ActorId) (e : Entry) → Waits g actor
-    → FlatStep g (record { actor = actor; reply = None }) e mid → ⊥
+    → FlatStep g (record { actor = actor; given = Nothing }) e mid → ⊥
 not_made g mid actor e waits step =
     let mine : Wants g actor e.op = subst (λ (a : ActorId). Wants g a e.op) step.actor step.want in
     let same : e.op ≡ waits.0 = wants_one g actor e.op waits.0 mine waits.1 in
     let host : is_host_op e.op ≡ true = ap is_host_op same ∙ waits.2 in
     not_answered (layout_of g) g e.actor e.op e.reply host
-    (subst (λ (p : PlaceId). Answers p g e.actor e.op None e.reply) step.place step.answer)
+    (subst (λ (p : PlaceId). Answers p g e.actor e.op Nothing e.reply) step.place step.answer)
 
 abbrev All : ℕ → ℕ → ActorId → Guest → Type 0
 All made count actor h = (made ≡ count) ⊎ ((made < count) × Stops h actor)
 
 stops_not : (g mid : Guest) (actor : ActorId) (e : Entry) → Stops g actor → g.board.off ≡ false
-    → FlatStep g (record { actor = actor; reply = None }) e mid → ⊥
+    → FlatStep g (record { actor = actor; given = Nothing }) e mid → ⊥
 stops_not g mid actor e (inl off) on step = cc
 stops_not g mid actor e (inr waits) on step = not_made g mid actor e waits.1 step
 
 stopped : (g mid : Guest) (actor : ActorId) (e : Entry) (made count : ℕ) → All 0 count actor g
     → (suc made ≡ count) ⊎ (suc made < count) → g.board.off ≡ false
-    → FlatStep g (record { actor = actor; reply = None }) e mid → ⊥
+    → FlatStep g (record { actor = actor; given = Nothing }) e mid → ⊥
 stopped g mid actor e made count (inl none) (inl all) on step = omega arith
 stopped g mid actor e made count (inl none) (inr less) on step = omega arith
 stopped g mid actor e made count (inr ends) later on step = stops_not g mid actor e ends.1 on step
@@ -142,7 +143,7 @@ one_run (d ∷ ds) [] g h k actor count x on_x m y on_y n =
 one_run (d ∷ ds) (e ∷ es) g h k actor count x on_x m y on_y n =
     let left = some_left (length ds) count actor h m in
     let rest : ℕ = left.0 in
-    let mid : x.1 ≡ y.1 = same_after g x.1 y.1 (record { actor = actor; reply = None }) d e x.2 y.2 in
+    let mid : x.1 ≡ y.1 = same_after g x.1 y.1 (record { actor = actor; given = Nothing }) d e x.2 y.2 in
     let on_ds : IsOnBefore y.1 ds = subst (λ (q : Guest). IsOnBefore q ds) mid (on_behind g x.1 d ds x.2.after on_x) in
     let same = one_run ds es y.1 h k actor rest (subst (λ (q : Guest). Makes q actor ds h) mid x.3) on_ds
     (fewer (length ds) rest actor h (subst (λ (c : ℕ). All (suc (length ds)) c actor h) left.1 m)) y.3

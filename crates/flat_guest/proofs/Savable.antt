@@ -14,7 +14,6 @@ use Rattle.vm_types.specs.declared.reply.Shown.{Shown}
 use Rattle.vm_types.specs.declared.reply.Shown.TheVariants.{Pending, Stopped, Start}
 use Rattle.vm_types.specs.declared.entry.Step.{Step}
 use Rattle.vm_types.specs.declared.entry.Entry.{Entry}
-use Rattle.vm_types.specs.declared.entry.Event.{Event}
 use Rattle.vm_types.specs.Fits.{fits}
 use Rattle.vm_types.specs.Ids.{same_actor}
 use Rattle.le_fields.specs.Fields.{bytes_of}
@@ -39,6 +38,8 @@ use Rattle.port_table.specs.Sizes as port_kept
 use Rattle.port_table.proofs.Sizes as port
 use Rattle.rv_supervisor.specs.declared.regs.Regs.{Regs}
 use Rattle.rv_supervisor.specs.Start.{start_regs}
+use Rattle.flat_guest.specs.Given.{Event}
+use Rattle.flat_guest.specs.Given.Given.{Nothing}
 use Rattle.hart_trace.specs.Asks.{is_host_op, is_port_op}
 use Rattle.hart_trace.specs.Kept.{IsKept, IsReply, IsSmallOp}
 use Rattle.hart_trace.specs.States.{Hart, LeadsTo, fresh, hart_next, hart_wants}
@@ -151,7 +152,7 @@ module _ (size : ℕ) (p : PortState) (actor : ActorId) where
   of_port (Op.Out act) reply own is fit small = faults size (Op.Out act) reply is tt
   of_port Op.Idle reply own is fit small = faults size Op.Idle reply is tt
 
-of_nothing : (size : ℕ) (op : Op) → is_host_op op ≡ false → IsReply size op (out_reply op None)
+of_nothing : (size : ℕ) (op : Op) → is_host_op op ≡ false → IsReply size op (out_reply op Nothing)
 of_nothing size (Op.Read at len) host = tt
 of_nothing size (Op.Write at piece) host = tt
 of_nothing size (Op.Amo at value kind wide) host = tt
@@ -264,7 +265,7 @@ module _ (pages harts : ℕ) (g : Guest) (event : Event) (e : Entry) (h : Guest)
       (port.touch_small Block p e.actor e.op (get_all (port_kept.IsKept Block) g.ports k p there is.ports)))
 
   place_replies : (place : PlaceId) → is_port_op e.op ≡ false → is_host_op e.op ≡ false
-      → e.reply ≡ reply_at place g.memory g.board g.ports e.actor e.op None → IsReply size e.op e.reply
+      → e.reply ≡ reply_at place g.memory g.board g.ports e.actor e.op Nothing → IsReply size e.op e.reply
   place_replies (PlaceId.Page i) other host replies =
       of_memory size g.memory e.actor e.op e.reply replies fitting
       (subst (λ (r : Reply). memory_kept.IsSmallReply size e.op r) (sym replies)
@@ -291,7 +292,7 @@ module _ (pages harts : ℕ) (g : Guest) (event : Event) (e : Entry) (h : Guest)
       wants_only start steps hart.0 e.op hart.1 (wants_from (slice_get g.starts k) start steps e.op there wants) in
       let apart = hart_port_by g k e.op (Some start) there sound wants in
       let replies : IsReply size e.op e.reply =
-      place_replies e.place apart.0 apart.1 (replied e.place g e.actor e.op event.reply e.reply apart.1 step.answer) in
+      place_replies e.place apart.0 apart.1 (replied e.place g e.actor e.op event.given e.reply apart.1 step.answer) in
       let wholes : size % 8 ≡ 0 = omega arith in
       let kept : IsKept size (hart_next hart.0 e.reply) =
       hart_kept size hart.0 e.reply wholes (subst (λ (o : Op). IsReply size o e.reply) asked replies)

@@ -10,7 +10,6 @@ use Rattle.vm_types.specs.declared.op.Op.{Op}
 use Rattle.vm_types.specs.declared.reply.Reply.{Reply}
 use Rattle.vm_types.specs.declared.entry.Step.{Step}
 use Rattle.vm_types.specs.declared.entry.Entry.{Entry}
-use Rattle.vm_types.specs.declared.entry.Event.{Event}
 use Rattle.vm_types.specs.Fits.{fits}
 use Rattle.vm_types.specs.Ids.{same_actor}
 use Rattle.le_fields.specs.Fields.{bytes_of}
@@ -26,6 +25,8 @@ use Rattle.port_table.specs.Acts as port_acts
 use Rattle.port_table.specs.declared.state.PortState.{PortState}
 use Rattle.rv_supervisor.specs.declared.regs.Regs.{Regs}
 use Rattle.rv_supervisor.specs.Start.{start_regs}
+use Rattle.flat_guest.specs.Given.{Event}
+use Rattle.flat_guest.specs.Given.Given.{Nothing}
 use Rattle.hart_trace.specs.Kept.{IsKept, IsReply, IsSmallOp}
 use Rattle.hart_trace.specs.States.{Hart, LeadsTo, fresh, hart_next, hart_wants}
 use Rattle.hart_trace.specs.Stopped.{stopped_regs}
@@ -74,7 +75,7 @@ port_ram size None actor op = tt
 port_ram size (Some p) actor (Op.Lr at wide) = tt
 port_ram size (Some p) actor op = tt
 
-out_ram : (size : ℕ) (op : Op) → hart.IsRamReply size op (out_reply op None)
+out_ram : (size : ℕ) (op : Op) → hart.IsRamReply size op (out_reply op Nothing)
 out_ram size (Op.Lr at wide) = tt
 out_ram size op = tt
 
@@ -121,7 +122,7 @@ module _ (pages harts : ℕ) (g : Guest) (event : Event) (e : Entry) (h : Guest)
   ports_on (PlaceId.Port k) = port_on k (slice_get g.ports k) refl
   ports_on PlaceId.Out = is.ports
 
-  place_replies : (place : PlaceId) → hart.IsRamReply size e.op (reply_at place g.memory g.board g.ports e.actor e.op None)
+  place_replies : (place : PlaceId) → hart.IsRamReply size e.op (reply_at place g.memory g.board g.ports e.actor e.op Nothing)
   place_replies (PlaceId.Page i) =
       of_memory size e.op (memory.touch g.memory e.actor e.op).0
       (subst (λ (n : ℕ). memory_kept.IsRamReply n e.op (memory.touch g.memory e.actor e.op).0) is.memory.many_bytes
@@ -143,7 +144,7 @@ module _ (pages harts : ℕ) (g : Guest) (event : Event) (e : Entry) (h : Guest)
       wants_only start steps before.0 e.op before.1 (wants_from (slice_get g.starts k) start steps e.op there wants) in
       let apart = hart_port_by g k e.op (Some start) there sound wants in
       let replies : hart.IsRamReply size e.op e.reply =
-      subst (λ (r : Reply). hart.IsRamReply size e.op r) (sym (replied e.place g e.actor e.op event.reply e.reply apart.1 step.answer))
+      subst (λ (r : Reply). hart.IsRamReply size e.op r) (sym (replied e.place g e.actor e.op event.given e.reply apart.1 step.answer))
       (place_replies e.place) in
       let wholes : size % 8 ≡ 0 = omega arith in
       let shaped : hart.IsShaped size (hart_next before.0 e.reply) =
@@ -180,7 +181,7 @@ pub shaped_makes : (pages harts : ℕ) (es : List Entry) (g h : Guest) (actor : 
     → Makes g actor es h → IsShaped pages harts h
 shaped_makes pages harts [] g h actor sound is same = subst (λ (q : Guest). IsShaped pages harts q) same is
 shaped_makes pages harts (e ∷ es) g h actor sound is (unstamped, mid, step, more) =
-    let event : Event = record { actor = actor; reply = None } in
+    let event : Event = record { actor = actor; given = Nothing } in
     shaped_makes pages harts es mid h actor (sound_next g event e mid sound step) (shaped_next pages harts g event e mid sound is step) more
 
 -- ---- a start

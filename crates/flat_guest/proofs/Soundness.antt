@@ -10,10 +10,11 @@ use Rattle.vm_types.specs.declared.op.Op.{Op}
 use Rattle.vm_types.specs.declared.reply.Reply.{Reply}
 use Rattle.vm_types.specs.declared.entry.Step.{Step}
 use Rattle.vm_types.specs.declared.entry.Entry.{Entry}
-use Rattle.vm_types.specs.declared.entry.Event.{Event}
 use Rattle.vm_types.specs.Fits.{fits}
 use Rattle.vm_types.specs.Ids.{same_actor}
 use Rattle.rv_supervisor.specs.declared.regs.Regs.{Regs}
+use Rattle.flat_guest.specs.Given.{Event, Given}
+use Rattle.flat_guest.specs.Given.Given.{Nothing}
 use Rattle.hart_trace.specs.Asks.{is_host_op, is_port_op}
 use Rattle.hart_trace.specs.Traces.{IsPrefix, Continues}
 use Rattle.hart_trace.specs.States.{fresh}
@@ -103,42 +104,42 @@ port_there g (ActorId.Hart k) op sound wants =
 port_there g (ActorId.Device k) op sound wants = device_port g k op (slice_get g.devices k) refl sound wants
 
 -- and its answer fits
-out_replied : (op : Op) (given : Option Reply) (reply : Reply) → is_host_op op ≡ false
-    → AnswersOut op given reply → reply ≡ out_reply op None
+out_replied : (op : Op) (given : Given) (reply : Reply) → is_host_op op ≡ false
+    → AnswersOut op given reply → reply ≡ out_reply op Nothing
 out_replied (Op.Out act) given reply host answer = cc
 out_replied (Op.Port device act) given reply host answer = absurd answer.1
 out_replied (Op.Board act) given reply host answer = absurd answer.1
 out_replied Op.Idle given reply host answer = answer.1
 out_replied op given reply host answer = answer.1
 
-pub replied : (p : PlaceId) (g : Guest) (actor : ActorId) (op : Op) (given : Option Reply) (reply : Reply)
+pub replied : (p : PlaceId) (g : Guest) (actor : ActorId) (op : Op) (given : Given) (reply : Reply)
     → is_host_op op ≡ false → Answers p g actor op given reply
-    → reply ≡ reply_at p g.memory g.board g.ports actor op None
+    → reply ≡ reply_at p g.memory g.board g.ports actor op Nothing
 replied (PlaceId.Page i) g actor op given reply host answer = answer.1
 replied PlaceId.Board g actor op given reply host answer = answer.1
 replied (PlaceId.Port k) g actor op given reply host answer = answer.1
 replied PlaceId.Out g actor op given reply host answer = out_replied op given reply host answer
 
-pub none_given : (op : Op) → is_host_op op ≡ false → is_given op None ≡ true
+pub none_given : (op : Op) → is_host_op op ≡ false → is_given op Nothing ≡ true
 none_given (Op.Out act) host = cc
 none_given (Op.Port device act) host = refl
 none_given (Op.Board act) host = refl
 none_given Op.Idle host = refl
 none_given op host = refl
 
-host_fits : (there : Layout) (g : Guest) (actor : ActorId) (op : Op) (given : Option Reply) (reply : Reply)
+host_fits : (there : Layout) (g : Guest) (actor : ActorId) (op : Op) (given : Given) (reply : Reply)
     → is_host_op op ≡ true → Answers (place_of there op) g actor op given reply → fits op reply ≡ true
 host_fits there g actor (Op.Out act) given reply host answer = answer.1
 host_fits there g actor op given reply host answer = cc
 
-fits_by : (g : Guest) (actor : ActorId) (op : Op) (given : Option Reply) (reply : Reply) (host : Bool)
+fits_by : (g : Guest) (actor : ActorId) (op : Op) (given : Given) (reply : Reply) (host : Bool)
     → is_host_op op ≡ host → IsPortThere (length g.ports) op → Answers (place_of (layout_of g) op) g actor op given reply
     → fits op reply ≡ true
 fits_by g actor op given reply true host port answer = host_fits (layout_of g) g actor op given reply host answer
 fits_by g actor op given reply false host port answer =
     subst (λ (r : Reply). fits op r ≡ true)
     (sym (replied (place_of (layout_of g) op) g actor op given reply host answer))
-    (answer_fits (length g.memory.bytes) g.memory g.board g.ports actor op None port (none_given op host))
+    (answer_fits (length g.memory.bytes) g.memory g.board g.ports actor op Nothing port (none_given op host))
 
 pub same_hart : (k : ℕ) (actor : ActorId) → same_actor (ActorId.Hart k) actor ≡ true → actor ≡ ActorId.Hart k
 same_hart k (ActorId.Hart j) same = ap (λ (n : ℕ). ActorId.Hart n) (sym (eqb-true k j same))
@@ -153,8 +154,8 @@ same_timer (ActorId.Device j) same = cc
 module _ (g : Guest) (event : Event) (e : Entry) (h : Guest) (sound : IsSound g) (step : FlatStep g event e h) where
   pub fit : fits e.op e.reply ≡ true
   fit =
-      fits_by g e.actor e.op event.reply e.reply (is_host_op e.op) refl (port_there g e.actor e.op sound step.want)
-      (subst (λ (p : PlaceId). Answers p g e.actor e.op event.reply e.reply) step.place step.answer)
+      fits_by g e.actor e.op event.given e.reply (is_host_op e.op) refl (port_there g e.actor e.op sound step.want)
+      (subst (λ (p : PlaceId). Answers p g e.actor e.op event.given e.reply) step.place step.answer)
 
   own : (k : ℕ) (start : Regs) → slice_get g.starts k ≡ Some start → e.actor ≡ ActorId.Hart k
       → IsPrefix start (g.steps (ActorId.Hart k) ++ record { op = e.op; reply = e.reply } ∷ [])
@@ -219,9 +220,9 @@ some_want g (ActorId.Device k) sound there =
     let d = lt_get g.devices k there in
     device_want_by g k d.0 d.1 sound
 
-done : (g : Guest) (actor : ActorId) (op : Op) (given : Option Reply) → IsSound g → Wants g actor op
+done : (g : Guest) (actor : ActorId) (op : Op) (given : Given) → IsSound g → Wants g actor op
     → is_given op given ≡ true
-    → (e : Entry) × (h : Guest) × IsUnstamped e × FlatStep g (record { actor = actor; reply = given }) e h
+    → (e : Entry) × (h : Guest) × IsUnstamped e × FlatStep g (record { actor = actor; given = given }) e h
 done g actor op given sound wants fit =
     let place : PlaceId = place_of (layout_of g) op in
     let e : Entry = record {
@@ -247,18 +248,18 @@ done g actor op given sound wants fit =
 
 pub actor_step : (g : Guest) (actor : ActorId) → IsSound g → is_actor g actor ≡ true
     → (op : Op) × Wants g actor op
-    × ((given : Option Reply) → is_given op given ≡ true
-    → (e : Entry) × (h : Guest) × IsUnstamped e × FlatStep g (record { actor = actor; reply = given }) e h)
+    × ((given : Given) → is_given op given ≡ true
+    → (e : Entry) × (h : Guest) × IsUnstamped e × FlatStep g (record { actor = actor; given = given }) e h)
 actor_step g actor sound there =
     let want = some_want g actor sound there in
     (want.0, want.1, λ given fit. done g actor want.0 given sound want.1 fit)
 
 pub hart_step : (g : Guest) (k : ℕ) → IsSound g → is_actor g (ActorId.Hart k) ≡ true
-    → (e : Entry) × (h : Guest) × IsUnstamped e × FlatStep g (record { actor = ActorId.Hart k; reply = None }) e h
+    → (e : Entry) × (h : Guest) × IsUnstamped e × FlatStep g (record { actor = ActorId.Hart k; given = Nothing }) e h
 hart_step g k sound there =
     let want = some_want g (ActorId.Hart k) sound there in
     let own = (hart_port_by g k want.0 (slice_get g.starts k) refl sound want.1).1 in
-    done g (ActorId.Hart k) want.0 None sound want.1 (none_given want.0 own)
+    done g (ActorId.Hart k) want.0 Nothing sound want.1 (none_given want.0 own)
 
 kept : (g : Guest) (e : Entry) (actor : ActorId) → is_actor g actor ≡ true → is_actor (guest_after g e) actor ≡ true
 kept g e (ActorId.Hart k) there = there
@@ -285,8 +286,8 @@ by_host : (n : ℕ) (g : Guest) (actor : ActorId) (op : Op) (host : Bool) → is
 by_host n g actor op true host on sound there wants some =
     ([], g, record { made = refl; on = tt; all = inr (omega arith, inr (on, (op, wants, host))) })
 by_host n g actor op false host on sound there wants some =
-    let first = done g actor op None sound wants (none_given op host) in
-    let event : Event = record { actor = actor; reply = None } in
+    let first = done g actor op Nothing sound wants (none_given op host) in
+    let event : Event = record { actor = actor; given = Nothing } in
     let rest = some first.1 (sound_next g event first.0 first.1 sound first.3)
     (actor_after g event first.0 first.1 actor first.3 there) in (
       first.0 ∷ rest.0,

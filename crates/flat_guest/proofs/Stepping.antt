@@ -10,6 +10,8 @@ use Rattle.vm_types.specs.Fits.{fits}
 use Rattle.guest_memory.specs.Memory as memory
 use Rattle.board_table.specs.Board.{Board}
 use Rattle.port_table.specs.declared.state.PortState.{PortState}
+use Rattle.flat_guest.specs.Given.{Given}
+use Rattle.flat_guest.specs.Given.Given.{Nothing}
 use Rattle.hart_trace.specs.Asks.{is_host_op}
 use Rattle.flat_guest.specs.Guest.{Guest}
 use Rattle.flat_guest.specs.Places.{place_of}
@@ -24,7 +26,7 @@ abbrev pub entry_of : PlaceId → ActorId → Op → Reply → Entry
 entry_of place actor op reply =
     record { stamp = 0; before = 0; actor = actor; place = place; op = op; reply = reply }
 
-module _ (b : Body) (g : Guest) (is : IsGuest b g) (actor : ActorId) (op : Op) (given : Option Reply)
+module _ (b : Body) (g : Guest) (is : IsGuest b g) (actor : ActorId) (op : Op) (given : Given)
     (want : wants b.timer b.harts b.devices actor ≡ Some op) (fit : is_given op given ≡ true) where
   -- the place of what is wanted, and its reply
   abbrev placed : PlaceId
@@ -52,7 +54,7 @@ module _ (b : Body) (g : Guest) (is : IsGuest b g) (actor : ActorId) (op : Op) (
       ∙ ap (λ (ports : List PortState). place_of (record { memory_size = length g.memory.bytes; ports = length ports }) op)
       is.ports_are
 
-  step_here : FlatStep g (record { actor = actor; reply = given }) (entry_of placed actor op replied)
+  step_here : FlatStep g (record { actor = actor; given = given }) (entry_of placed actor op replied)
       (guest_after g (entry_of placed actor op replied))
   step_here = record {
     actor = refl;
@@ -80,15 +82,15 @@ module _ (b : Body) (g : Guest) (is : IsGuest b g) (actor : ActorId) (op : Op) (
   }
 
 -- with the values as the program has them
-pub step_is : (b : Body) (g : Guest) (actor : ActorId) (op : Op) (given : Option Reply) (place : PlaceId) (reply : Reply)
+pub step_is : (b : Body) (g : Guest) (actor : ActorId) (op : Op) (given : Given) (place : PlaceId) (reply : Reply)
     → IsGuest b g → wants b.timer b.harts b.devices actor ≡ Some op → is_given op given ≡ true
     → place ≡ place_of (body_layout b) op → reply ≡ reply_at place b.memory b.board b.ports actor op given
-    → FlatStep g (record { actor = actor; reply = given }) (entry_of place actor op reply)
+    → FlatStep g (record { actor = actor; given = given }) (entry_of place actor op reply)
     (guest_after g (entry_of place actor op reply))
 step_is b g actor op given place reply is want fit at answer =
     rw (answer, at) (step_here b g is actor op given want fit)
 
-pub stays : (b n : Body) (g : Guest) (actor : ActorId) (op : Op) (given : Option Reply) (place : PlaceId) (reply : Reply)
+pub stays : (b n : Body) (g : Guest) (actor : ActorId) (op : Op) (given : Given) (place : PlaceId) (reply : Reply)
     → IsGuest b g → wants b.timer b.harts b.devices actor ≡ Some op → is_given op given ≡ true
     → place ≡ place_of (body_layout b) op → reply ≡ reply_at place b.memory b.board b.ports actor op given
     → n ≡ body_after place actor op reply b → IsGuest n (guest_after g (entry_of place actor op reply))
@@ -97,9 +99,9 @@ stays b n g actor op given place reply is want fit at answer after =
 
 -- and one more event, where the guest is on
 makes_more : (g h : Guest) (actor : ActorId) (es : List Entry) (e : Entry) (k : Guest) → Makes g actor es h
-    → IsUnstamped e → FlatStep h (record { actor = actor; reply = None }) e k → Makes g actor (es ++ e ∷ []) k
+    → IsUnstamped e → FlatStep h (record { actor = actor; given = Nothing }) e k → Makes g actor (es ++ e ∷ []) k
 makes_more g h actor [] e k made unstamped step =
-    (unstamped, k, subst (λ (x : Guest). FlatStep x (record { actor = actor; reply = None }) e k) (sym made) step, refl)
+    (unstamped, k, subst (λ (x : Guest). FlatStep x (record { actor = actor; given = Nothing }) e k) (sym made) step, refl)
 makes_more g h actor (d ∷ es) e k made unstamped step =
     (made.0, made.1, made.2, makes_more made.1 h actor es e k made.3 unstamped step)
 
@@ -122,7 +124,7 @@ has_made_none actor b g is = ([], g, refl, tt, refl, is)
 
 pub has_made_more : (actor : ActorId) (b n k : Body) (count : ℕ) (e : Entry) → HasMade actor b count n
     → n.board.off ≡ false → IsUnstamped e
-    → ((g : Guest) → IsGuest n g → FlatStep g (record { actor = actor; reply = None }) e (guest_after g e))
+    → ((g : Guest) → IsGuest n g → FlatStep g (record { actor = actor; given = Nothing }) e (guest_after g e))
     → ((g : Guest) → IsGuest n g → IsGuest k (guest_after g e))
     → HasMade actor b (count + 1) k
 has_made_more actor b n k count e made on unstamped step stay g is =

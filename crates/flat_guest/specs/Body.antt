@@ -12,6 +12,8 @@ use Rattle.board_table.specs.Board.{Board}
 use Rattle.board_table.specs.Acts as board
 use Rattle.port_table.specs.declared.state.PortState.{PortState}
 use Rattle.rv_supervisor.specs.declared.regs.Regs.{Regs}
+use Rattle.flat_guest.specs.Given.{Given}
+use Rattle.flat_guest.specs.Given.Given.{Host, Nothing, Short}
 use Rattle.hart_trace.specs.States.{Hart, LeadsTo, hart_next, hart_wants}
 use Rattle.timer_trace.specs.declared.timer.Timer.{Timer}
 use Rattle.timer_trace.specs.States as timer
@@ -97,13 +99,14 @@ abbrev pub lefts_resized : Option DeviceLeft → List DeviceLeft → ℕ → ℕ
 lefts_resized left devices k sectors = lefts_told left devices k (BlockChanged (Sectors sectors))
 
 -- the reply of an act with no place: what is given, where a host object is asked
-abbrev pub out_reply : Op → Option Reply → Reply
-out_reply op (Some reply) = reply
-out_reply Op.Idle None = Reply.Done
-out_reply op None = Reply.AccessFault
+abbrev pub out_reply : Op → Given → Reply
+out_reply op (Host reply) = reply
+out_reply Op.Idle Nothing = Reply.Done
+out_reply op Nothing = Reply.AccessFault
+out_reply op Short = Reply.AccessFault
 
 -- the reply of an act by its place
-abbrev pub reply_at : PlaceId → memory.Memory → Board → List PortState → ActorId → Op → Option Reply → Reply
+abbrev pub reply_at : PlaceId → memory.Memory → Board → List PortState → ActorId → Op → Given → Reply
 reply_at (PlaceId.Page i) m b ports actor op given = (memory.touch m actor op).0
 reply_at PlaceId.Board m b ports actor op given = (board.touch b actor op).0
 reply_at (PlaceId.Port k) m b ports actor op given = port_reply (slice_get ports k) actor op

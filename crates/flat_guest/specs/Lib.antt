@@ -1,5 +1,6 @@
 pub mod Body
 pub mod Changes
+pub mod Given
 pub mod Guest
 pub mod Places
 pub mod Same

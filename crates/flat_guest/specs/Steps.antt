@@ -7,7 +7,6 @@ use Rattle.vm_types.specs.declared.op.Op.{Op}
 use Rattle.vm_types.specs.declared.reply.Reply.{Reply}
 use Rattle.vm_types.specs.declared.entry.Step.{Step}
 use Rattle.vm_types.specs.declared.entry.Entry.{Entry}
-use Rattle.vm_types.specs.declared.entry.Event.{Event}
 use Rattle.vm_types.specs.Fits.{out_fits}
 use Rattle.vm_types.specs.Ids.{same_actor}
 use Rattle.vm_types.specs.Serial.{OutFits}
@@ -19,23 +18,27 @@ use Rattle.port_table.specs.Acts as port
 use Rattle.port_table.specs.declared.state.PortState.{PortState}
 use Rattle.guest_devices.specs.Devices.{FlatDevice, device_did}
 use Rattle.hart_trace.specs.Asks.{is_host_op}
+use Rattle.flat_guest.specs.Given.{Event, Given}
+use Rattle.flat_guest.specs.Given.Given.{Host, Nothing, Short}
 use Rattle.flat_guest.specs.Guest.{Guest, Wants, layout_of}
 use Rattle.flat_guest.specs.Places.{place_of}
 
 -- a host object's reply is given, and no other is
-abbrev pub IsGiven : Op → Option Reply → Reply → Type 0
-IsGiven (Op.Out act) given reply = given ≡ Some reply
-IsGiven op given reply = given ≡ None
+abbrev pub IsGiven : Op → Given → Reply → Type 0
+IsGiven (Op.Out act) given reply = given ≡ Host reply
+IsGiven op given reply = given ≡ Nothing
 
 -- whether an act has what it is to be given: a reply that fits, if it is on a host object, and else nothing
-abbrev pub is_given : Op → Option Reply → Bool
-is_given (Op.Out act) None = false
-is_given (Op.Out act) (Some reply) = out_fits act reply
-is_given op None = true
-is_given op (Some reply) = false
+abbrev pub is_given : Op → Given → Bool
+is_given (Op.Out act) Nothing = false
+is_given (Op.Out act) (Host reply) = out_fits act reply
+is_given (Op.Out act) Short = false
+is_given op Nothing = true
+is_given op (Host reply) = false
+is_given op Short = false
 
 -- with no place, a host object's reply fits, a wait is done, an access is a fault, and nothing else has a reply
-abbrev pub AnswersOut : Op → Option Reply → Reply → Type 0
+abbrev pub AnswersOut : Op → Given → Reply → Type 0
 AnswersOut op given reply = IsGiven op given reply × OutFits op reply
 
 -- what a port answers; one that isn't there does as nothing in the machine does
@@ -44,11 +47,11 @@ port_reply None actor op = Reply.AccessFault
 port_reply (Some p) actor op = (port.touch p actor op).0
 
 -- what an act is answered, by its place
-abbrev pub Answers : PlaceId → Guest → ActorId → Op → Option Reply → Reply → Type 0
-Answers (PlaceId.Page i) g actor op given reply = (given ≡ None) × (reply ≡ (memory.touch g.memory actor op).0)
-Answers PlaceId.Board g actor op given reply = (given ≡ None) × (reply ≡ (board.touch g.board actor op).0)
+abbrev pub Answers : PlaceId → Guest → ActorId → Op → Given → Reply → Type 0
+Answers (PlaceId.Page i) g actor op given reply = (given ≡ Nothing) × (reply ≡ (memory.touch g.memory actor op).0)
+Answers PlaceId.Board g actor op given reply = (given ≡ Nothing) × (reply ≡ (board.touch g.board actor op).0)
 Answers (PlaceId.Port k) g actor op given reply =
-    (given ≡ None) × (reply ≡ port_reply (slice_get g.ports k) actor op)
+    (given ≡ Nothing) × (reply ≡ port_reply (slice_get g.ports k) actor op)
 Answers PlaceId.Out g actor op given reply = AnswersOut op given reply
 
 -- what it leaves of memory, of the board and of the ports
@@ -101,7 +104,7 @@ pub record FlatStep (g : Guest) (event : Event) (e : Entry) (h : Guest) : Type 0
   pub actor : e.actor ≡ event.actor
   pub want : Wants g e.actor e.op
   pub place : e.place ≡ place_of (layout_of g) e.op
-  pub answer : Answers e.place g e.actor e.op event.reply e.reply
+  pub answer : Answers e.place g e.actor e.op event.given e.reply
   pub after : h ≡ guest_after g e
 
 -- outside a slice an entry has no stamps
@@ -112,7 +115,7 @@ IsUnstamped e = (e.stamp ≡ 0) × (e.before ≡ 0)
 abbrev pub Makes : Guest → ActorId → List Entry → Guest → Type 0
 Makes g actor [] h = g ≡ h
 Makes g actor (e ∷ es) h =
-    IsUnstamped e × (mid : Guest) × FlatStep g (record { actor = actor; reply = None }) e mid × Makes mid actor es h
+    IsUnstamped e × (mid : Guest) × FlatStep g (record { actor = actor; given = Nothing }) e mid × Makes mid actor es h
 
 -- the guest is on before each of these entries
 abbrev pub IsOnBefore : Guest → List Entry → Type 0

@@ -1,7 +1,6 @@
 // What holds of every guest.
 ghost use Rattle.std.specs.Prelude.{◌≡◌, ◌≤◌, ◌<◌, ◌*◌, ◌^◌, ℕ, All, List, Option, None, length, true};
 ghost use Rattle.vm_types.specs.declared.entry.Entry.{Entry};
-ghost use Rattle.vm_types.specs.declared.entry.Event.{Event};
 ghost use Rattle.vm_types.specs.declared.ids.ActorId.{ActorId};
 ghost use Rattle.vm_types.specs.declared.ids.ActorId.TheVariants.{Hart};
 ghost use Rattle.vm_types.specs.declared.op.Op.{Op};
@@ -10,6 +9,8 @@ ghost use Rattle.guest_memory.specs.Boot.{Loads, boot_memory, bytes_of_mib};
 ghost use Rattle.guest_memory.specs.Reserved.{hart_limit};
 ghost use Rattle.guest_devices.specs.declared.new_device.NewDevice.{NewDevice};
 ghost use Rattle.guest_devices.specs.Devices.{FitsNew};
+ghost use Rattle.flat_guest.specs.Given.{Event, Given};
+ghost use Rattle.flat_guest.specs.Given.Given.{Nothing};
 ghost use Rattle.flat_guest.specs.Changes.{resized};
 ghost use Rattle.flat_guest.specs.Guest.{Guest, Wants, is_actor};
 ghost use Rattle.flat_guest.specs.Same.{AreAlike};
@@ -42,12 +43,12 @@ pub fn some_step()
     ensures restart { (g : Guest) → IsSound g → IsSound (timer_restarted g) }
     ensures resize { (g : Guest) (k sectors : ℕ) → sectors < 2 ^ 64 → IsSound g → IsSound (resized k sectors g) }
     ensures step { (g : Guest) (actor : ActorId) → IsSound g → is_actor g actor ≡ true →
-        (op : Op) × Wants g actor op × ((given : Option Reply) → is_given op given ≡ true →
+        (op : Op) × Wants g actor op × ((given : Given) → is_given op given ≡ true →
         (e : Entry) × (h : Guest) × IsUnstamped e
-        × FlatStep g (record { actor = actor; reply = given }) e h) }
+        × FlatStep g (record { actor = actor; given = given }) e h) }
     ensures harts { (g : Guest) (k : ℕ) → IsSound g → is_actor g (Hart k) ≡ true →
         (e : Entry) × (h : Guest) × IsUnstamped e
-        × FlatStep g (record { actor = Hart k; reply = None }) e h }
+        × FlatStep g (record { actor = Hart k; given = Nothing }) e h }
     ensures stays { (g h : Guest) (event : Event) (e : Entry) → IsSound g → FlatStep g event e h → IsSound h }
     ensures several { (count : ℕ) (g : Guest) (actor : ActorId) → IsSound g → is_actor g actor ≡ true →
         (es : List Entry) × (h : Guest) × StepsBy g actor count es h }

@@ -2,12 +2,13 @@
 use Rattle.std.proofs.Common.{◌≡◌, ℕ, ◌+◌, ◌≤◌, Bool, true, false, MatchBool, refl, sym, ap, subst, ◌∙◌, List, [], ◌∷◌, Option, Some, None, Result, Ok, Err, ◌⊎◌, inl, inr, length, slice_get, arith}
 use Rattle.vm_types.specs.declared.ids.ActorId.{ActorId}
 use Rattle.vm_types.specs.declared.entry.Entry.{Entry}
-use Rattle.vm_types.specs.declared.entry.Event.{Event}
 use Rattle.vm_types.specs.declared.reply.Reply.{Reply}
 use Rattle.refusals.specs.declared.refusal.Refusal.{Refusal}
 use Rattle.std.specs.FinMap.{get}
 use Rattle.vm_types.specs.Saved.{Saved}
 use Rattle.guest_memory.specs.Ram.{is_ram}
+use Rattle.flat_guest.specs.Given.{Event, Given}
+use Rattle.flat_guest.specs.Given.Given.{Nothing}
 use Rattle.hart_trace.specs.Asks.{is_host_op}
 use Rattle.http_stream.specs.Stream.{Connection}
 use Rattle.http_stream.specs.declared.request.Next.{Next}
@@ -57,7 +58,7 @@ one_many g h event e step =
 pub several_many : (g h : Guest) (actor : ActorId) (es : List Entry) → Makes g actor es h → length h.devices ≡ length g.devices
 several_many g h actor [] is = ap (λ (q : Guest). length q.devices) (sym is)
 several_many g h actor (e ∷ es) (unstamped, mid, step, more) =
-    several_many mid h actor es more ∙ one_many g mid (record { actor = actor; reply = None }) e step
+    several_many mid h actor es more ∙ one_many g mid (record { actor = actor; given = Nothing }) e step
 
 -- its memory keeps what is unwritten, and it has as many devices
 abbrev Keeps : Guest → Guest → Type 0
@@ -300,7 +301,7 @@ steps_on g (Some q) false actor count m n t own there x =
     (several_keep q moves.end actor count moves.entries moves.made, several_many q moves.end actor moves.entries moves.made.made) moves.leaves)
     (λ none. same g m n there none.1) x
 
-replies_on : (g : Guest) (guest : Option Guest) (paused : Bool) (actor : ActorId) (given : Option Reply) (m n : Machine) (t : List ℕ) → guest ≡ Some g
+replies_on : (g : Guest) (guest : Option Guest) (paused : Bool) (actor : ActorId) (given : Given) (m n : Machine) (t : List ℕ) → guest ≡ Some g
     → m.guest ≡ Some g → RepliesLine (running_by guest paused) actor given m t n → GoesOn g m n
 replies_on g guest true actor given m n t own there x = same g m n there x.1
 replies_on g None false actor given m n t own there x = same g m n there x.1
@@ -309,8 +310,8 @@ replies_on g (Some q) false actor given m n t own there x =
     (λ wants. by_either (is_host_op wants.0)
     (λ host. by_either (is_given wants.0 given)
     (λ fit. end_on g q fit.end m n own (
-      one_keeps q fit.end (record { actor = actor; reply = given }) fit.entry fit.step,
-      one_many q fit.end (record { actor = actor; reply = given }) fit.entry fit.step,
+      one_keeps q fit.end (record { actor = actor; given = given }) fit.entry fit.step,
+      one_many q fit.end (record { actor = actor; given = given }) fit.entry fit.step,
     )
     fit.leaves)
     (λ unfit. same g m n there unfit.1) host)

@@ -14,6 +14,7 @@ use Rattle.vm_types.specs.declared.op.Op.{Op}
 use Rattle.vm_types.specs.declared.reply.Reply.{Reply}
 use Rattle.guest_memory.specs.Ram.{is_ram}
 use Rattle.rv_supervisor.specs.declared.regs.Regs.{Regs}
+use Rattle.flat_guest.specs.Given.{Given}
 use Rattle.hart_trace.specs.Asks.{is_host_op}
 use Rattle.hart_trace.specs.States.{Hart}
 use Rattle.hart_trace.specs.Shown.{register_of}
@@ -219,15 +220,15 @@ steps_one None actor count m n k t u x y = both x y
 steps_one (Some g) actor count m n k t u x y =
     one_by (is_actor g actor) (moves_one g actor count m n k t u) both x y
 
-answers_one : (g : Guest) (actor : ActorId) (given : Option Reply) (m n k : Machine) (t u : List ℕ)
+answers_one : (g : Guest) (actor : ActorId) (given : Given) (m n k : Machine) (t u : List ℕ)
     → Answers g actor given m t n → Answers g actor given m u k → Same t u n k
 answers_one g actor given m n k t u x y =
-    let ends : x.end ≡ y.end = same_after g x.end y.end (record { actor = actor; reply = given }) x.entry y.entry x.step y.step in (
+    let ends : x.end ≡ y.end = same_after g x.end y.end (record { actor = actor; given = given }) x.entry y.entry x.step y.step in (
       x.quiet ∙ sym y.quiet,
       x.leaves ∙ ap (λ (h : Guest). record m { guest = Some h }) ends ∙ sym y.leaves,
     )
 
-reply_one : (g : Guest) (actor : ActorId) (given : Option Reply) (m n k : Machine) (t u : List ℕ)
+reply_one : (g : Guest) (actor : ActorId) (given : Given) (m n k : Machine) (t u : List ℕ)
     → Replies g actor given m t n → Replies g actor given m u k → Same t u n k
 reply_one g actor given m n k t u (op, wants, x) (other, want, y) =
     let same : other ≡ op = wants_one g actor other op want wants in
@@ -236,7 +237,7 @@ reply_one g actor given m n k t u (op, wants, x) (other, want, y) =
     (MatchBool (is_given o given) (Answers g actor given m u k) (Misfits misfit.Unfit m u k))
     (Misfits misfit.NotWaiting m u k)) same y)
 
-replies_one : (guest : Option Guest) (actor : ActorId) (given : Option Reply) (m n k : Machine) (t u : List ℕ)
+replies_one : (guest : Option Guest) (actor : ActorId) (given : Given) (m n k : Machine) (t u : List ℕ)
     → RepliesLine guest actor given m t n → RepliesLine guest actor given m u k → Same t u n k
 replies_one None actor given m n k t u x y = both x y
 replies_one (Some g) actor given m n k t u x y =

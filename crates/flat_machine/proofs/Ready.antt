@@ -9,13 +9,14 @@ use Rattle.vm_types.specs.declared.identity.Identity.{Identity}
 use Rattle.vm_types.specs.declared.ids.ActorId.{ActorId}
 use Rattle.vm_types.specs.declared.ids.ActorId.TheVariants.{Hart as HartId}
 use Rattle.vm_types.specs.declared.entry.Entry.{Entry}
-use Rattle.vm_types.specs.declared.entry.Event.{Event}
 use Rattle.vm_types.specs.declared.reply.Reply.{Reply}
 use Rattle.vm_outside.specs.Calls.{FileCall}
 use Rattle.refusals.specs.declared.refusal.Refusal.{Refusal}
 use Rattle.serde_json.specs.Data.{Data}
 use Rattle.metadata_store.specs.Store.{patched, put}
 use Rattle.guest_memory.specs.Ram.{is_ram}
+use Rattle.flat_guest.specs.Given.{Event, Given}
+use Rattle.flat_guest.specs.Given.Given.{Nothing}
 use Rattle.hart_trace.specs.Asks.{is_host_op}
 use Rattle.http_stream.specs.Stream.{Connection}
 use Rattle.http_stream.specs.declared.request.Next.{Next}
@@ -369,7 +370,7 @@ talks_ready bytes outcomes m n said ready (after, mid, talk, is) =
 made_sound : (es : List Entry) (g h : Guest) (actor : ActorId) → Makes g actor es h → IsSound g → IsSound h
 made_sound [] g h actor made sound = subst (λ (q : Guest). IsSound q) made sound
 made_sound (e ∷ es) g h actor (unstamped, mid, step, more) sound =
-    made_sound es mid h actor more (sound_next g (record { actor = actor; reply = None }) e mid sound step)
+    made_sound es mid h actor more (sound_next g (record { actor = actor; given = Nothing }) e mid sound step)
 
 -- the guest that runs is another one after events
 runs_ready : (m : Machine) (g h : Guest) → Ready m → IsReadyGuest m.config false g → m.paused ≡ false → IsSound h
@@ -411,7 +412,7 @@ steps_ready (Some g) false actor count m n text ready own is x =
     (λ moves. ready_is (record m { guest = Some moves.end }) n moves.leaves (makes_ready m g moves.end actor moves.entries ready own is moves.made.made))
     (λ none. ready_is m n none.1 ready) x
 
-replies_ready : (guest : Option Guest) (paused : Bool) (actor : ActorId) (given : Option Reply) (m n : Machine) (text : List ℕ) → Ready m
+replies_ready : (guest : Option Guest) (paused : Bool) (actor : ActorId) (given : Given) (m n : Machine) (text : List ℕ) → Ready m
     → ReadyBy m.config paused guest → m.paused ≡ paused → RepliesLine (running_by guest paused) actor given m text n → Ready n
 replies_ready guest true actor given m n text ready own is x = ready_is m n x.1 ready
 replies_ready None false actor given m n text ready own is x = ready_is m n x.1 ready
@@ -420,7 +421,7 @@ replies_ready (Some g) false actor given m n text ready own is x =
     (λ wants. by_either (is_host_op wants.0)
     (λ host. by_either (is_given wants.0 given)
     (λ fit. ready_is (record m { guest = Some fit.end }) n fit.leaves
-    (event_ready m g fit.end (record { actor = actor; reply = given }) fit.entry ready own is fit.step))
+    (event_ready m g fit.end (record { actor = actor; given = given }) fit.entry ready own is fit.step))
     (λ unfit. ready_is m n unfit.1 ready) host)
     (λ none. ready_is m n none.1 ready) wants.2)
     (λ none. ready_is m n none.1 ready) x

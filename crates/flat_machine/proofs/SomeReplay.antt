@@ -10,6 +10,7 @@ use Rattle.vm_types.specs.declared.exit.Exit.{Exit}
 use Rattle.guest_memory.specs.Memory.{read_from}
 use Rattle.guest_memory.specs.Ram.{is_ram}
 use Rattle.rv_supervisor.specs.declared.regs.Regs.{Regs}
+use Rattle.flat_guest.specs.Given.{Given}
 use Rattle.hart_trace.specs.Asks.{is_host_op}
 use Rattle.hart_trace.specs.Traces.{IsPrefix}
 use Rattle.hart_trace.specs.Shown.{register_of}
@@ -77,7 +78,7 @@ some_steps (Some g) false actor count m own =
     does_by (is_actor g actor) (Moves g actor count m) (Misfits misfit.NoActor m) (some_moves g actor count m own.sound)
     (misfit_does misfit.NoActor m)
 
-some_answer : (g : Guest) (actor : ActorId) (given : Option Reply) (m : Machine) → IsSound g → is_actor g actor ≡ true
+some_answer : (g : Guest) (actor : ActorId) (given : Given) (m : Machine) → IsSound g → is_actor g actor ≡ true
     → Does (Replies g actor given m)
 some_answer g actor given m sound there =
     let want = actor_step g actor sound there in
@@ -92,7 +93,7 @@ some_answer g actor given m sound there =
     (λ host. fits) (misfit_does misfit.NotWaiting m) in
     (line.0, line.1, (want.0, want.1, line.2))
 
-some_reply : (guest : Option Guest) (paused : Bool) (actor : ActorId) (given : Option Reply) (m : Machine) → ReadyBy m.config m.paused guest
+some_reply : (guest : Option Guest) (paused : Bool) (actor : ActorId) (given : Given) (m : Machine) → ReadyBy m.config m.paused guest
     → Does (RepliesLine (running_by guest paused) actor given m)
 some_reply guest true actor given m own = misfit_does misfit.NotRunning m
 some_reply None false actor given m own = misfit_does misfit.NotRunning m

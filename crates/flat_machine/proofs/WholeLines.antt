@@ -11,6 +11,7 @@ use Rattle.guest_memory.specs.Ram.{is_ram}
 use Rattle.http_stream.specs.Conversation.{ConversationFront, IsQuiet, arrived}
 use Rattle.http_stream.specs.Sent.{sent}
 use Rattle.http_stream.proofs.ConversationLemmas.{new_quiet, no_front, quiet_after}
+use Rattle.flat_guest.specs.Given.{Given}
 use Rattle.script_text.specs.declared.item.Item.{Item}
 use Rattle.script_text.specs.declared.item.Item.TheVariants as item
 use Rattle.hart_trace.specs.Asks.{is_host_op}
@@ -41,7 +42,7 @@ steps_quiet None actor count m n t x quiet = keeps x.1 quiet
 steps_quiet (Some g) actor count m n t x quiet =
     by_either (is_actor g actor) (λ moves. keeps moves.leaves quiet) (λ none. keeps none.1 quiet) x
 
-replies_quiet : (guest : Option Guest) (actor : ActorId) (given : Option Reply) (m n : Machine) (t : List ℕ)
+replies_quiet : (guest : Option Guest) (actor : ActorId) (given : Given) (m n : Machine) (t : List ℕ)
     → RepliesLine guest actor given m t n → Quiet m → Quiet n
 replies_quiet None actor given m n t x quiet = keeps x.1 quiet
 replies_quiet (Some g) actor given m n t x quiet =

@@ -7,6 +7,7 @@ use Rattle.vm_types.specs.declared.entry.Entry.{Entry}
 use Rattle.vm_types.specs.declared.entry.Step.{Step}
 use Rattle.vm_types.specs.declared.op.Op.{Op}
 use Rattle.vm_types.specs.declared.reply.Reply.{Reply}
+use Rattle.flat_guest.specs.Given.{Given}
 use Rattle.hart_trace.specs.Asks.{is_host_op}
 use Rattle.http_stream.specs.Stream.{Connection}
 use Rattle.http_stream.specs.Sent.{sent}
@@ -91,23 +92,23 @@ StepsLine (Some g) actor count m text n =
     MatchBool (is_actor g actor) (Moves g actor count m text n) (Misfits misfit.NoActor m text n)
 
 -- the event in which the actor's act on a host object is answered so
-pub record Answers (g : Guest) (actor : ActorId) (given : Option Reply) (m : Machine) (text : List ℕ) (n : Machine) : Type 0 where
+pub record Answers (g : Guest) (actor : ActorId) (given : Given) (m : Machine) (text : List ℕ) (n : Machine) : Type 0 where
   pub entry : Entry
   pub end : Guest
   pub unstamped : IsUnstamped entry
-  pub step : FlatStep g (record { actor = actor; reply = given }) entry end
+  pub step : FlatStep g (record { actor = actor; given = given }) entry end
   pub quiet : text ≡ []
   pub leaves : n ≡ record m { guest = Some end }
 
 -- what is given is to be a reply to an act on a host object, and to fit it
-abbrev pub Replies : Guest → ActorId → Option Reply → Machine → List ℕ → Machine → Type 0
+abbrev pub Replies : Guest → ActorId → Given → Machine → List ℕ → Machine → Type 0
 Replies g actor given m text n =
     (op : Op) × Wants g actor op
     × MatchBool (is_host_op op)
     (MatchBool (is_given op given) (Answers g actor given m text n) (Misfits misfit.Unfit m text n))
     (Misfits misfit.NotWaiting m text n)
 
-abbrev pub RepliesLine : Option Guest → ActorId → Option Reply → Machine → List ℕ → Machine → Type 0
+abbrev pub RepliesLine : Option Guest → ActorId → Given → Machine → List ℕ → Machine → Type 0
 RepliesLine None actor given m text n = Misfits misfit.NotRunning m text n
 RepliesLine (Some g) actor given m text n =
     MatchBool (is_actor g actor) (Replies g actor given m text n) (Misfits misfit.NoActor m text n)

@@ -9,7 +9,6 @@ use Rattle.vm_types.specs.declared.op.Op.TheVariants.{Read, Write, Amo, Lr, Sc}
 use Rattle.vm_types.specs.declared.reply.Reply.{Reply}
 use Rattle.vm_types.specs.declared.reply.Reply.TheVariants.{Done, Bytes, Word, AccessFault}
 use Rattle.vm_types.specs.declared.entry.Entry.{Entry}
-use Rattle.vm_types.specs.declared.entry.Event.{Event}
 use Rattle.vm_types.specs.Ids.{same_place}
 use Rattle.amo_table.specs.Amo.{amo_value}
 use Rattle.guest_memory.specs.Memory.{Memory, put_at, touch, read_from, word_at, written, reserving}
@@ -22,6 +21,8 @@ use Rattle.guest_pages.proofs.Here.{IsHere, here}
 use Rattle.guest_pages.proofs.Staying.{length-word_bytes}
 use Rattle.snap_diff.specs.Copies.{page_at}
 use Rattle.snap_diff.proofs.Laying.{cell_of_page, length-put, put_before, put_behind}
+use Rattle.flat_guest.specs.Given.{Event, Given}
+use Rattle.flat_guest.specs.Given.Given.{Nothing}
 use Rattle.flat_guest.specs.declared.places.Layout.{Layout}
 use Rattle.flat_guest.specs.Guest.{Guest, layout_of}
 use Rattle.flat_guest.specs.Places.{is_register_access, place_by, place_of, port_accessed}
@@ -154,7 +155,7 @@ routed there (Op.Sc at value wide) k is =
 routed there (Op.Port port act) k is = absurd (no_page_of_port (nat_lt port there.ports) port k is)
 routed there op k is = cc
 
-module _ (g : Guest) (actor : ActorId) (op : Op) (reply : Reply) (given : Option Reply) (i : ℕ) where
+module _ (g : Guest) (actor : ActorId) (op : Op) (reply : Reply) (given : Given) (i : ℕ) where
   at_place : (place : PlaceId) → place ≡ place_of (layout_of g) op → Answers place g actor op given reply
       → (length (memory_after place g.memory actor op).bytes ≡ length g.memory.bytes)
       × ((same_place place (PlaceId.Page i) && is_written op reply) ≡ false
@@ -170,10 +171,10 @@ pub one_keeps : (g h : Guest) (event : Event) (e : Entry) → FlatStep g event e
 one_keeps g h event e step =
     subst (λ (n : Guest). KeepsUnwritten g n) (sym step.after)
     (record {
-      size = (at_place g e.actor e.op e.reply event.reply 0 e.place step.place step.answer).0;
+      size = (at_place g e.actor e.op e.reply event.given 0 e.place step.place step.answer).0;
       unwritten = λ i none. (or_parts (g.written i) (writes_page i e) none).0;
       pages = λ i none.
-          (at_place g e.actor e.op e.reply event.reply i e.place step.place step.answer).1 (or_parts (g.written i) (writes_page i e) none).1;
+          (at_place g e.actor e.op e.reply event.given i e.place step.place step.answer).1 (or_parts (g.written i) (writes_page i e) none).1;
     })
 
 -- ---- several
@@ -193,7 +194,7 @@ keeps_joined g h k first second = record {
 made_keep : (es : List Entry) (g h : Guest) (actor : ActorId) → Makes g actor es h → KeepsUnwritten g h
 made_keep [] g h actor same = keeps_same g h same
 made_keep (e ∷ es) g h actor (unstamped, mid, step, rest) =
-    keeps_joined g mid h (one_keeps g mid (record { actor = actor; reply = None }) e step) (made_keep es mid h actor rest)
+    keeps_joined g mid h (one_keeps g mid (record { actor = actor; given = Nothing }) e step) (made_keep es mid h actor rest)
 
 pub several_keep : (g h : Guest) (actor : ActorId) (count : ℕ) (es : List Entry) → StepsBy g actor count es h → KeepsUnwritten g h
 several_keep g h actor count es steps = made_keep es g h actor steps.made

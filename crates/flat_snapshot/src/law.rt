@@ -3,7 +3,6 @@ ghost use Rattle.std.specs.Prelude.{false, true, ◌≡◌, ◌≢◌, ◌≤◌
 ghost use Rattle.std.specs.FinMap.{get, insert};
 ghost use Rattle.vm_types.specs.Saved.{Saved};
 ghost use Rattle.vm_types.specs.declared.entry.Entry.{Entry};
-ghost use Rattle.vm_types.specs.declared.entry.Event.{Event};
 ghost use Rattle.vm_types.specs.declared.identity.Identity.{Identity};
 ghost use Rattle.vm_types.specs.declared.ids.ActorId.{ActorId};
 ghost use Rattle.vm_types.specs.declared.ids.ActorId.TheVariants.{Timer};
@@ -23,6 +22,7 @@ ghost use Rattle.snap_state.specs.Valid.{is_valid as is_valid_copy};
 ghost use Rattle.flat_snapshot.specs.Files.{diff_file, diff_in, memory_file, memory_in, state_file};
 ghost use Rattle.flat_snapshot.specs.Found.{Snapshot, found};
 ghost use Rattle.vm_config.specs.declared.config.Config.{Config};
+ghost use Rattle.flat_guest.specs.Given.{Event};
 ghost use Rattle.flat_guest.specs.Guest.{Guest, unwritten, whole_pages};
 ghost use Rattle.flat_guest.specs.Same.{AreAlike};
 ghost use Rattle.flat_guest.specs.Sound.{IsSound};

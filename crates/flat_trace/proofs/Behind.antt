@@ -3,6 +3,8 @@ use Rattle.std.proofs.Common.{◌≡◌, ℕ, Bool, true, false, cond, refl, sym
 use Rattle.vm_types.specs.declared.exit.Exit.{Exit}
 use Rattle.vm_types.specs.declared.ids.ActorId.{ActorId}
 use Rattle.vm_types.specs.declared.reply.Reply.{Reply}
+use Rattle.flat_guest.specs.Given.{Given}
+use Rattle.flat_guest.specs.Given.Given.{Host, Nothing}
 use Rattle.script_text.specs.declared.item.Item.{Item}
 use Rattle.script_text.specs.declared.item.Item.TheVariants as item
 use Rattle.script_output.specs.Output.{console_line, off_line}
@@ -33,7 +35,7 @@ same_guest : (m n : Machine) → is_off m ≡ true → n.guest ≡ m.guest → C
 same_guest m n off is = (ap off_by is ∙ off, ap (λ (o : Option Guest). last_text (console_by o) (off_by o)) is)
 
 -- an event
-event_closes : (o : Option Guest) (actor : ActorId) (given : Option Reply) (m n : Machine)
+event_closes : (o : Option Guest) (actor : ActorId) (given : Given) (m n : Machine)
     → ((g : Guest) → o ≡ Some g → m.guest ≡ Some g) → is_off m ≡ true → HasEvent o actor given m n → Closes m [] n
 event_closes None actor given m n there off a = absurd a
 event_closes (Some g) actor given m n there off a =
@@ -74,9 +76,9 @@ hears_closes bytes outcomes m n out true is off (none, says, same) =
 item_closes : (it : Item) (outcomes : List Outcome) (m n : Machine) (out : Out) → is_off m ≡ true
     → TraceStep it outcomes m out n → Closes m (line_by out) n
 item_closes (item.Step actor count) outcomes m n out off (none, is, one, event) =
-    closes_as m n out Quiet is (event_closes (running m) actor None m n (guest_is m) off event)
+    closes_as m n out Quiet is (event_closes (running m) actor Nothing m n (guest_is m) off event)
 item_closes (item.Reply actor reply) outcomes m n out off (none, is, given, says, event) =
-    closes_as m n out Quiet is (event_closes (running m) actor (Some given) m n (guest_is m) off event)
+    closes_as m n out Quiet is (event_closes (running m) actor (Host given) m n (guest_is m) off event)
 item_closes item.Console outcomes m n out off (is, step) =
     closes_as m n out (Shown (console_of m)) is
     (subst (λ (k : Machine). Closes m (console_line (console_of m)) k) (sym step.1.1) (drain_closes m off))

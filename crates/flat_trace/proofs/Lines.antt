@@ -6,6 +6,8 @@ use Rattle.vm_types.specs.declared.entry.Step.{Step}
 use Rattle.vm_types.specs.declared.op.Op.{Op}
 use Rattle.vm_types.specs.declared.reply.Reply.{Reply}
 use Rattle.vm_types.specs.Fits.{out_fits}
+use Rattle.flat_guest.specs.Given.{Given}
+use Rattle.flat_guest.specs.Given.Given.{Host, Nothing}
 use Rattle.script_text.specs.declared.item.HostReply.{HostReply}
 use Rattle.script_text.specs.declared.item.Item.TheVariants as item
 use Rattle.script_text.specs.declared.output.Misfit.TheVariants as misfit
@@ -42,14 +44,14 @@ there g ActorId.Timer op wants = refl
 there g (ActorId.Hart k) op wants = there_from g.starts k (slice_get g.starts k) (g.steps (ActorId.Hart k)) op refl wants
 there g (ActorId.Device k) op wants = device_there g.devices k (slice_get g.devices k) op refl wants
 
-there_at : (g : Guest) (actor : ActorId) (given : Option Reply) (m n : Machine) → Answers g actor given m [] n → is_actor g actor ≡ true
+there_at : (g : Guest) (actor : ActorId) (given : Given) (m n : Machine) → Answers g actor given m [] n → is_actor g actor ≡ true
 there_at g actor given m n a =
     there g actor a.entry.op (subst (λ (x : ActorId). Wants g x a.entry.op) a.step.actor a.step.want)
 
 -- a step line
 
 step_line : (o : Option Guest) (actor : ActorId) (m n : Machine) → ((g : Guest) → o ≡ Some g → g.board.off ≡ false)
-    → HasEvent o actor None m n → StepsLine o actor 1 m [] n
+    → HasEvent o actor Nothing m n → StepsLine o actor 1 m [] n
 step_line None actor m n on a = absurd a
 step_line (Some g) actor m n on a =
     let moves : Moves g actor 1 m [] n = record {
@@ -59,7 +61,7 @@ step_line (Some g) actor m n on a =
       writes = refl;
       leaves = a.leaves;
     } in
-    subst (λ (b : Bool). MatchBool b (Moves g actor 1 m [] n) (Misfits misfit.NoActor m [] n)) (sym (there_at g actor None m n a)) moves
+    subst (λ (b : Bool). MatchBool b (Moves g actor 1 m [] n) (Misfits misfit.NoActor m [] n)) (sym (there_at g actor Nothing m n a)) moves
 
 is_on : (m : Machine) → is_off m ≡ false → (g : Guest) → running m ≡ Some g → g.board.off ≡ false
 is_on m on g runs = sym (ap off_by (guest_is m g runs)) ∙ on
@@ -70,8 +72,8 @@ event_is_line actor m n on step = (refl, step_line (running m) actor m n (is_on 
 
 -- a reply line
 
-given_out : (op : Op) (given reply : Reply) → AnswersOut op (Some given) reply
-    → (is_host_op op ≡ true) × (is_given op (Some given) ≡ true)
+given_out : (op : Op) (given reply : Reply) → AnswersOut op (Host given) reply
+    → (is_host_op op ≡ true) × (is_given op (Host given) ≡ true)
 given_out (Op.Out act) given reply answer =
     let same : reply ≡ given = cc in
     (refl, subst (λ (r : Reply). out_fits act r ≡ true) same answer.1)
@@ -85,34 +87,34 @@ given_out (Op.Board act) given reply answer = cc
 given_out Op.Idle given reply answer = cc
 
 given_at : (place : PlaceId) (g : Guest) (actor : ActorId) (op : Op) (given reply : Reply)
-    → AnswersAt place g actor op (Some given) reply → (is_host_op op ≡ true) × (is_given op (Some given) ≡ true)
+    → AnswersAt place g actor op (Host given) reply → (is_host_op op ≡ true) × (is_given op (Host given) ≡ true)
 given_at (PlaceId.Page i) g actor op given reply answer = cc
 given_at PlaceId.Board g actor op given reply answer = cc
 given_at (PlaceId.Port k) g actor op given reply answer = cc
 given_at PlaceId.Out g actor op given reply answer = given_out op given reply answer
 
-reply_line : (o : Option Guest) (actor : ActorId) (given : Reply) (m n : Machine) → HasEvent o actor (Some given) m n
-    → RepliesLine o actor (Some given) m [] n
+reply_line : (o : Option Guest) (actor : ActorId) (given : Reply) (m n : Machine) → HasEvent o actor (Host given) m n
+    → RepliesLine o actor (Host given) m [] n
 reply_line None actor given m n a = absurd a
 reply_line (Some g) actor given m n a =
     let op = a.entry.op in
     let wants : Wants g actor op = subst (λ (x : ActorId). Wants g x op) a.step.actor a.step.want in
     let host = given_at a.entry.place g a.entry.actor op given a.entry.reply a.step.answer in
-    let fit : MatchBool (is_given op (Some given)) (Answers g actor (Some given) m [] n) (Misfits misfit.Unfit m [] n) =
-    subst (λ (b : Bool). MatchBool b (Answers g actor (Some given) m [] n) (Misfits misfit.Unfit m [] n)) (sym host.1) a in
-    let replies : Replies g actor (Some given) m [] n = (
+    let fit : MatchBool (is_given op (Host given)) (Answers g actor (Host given) m [] n) (Misfits misfit.Unfit m [] n) =
+    subst (λ (b : Bool). MatchBool b (Answers g actor (Host given) m [] n) (Misfits misfit.Unfit m [] n)) (sym host.1) a in
+    let replies : Replies g actor (Host given) m [] n = (
       op,
       wants,
-      subst (λ (b : Bool). MatchBool b (MatchBool (is_given op (Some given)) (Answers g actor (Some given) m [] n) (Misfits misfit.Unfit m [] n)) (Misfits misfit.NotWaiting m [] n))
+      subst (λ (b : Bool). MatchBool b (MatchBool (is_given op (Host given)) (Answers g actor (Host given) m [] n) (Misfits misfit.Unfit m [] n)) (Misfits misfit.NotWaiting m [] n))
           (sym host.0) fit,
     ) in
-    subst (λ (b : Bool). MatchBool b (Replies g actor (Some given) m [] n) (Misfits misfit.NoActor m [] n))
+    subst (λ (b : Bool). MatchBool b (Replies g actor (Host given) m [] n) (Misfits misfit.NoActor m [] n))
     (sym (there g actor op wants)) replies
 
 pub reply_is_line : (actor : ActorId) (reply : HostReply) (m n : Machine) → TraceStep (item.Reply actor reply) [] m Quiet n
     → ItemStep (item.Reply actor reply) [] m [] n
 reply_is_line actor reply m n step = (
   refl,
-  subst (λ (o : Option Reply). RepliesLine (running m) actor o m [] n) (sym step.3)
+  subst (λ (o : Given). RepliesLine (running m) actor o m [] n) (sym step.3)
       (reply_line (running m) actor step.2 m n step.4),
 )

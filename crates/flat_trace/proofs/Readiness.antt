@@ -2,6 +2,8 @@
 use Rattle.std.proofs.Common.{◌≡◌, ℕ, Bool, true, false, refl, sym, subst, List, [], ◌∷◌, Option, Some, None}
 use Rattle.vm_types.specs.declared.ids.ActorId.{ActorId}
 use Rattle.vm_types.specs.declared.reply.Reply.{Reply}
+use Rattle.flat_guest.specs.Given.{Given}
+use Rattle.flat_guest.specs.Given.Given.{Host, Nothing}
 use Rattle.script_text.specs.declared.item.Item.{Item}
 use Rattle.script_text.specs.declared.item.Item.TheVariants as item
 use Rattle.script_output.specs.Output.{console_line}
@@ -17,13 +19,13 @@ use Rattle.flat_trace.specs.Showing.{HasEvent, Hears, Out, Run, TraceStep}
 ready_is : (m n : Machine) → n ≡ m → Ready m → Ready n
 ready_is m n is ready = subst (λ (q : Machine). Ready q) (sym is) ready
 
-event_kept : (guest : Option Guest) (paused : Bool) (actor : ActorId) (given : Option Reply) (m n : Machine) → Ready m
+event_kept : (guest : Option Guest) (paused : Bool) (actor : ActorId) (given : Given) (m n : Machine) → Ready m
     → ReadyBy m.config paused guest → m.paused ≡ paused → HasEvent (running_by guest paused) actor given m n → Ready n
 event_kept guest true actor given m n ready own is x = absurd x
 event_kept None false actor given m n ready own is x = absurd x
 event_kept (Some g) false actor given m n ready own is x =
     ready_is (record m { guest = Some x.end }) n x.leaves
-    (event_ready m g x.end (record { actor = actor; reply = given }) x.entry ready own is x.step)
+    (event_ready m g x.end (record { actor = actor; given = given }) x.entry ready own is x.step)
 
 hears_kept : (off : Bool) (bytes : List ℕ) (outcomes : List Outcome) (m : Machine) (out : Out) (n : Machine) → Ready m
     → Hears off bytes outcomes m out n → Ready n
@@ -33,9 +35,9 @@ hears_kept false bytes outcomes m out n ready x =
 
 step_kept : (it : Item) (outcomes : List Outcome) (m : Machine) (out : Out) (n : Machine) → Ready m → TraceStep it outcomes m out n → Ready n
 step_kept (item.Step actor count) outcomes m out n ready x =
-    event_kept m.guest m.paused actor None m n ready ready.guest refl x.3
+    event_kept m.guest m.paused actor Nothing m n ready ready.guest refl x.3
 step_kept (item.Reply actor reply) outcomes m out n ready x =
-    event_kept m.guest m.paused actor (Some x.2) m n ready ready.guest refl x.4
+    event_kept m.guest m.paused actor (Host x.2) m n ready ready.guest refl x.4
 step_kept item.Console outcomes m out n ready x = item_ready item.Console outcomes m n (console_line (console_of m)) ready x.1
 step_kept (item.Bytes bytes) outcomes m out n ready x = hears_kept (is_off m) bytes outcomes m out n ready x
 step_kept item.Connect outcomes m out n ready x = item_ready item.Connect outcomes m n [] ready x.1

@@ -10,18 +10,19 @@ use Rattle.vm_types.specs.declared.reply.Reply.{Reply}
 use Rattle.vm_types.specs.declared.reply.Shown.{Shown}
 use Rattle.script_text.specs.declared.item.HostReply.{HostReply}
 use Rattle.script_text.specs.declared.item.HostReply.TheVariants as given
+use Rattle.flat_guest.specs.Given.Given.{Host, Nothing}
 use Rattle.flat_machine.specs.Given.{reply_given}
 use Rattle.serve_host.specs.Events.{host_reply}
 
 never : false ≡ true → ⊥
 never is = cc
 
-frame_again : (count : ℕ) (b : Bool) → b ≡ true → reply_given (if b then given.Frame count else given.Failed) ≡ Some (Reply.Frame count)
+frame_again : (count : ℕ) (b : Bool) → b ≡ true → reply_given (if b then given.Frame count else given.Failed) ≡ Host (Reply.Frame count)
 frame_again count true is = refl
 frame_again count false is = absurd (never is)
 
 short_again : (piece : List ℕ) (connection : ℕ) (b : Bool) → b ≡ true
-    → (if b then Some (Reply.Received piece connection) else None) ≡ Some (Reply.Received piece connection)
+    → (if b then Host (Reply.Received piece connection) else Nothing) ≡ Host (Reply.Received piece connection)
 short_again piece connection true is = refl
 short_again piece connection false is = absurd (never is)
 
@@ -70,7 +71,7 @@ wrong b unmet met = absurd (never (sym unmet ∙ met))
 
 pub again : (act : OutOp) (reply : Reply) → out_fits act reply ≡ true
     → ((piece : List ℕ) (connection : ℕ) → reply ≡ Reply.Received piece connection → length piece ≤ 64)
-    → reply_given (host_reply reply) ≡ Some reply
+    → reply_given (host_reply reply) ≡ Host reply
 again act Reply.Done fits short = refl
 again act (Reply.Bytes piece) fits short = refl
 again act (Reply.Word value) fits short = refl

@@ -2,6 +2,8 @@
 use Rattle.std.specs.Prelude.{ℕ, ◌≡◌, Bool, true, false, List, [], ◌∷◌, ◌++◌, map, Option, Some, None}
 use Rattle.vm_types.specs.declared.ids.ActorId.{ActorId}
 use Rattle.vm_types.specs.declared.reply.Reply.{Reply}
+use Rattle.flat_guest.specs.Given.{Given}
+use Rattle.flat_guest.specs.Given.Given.{Host, Nothing}
 use Rattle.script_text.specs.declared.item.Item.{Item}
 use Rattle.script_text.specs.declared.item.Item.TheVariants as item
 use Rattle.script_output.specs.Output.{console_line}
@@ -23,7 +25,7 @@ pub data Out : Type 0 where
   Shown : List ℕ → Out
 
 -- the event of an actor of the guest that runs, which may have turned itself off in the slice that the event is of
-abbrev pub HasEvent : Option Guest → ActorId → Option Reply → Machine → Machine → Type 0
+abbrev pub HasEvent : Option Guest → ActorId → Given → Machine → Machine → Type 0
 HasEvent None actor given m n = ⊥
 HasEvent (Some g) actor given m n = Answers g actor given m [] n
 
@@ -36,10 +38,10 @@ Hears false bytes outcomes m out n =
 -- from m the item, whose requests went so, shows this and leaves n; a trace has no other items
 abbrev pub TraceStep : Item → List Outcome → Machine → Out → Machine → Type 0
 TraceStep (item.Step actor count) outcomes m out n =
-    (outcomes ≡ []) × (out ≡ Quiet) × (count ≡ 1) × HasEvent (running m) actor None m n
+    (outcomes ≡ []) × (out ≡ Quiet) × (count ≡ 1) × HasEvent (running m) actor Nothing m n
 TraceStep (item.Reply actor reply) outcomes m out n =
     (outcomes ≡ []) × (out ≡ Quiet)
-    × (given : Reply) × (reply_given reply ≡ Some given) × HasEvent (running m) actor (Some given) m n
+    × (given : Reply) × (reply_given reply ≡ Host given) × HasEvent (running m) actor (Host given) m n
 TraceStep item.Console outcomes m out n =
     (out ≡ Shown (console_of m)) × ItemStep item.Console outcomes m (console_line (console_of m)) n
 TraceStep (item.Bytes bytes) outcomes m out n = Hears (is_off m) bytes outcomes m out n

@@ -8,6 +8,7 @@ ghost use Rattle.vm_types.specs.declared.reply.Reply.{Reply};
 ghost use Rattle.script_text.specs.declared.item.HostReply.{HostReply};
 ghost use Rattle.script_text.specs.declared.item.Item.TheVariants as item;
 ghost use Rattle.serve_host.specs.Events.{host_reply};
+ghost use Rattle.flat_guest.specs.Given.Given.{Host};
 ghost use Rattle.flat_machine.specs.Given.{reply_given};
 ghost use Rattle.flat_machine.specs.Items.{ItemStep};
 ghost use Rattle.flat_machine.specs.Machine.{Machine, is_off};
@@ -34,7 +35,7 @@ pub fn line_of_reply()
 pub fn reply_again()
     ensures { (act : OutOp) (reply : Reply) → out_fits act reply ≡ true →
         ((piece : List ℕ) (connection : ℕ) → reply ≡ Reply.Received piece connection → length piece ≤ 64) →
-        reply_given (host_reply reply) ≡ Some reply }
+        reply_given (host_reply reply) ≡ Host reply }
 {}
 
 /// A trace is a script, as long as the guest is on before each of its items: the run of its lines leaves the same machine,

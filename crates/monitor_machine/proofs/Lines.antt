@@ -10,6 +10,7 @@ use Rattle.script_text.specs.declared.output.Misfit.{Misfit}
 use Rattle.script_text.specs.declared.output.Misfit.TheVariants as misfit
 use Rattle.script_text.specs.Output.{misfit_line}
 use Rattle.hart_trace.specs.Asks.{is_host_op}
+use Rattle.flat_guest.specs.Given.{Given, as_given}
 use Rattle.flat_guest.specs.Guest.{Guest, Wants, is_actor}
 use Rattle.flat_guest.specs.Steps.{guest_after, is_given}
 use Rattle.flat_machine.specs.Machine.{Machine, running, running_by}
@@ -117,29 +118,29 @@ step_moves live known m world left actor count made off text is moving some here
 -- ---- replies
 
 -- some flat machine that the machine is after the reply line
-abbrev pub Replied : ActorId → Option Reply → Machine → List ℕ → LiveMachine → FilesKnown → Type 0
+abbrev pub Replied : ActorId → Given → Machine → List ℕ → LiveMachine → FilesKnown → Type 0
 Replied actor given m text after known =
     (n : Machine) × RepliesLine (running m) actor given m text n × IsMachine after known n × (n.connection ≡ m.connection)
 
-reply_none : (m : Machine) (actor : ActorId) (given : Option Reply) (text : List ℕ) → running m ≡ None
+reply_none : (m : Machine) (actor : ActorId) (given : Given) (text : List ℕ) → running m ≡ None
     → text ≡ misfit_line misfit.NotRunning → RepliesLine (running m) actor given m text m
 reply_none m actor given text none writes =
     subst (λ (g : Option Guest). RepliesLine g actor given m text m) (sym none) (writes, refl)
 
-pub reply_still : (live : LiveMachine) (known : FilesKnown) (m : Machine) (actor : ActorId) (given : Option Reply) (text : List ℕ)
+pub reply_still : (live : LiveMachine) (known : FilesKnown) (m : Machine) (actor : ActorId) (given : Given) (text : List ℕ)
     → IsMachine live known m → live.paused ≡ true → text ≡ misfit_line misfit.NotRunning
     → Replied actor given m text live known
 reply_still live known m actor given text is halted writes =
     (m, reply_none m actor given text (still live m is.own halted) writes, is, refl)
 
-pub reply_refused : (live : LiveMachine) (known : FilesKnown) (m : Machine) (actor : ActorId) (given : Option Reply) (text : List ℕ)
+pub reply_refused : (live : LiveMachine) (known : FilesKnown) (m : Machine) (actor : ActorId) (given : Given) (text : List ℕ)
     → IsMachine live known m → live.paused ≡ false → live.guest ≡ None → text ≡ misfit_line misfit.NotRunning
     → Replied actor given m text live known
 reply_refused live known m actor given text is moving none writes =
     (m, reply_none m actor given text (goes live m is.own moving ∙ no_guest live.guest m.guest is.own.guest_is none) writes, is, refl)
 
 -- what a running guest makes of the reply, which its actor is there for or not
-module _ (live : LiveMachine) (known : FilesKnown) (m : Machine) (world left : WorldValue) (actor : ActorId) (given : Option Reply)
+module _ (live : LiveMachine) (known : FilesKnown) (m : Machine) (world left : WorldValue) (actor : ActorId) (given : Given)
     (text : List ℕ) (is : IsMachine live known m) (moving : live.paused ≡ false) (some : live.guest ≡ Some world) where
   own_guest : (h : Guest) × (m.guest ≡ Some h) × IsWorld world h
   own_guest = some_guest live.guest world m.guest is.own.guest_is some
@@ -207,22 +208,22 @@ fits_or : (fit : Bool) → fit ≡ true → (if fit then None else Some StepErro
 fits_or true is = refl
 fits_or false is = cc
 
-given_not_refused : (op : Op) (given : Option Reply) → is_given op given ≡ true → refusal_of op given ≡ None
+given_not_refused : (op : Op) (given : Option Reply) → is_given op (as_given given) ≡ true → refusal_of op given ≡ None
 given_not_refused (Op.Out act) None is = cc
 given_not_refused (Op.Out act) (Some reply) is = fits_or (out_fits act reply) is
 given_not_refused op None is = refl
 given_not_refused op (Some reply) is = cc
 
-pub world_lacks : (w after : WorldValue) (actor : ActorId) (given : Option Reply) → after ≡ w → want_in w actor ≡ None
+pub world_lacks : (w after : WorldValue) (actor : ActorId) (given : Given) → after ≡ w → want_in w actor ≡ None
     → TakesReply (Some misfit.NoActor) w actor given after
 world_lacks w after actor given same none = (same, λ g world. not_there w g actor world none)
 
-pub world_busy : (w after : WorldValue) (actor : ActorId) (op : Op) (given : Option Reply) → after ≡ w → want_in w actor ≡ Some op
+pub world_busy : (w after : WorldValue) (actor : ActorId) (op : Op) (given : Given) → after ≡ w → want_in w actor ≡ Some op
     → is_host_op op ≡ false → TakesReply (Some misfit.NotWaiting) w actor given after
 world_busy w after actor op given same want own =
     (same, λ g world. record { there = is_there w g actor op world want; op = op; wants = wanted w g actor op world want; own = own })
 
-pub world_unfit : (w after : WorldValue) (actor : ActorId) (op : Op) (given : Option Reply) → after ≡ w → want_in w actor ≡ Some op
+pub world_unfit : (w after : WorldValue) (actor : ActorId) (op : Op) (given : Given) → after ≡ w → want_in w actor ≡ Some op
     → is_host_op op ≡ true → is_given op given ≡ false → TakesReply (Some misfit.Unfit) w actor given after
 world_unfit w after actor op given same want host unfit = (
   same,
@@ -235,8 +236,8 @@ world_unfit w after actor op given same want host unfit = (
   },
 )
 
-pub world_takes : (w after : WorldValue) (actor : ActorId) (op : Op) (given : Option Reply) (e : Entry) → want_in w actor ≡ Some op
-    → is_host_op op ≡ true → is_given op given ≡ true → MakesEvent w (record { actor = actor; reply = given }) e after
+pub world_takes : (w after : WorldValue) (actor : ActorId) (op : Op) (given : Given) (e : Entry) → want_in w actor ≡ Some op
+    → is_host_op op ≡ true → is_given op given ≡ true → MakesEvent w (record { actor = actor; given = given }) e after
     → TakesReply None w actor given after
 world_takes w after actor op given e want host fit made = λ g world. record {
   there = is_there w g actor op world want;
@@ -253,9 +254,9 @@ world_takes w after actor op given e want host fit made = λ g world. record {
 
 -- where it fits the event is made
 pub world_never : (w after : WorldValue) (actor : ActorId) (op : Op) (given : Option Reply) (made : Bool) → after ≡ w → want_in w actor ≡ Some op
-    → is_given op given ≡ true → made ≡ false
+    → is_given op (as_given given) ≡ true → made ≡ false
     → ((g : Guest) (o : Op) → IsWorld w g → Wants g actor o → refusal_of o given ≡ None → made ≡ true)
-    → TakesReply (Some misfit.Unfit) w actor given after
+    → TakesReply (Some misfit.Unfit) w actor (as_given given) after
 world_never w after actor op given made same want fit failed promised = (
   same,
   λ g world.

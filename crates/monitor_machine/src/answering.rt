@@ -1,5 +1,6 @@
 // Replies of host objects.
 ghost use Rattle.std.specs.Prelude.{◌≡◌};
+ghost use Rattle.flat_guest.specs.Given.{as_given};
 ghost use Rattle.flat_guest.specs.Steps.{is_given};
 ghost use Rattle.flat_machine.specs.Given.{reply_given};
 ghost use Rattle.hart_trace.specs.Asks.{is_host_op};
@@ -11,7 +12,7 @@ use vm_world::World;
 
 /// The reply that a line says, or `None` where it has more bytes than a reply can have.
 pub fn reply_given(given: &HostReply) -> Option<Reply>
-    ensures { result ≡ reply_given given.now }
+    ensures { as_given result ≡ reply_given given.now }
 {
     let reply = match given {
         HostReply::Done => Reply::Done,
@@ -52,7 +53,7 @@ fn is_host_op(op: &Op) -> bool
 
 // Whether an act has what it is to be given: a reply that fits, if it is on a host object, and else nothing.
 fn is_given(op: &Op, given: &Option<Reply>) -> bool
-    ensures { result ≡ is_given op.now given.now }
+    ensures { result ≡ is_given op.now (as_given given.now) }
 {
     match (op, given) {
         (Op::Out(_), None) => false,
@@ -64,7 +65,7 @@ fn is_given(op: &Op, given: &Option<Reply>) -> bool
 
 /// Gives an actor the reply that it waits for, which makes its event, or says why that doesn't fit.
 pub fn take_reply(guest: &mut World, actor: ActorId, given: Option<Reply>) -> Option<Misfit>
-    ensures { TakesReply result guest.old actor given guest.new }
+    ensures { TakesReply result guest.old actor (as_given given) guest.new }
 {
     let Some(op) = guest.want(actor) else {
         return Some(Misfit::NoActor);

@@ -4,11 +4,12 @@ use Rattle.std.proofs.lemmas.List.Elements.{All-push, All-from_recursion}
 use Rattle.vm_types.specs.declared.ids.ActorId.{ActorId}
 use Rattle.vm_types.specs.declared.ids.PlaceId.{PlaceId}
 use Rattle.vm_types.specs.declared.entry.Entry.{Entry}
-use Rattle.vm_types.specs.declared.entry.Event.{Event}
 use Rattle.vm_types.specs.declared.op.Op.{Op}
 use Rattle.vm_types.specs.declared.reply.Reply.{Reply}
 use Rattle.vm_host.specs.Storing.{DiskKnown}
 use Rattle.port_table.specs.Window.{most_ports}
+use Rattle.flat_guest.specs.Given.{Event, as_given}
+use Rattle.flat_guest.specs.Given.Given.{Host}
 use Rattle.flat_guest.specs.Guest.{Guest, Wants, layout_of}
 use Rattle.flat_guest.specs.Steps.{Answers, FlatStep, guest_after}
 use Rattle.flat_guest.proofs.Determined.{wants_one}
@@ -27,15 +28,15 @@ acted_none w disk = record {
   answered = λ g is. rests_same disk;
 }
 
-some_same : (x y : Reply) → Some x ≡ Some y → x ≡ y
-some_same x y is = cc
+host_same : (x y : Reply) → Host x ≡ Host y → x ≡ y
+host_same x y is = cc
 
 -- what is given is the disk's reply, and what is not asks none
 asks_by : (k : ℕ) (op : Op) (given : Option Reply) (reply : Reply) (old now : DiskKnown) → IsGivenByDisk k op old given now
-    → given ≡ given_of op reply → AsksDisk op (ActorId.Device k) reply old now
+    → as_given given ≡ given_of op reply → AsksDisk op (ActorId.Device k) reply old now
 asks_by k (Op.Out act) (Some r) reply old now it is =
     subst (λ (b : _). MatchBool b (DiskReplies k act reply old now) (DiskRests old now)) (sym it.0)
-    (subst (λ (x : Reply). DiskReplies k act x old now) (some_same r reply is) it.2)
+    (subst (λ (x : Reply). DiskReplies k act x old now) (host_same r reply is) it.2)
 asks_by k (Op.Out act) None reply old now it is = let never = is in cc
 asks_by k op None reply old now it is = rests_of old now it
 asks_by k op (Some r) reply old now it is = absurd it
@@ -44,15 +45,15 @@ module _ (first w : WorldValue) (asked old now : DiskKnown) (es : List Entry) (k
     (port : k < most_ports) (wants : (g : Guest) → IsWorld w g → Wants g (ActorId.Device k) op) (was_given : IsGivenByDisk k op old given now)
     (acted : HaveActed es first w asked old) where
   abbrev event : Event
-  event = record { actor = ActorId.Device k; reply = given }
+  event = record { actor = ActorId.Device k; given = as_given given }
 
   asks : (h n : Guest) (e : Entry) → IsWorld w h → FlatStep h event e n → AsksDisk e.op e.actor e.reply old now
   asks h n e is step =
       let same : e.op ≡ op =
       wants_one h (ActorId.Device k) e.op op (subst (λ (a : ActorId). Wants h a e.op) step.actor step.want) (wants h is) in
-      let told : given ≡ given_of e.op e.reply =
-      given_is (layout_of h) h e.actor e.op given e.reply
-      (subst (λ (p : PlaceId). Answers p h e.actor e.op given e.reply) step.place step.answer) in
+      let told : as_given given ≡ given_of e.op e.reply =
+      given_is (layout_of h) h e.actor e.op (as_given given) e.reply
+      (subst (λ (p : PlaceId). Answers p h e.actor e.op (as_given given) e.reply) step.place step.answer) in
       subst (λ (a : ActorId). AsksDisk e.op a e.reply old now) (sym step.actor)
       (asks_by k e.op given e.reply old now
       (subst (λ (o : Op). IsGivenByDisk k o old given now) (sym same) was_given) told)

@@ -3,7 +3,6 @@ use Rattle.std.proofs.Common.{◌≡◌, ℕ, Bool, true, false, cond, refl, sym
 use Rattle.vm_types.specs.declared.ids.ActorId.{ActorId}
 use Rattle.vm_types.specs.declared.ids.PlaceId.{PlaceId}
 use Rattle.vm_types.specs.declared.entry.Entry.{Entry}
-use Rattle.vm_types.specs.declared.entry.Event.{Event}
 use Rattle.vm_types.specs.declared.entry.Step.{Step}
 use Rattle.vm_types.specs.declared.op.Op.{Op}
 use Rattle.vm_types.specs.declared.op.OutOp.{OutOp}
@@ -22,6 +21,7 @@ use Rattle.timer_trace.proofs.Traces as timer_traces
 use Rattle.device_trace.specs.Acts.{is_disk_call}
 use Rattle.guest_devices.specs.Devices.{BlockIs, FlatDevice, device_calls}
 use Rattle.guest_devices.proofs.Soundness.{want_host}
+use Rattle.flat_guest.specs.Given.{Event}
 use Rattle.flat_guest.specs.Guest.{Guest, Wants, WantsFrom, WantsOf, layout_of, whole_pages}
 use Rattle.flat_guest.specs.Places.{place_of}
 use Rattle.flat_guest.specs.Sound.{IsSound}
@@ -107,9 +107,9 @@ out_fit : (g : Guest) (event : Event) (e : Entry) (h : Guest) (act : OutOp) → 
     → out_fits act e.reply ≡ true
 out_fit g event e h act step is =
     let there : e.place ≡ place_of (layout_of g) (Op.Out act) = step.place ∙ ap (λ (o : Op). place_of (layout_of g) o) is in
-    let answers : Answers (place_of (layout_of g) (Op.Out act)) g e.actor (Op.Out act) event.reply e.reply =
-    subst (λ (o : Op). Answers (place_of (layout_of g) (Op.Out act)) g e.actor o event.reply e.reply) is
-    (subst (λ (p : PlaceId). Answers p g e.actor e.op event.reply e.reply) there step.answer) in
+    let answers : Answers (place_of (layout_of g) (Op.Out act)) g e.actor (Op.Out act) event.given e.reply =
+    subst (λ (o : Op). Answers (place_of (layout_of g) (Op.Out act)) g e.actor o event.given e.reply) is
+    (subst (λ (p : PlaceId). Answers p g e.actor e.op event.given e.reply) there step.answer) in
     answers.1
 
 asking_by : (e : Entry) (act : OutOp) → out_fits act e.reply ≡ true → Asks e.actor act → IsAsking e act ⊎ IsDiskAct e act

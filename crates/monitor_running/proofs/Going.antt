@@ -3,13 +3,14 @@ use Rattle.std.proofs.Common.{◌≡◌, ℕ, Bool, true, false, cond, refl, sym
 use Rattle.vm_types.specs.declared.ids.ActorId.{ActorId}
 use Rattle.vm_types.specs.declared.ids.PlaceId.{PlaceId}
 use Rattle.vm_types.specs.declared.entry.Entry.{Entry}
-use Rattle.vm_types.specs.declared.entry.Event.{Event}
 use Rattle.vm_types.specs.declared.op.Op.{Op}
 use Rattle.vm_types.specs.declared.op.OutOp.TheVariants.{Clock}
 use Rattle.vm_types.specs.declared.reply.Reply.{Reply}
 use Rattle.vm_types.specs.Ids.{of_actor, same_actor}
 use Rattle.vm_host.specs.Telling.{AreNext, ClockKnown, Gives}
 use Rattle.flat_guest.specs.declared.places.Layout.{Layout}
+use Rattle.flat_guest.specs.Given.{Event, Given, as_given}
+use Rattle.flat_guest.specs.Given.Given.{Host, Nothing}
 use Rattle.flat_guest.specs.Guest.{Guest, Wants, layout_of}
 use Rattle.flat_guest.specs.Places.{place_of}
 use Rattle.flat_guest.specs.Steps.{Answers, AnswersOut, FlatStep, guest_after}
@@ -26,14 +27,14 @@ use Rattle.monitor_running.proofs.Sound.{world_sound}
 
 -- ---- the event is the one that its entry tells
 
-plain : (p : PlaceId) (g : Guest) (actor : ActorId) (op : Op) (given : Option Reply) (reply : Reply)
-    → (AnswersOut op given reply → given ≡ None) → Answers p g actor op given reply → given ≡ None
+plain : (p : PlaceId) (g : Guest) (actor : ActorId) (op : Op) (given : Given) (reply : Reply)
+    → (AnswersOut op given reply → given ≡ Nothing) → Answers p g actor op given reply → given ≡ Nothing
 plain (PlaceId.Page i) g actor op given reply out answer = answer.0
 plain (PlaceId.Port k) g actor op given reply out answer = answer.0
 plain PlaceId.Board g actor op given reply out answer = answer.0
 plain PlaceId.Out g actor op given reply out answer = out answer
 
-pub given_is : (there : Layout) (g : Guest) (actor : ActorId) (op : Op) (given : Option Reply) (reply : Reply)
+pub given_is : (there : Layout) (g : Guest) (actor : ActorId) (op : Op) (given : Given) (reply : Reply)
     → Answers (place_of there op) g actor op given reply → given ≡ given_of op reply
 given_is there g actor (Op.Out act) given reply answer = answer.0
 given_is there g actor (Op.Read at len) given reply answer =
@@ -53,13 +54,13 @@ given_is there g actor Op.Idle given reply answer = answer.0
 
 pub step_told : (g h : Guest) (event : Event) (e : Entry) → FlatStep g event e h → FlatStep g (event_of e) e h
 step_told g h event e step =
-    let same : event.reply ≡ given_of e.op e.reply =
-    given_is (layout_of g) g e.actor e.op event.reply e.reply
-    (subst (λ (p : PlaceId). Answers p g e.actor e.op event.reply e.reply) step.place step.answer) in record {
+    let same : event.given ≡ given_of e.op e.reply =
+    given_is (layout_of g) g e.actor e.op event.given e.reply
+    (subst (λ (p : PlaceId). Answers p g e.actor e.op event.given e.reply) step.place step.answer) in record {
       actor = refl;
       want = step.want;
       place = step.place;
-      answer = subst (λ (r : Option Reply). Answers e.place g e.actor e.op r e.reply) same step.answer;
+      answer = subst (λ (r : Given). Answers e.place g e.actor e.op r e.reply) same step.answer;
       after = step.after;
     }
 
@@ -125,8 +126,8 @@ was_answered asked old now es e answer actor op reply gives was tells =
           (gives.next before.0) (gives.rest before.0)),
     )
 
-some_same : (x y : Reply) → Some x ≡ Some y → x ≡ y
-some_same x y is = cc
+host_same : (x y : Reply) → Host x ≡ Host y → x ≡ y
+host_same x y is = cc
 
 -- ---- one more event
 
@@ -134,17 +135,17 @@ module _ (first w : WorldValue) (asked old now : ClockKnown) (es : List Entry) (
     (wants : (g : Guest) → IsWorld w g → Wants g actor op) (was_given : IsAsked op old given now)
     (gone : HasGone es first w asked old) where
   abbrev event : Event
-  event = record { actor = actor; reply = given }
+  event = record { actor = actor; given = as_given given }
 
   clock_on : (o : Op) (h k : Guest) (e : Entry) → IsSound h → FlatStep h event e k → e.op ≡ o → IsAsked o old given now
       → ClockWasAsked asked es old → ClockWasAsked asked (es ++ e ∷ []) now
   clock_on (Op.Out Clock) h k e sound step is it was =
       let asking = clock_asking h event e k sound step is in
-      let told : given ≡ given_of e.op e.reply =
-      given_is (layout_of h) h e.actor e.op given e.reply
-      (subst (λ (p : PlaceId). Answers p h e.actor e.op given e.reply) step.place step.answer) in
+      let told : as_given given ≡ given_of e.op e.reply =
+      given_is (layout_of h) h e.actor e.op (as_given given) e.reply
+      (subst (λ (p : PlaceId). Answers p h e.actor e.op (as_given given) e.reply) step.place step.answer) in
       let reply : e.reply ≡ Reply.Word it.0 =
-      some_same e.reply (Reply.Word it.0) (sym (told ∙ ap (λ (x : Op). given_of x e.reply) is) ∙ it.1) in
+      host_same e.reply (Reply.Word it.0) (sym (told ∙ ap (λ (x : Op). given_of x e.reply) is) ∙ ap as_given it.1) in
       was_answered asked old now es e it.0 asking.actor is reply it.2 was
   clock_on o h k e sound step is it was =
       unasked asked old now es e (ap (λ (x : Op). answer_in x e.reply []) is) it.1 was

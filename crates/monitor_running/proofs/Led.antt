@@ -8,6 +8,8 @@ use Rattle.vm_types.specs.declared.reply.Reply.{Reply}
 use Rattle.script_text.specs.declared.item.Item.{Item}
 use Rattle.script_text.specs.declared.item.Item.TheVariants as item
 use Rattle.board_table.specs.Board.{Board}
+use Rattle.flat_guest.specs.Given.{Given}
+use Rattle.flat_guest.specs.Given.Given.{Host, Nothing}
 use Rattle.flat_guest.specs.Guest.{Guest, Wants}
 use Rattle.flat_guest.specs.Steps.{FlatStep}
 use Rattle.flat_machine.specs.Given.{reply_given}
@@ -72,7 +74,7 @@ unstamped e = record e { stamp = 0; before = 0 }
 
 -- a line gives an actor just what it tells
 disk_again : (act : OutOp) (reply : Reply) → is_disk_call act ≡ true → out_fits act reply ≡ true
-    → reply_given (host_reply reply) ≡ Some reply
+    → reply_given (host_reply reply) ≡ Host reply
 disk_again (DiskRead sector part) (Reply.Bytes piece) call fits = refl
 disk_again (DiskRead sector part) Reply.Failed call fits = refl
 disk_again (DiskRead sector part) reply call fits = cc
@@ -85,17 +87,17 @@ disk_again DiskFlush reply call fits = cc
 disk_again act reply call fits = cc
 
 given_again : (e : Entry) (act : OutOp) → IsAsking e act ⊎ IsDiskAct e act
-    → reply_given (host_reply e.reply) ≡ Some e.reply
+    → reply_given (host_reply e.reply) ≡ Host e.reply
 given_again e act (inl asking) =
-    subst (λ (r : Reply). reply_given (host_reply r) ≡ Some r) (sym asking.reply) refl
+    subst (λ (r : Reply). reply_given (host_reply r) ≡ Host r) (sym asking.reply) refl
 given_again e act (inr disk) = disk_again act e.reply disk.call disk.fits
 
 module _ (m : Machine) (g mid : Guest) (e : Entry) (sound : IsSound g) (runs : running m ≡ Some g)
     (step : FlatStep g (event_of e) e mid) where
-  has_event : (given : Option Reply) → given_of e.op e.reply ≡ given → HasEvent (running m) e.actor given m (with_guest m mid)
+  has_event : (given : Given) → given_of e.op e.reply ≡ given → HasEvent (running m) e.actor given m (with_guest m mid)
   has_event given is =
-      let there : FlatStep g (record { actor = e.actor; reply = given }) e mid =
-      subst (λ (r : Option Reply). FlatStep g (record { actor = e.actor; reply = r }) e mid) is step in
+      let there : FlatStep g (record { actor = e.actor; given = given }) e mid =
+      subst (λ (r : Given). FlatStep g (record { actor = e.actor; given = r }) e mid) is step in
       let answers : Answers g e.actor given m [] (with_guest m mid) = record {
         entry = unstamped e;
         end = mid;
@@ -106,14 +108,14 @@ module _ (m : Machine) (g mid : Guest) (e : Entry) (sound : IsSound g) (runs : r
       } in
       subst (λ (o : Option Guest). HasEvent o e.actor given m (with_guest m mid)) (sym runs) answers
 
-  told_plain : given_of e.op e.reply ≡ None → TraceStep (item.Step e.actor 1) [] m Quiet (with_guest m mid)
-  told_plain is = (refl, refl, refl, has_event None is)
+  told_plain : given_of e.op e.reply ≡ Nothing → TraceStep (item.Step e.actor 1) [] m Quiet (with_guest m mid)
+  told_plain is = (refl, refl, refl, has_event Nothing is)
 
   told_by : (op : Op) → e.op ≡ op → TraceStep (item_by op e.actor e.reply) [] m Quiet (with_guest m mid)
   told_by (Op.Out act) is =
-      let reads : reply_given (host_reply e.reply) ≡ Some e.reply =
+      let reads : reply_given (host_reply e.reply) ≡ Host e.reply =
       given_again e act (is_asking g (event_of e) e mid act sound step is) in
-      (refl, refl, e.reply, reads, has_event (Some e.reply) (ap (λ (o : Op). given_of o e.reply) is))
+      (refl, refl, e.reply, reads, has_event (Host e.reply) (ap (λ (o : Op). given_of o e.reply) is))
   told_by (Op.Read at len) is = told_plain (ap (λ (o : Op). given_of o e.reply) is)
   told_by (Op.Write at piece) is = told_plain (ap (λ (o : Op). given_of o e.reply) is)
   told_by (Op.Amo at value kind wide) is = told_plain (ap (λ (o : Op). given_of o e.reply) is)
@@ -130,7 +132,7 @@ module _ (m : Machine) (g mid : Guest) (e : Entry) (sound : IsSound g) (runs : r
     asks_by : (op : Op) → e.op ≡ op → AsksDisk op e.actor e.reply old now
         → ItemAsks start (item_by op e.actor e.reply) m.config (running m) old now
     asks_by (Op.Out act) is asks =
-        let reads : reply_given (host_reply e.reply) ≡ Some e.reply =
+        let reads : reply_given (host_reply e.reply) ≡ Host e.reply =
         given_again e act (is_asking g (event_of e) e mid act sound step is) in
         subst (λ (o : Option Guest). ItemAsks start (item.Reply e.actor (host_reply e.reply)) m.config o old now) (sym runs)
         (own, Op.Out act, e.reply, subst (λ (o : Op). Wants g e.actor o) is step.want, reads, asks)

@@ -1,5 +1,5 @@
 -- Events of one hart alone, and how they are told.
-use Rattle.std.proofs.Common.{◌≡◌, ◌≤◌, ◌<◌, ◌+◌, ℕ, zero, suc, min, nat_eq, eqb→eq, T, Bool, true, false, Some, arith, refl, sym, ap, ◌∙◌, subst, List, [], ◌∷◌, ◌++◌, replicate, length, None, ◌⊎◌, inl, inr}
+use Rattle.std.proofs.Common.{◌≡◌, ◌≤◌, ◌<◌, ◌+◌, ℕ, zero, suc, min, nat_eq, eqb→eq, T, Bool, true, false, Some, arith, refl, sym, ap, ◌∙◌, subst, List, [], ◌∷◌, ◌++◌, replicate, length, ◌⊎◌, inl, inr}
 use Rattle.std.specs.List.{AllByRecursion}
 use lib.Dec.{eqb_refl}
 use lib.ListN.{replicate-append-replicate}
@@ -10,6 +10,7 @@ use Rattle.vm_types.specs.declared.reply.Reply.{Reply}
 use Rattle.script_text.specs.declared.item.Item.{Item}
 use Rattle.script_text.specs.declared.item.Item.TheVariants as item
 use Rattle.serve_host.specs.Tracing.{steps_of}
+use Rattle.flat_guest.specs.Given.Given.{Nothing}
 use Rattle.flat_guest.specs.Guest.{Guest, Wants}
 use Rattle.flat_guest.specs.Steps.{FlatStep, Makes}
 use Rattle.vm_world.specs.Worlds.{Runs, WorldValue, want_in}
@@ -27,7 +28,7 @@ use Rattle.monitor_running.proofs.Told.{HostGone}
 
 -- ---- an event of a hart is told as a step
 
-module _ (g mid : Guest) (k : ℕ) (e : Entry) (step : FlatStep g (record { actor = ActorId.Hart k; reply = None }) e mid) where
+module _ (g mid : Guest) (k : ℕ) (e : Entry) (step : FlatStep g (record { actor = ActorId.Hart k; given = Nothing }) e mid) where
   item_on : (op : Op) → e.op ≡ op → item_by op e.actor e.reply ≡ item.Step (ActorId.Hart k) 1
   item_on (Op.Out act) is =
       absurd (hart_asks g k act
@@ -42,7 +43,7 @@ leads_by : (k : ℕ) (es : List Entry) (g h : Guest) → Makes g (ActorId.Hart k
 leads_by k [] g h made = (made, refl)
 leads_by k (e ∷ es) g h made =
     let rest = leads_by k es made.1 h made.3 in (
-      (made.1, step_told g made.1 (record { actor = ActorId.Hart k; reply = None }) e made.2, rest.0),
+      (made.1, step_told g made.1 (record { actor = ActorId.Hart k; given = Nothing }) e made.2, rest.0),
       ap (λ (it : Item). it ∷ event_items es) (item_is g made.1 k e made.2)
           ∙ ap (λ (l : List Item). item.Step (ActorId.Hart k) 1 ∷ l) rest.1,
     )

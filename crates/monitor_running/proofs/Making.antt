@@ -8,6 +8,7 @@ use Rattle.vm_types.specs.declared.op.OutOp.{OutOp}
 use Rattle.vm_types.specs.declared.op.OutOp.TheVariants.{Clock}
 use Rattle.vm_types.specs.declared.reply.Reply.{Reply}
 use Rattle.vm_host.specs.Telling.{ClockKnown}
+use Rattle.flat_guest.specs.Given.{Given}
 use Rattle.flat_guest.specs.Guest.{Guest, Wants, is_actor}
 use Rattle.flat_guest.specs.Steps.{guest_after}
 use Rattle.vm_world.specs.Refusing.{refusal_of}
@@ -51,8 +52,8 @@ unrefused g actor Op.Idle given old now turn wants asked = ap (refusal_of Op.Idl
 
 module _ (first w : WorldValue) (actors : List ActorId) (actor : ActorId) (es : List Entry)
     (there : (g : Guest) → IsWorld first g → takes_turn g actor ≡ true) (has : HasMade actors es first w) where
-  pub made_more : (given : Option Reply) (v : WorldValue) (e : Entry)
-      → MakesEvent w (record { actor = actor; reply = given }) e v → HasMade (actors ++ actor ∷ []) (es ++ e ∷ []) first v
+  pub made_more : (given : Given) (v : WorldValue) (e : Entry)
+      → MakesEvent w (record { actor = actor; given = given }) e v → HasMade (actors ++ actor ∷ []) (es ++ e ∷ []) first v
   made_more given v e made g is =
       let before = has g is in
       let step = made.step before.0 before.1 in (

@@ -1,10 +1,11 @@
 -- What leaves the files of the machine as they are.
 use Rattle.std.proofs.Common.{◌≡◌, ℕ, Bool, true, false, refl, sym, ap, ◌∙◌, List, [], ◌∷◌, Option, Some, None}
 use Rattle.vm_types.specs.declared.ids.ActorId.{ActorId}
-use Rattle.vm_types.specs.declared.reply.Reply.{Reply}
 use Rattle.vm_outside.specs.Known.{FilesKnown}
 use Rattle.script_text.specs.declared.item.Item.{Item}
 use Rattle.script_text.specs.declared.item.Item.TheVariants as item
+use Rattle.flat_guest.specs.Given.{Given}
+use Rattle.flat_guest.specs.Given.Given.{Host, Nothing}
 use Rattle.flat_machine.specs.Machine.{AreFilesOf, Machine, is_off, running}
 use Rattle.flat_machine.specs.Outcome.{Outcome}
 use Rattle.flat_machine.specs.Run.{Act}
@@ -37,7 +38,7 @@ filed_ahead m told n since ahead = record { saved = sym ahead.saved ∙ since.sa
 
 -- ---- an item that says nothing on a connection
 
-event_filed : (actor : ActorId) (given : Option Reply) (m n : Machine) → HasEvent (running m) actor given m n → SameFiled m n
+event_filed : (actor : ActorId) (given : Given) (m n : Machine) → HasEvent (running m) actor given m n → SameFiled m n
 event_filed actor given m n =
     elim (running m) as (λ guest. HasEvent guest actor given m n → SameFiled m n) [
       | None ↦ λ event. absurd event
@@ -52,8 +53,8 @@ heard_filed false bytes outcomes m out n (responses, is, talks) quiet =
 
 step_filed : (it : Item) (outcomes : List Outcome) (m : Machine) (out : Out) (n : Machine) → TraceStep it outcomes m out n
     → said_by out ≡ [] → SameFiled m n
-step_filed (item.Step actor count) outcomes m out n step quiet = event_filed actor None m n step.3
-step_filed (item.Reply actor reply) outcomes m out n step quiet = event_filed actor (Some step.2) m n step.4
+step_filed (item.Step actor count) outcomes m out n step quiet = event_filed actor Nothing m n step.3
+step_filed (item.Reply actor reply) outcomes m out n step quiet = event_filed actor (Host step.2) m n step.4
 step_filed item.Console outcomes m out n step quiet = filed_by m n _ step.1.1.1 (record { saved = refl; calls = refl })
 step_filed (item.Bytes bytes) outcomes m out n step quiet = heard_filed (is_off m) bytes outcomes m out n step quiet
 step_filed item.Connect outcomes m out n step quiet = filed_by m n _ step.1.1.1 (record { saved = refl; calls = refl })

@@ -9,6 +9,7 @@ use Rattle.timer_trace.specs.States.{timer_wants, wants_by}
 use Rattle.timer_trace.specs.Traces.{advance, ask}
 use Rattle.timer_trace.specs.declared.timer.Timer.{Timer}
 use Rattle.flat_guest.specs.Body.{out_reply}
+use Rattle.flat_guest.specs.Given.{as_given}
 use Rattle.stamp_merge.specs.declared.layout.Layout.{Layout}
 use Rattle.vm_host.specs.Telling.{AreNext, ClockKnown, Gives, later}
 use Rattle.slice_runner.specs.Runs.{HasAnswered, IsAsked}
@@ -36,7 +37,7 @@ next_more left mid now (a ∷ answers) answer are is rest = (are.0, next_more (l
 
 module _ (start old now : ClockKnown) (es items : List Entry) (e : Entry) (op : Op) (given : Option Reply) (layout : Layout)
     (had : HasAnswered start (answers_of es) old) (items_is : items ≡ es ++ e ∷ []) (op_is : e.op ≡ op)
-    (place_is : e.place ≡ route_among layout e.op) (out : is_out e.place ≡ true → e.reply ≡ out_reply op given) where
+    (place_is : e.place ≡ route_among layout e.op) (out : is_out e.place ≡ true → e.reply ≡ out_reply op (as_given given)) where
   all : answers_of items ≡ answers_of es ++ answer_in e.op e.reply []
   all = ap answers_of items_is ∙ answers_more es e
 
@@ -44,7 +45,7 @@ module _ (start old now : ClockKnown) (es items : List Entry) (e : Entry) (op : 
       → HasAnswered start (answers_of items) now
   asked_now is answer given_is gives =
       let outside : is_out e.place ≡ true = ap is_out (place_is ∙ ap (route_among layout) (op_is ∙ is)) in
-      let reply : e.reply ≡ Reply.Word answer = out outside ∙ ap (out_reply op) given_is in
+      let reply : e.reply ≡ Reply.Word answer = out outside ∙ ap (λ (o : Option Reply). out_reply op (as_given o)) given_is in
       let one : answer_in e.op e.reply [] ≡ answer ∷ [] =
       ap (λ (o : Op). answer_in o e.reply []) (op_is ∙ is) ∙ ap (λ (r : Reply). answer_in ask r []) reply in
       let whole : answers_of items ≡ answers_of es ++ answer ∷ [] =

@@ -9,6 +9,8 @@ use Rattle.vm_types.specs.declared.reply.Reply.{Reply}
 use Rattle.vm_types.specs.Serial.{OutFits}
 use Rattle.place_locks.specs.Held.{IsEntryOf}
 use Rattle.flat_guest.specs.Body.{out_reply}
+use Rattle.flat_guest.specs.Given.{Given}
+use Rattle.flat_guest.specs.Given.Given.{Host, Nothing, Short}
 use Rattle.flat_guest.specs.Steps.{is_given}
 use Rattle.guest_memory.specs.Ram.{is_ram, page_size, ram_start}
 use Rattle.slice_runner.specs.Runs.{IsActOf}
@@ -22,6 +24,7 @@ use Rattle.hart_trace.specs.Asks.{is_port_op}
 use Rattle.flat_guest.specs.Places.{is_register_access, place_by, port_accessed, port_place}
 use Rattle.stamp_merge.specs.declared.layout.Layout.{Layout}
 use Rattle.slice_runner.specs.Locks.{IsLaidOut}
+use Rattle.flat_guest.proofs.Answering.{short_not}
 use Rattle.vm_world.proofs.Events.{place_access}
 use Rattle.slice_runner.specs.Values.{route_among}
 
@@ -110,8 +113,8 @@ laid_out layout op PlaceId.Board is inner = tt
 laid_out layout op PlaceId.Out is inner = cc
 
 -- with no place the reply is what the machine allows
-none_fits : (layout : Layout) (op : Op) → route_among layout op ≡ PlaceId.Out → is_port_op op ≡ false → is_given op None ≡ true
-    → OutFits op (out_reply op None)
+none_fits : (layout : Layout) (op : Op) → route_among layout op ≡ PlaceId.Out → is_port_op op ≡ false → is_given op Nothing ≡ true
+    → OutFits op (out_reply op Nothing)
 none_fits layout (Op.Read at len) is own fit = refl
 none_fits layout (Op.Write at piece) is own fit = refl
 none_fits layout (Op.Amo at value kind wide) is own fit = refl
@@ -122,16 +125,17 @@ none_fits layout (Op.Board act) is own fit = cc
 none_fits layout (Op.Out act) is own fit = cc
 none_fits layout Op.Idle is own fit = refl
 
-some_fits : (op : Op) (reply : Reply) → is_given op (Some reply) ≡ true → OutFits op (out_reply op (Some reply))
+some_fits : (op : Op) (reply : Reply) → is_given op (Host reply) ≡ true → OutFits op (out_reply op (Host reply))
 some_fits (Op.Out act) reply fit = fit
 some_fits op reply fit = cc
 
-out_fits_by : (layout : Layout) (op : Op) (given : Option Reply) → route_among layout op ≡ PlaceId.Out → is_port_op op ≡ false
+out_fits_by : (layout : Layout) (op : Op) (given : Given) → route_among layout op ≡ PlaceId.Out → is_port_op op ≡ false
     → is_given op given ≡ true → OutFits op (out_reply op given)
-out_fits_by layout op None is own fit = none_fits layout op is own fit
-out_fits_by layout op (Some reply) is own fit = some_fits op reply fit
+out_fits_by layout op Nothing is own fit = none_fits layout op is own fit
+out_fits_by layout op (Host reply) is own fit = some_fits op reply fit
+out_fits_by layout op Short is own fit = absurd (short_not op fit)
 
-module _ (layout : Layout) (clock : ℕ) (actor : ActorId) (op : Op) (given : Option Reply) where
+module _ (layout : Layout) (clock : ℕ) (actor : ActorId) (op : Op) (given : Given) where
   -- an act under the lock of its place
   at_one : (place : PlaceId) (e : Entry) → is_out place ≡ false → place ≡ route_among layout op
       → IsEntryOf e actor place op clock → IsActOf e actor op given layout clock

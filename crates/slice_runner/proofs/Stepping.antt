@@ -19,6 +19,7 @@ use Rattle.guest_pages.proofs.Marking.{acted_marks}
 use Rattle.guest_pages.proofs.Sets.{act_memory, act_reply, act_stays}
 use Rattle.hart_trace.specs.States.{Hart, fresh, hart_next}
 use Rattle.flat_guest.specs.Body.{harts_after, lefts_after, out_reply, timer_after, want_of, with_reply}
+use Rattle.flat_guest.specs.Given.Given.{Nothing}
 use Rattle.guest_devices.specs.Devices.{DeviceLeft}
 use Rattle.guest_devices.specs.Kept.{devices_left}
 use Rattle.port_table.specs.Acts as port
@@ -110,7 +111,7 @@ reply_out (Op.Board act) reply fit = absurd fit
 reply_out Op.Idle reply fit = fit
 
 -- an op with a place asks no host object
-given_in : (layout : Layout) (op : Op) (reply : Reply) → is_out (route_among layout op) ≡ false → given_of op reply ≡ None
+given_in : (layout : Layout) (op : Op) (reply : Reply) → is_out (route_among layout op) ≡ false → given_of op reply ≡ Nothing
 given_in layout (Op.Out act) reply inner = cc
 given_in layout op reply inner = refl
 

@@ -1,6 +1,6 @@
 -- An actor at work goes on by one entry, or stops.
 use Rattle.std.proofs.Common.{◌≡◌, ℕ, ◌+◌, ◌<◌, ◌≤◌, ◌^◌, max, Bool, true, false, refl, sym, ap, ◌∙◌, subst, arith}
-use Rattle.std.proofs.Common.{List, [], ◌∷◌, ◌++◌, length, Option, None, length-append}
+use Rattle.std.proofs.Common.{List, [], ◌∷◌, ◌++◌, length, length-append}
 use Rattle.std.specs.List.{AllByRecursion}
 use Rattle.vm_types.specs.declared.entry.Entry.{Entry}
 use Rattle.vm_types.specs.declared.ids.ActorId.{ActorId}
@@ -10,6 +10,8 @@ use Rattle.vm_types.specs.Histories.{last_stamp}
 use Rattle.vm_types.specs.Serial.{Follows, IsPlaced, OutFits}
 use Rattle.hart_trace.specs.Traces.{is_full}
 use Rattle.hart_trace.specs.Asks.{is_host_op}
+use Rattle.flat_guest.specs.Given.{Given}
+use Rattle.flat_guest.specs.Given.Given.{Nothing}
 use Rattle.flat_guest.specs.Steps.{is_given}
 use Rattle.pause_gate.specs.Tally.{Tally}
 use Rattle.stamp_merge.specs.declared.layout.Layout.{Layout}
@@ -62,7 +64,7 @@ module _ {S Q : Type 0} (want : S → Op) (next : S → Reply → S) (tally : Q 
   mid_run = rw (mid_items, same.clock) way.ran
 
   -- one more entry
-  pub went : (now new : Track Q) (e : Entry) (given : Option Reply) (u : S) → GoesOn tally op old mid
+  pub went : (now new : Track Q) (e : Entry) (given : Given) (u : S) → GoesOn tally op old mid
       → now.id ≡ mid.id → now.pass ≡ mid.pass → now.journal.items ≡ mid.journal.items → now.clock ≡ e.stamp
       → IsActOf e mid.id op given layout mid.clock → WritesDown e now new → u ≡ next t e.reply
       → IsUnderWay want next tally layout id s c u new
@@ -148,9 +150,9 @@ module _ {S Q : Type 0} (want : S → Op) (next : S → Reply → S) (tally : Q 
       }
 
 -- what asks no host object is given nothing
-pub none_given : (op want : Op) → op ≡ want → is_host_op want ≡ false → is_given op None ≡ true
-none_given op want is not = ap (λ (o : Op). is_given o None) is ∙ by_op want not
+pub none_given : (op want : Op) → op ≡ want → is_host_op want ≡ false → is_given op Nothing ≡ true
+none_given op want is not = ap (λ (o : Op). is_given o Nothing) is ∙ by_op want not
   where
-    by_op : (o : Op) → is_host_op o ≡ false → is_given o None ≡ true
+    by_op : (o : Op) → is_host_op o ≡ false → is_given o Nothing ≡ true
     by_op (Op.Out act) none = cc
     by_op o none = refl

@@ -14,6 +14,7 @@ use Rattle.hart_trace.specs.States.{hart_next, hart_wants}
 use Rattle.hart_trace.specs.Traces.{is_full}
 use Rattle.timer_trace.specs.States.{timer_next, timer_wants}
 use Rattle.flat_guest.specs.Body.{out_reply}
+use Rattle.flat_guest.specs.Given.{Given}
 use Rattle.pause_gate.specs.Tally.{Tally}
 use Rattle.stamp_merge.specs.declared.layout.Layout.{Layout}
 use Rattle.stamp_merge.specs.Stamps.{OutIsZero, Stamped}
@@ -28,7 +29,7 @@ use Rattle.slice_runner.specs.Values.{route_among}
 
 -- the entry is of this actor and op, at the op's place among so many pages and ports, with the next stamp after the actor's
 -- clock and the place's last; with no place the reply is what is given
-pub record IsActOf (e : Entry) (actor : ActorId) (op : Op) (given : Option Reply) (layout : Layout) (clock : ℕ) : Type 0 where
+pub record IsActOf (e : Entry) (actor : ActorId) (op : Op) (given : Given) (layout : Layout) (clock : ℕ) : Type 0 where
   pub actor_is : e.actor ≡ actor
   pub op_is : e.op ≡ op
   pub placed : IsPlaced (route_among layout) OutFits e

@@ -1,8 +1,7 @@
 -- What a slice is to the flat machine.
-use Rattle.std.specs.Prelude.{ℕ, ◌≡◌, ◌<◌, All, Bool, List, [], ◌∷◌, length, Option, Some, None}
+use Rattle.std.specs.Prelude.{ℕ, ◌≡◌, ◌<◌, All, Bool, List, [], ◌∷◌, length}
 use Rattle.std.specs.List.{AllByRecursion}
 use Rattle.vm_types.specs.declared.entry.Entry.{Entry}
-use Rattle.vm_types.specs.declared.entry.Event.{Event}
 use Rattle.vm_types.specs.declared.ids.ActorId.{ActorId}
 use Rattle.vm_types.specs.declared.ids.PlaceId.{PlaceId}
 use Rattle.vm_types.specs.declared.op.Op.{Op}
@@ -13,6 +12,8 @@ use Rattle.vm_types.specs.Ids.{of_actor}
 use Rattle.vm_types.specs.Serial.{OutFits}
 use Rattle.board_table.specs.Acts as board
 use Rattle.board_table.specs.Board.{Board}
+use Rattle.flat_guest.specs.Given.{Event, Given}
+use Rattle.flat_guest.specs.Given.Given.{Host, Nothing}
 use Rattle.flat_guest.specs.Guest.{Guest}
 use Rattle.flat_guest.specs.Steps.{FlatStep, written_after}
 use Rattle.guest_pages.specs.Marks.{AreMarks}
@@ -37,12 +38,12 @@ use Rattle.slice_runner.specs.Stops.{AreStopped}
 use Rattle.slice_runner.specs.Values.{ActorState, actor_next, actor_wants, actors_of, layout_in, page_at, port_at, route_among}
 
 -- the event that an entry tells: who acted, and what a host object answered
-abbrev pub given_of : Op → Reply → Option Reply
-given_of (Op.Out act) reply = Some reply
-given_of op reply = None
+abbrev pub given_of : Op → Reply → Given
+given_of (Op.Out act) reply = Host reply
+given_of op reply = Nothing
 
 abbrev pub event_of : Entry → Event
-event_of e = record { actor = e.actor; reply = given_of e.op e.reply }
+event_of e = record { actor = e.actor; given = given_of e.op e.reply }
 
 -- the entries are steps of the flat machine, one after another, each with the reply that it got
 abbrev pub Leads : Guest → List Entry → Guest → Type 0

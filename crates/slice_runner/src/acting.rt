@@ -3,6 +3,7 @@ ghost use Rattle.std.specs.Prelude.{◌≡◌, ◌<◌, ◌^◌, true, false, If
 ghost use Rattle.vm_types.specs.declared.ids.PlaceId.{PlaceId};
 ghost use Rattle.vm_types.specs.Ids.{is_out};
 ghost use Rattle.flat_guest.specs.Body.{out_reply};
+ghost use Rattle.flat_guest.specs.Given.{as_given};
 ghost use Rattle.flat_guest.specs.Steps.{is_given};
 ghost use Rattle.hart_trace.specs.Asks.{is_port_op};
 ghost use Rattle.slice_runner.specs.Runs.{IsActOf};
@@ -21,7 +22,7 @@ use vm_types::{ActorId, Entry, Op, Openings, PlaceId, Reply};
 
 // With no place: the reply that is given, a wait that is done, or an access that is a fault.
 fn answer_out(op: &Op, given: Option<Reply>) -> Reply
-    ensures { result ≡ out_reply op.now given }
+    ensures { result ≡ out_reply op.now (as_given given) }
 {
     match given {
         Some(reply) => reply,
@@ -36,7 +37,7 @@ fn entry_out(actor: ActorId, stamp: u64, op: &Op, given: Option<Reply>) -> Entry
     ensures actor { result.actor ≡ actor }
     ensures place { result.place ≡ PlaceId.Out }
     ensures op { result.op ≡ op.now }
-    ensures reply { result.reply ≡ out_reply op.now given }
+    ensures reply { result.reply ≡ out_reply op.now (as_given given) }
     ensures stamp { (result.stamp ≡ stamp) × (result.before ≡ 0) }
 {
     Entry {
@@ -61,9 +62,9 @@ pub fn act_once<K: Openings<Page>, M: Openings<Port>, L: Openings<Board>, R: Wai
     given: Option<Reply>,
 ) -> Result<Entry, AllocError>
     requires clock { clock.old < 2 ^ 63 }
-    requires given { is_given op.now given ≡ true }
+    requires given { is_given op.now (as_given given) ≡ true }
     requires port { is_port_op op.now ≡ false }
-    ensures entry { IfOk result (λ e. IsActOf e actor op.now given locks.now clock.old) }
+    ensures entry { IfOk result (λ e. IsActOf e actor op.now (as_given given) locks.now clock.old) }
     ensures clock { IfOk result (λ e. clock.new ≡ e.stamp) }
     ensures err { OnErr result ((clock.new ≡ clock.old) × (is_out (route_among locks.now op.now) ≡ false)) }
 {

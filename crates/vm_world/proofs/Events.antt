@@ -26,6 +26,8 @@ use Rattle.flat_guest.specs.declared.places.Layout.{Layout}
 use Rattle.flat_guest.specs.Places.{is_register_access, place_by, place_of, port_accessed}
 use Rattle.flat_guest.specs.Body.{Body, IsGuest, body_after, harts_after, lefts_after, lefts_resized, reply_at, timer_after, want_of, wants, with_reply}
 use Rattle.flat_guest.specs.Changes.{resized, sectors_shown}
+use Rattle.flat_guest.specs.Given.{Given, as_given}
+use Rattle.flat_guest.specs.Given.Given.{Nothing}
 use Rattle.flat_guest.specs.Start.{timer_restarted}
 use Rattle.flat_guest.specs.Steps.{board_after, is_given, memory_after, ports_after}
 use Rattle.flat_guest.proofs.Acting as acting
@@ -73,14 +75,14 @@ place_access there i (Op.Out act) is = is
 place_access there i Op.Idle is = is
 
 -- an actor's event
-pub event_made : (old new : WorldValue) (actor : ActorId) (op : Op) (given : Option Reply) (place : PlaceId) (reply : Reply)
+pub event_made : (old new : WorldValue) (actor : ActorId) (op : Op) (given : Given) (place : PlaceId) (reply : Reply)
     → want_in old actor ≡ Some op → is_given op given ≡ true → place ≡ place_in old op
     → reply ≡ reply_at place (flat_of old.pages) old.board old.ports actor op given
     → flat_of new.pages ≡ memory_after place (flat_of old.pages) actor op
     → marks_of new.pages ≡ marks_after place (marks_of old.pages) op reply → new.board ≡ board_after place old.board actor op
     → new.ports ≡ ports_after place old.ports actor op → new.timer ≡ timer_after actor old.timer reply
     → new.harts ≡ harts_after actor old.harts reply → devices_left new.devices ≡ lefts_after actor (devices_left old.devices) reply
-    → MakesEvent old (record { actor = actor; reply = given }) (entry_of place actor op reply) new
+    → MakesEvent old (record { actor = actor; given = given }) (entry_of place actor op reply) new
 event_made old new actor op given place reply want fit at answer memory marks board ports timer harts devices =
     let after : body_of new ≡ body_after place actor op reply (body_of old) = λ i. record {
       memory = memory i;
@@ -219,7 +221,7 @@ by_fit : (fit : Bool) → (if fit then None else Some StepError.Unfit) ≡ None 
 by_fit true none = refl
 by_fit false none = cc
 
-pub not_refused_given : (op : Op) (given : Option Reply) → refusal_of op given ≡ None → is_given op given ≡ true
+pub not_refused_given : (op : Op) (given : Option Reply) → refusal_of op given ≡ None → is_given op (as_given given) ≡ true
 not_refused_given (Op.Out act) None none = cc
 not_refused_given (Op.Out act) (Some reply) none = by_fit (out_fits act reply) none
 not_refused_given op None none = refl
@@ -274,7 +276,7 @@ abbrev pub HasRun : ActorId → WorldValue → ℕ → WorldValue → Type 0
 HasRun actor old made new = HasMade actor (body_of old) made (body_of new)
 
 pub run_more : (actor : ActorId) (old mid new : WorldValue) (made : ℕ) → HasRun actor old made mid
-    → mid.board.off ≡ false → ((e : Entry) × MakesEvent mid (record { actor = actor; reply = None }) e new)
+    → mid.board.off ≡ false → ((e : Entry) × MakesEvent mid (record { actor = actor; given = Nothing }) e new)
     → HasRun actor old (made + 1) new
 run_more actor old mid new made has on event =
     has_made_more actor (body_of old) (body_of mid) (body_of new) made event.0 has on event.1.unstamped event.1.step

@@ -27,6 +27,7 @@ use Rattle.hart_trace.specs.Asks.{is_hart_op}
 use Rattle.hart_trace.specs.States.{Hart, hart_next, hart_wants}
 use Rattle.hart_trace.proofs.Asks.{hart_asks, never_host, no_host, no_port}
 use Rattle.flat_guest.specs.Body.{out_reply, reply_at, want_of, with_reply}
+use Rattle.flat_guest.specs.Given.Given.{Nothing}
 use Rattle.flat_guest.specs.Places.{are_registers, place_by}
 use Rattle.board_table.specs.Window.{is_window}
 use Rattle.le_fields.specs.Fields.{bytes_of}
@@ -42,20 +43,20 @@ use Rattle.vm_world.proofs.Events.{HasEnded, HasRun, event_made, run_more}
 
 -- each reply that a place gives fits the op, so it has few bytes
 pub none_unfit : (pages : List PageValue) (board : Board) (ports : List PortState) (actor : ActorId) (op : HartOp) (whole : Op) (reply : Reply) → whole ≡ op_of op → is_hart_op (op_of op) ≡ true
-    → reply ≡ reply_at (place_with pages ports whole) (flat_of pages) board ports actor whole None → fits (op_of op) reply ≡ false → ⊥
+    → reply ≡ reply_at (place_with pages ports whole) (flat_of pages) board ports actor whole Nothing → fits (op_of op) reply ≡ false → ⊥
 none_unfit pages board ports actor op whole reply same own is unfit =
-    let gives : reply ≡ reply_at (place_with pages ports (op_of op)) (flat_of pages) board ports actor (op_of op) None = is ∙ ap (λ (o : Op). reply_at (place_with pages ports o) (flat_of pages) board ports actor o None) same in
-    let fit : fits (op_of op) reply ≡ true = ap (fits (op_of op)) gives ∙ answer_fits (length (flat_of pages).bytes) (flat_of pages) board ports actor (op_of op) None (no_port_there (length ports) (op_of op) (no_port (op_of op) own)) (none_given (op_of op) (no_host (op_of op) own)) in
+    let gives : reply ≡ reply_at (place_with pages ports (op_of op)) (flat_of pages) board ports actor (op_of op) Nothing = is ∙ ap (λ (o : Op). reply_at (place_with pages ports o) (flat_of pages) board ports actor o Nothing) same in
+    let fit : fits (op_of op) reply ≡ true = ap (fits (op_of op)) gives ∙ answer_fits (length (flat_of pages).bytes) (flat_of pages) board ports actor (op_of op) Nothing (no_port_there (length ports) (op_of op) (no_port (op_of op) own)) (none_given (op_of op) (no_host (op_of op) own)) in
     let both : true ≡ false = sym fit ∙ unfit in
     cc
 
 -- so does each reply to what the hart wants
 pub answer_fits_want : (pages : List PageValue) (board : Board) (ports : List PortState) (actor : ActorId) (hart : Hart) (op : Op) (reply : Reply) → op ≡ hart_wants hart
-    → reply ≡ reply_at (place_with pages ports op) (flat_of pages) board ports actor op None → fits (hart_wants hart) reply ≡ true
+    → reply ≡ reply_at (place_with pages ports op) (flat_of pages) board ports actor op Nothing → fits (hart_wants hart) reply ≡ true
 answer_fits_want pages board ports actor hart op reply want is =
     let own : is_hart_op (hart_wants hart) ≡ true = hart_asks hart in
-    let gives : reply ≡ reply_at (place_with pages ports (hart_wants hart)) (flat_of pages) board ports actor (hart_wants hart) None = is ∙ ap (λ (o : Op). reply_at (place_with pages ports o) (flat_of pages) board ports actor o None) want in
-    ap (fits (hart_wants hart)) gives ∙ answer_fits (length (flat_of pages).bytes) (flat_of pages) board ports actor (hart_wants hart) None (no_port_there (length ports) (hart_wants hart) (no_port (hart_wants hart) own)) (none_given (hart_wants hart) (no_host (hart_wants hart) own))
+    let gives : reply ≡ reply_at (place_with pages ports (hart_wants hart)) (flat_of pages) board ports actor (hart_wants hart) Nothing = is ∙ ap (λ (o : Op). reply_at (place_with pages ports o) (flat_of pages) board ports actor o Nothing) want in
+    ap (fits (hart_wants hart)) gives ∙ answer_fits (length (flat_of pages).bytes) (flat_of pages) board ports actor (hart_wants hart) Nothing (no_port_there (length ports) (hart_wants hart) (no_port (hart_wants hart) own)) (none_given (hart_wants hart) (no_host (hart_wants hart) own))
 
 -- a read leaves everything
 read_leaves : (m : Memory) (at len : ℕ) (b : Bool) → m ≡ (let answer : Reply × Memory = cond b (Bytes (read_from m at len), m) (AccessFault, m) in answer.1)
@@ -115,9 +116,9 @@ module _ (pages : List PageValue) (board : Board) (ports : List PortState) (acto
   in_page at len =
       nat_le 1 len && is_ram (length (flat_of pages).bytes) at len && nat_le (page_offset at + len) page_size
 
-  replied : (op : Op) (at : ℕ) (r : Bool) (o : Option ℕ) (b : Bool) → r ≡ false → o ≡ None → out_reply op None ≡ AccessFault
+  replied : (op : Op) (at : ℕ) (r : Bool) (o : Option ℕ) (b : Bool) → r ≡ false → o ≡ None → out_reply op Nothing ≡ AccessFault
       → (at_place (paged at b) (flat_of pages) actor op).0
-      ≡ reply_at (place at r o b) (flat_of pages) board ports actor op None
+      ≡ reply_at (place at r o b) (flat_of pages) board ports actor op Nothing
   replied op at true o b none away out = cc
   replied op at false (Some k) b none away out = cc
   replied op at false None true none away out = refl
@@ -217,12 +218,12 @@ set_twice (z ∷ xs) (suc k) x y = ap (λ l. z ∷ l) (set_twice xs k x y)
 pub advanced : (old new : WorldValue) (k : ℕ) (hart next : Hart) → slice_get old.harts k ≡ Some hart
     → Advances old.pages old.board old.ports hart (ActorId.Hart k) new.pages new.board new.ports next
     → new.timer ≡ old.timer → new.harts ≡ slice_set old.harts k next → new.devices ≡ old.devices
-    → (e : Entry) × MakesEvent old (record { actor = ActorId.Hart k; reply = None }) e new
+    → (e : Entry) × MakesEvent old (record { actor = ActorId.Hart k; given = Nothing }) e new
 advanced old new k hart next there by timer harts devices =
     let op : Op = hart_wants hart in
     let given = ap (λ (o : Option Hart). with_reply o old.harts k by.0) (sym there) in (
       entry_of (place_in old op) (ActorId.Hart k) op by.0,
-      event_made old new (ActorId.Hart k) op None (place_in old op) by.0 (ap want_of there)
+      event_made old new (ActorId.Hart k) op Nothing (place_in old op) by.0 (ap want_of there)
           (none_given op (never_host hart)) refl by.1.reply_is by.1.memory_is by.1.marks_is by.1.board_is by.1.ports_are timer
           (harts ∙ ap (λ (h : Hart). slice_set old.harts k h) by.2 ∙ given) (ap devices_left devices),
     )

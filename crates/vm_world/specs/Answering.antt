@@ -1,5 +1,5 @@
 -- What an act is answered where it acts, and what it leaves there.
-use Rattle.std.specs.Prelude.{ℕ, ◌≡◌, ◌⊎◌, nat_lt, Bool, false, None, List, length}
+use Rattle.std.specs.Prelude.{ℕ, ◌≡◌, ◌⊎◌, nat_lt, Bool, false, List, length}
 use Rattle.vm_types.specs.declared.ids.ActorId.{ActorId}
 use Rattle.vm_types.specs.declared.ids.PlaceId.{PlaceId}
 use Rattle.vm_types.specs.declared.op.Op.{Op}
@@ -13,6 +13,7 @@ use Rattle.rv_doing.specs.declared.hart_op.HartOp.{HartOp}
 use Rattle.rv_doing.specs.declared.hart_op.HartOp.TheVariants.{Fetch, Read, Write}
 use Rattle.hart_trace.specs.States.{Hart, hart_next, hart_wants}
 use Rattle.flat_guest.specs.Body.{reply_at}
+use Rattle.flat_guest.specs.Given.Given.{Nothing}
 use Rattle.flat_guest.specs.Places.{place_of}
 use Rattle.flat_guest.specs.Steps.{board_after, memory_after, ports_after}
 
@@ -24,7 +25,7 @@ place_with pages ports op = place_of (record { memory_size = length (flat_of pag
 -- ports
 pub record IsAnswered (pages : List PageValue) (board : Board) (ports : List PortState) (actor : ActorId) (op : Op) (reply : Reply)
     (later : List PageValue) (after : Board) (behind : List PortState) : Type 0 where
-  pub reply_is : reply ≡ reply_at (place_with pages ports op) (flat_of pages) board ports actor op None
+  pub reply_is : reply ≡ reply_at (place_with pages ports op) (flat_of pages) board ports actor op Nothing
   pub memory_is : flat_of later ≡ memory_after (place_with pages ports op) (flat_of pages) actor op
   pub marks_is : marks_of later ≡ marks_after (place_with pages ports op) (marks_of pages) op reply
   pub board_is : after ≡ board_after (place_with pages ports op) board actor op

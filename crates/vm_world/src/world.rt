@@ -17,6 +17,8 @@ ghost use Rattle.timer_trace.specs.States.{new_timer};
 ghost use Rattle.flat_guest.specs.Guest.{Guest, Wants, is_actor, unwritten};
 ghost use Rattle.guest_devices.specs.Kept.{devices_left};
 ghost use Rattle.flat_guest.specs.Body.{harts_after, lefts_after, out_reply, reply_at, timer_after, want_of, with_reply};
+ghost use Rattle.flat_guest.specs.Given.{as_given};
+ghost use Rattle.flat_guest.specs.Given.Given.{Nothing};
 ghost use Rattle.flat_guest.specs.Start.{started, timer_restarted};
 ghost use Rattle.flat_guest.specs.Steps.{board_after, is_given, memory_after, ports_after};
 ghost use Rattle.vm_world.specs.Refusing.{IsRefused, refusal_of};
@@ -211,7 +213,7 @@ impl World {
     // What an act is answered by its place, or where it has none.
     fn answer(&mut self, actor: ActorId, place: PlaceId, op: &Op, given: Option<Reply>) -> Reply
         requires { place ≡ place_in self.old op.now }
-        ensures reply { result ≡ reply_at place (flat_of self.old.pages) self.old.board self.old.ports actor op.now given }
+        ensures reply { result ≡ reply_at place (flat_of self.old.pages) self.old.board self.old.ports actor op.now (as_given given) }
         ensures memory { flat_of self.new.pages ≡ memory_after place (flat_of self.old.pages) actor op.now }
         ensures marks { marks_of self.new.pages ≡ marks_after place (marks_of self.old.pages) op.now result }
         ensures board { self.new.board ≡ board_after place self.old.board actor op.now }
@@ -247,8 +249,8 @@ impl World {
     // The next event of an actor, which wants this and is given what is due to it.
     fn event(&mut self, actor: ActorId, op: Op, given: Option<Reply>) -> Entry
         requires want { want_in self.old actor ≡ Some op }
-        requires given { is_given op given ≡ true }
-        ensures made { MakesEvent self.old (record { actor = actor; reply = given }) result self.new }
+        requires given { is_given op (as_given given) ≡ true }
+        ensures made { MakesEvent self.old (record { actor = actor; given = as_given given }) result self.new }
         ensures there { (next : Op) × (want_in self.new actor ≡ Some next) }
     {
         let place = self.route(&op);
@@ -272,7 +274,7 @@ impl World {
     /// event wherever none of these holds.
     pub fn step(&mut self, actor: ActorId, reply: Option<Reply>) -> Result<Entry, StepError>
         ensures made { IfOk result (λ e.
-            MakesEvent self.old (record { actor = actor; reply = reply }) e self.new) }
+            MakesEvent self.old (record { actor = actor; given = as_given reply }) e self.new) }
         ensures refused { IfErr result (λ why. (g : Guest) → IsWorld self.old g → IsRefused g actor reply why) }
         ensures promised { (g : Guest) (op : Op) → IsWorld self.old g → Wants g actor op →
             refusal_of op reply ≡ None → is_ok result ≡ true }
@@ -291,7 +293,7 @@ impl World {
     fn advance(&mut self, actor: ActorId) -> bool
         requires { (op : Op) × (want_in self.old actor ≡ Some op) }
         ensures made { result ≡ true → (e : Entry)
-            × MakesEvent self.old (record { actor = actor; reply = None }) e self.new }
+            × MakesEvent self.old (record { actor = actor; given = Nothing }) e self.new }
         ensures waits { result ≡ false → (op : Op) × (want_in self.old actor ≡ Some op) × (is_host_op op ≡ true) }
         ensures stays { result ≡ false → self.new ≡ self.old }
         ensures there { (op : Op) × (want_in self.new actor ≡ Some op) }
@@ -440,7 +442,7 @@ fn is_host_op(op: &Op) -> bool
 
 // With no place: the reply that is given, a wait that is done, or an access that is a fault.
 fn answer_out(op: &Op, given: Option<Reply>) -> Reply
-    ensures { result ≡ out_reply op.now given }
+    ensures { result ≡ out_reply op.now (as_given given) }
 {
     match given {
         Some(reply) => reply,

@@ -1,5 +1,6 @@
 use Rattle.std.proofs.Common.{sym, subst, List, ◌∷◌, ◌++◌, []}
 use Rattle.vm_types.specs.declared.entry.Entry.{Entry}
+use Rattle.flat_guest.specs.Given.{as_given}
 use Rattle.monitor_running.specs.Waiting.{HasGone, HasMade}
 use Rattle.monitor_running.proofs.Going.{gone_more, gone_still}
 use Rattle.monitor_running.proofs.Making.{made_more, never_refused}
@@ -16,7 +17,7 @@ returns-in-Ok-clause-gone g c = λ first asked gone.
 pub returns-in-Ok-clause-made : goal.returns-in-Ok-clause-made
 returns-in-Ok-clause-made g c = λ first actors there made.
     subst (λ (es : List Entry). HasMade (actors ++ c.args.actor ∷ []) es first c.step.new.self) (sym c.push_reserved.ensures.items)
-    (made_more first c.args.world.now actors c.args.actor c.args.events.now.items there made c.ask_clock-given.result
+    (made_more first c.args.world.now actors c.args.actor c.args.events.now.items there made (as_given c.ask_clock-given.result)
     c.step.new.self c.in-Ok.entry c.in-Ok.ensures.made)
 
 pub returns-in-Err-clause-made : goal.returns-in-Err-clause-made

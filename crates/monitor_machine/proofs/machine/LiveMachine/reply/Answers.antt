@@ -1,5 +1,5 @@
-use Rattle.std.proofs.Common.{subst, Option, Some, None}
-use Rattle.vm_types.specs.declared.reply.Reply.{Reply}
+use Rattle.std.proofs.Common.{subst, Some, None}
+use Rattle.flat_guest.specs.Given.{Given}
 use Rattle.flat_machine.specs.Given.{reply_given as given_by}
 use Rattle.monitor_machine.specs.Answering.{TakesReply}
 use Rattle.monitor_machine.proofs.Lines.{reply_misfits, reply_refused, reply_still, reply_taken}
@@ -16,10 +16,10 @@ returns-in_ok-misfit_line-in-None-clause-ok c = λ known m is.
 pub returns-in-None-take_reply-clause-ok : goal.returns-in-None-take_reply-clause-ok
 returns-in-None-take_reply-clause-ok c = λ known m is.
     reply_taken c.args.self.now known m c.in-Some.guest c.take_reply.new.guest c.args.actor (given_by c.args.given.now) _ is c.if-self.false c.in-Some.is c.new.ensures
-    (subst (λ (o : Option Reply). TakesReply None c.in-Some.guest c.args.actor o c.take_reply.new.guest) c.reply_given.ensures c.in-None-take_reply.ensures)
+    (subst (λ (o : Given). TakesReply None c.in-Some.guest c.args.actor o c.take_reply.new.guest) c.reply_given.ensures c.in-None-take_reply.ensures)
 
 pub returns-in_ok-misfit_line-in-Some-take_reply-clause-ok :
     goal.returns-in_ok-misfit_line-in-Some-take_reply-clause-ok
 returns-in_ok-misfit_line-in-Some-take_reply-clause-ok c = λ known m is.
     reply_misfits c.args.self.now known m c.in-Some.guest c.take_reply.new.guest c.args.actor (given_by c.args.given.now) _ is c.if-self.false c.in-Some.is c.in-Some-take_reply.why c.in_ok-misfit_line-in-Some-take_reply.ensures
-    (subst (λ (o : Option Reply). TakesReply (Some c.in-Some-take_reply.why) c.in-Some.guest c.args.actor o c.take_reply.new.guest) c.reply_given.ensures c.in-Some-take_reply.ensures)
+    (subst (λ (o : Given). TakesReply (Some c.in-Some-take_reply.why) c.in-Some.guest c.args.actor o c.take_reply.new.guest) c.reply_given.ensures c.in-Some-take_reply.ensures)

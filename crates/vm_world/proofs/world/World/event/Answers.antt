@@ -6,6 +6,7 @@ use Rattle.timer_trace.specs.declared.timer.Timer.{Timer}
 use Rattle.guest_devices.specs.declared.device.Device.{Device}
 use Rattle.guest_devices.specs.Kept.{devices_left}
 use Rattle.flat_guest.specs.Body.{harts_after, lefts_after, timer_after}
+use Rattle.flat_guest.specs.Given.{as_given}
 use Rattle.vm_world.proofs.Events.{event_made, there_now}
 use Rattle.vm_world.proofs.world.World.event.Goals as goal
 
@@ -14,7 +15,7 @@ returns-clause-made c =
     let answered = c.answer-reply.ensures in
     let given = c.give.ensures in
     let actor = c.args.actor in
-    event_made c.args.self.now c.give.new.self actor c.args.op c.args.given c.route-place.result c.answer-reply.result
+    event_made c.args.self.now c.give.new.self actor c.args.op (as_given c.args.given) c.route-place.result c.answer-reply.result
     c.requires.want c.requires.given c.route-place.ensures answered.reply
     (ap flat_of given.pages ∙ answered.memory)
     (ap marks_of given.pages ∙ answered.marks)
