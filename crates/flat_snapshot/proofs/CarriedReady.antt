@@ -40,7 +40,8 @@ use Rattle.snap_state.specs.declared.board.SavedBoard.{SavedBoard}
 use Rattle.snap_state.specs.declared.copy.Reservation.{Reservation}
 use Rattle.snap_state.specs.declared.copy.StateCopy.{StateCopy}
 use Rattle.snap_state.specs.Copy.{board_of}
-use Rattle.snap_state.specs.Valid.{asks, has_bits, is_aligned, is_block, is_block_port, is_board, is_counted, is_granule, is_hart, is_machine, is_placed, is_reserved, is_valid}
+use Rattle.snap_state.specs.Valid.{asks, has_bits, is_aligned, is_board, is_counted, is_granule, is_hart, is_kind, is_machine, is_placed, is_reserved, is_valid}
+use Rattle.snap_state.proofs.HasDevices.{is_block_port}
 use Rattle.snap_state.proofs.Rules.{attached, few_harts, rules_of}
 use Rattle.flat_snapshot.specs.Carried.{carried_config, carried_guest, hart_steps, resumed, slots_with, steps_at}
 use Rattle.flat_snapshot.specs.Ready.{IsConfigured, IsReady}
@@ -149,7 +150,7 @@ slots_are pages harts (r ∷ others) slots few each are =
 
 -- ---- the rest
 
-block_is : (k : DeviceKind) → is_block k ≡ true → k ≡ kind.Block
+block_is : (k : DeviceKind) → is_kind kind.Block k ≡ true → k ≡ kind.Block
 block_is kind.Block is = refl
 block_is kind.Net is = cc
 block_is kind.Balloon is = cc

@@ -42,7 +42,8 @@ use Rattle.snap_harts.proofs.Harts.{hart_back}
 use Rattle.snap_state.specs.declared.copy.Reservation.{Reservation}
 use Rattle.snap_state.specs.declared.copy.StateCopy.{StateCopy}
 use Rattle.snap_state.specs.Copy.{saved_board}
-use Rattle.snap_state.specs.Valid.{are_devices, asks, has_bits, has_devices, has_machine, is_aligned, is_before, is_block, is_block_port, is_board, is_counted, is_device, is_granule, is_hart, is_machine, is_placed, is_reserved, is_rising, is_valid, rises_from}
+use Rattle.snap_state.proofs.HasDevices.{has_all, is_block_port}
+use Rattle.snap_state.specs.Valid.{are_devices, asks, has_bits, has_devices, has_machine, is_aligned, is_before, is_board, is_counted, is_device, is_granule, is_hart, is_kind, is_machine, is_placed, is_reserved, is_rising, is_valid, rises_from}
 use Rattle.snap_state.proofs.Rules.{Rules, rules_hold}
 use Rattle.flat_snapshot.specs.Copies.{AreHarts, AreKept, IsCopyOf, copy_of, reservations_from}
 use Rattle.flat_snapshot.specs.Ready.{IsConfigured, IsReady}
@@ -216,7 +217,7 @@ many_kept (it ∷ kept) (d ∷ devices) are = ap suc (many_kept kept devices are
 ports_valid : (ports : List PortState) → All IsBlockPort ports → list_all is_block_port ports ≡ true
 ports_valid [] blocks = refl
 ports_valid (p ∷ ports) blocks =
-    all (is_block_port p) (list_all is_block_port ports) (ap is_block (All-head IsBlockPort p ports blocks))
+    all (is_block_port p) (list_all is_block_port ports) (ap (is_kind Block) (All-head IsBlockPort p ports blocks))
     (ports_valid ports (All-tail IsBlockPort p ports blocks))
 
 -- ---- the board, and the machine
@@ -266,15 +267,16 @@ module _ (config : Config) (g : Guest) (sound : IsSound g) (is : IsReady config 
   devices_are : has_devices copy ≡ true
   devices_are =
       let count = is.devices in
-      all _ (are_devices copy.pages 0 kept)
-      (all _ (list_all is_block_port g.ports)
-      (all (length g.ports == length config.drives) (length kept == length config.drives)
-      (eq-eqb (length g.ports) (length config.drives) (sound.devices_on.as_many ∙ count))
-      (eq-eqb (length kept) (length config.drives) (many_kept kept g.devices tell ∙ count))) (ports_valid g.ports is.shaped.ports))
-      (devices_valid copy.pages 0 kept g.devices few_pages tell
-      (λ i d there.
-      let here : i ≡ 0 + i = omega arith in
-      subst (λ (n : ℕ). IsSoundDevice n copy.pages d) here (sound.devices_on.each i d there)))
+      has_all copy (record {
+        ports = sound.devices_on.as_many ∙ count;
+        devices = many_kept kept g.devices tell ∙ count;
+        blocks = ports_valid g.ports is.shaped.ports;
+        each =
+            devices_valid copy.pages 0 kept g.devices few_pages tell
+            (λ i d there.
+            let here : i ≡ 0 + i = omega arith in
+            subst (λ (n : ℕ). IsSoundDevice n copy.pages d) here (sound.devices_on.each i d there));
+      })
 
   machine_is : has_machine copy config.machine ≡ true
   machine_is =

@@ -28,6 +28,7 @@ use Rattle.snap_state.specs.Files as state
 use Rattle.snap_harts.specs.Harts.{hart}
 use Rattle.snap_harts.specs.HartStates.{hart_state}
 use Rattle.snap_state.specs.Valid.{are_drives, are_paths, has_devices, has_machine, is_before, is_board, is_drive, is_machine, is_reserved, is_rising, is_source, is_valid, rises_from}
+use Rattle.snap_state.proofs.HasDevices.{has_parts}
 use Rattle.snap_finding.proofs.Sizes.{device_within, hart_state_within, hart_within, port_within}
 use Rattle.snap_finding.proofs.Within.{Within, within16, within32, within64, flag_within, zeros_within, constant_within, just_within, pair_within, made_within, passing_within, optional_most, optional_within, total, total-pass, list_within, each_within, counted_within, bytes_within, text_within}
 
@@ -215,10 +216,7 @@ machine_small c is =
 
 devices_few : (c : StateCopy) → has_devices c ≡ true
     → (length c.ports ≡ length c.configuration.drives) × (length c.devices ≡ length c.configuration.drives)
-devices_few c is =
-    let both = and_parts (eqb (length c.ports) (length c.configuration.drives)) (eqb (length c.devices) (length c.configuration.drives))
-    (and_parts _ _ (and_parts _ _ is).0).0 in
-    (eqb-true _ _ both.0, eqb-true _ _ both.1)
+devices_few c is = let has = has_parts c is in (has.ports, has.devices)
 
 -- ---- all of it
 

@@ -9,7 +9,8 @@ use Rattle.guest_memory.specs.Reserved.{hart_limit}
 use Rattle.guest_devices.specs.declared.device.Device.{Device}
 use Rattle.guest_devices.specs.Kept.{device_pages, device_port, is_kept}
 use Rattle.snap_state.specs.declared.copy.StateCopy.{StateCopy}
-use Rattle.snap_state.specs.Valid.{are_devices, are_drives, are_told_apart, has_devices, has_machine, is_block_port, is_board, is_device, is_drive, is_hart, is_machine, is_reserved, is_rising, is_source, is_valid}
+use Rattle.snap_state.proofs.HasDevices.{has_parts, is_block_port}
+use Rattle.snap_state.specs.Valid.{are_devices, are_drives, are_told_apart, has_devices, has_machine, is_board, is_device, is_drive, is_hart, is_machine, is_reserved, is_rising, is_source, is_valid}
 
 pub record Rules (c : StateCopy) : Type 0 where
   pub source : is_source c.configuration.boot_source ≡ true
@@ -83,18 +84,16 @@ pub record Attached (c : StateCopy) : Type 0 where
 pub attached : (c : StateCopy) → Rules c → Attached c
 attached c r =
     let drives = c.configuration.drives in
-    let p2 = and_parts _ (are_devices c.pages 0 c.devices) r.devices in
-    let p1 = and_parts _ (list_all is_block_port c.ports) p2.0 in
-    let p0 = and_parts (length c.ports == length drives) (length c.devices == length drives) p1.0 in
+    let has = has_parts c r.devices in
     let d2 = and_parts _ (nat_le (count_by is_root drives) 1) r.drives in
     let d1 = and_parts _ (are_told_apart drives) d2.0 in
     let d0 = and_parts (nat_le (length drives) most_ports) (list_all is_drive drives) d1.0 in
     record {
-      ports = eqb-true _ _ p0.0;
-      devices = eqb-true _ _ p0.1;
+      ports = has.ports;
+      devices = has.devices;
       few = leb-true _ _ d0.0;
-      blocks = p1.1;
-      each = p2.1;
+      blocks = has.blocks;
+      each = has.each;
     }
 
 -- a device of these

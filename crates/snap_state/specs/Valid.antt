@@ -1,6 +1,6 @@
 -- Which copies there are: what the fields must be besides fitting their places.
 use Rattle.std.specs.Prelude.{ℕ, suc, ◌*◌, ◌%◌, ◌==◌, nat_le, nat_lt, Bool, true, false, not, ◌&&◌, ◌||◌, if◌then◌else◌}
-use Rattle.std.specs.Prelude.{List, [], ◌∷◌, length, count_by, Option, None, Some, is_some, bit_and}
+use Rattle.std.specs.Prelude.{List, [], ◌∷◌, length, map, count_by, Option, None, Some, is_some, bit_and}
 use Rattle.std.specs.List.{list_all, list_any}
 use Rattle.api_calls.specs.declared.call.Drive.{Drive}
 use Rattle.api_calls.specs.declared.call.MachineConfig.{MachineConfig}
@@ -11,9 +11,10 @@ use Rattle.guest_memory.specs.Ram.{page_size, is_ram}
 use Rattle.guest_memory.specs.Reserved.{hart_limit}
 use Rattle.port_table.specs.declared.state.PortState.{PortState}
 use Rattle.port_table.specs.declared.kind.DeviceKind.{DeviceKind}
-use Rattle.port_table.specs.declared.kind.DeviceKind.TheVariants.{Block}
+use Rattle.port_table.specs.declared.kind.DeviceKind.TheVariants.{Net, Block, Balloon, Vsock}
 use Rattle.port_table.specs.Window.{most_ports}
 use Rattle.guest_devices.specs.declared.device.Device.{Device}
+use Rattle.guest_devices.specs.declared.device.Device.TheVariants as device
 use Rattle.guest_devices.specs.Kept.{device_pages, device_port, is_kept}
 use Rattle.rv_supervisor.specs.declared.regs.Regs.{Regs}
 use Rattle.rv_supervisor.specs.declared.csr.HartCsr.TheVariants.{Sstatus}
@@ -21,6 +22,7 @@ use Rattle.rv_supervisor.specs.Csrs.{interrupts, csr_value}
 use Rattle.rv_doing.specs.Doing.{asked}
 use Rattle.hart_trace.specs.Traces.{executes}
 use Rattle.snap_state.specs.declared.configuration.BootSource.{BootSource}
+use Rattle.snap_state.specs.declared.configuration.Configuration.{Configuration}
 use Rattle.snap_state.specs.declared.board.SavedBoard.{SavedBoard}
 use Rattle.snap_harts.specs.declared.hart.SavedHart.{SavedHart}
 use Rattle.snap_harts.specs.declared.hart.HartPlace.{HartPlace}
@@ -106,13 +108,28 @@ is_hart pages h =
 
 -- ---- ports and devices
 
--- the kind of all devices that there are
-abbrev pub is_block : DeviceKind → Bool
-is_block Block = true
-is_block kind = false
+abbrev pub is_kind : DeviceKind → DeviceKind → Bool
+is_kind Net Net = true
+is_kind Block Block = true
+is_kind Balloon Balloon = true
+is_kind Vsock Vsock = true
+is_kind kind other = false
 
-abbrev pub is_block_port : PortState → Bool
-is_block_port p = is_block p.kind
+-- as many of these as of those, each of its kind
+abbrev pub are_kinds : List DeviceKind → List DeviceKind → Bool
+are_kinds [] [] = true
+are_kinds (kind ∷ kinds) (other ∷ others) = is_kind kind other && are_kinds kinds others
+are_kinds kinds others = false
+
+abbrev pub port_kind : PortState → DeviceKind
+port_kind p = p.kind
+
+abbrev pub kind_of : Device → DeviceKind
+kind_of (device.Block b) = Block
+
+-- the devices of a machine by their numbers: a block device for each drive
+abbrev pub kinds_of : Configuration → List DeviceKind
+kinds_of c = map (λ (d : Drive). Block) c.drives
 
 -- the device at this port of a guest of so many pages, with data that a device keeps
 abbrev pub is_device : ℕ → ℕ → Device → Bool
@@ -150,11 +167,11 @@ has_machine c m =
     is_machine m && (c.pages == 256 * m.mem_size_mib)
     && (if c.track_dirty_pages then m.track_dirty_pages else not m.track_dirty_pages)
 
--- a port and a device for each drive
+-- a port and a device of each kind that is configured
 abbrev pub has_devices : StateCopy → Bool
 has_devices c =
-    (length c.ports == length c.configuration.drives) && (length c.devices == length c.configuration.drives)
-    && list_all is_block_port c.ports && are_devices c.pages 0 c.devices
+    are_kinds (kinds_of c.configuration) (map port_kind c.ports)
+    && are_kinds (kinds_of c.configuration) (map kind_of c.devices) && are_devices c.pages 0 c.devices
 
 unfoldable pub is_valid : StateCopy → Bool
 is_valid c =

@@ -3,8 +3,9 @@ ghost use Rattle.std.specs.Prelude.{◌≡◌, count_by, nat_le};
 ghost use Rattle.std.specs.List.{list_all, list_any};
 ghost use Rattle.api_calls.specs.Drives.{is_named, is_root};
 ghost use Rattle.api_calls.specs.Form.{is_id, is_id_byte};
-ghost use Rattle.snap_state.specs.Valid.{are_devices, are_drives, are_told_apart, is_block_port};
-ghost use Rattle.snap_state.specs.Valid.{is_device, is_drive};
+ghost use Rattle.port_table.specs.declared.kind.DeviceKind.TheVariants as device_kind;
+ghost use Rattle.snap_state.specs.Valid.{are_devices, are_drives, are_told_apart};
+ghost use Rattle.snap_state.specs.Valid.{is_device, is_drive, is_kind, port_kind};
 
 use crate::valid::is_path;
 use api_calls::Drive;
@@ -92,7 +93,7 @@ pub fn are_drives(drives: &[Drive]) -> bool
 }
 
 fn is_block_port(item: &Counted<Saved<Port>>) -> bool
-    ensures { result ≡ is_block_port item.now }
+    ensures { result ≡ is_kind device_kind.Block (port_kind item.now) }
 {
     let port = &item.value.value;
     matches!(port.state().kind, DeviceKind::Block)
@@ -100,7 +101,7 @@ fn is_block_port(item: &Counted<Saved<Port>>) -> bool
 
 /// Whether these are ports of block devices.
 pub fn are_block_ports(ports: &[Counted<Saved<Port>>]) -> bool
-    ensures { result ≡ list_all is_block_port ports.now }
+    ensures { result ≡ list_all (λ p. is_kind device_kind.Block (port_kind p)) ports.now }
 {
     ports.iter().all(|port| is_block_port(port))
 }

@@ -1,11 +1,13 @@
 // Which copies there are.
-ghost use Rattle.std.specs.Prelude.{◌≡◌, ◌≤◌, Option, List, ℕ};
+ghost use Rattle.std.specs.Prelude.{◌≡◌, ◌==◌, ◌&&◌, ◌≤◌, Option, List, ℕ, length};
 ghost use Rattle.std.specs.List.{list_all};
 ghost use Rattle.std.specs.Option.{option_copied};
 ghost use Rattle.api_calls.specs.Form.{is_path};
 ghost use Rattle.snap_state.specs.Valid.{are_paths, is_source, is_machine, is_board, is_counted, is_aligned};
 ghost use Rattle.snap_state.specs.Valid.{has_bits, is_granule, asks, is_placed, is_hart, is_reserved};
+ghost use Rattle.port_table.specs.declared.kind.DeviceKind.TheVariants as device_kind;
 ghost use Rattle.snap_state.specs.Valid.{is_before, is_rising, has_machine, has_devices, is_valid};
+ghost use Rattle.snap_state.specs.Valid.{are_devices, is_kind, port_kind};
 ghost use Rattle.snap_harts.specs.Copy.{regs_of};
 
 use crate::attached::{are_block_ports, are_devices, are_drives};
@@ -180,8 +182,12 @@ fn has_machine(copy: &StateCopy, machine: &MachineConfig) -> bool
         && copy.track_dirty_pages == machine.track_dirty_pages
 }
 
-fn has_devices(copy: &StateCopy) -> bool
-    ensures { result ≡ has_devices copy.now }
+// As many ports and devices as drives, each of a block device.
+fn are_attached(copy: &StateCopy) -> bool
+    ensures { result ≡ ((length copy.now.ports == length copy.now.configuration.drives)
+        && (length copy.now.devices == length copy.now.configuration.drives)
+        && list_all (λ p. is_kind device_kind.Block (port_kind p)) copy.now.ports
+        && are_devices copy.now.pages 0 copy.now.devices) }
 {
     let drives = copy.configuration.drives.drives.len();
     let ports = copy.ports.as_slice();
@@ -190,6 +196,13 @@ fn has_devices(copy: &StateCopy) -> bool
         && devices.len() == drives
         && are_block_ports(ports)
         && are_devices(copy.pages, devices)
+}
+
+// A port and a device of each kind that is configured.
+fn has_devices(copy: &StateCopy) -> bool
+    ensures { result ≡ has_devices copy.now }
+{
+    are_attached(copy)
 }
 
 /// Whether there is such a copy: what the fields are besides fitting their places.
