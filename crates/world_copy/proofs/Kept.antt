@@ -8,6 +8,7 @@ use Rattle.guest_devices.proofs.Follows.{one_left}
 use Rattle.guest_devices.proofs.Placed.{placed_alike}
 use Rattle.snap_state.specs.declared.copy.StateCopy.{StateCopy}
 use Rattle.snap_state.specs.Valid.{are_devices, has_devices, is_device}
+use Rattle.snap_state.proofs.HasDevices.{has_all}
 use Rattle.snap_state.proofs.Rules.{Rules, attached, device_of}
 use Rattle.flat_snapshot.specs.Copies.{AreKept}
 
@@ -52,7 +53,7 @@ module _ (c : StateCopy) (kept : List Device) (devices : List FlatDevice) (r : R
       let drives = c.configuration.drives in
       let many : length kept ≡ length drives = kept_many kept devices other ∙ sym (kept_many c.devices devices own) ∙ on.devices in
       let each = same_devices c.pages 0 devices c.devices kept own other on.each in
-      rw (eq-eqb (length c.ports) (length drives) on.ports, eq-eqb (length kept) (length drives) many, on.blocks, each) refl
+      has_all (record c { devices = kept }) (record { ports = on.ports; devices = many; blocks = on.blocks; each = each })
 
   pub rules_too : Rules (record c { devices = kept })
   rules_too = record {
