@@ -1,5 +1,6 @@
 // Words that are kept decoded.
-ghost use Rattle.std.specs.Prelude.{◌≡◌, ◌<◌, IfSome, None, Some};
+ghost use Rattle.std.specs.Prelude.{◌≡◌, ◌<◌, ◌≢◌, IfSome, None, Some, replicate, slice_index_or};
+ghost use Rattle.decoded_words.specs.Words.{place_of};
 
 use crate::decoding::Decoded;
 use crate::operation::Operation;
@@ -32,16 +33,21 @@ impl Model for DecodedWords {
 // The place of what is fetched at this address.
 #[inline(always)]
 fn place_of(pc: u64) -> usize
-    ensures { result < 512 }
+    ensures is { result ≡ place_of pc }
+    ensures there { result < 512 }
 {
     (pc / 4 % KEPT as u64) as usize
 }
 
 impl DecodedWords {
     ghost use Rattle.decoded_words.specs.Decoded.{IsDecoded};
+    ghost use Rattle.decoded_words.specs.Words.{Keeps, place_of, zeros};
+    ghost use Rattle.decoded_words.specs.declared.decoding.Decoded.{Decoded};
 
-    /// No word is kept.
-    pub fn new() -> DecodedWords {
+    /// No word is kept: in each place stands that of zeros, which is no instruction.
+    pub fn new() -> DecodedWords
+        ensures { result ≡ replicate 512 zeros }
+    {
         DecodedWords {
             each: [Decoded {
                 value: 0,
@@ -59,6 +65,8 @@ impl DecodedWords {
     pub fn find(&self, pc: u64, word: u32) -> Option<&Decoded>
         ensures is { IfSome result (λ it. IsDecoded it.now) }
         ensures word { IfSome result (λ it. it.now.word ≡ word) }
+        ensures found { IfSome result (λ it. (d : Decoded) → it.now ≡ slice_index_or self.now (place_of pc) d) }
+        ensures none { result ≡ None → (d : Decoded) → (slice_index_or self.now (place_of pc) d).word ≢ word }
     {
         let it = &self.each[place_of(pc)];
         if it.word != word {
@@ -69,7 +77,9 @@ impl DecodedWords {
 
     /// Keeps this word decoded, as that of this address, in the place of what was kept there.
     #[inline(never)]
-    pub fn keep(&mut self, pc: u64, word: u32) {
+    pub fn keep(&mut self, pc: u64, word: u32)
+        ensures { Keeps pc word self.old self.new }
+    {
         self.each[place_of(pc)] = Decoded::of(word);
     }
 }

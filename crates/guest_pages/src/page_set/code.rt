@@ -1,7 +1,10 @@
 // Words of instructions, of which most are in the page of the one before.
-ghost use Rattle.std.specs.Prelude.{◌≡◌, ◌≤◌, IfSome, length, Some};
+ghost use Rattle.std.specs.Prelude.{◌≡◌, ◌≢◌, ◌≤◌, IfSome, MatchOption, length, Some};
 ghost use Rattle.vm_types.specs.declared.ids.ActorId.{ActorId as Actor};
+ghost use Rattle.vm_types.specs.declared.ids.PlaceId.{PlaceId};
 ghost use Rattle.guest_memory.specs.Ram.{ram_start};
+ghost use Rattle.guest_memory.specs.Route.{page_of};
+ghost use Rattle.guest_pages.specs.Pages.{flat_of};
 ghost use Rattle.rv_rows.specs.declared.memory.Width.{Width};
 
 use super::PageSet;
@@ -22,7 +25,10 @@ impl PageSet {
     /// The page that has all four bytes of the word at an address, or `None` where none has.
     #[inline]
     pub fn code_page(&self, at: GuestAddr) -> Option<CodePage>
-        ensures { IfSome result (λ code. IsCode code (length self.now)) }
+        ensures code { IfSome result (λ code. IsCode code (length self.now)) }
+        ensures page { MatchOption result
+            (page_of (length (flat_of self.now).bytes) at 4 ≡ PlaceId.Out)
+            (λ code. page_of (length (flat_of self.now).bytes) at 4 ≡ PlaceId.Page code.number) }
     {
         let _pages = &self.pages;
         let number = self.find(at, 4)?;
@@ -39,6 +45,9 @@ impl PageSet {
         ensures ram { IfSome result (λ word. ram_start ≤ at) }
         ensures word { IfSome result (λ word. (actor : Actor) →
             read_reply Width.Word (Some word) ≡ (served self.now actor (read_of Width.Word at)).0) }
+        ensures page { MatchOption result
+            (page_of (length (flat_of self.now).bytes) at 4 ≢ PlaceId.Page code.number)
+            (λ word. page_of (length (flat_of self.now).bytes) at 4 ≡ PlaceId.Page code.number) }
     {
         let offset = at.wrapping_sub(code.start);
         if offset > 4092 {
