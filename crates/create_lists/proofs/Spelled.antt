@@ -11,6 +11,7 @@ use Rattle.refusals.specs.declared.refusal.Refusal.TheVariants as refusal
 use Rattle.file_format.specs.Format.{IsBytes}
 use Rattle.file_format.specs.Identities.{is_same}
 use Rattle.file_format.specs.Starts.{is_closed, is_other}
+use Rattle.file_format.specs.Versions.{version_of}
 use Rattle.snap_memory.specs.declared.header.MemHeader.{MemHeader}
 use Rattle.snap_memory.specs.Headers as memory
 use Rattle.snap_memory.proofs.Fronts as fronts
@@ -108,28 +109,30 @@ module _ (text : List ℕ) (are : IsBytes text) where
 
 -- ---- a state file
 
-start_is : (given : List ℕ) → is_closed 32 given ≡ false → is_other state.magic given ≡ false → given ≡ 1 ∷ state.magic ++ drop 12 given
+start_is : (given : List ℕ) → is_closed 32 given ≡ false → is_other (state.magic (version_of given)) given ≡ false
+    → given ≡ 1 ∷ state.magic (version_of given) ++ drop 12 given
 start_is [] opens known = absurd (let k : true ≡ false = opens in cc)
 start_is (b ∷ rest) opens known =
     let gate : b ≡ 1 = eqb-true b 1 (not_false (b == 1) (or_parts (nat_lt (length (b ∷ rest)) 32) (not (b == 1)) opens).1) in
-    let magic : take 11 rest ≡ state.magic = (bytes_eq-Decides (take 11 rest) state.magic).0 (not_false (bytes_eq (take 11 rest) state.magic) known) in
+    let start : List ℕ = state.magic (version_of (b ∷ rest)) in
+    let magic : take 11 rest ≡ start = (bytes_eq-Decides (take 11 rest) start).0 (not_false (bytes_eq (take 11 rest) start) known) in
     (λ i. gate i ∷ sym (take-append-drop 11 rest) i) ∙ ap (λ (l : List ℕ). 1 ∷ l ++ drop 11 rest) magic
 
 module _ (text : List ℕ) (are : IsBytes text) (it : Identity × StateCopy) where
-  state_by : (o : Option ((ℕ × (Identity × StateCopy)) × List ℕ)) → state.contents.reads (drop 12 text) ≡ o → state_read (length (drop 12 text)) o ≡ Ok it
-      → state.Holds (drop 12 text) (record { identity = it.0; copy = it.1 })
+  state_by : (o : Option ((ℕ × (Identity × StateCopy)) × List ℕ)) → (state.contents (version_of text)).reads (drop 12 text) ≡ o → state_read (length (drop 12 text)) o ≡ Ok it
+      → state.Holds (version_of text) (drop 12 text) (record { identity = it.0; copy = it.1 })
   state_by None is found = absurd cc
   state_by (Some ((len, (i, c)), left)) is found =
       let one = holds (state.is_accepted (length (drop 12 text)) (length left) len i c) refusal.BadField (Ok (i, c)) it found in
       let same : ◌≡◌ {A = Identity × StateCopy} (i, c) it = let e = one.1 in cc in
-      subst (λ (x : Identity × StateCopy). state.Holds (drop 12 text) (record { identity = x.0; copy = x.1 })) same
-      (accepted (drop 12 text) len i c left (bytes_behind 12 text are) is (length left) true refl (sym one.0) refl)
+      subst (λ (x : Identity × StateCopy). state.Holds (version_of text) (drop 12 text) (record { identity = x.0; copy = x.1 })) same
+      (accepted (version_of text) (drop 12 text) len i c left (bytes_behind 12 text are) is (length left) true refl (sym one.0) refl)
 
   -- what a load finds as a state
   pub state_encodes : state_found (Some text) ≡ Ok it → state.Encodes text (record { identity = it.0; copy = it.1 })
   state_encodes is =
-      let late : Result (Identity × StateCopy) Refusal = state_read (length (drop 12 text)) (state.contents.reads (drop 12 text)) in
-      let one = passes (is_closed 32 text) refusal.GateClosed (if is_other state.magic text then Err refusal.WrongMagic else late) it is in
-      let two = passes (is_other state.magic text) refusal.WrongMagic late it one.1 in
-      let held = state_by (state.contents.reads (drop 12 text)) refl two.1 in
-      record { saved = held.saved; bytes = start_is text one.0 two.0 ∙ ap (λ (l : List ℕ). 1 ∷ state.magic ++ l) held.bytes }
+      let late : Result (Identity × StateCopy) Refusal = state_read (length (drop 12 text)) ((state.contents (version_of text)).reads (drop 12 text)) in
+      let one = passes (is_closed 32 text) refusal.GateClosed (if is_other (state.magic (version_of text)) text then Err refusal.WrongMagic else late) it is in
+      let two = passes (is_other (state.magic (version_of text)) text) refusal.WrongMagic late it one.1 in
+      let held = state_by ((state.contents (version_of text)).reads (drop 12 text)) refl two.1 in
+      record { saved = held.saved; bytes = start_is text one.0 two.0 ∙ ap (λ (l : List ℕ). 1 ∷ state.magic (version_of text) ++ l) held.bytes }

@@ -4,6 +4,7 @@ pub mod Laws
 pub mod Kinds
 pub mod Reading
 pub mod Whole
+pub mod Versions
 pub mod Starts
 pub mod Identities
 pub mod Refusing

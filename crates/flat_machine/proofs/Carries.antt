@@ -13,6 +13,7 @@ use Rattle.guest_memory.specs.Ram.{page_size}
 use Rattle.flat_guest.specs.Guest.{Guest}
 use Rattle.snap_memory.specs.Headers.{header, new_header}
 use Rattle.snap_state.specs.declared.copy.StateCopy.{StateCopy}
+use Rattle.file_format.specs.Versions.{current_version}
 use Rattle.snap_state.specs.Files.{IsSaved}
 use Rattle.flat_snapshot.specs.Copies.{IsCopyOf}
 use Rattle.flat_snapshot.specs.Found.{Snapshot, found}
@@ -30,7 +31,7 @@ created_is m n g it copy there of creates =
 
 module _ (m n k : Machine) (g : Guest) (it : SnapshotCreate) (load : SnapshotLoad) (copy : StateCopy) (full : it.snapshot_type ≡ snapshot.Full)
     (there : m.guest ≡ Some g) (differ : it.files.mem_file_path ≢ it.files.snapshot_path) (of : IsCopyOf m.config g copy)
-    (saved : IsSaved (record { identity = next_identity m; copy = copy })) (fits : header.Fits (new_header copy.pages (next_identity m)))
+    (saved : IsSaved current_version (record { identity = next_identity m; copy = copy })) (fits : header.Fits (new_header copy.pages (next_identity m)))
     (whole : length g.memory.bytes ≡ page_size * copy.pages) (creates : Creates m.guest m it copy.devices n) (names : load.files ≡ it.files)
     (same : k.saved ≡ n.saved) where
   abbrev snapshot_of : Snapshot

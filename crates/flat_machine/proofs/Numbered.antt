@@ -10,6 +10,7 @@ use Rattle.refusals.specs.declared.refusal.Refusal.TheVariants as refusal
 use Rattle.api_calls.specs.declared.call.SnapshotFiles.{SnapshotFiles}
 use Rattle.file_format.specs.Identities.{is_numbered}
 use Rattle.file_format.specs.Starts.{is_closed, is_other}
+use Rattle.file_format.specs.Versions.{version_of}
 use Rattle.snap_state.specs.declared.copy.StateCopy.{StateCopy}
 use Rattle.snap_state.specs.Files as state
 use Rattle.snap_state.specs.Valid.{is_valid}
@@ -29,10 +30,10 @@ read_numbered size (Some read) s is =
 state_numbered : (o : Option (List ℕ)) (s : Identity × StateCopy) → state_found o ≡ Ok s → IsTrue (is_numbered s.0)
 state_numbered None s is = absurd cc
 state_numbered (Some given) s is =
-    let late : Result (Identity × StateCopy) Refusal = state_read (length (drop 12 given)) (state.contents.reads (drop 12 given)) in
-    let one = passes (is_closed 32 given) refusal.GateClosed (if is_other state.magic given then Err refusal.WrongMagic else late) s is in
-    let two = passes (is_other state.magic given) refusal.WrongMagic late s one.1 in
-    read_numbered (length (drop 12 given)) (state.contents.reads (drop 12 given)) s two.1
+    let late : Result (Identity × StateCopy) Refusal = state_read (length (drop 12 given)) ((state.contents (version_of given)).reads (drop 12 given)) in
+    let one = passes (is_closed 32 given) refusal.GateClosed (if is_other (state.magic (version_of given)) given then Err refusal.WrongMagic else late) s is in
+    let two = passes (is_other (state.magic (version_of given)) given) refusal.WrongMagic late s one.1 in
+    read_numbered (length (drop 12 given)) ((state.contents (version_of given)).reads (drop 12 given)) s two.1
 
 pub found_numbered : (saved : Saved) (files : SnapshotFiles) (it : Snapshot) → found saved files ≡ Ok it → 1 ≤ it.identity.number
 unfolding found

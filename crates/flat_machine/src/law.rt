@@ -24,6 +24,7 @@ ghost use Rattle.flat_guest.specs.Guest.{Guest};
 ghost use Rattle.response_form.specs.Responses.{Response};
 ghost use Rattle.snap_memory.specs.Headers.{header, new_header};
 ghost use Rattle.snap_state.specs.declared.copy.StateCopy.{StateCopy};
+ghost use Rattle.file_format.specs.Versions.{current_version};
 ghost use Rattle.snap_state.specs.Files.{IsSaved};
 ghost use Rattle.flat_snapshot.specs.Copies.{IsCopyOf};
 ghost use Rattle.flat_snapshot.specs.Found.{found};
@@ -88,13 +89,13 @@ pub fn whole_lines()
 pub fn create_then_load()
     ensures finds { (m n k : Machine) (g : Guest) (it : SnapshotCreate) (load : SnapshotLoad) (copy : StateCopy) →
         it.snapshot_type ≡ snapshot.Full → m.guest ≡ Some g → it.files.mem_file_path ≢ it.files.snapshot_path →
-        IsCopyOf m.config g copy → IsSaved (record { identity = next_identity m; copy = copy }) →
+        IsCopyOf m.config g copy → IsSaved current_version (record { identity = next_identity m; copy = copy }) →
         header.Fits (new_header copy.pages (next_identity m)) → length g.memory.bytes ≡ page_size * copy.pages →
         Creates m.guest m it copy.devices n → load.files ≡ it.files → k.saved ≡ n.saved →
         found k.saved load.files ≡ Ok (record { identity = next_identity m; copy = copy; bytes = g.memory.bytes }) }
     ensures loads { (m n k p : Machine) (g : Guest) (it : SnapshotCreate) (load : SnapshotLoad) (copy : StateCopy) →
         it.snapshot_type ≡ snapshot.Full → m.guest ≡ Some g → it.files.mem_file_path ≢ it.files.snapshot_path →
-        IsCopyOf m.config g copy → IsSaved (record { identity = next_identity m; copy = copy }) →
+        IsCopyOf m.config g copy → IsSaved current_version (record { identity = next_identity m; copy = copy }) →
         header.Fits (new_header copy.pages (next_identity m)) → length g.memory.bytes ≡ page_size * copy.pages →
         Creates m.guest m it copy.devices n → load.files ≡ it.files → k.saved ≡ n.saved →
         Leaves k (change.LoadSnapshot load) p →

@@ -26,6 +26,7 @@ use Rattle.flat_guest.specs.Same.{AreAlike}
 use Rattle.flat_guest.proofs.Marked.{none_marked}
 use Rattle.snap_state.specs.declared.copy.StateCopy.{StateCopy}
 use Rattle.snap_harts.specs.Copy.{IsBegunByFetch, regs_of, saved_hart}
+use Rattle.file_format.specs.Versions.{Version}
 use Rattle.snap_state.specs.Files.{IsSaved}
 use Rattle.snap_harts.specs.Harts.{hart}
 use Rattle.snap_state.specs.Valid.{is_hart}
@@ -179,8 +180,8 @@ resumed_many kept = length-map kept device_left ∙ sym (length-map kept resumed
 
 -- ---- the guest
 
-module _ (config : Config) (g : Guest) (harts : List Hart) (kept : List Device) (identity : Identity)
-    (saved : IsSaved (record { identity = identity; copy = copy_of config g harts kept }))
+module _ (config : Config) (g : Guest) (harts : List Hart) (kept : List Device) (version : Version) (identity : Identity)
+    (saved : IsSaved version (record { identity = identity; copy = copy_of config g harts kept }))
     (are : AreHarts 0 g.starts g.steps harts) (keep : AreKept kept g.devices) (sound : IsSound g)
     (on : g.board.off ≡ false) (rests : g.steps TimerId ≡ [])
     (whole : length g.memory.bytes ≡ page_size * (length g.memory.bytes / page_size))
@@ -229,7 +230,7 @@ module _ (config : Config) (g : Guest) (harts : List Hart) (kept : List Device) 
     harts_are = record {
       count = sym (length-map (map saved_hart harts) regs_of ∙ length-map harts saved_hart);
       each = λ k start h is there.
-          carried_at copy.pages g.starts 0 g.steps harts are (rules_of copy saved.valid).harts (harts_fit copy saved.fits.1.1) k start h is there;
+          carried_at copy.pages g.starts 0 g.steps harts are (rules_of copy saved.valid).harts (harts_fit version copy saved.fits.1.1) k start h is there;
     };
     devices_are = record {
       count = resumed_many kept;
@@ -241,14 +242,14 @@ module _ (config : Config) (g : Guest) (harts : List Hart) (kept : List Device) 
   pub alike_here : AreAlike (unwritten g) (carried_guest copy g.memory.bytes)
   alike_here = record { body = both; first = source; second = target }
 
-pub carried_alike : (config : Config) (g : Guest) (copy : StateCopy) (identity : Identity) → IsSound g → IsCopyOf config g copy
-    → IsSaved (record { identity = identity; copy = copy }) → length g.memory.bytes ≡ page_size * copy.pages
+pub carried_alike : (config : Config) (g : Guest) (copy : StateCopy) (version : Version) (identity : Identity) → IsSound g → IsCopyOf config g copy
+    → IsSaved version (record { identity = identity; copy = copy }) → length g.memory.bytes ≡ page_size * copy.pages
     → g.board.off ≡ false → g.steps TimerId ≡ [] → length g.memory.reserved ≡ hart_limit * copy.pages
     → AreAlike (unwritten g) (carried_guest copy g.memory.bytes)
-carried_alike config g copy identity sound (harts, are, keep, is) saved whole on rests slots =
+carried_alike config g copy version identity sound (harts, are, keep, is) saved whole on rests slots =
     let pages : copy.pages ≡ length g.memory.bytes / page_size = ap (λ (c : StateCopy). c.pages) is in
     subst (λ (c : StateCopy). AreAlike (unwritten g) (carried_guest c g.memory.bytes)) (sym is)
-    (alike_here config g harts copy.devices identity
-    (subst (λ (c : StateCopy). IsSaved (record { identity = identity; copy = c })) is saved)
+    (alike_here config g harts copy.devices version identity
+    (subst (λ (c : StateCopy). IsSaved version (record { identity = identity; copy = c })) is saved)
     are keep sound on rests (subst (λ (n : ℕ). length g.memory.bytes ≡ page_size * n) pages whole)
     (subst (λ (n : ℕ). length g.memory.reserved ≡ hart_limit * n) pages slots))

@@ -13,6 +13,7 @@ use Rattle.vm_types.specs.declared.identity.Identity.{Identity}
 use Rattle.le_fields.specs.Fields.{bytes_of}
 use Rattle.le_fields.proofs.Values.{long, value_of_bytes}
 use Rattle.file_format.specs.Kinds.{list_of, number32}
+use Rattle.file_format.specs.Versions.{Version}
 use Rattle.guest_devices.specs.declared.device.Device.{Device}
 use Rattle.guest_devices.specs.Kept.{device_left}
 use Rattle.guest_devices.proofs.Follows.{at_start}
@@ -27,13 +28,14 @@ use Rattle.snap_harts.specs.declared.hart.SavedHart.{SavedHart}
 use Rattle.snap_harts.specs.declared.hart.HartPlace.{HartPlace}
 use Rattle.snap_harts.specs.declared.hart.HartPlace.TheVariants.{Begin, BeginWaiting, Idle, IdleWaiting, Access}
 use Rattle.snap_state.specs.declared.copy.Reservation.{Reservation}
+use Rattle.snap_state.specs.declared.copy.Section.{Section}
 use Rattle.snap_state.specs.declared.copy.StateCopy.{StateCopy}
 use Rattle.snap_state.specs.Copies.{state_copy}
 use Rattle.snap_harts.specs.Copy.{begun_at, hart_of, regs_of, saved_hart, turn_of}
 use Rattle.snap_state.specs.Copy.{harts_of}
 use Rattle.snap_state.specs.Files.{IsSaved}
 use Rattle.snap_harts.specs.Harts.{hart, place}
-use Rattle.snap_state.specs.Valid.{are_devices, asks, is_before, is_device, is_hart, is_reserved, is_rising, rises_from}
+use Rattle.snap_state.specs.Valid.{are_devices, are_sections, asks, is_before, is_device, is_hart, is_reserved, is_rising, rises_from}
 use Rattle.snap_state.proofs.Parts.{hart_again}
 use Rattle.snap_state.proofs.Rules.{attached, device_of, few_harts, rules_of}
 use Rattle.flat_snapshot.specs.Copies.{AreHarts, AreKept, IsCopyOf, reservations_from}
@@ -218,23 +220,30 @@ module _ (pages harts : ℕ) (few : harts ≤ hart_limit) where
 
 -- ---- the copy
 
-pub harts_fit : (c : StateCopy) → state_copy.Fits c → AllByRecursion hart.Fits c.harts
+pub harts_fit : (v : Version) (c : StateCopy) → (state_copy v).Fits c → AllByRecursion hart.Fits c.harts
 unfolding state_copy list_of
-harts_fit c fits = fits.1.1.0.1
+harts_fit v c fits = fits.1.1.0.1
 
-pub copied_again : (identity : Identity) (c : StateCopy) (bytes : List ℕ) (tracking : Bool) → IsSaved (record { identity = identity; copy = c })
+-- no tag is known, so it has no section
+none_known : (sections : List Section) → are_sections sections ≡ true → sections ≡ []
+none_known [] is = refl
+none_known (section ∷ others) is = cc
+
+pub copied_again : (version : Version) (identity : Identity) (c : StateCopy) (bytes : List ℕ) (tracking : Bool)
+    → IsSaved version (record { identity = identity; copy = c })
     → length bytes ≡ page_size * c.pages
     → IsCopyOf (carried_config tracking c.configuration) (carried_guest c bytes) (with_tracking tracking c)
-copied_again identity c bytes tracking saved whole =
+copied_again version identity c bytes tracking saved whole =
     let parts = rules_of c saved.valid in
     let pages : c.pages ≡ length bytes / page_size = omega (arith, whole) in
     let harts = sym (harts_again c.pages c.harts parts.harts) in
     let reserved = sym (reserved_again c.pages c.configuration.machine.vcpu_count (few_harts c parts) c.reservations parts.reservations parts.rising) in
+    let sections = none_known c.sections parts.sections in
     let first : (i : ℕ) → steps_from c.harts (HartId (0 + i)) ≡ hart_steps (slice_get c.harts i) = λ i.
     let same : 0 + i ≡ i = omega arith in
     ap (λ (n : ℕ). hart_steps (slice_get c.harts n)) same in (
       harts_of c,
-      harts_lead c.pages c.harts 0 (steps_from c.harts) first parts.harts (harts_fit c saved.fits.1.1),
+      harts_lead c.pages c.harts 0 (steps_from c.harts) first parts.harts (harts_fit version c saved.fits.1.1),
       kept_again c.pages 0 c.devices (attached c parts).each,
-      λ i. record (with_tracking tracking c) { pages = pages i; harts = harts i; reservations = reserved i },
+      λ i. record (with_tracking tracking c) { pages = pages i; harts = harts i; reservations = reserved i; sections = sections i },
     )

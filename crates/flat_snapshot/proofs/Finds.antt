@@ -11,6 +11,7 @@ use Rattle.api_calls.specs.declared.call.SnapshotFiles.{SnapshotFiles}
 use Rattle.api_calls.specs.Call.{◌>>=◌}
 use Rattle.guest_memory.specs.Ram.{page_size}
 use Rattle.file_format.specs.Starts.{is_closed, is_other}
+use Rattle.file_format.specs.Versions.{version_of}
 use Rattle.snap_memory.specs.declared.header.MemHeader.{MemHeader}
 use Rattle.snap_memory.specs.Headers as memory
 use Rattle.snap_state.specs.declared.copy.StateCopy.{StateCopy}
@@ -52,10 +53,10 @@ read_valid size (Some read) s is =
 state_valid : (o : Option (List ℕ)) (s : Identity × StateCopy) → state_found o ≡ Ok s → IsTrue (is_valid s.1)
 state_valid None s is = absurd cc
 state_valid (Some given) s is =
-    let late : Result (Identity × StateCopy) Refusal = state_read (length (drop 12 given)) (state.contents.reads (drop 12 given)) in
-    let one = passes (is_closed 32 given) refusal.GateClosed (if is_other state.magic given then Err refusal.WrongMagic else late) s is in
-    let two = passes (is_other state.magic given) refusal.WrongMagic late s one.1 in
-    read_valid (length (drop 12 given)) (state.contents.reads (drop 12 given)) s two.1
+    let late : Result (Identity × StateCopy) Refusal = state_read (length (drop 12 given)) ((state.contents (version_of given)).reads (drop 12 given)) in
+    let one = passes (is_closed 32 given) refusal.GateClosed (if is_other (state.magic (version_of given)) given then Err refusal.WrongMagic else late) s is in
+    let two = passes (is_other (state.magic (version_of given)) given) refusal.WrongMagic late s one.1 in
+    read_valid (length (drop 12 given)) ((state.contents (version_of given)).reads (drop 12 given)) s two.1
 
 -- ---- the size of a memory file that isn't refused
 

@@ -13,9 +13,10 @@ use Rattle.api_calls.specs.declared.call.SnapshotFiles.{SnapshotFiles}
 use Rattle.api_calls.specs.Call.{◌>>=◌}
 use Rattle.guest_memory.specs.Ram.{page_size}
 use Rattle.gate_file.proofs.Inserts.{got_other, got_there}
-use Rattle.file_format.specs.Kinds.{fixed, number32, number64}
-use Rattle.file_format.specs.Identities.{identity, is_numbered, is_same}
+use Rattle.file_format.specs.Kinds.{fixed}
+use Rattle.file_format.specs.Identities.{is_numbered, is_same}
 use Rattle.file_format.specs.Starts.{is_other}
+use Rattle.file_format.specs.Versions.{Version, current_version, version_of}
 use Rattle.snap_memory.specs.declared.header.MemHeader.{MemHeader}
 use Rattle.snap_memory.specs.Headers as memory
 use Rattle.snap_memory.proofs.Fronts as fronts
@@ -34,43 +35,40 @@ all_true a b c p q r = rw (p, q, r) refl
 
 -- what a file of a copy is found as
 module _ (given : List ℕ) (s : file.Saved) (e : state.Encodes given s) where
-  rest_is : drop 12 given ≡ state.contents.bytes (state.contents_of s)
+  abbrev v : Version
+  v = version_of given
+
+  abbrev len : ℕ
+  len = length ((state_copy v).bytes s.copy)
+
+  rest_is : drop 12 given ≡ (state.contents v).bytes (state.contents_of v s)
   rest_is = ap (drop 12) e.bytes
 
-  reads : state.contents.reads (drop 12 given) ≡ Some (state.contents_of s, [])
+  reads : (state.contents v).reads (drop 12 given) ≡ Some (state.contents_of v s, [])
   reads =
-      ap state.contents.reads (rest_is ∙ sym (append-nil (state.contents.bytes (state.contents_of s))))
-      ∙ state.contents.again (state.contents_of s) [] e.saved.fits
+      ap (state.contents v).reads (rest_is ∙ sym (append-nil ((state.contents v).bytes (state.contents_of v s))))
+      ∙ (state.contents v).again (state.contents_of v s) [] e.saved.fits
 
-  length-contents : (len : ℕ) → length (state.contents.bytes (len, (s.identity, s.copy))) ≡ 20 + length (state_copy.bytes s.copy)
-  unfolding number32 number64 identity
-  length-contents len = omega arith
-
-  accepted : state.is_accepted (length (drop 12 given)) 0 (length (state_copy.bytes s.copy)) s.identity s.copy ≡ true
+  accepted : state.is_accepted (length (drop 12 given)) 0 len s.identity s.copy ≡ true
   accepted =
-      let size : length (drop 12 given) ≡ 20 + length (state_copy.bytes s.copy)
-      = ap length rest_is ∙ length-contents (length (state_copy.bytes s.copy)) in
-      all_true (eqb (length (state_copy.bytes s.copy) + 20) (length (drop 12 given))) _ _
-      (eq-eqb _ _ (omega (arith, size))) e.saved.numbered e.saved.valid
+      let size : length (drop 12 given) ≡ 20 + len = ap length rest_is ∙ copies.length-contents v len s.identity s.copy in
+      all_true (eqb (len + 20) (length (drop 12 given))) _ _ (eq-eqb _ _ (omega (arith, size))) e.saved.numbered e.saved.valid
 
   pub state_of_file : state_in given ≡ Ok (s.identity, s.copy)
   state_of_file =
       ap (λ (b : Bool). if b then Err refusal.GateClosed
-      else (if is_other state.magic given then Err refusal.WrongMagic
-      else state_read (length (drop 12 given)) (state.contents.reads (drop 12 given)))) (copies.opened given s e)
+      else (if is_other (state.magic v) given then Err refusal.WrongMagic
+      else state_read (length (drop 12 given)) ((state.contents v).reads (drop 12 given)))) (copies.opened given s e)
       ∙ ap (λ (b : Bool). if b then Err refusal.WrongMagic
-      else state_read (length (drop 12 given)) (state.contents.reads (drop 12 given))) (copies.known given s e)
+      else state_read (length (drop 12 given)) ((state.contents v).reads (drop 12 given))) (copies.known given s e)
       ∙ ap (λ r. state_read (length (drop 12 given)) r) reads
       ∙ ap (λ (b : Bool). if b then Ok (s.identity, s.copy) else Err refusal.BadField) accepted
 
 -- the file of a create is one
-created : (i : Identity) (c : StateCopy) → state.IsSaved (record { identity = i; copy = c })
+pub created : (i : Identity) (c : StateCopy) → state.IsSaved current_version (record { identity = i; copy = c })
     → state.Encodes (state_file i c) (record { identity = i; copy = c })
 unfolding state_body
 created i c saved = record { saved = saved; bytes = refl }
-
-state_again : (i : Identity) (c : StateCopy) → state.IsSaved (record { identity = i; copy = c }) → state_in (state_file i c) ≡ Ok (i, c)
-state_again i c saved = state_of_file (state_file i c) (record { identity = i; copy = c }) (created i c saved)
 
 -- ---- the memory file
 
@@ -151,16 +149,16 @@ module _ (pages : ℕ) (bytes given : List ℕ) (h : MemHeader) (fits : memory.h
 -- ---- both
 
 -- by what both names hold
-module _ (saved : Saved) (files : SnapshotFiles) (i : Identity) (c : StateCopy) (bytes given : List ℕ) (h : MemHeader)
-    (can : state.IsSaved (record { identity = i; copy = c })) (fits : memory.header.Fits h) (valid : IsTrue (memory.is_valid h))
+module _ (saved : Saved) (files : SnapshotFiles) (i : Identity) (c : StateCopy) (text bytes given : List ℕ) (h : MemHeader)
+    (encodes : state.Encodes text (record { identity = i; copy = c })) (fits : memory.header.Fits h) (valid : IsTrue (memory.is_valid h))
     (settled : h.merging ≡ 0) (count : h.pages ≡ c.pages) (whole : length bytes ≡ page_size * c.pages)
     (given_is : given ≡ memory.header.bytes h ++ bytes)
-    (state_there : get saved files.snapshot_path ≡ Some (state_file i c)) (memory_there : get saved files.mem_file_path ≡ Some given) where
+    (state_there : get saved files.snapshot_path ≡ Some text) (memory_there : get saved files.mem_file_path ≡ Some given) where
   found_as : found saved files ≡ (memory_in i c.pages given >>= λ b. Ok (record { identity = i; copy = c; bytes = b }))
   unfolding found
   found_as =
       ap (λ (o : Option (List ℕ)). state_found o >>= λ s. memory_found s.0 s.1.pages (get saved files.mem_file_path) >>= λ b. Ok (record { identity = s.0; copy = s.1; bytes = b })) state_there
-      ∙ ap (λ (r : Result (Identity × StateCopy) Refusal). r >>= λ s. memory_found s.0 s.1.pages (get saved files.mem_file_path) >>= λ b. Ok (record { identity = s.0; copy = s.1; bytes = b })) (state_again i c can)
+      ∙ ap (λ (r : Result (Identity × StateCopy) Refusal). r >>= λ s. memory_found s.0 s.1.pages (get saved files.mem_file_path) >>= λ b. Ok (record { identity = s.0; copy = s.1; bytes = b })) (state_of_file text (record { identity = i; copy = c }) encodes)
       ∙ ap (λ (o : Option (List ℕ)). memory_found i c.pages o >>= λ b. Ok (record { identity = i; copy = c; bytes = b })) memory_there
 
   pub found_here : memory.identity_of h ≡ i → found saved files ≡ Ok (record { identity = i; copy = c; bytes = bytes })
@@ -200,31 +198,33 @@ module _ (before : Saved) (files : SnapshotFiles) (i of : Identity) (c : StateCo
   state_there = got_there (insert before files.mem_file_path (memory_file of c.pages bytes)) files.snapshot_path (state_file i c)
 
 pub found_again : (before : Saved) (files : SnapshotFiles) (i : Identity) (c : StateCopy) (bytes : List ℕ)
-    → files.mem_file_path ≢ files.snapshot_path → state.IsSaved (record { identity = i; copy = c })
+    → files.mem_file_path ≢ files.snapshot_path → state.IsSaved current_version (record { identity = i; copy = c })
     → memory.header.Fits (memory.new_header c.pages i) → length bytes ≡ page_size * c.pages
     → found (insert (insert before files.mem_file_path (memory_file i c.pages bytes)) files.snapshot_path (state_file i c)) files
     ≡ Ok (record { identity = i; copy = c; bytes = bytes })
 found_again before files i c bytes differ saved fits whole =
-    found_here (after before files i i c bytes differ) files i c bytes (memory_file i c.pages bytes) (memory.new_header c.pages i) saved fits
+    found_here (after before files i i c bytes differ) files i c (state_file i c) bytes (memory_file i c.pages bytes)
+    (memory.new_header c.pages i) (created i c saved) fits
     (new_valid c.pages i saved.numbered) refl refl whole (memory_is i c.pages bytes) (state_there before files i i c bytes differ)
     (memory_there before files i i c bytes differ) refl
 
 pub found_other : (before : Saved) (files : SnapshotFiles) (i other : Identity) (c : StateCopy) (bytes : List ℕ)
-    → files.mem_file_path ≢ files.snapshot_path → state.IsSaved (record { identity = i; copy = c })
+    → files.mem_file_path ≢ files.snapshot_path → state.IsSaved current_version (record { identity = i; copy = c })
     → memory.header.Fits (memory.new_header c.pages other) → IsTrue (is_numbered other) → length bytes ≡ page_size * c.pages
     → other ≢ i
     → found (insert (insert before files.mem_file_path (memory_file other c.pages bytes)) files.snapshot_path (state_file i c)) files
     ≡ Err refusal.ParentDiffers
 found_other before files i other c bytes differ saved fits numbered whole others =
-    none_here (after before files i other c bytes differ) files i c bytes (memory_file other c.pages bytes) (memory.new_header c.pages other) saved fits
+    none_here (after before files i other c bytes differ) files i c (state_file i c) bytes (memory_file other c.pages bytes)
+    (memory.new_header c.pages other) (created i c saved) fits
     (new_valid c.pages other numbered) refl refl whole (memory_is other c.pages bytes) (state_there before files i other c bytes differ)
     (memory_there before files i other c bytes differ) others
 
 -- or anywhere else, whatever was merged into the memory file
-pub found_in : (saved : Saved) (files : SnapshotFiles) (i : Identity) (c : StateCopy) (bytes : List ℕ) (h : MemHeader)
-    → state.IsSaved (record { identity = i; copy = c }) → memory.header.Fits h → IsTrue (memory.is_valid h) → h.merging ≡ 0
+pub found_in : (saved : Saved) (files : SnapshotFiles) (i : Identity) (c : StateCopy) (text bytes : List ℕ) (h : MemHeader)
+    → state.Encodes text (record { identity = i; copy = c }) → memory.header.Fits h → IsTrue (memory.is_valid h) → h.merging ≡ 0
     → h.pages ≡ c.pages → memory.identity_of h ≡ i → length bytes ≡ page_size * c.pages
-    → get saved files.snapshot_path ≡ Some (state_file i c) → get saved files.mem_file_path ≡ Some (memory.header.bytes h ++ bytes)
+    → get saved files.snapshot_path ≡ Some text → get saved files.mem_file_path ≡ Some (memory.header.bytes h ++ bytes)
     → found saved files ≡ Ok (record { identity = i; copy = c; bytes = bytes })
-found_in saved files i c bytes h can fits valid settled count is whole state_there memory_there =
-    found_here saved files i c bytes (memory.header.bytes h ++ bytes) h can fits valid settled count whole refl state_there memory_there is
+found_in saved files i c text bytes h encodes fits valid settled count is whole state_there memory_there =
+    found_here saved files i c text bytes (memory.header.bytes h ++ bytes) h encodes fits valid settled count whole refl state_there memory_there is

@@ -300,6 +300,7 @@ module _ (config : Config) (g : Guest) (sound : IsSound g) (is : IsReady config 
     devices = devices_are;
     reservations = reserved_are;
     rising = rising 0 g.memory.reserved;
+    sections = refl;
   })
 
 pub valid_copy : (config : Config) (g : Guest) (copy : StateCopy) → IsSound g → IsReady config g → config.machine.mem_size_mib ≤ 1024

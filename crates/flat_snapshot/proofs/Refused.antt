@@ -12,6 +12,7 @@ use Rattle.refusals.specs.declared.refusal.Refusal.TheVariants as refusal
 use Rattle.api_calls.specs.declared.call.SnapshotFiles.{SnapshotFiles}
 use Rattle.api_calls.specs.Call.{◌>>=◌}
 use Rattle.file_format.specs.Starts.{is_closed}
+use Rattle.file_format.specs.Versions.{version_of}
 use Rattle.gate_file.specs.Moments.{IsShut}
 use Rattle.snap_state.specs.declared.copy.StateCopy.{StateCopy}
 use Rattle.snap_memory.specs.Headers as memory
@@ -36,8 +37,8 @@ state_shut None shut = (refusal.NoSuchFile, refl)
 state_shut (Some text) shut = (
   refusal.GateClosed,
   ap (λ (b : Bool). if b then Err refusal.GateClosed
-      else (if is_other state.magic text then Err refusal.WrongMagic
-      else state_read (length (drop 12 text)) (state.contents.reads (drop 12 text)))) (closed 32 text shut),
+      else (if is_other (state.magic (version_of text)) text then Err refusal.WrongMagic
+      else state_read (length (drop 12 text)) ((state.contents (version_of text)).reads (drop 12 text)))) (closed 32 text shut),
 )
 
 memory_shut : (i : Identity) (pages : ℕ) (file : Option (List ℕ)) → IsShut 4096 file

@@ -65,6 +65,7 @@ copy_of config g harts kept = record {
   ports = g.ports;
   devices = kept;
   reservations = reservations_from 0 g.memory.reserved;
+  sections = [];
 }
 
 -- A copy of the guest of a machine that is configured so. What is kept of a device is any of the data that may be kept and

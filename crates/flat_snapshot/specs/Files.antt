@@ -4,6 +4,7 @@ use Rattle.std.specs.Prelude.{ℕ, List, ◌∷◌, ◌++◌, drop, Option, Some
 use Rattle.vm_types.specs.declared.identity.Identity.{Identity}
 use Rattle.vm_outside.specs.Calls.{FileCall}
 use Rattle.flat_guest.specs.Guest.{Guest, numbers_written}
+use Rattle.file_format.specs.Versions.{current_version}
 use Rattle.snap_memory.specs.Headers.{header, new_header}
 use Rattle.snap_diff.specs.Copies.{DiffCopy, MemoryCopy, diff_of, pages_at}
 use Rattle.snap_diff.specs.Headers as diffs
@@ -55,10 +56,11 @@ saved_pages (Some parent) pages g = pages_at (numbers_written g.written 0 pages)
 
 -- ---- the state file
 
--- what stands behind the gate of a state file
+-- what stands behind the gate of a state file, in the version that is written
 unfoldable pub state_body : Identity → StateCopy → List ℕ
 state_body identity copy =
-    state.magic ++ state.contents.bytes (state.contents_of (record { identity = identity; copy = copy }))
+    state.magic current_version
+    ++ (state.contents current_version).bytes (state.contents_of current_version (record { identity = identity; copy = copy }))
 
 -- an open gate, and that
 abbrev pub state_file : Identity → StateCopy → List ℕ

@@ -11,6 +11,7 @@ use Rattle.api_calls.specs.Call.{◌>>=◌}
 use Rattle.guest_memory.specs.Ram.{page_size}
 use Rattle.file_format.specs.Identities.{is_same}
 use Rattle.file_format.specs.Starts.{is_closed, is_other}
+use Rattle.file_format.specs.Versions.{version_of}
 use Rattle.snap_memory.specs.declared.header.MemHeader.{MemHeader}
 use Rattle.snap_memory.specs.Headers as memory
 use Rattle.snap_state.specs.declared.copy.StateCopy.{StateCopy}
@@ -34,8 +35,8 @@ state_read size (Some read) =
 abbrev pub state_in : List ℕ → Result (Identity × StateCopy) Refusal
 state_in given =
     if is_closed 32 given then Err refusal.GateClosed
-    else (if is_other state.magic given then Err refusal.WrongMagic
-    else state_read (length (drop 12 given)) (state.contents.reads (drop 12 given)))
+    else (if is_other (state.magic (version_of given)) given then Err refusal.WrongMagic
+    else state_read (length (drop 12 given)) ((state.contents (version_of given)).reads (drop 12 given)))
 
 abbrev pub state_found : Option (List ℕ) → Result (Identity × StateCopy) Refusal
 state_found None = Err refusal.NoSuchFile

@@ -9,6 +9,7 @@ ghost use Rattle.vm_types.specs.declared.ids.ActorId.TheVariants.{Timer};
 ghost use Rattle.refusals.specs.declared.refusal.Refusal.TheVariants as refusal;
 ghost use Rattle.api_calls.specs.declared.call.SnapshotFiles.{SnapshotFiles};
 ghost use Rattle.file_format.specs.Identities.{is_numbered};
+ghost use Rattle.file_format.specs.Versions.{Version, current_version};
 ghost use Rattle.gate_file.specs.Moments.{IsShut};
 ghost use Rattle.guest_memory.specs.Ram.{page_size};
 ghost use Rattle.guest_memory.specs.Reserved.{hart_limit};
@@ -17,7 +18,7 @@ ghost use Rattle.snap_memory.specs.Headers.{header, identity_of, is_valid, new_h
 ghost use Rattle.snap_diff.specs.Copies.{IsDiffOf};
 ghost use Rattle.snap_diff.specs.Diffs.{IsDiffFile};
 ghost use Rattle.snap_diff.specs.Headers.{header as diff_header, header_of, is_header};
-ghost use Rattle.snap_state.specs.Files.{IsSaved};
+ghost use Rattle.snap_state.specs.Files.{Encodes, IsSaved};
 ghost use Rattle.snap_state.specs.Valid.{is_valid as is_valid_copy};
 ghost use Rattle.flat_snapshot.specs.Files.{diff_file, diff_in, memory_file, memory_in, state_file};
 ghost use Rattle.flat_snapshot.specs.Found.{Snapshot, found};
@@ -72,8 +73,8 @@ pub fn goes_on()
 /// The copy of the guest that goes on from a snapshot is the one that it goes on from, but that the load says whether
 /// dirty pages are tracked.
 pub fn copied_again()
-    ensures { (identity : Identity) (copy : StateCopy) (bytes : List ℕ) (tracking : Bool) →
-        IsSaved (record { identity = identity; copy = copy }) → length bytes ≡ page_size * copy.pages →
+    ensures { (version : Version) (identity : Identity) (copy : StateCopy) (bytes : List ℕ) (tracking : Bool) →
+        IsSaved version (record { identity = identity; copy = copy }) → length bytes ≡ page_size * copy.pages →
         IsCopyOf (carried_config tracking copy.configuration) (carried_guest copy bytes) (with_tracking tracking copy) }
 {}
 
@@ -81,7 +82,8 @@ pub fn copied_again()
 /// this snapshot.
 pub fn create_then_load()
     ensures { (before : Saved) (files : SnapshotFiles) (identity : Identity) (copy : StateCopy) (bytes : List ℕ) →
-        files.mem_file_path ≢ files.snapshot_path → IsSaved (record { identity = identity; copy = copy }) →
+        files.mem_file_path ≢ files.snapshot_path →
+        IsSaved current_version (record { identity = identity; copy = copy }) →
         header.Fits (new_header copy.pages identity) → length bytes ≡ page_size * copy.pages →
         found (insert (insert before files.mem_file_path (memory_file identity copy.pages bytes)) files.snapshot_path
         (state_file identity copy)) files ≡ Ok (record { identity = identity; copy = copy; bytes = bytes }) }
@@ -95,7 +97,7 @@ pub fn no_snapshot()
         IsErr (found saved files) }
     ensures other { (before : Saved) (files : SnapshotFiles) (identity other : Identity) (copy : StateCopy)
         (bytes : List ℕ) → files.mem_file_path ≢ files.snapshot_path →
-        IsSaved (record { identity = identity; copy = copy }) → header.Fits (new_header copy.pages other) →
+        IsSaved current_version (record { identity = identity; copy = copy }) → header.Fits (new_header copy.pages other) →
         IsTrue (is_numbered other) → length bytes ≡ page_size * copy.pages → other ≢ identity →
         found (insert (insert before files.mem_file_path (memory_file other copy.pages bytes)) files.snapshot_path
         (state_file identity copy)) files ≡ Err refusal.ParentDiffers }
@@ -105,11 +107,11 @@ pub fn no_snapshot()
 /// of its identity, into which no merge is unfinished, and all of its pages: whatever was merged into it, and wherever it
 /// lies.
 pub fn load_of_files()
-    ensures { (saved : Saved) (files : SnapshotFiles) (identity : Identity) (copy : StateCopy) (bytes : List ℕ)
-        (head : MemHeader) → IsSaved (record { identity = identity; copy = copy }) → header.Fits head →
+    ensures { (saved : Saved) (files : SnapshotFiles) (identity : Identity) (copy : StateCopy) (text bytes : List ℕ)
+        (head : MemHeader) → Encodes text (record { identity = identity; copy = copy }) → header.Fits head →
         IsTrue (is_valid head) → head.merging ≡ 0 → head.pages ≡ copy.pages → identity_of head ≡ identity →
         length bytes ≡ page_size * copy.pages →
-        get saved files.snapshot_path ≡ Some (state_file identity copy) →
+        get saved files.snapshot_path ≡ Some text →
         get saved files.mem_file_path ≡ Some (header.bytes head ++ bytes) →
         found saved files ≡ Ok (record { identity = identity; copy = copy; bytes = bytes }) }
 {}
@@ -137,8 +139,9 @@ pub fn diff_since()
 
 /// The guest that goes on from a snapshot is alike with the one that was saved, as it went on.
 pub fn goes_on_alike()
-    ensures { (config : Config) (g : Guest) (copy : StateCopy) (identity : Identity) → IsSound g → IsCopyOf config g copy →
-        IsSaved (record { identity = identity; copy = copy }) → length g.memory.bytes ≡ page_size * copy.pages →
+    ensures { (config : Config) (g : Guest) (copy : StateCopy) (version : Version) (identity : Identity) → IsSound g →
+        IsCopyOf config g copy → IsSaved version (record { identity = identity; copy = copy }) →
+        length g.memory.bytes ≡ page_size * copy.pages →
         g.board.off ≡ false → g.steps Timer ≡ [] → length g.memory.reserved ≡ hart_limit * copy.pages →
         AreAlike (unwritten g) (carried_guest copy g.memory.bytes) }
 {}

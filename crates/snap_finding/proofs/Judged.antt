@@ -7,6 +7,7 @@ use Rattle.vm_types.specs.declared.identity.Identity.{Identity}
 use Rattle.refusals.specs.declared.refusal.Refusal.TheVariants as refusal
 use Rattle.file_format.specs.Format.{IsBytes}
 use Rattle.file_format.specs.Starts.{Decodes, is_closed, is_other}
+use Rattle.file_format.specs.Versions.{version_of}
 use Rattle.file_format.specs.declared.error.DecodeError.{DecodeError}
 use Rattle.snap_memory.specs.declared.header.MemHeader.{MemHeader}
 use Rattle.snap_memory.specs.Headers as memory
@@ -27,11 +28,13 @@ or_false false b is = is
 -- ---- a state file
 
 -- bytes that begin as a state file does
-starts : (given : List ℕ) → is_closed 32 given ≡ false → is_other state.magic given ≡ false → given ≡ 1 ∷ state.magic ++ drop 12 given
+starts : (given : List ℕ) → is_closed 32 given ≡ false → is_other (state.magic (version_of given)) given ≡ false
+    → given ≡ 1 ∷ state.magic (version_of given) ++ drop 12 given
 starts [] closed other = absurd (let k : true ≡ false = closed in cc)
 starts (b ∷ rest) closed other =
     let first : b ≡ 1 = eqb-true b 1 (not_false _ (or_false _ _ closed)) in
-    let front : take 11 rest ≡ state.magic = (bytes_eq-Decides (take 11 rest) state.magic).0 (not_false _ other) in
+    let magic : List ℕ = state.magic (version_of (b ∷ rest)) in
+    let front : take 11 rest ≡ magic = (bytes_eq-Decides (take 11 rest) magic).0 (not_false _ other) in
     ap (λ (x : ℕ). x ∷ rest) first
     ∙ ap (λ (l : List ℕ). 1 ∷ l) (sym (take-append-drop 11 rest) ∙ ap (λ (l : List ℕ). l ++ drop 11 rest) front)
 
@@ -39,17 +42,17 @@ bytes_behind : (given : List ℕ) → IsBytes given → IsBytes (drop 12 given)
 bytes_behind given bytes i = subst (λ (n : ℕ). n < 256) (sym (get_or-drop 12 given i 0)) (bytes (12 + i))
 
 module _ (given : List ℕ) (bytes : IsBytes (drop 12 given)) (closed : is_closed 32 given ≡ false)
-    (other : is_other state.magic given ≡ false) (none : (s : Saved) → state.Encodes given s → ⊥) where
-  by_test : (read : (ℕ × (Identity × StateCopy)) × List ℕ) → state.contents.reads (drop 12 given) ≡ Some read → (b : Bool)
+    (other : is_other (state.magic (version_of given)) given ≡ false) (none : (s : Saved) → state.Encodes given s → ⊥) where
+  by_test : (read : (ℕ × (Identity × StateCopy)) × List ℕ) → (state.contents (version_of given)).reads (drop 12 given) ≡ Some read → (b : Bool)
       → state.is_accepted (length (drop 12 given)) (length read.1) read.0.0 read.0.1.0 read.0.1.1 ≡ b
       → state_read (length (drop 12 given)) (Some read) ≡ Err refusal.BadField
   by_test read is true accepts =
-      let held = copies.accepted (drop 12 given) read.0.0 read.0.1.0 read.0.1.1 read.1 bytes is (length read.1) true refl (sym accepts) refl in
+      let held = copies.accepted (version_of given) (drop 12 given) read.0.0 read.0.1.0 read.0.1.1 read.1 bytes is (length read.1) true refl (sym accepts) refl in
       absurd (none (record { identity = read.0.1.0; copy = read.0.1.1 })
-      (record { saved = held.saved; bytes = starts given closed other ∙ ap (λ (l : List ℕ). 1 ∷ state.magic ++ l) held.bytes }))
+      (record { saved = held.saved; bytes = starts given closed other ∙ ap (λ (l : List ℕ). 1 ∷ state.magic (version_of given) ++ l) held.bytes }))
   by_test read is false refuses = ap (λ (b : Bool). if b then Ok read.0.1 else Err refusal.BadField) refuses
 
-  bad_read : (o : Option ((ℕ × (Identity × StateCopy)) × List ℕ)) → state.contents.reads (drop 12 given) ≡ o
+  bad_read : (o : Option ((ℕ × (Identity × StateCopy)) × List ℕ)) → (state.contents (version_of given)).reads (drop 12 given) ≡ o
       → state_read (length (drop 12 given)) o ≡ Err refusal.BadField
   bad_read None is = refl
   bad_read (Some read) is = by_test read is _ refl
@@ -57,24 +60,24 @@ module _ (given : List ℕ) (bytes : IsBytes (drop 12 given)) (closed : is_close
   bad_state : state_in given ≡ Err refusal.BadField
   bad_state =
       ap (λ (b : Bool). if b then Err refusal.GateClosed
-      else (if is_other state.magic given then Err refusal.WrongMagic
-      else state_read (length (drop 12 given)) (state.contents.reads (drop 12 given)))) closed
+      else (if is_other (state.magic (version_of given)) given then Err refusal.WrongMagic
+      else state_read (length (drop 12 given)) ((state.contents (version_of given)).reads (drop 12 given)))) closed
       ∙ ap (λ (b : Bool). if b then Err refusal.WrongMagic
-      else state_read (length (drop 12 given)) (state.contents.reads (drop 12 given))) other
-      ∙ bad_read (state.contents.reads (drop 12 given)) refl
+      else state_read (length (drop 12 given)) ((state.contents (version_of given)).reads (drop 12 given))) other
+      ∙ bad_read ((state.contents (version_of given)).reads (drop 12 given)) refl
 
-pub state_refused : (given : List ℕ) (why : DecodeError) → IsBytes given → Decodes 32 state.magic state.Encodes given (Err why)
+pub state_refused : (given : List ℕ) (why : DecodeError) → IsBytes given → Decodes 32 (state.magic (version_of given)) state.Encodes given (Err why)
     → Answers state_of (Err (refused_by why)) (state_in given)
 state_refused given DecodeError.GateClosed bytes closed =
     ap (λ (b : Bool). if b then Err refusal.GateClosed
-    else (if is_other state.magic given then Err refusal.WrongMagic
-    else state_read (length (drop 12 given)) (state.contents.reads (drop 12 given)))) closed
+    else (if is_other (state.magic (version_of given)) given then Err refusal.WrongMagic
+    else state_read (length (drop 12 given)) ((state.contents (version_of given)).reads (drop 12 given)))) closed
 state_refused given DecodeError.WrongMagic bytes (opens, other) =
     ap (λ (b : Bool). if b then Err refusal.GateClosed
-    else (if is_other state.magic given then Err refusal.WrongMagic
-    else state_read (length (drop 12 given)) (state.contents.reads (drop 12 given)))) opens
+    else (if is_other (state.magic (version_of given)) given then Err refusal.WrongMagic
+    else state_read (length (drop 12 given)) ((state.contents (version_of given)).reads (drop 12 given)))) opens
     ∙ ap (λ (b : Bool). if b then Err refusal.WrongMagic
-    else state_read (length (drop 12 given)) (state.contents.reads (drop 12 given))) other
+    else state_read (length (drop 12 given)) ((state.contents (version_of given)).reads (drop 12 given))) other
 state_refused given DecodeError.BadField bytes (opens, known, none) = bad_state given (bytes_behind given bytes) opens known none
 state_refused given DecodeError.OutOfMemory bytes free = tt
 

@@ -24,10 +24,12 @@ use Rattle.snap_state.specs.Boards.{board}
 use Rattle.snap_state.specs.Configured as configured
 use Rattle.snap_state.specs.Copies as copies
 use Rattle.snap_state.specs.Drives as drives
+use Rattle.file_format.specs.Versions.{Version}
+use Rattle.file_format.specs.Versions.Version.{One}
 use Rattle.snap_state.specs.Files as state
 use Rattle.snap_harts.specs.Harts.{hart}
 use Rattle.snap_harts.specs.HartStates.{hart_state}
-use Rattle.snap_state.specs.Valid.{are_drives, are_paths, has_devices, has_machine, is_before, is_board, is_drive, is_machine, is_reserved, is_rising, is_source, is_valid, rises_from}
+use Rattle.snap_state.specs.Valid.{are_drives, are_paths, are_sections, has_devices, has_machine, is_before, is_board, is_drive, is_machine, is_reserved, is_rising, is_source, is_valid, rises_from}
 use Rattle.snap_state.proofs.HasDevices.{has_parts}
 use Rattle.snap_finding.proofs.Sizes.{device_within, hart_state_within, hart_within, port_within}
 use Rattle.snap_finding.proofs.Within.{Within, within16, within32, within64, flag_within, zeros_within, constant_within, just_within, pair_within, made_within, passing_within, optional_most, optional_within, total, total-pass, list_within, each_within, counted_within, bytes_within, text_within}
@@ -116,23 +118,26 @@ copy_most c =
     + ((4 + 328 * length c.harts)
     + ((4 + 153 * length c.ports) + ((4 + 10274 * length c.devices) + (4 + 12 * length c.reservations)))))
 
-copy_within : Within copies.state_copy.reads copy_most
+sections_within : (v : Version) → Within (copies.sections_in v).reads (λ _. 0)
+sections_within One = just_within _ 0
+
+copy_within : (v : Version) → Within (copies.state_copy v).reads copy_most
 unfolding copies.state_copy
-copy_within =
+copy_within v =
     made_within _ copy_most (λ a. omega arith)
     (pair_within
     (pair_within configuration_within (pair_within within32 (pair_within flag_within within64)))
     (pair_within board_within
     (pair_within (each_within 328 hart hart_within)
     (pair_within (each_within 153 (counted port) (counted_within 149 port port_within))
-    (pair_within few_devices (each_within 12 copies.reservation reservation_within))))))
+    (pair_within few_devices (pair_within (each_within 12 copies.reservation reservation_within) (sections_within v)))))))
 
 identity_within : Within identity.reads (λ _. 16)
 unfolding identity
 identity_within = made_within _ _ (λ a. omega arith) (pair_within within64 within64)
 
-pub contents_within : Within state.contents.reads (λ r. 4 + (16 + copy_most r.1.1))
-contents_within = pair_within within32 (pair_within identity_within copy_within)
+pub contents_within : (v : Version) → Within (state.contents v).reads (λ r. 4 + (16 + copy_most r.1.1))
+contents_within v = pair_within within32 (pair_within identity_within (copy_within v))
 
 -- ---- reservations: one for a page and a hart, in their order
 
@@ -224,7 +229,8 @@ copy_short : (c : StateCopy) → is_valid c ≡ true → copy_most c ≤ 1342176
 unfolding is_valid
 copy_short c is =
     let harts_there = c.configuration.machine.vcpu_count in
-    let rising = and_parts _ (is_rising c.reservations) is in
+    let known = and_parts _ (are_sections c.sections) is in
+    let rising = and_parts _ (is_rising c.reservations) known.0 in
     let reserved = and_parts _ (list_all (is_reserved c.pages harts_there) c.reservations) rising.0 in
     let devices = and_parts _ (has_devices c) reserved.0 in
     let harts = and_parts _ _ devices.0 in
@@ -250,9 +256,9 @@ copy_short c is =
     )
 
 -- what is behind gate and magic of a file that is accepted
-pub accepted_short : (rest : List ℕ) (read : (ℕ × (Identity × StateCopy)) × List ℕ) → state.contents.reads rest ≡ Some read
+pub accepted_short : (v : Version) (rest : List ℕ) (read : (ℕ × (Identity × StateCopy)) × List ℕ) → (state.contents v).reads rest ≡ Some read
     → state.is_accepted (length rest) (length read.1) read.0.0 read.0.1.0 read.0.1.1 ≡ true → length rest ≤ 134217620
-accepted_short rest read reads is =
+accepted_short v rest read reads is =
     let valid = and_parts _ (is_valid read.0.1.1) is in
     let counted = and_parts (eqb (length read.1) 0) (eqb (read.0.0 + 20) (length rest)) (and_parts _ _ valid.0).0 in
-    omega (arith, contents_within.at rest read.0 read.1 reads, copy_short read.0.1.1 valid.1, eqb-true _ _ counted.0)
+    omega (arith, (contents_within v).at rest read.0 read.1 reads, copy_short read.0.1.1 valid.1, eqb-true _ _ counted.0)

@@ -11,6 +11,7 @@ use Rattle.refusals.specs.declared.refusal.Refusal.TheVariants as refusal
 use Rattle.file_format.specs.Kinds.{number32, ◌&◌}
 use Rattle.file_format.specs.Identities.{identity}
 use Rattle.file_format.specs.Starts.{is_closed, is_other}
+use Rattle.file_format.specs.Versions.{Version, version_of}
 use Rattle.snap_state.specs.declared.copy.StateCopy.{StateCopy}
 use Rattle.snap_state.specs.Copies.{state_copy}
 use Rattle.snap_state.specs.Files as state
@@ -48,9 +49,10 @@ front_first (b ∷ rest) = refl
 front_closed : (given : List ℕ) → is_closed 32 (take 32 given) ≡ is_closed 32 given
 front_closed given = rw (front_short given, front_first given) refl
 
-front_other : (given : List ℕ) → is_other state.magic (take 32 given) ≡ is_other state.magic given
+front_other : (given : List ℕ)
+    → is_other (state.magic (version_of (take 32 given))) (take 32 given) ≡ is_other (state.magic (version_of given)) given
 front_other given =
-    ap (λ (l : List ℕ). not (bytes_eq l state.magic))
+    ap (λ (l : List ℕ). not (bytes_eq l (state.magic (version_of given))))
     (ap (take 11) (drop-take 1 31 given) ∙ take_less 11 31 (drop 1 given) (omega arith))
 
 front_said : (given : List ℕ) → said_length (take 32 given) ≡ said_length given
@@ -64,11 +66,11 @@ said_of false x y is =
     let same : x ≡ y = cc in ap (λ (p : ℕ × List ℕ). p.0) (sym same)
 
 -- what is read first is the length that the header says
-read_said : (rest : List ℕ) (read : (ℕ × (Identity × StateCopy)) × List ℕ) → state.contents.reads rest ≡ Some read
+read_said : (v : Version) (rest : List ℕ) (read : (ℕ × (Identity × StateCopy)) × List ℕ) → (state.contents v).reads rest ≡ Some read
     → read.0.0 ≡ from_le_bytes w32 (take 4 rest)
 unfolding number32
-read_said rest read is =
-    let behind : List ℕ → Option ((Identity × StateCopy) × List ℕ) = (identity & state_copy).reads in
+read_said v rest read is =
+    let behind : List ℕ → Option ((Identity × StateCopy) × List ℕ) = (identity & state_copy v).reads in
     option_and_then_some (λ (x : ℕ × List ℕ). option_and_then (λ (y : (Identity × StateCopy) × List ℕ). Some ((x.0, y.0), y.1)) (behind x.1))
     (number32.reads rest) read is
     (λ x of_length of_both. option_and_then_some (λ (y : (Identity × StateCopy) × List ℕ). Some ((x.0, y.0), y.1)) (behind x.1) read of_both
@@ -78,7 +80,7 @@ read_said rest read is =
     ∙ said_of (ltb (length rest) 4) (from_le_bytes w32 (take 4 rest), drop 4 rest) x of_length))
 
 module _ (given : List ℕ) (opens : is_closed 32 given ≡ false) (read : (ℕ × (Identity × StateCopy)) × List ℕ)
-    (reads : state.contents.reads (drop 12 given) ≡ Some read) where
+    (reads : (state.contents (version_of given)).reads (drop 12 given) ≡ Some read) where
   abbrev accepts : Bool
   accepts = state.is_accepted (length (drop 12 given)) (length read.1) read.0.0 read.0.1.0 read.0.1.1
 
@@ -89,20 +91,20 @@ module _ (given : List ℕ) (opens : is_closed 32 given ≡ false) (read : (ℕ 
       let counted : read.0.0 + 20 ≡ length (drop 12 given) =
       eqb-true _ _ (and_parts (eqb (length read.1) 0) _ (and_parts _ _ (and_parts _ (is_valid read.0.1.1) is).0).0).1 in
       and_from (said_length given + 32 == length given) (nat_le (length given) most_bytes)
-      (eq-eqb _ _ (omega (arith, long, counted, length-drop 12 given, read_said (drop 12 given) read reads)))
-      (le-leb _ _ (omega (arith, length-drop 12 given, accepted_short (drop 12 given) read reads is)))
+      (eq-eqb _ _ (omega (arith, long, counted, length-drop 12 given, read_said (version_of given) (drop 12 given) read reads)))
+      (le-leb _ _ (omega (arith, length-drop 12 given, accepted_short (version_of given) (drop 12 given) read reads is)))
 
 module _ (given : List ℕ) (opens : is_closed 32 given ≡ false)
     (refuses : ((said_length given + 32 == length given) && nat_le (length given) most_bytes) ≡ false) where
-  bad_read : (o : Option ((ℕ × (Identity × StateCopy)) × List ℕ)) → state.contents.reads (drop 12 given) ≡ o
+  bad_read : (o : Option ((ℕ × (Identity × StateCopy)) × List ℕ)) → (state.contents (version_of given)).reads (drop 12 given) ≡ o
       → state_read (length (drop 12 given)) o ≡ Err refusal.BadField
   bad_read None is = refl
   bad_read (Some read) is =
       ap (λ (b : Bool). if b then Ok read.0.1 else Err refusal.BadField)
       (false_from_ne_true (accepts given opens read is) (λ accepted. let may = may_be given opens read is accepted in absurd cc))
 
-  bad_size : state_read (length (drop 12 given)) (state.contents.reads (drop 12 given)) ≡ Err refusal.BadField
-  bad_size = bad_read (state.contents.reads (drop 12 given)) refl
+  bad_size : state_read (length (drop 12 given)) ((state.contents (version_of given)).reads (drop 12 given)) ≡ Err refusal.BadField
+  bad_size = bad_read ((state.contents (version_of given)).reads (drop 12 given)) refl
 
 -- ---- the whole file
 
@@ -131,9 +133,9 @@ judged_whole given = rw (front_closed given, front_other given, front_said given
 
 pub size_refused : (given : List ℕ) (why : Refusal) → size_judged (length given) (take 32 given) ≡ Err why → state_in given ≡ Err why
 size_refused given why is =
-    tests_refuse (is_closed 32 given) (is_other state.magic given)
+    tests_refuse (is_closed 32 given) (is_other (state.magic (version_of given)) given)
     ((said_length given + 32 == length given) && nat_le (length given) most_bytes) (length given)
-    (state_read (length (drop 12 given)) (state.contents.reads (drop 12 given))) why (bad_size given) (sym (judged_whole given) ∙ is)
+    (state_read (length (drop 12 given)) ((state.contents (version_of given)).reads (drop 12 given))) why (bad_size given) (sym (judged_whole given) ∙ is)
 
 -- ---- as it is answered
 

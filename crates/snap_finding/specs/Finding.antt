@@ -9,6 +9,7 @@ use Rattle.refusals.specs.declared.refusal.Refusal.TheVariants as refusal
 use Rattle.guest_pages.specs.Pages.{flat_of}
 use Rattle.file_format.specs.declared.error.DecodeError.{DecodeError}
 use Rattle.file_format.specs.Starts.{is_closed, is_other}
+use Rattle.file_format.specs.Versions.{version_of}
 use Rattle.snap_state.specs.Files as state
 use Rattle.snap_state.specs.declared.copy.StateCopy.{StateCopy}
 use Rattle.snap_state.specs.declared.file.Saved.{Saved}
@@ -46,7 +47,7 @@ most_bytes = 0x800_0000
 abbrev pub size_judged : ℕ → List ℕ → Result ℕ Refusal
 size_judged size front =
     if is_closed 32 front then Err refusal.GateClosed
-    else (if is_other state.magic front then Err refusal.WrongMagic
+    else (if is_other (state.magic (version_of front)) front then Err refusal.WrongMagic
     else (if (said_length front + 32 == size) && nat_le size most_bytes then Ok size else Err refusal.BadField))
 
 abbrev pub size_found : Option (List ℕ) → Result ℕ Refusal

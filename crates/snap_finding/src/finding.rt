@@ -3,7 +3,7 @@ ghost use Rattle.std.specs.Prelude.{◌≡◌, IfOk, false, length, replicate};
 ghost use Rattle.std.specs.FinMap.{get};
 ghost use Rattle.guest_memory.specs.Reserved.{unreserved};
 ghost use Rattle.guest_pages.specs.Pages.{flat_of, marks_of};
-ghost use Rattle.snap_state.specs.Files.{IsSaved};
+ghost use Rattle.snap_state.specs.Files.{HasFile};
 ghost use Rattle.vm_outside.specs.Filing.{SameFiles};
 ghost use Rattle.vm_outside.specs.Known.{Lasts, Tells};
 ghost use Rattle.flat_snapshot.specs.Found.{found, state_found};
@@ -62,7 +62,7 @@ fn find_size<F: Files>(alloc: Global, files: &mut F, name: &str) -> Result<u64, 
 fn find_state<F: Files>(alloc: Global, files: &mut F, name: &str) -> Result<Saved, FindError>
     ensures finds { Tells (F.known files.old).health →
         Answers state_of result (state_found (get (F.known files.old).saved name.now)) }
-    ensures saved { IfOk result (λ saved. IsSaved saved) }
+    ensures saved { IfOk result (λ saved. HasFile saved) }
     ensures same { Tells (F.known files.old).health → SameFiles (F.known files.old) (F.known files.new) }
     ensures cause { FindCause result (F.known files.old).health.faults (F.known files.new).health.faults }
     ensures lasts { Lasts (F.known files.old).health (F.known files.new).health }
@@ -112,7 +112,7 @@ pub fn find<F: Files>(
 ) -> Result<FoundSnapshot, FindError>
     ensures finds { Tells (F.known files.old).health →
         Answers snapshot_of result (found (F.known files.old).saved names.now) }
-    ensures saved { IfOk result (λ it. IsSaved (record { identity = it.identity; copy = it.copy })) }
+    ensures saved { IfOk result (λ it. HasFile (record { identity = it.identity; copy = it.copy })) }
     ensures reserved { IfOk result (λ it. (flat_of it.pages).reserved ≡ unreserved it.copy.pages) }
     ensures count { IfOk result (λ it. length it.pages ≡ it.copy.pages) }
     ensures marks { IfOk result (λ it. marks_of it.pages ≡ replicate it.copy.pages false) }

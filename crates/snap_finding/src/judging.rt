@@ -1,6 +1,6 @@
 // What the bytes of a file are found as.
 ghost use Rattle.std.specs.Prelude.{◌≡◌, ◌≤◌, ℕ, length, IfOk};
-ghost use Rattle.snap_state.specs.Files.{IsSaved};
+ghost use Rattle.snap_state.specs.Files.{HasFile};
 ghost use Rattle.flat_snapshot.specs.Found.{memory_front, memory_judged, state_in};
 ghost use Rattle.snap_finding.specs.Finding.{Answers, FindCause, nothing_of, refused_by};
 ghost use Rattle.snap_finding.specs.Finding.{said_length, size_judged, size_of, state_of};
@@ -64,7 +64,7 @@ pub fn judge_start(size: u64, front: &[u8]) -> Result<u64, FindError>
 /// The bytes of a state file.
 pub fn judge_state(alloc: Global, bytes: &[u8]) -> Result<Saved, FindError>
     ensures judged { Answers state_of result (state_in bytes.now) }
-    ensures saved { IfOk result (λ saved. IsSaved saved) }
+    ensures saved { IfOk result (λ saved. HasFile saved) }
     ensures cause { (n : ℕ) → FindCause result n n }
 {
     match decode(alloc, bytes) {

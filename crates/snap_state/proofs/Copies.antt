@@ -9,6 +9,7 @@ use Rattle.file_format.specs.Kinds.{number32, number64}
 use Rattle.file_format.specs.Identities.{identity, is_numbered}
 use Rattle.file_format.specs.Reading.{Takes}
 use Rattle.file_format.specs.Starts.{is_closed, is_other}
+use Rattle.file_format.specs.Versions.{Version, current_version, version_of}
 use Rattle.file_format.specs.declared.error.ReadError.{ReadError}
 use Rattle.file_format.specs.declared.error.ReadError.TheVariants.{Bad, Memory}
 use Rattle.snap_state.specs.declared.copy.StateCopy.{StateCopy}
@@ -18,17 +19,19 @@ use Rattle.snap_state.specs.Valid.{is_valid}
 use Rattle.snap_state.specs.Files.{magic, contents, contents_of, Encodes, Holds, Found, is_accepted}
 
 -- what is held is read, to its end
-held_reads : (rest : List ℕ) (s : Saved) → Holds rest s → contents.reads rest ≡ Some (contents_of s, [])
-held_reads rest s h =
-    ap contents.reads (h.bytes ∙ sym (append-nil (contents.bytes (contents_of s)))) ∙ contents.again (contents_of s) [] h.saved.fits
+held_reads : (v : Version) (rest : List ℕ) (s : Saved) → Holds v rest s → (contents v).reads rest ≡ Some (contents_of v s, [])
+held_reads v rest s h =
+    ap (contents v).reads (h.bytes ∙ sym (append-nil ((contents v).bytes (contents_of v s))))
+    ∙ (contents v).again (contents_of v s) [] h.saved.fits
 
-pub not_held : (rest : List ℕ) → contents.reads rest ≡ None → (s : Saved) → ¬ (Holds rest s)
-not_held rest e s h = let f = held_reads rest s h in absurd cc
+pub not_held : (v : Version) (rest : List ℕ) → (contents v).reads rest ≡ None → (s : Saved) → ¬ (Holds v rest s)
+not_held v rest e s h = let f = held_reads v rest s h in absurd cc
 
 -- the length of what stands behind gate and magic
-length-contents : (len : ℕ) (i : Identity) (c : StateCopy) → length (contents.bytes (len, (i, c))) ≡ 20 + length (state_copy.bytes c)
+pub length-contents : (v : Version) (len : ℕ) (i : Identity) (c : StateCopy)
+    → length ((contents v).bytes (len, (i, c))) ≡ 20 + length ((state_copy v).bytes c)
 unfolding number32 number64 identity
-length-contents len i c = omega arith
+length-contents v len i c = omega arith
 
 all_true : (a b c : Bool) → a ≡ true → b ≡ true → c ≡ true → (a && b && c) ≡ true
 all_true a b c p q r = rw (p, q, r) refl
@@ -38,42 +41,48 @@ and_parts true true e = (refl, refl)
 and_parts true false e = absurd cc
 and_parts false b e = absurd cc
 
-held_accepted : (rest : List ℕ) (s : Saved) → Holds rest s → is_accepted (length rest) 0 (length (state_copy.bytes s.copy)) s.identity s.copy ≡ true
-held_accepted rest s h =
-    let size : length rest ≡ 20 + length (state_copy.bytes s.copy) = ap length h.bytes ∙ length-contents (length (state_copy.bytes s.copy)) s.identity s.copy in
-    all_true (eqb (length (state_copy.bytes s.copy) + 20) (length rest)) (is_numbered s.identity) (is_valid s.copy)
+held_accepted : (v : Version) (rest : List ℕ) (s : Saved) → Holds v rest s
+    → is_accepted (length rest) 0 (length ((state_copy v).bytes s.copy)) s.identity s.copy ≡ true
+held_accepted v rest s h =
+    let size : length rest ≡ 20 + length ((state_copy v).bytes s.copy) =
+    ap length h.bytes ∙ length-contents v (length ((state_copy v).bytes s.copy)) s.identity s.copy in
+    all_true (eqb (length ((state_copy v).bytes s.copy) + 20) (length rest)) (is_numbered s.identity) (is_valid s.copy)
     (eq-eqb _ _ (omega arith)) h.saved.numbered h.saved.valid
 
-pub not_accepted : (rest : List ℕ) (len : ℕ) (i : Identity) (c : StateCopy) (left : List ℕ) → contents.reads rest ≡ Some ((len, (i, c)), left)
-    → (n : ℕ) (b : Bool) → n ≡ length left → b ≡ is_accepted (length rest) n len i c → b ≡ false → (s : Saved) → ¬ (Holds rest s)
-not_accepted rest len i c left e n b n-is b-is falls s h =
+pub not_accepted : (v : Version) (rest : List ℕ) (len : ℕ) (i : Identity) (c : StateCopy) (left : List ℕ)
+    → (contents v).reads rest ≡ Some ((len, (i, c)), left)
+    → (n : ℕ) (b : Bool) → n ≡ length left → b ≡ is_accepted (length rest) n len i c → b ≡ false → (s : Saved) → ¬ (Holds v rest s)
+not_accepted v rest len i c left e n b n-is b-is falls s h =
     let fails : is_accepted (length rest) (length left) len i c ≡ false = ap (λ k. is_accepted (length rest) k len i c) (sym n-is) ∙ sym b-is ∙ falls in
-    let found = held_reads rest s h in
-    let same : ((len, (i, c)), left) ≡ (contents_of s, []) = cc in
+    let found = held_reads v rest s h in
+    let same : ((len, (i, c)), left) ≡ (contents_of v s, []) = cc in
     let test : (ℕ × (Identity × StateCopy)) × List ℕ → Bool = λ p. is_accepted (length rest) (length p.1) p.0.0 p.0.1.0 p.0.1.1 in
-    let accepts : is_accepted (length rest) (length left) len i c ≡ true = ap test same ∙ held_accepted rest s h in
+    let accepts : is_accepted (length rest) (length left) len i c ≡ true = ap test same ∙ held_accepted v rest s h in
     absurd cc
 
-pub accepted : (rest : List ℕ) (len : ℕ) (i : Identity) (c : StateCopy) (left : List ℕ) → IsBytes rest → contents.reads rest ≡ Some ((len, (i, c)), left)
-    → (n : ℕ) (b : Bool) → n ≡ length left → b ≡ is_accepted (length rest) n len i c → b ≡ true → Holds rest (record { identity = i; copy = c })
-accepted rest len i c left is e n b n-is b-is holds =
+pub accepted : (v : Version) (rest : List ℕ) (len : ℕ) (i : Identity) (c : StateCopy) (left : List ℕ) → IsBytes rest
+    → (contents v).reads rest ≡ Some ((len, (i, c)), left)
+    → (n : ℕ) (b : Bool) → n ≡ length left → b ≡ is_accepted (length rest) n len i c → b ≡ true
+    → Holds v rest (record { identity = i; copy = c })
+accepted v rest len i c left is e n b n-is b-is holds =
     let passes : is_accepted (length rest) (length left) len i c ≡ true = ap (λ k. is_accepted (length rest) k len i c) (sym n-is) ∙ sym b-is ∙ holds in
     let p3 = and_parts _ (is_valid c) passes in
     let p2 = and_parts _ (is_numbered i) p3.0 in
     let p1 = and_parts (eqb (length left) 0) (eqb (len + 20) (length rest)) p2.0 in
     let none : left ≡ [] = nil_from_length left (eqb-true _ _ p1.0) in
-    let takes = contents.only rest (len, (i, c)) left is e in
-    let whole : rest ≡ contents.bytes (len, (i, c)) = takes.1 ∙ ap (λ (x : List ℕ). contents.bytes (len, (i, c)) ++ x) none ∙ append-nil (contents.bytes (len, (i, c))) in
-    let size : length rest ≡ 20 + length (state_copy.bytes c) = ap length whole ∙ length-contents len i c in
+    let takes = (contents v).only rest (len, (i, c)) left is e in
+    let whole : rest ≡ (contents v).bytes (len, (i, c)) =
+    takes.1 ∙ ap (λ (x : List ℕ). (contents v).bytes (len, (i, c)) ++ x) none ∙ append-nil ((contents v).bytes (len, (i, c))) in
+    let size : length rest ≡ 20 + length ((state_copy v).bytes c) = ap length whole ∙ length-contents v len i c in
     let counted : len + 20 ≡ length rest = eqb-true _ _ p1.1 in
-    let len-is : len ≡ length (state_copy.bytes c) = omega arith in
-    subst (λ (n : ℕ). contents.Fits (n, (i, c)) → rest ≡ contents.bytes (n, (i, c)) → Holds rest (record { identity = i; copy = c })) (sym len-is)
+    let len-is : len ≡ length ((state_copy v).bytes c) = omega arith in
+    subst (λ (n : ℕ). (contents v).Fits (n, (i, c)) → rest ≡ (contents v).bytes (n, (i, c)) → Holds v rest (record { identity = i; copy = c })) (sym len-is)
     (λ fits bytes. record { saved = record { fits = fits; valid = p3.1; numbered = p2.1 }; bytes = bytes }) takes.0 whole
 
 -- a read that was given up
-pub stuck : (e : ReadError) (rest left : List ℕ) → Takes contents rest left (Err e) → Found rest (Err e)
-stuck Bad rest left e = not_held rest e
-stuck Memory rest left e = tt
+pub stuck : (v : Version) (e : ReadError) (rest left : List ℕ) → Takes (contents v) rest left (Err e) → Found v rest (Err e)
+stuck v Bad rest left e = not_held v rest e
+stuck v Memory rest left e = tt
 
 -- ---- the whole file
 
@@ -81,41 +90,49 @@ regroup : (a b c d : List ℕ) → ((a ++ b) ++ c) ++ d ≡ a ++ (b ++ (c ++ d))
 regroup a b c d = simp append_assoc
 
 -- what was written is the encoding
-pub encoded : (i : Identity) (c : StateCopy) (body file : List ℕ) → body ≡ state_copy.puts c [] → state_copy.Fits c → number32.Fits (length body) → identity.Fits i
-    → IsTrue (is_valid c) → IsTrue (is_numbered i) → file ≡ identity.puts i (number32.puts (length body) (1 ∷ magic)) ++ body
+pub encoded : (i : Identity) (c : StateCopy) (body file : List ℕ) → body ≡ (state_copy current_version).puts c []
+    → (state_copy current_version).Fits c → number32.Fits (length body) → identity.Fits i
+    → IsTrue (is_valid c) → IsTrue (is_numbered i)
+    → file ≡ identity.puts i (number32.puts (length body) (1 ∷ magic current_version)) ++ body
     → Encodes file (record { identity = i; copy = c })
 encoded i c body file written fits fits_len fits_identity valid numbered file-is =
-    let body-is : body ≡ state_copy.bytes c = written ∙ state_copy.same c [] in
-    let puts : identity.puts i (number32.puts (length body) (1 ∷ magic)) ≡ ((1 ∷ magic) ++ number32.bytes (length body)) ++ identity.bytes i =
-    identity.same i (number32.puts (length body) (1 ∷ magic))
-    ∙ ap (λ (x : List ℕ). x ++ identity.bytes i) (number32.same (length body) (1 ∷ magic)) in
-    let whole : file ≡ (1 ∷ magic) ++ (number32.bytes (length body) ++ (identity.bytes i ++ body)) =
-    file-is ∙ ap (λ (x : List ℕ). x ++ body) puts ∙ regroup (1 ∷ magic) (number32.bytes (length body)) (identity.bytes i) body in
-    subst (λ (b : List ℕ). number32.Fits (length b) → file ≡ (1 ∷ magic) ++ (number32.bytes (length b) ++ (identity.bytes i ++ b)) → Encodes file (record { identity = i; copy = c })) (sym body-is)
+    let start : List ℕ = 1 ∷ magic current_version in
+    let body-is : body ≡ (state_copy current_version).bytes c = written ∙ (state_copy current_version).same c [] in
+    let puts : identity.puts i (number32.puts (length body) start) ≡ (start ++ number32.bytes (length body)) ++ identity.bytes i =
+    identity.same i (number32.puts (length body) start)
+    ∙ ap (λ (x : List ℕ). x ++ identity.bytes i) (number32.same (length body) start) in
+    let whole : file ≡ start ++ (number32.bytes (length body) ++ (identity.bytes i ++ body)) =
+    file-is ∙ ap (λ (x : List ℕ). x ++ body) puts ∙ regroup start (number32.bytes (length body)) (identity.bytes i) body in
+    subst (λ (b : List ℕ). number32.Fits (length b) → file ≡ start ++ (number32.bytes (length b) ++ (identity.bytes i ++ b)) → Encodes file (record { identity = i; copy = c })) (sym body-is)
     (λ fits_len' whole'. record { saved = record { fits = (fits_len', (fits_identity, fits)); valid = valid; numbered = numbered }; bytes = whole' }) fits_len whole
 
 -- ---- one copy
 
-held : (given : List ℕ) (s : Saved) → Encodes given s → Holds (drop 12 given) s
+held : (given : List ℕ) (s : Saved) → Encodes given s → Holds (version_of given) (drop 12 given) s
 held given s e = record { saved = e.saved; bytes = ap (drop 12) e.bytes }
 
 pub one : (given : List ℕ) (s t : Saved) → Encodes given s → Encodes given t → s ≡ t
 one given s t e f =
-    let first = held_reads (drop 12 given) s (held given s e) in
-    let second = held_reads (drop 12 given) t (held given t f) in
-    let same : (contents_of s, []) ≡ (contents_of t, []) = cc in
+    let v = version_of given in
+    let first = held_reads v (drop 12 given) s (held given s e) in
+    let second = held_reads v (drop 12 given) t (held given t f) in
+    let same : (contents_of v s, []) ≡ (contents_of v t, []) = cc in
     let back : (ℕ × (Identity × StateCopy)) × List ℕ → Saved = λ p. record { identity = p.0.1.0; copy = p.0.1.1 } in
     ap back same
 
-pub one_file : (first second : List ℕ) (s : Saved) → Encodes first s → Encodes second s → first ≡ second
-one_file first second s e f = e.bytes ∙ sym f.bytes
+pub one_file : (first second : List ℕ) (s : Saved) → Encodes first s → Encodes second s → version_of first ≡ version_of second
+    → first ≡ second
+one_file first second s e f same =
+    e.bytes ∙ ap (λ (v : Version). 1 ∷ magic v ++ (contents v).bytes (contents_of v s)) same ∙ sym f.bytes
 
 pub opened : (given : List ℕ) (s : Saved) → Encodes given s → is_closed 32 given ≡ false
 opened given s e =
-    let size : length given ≡ 32 + length (state_copy.bytes s.copy) = omega (arith, ap length e.bytes, length-contents (length (state_copy.bytes s.copy)) s.identity s.copy) in
+    let v = version_of given in
+    let size : length given ≡ 32 + length ((state_copy v).bytes s.copy) =
+    omega (arith, ap length e.bytes, length-contents v (length ((state_copy v).bytes s.copy)) s.identity s.copy) in
     let long : ltb (length given) 32 ≡ false = le-ltb _ _ (omega arith) in
     let first : get_or given 0 0 ≡ 1 = ap (λ (bs : List ℕ). get_or bs 0 0) e.bytes in
     rw (long, first) refl
 
-pub known : (given : List ℕ) (s : Saved) → Encodes given s → is_other magic given ≡ false
-known given s e = ap (is_other magic) e.bytes
+pub known : (given : List ℕ) (s : Saved) → Encodes given s → is_other (magic (version_of given)) given ≡ false
+known given s e = ap (is_other (magic (version_of given))) e.bytes

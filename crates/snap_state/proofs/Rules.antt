@@ -10,7 +10,7 @@ use Rattle.guest_devices.specs.declared.device.Device.{Device}
 use Rattle.guest_devices.specs.Kept.{device_pages, device_port, is_kept}
 use Rattle.snap_state.specs.declared.copy.StateCopy.{StateCopy}
 use Rattle.snap_state.proofs.HasDevices.{has_parts, is_block_port}
-use Rattle.snap_state.specs.Valid.{are_devices, are_drives, are_told_apart, has_devices, has_machine, is_board, is_device, is_drive, is_hart, is_machine, is_reserved, is_rising, is_source, is_valid}
+use Rattle.snap_state.specs.Valid.{are_devices, are_drives, are_sections, are_told_apart, has_devices, has_machine, is_board, is_device, is_drive, is_hart, is_machine, is_reserved, is_rising, is_source, is_valid}
 
 pub record Rules (c : StateCopy) : Type 0 where
   pub source : is_source c.configuration.boot_source ≡ true
@@ -22,12 +22,14 @@ pub record Rules (c : StateCopy) : Type 0 where
   pub devices : has_devices c ≡ true
   pub reservations : list_all (is_reserved c.pages c.configuration.machine.vcpu_count) c.reservations ≡ true
   pub rising : is_rising c.reservations ≡ true
+  pub sections : are_sections c.sections ≡ true
 
 pub rules_of : (c : StateCopy) → is_valid c ≡ true → Rules c
 unfolding is_valid
 rules_of c valid =
     let m = c.configuration.machine in
-    let p8 = and_parts _ (is_rising c.reservations) valid in
+    let p9 = and_parts _ (are_sections c.sections) valid in
+    let p8 = and_parts _ (is_rising c.reservations) p9.0 in
     let p7 = and_parts _ (list_all (is_reserved c.pages m.vcpu_count) c.reservations) p8.0 in
     let p6 = and_parts _ (has_devices c) p7.0 in
     let p5 = and_parts _ (list_all (is_hart c.pages) c.harts) p6.0 in
@@ -45,13 +47,14 @@ rules_of c valid =
       devices = p6.1;
       reservations = p7.1;
       rising = p8.1;
+      sections = p9.1;
     }
 
 -- and they are all
 pub rules_hold : (c : StateCopy) → Rules c → is_valid c ≡ true
 unfolding is_valid
 rules_hold c r =
-    rw (r.source, r.drives, r.machine, r.board, r.many, r.harts, r.devices, r.reservations, r.rising) refl
+    rw (r.source, r.drives, r.machine, r.board, r.many, r.harts, r.devices, r.reservations, r.rising, r.sections) refl
 
 -- ---- the machine: at most 32 harts, and 262,144 pages
 

@@ -1,7 +1,9 @@
 -- The body of a state file.
-use Rattle.std.specs.Prelude.{refl, nat_le, Bool, List, length}
+use Rattle.std.specs.Prelude.{refl, nat_le, Bool, List, [], length}
 use Rattle.file_format.specs.Format.{Format}
-use Rattle.file_format.specs.Kinds.{number32, number64, flag, list_of, passing, ◌&◌, made_of}
+use Rattle.file_format.specs.Kinds.{number32, number64, flag, list_of, passing, just, ◌&◌, made_of}
+use Rattle.file_format.specs.Versions.{Version}
+use Rattle.file_format.specs.Versions.Version.{One}
 use Rattle.file_format.specs.Whole.{counted}
 use Rattle.port_table.specs.Window.{most_ports}
 use Rattle.guest_devices.specs.declared.device.Device.{Device}
@@ -11,6 +13,7 @@ use Rattle.snap_state.specs.Configured.{configuration}
 use Rattle.snap_state.specs.Boards.{board}
 use Rattle.snap_harts.specs.Harts.{hart}
 use Rattle.snap_state.specs.declared.copy.Reservation.{Reservation}
+use Rattle.snap_state.specs.declared.copy.Section.{Section}
 use Rattle.snap_state.specs.declared.copy.StateCopy.{StateCopy}
 
 -- what one hart has reserved in one page
@@ -28,16 +31,20 @@ are_few ds = nat_le (length ds) most_ports
 unfoldable pub devices : Format (List Device)
 devices = passing are_few (list_of (counted device))
 
+-- version 1 has no place for sections
+abbrev pub sections_in : Version → Format (List Section)
+sections_in One = just []
+
 -- The configuration, the number of pages, track_dirty_pages once more and guest time; the board and the harts; the ports
--- and the devices, each as a list of its bytes; the reservations.
-unfoldable pub state_copy : Format StateCopy
-state_copy =
+-- and the devices, each as a list of its bytes; the reservations; and the sections, as the version has them.
+unfoldable pub state_copy : Version → Format StateCopy
+state_copy v =
     made_of
     (λ c. (
       (c.configuration, (c.pages, (c.track_dirty_pages, c.guest_time))),
-      (c.board, (c.harts, (c.ports, (c.devices, c.reservations)))),
+      (c.board, (c.harts, (c.ports, (c.devices, (c.reservations, c.sections))))),
     ))
-    (λ ((configuration, (pages, (track_dirty_pages, guest_time))), (board, (harts, (ports, (devices, reservations))))).
+    (λ ((configuration, (pages, (track_dirty_pages, guest_time))), (board, (harts, (ports, (devices, (reservations, sections)))))).
     record {
       configuration = configuration;
       pages = pages;
@@ -48,6 +55,7 @@ state_copy =
       ports = ports;
       devices = devices;
       reservations = reservations;
+      sections = sections;
     })
     (λ _. refl) (λ _. refl)
-    ((configuration & number32 & flag & number64) & (board & list_of hart & list_of (counted port) & devices & list_of reservation))
+    ((configuration & number32 & flag & number64) & (board & list_of hart & list_of (counted port) & devices & list_of reservation & sections_in v))

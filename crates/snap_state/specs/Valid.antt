@@ -28,6 +28,7 @@ use Rattle.snap_harts.specs.declared.hart.SavedHart.{SavedHart}
 use Rattle.snap_harts.specs.declared.hart.HartPlace.{HartPlace}
 use Rattle.snap_harts.specs.declared.hart.HartPlace.TheVariants.{Begin, BeginWaiting, Idle, IdleWaiting, Access}
 use Rattle.snap_state.specs.declared.copy.Reservation.{Reservation}
+use Rattle.snap_state.specs.declared.copy.Section.{Section}
 use Rattle.snap_state.specs.declared.copy.StateCopy.{StateCopy}
 use Rattle.snap_harts.specs.Copy.{regs_of}
 
@@ -159,6 +160,13 @@ abbrev pub is_rising : List Reservation → Bool
 is_rising [] = true
 is_rising (a ∷ others) = rises_from a others
 
+-- ---- sections
+
+-- each has a tag that is known, and they rise: none is known yet
+abbrev pub are_sections : List Section → Bool
+are_sections [] = true
+are_sections (section ∷ others) = false
+
 -- ---- the copy
 
 -- there are 256 pages for each MiB, and dirty pages are tracked where the configuration says so
@@ -184,3 +192,4 @@ is_valid c =
     && has_devices c
     && list_all (is_reserved c.pages c.configuration.machine.vcpu_count) c.reservations
     && is_rising c.reservations
+    && are_sections c.sections

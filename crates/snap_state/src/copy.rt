@@ -1,5 +1,7 @@
 // What a state file holds.
-ghost use Rattle.snap_state.specs.Copies.{reservation, state_copy};
+ghost use Rattle.std.specs.Prelude.{◌≡◌, OnOk};
+ghost use Rattle.file_format.specs.Versions.{current_version};
+ghost use Rattle.snap_state.specs.Copies.{reservation, sections_in, state_copy};
 
 use crate::board::SavedBoard;
 use crate::configuration::Configuration;
@@ -10,6 +12,7 @@ use mmio_port::Port;
 use snap_devices::Saved;
 use snap_harts::SavedHart;
 use std::alloc::{AllocError, Global};
+use vm_types::ByteList;
 
 /// What one hart has reserved in one page: a granule of 8 bytes.
 #[derive(Clone, Copy, Drop)]
@@ -18,6 +21,13 @@ pub struct Reservation {
     pub hart: u32,
     /// The granule's offset in the page, in bytes.
     pub offset: u32,
+}
+
+/// What a version of the file has behind the copy, under a tag. No tag is known yet.
+#[derive(Drop)]
+pub struct Section {
+    pub tag: u32,
+    pub bytes: ByteList,
 }
 
 /// What is kept of a machine that is on, besides the bytes of its memory.
@@ -37,6 +47,8 @@ pub struct StateCopy {
     pub devices: Items<Counted<Saved<Device>>>,
     /// By page and then by hart.
     pub reservations: Items<Reservation>,
+    /// By their tags, which rise.
+    pub sections: Items<Section>,
 }
 
 #[tactic(auto, unfolding(crate::specs::Copies::reservation))]
@@ -56,9 +68,20 @@ impl Stored for Reservation {
     }
 }
 
+// The file has no place for sections. A copy that has some is given up as if there were no memory.
+fn write_sections(sections: &Items<Section>, out: &mut Vec<u8>) -> Result<(), AllocError>
+    ensures fits { OnOk result ((sections_in current_version).Fits sections.now) }
+    ensures bytes { OnOk result (out.new.items ≡ (sections_in current_version).puts sections.now out.old.items) }
+{
+    if !sections.as_slice().is_empty() {
+        return Err(AllocError);
+    }
+    Ok(())
+}
+
 #[tactic(auto, unfolding(crate::specs::Copies::state_copy))]
 impl Stored for StateCopy {
-    ghost format = { state_copy };
+    ghost format = { state_copy current_version };
 
     fn write(&self, out: &mut Vec<u8>) -> Result<(), AllocError> {
         self.configuration.write(out)?;
@@ -70,6 +93,7 @@ impl Stored for StateCopy {
         self.ports.write(out)?;
         write_devices(&self.devices, out)?;
         self.reservations.write(out)?;
+        write_sections(&self.sections, out)?;
         Ok(())
     }
 
@@ -89,6 +113,7 @@ impl Stored for StateCopy {
             ports,
             devices,
             reservations,
+            sections: Items::new(alloc),
         })
     }
 }

@@ -3,6 +3,7 @@ ghost use Rattle.std.specs.Prelude.{◌≡◌, ◌++◌, ◌∷◌, IsTrue, IfOk
 ghost use Rattle.file_format.specs.Kinds.{number32};
 ghost use Rattle.file_format.specs.Identities.{identity as named, is_numbered};
 ghost use Rattle.file_format.specs.Starts.{Decodes};
+ghost use Rattle.file_format.specs.Versions.{version_of, current_version};
 ghost use Rattle.snap_state.specs.Files.{magic, Encodes, Found, is_accepted};
 ghost use Rattle.snap_state.specs.Valid.{is_valid};
 
@@ -35,7 +36,7 @@ fn is_accepted(size: usize, left: usize, len: u32, identity: Identity, copy: &St
 
 // What stands behind gate and magic.
 fn contents_at(alloc: Global, rest: &[u8]) -> Result<Saved, ReadError>
-    ensures { Found rest.now result }
+    ensures { Found current_version rest.now result }
 {
     let mut input = Input::new(rest);
     let (len, (identity, copy)): (u32, (Identity, StateCopy)) = Stored::read(alloc, &mut input)?;
@@ -49,7 +50,7 @@ fn contents_at(alloc: Global, rest: &[u8]) -> Result<Saved, ReadError>
 /// The copy that a file's bytes are the file of, or the first refusal that fits. It takes no more memory than the bytes
 /// say that there is to keep.
 pub fn decode(alloc: Global, bytes: &[u8]) -> Result<Saved, DecodeError>
-    ensures { Decodes 32 magic Encodes bytes.now result }
+    ensures { Decodes 32 (magic (version_of bytes.now)) Encodes bytes.now result }
 {
     if is_closed(bytes, HEADER_SIZE) {
         return Err(DecodeError::GateClosed);
@@ -70,7 +71,7 @@ fn file_of(alloc: Global, identity: Identity, body: &[u8]) -> Result<Vec<u8>, Al
     ensures len { IfOk result (λ _. number32.Fits (length body.now)) }
     ensures identity { IfOk result (λ _. named.Fits identity) }
     ensures bytes { IfOk result (λ file. file.items ≡
-        named.puts identity (number32.puts (length body.now) (1 ∷ magic)) ++ body.now) }
+        named.puts identity (number32.puts (length body.now) (1 ∷ magic current_version)) ++ body.now) }
 {
     let Ok(len) = u32::try_from(body.len()) else {
         return Err(AllocError);

@@ -1,6 +1,7 @@
 // What the definitions say of each other.
 ghost use Rattle.std.specs.Prelude.{◌≡◌, List, ℕ, true, false};
 ghost use Rattle.file_format.specs.Starts.{is_closed, is_other};
+ghost use Rattle.file_format.specs.Versions.{version_of};
 ghost use Rattle.snap_state.specs.declared.file.Saved.{Saved};
 ghost use Rattle.board_table.specs.Board.{Board};
 ghost use Rattle.hart_trace.specs.States.{Hart};
@@ -11,12 +12,14 @@ ghost use Rattle.snap_state.specs.Copy.{board_at, saved_board};
 ghost use Rattle.snap_state.specs.Files.{magic, Encodes};
 ghost use Rattle.snap_state.specs.Valid.{is_hart};
 
-/// Bytes are the file of one copy at most, and of none where an earlier refusal fits; a copy has one file.
+/// Bytes are the file of one copy at most, and of none where an earlier refusal fits; a copy has one file of a version.
 pub fn one_copy()
     ensures one { (given : List ℕ) (s t : Saved) → Encodes given s → Encodes given t → s ≡ t }
-    ensures file { (first second : List ℕ) (s : Saved) → Encodes first s → Encodes second s → first ≡ second }
+    ensures file { (first second : List ℕ) (s : Saved) → Encodes first s → Encodes second s →
+        version_of first ≡ version_of second → first ≡ second }
     ensures opened { (given : List ℕ) (s : Saved) → Encodes given s → is_closed 32 given ≡ false }
-    ensures known { (given : List ℕ) (s : Saved) → Encodes given s → is_other magic given ≡ false }
+    ensures known { (given : List ℕ) (s : Saved) → Encodes given s →
+        is_other (magic (version_of given)) given ≡ false }
 {}
 
 /// Harts and boards that are on have one copy, and it is theirs alone.

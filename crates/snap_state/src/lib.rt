@@ -19,7 +19,7 @@ mod valid;
 
 pub use board::SavedBoard;
 pub use configuration::{BootSource, Configuration};
-pub use copy::{Reservation, StateCopy};
+pub use copy::{Reservation, Section, StateCopy};
 pub use drives::SavedDrives;
 pub use file::{Saved, decode, encode};
 pub use law::{one_copy, one_of_each};

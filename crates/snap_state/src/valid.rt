@@ -7,13 +7,13 @@ ghost use Rattle.snap_state.specs.Valid.{are_paths, is_source, is_machine, is_bo
 ghost use Rattle.snap_state.specs.Valid.{has_bits, is_granule, asks, is_placed, is_hart, is_reserved};
 ghost use Rattle.port_table.specs.declared.kind.DeviceKind.TheVariants as device_kind;
 ghost use Rattle.snap_state.specs.Valid.{is_before, is_rising, has_machine, has_devices, is_valid};
-ghost use Rattle.snap_state.specs.Valid.{are_devices, is_kind, port_kind};
+ghost use Rattle.snap_state.specs.Valid.{are_devices, are_sections, is_kind, port_kind};
 ghost use Rattle.snap_harts.specs.Copy.{regs_of};
 
 use crate::attached::{are_block_ports, are_devices, are_drives};
 use crate::board::SavedBoard;
 use crate::configuration::BootSource;
-use crate::copy::{Reservation, StateCopy};
+use crate::copy::{Reservation, Section, StateCopy};
 use api_calls::MachineConfig;
 use guest_memory::{PAGE_SIZE, RAM_START, is_ram};
 use rv_doing::{effect_of_word, wanted};
@@ -205,6 +205,12 @@ fn has_devices(copy: &StateCopy) -> bool
     are_attached(copy)
 }
 
+fn are_sections(sections: &[Section]) -> bool
+    ensures { result ≡ are_sections sections.now }
+{
+    sections.is_empty()
+}
+
 /// Whether there is such a copy: what the fields are besides fitting their places.
 #[tactic(auto, unfolding(crate::specs::Valid::is_valid))]
 pub fn is_valid(copy: &StateCopy) -> bool
@@ -221,4 +227,5 @@ pub fn is_valid(copy: &StateCopy) -> bool
         && has_devices(copy)
         && are_reserved(copy.pages, harts, copy.reservations.as_slice())
         && is_rising(copy.reservations.as_slice())
+        && are_sections(copy.sections.as_slice())
 }

@@ -23,6 +23,7 @@ use Rattle.snap_memory.specs.declared.slot.Slot.{Slot}
 use Rattle.snap_memory.specs.Headers.{header, new_header}
 use Rattle.snap_memory.specs.Slots.{slot}
 use Rattle.snap_state.specs.declared.copy.StateCopy.{StateCopy}
+use Rattle.file_format.specs.Versions.{current_version}
 use Rattle.snap_state.specs.Files.{contents, contents_of}
 use Rattle.snap_state.proofs.Rules.{few_pages, rules_of}
 use Rattle.guest_devices.specs.declared.device.Device.{Device}
@@ -132,7 +133,7 @@ module _ (m n : Machine) (g : Guest) (given : Next) (it : SnapshotCreate) (kept 
   of_guest = subst (λ (o : Option Guest). Creates o m it kept n) there creates
 
   by_copy : (copy : StateCopy) → IsCopyOf m.config g copy → copy.devices ≡ kept
-      → contents.Fits (contents_of (record { identity = next_identity m; copy = copy }))
+      → (contents current_version).Fits (contents_of current_version (record { identity = next_identity m; copy = copy }))
       → IsSaving it.snapshot_type (record { asked = it; before = m; after = n; guest = g; copy = copy })
   by_copy copy of tells fits =
       let copied = can_be_copied m ready g copy there of in
@@ -156,11 +157,11 @@ module _ (m n : Machine) (g : Guest) (given : Next) (it : SnapshotCreate) (kept 
       let bytes = own.ready.shaped.memory.many_bytes in
       let slots = own.ready.shaped.memory.many_slots in
       let whole = is.whole in
-      carried_alike m.config g copy (next_identity m) own.sound is.is_copy is.saved is.whole on
+      carried_alike m.config g copy current_version (next_identity m) own.sound is.is_copy is.saved is.whole on
       (own.rests (paused_is m g it known.asked there asks known.own)) (omega (arith, bytes, slots, whole))
 
   pub some_saving : (copy : StateCopy) × IsCopyOf m.config g copy × (copy.devices ≡ kept)
-      × (contents.Fits (contents_of (record { identity = next_identity m; copy = copy }))
+      × ((contents current_version).Fits (contents_of current_version (record { identity = next_identity m; copy = copy }))
       → IsSaving it.snapshot_type (record { asked = it; before = m; after = n; guest = g; copy = copy })
       × (g.board.off ≡ false → AreAlike (unwritten g) (carried_guest copy g.memory.bytes)))
   some_saving = let x = of_guest in (x.0, x.1, x.2, λ fits. let is = by_copy x.0 x.1 x.2 fits in (is, is_alike x.0 is))

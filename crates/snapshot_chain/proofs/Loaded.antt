@@ -21,9 +21,9 @@ use Rattle.snapshot_merge.specs.InOrder.{AreDiffFiles, MergeAll}
 use Rattle.snapshot_merge.specs.Memories.{IsMemoryFile}
 use Rattle.snapshot_merge.specs.Merges.{open_slots}
 use Rattle.snapshot_merge.proofs.InOrder.{all_merged, some_merged}
-use Rattle.flat_snapshot.specs.Files.{diff_file, memory_file}
+use Rattle.flat_snapshot.specs.Files.{diff_file, memory_file, state_file}
 use Rattle.flat_snapshot.specs.Found.{Snapshot, found}
-use Rattle.flat_snapshot.proofs.Loaded.{found_in}
+use Rattle.flat_snapshot.proofs.Loaded.{created, found_in}
 use Rattle.flat_machine.specs.Machine.{Machine}
 use Rattle.flat_machine.specs.Requests.{Leaves, Restores, allowed, by_contents, carried, decided}
 use Rattle.snapshot_chain.specs.Chains.{DiffsLead, IsSaving, Saving, diff_since, identity_of, memory_of, memory_text, snapshot_of, state_text, steps_of}
@@ -99,7 +99,8 @@ module _ (first last : Saving) (savings : List Saving) (base : List ℕ) (files 
     finds_last saved names memory_there state_there =
         let of = last_type snapshot.Full first last savings is led in
         let file = merged_file in
-        found_in saved names (identity_of last) last.copy last.guest.memory.bytes file.head of.1.saved file.holds.fits file.holds.valid file.settled file.holds.pages
+        found_in saved names (identity_of last) last.copy (state_file (identity_of last) last.copy) last.guest.memory.bytes file.head
+        (created (identity_of last) last.copy of.1.saved) file.holds.fits file.holds.valid file.settled file.holds.pages
         file.holds.identity file.holds.whole (state_there ∙ state_is of.0 last of.1) (memory_there ∙ ap (λ (t : List ℕ). Some t) file.holds.bytes)
 
     -- so a load that the machine allows is answered

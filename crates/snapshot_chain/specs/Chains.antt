@@ -13,6 +13,7 @@ use Rattle.flat_guest.specs.Guest.{Guest}
 use Rattle.snap_memory.specs.Headers.{header, new_header}
 use Rattle.snap_diff.specs.Copies.{DiffCopy, DiffStep, MemoryCopy}
 use Rattle.snap_state.specs.declared.copy.StateCopy.{StateCopy}
+use Rattle.file_format.specs.Versions.{current_version}
 use Rattle.snap_state.specs.Files.{IsSaved}
 use Rattle.flat_snapshot.specs.Copies.{IsCopyOf}
 use Rattle.flat_snapshot.specs.Files.{diff_in, memory_in}
@@ -44,7 +45,7 @@ pub record IsSaving (type : SnapshotType) (s : Saving) : Type 0 where
   pub there : s.before.guest ≡ Some s.guest
   pub names : s.asked.files.mem_file_path ≢ s.asked.files.snapshot_path
   pub is_copy : IsCopyOf s.before.config s.guest s.copy
-  pub saved : IsSaved (record { identity = identity_of s; copy = s.copy })
+  pub saved : IsSaved current_version (record { identity = identity_of s; copy = s.copy })
   pub fits : header.Fits (new_header s.copy.pages (identity_of s))
   pub whole : length s.guest.memory.bytes ≡ page_size * s.copy.pages
   pub leaves : Creates s.before.guest s.before s.asked s.copy.devices s.after

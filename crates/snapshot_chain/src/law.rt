@@ -14,6 +14,7 @@ ghost use Rattle.file_format.specs.Identities.{identity, is_numbered};
 ghost use Rattle.snap_diff.specs.Copies.{LeadBy};
 ghost use Rattle.snap_diff.specs.Diffs.{IsDiffFile};
 ghost use Rattle.snap_state.specs.declared.copy.StateCopy.{StateCopy};
+ghost use Rattle.file_format.specs.Versions.{current_version};
 ghost use Rattle.snap_state.specs.Files.{contents, contents_of};
 ghost use Rattle.guest_devices.specs.declared.device.Device.{Device};
 ghost use Rattle.response_form.specs.Responses.{Response};
@@ -65,7 +66,7 @@ pub fn answered_creates()
         Ready m → m.guest ≡ Some g → allowed m given ≡ Ok (change.CreateSnapshot it) →
         RequestStep (Answered kept) given m said n →
         (copy : StateCopy) × IsCopyOf m.config g copy × (copy.devices ≡ kept)
-        × (contents.Fits (contents_of (record { identity = next_identity m; copy = copy })) →
+        × ((contents current_version).Fits (contents_of current_version (record { identity = next_identity m; copy = copy })) →
         IsSaving it.snapshot_type (record { asked = it; before = m; after = n; guest = g; copy = copy })
         × (g.board.off ≡ false → AreAlike (unwritten g) (carried_guest copy g.memory.bytes))) }
 {}

@@ -129,6 +129,7 @@ fn copy_with(
         ports,
         devices,
         reservations,
+        sections: Items::new(alloc),
     })
 }
 

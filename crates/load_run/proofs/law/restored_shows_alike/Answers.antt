@@ -9,5 +9,5 @@ pub returns : goal.returns
 returns c = λ first last savings base merged files k p m load own other full led is few first_text texts merges memory_there state_there leaves sound on timer reserved there shows_own shows_other.
     let loaded = c.merged_then_load.ensures.loads first last savings base merged files k p load full led few first_text texts merges memory_there state_there leaves in
     same_words c.hart_follows.ensures.one (unwritten last.guest) (carried_guest last.copy last.guest.memory.bytes) m p own other
-    (c.goes_on_alike.ensures last.before.config last.guest last.copy _ sound is.is_copy is.saved is.whole on timer reserved) there
+    (c.goes_on_alike.ensures last.before.config last.guest last.copy _ _ sound is.is_copy is.saved is.whole on timer reserved) there
     (ap (λ (q : Machine). q.guest) loaded) shows_own shows_other

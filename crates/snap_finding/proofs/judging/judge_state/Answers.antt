@@ -1,4 +1,5 @@
 use Rattle.std.proofs.Common.{Err, sym, subst, arith}
+use Rattle.file_format.specs.Versions.{version_of}
 use Rattle.snap_state.specs.declared.file.Saved.{Saved}
 use Rattle.flat_snapshot.specs.Found.{state_in}
 use Rattle.snap_finding.specs.declared.finding.FindError.{FindError}
@@ -8,6 +9,11 @@ use Rattle.snap_finding.proofs.judging.judge_state.Goals as goal
 
 pub returns-in-Ok-clause-judged : goal.returns-in-Ok-clause-judged
 returns-in-Ok-clause-judged c = state_good c.args.bytes.now c.in-Ok.saved c.in-Ok.ensures
+
+pub returns-in-Ok-clause-saved : goal.returns-in-Ok-clause-saved
+returns-in-Ok-clause-saved c =
+    let has = c.in-Ok.ensures.saved in
+    record { version = version_of c.args.bytes.now; fits = has.fits; valid = has.valid; numbered = has.numbered }
 
 pub returns-in-Err-clause-judged : goal.returns-in-Err-clause-judged
 returns-in-Err-clause-judged c =

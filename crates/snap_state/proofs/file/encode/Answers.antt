@@ -1,4 +1,5 @@
 use Rattle.std.proofs.Common.{ap, ◌∙◌}
+use Rattle.file_format.specs.Versions.{current_version}
 use Rattle.snap_state.specs.Copies.{state_copy}
 use Rattle.snap_state.proofs.Copies.{encoded}
 use Rattle.snap_state.proofs.file.encode.Goals as goal
@@ -6,6 +7,6 @@ use Rattle.snap_state.proofs.file.encode.Goals as goal
 pub returns : goal.returns
 returns c =
     encoded c.args.identity c.args.copy.now c.deref.result.now c.in_ok-file.file.items
-    (c.deref.ensures.value ∙ c.in_ok-write.ensures.bytes ∙ ap (state_copy.puts c.args.copy.now) c.new-body.ensures.items)
+    (c.deref.ensures.value ∙ c.in_ok-write.ensures.bytes ∙ ap ((state_copy current_version).puts c.args.copy.now) c.new-body.ensures.items)
     c.in_ok-write.ensures.fits c.in_ok-file.ensures.len c.in_ok-file.ensures.identity
     c.requires.valid c.requires.numbered c.in_ok-file.ensures.bytes
