@@ -2,6 +2,7 @@
 use Rattle.std.proofs.Common.{◌≡◌, ◌≢◌, ◌<◌, ℕ, List, ◌∷◌, ◌++◌, get_or, Some, inl, inr, refl, sym, ◌∙◌, ap, arith}
 use Rattle.std.proofs.lemmas.List.{get_or_past}
 use Rattle.file_format.specs.Kinds.{fixed}
+use Rattle.file_format.specs.Versions.Version.{One}
 use Rattle.gate_file.specs.Moments.{IsShut}
 use Rattle.snap_memory.specs.declared.header.MemHeader.{MemHeader}
 use Rattle.snap_memory.specs.Headers as memory
@@ -23,7 +24,7 @@ memory_opens : (h : MemHeader) → (rest : List ℕ) × (memory.header.bytes h �
 unfolding memory.header fixed
 memory_opens h = (_, refl)
 
-diff_opens : (h : DiffHeader) → (rest : List ℕ) × (diffs.header.bytes h ≡ 1 ∷ diffs.magic ++ rest)
+diff_opens : (h : DiffHeader) → (rest : List ℕ) × (diffs.header.bytes h ≡ 1 ∷ diffs.magic One ++ rest)
 unfolding diffs.header fixed
 diff_opens h = (_, refl)
 
@@ -35,7 +36,7 @@ memory_kind text h m holds =
 pub diff_kind : (text : List ℕ) (d : DiffCopy) → IsDiffFile text d → IsKind 68 text
 diff_kind text d is_d =
     let h : DiffHeader = diffs.header_of d in
-    let is : text ≡ (1 ∷ diffs.magic ++ (diff_opens h).0) ++ (table_bytes d.numbers ++ d.bytes) =
+    let is : text ≡ (1 ∷ diffs.magic One ++ (diff_opens h).0) ++ (table_bytes d.numbers ++ d.bytes) =
     is_d.bytes ∙ bytes_of d ∙ ap (λ (l : List ℕ). l ++ (table_bytes d.numbers ++ d.bytes)) (diff_opens h).1 in
     record { gate = ap (λ (l : List ℕ). get_or l 0 0) is; mark = ap (λ (l : List ℕ). get_or l 5 0) is }
 

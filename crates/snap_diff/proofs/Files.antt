@@ -12,10 +12,11 @@ use Rattle.file_format.specs.Kinds.{number32, raw, times}
 use Rattle.file_format.specs.Laws.{all_same}
 use Rattle.file_format.specs.Readers.{put_all}
 use Rattle.file_format.specs.Starts.{is_closed, is_other}
+use Rattle.file_format.specs.Versions.{Version, version_of}
 use Rattle.snap_diff.specs.declared.header.DiffHeader.{DiffHeader}
 use Rattle.snap_diff.specs.Copies.{DiffCopy, IsDiff, rises}
 use Rattle.snap_diff.specs.Headers.{copy_with, header, header_of, is_header, magic}
-use Rattle.snap_diff.specs.Diffs.{Begins, IsDiffFile, IsTable, diff, table_bytes}
+use Rattle.snap_diff.specs.Diffs.{Begins, IsDiffFile, IsTable, diff, diff_in, table_bytes}
 use Rattle.snap_diff.specs.Found.{diff_found, header_read, rest_read, table_read}
 use Rattle.snap_diff.proofs.Fronts as fronts
 use Rattle.snap_diff.proofs.Tables.{bytes_behind, bytes_front, size_of_table, table_only, table_reads}
@@ -112,6 +113,10 @@ pub one : (given : List ℕ) (c d : DiffCopy) → IsDiffFile given c → IsDiffF
 one given c d a b =
     let same : ◌≡◌ {A = Result DiffCopy Refusal} (Ok c) (Ok d) = sym (found_again given c a) ∙ found_again given d b in cc
 
+pub one_file : (given other : List ℕ) (d : DiffCopy) → IsDiffFile given d → IsDiffFile other d → version_of given ≡ version_of other
+    → given ≡ other
+one_file given other d a b same = a.bytes ∙ ap (λ (v : Version). (diff_in v).bytes d) same ∙ sym b.bytes
+
 -- ---- what is found is a diff
 
 no_refusal : (b : Bool) (why : Refusal) (r : Result DiffCopy Refusal) (v : DiffCopy) → cond b (Err why) r ≡ Ok v → (b ≡ false) × (r ≡ Ok v)
@@ -174,8 +179,8 @@ header_found given d (Some (h, left)) bytes read is =
 pub found_good : (given : List ℕ) (d : DiffCopy) → IsBytes given → diff_found (Some given) ≡ Ok d → IsDiffFile given d
 found_good given d bytes is =
     let rest : Result DiffCopy Refusal = header_read (drop 64 given) (header.reads (take 64 given)) in
-    let opened = no_refusal (is_closed 64 (take 64 given)) refusal.GateClosed (cond (is_other magic (take 64 given)) (Err refusal.WrongMagic) rest) d is in
-    let known = no_refusal (is_other magic (take 64 given)) refusal.WrongMagic rest d opened.1 in
+    let opened = no_refusal (is_closed 64 (take 64 given)) refusal.GateClosed (cond (is_other (magic (version_of (take 64 given))) (take 64 given)) (Err refusal.WrongMagic) rest) d is in
+    let known = no_refusal (is_other (magic (version_of (take 64 given))) (take 64 given)) refusal.WrongMagic rest d opened.1 in
     header_found given d (header.reads (take 64 given)) bytes refl known.1
 
 -- ---- the start of a file

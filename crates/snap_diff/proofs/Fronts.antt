@@ -8,6 +8,8 @@ use Rattle.file_format.specs.Kinds.{number32, number64, zeros, fixed}
 use Rattle.file_format.specs.Identities.{identity}
 use Rattle.file_format.specs.Reading.{Takes}
 use Rattle.file_format.specs.Starts.{is_closed, is_other}
+use Rattle.file_format.specs.Versions.{version_of}
+use Rattle.file_format.specs.Versions.Version.{One}
 use Rattle.file_format.specs.declared.error.ReadError.{ReadError}
 use Rattle.file_format.specs.declared.error.ReadError.TheVariants.{Bad, Memory}
 use Rattle.snap_diff.specs.declared.header.DiffHeader.{DiffHeader}
@@ -56,7 +58,7 @@ one_header given g h b c =
     ap (λ (p : DiffHeader × List ℕ). p.0) same
 
 -- the header begins with the gate and the magic
-begins_so : (h : DiffHeader) → (rest : List ℕ) × (header.bytes h ≡ 1 ∷ magic ++ rest)
+begins_so : (h : DiffHeader) → (rest : List ℕ) × (header.bytes h ≡ 1 ∷ magic One ++ rest)
 unfolding header fixed
 begins_so h = (_, refl)
 
@@ -68,26 +70,26 @@ opened given h b =
     let first : get_or given 0 0 ≡ 1 = ap (λ (bs : List ℕ). get_or bs 0 0) (b.bytes ∙ ap (λ (bs : List ℕ). bs ++ b.behind) f.1) in
     rw (long, first) refl
 
-pub known : (given : List ℕ) (h : DiffHeader) → Begins given h → is_other magic given ≡ false
-known given h b = let f = begins_so h in ap (is_other magic) (b.bytes ∙ ap (λ (bs : List ℕ). bs ++ b.behind) f.1)
+pub known : (given : List ℕ) (h : DiffHeader) → Begins given h → is_other (magic (version_of given)) given ≡ false
+known given h b = let f = begins_so h in ap (is_other (magic (version_of given))) (b.bytes ∙ ap (λ (bs : List ℕ). bs ++ b.behind) f.1)
 
 -- ---- what is found by a front
 
 -- a front with a header: the rest decides
 pub front_read : (front rest : List ℕ) (h : DiffHeader) → Begins front h → diff_front front rest ≡ rest_read h rest
 front_read front rest h b =
-    ap (λ (c : Bool). cond c (Err refusal.GateClosed) (cond (is_other magic front) (Err refusal.WrongMagic) (header_read rest (header.reads front)))) (opened front h b)
+    ap (λ (c : Bool). cond c (Err refusal.GateClosed) (cond (is_other (magic (version_of front)) front) (Err refusal.WrongMagic) (header_read rest (header.reads front)))) (opened front h b)
     ∙ ap (λ (c : Bool). cond c (Err refusal.WrongMagic) (header_read rest (header.reads front))) (known front h b)
     ∙ ap (header_read rest) (begun_reads front h b)
     ∙ ap (λ (c : Bool). cond c (rest_read h rest) (Err refusal.BadField)) b.valid
 
 pub front_closed : (front rest : List ℕ) → is_closed 64 front ≡ true → diff_front front rest ≡ Err refusal.GateClosed
 front_closed front rest closed =
-    ap (λ (c : Bool). cond c (Err refusal.GateClosed) (cond (is_other magic front) (Err refusal.WrongMagic) (header_read rest (header.reads front)))) closed
+    ap (λ (c : Bool). cond c (Err refusal.GateClosed) (cond (is_other (magic (version_of front)) front) (Err refusal.WrongMagic) (header_read rest (header.reads front)))) closed
 
-pub front_other : (front rest : List ℕ) → is_closed 64 front ≡ false → is_other magic front ≡ true → diff_front front rest ≡ Err refusal.WrongMagic
+pub front_other : (front rest : List ℕ) → is_closed 64 front ≡ false → is_other (magic (version_of front)) front ≡ true → diff_front front rest ≡ Err refusal.WrongMagic
 front_other front rest opens other =
-    ap (λ (c : Bool). cond c (Err refusal.GateClosed) (cond (is_other magic front) (Err refusal.WrongMagic) (header_read rest (header.reads front)))) opens
+    ap (λ (c : Bool). cond c (Err refusal.GateClosed) (cond (is_other (magic (version_of front)) front) (Err refusal.WrongMagic) (header_read rest (header.reads front)))) opens
     ∙ ap (λ (c : Bool). cond c (Err refusal.WrongMagic) (header_read rest (header.reads front))) other
 
 module _ (front rest : List ℕ) (bytes : IsBytes front) (none : (h : DiffHeader) → ¬ (Begins front h)) where
@@ -99,8 +101,8 @@ module _ (front rest : List ℕ) (bytes : IsBytes front) (none : (h : DiffHeader
   by_read None is = refl
   by_read (Some (h, left)) is = by_rules h left is (is_header h) refl
 
-  pub front_bad : is_closed 64 front ≡ false → is_other magic front ≡ false → diff_front front rest ≡ Err refusal.BadField
+  pub front_bad : is_closed 64 front ≡ false → is_other (magic (version_of front)) front ≡ false → diff_front front rest ≡ Err refusal.BadField
   front_bad opens same =
-      ap (λ (c : Bool). cond c (Err refusal.GateClosed) (cond (is_other magic front) (Err refusal.WrongMagic) (header_read rest (header.reads front)))) opens
+      ap (λ (c : Bool). cond c (Err refusal.GateClosed) (cond (is_other (magic (version_of front)) front) (Err refusal.WrongMagic) (header_read rest (header.reads front)))) opens
       ∙ ap (λ (c : Bool). cond c (Err refusal.WrongMagic) (header_read rest (header.reads front))) same
       ∙ by_read (header.reads front) refl

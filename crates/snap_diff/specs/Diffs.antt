@@ -3,6 +3,8 @@ use Rattle.std.specs.Prelude.{◌≡◌, ℕ, ◌&&◌, Bool, IsTrue, if◌then�
 use Rattle.std.specs.List.{AllByRecursion, flat_map}
 use Rattle.file_format.specs.Format.{Format}
 use Rattle.file_format.specs.Kinds.{chosen_by, number32}
+use Rattle.file_format.specs.Versions.{Version, version_of}
+use Rattle.file_format.specs.Versions.Version.{One}
 use Rattle.file_format.specs.declared.error.ReadError.{ReadError}
 use Rattle.file_format.specs.declared.error.ReadError.TheVariants.{Bad, Memory}
 use Rattle.file_format.specs.declared.error.DecodeError.{DecodeError}
@@ -13,9 +15,13 @@ use Rattle.snap_diff.specs.Headers.{header, header_of, is_header, behind, header
 
 -- ---- the encoding
 
--- the header, as many page numbers as it says, and as many pages (`behind`)
+-- version 1: the header, as many page numbers as it says, and as many pages (`behind`)
 unfoldable pub diff : Format DiffCopy
 diff = chosen_by header behind header_of header_is
+
+-- in each version
+abbrev pub diff_in : Version → Format DiffCopy
+diff_in One = diff
 
 -- ---- which diffs there are
 
@@ -23,11 +29,11 @@ diff = chosen_by header behind header_of header_is
 abbrev pub is_valid : DiffCopy → Bool
 is_valid d = is_header (header_of d) && rises d.pages 0 d.numbers
 
--- these bytes are the file of this copy; its gate is open
+-- these bytes are the file of this copy, of the version that they are read by; its gate is open
 pub record IsDiffFile (given : List ℕ) (d : DiffCopy) : Type 0 where
-  pub fits : diff.Fits d
+  pub fits : (diff_in (version_of given)).Fits d
   pub valid : IsTrue (is_valid d)
-  pub bytes : given ≡ diff.bytes d
+  pub bytes : given ≡ (diff_in (version_of given)).bytes d
 
 -- ---- for the parts of the code
 

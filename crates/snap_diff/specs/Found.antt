@@ -4,6 +4,8 @@ use Rattle.refusals.specs.declared.refusal.Refusal.{Refusal}
 use Rattle.refusals.specs.declared.refusal.Refusal.TheVariants as refusal
 use Rattle.file_format.specs.Kinds.{number32, times}
 use Rattle.file_format.specs.Starts.{is_closed, is_other}
+use Rattle.file_format.specs.Versions.{Version, version_of}
+use Rattle.file_format.specs.Versions.Version.{One}
 use Rattle.guest_memory.specs.Ram.{page_size}
 use Rattle.snap_diff.specs.declared.header.DiffHeader.{DiffHeader}
 use Rattle.snap_diff.specs.Copies.{DiffCopy, rises}
@@ -27,12 +29,17 @@ abbrev pub header_read : List ℕ → Option (DiffHeader × List ℕ) → Result
 header_read rest None = Err refusal.BadField
 header_read rest (Some read) = if is_header read.0 then rest_read read.0 rest else Err refusal.BadField
 
+-- a front and the rest, by the version
+abbrev pub read_by : Version → List ℕ → List ℕ → Result DiffCopy Refusal
+read_by One front rest = header_read rest (header.reads front)
+
 -- by its first 64 bytes, and the rest: shorter than its header, or its gate is closed; of another kind or version; no
 -- diff has these bytes
 abbrev pub diff_front : List ℕ → List ℕ → Result DiffCopy Refusal
 diff_front front rest =
     if is_closed 64 front then Err refusal.GateClosed
-    else (if is_other magic front then Err refusal.WrongMagic else header_read rest (header.reads front))
+    else (if is_other (magic (version_of front)) front then Err refusal.WrongMagic
+    else read_by (version_of front) front rest)
 
 abbrev pub diff_found : Option (List ℕ) → Result DiffCopy Refusal
 diff_found None = Err refusal.NoSuchFile

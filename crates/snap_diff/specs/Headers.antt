@@ -1,16 +1,18 @@
--- The header of a diff file: 64 bytes.
+-- The header of a diff file of version 1: 64 bytes.
 use Rattle.std.specs.Prelude.{◌≡◌, ℕ, ◌*◌, ◌&&◌, Bool, not, List, [], ◌∷◌, length, refl}
 use Rattle.std.proofs.Common.{ap, sym, ◌∙◌}
 use Rattle.file_format.specs.Format.{Format}
 use Rattle.file_format.specs.Kinds.{number32, fixed, zeros, raw, times, ◌&◌, made_of, variant}
 use Rattle.file_format.specs.Identities.{identity, is_numbered, is_same}
+use Rattle.file_format.specs.Versions.{Version, version_bytes}
+use Rattle.file_format.specs.Versions.Version.{One}
 use Rattle.guest_memory.specs.Ram.{page_size}
 use Rattle.snap_diff.specs.declared.header.DiffHeader.{DiffHeader}
 use Rattle.snap_diff.specs.Copies.{DiffCopy}
 
--- "RVFCDIF", and version 1
-abbrev pub magic : List ℕ
-magic = 82 ∷ 86 ∷ 70 ∷ 67 ∷ 68 ∷ 73 ∷ 70 ∷ 1 ∷ 0 ∷ 0 ∷ 0 ∷ []
+-- "RVFCDIF", and the version
+abbrev pub magic : Version → List ℕ
+magic v = 82 ∷ 86 ∷ 70 ∷ 67 ∷ 68 ∷ 73 ∷ 70 ∷ version_bytes v
 
 -- the open gate, magic and version, the number of pages of the memory, the parent's identity and the diff's own, how many
 -- pages the diff has, and zeros to 64
@@ -20,7 +22,7 @@ header =
     (λ (_, (_, (pages, (parent, (identity, (count, _)))))).
     record { pages = pages; parent = parent; identity = identity; count = count })
     (λ _. refl) (λ _. refl)
-    (fixed (1 ∷ []) & fixed magic & number32 & identity & identity & number32 & zeros 12)
+    (fixed (1 ∷ []) & fixed (magic One) & number32 & identity & identity & number32 & zeros 12)
 
 -- two snapshots that have numbers, and are not one
 abbrev pub is_header : DiffHeader → Bool

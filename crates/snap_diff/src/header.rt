@@ -1,6 +1,7 @@
 // A header.
 ghost use Rattle.std.specs.Prelude.{◌≡◌, ◌+◌, ◌*◌, ◌++◌, List, ℕ, IsTrue, IfOk, length};
 ghost use Rattle.file_format.specs.Starts.{Decodes};
+ghost use Rattle.file_format.specs.Versions.{version_of};
 ghost use Rattle.guest_memory.specs.Ram.{page_size};
 ghost use Rattle.snap_diff.specs.Copies.{rises};
 ghost use Rattle.snap_diff.specs.Diffs.{Begins, Found, IsDiffFile, table_bytes};
@@ -77,7 +78,7 @@ impl DiffHeader {
     /// The header that a file's bytes begin with, or the first refusal that fits. What follows the header isn't looked
     /// at.
     pub fn read(alloc: Global, bytes: &[u8]) -> Result<DiffHeader, DecodeError>
-        ensures { Decodes 64 magic Begins bytes.now result }
+        ensures { Decodes 64 (magic (version_of bytes.now)) Begins bytes.now result }
     {
         if is_closed(bytes, HEADER_SIZE) {
             return Err(DecodeError::GateClosed);

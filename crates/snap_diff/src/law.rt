@@ -1,6 +1,7 @@
 // What holds of every diff.
 ghost use Rattle.std.specs.Prelude.{◌≡◌, ◌<◌, ◌↔◌, List, ℕ, Some, Ok, false, length, map, slice_get};
 ghost use Rattle.file_format.specs.Format.{IsBytes};
+ghost use Rattle.file_format.specs.Versions.{version_of};
 ghost use Rattle.snap_diff.specs.Copies.{
   MemoryCopy,
   DiffCopy,
@@ -18,11 +19,12 @@ ghost use Rattle.snap_diff.specs.Copies.{
 ghost use Rattle.snap_diff.specs.Diffs.{IsDiffFile};
 ghost use Rattle.snap_diff.specs.Found.{diff_found};
 
-/// Bytes are the file of one diff at most, and a diff has one file. What is found in a file is the diff whose file it
+/// Bytes are the file of one diff at most, and a diff has one file of a version. What is found in a file is the diff whose file it
 /// is, and none is found exactly where it is none's.
 pub fn one_diff()
     ensures one { (given : List ℕ) (c d : DiffCopy) → IsDiffFile given c → IsDiffFile given d → c ≡ d }
-    ensures file { (given other : List ℕ) (d : DiffCopy) → IsDiffFile given d → IsDiffFile other d → given ≡ other }
+    ensures file { (given other : List ℕ) (d : DiffCopy) → IsDiffFile given d → IsDiffFile other d →
+        version_of given ≡ version_of other → given ≡ other }
     ensures found { (given : List ℕ) (d : DiffCopy) → IsBytes given →
         (diff_found (Some given) ≡ Ok d) ↔ IsDiffFile given d }
     ensures whole { (given : List ℕ) (d : DiffCopy) → IsDiffFile given d → IsDiff d }

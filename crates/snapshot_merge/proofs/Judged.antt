@@ -7,6 +7,7 @@ use Rattle.refusals.specs.declared.refusal.Refusal.TheVariants as refusal
 use Rattle.file_format.specs.Format.{IsBytes}
 use Rattle.file_format.specs.Kinds.{number32, times}
 use Rattle.file_format.specs.Starts.{Decodes, is_closed, is_other}
+use Rattle.file_format.specs.Versions.{version_of}
 use Rattle.file_format.specs.declared.error.DecodeError.{DecodeError}
 use Rattle.snap_memory.specs.declared.header.MemHeader.{MemHeader}
 use Rattle.snap_memory.specs.Headers as memory
@@ -62,15 +63,15 @@ base_refused size front DecodeError.OutOfMemory bytes free = tt
 
 -- ---- a diff by its front
 
-pub start_refused : (given front : List ℕ) (why : DecodeError) → front ≡ take 64 given → IsBytes front → Decodes 64 magic Begins front (Err why)
+pub start_refused : (given front : List ℕ) (why : DecodeError) → front ≡ take 64 given → IsBytes front → Decodes 64 (magic (version_of front)) Begins front (Err why)
     → StartJudged given (Err (refused_by why))
 start_refused given front DecodeError.GateClosed is bytes closed =
     fronts.front_closed (take 64 given) (drop 64 given) (subst (λ (l : List ℕ). is_closed 64 l ≡ true) is closed)
 start_refused given front DecodeError.WrongMagic is bytes (opens, other) =
-    fronts.front_other (take 64 given) (drop 64 given) (subst (λ (l : List ℕ). is_closed 64 l ≡ false) is opens) (subst (λ (l : List ℕ). is_other magic l ≡ true) is other)
+    fronts.front_other (take 64 given) (drop 64 given) (subst (λ (l : List ℕ). is_closed 64 l ≡ false) is opens) (subst (λ (l : List ℕ). is_other (magic (version_of l)) l ≡ true) is other)
 start_refused given front DecodeError.BadField is bytes (opens, known, none) =
     fronts.front_bad (take 64 given) (drop 64 given) (subst IsBytes is bytes) (subst (λ (l : List ℕ). (h : DiffHeader) → ¬ (Begins l h)) is none)
-    (subst (λ (l : List ℕ). is_closed 64 l ≡ false) is opens) (subst (λ (l : List ℕ). is_other magic l ≡ false) is known)
+    (subst (λ (l : List ℕ). is_closed 64 l ≡ false) is opens) (subst (λ (l : List ℕ). is_other (magic (version_of l)) l ≡ false) is known)
 start_refused given front DecodeError.OutOfMemory is bytes free = tt
 
 -- it hasn't as many bytes as its header says

@@ -9,6 +9,7 @@ use Rattle.std.specs.FinMap.{get}
 use Rattle.refusals.specs.declared.refusal.Refusal.{Refusal}
 use Rattle.refusals.specs.declared.refusal.Refusal.TheVariants as refusal
 use Rattle.file_format.specs.Starts.{is_closed, is_other}
+use Rattle.file_format.specs.Versions.{version_of}
 use Rattle.snap_memory.specs.Headers as memory
 use Rattle.snap_diff.specs.Headers as diffs
 use Rattle.vm_outside.specs.Filing.{IsReadAt}
@@ -126,10 +127,10 @@ not_both (Some given) h d base diff =
     let b1 = no_refusal MemHeader (is_closed 4096 front) refusal.GateClosed (cond (is_other memory.magic front) (Err refusal.WrongMagic) (base_read (length given) (memory.header.reads front))) h base in
     let b2 = no_refusal MemHeader (is_other memory.magic front) refusal.WrongMagic (base_read (length given) (memory.header.reads front)) h b1.1 in
     let start : List ℕ = take 64 given in
-    let d1 = no_refusal DiffCopy (is_closed 64 start) refusal.GateClosed (cond (is_other diffs.magic start) (Err refusal.WrongMagic) (header_read (drop 64 given) (diffs.header.reads start))) d diff in
-    let d2 = no_refusal DiffCopy (is_other diffs.magic start) refusal.WrongMagic (header_read (drop 64 given) (diffs.header.reads start)) d d1.1 in
+    let d1 = no_refusal DiffCopy (is_closed 64 start) refusal.GateClosed (cond (is_other (diffs.magic (version_of start)) start) (Err refusal.WrongMagic) (header_read (drop 64 given) (diffs.header.reads start))) d diff in
+    let d2 = no_refusal DiffCopy (is_other (diffs.magic (version_of start)) start) refusal.WrongMagic (header_read (drop 64 given) (diffs.header.reads start)) d d1.1 in
     let one : 77 ≡ get_or given 5 0 = fifth 4096 given memory.magic (omega arith) (not_other _ b2.0) in
-    let two : 68 ≡ get_or given 5 0 = fifth 64 given diffs.magic (omega arith) (not_other _ d2.0) in
+    let two : 68 ≡ get_or given 5 0 = fifth 64 given (diffs.magic (version_of start)) (omega arith) (not_other _ d2.0) in
     let bad : 77 ≡ 68 = one ∙ sym two in
     omega (arith, bad)
 
