@@ -1,0 +1,4 @@
+pub mod Growing
+pub mod Indexing
+pub mod Named
+pub mod Taken
