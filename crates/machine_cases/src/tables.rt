@@ -12,6 +12,7 @@ pub enum Subject {
     CallsLeft,
     Ports,
     Chains,
+    Fillers,
     Places,
     Pages,
     Boards,
@@ -29,7 +30,7 @@ impl Subject {
     }
 }
 
-pub const TABLES: [(&str, Subject); 24] = [
+pub const TABLES: [(&str, Subject); 25] = [
     ("instructions/names", Subject::Words(Asked::Name)),
     ("instructions/corners", Subject::Words(Asked::Name)),
     ("instructions/opcodes", Subject::Words(Asked::DecodedName)),
@@ -49,6 +50,7 @@ pub const TABLES: [(&str, Subject); 24] = [
     ("chains/sequences", Subject::Chains),
     ("chains/broken", Subject::Chains),
     ("chains/requests", Subject::Chains),
+    ("fillers/sequences", Subject::Fillers),
     ("machines/places", Subject::Places),
     ("machines/pages", Subject::Pages),
     ("machines/boards", Subject::Boards),
