@@ -9,8 +9,9 @@
 //! Before them stand lines of what no contract says: that slices of a guest are made and end, and that a machine which plays
 //! their trace on one thread stands as they left theirs (`slicing`); that a guest which is served over objects in memory
 //! comes to its end, that the replay of its trace answers the same, and which object is named where a call of it fails
-//! (`serving`, `flushing`); how much of a file that is no state file a load reads (`foreign`); and how the objects in memory
-//! cut bytes into pieces. None of them depends on the schedule.
+//! (`serving`, `flushing`); how much of a file that is no state file a load reads (`foreign`); what is left of a create or a merge
+//! that is stopped at each of its calls, and what a load or a merge makes of it (`stopping`); and how the objects in memory cut
+//! bytes into pieces. None of them depends on the schedule.
 //!
 //! Read `given` and `case`, what a case says; then `replaying`, and `difference` for what is compared. Of what is served read
 //! `sessions` first.
@@ -33,6 +34,8 @@ mod serving;
 mod sessions;
 mod showing;
 mod slicing;
+mod stopping;
+mod sweep;
 mod ticking;
 
 use crate::case::{Case, read_case};
@@ -65,6 +68,7 @@ fn print_all<R: Threads + Wait + Files + Print + AllocGlobal + Clone + Drop + Sy
     serving::print(rt)?;
     flushing::print(rt)?;
     foreign::print(rt)?;
+    stopping::print(rt)?;
     replay_all(rt)
 }
 

@@ -49,8 +49,9 @@ fn run_words(
     }
 }
 
-// The files as they are at the start. They are made by calls too, which come before the replay's.
-fn files_of(alloc: Global, files: &[Held], fails: &[u64]) -> Result<MemoryFiles> {
+/// The files as they are at the start, of whose later calls those of these numbers fail. They are made by calls too, which are
+/// not counted.
+pub fn files_of(alloc: Global, files: &[Held], fails: &[u64]) -> Result<MemoryFiles> {
     let before = 2 * files.len() as u64;
     let mut calls = Vec::new(alloc);
     for call in fails {
