@@ -19,29 +19,29 @@ use Rattle.queue_device.specs.Confined.{Confines, IsChain, IsDeviceAct, IsTaken}
 use Rattle.queue_device.proofs.Acting.{performing_keeps, keeps_either}
 use Rattle.filler_device.specs.Filler.{Filler, filled, filler, limited, no_call, served_by, taken_by}
 
-reads : (port at len : ℕ) → IsAskedBy true no_call port (Read at len)
+pub reads : (port at len : ℕ) → IsAskedBy true no_call port (Read at len)
 reads port at len = inr (tt, tt)
 
-writes : (port at : ℕ) (piece : List ℕ) → IsAskedBy true no_call port (Write at piece)
+pub writes : (port at : ℕ) (piece : List ℕ) → IsAskedBy true no_call port (Write at piece)
 writes port at piece = inr (tt, tt)
 
 byte_read : (port pages : ℕ) (k : Which) (parts : List Part) (e : Filler) → pages < 2 ^ 32 → AreInside pages parts
-    → ActingKeeps (IsDeviceAct true no_call port pages) (IsTaken filler pages k parts) (taken_by Second parts e)
+    → ActingKeeps (IsDeviceAct true no_call port pages) (IsTaken filler pages k) (taken_by Second parts e)
 byte_read port pages k parts e few inside =
     let mine = filter_inside pages (λ (part : Part). not part.writable) parts inside in
-    keeps_either (IsDeviceAct true no_call port pages) (IsTaken filler pages k parts) (total (readable parts) == 0) _ _
+    keeps_either (IsDeviceAct true no_call port pages) (IsTaken filler pages k) (total (readable parts) == 0) _ _
     (λ none. tt)
     (λ some. performing_keeps (IsDeviceAct true no_call port pages)
-    (λ (got : Got). AreInside pages got.parts × Any {A = Got} got) (IsTaken filler pages k parts)
+    (λ (got : Got). AreInside pages got.parts × Any {A = Got} got) (IsTaken filler pages k)
     (collect_all 1 [] (readable parts)) e _
     (keeps_both (IsInside pages) (IsAskedBy true no_call port) (λ (got : Got). AreInside pages got.parts) (Any {A = Got})
     (collect_all 1 [] (readable parts)) (collect_all_keeps pages 1 [] (readable parts) few mine)
     (collect_all_asks (IsAskedBy true no_call port) (reads port) 1 [] (readable parts)))
-    (λ f got from. (from.0, refl)))
+    (λ f got from. (tt, from.0, refl)))
 
 take : (port pages : ℕ) (k : Which) (parts : List Part) (e : Filler) → pages < 2 ^ 32 → AreInside pages parts
-    → ActingKeeps (IsDeviceAct true no_call port pages) (IsTaken filler pages k parts) (taken_by k parts e)
-take port pages First parts e few inside = (tt, refl)
+    → ActingKeeps (IsDeviceAct true no_call port pages) (IsTaken filler pages k) (taken_by k parts e)
+take port pages First parts e few inside = (inside, tt, refl)
 take port pages Second parts e few inside = byte_read port pages Second parts e few inside
 take port pages Third parts e few inside = byte_read port pages Third parts e few inside
 

@@ -1,2 +1,3 @@
 pub mod Filler
 pub mod Passing
+pub mod Resuming

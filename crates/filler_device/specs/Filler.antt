@@ -9,9 +9,9 @@ use Rattle.vq_split.specs.declared.queue.Part.{Part}
 use Rattle.dev_core.specs.Pieces.{Got, collect_all, put_all, readable, total, writable}
 use Rattle.rate_gate.specs.Gate.{Buckets, gate_takes, gate_took, is_limited, with_buckets}
 use Rattle.queue_device.specs.declared.lanes.Which.{Which}
-use Rattle.queue_device.specs.declared.lanes.Which.TheVariants.{First, Third}
+use Rattle.queue_device.specs.declared.lanes.Which.TheVariants.{First, Second, Third}
 use Rattle.queue_device.specs.Acting.{Acting, Comes, performing}
-use Rattle.queue_device.specs.Chains.{Chain}
+use Rattle.queue_device.specs.Chains.{Chain, Taken}
 use Rattle.queue_device.specs.Lanes.{new_rounds}
 use Rattle.queue_device.specs.Rounds.{queue_rules}
 use Rattle.queue_device.specs.Service.{Queued, Service}
@@ -34,12 +34,16 @@ filled c = min 64 (total (writable c.parts))
 abbrev pub no_bytes : Got
 no_bytes = record { bytes = []; parts = [] }
 
+-- a chain of which the bytes that were read are kept, and no other part
+abbrev pub only_read : Got → Taken
+only_read got = record { parts = []; got = got }
+
 -- of the first queue's chains nothing is read, of any other's one byte
-abbrev pub taken_by : Which → List Part → Filler → Acting Filler (Option Got)
-taken_by First parts e = Comes e (Some no_bytes)
+abbrev pub taken_by : Which → List Part → Filler → Acting Filler (Option Taken)
+taken_by First parts e = Comes e (Some (record { parts = parts; got = no_bytes }))
 taken_by k parts e =
     if total (readable parts) == 0 then Comes e None
-    else performing (collect_all 1 [] (readable parts)) e (λ f got. Comes f (Some got))
+    else performing (collect_all 1 [] (readable parts)) e (λ f got. Comes f (Some (only_read got)))
 
 abbrev pub served_by : Which → Chain → Filler → Acting Filler (Option ℕ)
 served_by First c e =
@@ -66,6 +70,8 @@ timed_of k e = false
 
 abbrev pub filler : Service Filler
 filler = record {
+  last = Second;
+  may_ask = false;
   asks = λ e. false;
   question = λ e. Op.Idle;
   answer = λ e reply. Comes e false;

@@ -1,22 +1,22 @@
 // What the filler does, beside its rounds.
-ghost use Rattle.std.specs.Prelude.{◌≡◌, ◌≤◌, min, replicate, true, false, Some, None, get_or};
+ghost use Rattle.std.specs.Prelude.{◌≡◌, ◌≤◌, min, replicate, true, false, Some, None, [], get_or};
 ghost use Rattle.device_trace.specs.Traces.{setting};
 ghost use Rattle.dev_core.specs.Pieces.{total, writable};
 ghost use Rattle.dev_core.specs.Collecting.{collect_left};
 ghost use Rattle.rate_gate.specs.Gate.{gate_takes, gate_took};
 ghost use Rattle.queue_device.specs.Acting.{Comes, Works, performing};
-ghost use Rattle.queue_device.specs.Left.{TakeWorks};
 ghost use Rattle.queue_device.specs.Spilling.{spill_left};
-ghost use Rattle.filler_device.specs.Work.{hand_of};
+ghost use Rattle.filler_device.specs.Filler.{only_read};
+ghost use Rattle.filler_device.specs.Work.{hand_of, is_work};
 
 use dev_core::{Collect, Gather, Held, readable, total, writable};
-use queue_device::{Begin, Kind, Spill, TakenChain, Which};
+use queue_device::{Begin, Kind, Spill, TakenChain, TakenParts, Which, Work};
 use rate_gate::{Pass, RateGate};
 use std::marker::Model;
 use std::mem::replace;
 use token_bucket::Bucket;
 use vm_types::{Op, Piece, Reply};
-use vq_split::PartList;
+use vq_split::{PartList, are_inside};
 
 /// What the API may change.
 #[derive(Drop)]
@@ -96,12 +96,12 @@ impl FillerKind {
     }
 
     // The byte is read, as long as it isn't there.
-    fn read(&mut self, from: Collect) -> Option<Option<Collect>>
-        ensures { TakeWorks (performing (collect_left 1 from) self.old.own (λ e got. Comes e (Some got)))
-            result self.new.own (hand_of self.new) }
+    fn read(&mut self, from: Collect) -> Option<Option<TakenParts>>
+        ensures { Works (performing (collect_left 1 from) self.old.own (λ e got. Comes e (Some (only_read got))))
+            result self.new.own (hand_of self.new.stage).op (hand_of self.new.stage).taking }
     {
         if from.is_done(1) {
-            return Some(Some(from));
+            return Some(Some(TakenParts::new(PartList::new(), from)));
         }
         self.stage = Stage::Take(from);
         None
@@ -110,7 +110,7 @@ impl FillerKind {
     // The bytes are written, as long as there are some.
     fn fill(&mut self, spill: Spill, len: u32) -> Option<Option<u32>>
         ensures { Works (performing (spill_left spill) self.old.own (λ e left. Comes e (Some len)))
-            result self.new.own (hand_of self.new).op (hand_of self.new).serving }
+            result self.new.own (hand_of self.new.stage).op (hand_of self.new.stage).serving }
     {
         if spill.is_done() {
             return Some(Some(len));
@@ -143,7 +143,8 @@ fn first_of(bytes: &[u8]) -> u8
 impl Kind for FillerKind {
     ghost use Rattle.device_trace.specs.Traces.{setting};
     ghost use Rattle.filler_device.specs.Filler.{Filler, filler, limited, no_call};
-    ghost use Rattle.filler_device.specs.Work.{hand_of};
+    ghost use Rattle.filler_device.specs.Work.{AnyFiller, hand_of, is_work};
+    ghost use Rattle.filler_device.specs.declared.kind.Stage.{Stage};
     ghost use Rattle.std.specs.Prelude.{true};
 
     type Change = FillerChange;
@@ -158,9 +159,59 @@ impl Kind for FillerKind {
 
     ghost calls = { no_call };
 
+    ghost Stage = { Stage };
+
     ghost own = { λ k. k.own };
 
+    ghost stage = { λ k. k.stage };
+
     ghost hand = { hand_of };
+
+    ghost is_work = { is_work };
+
+    ghost IsFine = { AnyFiller };
+
+    fn last(&self) -> Which {
+        Which::Second
+    }
+
+    fn may_ask(&self) -> bool {
+        false
+    }
+
+    fn may_wait(&self) -> bool {
+        true
+    }
+
+    fn is_taken(&self, which: Which, chain: &TakenChain) -> bool {
+        let _ = which;
+        let _ = chain;
+        true
+    }
+
+    fn is_work(&self, work: Work, pages: u32) -> bool {
+        match work {
+            Work::Rest => matches!(self.stage, Stage::Rest),
+            Work::Answer => false,
+            Work::Take(_) => match &self.stage {
+                Stage::Take(from) => {
+                    from.held.as_slice().len() < 1
+                        && 0 < from.from.room()
+                        && are_inside(pages, from.from.parts())
+                        && from.from.parts().len() <= 256
+                }
+                _ => false,
+            },
+            Work::Serve(_) => match &self.stage {
+                Stage::Fill(spill, _) => {
+                    0 < spill.share()
+                        && are_inside(pages, spill.to.parts())
+                        && spill.to.parts().len() <= 256
+                }
+                _ => false,
+            },
+        }
+    }
 
     fn want(&self) -> Op {
         match &self.stage {
@@ -199,11 +250,11 @@ impl Kind for FillerKind {
         let _ = which;
     }
 
-    fn take(&mut self, which: Which, parts: &PartList) -> Option<Option<Collect>> {
+    fn take(&mut self, which: Which, parts: PartList) -> Option<Option<TakenParts>> {
         match which {
-            Which::First => Some(Some(Collect::new())),
+            Which::First => Some(Some(TakenParts::new(parts, Collect::new()))),
             Which::Second | Which::Third => {
-                let reads = readable(parts);
+                let reads = readable(&parts);
                 if total(reads.as_slice()) == 0 {
                     return Some(None);
                 }
@@ -216,7 +267,7 @@ impl Kind for FillerKind {
         }
     }
 
-    fn take_on(&mut self, reply: &Reply) -> Option<Option<Collect>> {
+    fn take_on(&mut self, reply: &Reply) -> Option<Option<TakenParts>> {
         match replace(&mut self.stage, Stage::Rest) {
             Stage::Take(from) => {
                 let mut from = from;

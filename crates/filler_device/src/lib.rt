@@ -5,4 +5,4 @@ mod kind;
 mod law;
 
 pub use kind::{FillerChange, FillerKind};
-pub use law::{filler_stays, filler_waits};
+pub use law::{filler_goes_on, filler_kept, filler_stays, filler_waits};

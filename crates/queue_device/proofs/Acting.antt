@@ -1,7 +1,9 @@
 -- What acts keep, by how a tree is made.
-use Rattle.std.proofs.Common.{◌≡◌, refl, Bool, true, false, if◌then◌else◌}
+use Rattle.std.proofs.Common.{◌≡◌, refl, sym, subst, Bool, true, false, if◌then◌else◌, Some}
 use Rattle.vm_types.specs.declared.op.Op.{Op}
-use Rattle.device_trace.specs.Doing.{Doing, Gives, Wants}
+use Rattle.vm_types.specs.declared.reply.Reply.{Reply}
+use Rattle.vm_types.specs.Fits.{Fits}
+use Rattle.device_trace.specs.Doing.{Doing, Gives, Wants, asked, led}
 use Rattle.device_trace.specs.Keeps as trees
 use Rattle.device_trace.specs.Keeps.{Stays}
 use Rattle.device_trace.specs.Script.{Script}
@@ -36,3 +38,17 @@ module _ {E : Type 0} (P : Op → Type 0) where
       → (test ≡ true → ActingKeeps P R x) → (test ≡ false → ActingKeeps P R y) → ActingKeeps P R (if test then x else y)
   keeps_either R true x y on off = on refl
   keeps_either R false x y on off = off refl
+
+-- ---- what is performed, where it wants an act
+
+pub led_keeps : {A : Type 0} (P : Op → Type 0) (Q : A → Type 0) (t : Doing A) (op : Op) → asked t ≡ Some op
+    → trees.Keeps P Q t → P op × ((reply : Reply) → Fits op reply → trees.Keeps P Q (led t reply))
+led_keeps P Q (Gives a) op is keeps = absurd (cc)
+led_keeps P Q (Wants o on) op is keeps =
+    let same : o ≡ op = cc in
+    (subst P same keeps.0, λ reply fit. keeps.1 reply (subst (λ (x : Op). Fits x reply) (sym same) fit))
+
+pub performing_acts : {E A B : Type 0} (t : Doing A) (e : E) (more : E → A → Acting E B) (op : Op) → asked t ≡ Some op
+    → performing t e more ≡ Acts e op (λ f reply. performing (led t reply) f more)
+performing_acts (Gives a) e more op is = absurd (cc)
+performing_acts (Wants o on) e more op is = cc

@@ -25,7 +25,6 @@ use Rattle.vq_split.specs.Inside.{IsInside, AreInside, WalkInside}
 use Rattle.vq_split.specs.Walking.{IsSound}
 use Rattle.vq_split.proofs.Inside.{sound, walk_keeps}
 use Rattle.dev_core.specs.Inside.{Any}
-use Rattle.dev_core.specs.Pieces.{Got}
 use Rattle.dev_core.specs.Returns.{returned, broken}
 use Rattle.dev_core.proofs.Asking.{broken_asks, returned_asks, walk_asks}
 use Rattle.dev_core.proofs.Inside.{returned_keeps, broken_keeps}
@@ -34,7 +33,7 @@ use Rattle.queue_device.specs.declared.lanes.Due.TheVariants as due
 use Rattle.queue_device.specs.declared.lanes.Rounds.{Rounds}
 use Rattle.queue_device.specs.declared.lanes.Which.{Which}
 use Rattle.queue_device.specs.declared.lanes.Which.TheVariants.{First}
-use Rattle.queue_device.specs.Chains.{Chain}
+use Rattle.queue_device.specs.Chains.{Chain, Taken}
 use Rattle.queue_device.specs.Confined.{Confines, HasRounds, IsChain, IsConfined, IsDeviceAct, IsTaken, LeavesRounds}
 use Rattle.queue_device.specs.Confined.{are_rounds, is_queue, is_waiting}
 use Rattle.queue_device.specs.Lanes.{busy, in_lane, is_running, lane_counted, lane_emptied, lane_freed, lane_given, lane_of}
@@ -66,16 +65,16 @@ module _ {E C : Type 0} (s : Service E) (changing : Changing E C) (times : Bool)
 
   -- ---- data with the rounds of this device
 
-  same : (d : D) → S d d
+  pub same : (d : D) → S d d
   same d = refl
 
-  again : (d e f : D) → S d e → S e f → S d f
+  pub again : (d e f : D) → S d e → S e f → S d f
   again d e f before after = after ∙ before
 
-  kept : (d e : D) → R d → S d e → R e
+  pub kept : (d e : D) → R d → S d e → R e
   kept d e is left = subst (λ (r : Rounds). are_rounds s port pages r ≡ true) (sym left) is
 
-  on : (k : Which) (d : D) → R d → R (on_from s k d)
+  pub on : (k : Which) (d : D) → R d → R (on_from s k d)
   on k d is = next_are s port pages (due_from s k d) d.rounds is
 
   behind : (k : Which) (d : D) → R d → R (on_behind s k d)
@@ -90,7 +89,7 @@ module _ {E C : Type 0} (s : Service E) (changing : Changing E C) (times : Bool)
   freed : (k : Which) (r : Rounds) → are_rounds s port pages r ≡ true → are_rounds s port pages (in_lane k lane_freed r) ≡ true
   freed k r is = lane_in s port pages k lane_freed r is (λ fine. lane_held s port pages k None (lane_of k r) refl fine)
 
-  given : (k : Which) (d : D) → R d → R (given_back s k d)
+  pub given : (k : Which) (d : D) → R d → R (given_back s k d)
   given k d is =
       on k (at_own (s.over k) (at_rounds busy (at_rounds (in_lane k lane_given) d)))
       (lane_in s port pages k lane_given d.rounds is (λ fine. fine))
@@ -103,16 +102,16 @@ module _ {E C : Type 0} (s : Service E) (changing : Changing E C) (times : Bool)
 
   -- ---- acts
 
-  at_port : (d : D) → R d → d.rounds.port ≡ port
+  pub at_port : (d : D) → R d → d.rounds.port ≡ port
   at_port d is = (rounds_of s port pages d.rounds is).port_is
 
-  line : IsAskedBy times calls port (Board RaiseLine)
+  pub line : IsAskedBy times calls port (Board RaiseLine)
   line = inr (refl, tt)
 
-  reads : (at len : ℕ) → IsAskedBy times calls port (Op.Read at len)
+  pub reads : (at len : ℕ) → IsAskedBy times calls port (Op.Read at len)
   reads at len = inr (tt, tt)
 
-  writes : (at : ℕ) (piece : List ℕ) → IsAskedBy times calls port (Op.Write at piece)
+  pub writes : (at : ℕ) (piece : List ℕ) → IsAskedBy times calls port (Op.Write at piece)
   writes at piece = inr (tt, tt)
 
   broken_stay : (k : Which) (d : D) → R d → Confined (round_broken s k d)
@@ -139,7 +138,7 @@ module _ {E C : Type 0} (s : Service E) (changing : Changing E C) (times : Bool)
 
   -- ---- a chain
 
-  served_stays : (k : Which) (q : Queue) (head : ℕ) (d : D) (len : Option ℕ) → R d → IsSound q → q.pages ≡ pages
+  pub served_stays : (k : Which) (q : Queue) (head : ℕ) (d : D) (len : Option ℕ) → R d → IsSound q → q.pages ≡ pages
       → Confined (served s k q head d len)
   served_stays k q head d None is fine of_pages = broken_stay k d is
   served_stays k q head d (Some len) is fine of_pages = returned_stays k q head d len is fine of_pages
@@ -174,21 +173,21 @@ module _ {E C : Type 0} (s : Service E) (changing : Changing E C) (times : Bool)
       ))
       (λ free. serving_stays k c (at_rounds (in_lane k lane_freed) d) (freed k d.rounds is) chain)
 
-  took_stays : (k : Which) (q : Queue) (head : ℕ) (parts : List Part) (d : D) (o : Option Got) → R d → IsSound q
-      → q.pages ≡ pages → AreInside pages parts → IsTaken s pages k parts o → Confined (took s k q head parts d o)
-  took_stays k q head parts d None is fine of_pages inside held = broken_stay k d is
-  took_stays k q head parts d (Some got) is fine of_pages inside held =
-      taken_stays k (record { queue = q; head = head; parts = parts; got = got }) d is
-      (record { pages_are = of_pages; sound = fine; parts = inside; got = held.0; taken = held.1 })
+  pub took_stays : (k : Which) (q : Queue) (head : ℕ) (d : D) (o : Option Taken) → R d → IsSound q → q.pages ≡ pages
+      → IsTaken s pages k o → Confined (took s k q head d o)
+  took_stays k q head d None is fine of_pages held = broken_stay k d is
+  took_stays k q head d (Some t) is fine of_pages held =
+      taken_stays k (record { queue = q; head = head; parts = t.parts; got = t.got }) d is
+      (record { pages_are = of_pages; sound = fine; parts = held.0; got = held.1; taken = held.2 })
 
   taking_stays : (k : Which) (q : Queue) (head : ℕ) (parts : List Part) (d : D) → R d → IsSound q
       → q.pages ≡ pages → AreInside pages parts → Confined (taking s k q head parts d)
   taking_stays k q head parts d is fine of_pages inside =
-      stays_during P R (IsTaken s pages k parts) (s.take k parts d.own) d.rounds (took s k q head parts) kept (λ e. is)
+      stays_during P R (IsTaken s pages k) (s.take k parts d.own) d.rounds (took s k q head) kept (λ e. is)
       (kind.take port pages k parts d.own few inside)
-      (λ e got has held. took_stays k q head parts e got has fine of_pages inside held)
+      (λ e t has held. took_stays k q head e t has fine of_pages held)
 
-  walked_stays : (k : Which) (q : Queue) (d : D) (came : Walk) → R d → IsSound q → q.pages ≡ pages
+  pub walked_stays : (k : Which) (q : Queue) (d : D) (came : Walk) → R d → IsSound q → q.pages ≡ pages
       → WalkInside pages came → Confined (walked s k q d came)
   walked_stays k q d (walk.Chain head parts) is fine of_pages inside =
       taking_stays k q head parts (at_rounds (in_lane k lane_counted) d) (counted k d is) fine of_pages inside
@@ -233,7 +232,7 @@ module _ {E C : Type 0} (s : Service E) (changing : Changing E C) (times : Bool)
   lane_stays k (Some q) None d is queue waiting = begun_stays k q (queue_flaw q) d refl is (eqb-true _ _ queue)
 
   from_on : (asks : Bool) (d : D) → R d → R (round_from s asks d)
-  from_on asks d is = from_by (asks && s.asks d.own)
+  from_on asks d is = from_by (asks && s.may_ask && s.asks d.own)
     where
       from_by : (test : Bool) → R (if test then at_rounds (with_due due.Question) d else on_from s First d)
       from_by true = is
@@ -246,8 +245,8 @@ module _ {E C : Type 0} (s : Service E) (changing : Changing E C) (times : Bool)
   looked_on : (reply : Reply) (d : D) → R d → R (looked s reply d)
   looked_on (Reply.Port look) d is =
       let e : D = if look.was_reset then at_own s.reset d else d in
-      from_on (is_running look.status) (at_rounds (round_begun look) e)
-      (begun_are s port pages look e.rounds (reset_on look.was_reset d is))
+      from_on (is_running look.status) (at_rounds (round_begun s.last look) e)
+      (begun_are s port pages s.last look e.rounds (reset_on look.was_reset d is))
   looked_on reply d is = is
 
   look_stays : (d : D) → R d → Confined (look_begins s d)
@@ -256,7 +255,7 @@ module _ {E C : Type 0} (s : Service E) (changing : Changing E C) (times : Bool)
   wait_stays : (d : D) → R d → Confined (wait_begins s d)
   wait_stays d is = ((tt, inr (tt, tt)), λ e reply left fit. kept d e is left)
 
-  busy_by : (received : Bool) (d : D) → R d → R (if received then at_rounds busy d else d)
+  pub busy_by : (received : Bool) (d : D) → R d → R (if received then at_rounds busy d else d)
   busy_by true d is = is
   busy_by false d is = is
 
@@ -266,7 +265,7 @@ module _ {E C : Type 0} (s : Service E) (changing : Changing E C) (times : Bool)
     λ e reply left fit.
         stays_during P R (λ (received : Bool). Unit {0}) (s.answer e.own reply) e.rounds (answered s) kept
         (λ f. kept d e is left) (kind.answer port pages d.own e.own reply fit)
-        (λ f received has any. on First _ (busy_by received f has)),
+        (λ f received has any. on First (if received then at_rounds busy f else f) (busy_by received f has)),
   )
 
   over_stays : (test : Bool) (d : D) → R d → Confined (over_begins s test d)

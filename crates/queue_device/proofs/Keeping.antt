@@ -11,8 +11,8 @@ use Rattle.queue_device.specs.declared.lanes.Rounds.{Rounds}
 use Rattle.queue_device.specs.declared.lanes.Which.{Which}
 use Rattle.queue_device.specs.declared.lanes.Which.TheVariants.{First, Second, Third}
 use Rattle.queue_device.specs.Chains.{Chain}
-use Rattle.queue_device.specs.Confined.{IsChain, are_rounds, is_chain, is_lane, is_queue, is_waiting}
-use Rattle.queue_device.specs.Lanes.{in_lane, lane_closed, lane_looked, lane_of, lane_reset, new_rounds}
+use Rattle.queue_device.specs.Confined.{IsChain, are_lanes, are_rounds, is_chain, is_lane, is_queue, is_waiting}
+use Rattle.queue_device.specs.Lanes.{in_lane, is_up_to, lane_closed, lane_looked, lane_of, lane_reset, lane_seen, new_rounds}
 use Rattle.queue_device.specs.Lanes.{next_rounds, round_begun, round_over, with_lane}
 use Rattle.queue_device.specs.Service.{Service}
 
@@ -64,9 +64,10 @@ module _ {E : Type 0} (s : Service E) where
         and_from _ _ (shown_queue (is_workable status shown) shown)
         (and_parts (is_queue s pages l.queue) (is_waiting s pages k l.waiting) is).1
 
-    reset_looked : (k : Which) (look : PortLook) (shown : QueueShown) (l : Lane) → is_lane s pages k l ≡ true
-        → is_lane s pages k (lane_looked pages look.status shown (lane_reset look.was_reset l)) ≡ true
-    reset_looked k look shown l is = looked_lane k look.status shown (lane_reset look.was_reset l) (reset_lane k look.was_reset l is)
+    seen_lane : (k : Which) (has : Bool) (look : PortLook) (shown : QueueShown) (l : Lane) → is_lane s pages k l ≡ true
+        → is_lane s pages k (lane_seen has pages look shown l) ≡ true
+    seen_lane k true look shown l is = looked_lane k look.status shown (lane_reset look.was_reset l) (reset_lane k look.was_reset l is)
+    seen_lane k false look shown l is = is
 
   -- ---- rounds
 
@@ -80,17 +81,16 @@ module _ {E : Type 0} (s : Service E) where
   module _ (port pages : ℕ) where
     pub rounds_of : (r : Rounds) → are_rounds s port pages r ≡ true → AreRounds port pages r
     rounds_of r are =
-        let h4 = and_parts _ (is_lane s pages Third r.third) are in
-        let h3 = and_parts _ (is_lane s pages Second r.second) h4.0 in
-        let h2 = and_parts _ (is_lane s pages First r.first) h3.0 in
+        let h2 = and_parts _ (are_lanes s pages r) are in
         let h1 = and_parts (r.port == port) (r.pages == pages) h2.0 in
-        record { port_is = eqb-true _ _ h1.0; pages_are = eqb-true _ _ h1.1; first = h2.1; second = h3.1; third = h4.1 }
+        let l2 = and_parts _ (is_lane s pages Third r.third) h2.1 in
+        let l1 = and_parts (is_lane s pages First r.first) (is_lane s pages Second r.second) l2.0 in
+        record { port_is = eqb-true _ _ h1.0; pages_are = eqb-true _ _ h1.1; first = l1.0; second = l1.1; third = l2.1 }
 
     pub test_of : (r : Rounds) → AreRounds port pages r → are_rounds s port pages r ≡ true
     test_of r is =
-        and_from _ _
-        (and_from _ _ (and_from _ _ (and_from _ _ (is_eq _ _ is.port_is) (is_eq _ _ is.pages_are)) is.first) is.second)
-        is.third
+        and_from _ _ (and_from _ _ (is_eq _ _ is.port_is) (is_eq _ _ is.pages_are))
+        (and_from _ _ (and_from _ _ is.first is.second) is.third)
 
     pub new_are : are_rounds s port pages (new_rounds port pages) ≡ true
     new_are =
@@ -142,25 +142,25 @@ module _ {E : Type 0} (s : Service E) where
     next_are (Some k) r are = are
     next_are None r are = over_are r are
 
-    looked_of : (look : PortLook) (r : Rounds) → are_rounds s port pages r ≡ true
-        → AreRounds port pages (round_begun look r)
-    looked_of look r are =
+    looked_of : (last : Which) (look : PortLook) (r : Rounds) → are_rounds s port pages r ≡ true
+        → AreRounds port pages (round_begun last look r)
+    looked_of last look r are =
         let it = rounds_of r are in
         let here : r.pages ≡ pages = it.pages_are in
         record {
           port_is = it.port_is;
           pages_are = it.pages_are;
           first =
-              subst (λ (m : ℕ). is_lane s pages First (lane_looked m look.status look.first (lane_reset look.was_reset r.first)) ≡ true)
-              (sym here) (reset_looked pages First look look.first r.first it.first);
+              subst (λ (m : ℕ). is_lane s pages First (lane_seen (is_up_to last First) m look look.first r.first) ≡ true)
+              (sym here) (seen_lane pages First (is_up_to last First) look look.first r.first it.first);
           second =
-              subst (λ (m : ℕ). is_lane s pages Second (lane_looked m look.status look.second (lane_reset look.was_reset r.second)) ≡ true)
-              (sym here) (reset_looked pages Second look look.second r.second it.second);
+              subst (λ (m : ℕ). is_lane s pages Second (lane_seen (is_up_to last Second) m look look.second r.second) ≡ true)
+              (sym here) (seen_lane pages Second (is_up_to last Second) look look.second r.second it.second);
           third =
-              subst (λ (m : ℕ). is_lane s pages Third (lane_looked m look.status look.third (lane_reset look.was_reset r.third)) ≡ true)
-              (sym here) (reset_looked pages Third look look.third r.third it.third);
+              subst (λ (m : ℕ). is_lane s pages Third (lane_seen (is_up_to last Third) m look look.third r.third) ≡ true)
+              (sym here) (seen_lane pages Third (is_up_to last Third) look look.third r.third it.third);
         }
 
-    pub begun_are : (look : PortLook) (r : Rounds) → are_rounds s port pages r ≡ true
-        → are_rounds s port pages (round_begun look r) ≡ true
-    begun_are look r are = test_of (round_begun look r) (looked_of look r are)
+    pub begun_are : (last : Which) (look : PortLook) (r : Rounds) → are_rounds s port pages r ≡ true
+        → are_rounds s port pages (round_begun last look r) ≡ true
+    begun_are last look r are = test_of (round_begun last look r) (looked_of last look r are)

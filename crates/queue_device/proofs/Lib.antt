@@ -1,5 +1,11 @@
 pub mod Acting
 pub mod Confined
+pub mod GoesOn
 pub mod Keeping
+pub mod KeptRounds
+pub mod KeptStays
+pub mod Pieces
+pub mod Places
 pub mod Spilling
 pub mod Steps
+pub mod Walks

@@ -1,12 +1,11 @@
 -- What is wanted inside a group, and where a reply leads.
-use Rattle.std.proofs.Common.{◌≡◌, ℕ, refl, sym, subst, ◌∙◌, true, false, List, Some}
+use Rattle.std.proofs.Common.{◌≡◌, ℕ, refl, sym, subst, ◌∙◌, true, false, Some}
 use Rattle.vm_types.specs.declared.op.Op.{Op}
 use Rattle.vm_types.specs.declared.reply.Reply.{Reply}
 use Rattle.vm_types.specs.Fits.{fits}
 use Rattle.device_trace.specs.Doing.{Doing, Gives, Wants, asked, led}
 use Rattle.device_trace.specs.Script.{Script, Ends, Asks, perform}
 use Rattle.device_trace.specs.Traces.{root_next, root_op}
-use Rattle.vq_split.specs.declared.queue.Part.{Part}
 use Rattle.vq_split.specs.Walking.{Walking, walk_left}
 use Rattle.dev_core.specs.declared.breaking.BreakStage.{BreakStage}
 use Rattle.dev_core.specs.declared.returning.ReturnStage.{ReturnStage}
@@ -67,11 +66,11 @@ module _ {E : Type 0} (s : Service E) (h : Hand E) (r : Rounds) (p : Phase) (op 
       (subst (λ (o : Op). Holds s phase.Question h r o) (sym same)
       (λ e reply. during (h.answering e.own reply) e.rounds (answered s), λ e. refl))
 
-  pub holds_take : (c : InHand) (parts : List Part) → p ≡ phase.Take c parts → op ≡ h.op → Holds s p h r op
-  holds_take c parts is same =
+  pub holds_take : (c : InHand) → p ≡ phase.Take c → op ≡ h.op → Holds s p h r op
+  holds_take c is same =
       subst (λ (x : Phase). Holds s x h r op) (sym is)
-      (subst (λ (o : Op). Holds s (phase.Take c parts) h r o) (sym same)
-      (λ e reply. during (h.taking e.own reply) e.rounds (took s c.which c.queue c.head parts), λ e. refl))
+      (subst (λ (o : Op). Holds s (phase.Take c) h r o) (sym same)
+      (λ e reply. during (h.taking e.own reply) e.rounds (took s c.which c.queue c.head), λ e. refl))
 
   pub holds_serve : (c : InHand) → p ≡ phase.Serve c → op ≡ h.op → Holds s p h r op
   holds_serve c is same =

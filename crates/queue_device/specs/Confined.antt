@@ -13,13 +13,12 @@ use Rattle.vq_split.specs.declared.queue.Part.{Part}
 use Rattle.vq_split.specs.Inside.{AreInside, IsInside}
 use Rattle.vq_split.specs.Kept.{are_inside, is_sound}
 use Rattle.vq_split.specs.Walking.{IsSound}
-use Rattle.dev_core.specs.Pieces.{Got}
 use Rattle.queue_device.specs.declared.lanes.Lane.{Lane}
 use Rattle.queue_device.specs.declared.lanes.Rounds.{Rounds}
 use Rattle.queue_device.specs.declared.lanes.Which.{Which}
 use Rattle.queue_device.specs.declared.lanes.Which.TheVariants.{First, Second, Third}
 use Rattle.queue_device.specs.Acting.{ActingKeeps}
-use Rattle.queue_device.specs.Chains.{Chain}
+use Rattle.queue_device.specs.Chains.{Chain, Taken}
 use Rattle.queue_device.specs.Service.{Queued, Service}
 
 -- An act of the device at this port, which asks its host object for these calls alone, or the question for guest time, where
@@ -51,11 +50,12 @@ module _ {E : Type 0} (s : Service E) where
   abbrev pub is_lane : ℕ → Which → Lane → Bool
   is_lane pages k l = is_queue pages l.queue && is_waiting pages k l.waiting
 
+  abbrev pub are_lanes : ℕ → Rounds → Bool
+  are_lanes pages r = is_lane pages First r.first && is_lane pages Second r.second && is_lane pages Third r.third
+
   -- the rounds of the device at this port of a guest of so many pages
   abbrev pub are_rounds : ℕ → ℕ → Rounds → Bool
-  are_rounds port pages r =
-      (r.port == port) && (r.pages == pages)
-      && is_lane pages First r.first && is_lane pages Second r.second && is_lane pages Third r.third
+  are_rounds port pages r = (r.port == port) && (r.pages == pages) && are_lanes pages r
 
   abbrev pub HasRounds : ℕ → ℕ → Queued E → Type 0
   HasRounds port pages d = are_rounds port pages d.rounds ≡ true
@@ -67,10 +67,11 @@ module _ {E : Type 0} (s : Service E) where
 
   -- ---- what a kind owes
 
-  -- what was read of a chain lies inside RAM, and the chain may be served
-  abbrev pub IsTaken : ℕ → Which → List Part → Option Got → Type 0
-  IsTaken pages k parts None = Unit {0}
-  IsTaken pages k parts (Some got) = AreInside pages got.parts × (s.is_taken k parts got ≡ true)
+  -- what is kept of a chain that was taken lies inside RAM, and the chain may be served
+  abbrev pub IsTaken : ℕ → Which → Option Taken → Type 0
+  IsTaken pages k None = Unit {0}
+  IsTaken pages k (Some t) =
+      AreInside pages t.parts × AreInside pages t.got.parts × (s.is_taken k t.parts t.got ≡ true)
 
   -- a chain inside RAM, of a queue that a device may work on
   pub record IsChain (pages : ℕ) (k : Which) (c : Chain) : Type 0 where
@@ -87,7 +88,7 @@ module _ {E : Type 0} (s : Service E) where
     pub answer : (port pages : ℕ) (before e : E) (reply : Reply) → Fits (s.question before) reply →
         ActingKeeps (IsDeviceAct times calls port pages) (λ (received : Bool). Unit {0}) (s.answer e reply)
     pub take : (port pages : ℕ) (k : Which) (parts : List Part) (e : E) → pages < 2 ^ 32 → AreInside pages parts →
-        ActingKeeps (IsDeviceAct times calls port pages) (IsTaken pages k parts) (s.take k parts e)
+        ActingKeeps (IsDeviceAct times calls port pages) (IsTaken pages k) (s.take k parts e)
     pub serve : (port pages : ℕ) (k : Which) (c : Chain) (e : E) → pages < 2 ^ 32 → IsChain pages k c →
         ActingKeeps (IsDeviceAct times calls port pages) (λ (len : Option ℕ). Unit {0}) (s.serve k c e)
     pub untimed : times ≡ false → (k : Which) (c : Chain) (e : E) → s.is_timed k c e ≡ false

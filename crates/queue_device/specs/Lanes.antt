@@ -26,6 +26,16 @@ new_rounds port pages = record {
   is_busy = false;
 }
 
+-- of the queues up to the last one
+abbrev pub is_up_to : Which → Which → Bool
+is_up_to Third k = true
+is_up_to Second First = true
+is_up_to Second Second = true
+is_up_to Second Third = false
+is_up_to First First = true
+is_up_to First Second = false
+is_up_to First Third = false
+
 abbrev pub lane_of : Which → Rounds → Lane
 lane_of First r = r.first
 lane_of Second r = r.second
@@ -89,12 +99,17 @@ lane_looked pages status shown lane = record lane {
 abbrev pub lane_closed : Lane → Lane
 lane_closed lane = record lane { queue = None }
 
--- a look begins a round
-abbrev pub round_begun : PortLook → Rounds → Rounds
-round_begun look r = record r {
-  first = lane_looked r.pages look.status look.first (lane_reset look.was_reset r.first);
-  second = lane_looked r.pages look.status look.second (lane_reset look.was_reset r.second);
-  third = lane_looked r.pages look.status look.third (lane_reset look.was_reset r.third);
+-- where the device has the queue
+abbrev pub lane_seen : Bool → ℕ → PortLook → QueueShown → Lane → Lane
+lane_seen has pages look shown lane =
+    if has then lane_looked pages look.status shown (lane_reset look.was_reset lane) else lane
+
+-- a look begins a round over the queues up to the last one
+abbrev pub round_begun : Which → PortLook → Rounds → Rounds
+round_begun last look r = record r {
+  first = lane_seen (is_up_to last First) r.pages look look.first r.first;
+  second = lane_seen (is_up_to last Second) r.pages look look.second r.second;
+  third = lane_seen (is_up_to last Third) r.pages look look.third r.third;
   is_busy = false;
 }
 

@@ -1,12 +1,10 @@
 -- What is left of a group, by what the code of a device is at.
-use Rattle.std.specs.Prelude.{◌≡◌, ℕ, Bool, true, false, Option, option_map}
+use Rattle.std.specs.Prelude.{◌≡◌, ℕ, Bool, true, false, Option}
 use Rattle.vm_types.specs.declared.op.Op.{Op}
 use Rattle.vm_types.specs.declared.reply.Reply.{Reply}
 use Rattle.device_trace.specs.Script.{Script, Ends, Asks, perform}
 use Rattle.vq_split.specs.Walking.{walk_left}
-use Rattle.dev_core.specs.declared.collect.Collect.{Collect}
 use Rattle.dev_core.specs.declared.returning.UsedChain.{UsedChain}
-use Rattle.dev_core.specs.Pieces.{Got}
 use Rattle.dev_core.specs.Returning.{break_left, return_left}
 use Rattle.queue_device.specs.declared.kind.Begin.{Begin}
 use Rattle.queue_device.specs.declared.kind.Begin.TheVariants as begin
@@ -14,8 +12,8 @@ use Rattle.queue_device.specs.declared.lanes.Rounds.{Rounds}
 use Rattle.queue_device.specs.declared.phase.InHand.{InHand}
 use Rattle.queue_device.specs.declared.phase.Phase.{Phase}
 use Rattle.queue_device.specs.declared.phase.Phase.TheVariants as phase
-use Rattle.queue_device.specs.Acting.{Acting, Acts, Comes, Works}
-use Rattle.queue_device.specs.Chains.{got_of}
+use Rattle.queue_device.specs.Acting.{Acting, Acts, Comes}
+use Rattle.queue_device.specs.Chains.{Taken}
 use Rattle.queue_device.specs.Lanes.{lane_of}
 use Rattle.queue_device.specs.Rounds.{answered, broken_off, during, given_back, served, took, walked}
 use Rattle.queue_device.specs.Service.{Queued, Service}
@@ -25,16 +23,13 @@ use Rattle.queue_device.specs.Service.{Queued, Service}
 pub record Hand (E : Type 0) : Type 0 where
   pub op : Op
   pub answering : E → Reply → Acting E Bool
-  pub taking : E → Reply → Acting E (Option Got)
+  pub taking : E → Reply → Acting E (Option Taken)
   pub serving : E → Reply → Acting E (Option ℕ)
 
 -- how acts begin
 abbrev pub begin_of : {E : Type 0} → Acting E (Option ℕ) → Begin
 begin_of (Comes e len) = begin.Comes len
 begin_of (Acts e op on) = begin.Wants op
-
-abbrev pub TakeWorks : {E : Type 0} → Acting E (Option Got) → Option (Option Collect) → E → Hand E → Type 0
-TakeWorks t told e h = Works t (option_map (option_map got_of) told) e h.op h.taking
 
 -- the chain in hand, as it is given back with so many bytes written
 abbrev pub used_chain : InHand → ℕ → Rounds → UsedChain
@@ -53,8 +48,8 @@ module _ {E : Type 0} (s : Service E) where
   left_at phase.Between h d = Ends d
   left_at phase.Question h d = Asks d h.op (λ e reply. during (h.answering e.own reply) e.rounds (answered s))
   left_at (phase.Walk k walk) h d = perform (walk_left walk) d (walked s k walk.queue)
-  left_at (phase.Take c parts) h d =
-      Asks d h.op (λ e reply. during (h.taking e.own reply) e.rounds (took s c.which c.queue c.head parts))
+  left_at (phase.Take c) h d =
+      Asks d h.op (λ e reply. during (h.taking e.own reply) e.rounds (took s c.which c.queue c.head))
   left_at (phase.Serve c) h d =
       Asks d h.op (λ e reply. during (h.serving e.own reply) e.rounds (served s c.which c.queue c.head))
   left_at (phase.Return c len stage) h d =

@@ -1,8 +1,10 @@
 pub mod Acting
 pub mod Chains
 pub mod Confined
+pub mod Kept
 pub mod Lanes
 pub mod Left
+pub mod Resuming
 pub mod Rounds
 pub mod Service
 pub mod Spilling

@@ -16,7 +16,6 @@ use Rattle.vq_split.specs.declared.queue.Why.{Why}
 use Rattle.vq_split.specs.declared.walk.Walk.{Walk}
 use Rattle.vq_split.specs.declared.walk.Walk.TheVariants as walk
 use Rattle.vq_split.specs.Chain.{queue_flaw, chain_walk, read_bytes}
-use Rattle.dev_core.specs.Pieces.{Got}
 use Rattle.dev_core.specs.Returns.{returned, broken}
 use Rattle.queue_device.specs.declared.lanes.Due.{Due}
 use Rattle.queue_device.specs.declared.lanes.Due.TheVariants as due
@@ -25,7 +24,7 @@ use Rattle.queue_device.specs.declared.lanes.Rounds.{Rounds}
 use Rattle.queue_device.specs.declared.lanes.Which.{Which}
 use Rattle.queue_device.specs.declared.lanes.Which.TheVariants.{First, Second, Third}
 use Rattle.queue_device.specs.Acting.{Acting, Acts, Comes}
-use Rattle.queue_device.specs.Chains.{Chain}
+use Rattle.queue_device.specs.Chains.{Chain, Taken}
 use Rattle.queue_device.specs.Lanes.{busy, in_lane, is_running, lane_counted, lane_emptied, lane_freed, lane_given, lane_of}
 use Rattle.queue_device.specs.Lanes.{lane_waiting, next_rounds, round_begun, round_over, with_due}
 use Rattle.queue_device.specs.Service.{Queued, Service}
@@ -113,12 +112,12 @@ module _ {E : Type 0} (s : Service E) where
       if s.is_timed k c d.own then Ends (at_rounds (with_due (due.Lane k)) (at_rounds (in_lane k (lane_waiting c)) d))
       else serving k c d
 
-  abbrev pub took : Which → Queue → ℕ → List Part → Queued E → Option Got → Script (Queued E)
-  took k q head parts d None = round_broken k d
-  took k q head parts d (Some got) = taken k (record { queue = q; head = head; parts = parts; got = got }) d
+  abbrev pub took : Which → Queue → ℕ → Queued E → Option Taken → Script (Queued E)
+  took k q head d None = round_broken k d
+  took k q head d (Some t) = taken k (record { queue = q; head = head; parts = t.parts; got = t.got }) d
 
   abbrev pub taking : Which → Queue → ℕ → List Part → Queued E → Script (Queued E)
-  taking k q head parts d = during (s.take k parts d.own) d.rounds (took k q head parts)
+  taking k q head parts d = during (s.take k parts d.own) d.rounds (took k q head)
 
   -- what a walk comes to
   abbrev pub walked : Which → Queue → Queued E → Walk → Script (Queued E)
@@ -164,12 +163,12 @@ module _ {E : Type 0} (s : Service E) where
   -- a look begins a round, under DRIVER_OK with the question
   abbrev pub round_from : Bool → Queued E → Queued E
   round_from is_running d =
-      if is_running && s.asks d.own then at_rounds (with_due due.Question) d else on_from First d
+      if is_running && s.may_ask && s.asks d.own then at_rounds (with_due due.Question) d else on_from First d
 
   abbrev pub looked : Reply → Queued E → Queued E
   looked (Reply.Port look) d =
       round_from (is_running look.status)
-      (at_rounds (round_begun look) (if look.was_reset then at_own s.reset d else d))
+      (at_rounds (round_begun s.last look) (if look.was_reset then at_own s.reset d else d))
   looked reply d = d
 
   abbrev pub look_begins : Queued E → Script (Queued E)

@@ -7,7 +7,7 @@ use Rattle.dev_core.specs.Pieces.{Got}
 use Rattle.queue_device.specs.declared.lanes.Rounds.{Rounds}
 use Rattle.queue_device.specs.declared.lanes.Which.{Which}
 use Rattle.queue_device.specs.Acting.{Acting}
-use Rattle.queue_device.specs.Chains.{Chain}
+use Rattle.queue_device.specs.Chains.{Chain, Taken}
 
 -- the data of a device: its rounds, and its kind's own data
 pub record Queued (E : Type 0) : Type 0 where
@@ -16,8 +16,11 @@ pub record Queued (E : Type 0) : Type 0 where
 
 -- A kind of device by its own data. Whatever is asked is judged by the data of that moment.
 pub record Service (E : Type 0) : Type 0 where
-  -- under DRIVER_OK a round asks the host object first, where there is something to ask: by which act, and whether its
-  -- answer is that something was received
+  -- the last of its queues
+  pub last : Which
+  -- Under DRIVER_OK a round asks the host object first, where the kind may ask it at all and there is something to ask: by
+  -- which act, and whether its answer is that something was received.
+  pub may_ask : Bool
   pub asks : E → Bool
   pub question : E → Op
   pub answer : E → Reply → Acting E Bool
@@ -25,9 +28,9 @@ pub record Service (E : Type 0) : Type 0 where
   pub wants_chain : Which → Bool → E → Bool
   -- the available ring shows a chain, which is so begun
   pub begun : Which → E → E
-  -- what is read of a chain before it may be served; none breaks the queue
-  pub take : Which → List Part → E → Acting E (Option Got)
-  -- a chain of these parts of which this was read may be served
+  -- what is kept of a chain of these parts, with what is read of it before it may be served; none breaks the queue
+  pub take : Which → List Part → E → Acting E (Option Taken)
+  -- a chain of which these parts and this are kept may be served
   pub is_taken : Which → List Part → Got → Bool
   -- guest time is asked for a chain that was taken
   pub is_timed : Which → Chain → E → Bool

@@ -38,8 +38,8 @@ fn look<K: Kind>(rounds: &mut Rounds, kind: &mut K, reply: &Reply)
         if look.was_reset {
             kind.reset();
         }
-        rounds.begin(look);
-        if is_running(look.status) && kind.asks() {
+        rounds.begin(kind.last(), look);
+        if is_running(look.status) && kind.may_ask() && kind.asks() {
             rounds.due = Due::Question;
         } else {
             let due = due_from(rounds, kind, Which::First);
@@ -51,7 +51,7 @@ fn look<K: Kind>(rounds: &mut Rounds, kind: &mut K, reply: &Reply)
 // The chain that waited is served.
 fn serve_freed<K: Kind>(rounds: &mut Rounds, kind: &mut K, which: Which) -> Phase
     ensures { (c : Chain) → (lane_of which rounds.old).waiting ≡ Some c →
-        left_at K.service result (K.hand kind.new) (queued rounds.new (K.own kind.new)) ≡
+        left_at K.service result (K.hand (K.stage kind.new)) (queued rounds.new (K.own kind.new)) ≡
         serving K.service which c (queued (in_lane which lane_freed rounds.old) (K.own kind.old)) }
 {
     match rounds.free(which) {
@@ -89,7 +89,7 @@ fn goes_on<K: Kind>(rounds: &mut Rounds, kind: &mut K, which: Which, reply: Repl
         fits (root_op (goes_on K.service which c (queued rounds.old (K.own kind.old)))) reply ≡ true }
     requires some { (c : Chain) × ((lane_of which rounds.old).waiting ≡ Some c) }
     ensures { (c : Chain) → (lane_of which rounds.old).waiting ≡ Some c →
-        left_at K.service result (K.hand kind.new) (queued rounds.new (K.own kind.new)) ≡
+        left_at K.service result (K.hand (K.stage kind.new)) (queued rounds.new (K.own kind.new)) ≡
         root_next (goes_on K.service which c (queued rounds.old (K.own kind.old))) reply }
 {
     if is_timed(rounds, kind, which) {
@@ -127,7 +127,7 @@ fn walk_begun<K: Kind>(
 ) -> Phase
     requires { fits (root_op (walk_begun K.service which queue (queue_flaw queue)
         (queued rounds.old (K.own kind.old)))) reply ≡ true }
-    ensures { left_at K.service result (K.hand kind.new) (queued rounds.new (K.own kind.new)) ≡
+    ensures { left_at K.service result (K.hand (K.stage kind.new)) (queued rounds.new (K.own kind.new)) ≡
         root_next (walk_begun K.service which queue (queue_flaw queue) (queued rounds.old (K.own kind.old))) reply }
 {
     let next = rounds.lane(which).next;
@@ -143,7 +143,7 @@ fn walk_begun<K: Kind>(
 
 fn lane_begun<K: Kind>(rounds: &mut Rounds, kind: &mut K, which: Which, reply: Reply) -> Phase
     requires { fits (root_op (next_begins K.service (Some which) (queued rounds.old (K.own kind.old)))) reply ≡ true }
-    ensures { left_at K.service result (K.hand kind.new) (queued rounds.new (K.own kind.new)) ≡
+    ensures { left_at K.service result (K.hand (K.stage kind.new)) (queued rounds.new (K.own kind.new)) ≡
         root_next (next_begins K.service (Some which) (queued rounds.old (K.own kind.old))) reply }
 {
     let lane = rounds.lane(which);
@@ -161,7 +161,7 @@ fn lane_begun<K: Kind>(rounds: &mut Rounds, kind: &mut K, which: Which, reply: R
 
 // The first reply where no queue has anything to do.
 fn over_begun<K: Kind>(rounds: &mut Rounds, kind: &mut K, reply: &Reply) -> Phase
-    ensures { left_at K.service result (K.hand kind.new) (queued rounds.new (K.own kind.new)) ≡
+    ensures { left_at K.service result (K.hand (K.stage kind.new)) (queued rounds.new (K.own kind.new)) ≡
         root_next (next_begins K.service None (queued rounds.old (K.own kind.old))) reply.now }
 {
     let is_busy = rounds.is_busy;
@@ -177,7 +177,7 @@ fn over_begun<K: Kind>(rounds: &mut Rounds, kind: &mut K, reply: &Reply) -> Phas
 /// The first reply of a group.
 pub fn begun<K: Kind>(rounds: &mut Rounds, kind: &mut K, reply: Reply) -> Phase
     requires { fits (root_op (begins K.service (queued rounds.old (K.own kind.old)))) reply ≡ true }
-    ensures { left_at K.service result (K.hand kind.new) (queued rounds.new (K.own kind.new)) ≡
+    ensures { left_at K.service result (K.hand (K.stage kind.new)) (queued rounds.new (K.own kind.new)) ≡
         root_next (begins K.service (queued rounds.old (K.own kind.old))) reply }
 {
     match rounds.due {

@@ -46,35 +46,66 @@ impl SoundQueue {
     }
 }
 
-/// A chain that was taken: the queue as it was then, the number of its first descriptor, its parts, and what was read of it
-/// before it may be served.
+/// What a kind keeps of a chain that it took: the parts that it still needs, and what it read.
 #[derive(Drop)]
-pub struct TakenChain {
-    queue: SoundQueue,
-    head: u16,
+pub struct TakenParts {
     parts: PartList,
     got: Collect,
 }
 
+impl Model for TakenParts {
+    ghost use Rattle.queue_device.specs.Chains.{Taken, got_of};
+
+    ghost Value = { Taken };
+
+    ghost view = { λ t. record { parts = t.parts; got = got_of t.got } };
+}
+
+impl TakenParts {
+    /// These parts, and this that was read.
+    pub fn new(parts: PartList, got: Collect) -> TakenParts
+        ensures { result ≡ record { parts = parts; got = got_of got } }
+    {
+        TakenParts { parts, got }
+    }
+
+    /// The parts.
+    pub fn parts(&self) -> &PartList
+        ensures { result.now ≡ self.now.parts }
+    {
+        &self.parts
+    }
+
+    /// What was read.
+    pub fn got(&self) -> &Collect
+        ensures { got_of result.now ≡ self.now.got }
+    {
+        &self.got
+    }
+}
+
+/// A chain that was taken: the queue as it was then, the number of its first descriptor, and what its kind keeps of it.
+#[derive(Drop)]
+pub struct TakenChain {
+    queue: SoundQueue,
+    head: u16,
+    taken: TakenParts,
+}
+
 impl Model for TakenChain {
-    ghost use Rattle.queue_device.specs.Chains.{Chain, got_of};
+    ghost use Rattle.queue_device.specs.Chains.{Chain};
 
     ghost Value = { Chain };
 
-    ghost view = { λ c. record { queue = c.queue; head = c.head; parts = c.parts; got = got_of c.got } };
+    ghost view = { λ c. record { queue = c.queue; head = c.head; parts = c.taken.parts; got = c.taken.got } };
 }
 
 impl TakenChain {
-    /// A chain of these parts, of which this was read.
-    pub fn new(queue: SoundQueue, head: u16, parts: PartList, got: Collect) -> TakenChain
-        ensures { result ≡ record { queue = queue; head = head; parts = parts; got = got_of got } }
+    /// A chain of which this is kept.
+    pub fn new(queue: SoundQueue, head: u16, taken: TakenParts) -> TakenChain
+        ensures { result ≡ record { queue = queue; head = head; parts = taken.parts; got = taken.got } }
     {
-        TakenChain {
-            queue,
-            head,
-            parts,
-            got,
-        }
+        TakenChain { queue, head, taken }
     }
 
     /// Its queue, as it was when the chain was taken.
@@ -91,17 +122,17 @@ impl TakenChain {
         self.head
     }
 
-    /// Its parts.
+    /// The parts of it that its kind still needs.
     pub fn parts(&self) -> &PartList
         ensures { result.now ≡ self.now.parts }
     {
-        &self.parts
+        self.taken.parts()
     }
 
     /// What was read of it before it may be served.
     pub fn got(&self) -> &Collect
         ensures { got_of result.now ≡ self.now.got }
     {
-        &self.got
+        self.taken.got()
     }
 }

@@ -27,7 +27,7 @@ pub struct QueueRounds<K> {
 impl<K: Kind> QueueRounds<K> {
     /// The device of this port that has done nothing, in a guest of so many pages.
     pub fn new(port: u8, pages: u32, kind: K) -> QueueRounds<K>
-        ensures { left_at K.service result.phase (K.hand result.kind) (queued result.rounds (K.own result.kind)) ≡
+        ensures { left_at K.service result.phase (K.hand (K.stage result.kind)) (queued result.rounds (K.own result.kind)) ≡
             Ends (queued (new_rounds port pages) (K.own kind)) }
     {
         QueueRounds {
@@ -40,10 +40,10 @@ impl<K: Kind> QueueRounds<K> {
     // Leads on by a reply that fits.
     fn step(&mut self, reply: Reply)
         requires { fits (wants (queue_rules K.service K.changing)
-            (left_at K.service self.old.phase (K.hand self.old.kind) (queued self.old.rounds (K.own self.old.kind)))) reply ≡ true }
-        ensures { left_at K.service self.new.phase (K.hand self.new.kind) (queued self.new.rounds (K.own self.new.kind)) ≡
+            (left_at K.service self.old.phase (K.hand (K.stage self.old.kind)) (queued self.old.rounds (K.own self.old.kind)))) reply ≡ true }
+        ensures { left_at K.service self.new.phase (K.hand (K.stage self.new.kind)) (queued self.new.rounds (K.own self.new.kind)) ≡
             stepped (queue_rules K.service K.changing)
-            (left_at K.service self.old.phase (K.hand self.old.kind) (queued self.old.rounds (K.own self.old.kind))) reply }
+            (left_at K.service self.old.phase (K.hand (K.stage self.old.kind)) (queued self.old.rounds (K.own self.old.kind))) reply }
     {
         match replace(&mut self.phase, Phase::Between) {
             Phase::Between => self.phase = begun(&mut self.rounds, &mut self.kind, reply),
@@ -56,9 +56,9 @@ impl<K: Kind> QueueRounds<K> {
 
     /// A change from outside.
     pub fn change(&mut self, change: K::Change)
-        ensures { left_at K.service self.new.phase (K.hand self.new.kind) (queued self.new.rounds (K.own self.new.kind)) ≡
+        ensures { left_at K.service self.new.phase (K.hand (K.stage self.new.kind)) (queued self.new.rounds (K.own self.new.kind)) ≡
             changed_at (queue_rules K.service K.changing) change
-            (left_at K.service self.old.phase (K.hand self.old.kind) (queued self.old.rounds (K.own self.old.kind))) }
+            (left_at K.service self.old.phase (K.hand (K.stage self.old.kind)) (queued self.old.rounds (K.own self.old.kind))) }
     {
         if let Phase::Between = &self.phase {
             self.kind.change(change);
@@ -81,7 +81,7 @@ impl<K: Kind> Actor for QueueRounds<K> {
 
     ghost State = { Script (Queued K.Own) };
 
-    ghost state = { λ d. left_at K.service d.phase (K.hand d.kind) (queued d.rounds (K.own d.kind)) };
+    ghost state = { λ d. left_at K.service d.phase (K.hand (K.stage d.kind)) (queued d.rounds (K.own d.kind)) };
 
     ghost wants = { wants (queue_rules K.service K.changing) };
 

@@ -1,26 +1,25 @@
 // Which queue is next, and what a chain comes to.
-ghost use Rattle.std.specs.Prelude.{◌≡◌, ℕ, Bool, true, Option, option_map};
+ghost use Rattle.std.specs.Prelude.{◌≡◌, ℕ, Bool, true, Option};
 ghost use Rattle.vm_types.specs.Fits.{fits};
-ghost use Rattle.device_trace.specs.Doing.{led};
+ghost use Rattle.device_trace.specs.Doing.{Doing, led};
 ghost use Rattle.device_trace.specs.Script.{Ends, perform};
 ghost use Rattle.vq_split.specs.Walking.{walk_left, walk_wants};
-ghost use Rattle.dev_core.specs.Pieces.{Got};
 ghost use Rattle.dev_core.specs.Returning.{break_left, return_left};
 ghost use Rattle.queue_device.specs.Acting.{Acting, Works};
-ghost use Rattle.queue_device.specs.Chains.{got_of};
-ghost use Rattle.queue_device.specs.Left.{Hand, TakeWorks, left_at, queued, used_chain};
+ghost use Rattle.queue_device.specs.Chains.{Taken};
+ghost use Rattle.queue_device.specs.Left.{Hand, left_at, queued, used_chain};
 ghost use Rattle.queue_device.specs.Lanes.{lane_of};
 ghost use Rattle.queue_device.specs.Rounds.{answered, broken_off, due_behind, due_from, during, given_back, is_due, second_due};
 ghost use Rattle.queue_device.specs.Rounds.{served, serving, taken, taking, third_due, took, walked};
 ghost use Rattle.queue_device.specs.Service.{Queued};
 
-use crate::chain::{SoundQueue, TakenChain};
+use crate::chain::{SoundQueue, TakenChain, TakenParts};
 use crate::kind::Kind;
 use crate::lanes::{Rounds, Which};
 use crate::phase::{InHand, Phase};
-use dev_core::{BreakStage, Collect, ReturnStage, UsedChain};
+use dev_core::{BreakStage, ReturnStage, UsedChain};
 use vm_types::Reply;
-use vq_split::{ChainWalk, PartList, Walk};
+use vq_split::{ChainWalk, Walk};
 
 // Whether the round works on a queue of which a chain waits or is wanted.
 fn is_due<K: Kind>(rounds: &Rounds, kind: &K, which: Which) -> bool
@@ -119,8 +118,8 @@ pub fn serve_told<K: Kind>(
     told: Option<Option<u32>>,
 ) -> Phase
     ensures { (t : Acting K.Own (Option ℕ)) →
-        Works t told (K.own kind.now) (K.hand kind.now).op (K.hand kind.now).serving →
-        left_at K.service result (K.hand kind.now) (queued rounds.now (K.own kind.now)) ≡
+        Works t told (K.own kind.now) (K.hand (K.stage kind.now)).op (K.hand (K.stage kind.now)).serving →
+        left_at K.service result (K.hand (K.stage kind.now)) (queued rounds.now (K.own kind.now)) ≡
         during t rounds.now (served K.service chain.which chain.queue chain.head) }
 {
     let _ = rounds;
@@ -133,7 +132,7 @@ pub fn serve_told<K: Kind>(
 
 /// A chain is served.
 pub fn serve<K: Kind>(rounds: &Rounds, kind: &mut K, which: Which, chain: &TakenChain) -> Phase
-    ensures { left_at K.service result (K.hand kind.new) (queued rounds.now (K.own kind.new)) ≡
+    ensures { left_at K.service result (K.hand (K.stage kind.new)) (queued rounds.now (K.own kind.new)) ≡
         serving K.service which chain.now (queued rounds.now (K.own kind.old)) }
 {
     let told = kind.serve(which, chain);
@@ -145,26 +144,24 @@ pub fn serve<K: Kind>(rounds: &Rounds, kind: &mut K, which: Which, chain: &Taken
     serve_told(rounds, kind, chain, told)
 }
 
-// A chain was taken, of which this was read, or its queue is broken.
+// A chain was taken, of which this is kept, or its queue is broken.
 fn took<K: Kind>(
     rounds: &mut Rounds,
     kind: &mut K,
     chain: InHand,
-    parts: PartList,
-    got: Option<Collect>,
+    taken: Option<TakenParts>,
 ) -> Phase
-    ensures { left_at K.service result (K.hand kind.new) (queued rounds.new (K.own kind.new)) ≡
-        took K.service chain.which chain.queue chain.head parts (queued rounds.old (K.own kind.old))
-        (option_map got_of got) }
+    ensures { left_at K.service result (K.hand (K.stage kind.new)) (queued rounds.new (K.own kind.new)) ≡
+        took K.service chain.which chain.queue chain.head (queued rounds.old (K.own kind.old)) taken }
 {
     let which = chain.which;
-    match got {
+    match taken {
         None => Phase::Break {
             which,
             stage: BreakStage::Port,
         },
-        Some(got) => {
-            let chain = TakenChain::new(chain.queue, chain.head, parts, got);
+        Some(taken) => {
+            let chain = TakenChain::new(chain.queue, chain.head, taken);
             if kind.is_timed(which, &chain) {
                 rounds.wait(which, chain);
                 Phase::Between
@@ -180,16 +177,16 @@ pub fn take_told<K: Kind>(
     rounds: &mut Rounds,
     kind: &mut K,
     chain: InHand,
-    parts: PartList,
-    told: Option<Option<Collect>>,
+    told: Option<Option<TakenParts>>,
 ) -> Phase
-    ensures { (t : Acting K.Own (Option Got)) → TakeWorks t told (K.own kind.old) (K.hand kind.old) →
-        left_at K.service result (K.hand kind.new) (queued rounds.new (K.own kind.new)) ≡
-        during t rounds.old (took K.service chain.which chain.queue chain.head parts) }
+    ensures { (t : Acting K.Own (Option Taken)) →
+        Works t told (K.own kind.old) (K.hand (K.stage kind.old)).op (K.hand (K.stage kind.old)).taking →
+        left_at K.service result (K.hand (K.stage kind.new)) (queued rounds.new (K.own kind.new)) ≡
+        during t rounds.old (took K.service chain.which chain.queue chain.head) }
 {
     match told {
-        None => Phase::Take { chain, parts },
-        Some(got) => took(rounds, kind, chain, parts, got),
+        None => Phase::Take { chain },
+        Some(taken) => took(rounds, kind, chain, taken),
     }
 }
 
@@ -201,7 +198,7 @@ pub fn walked<K: Kind>(
     queue: SoundQueue,
     came: Walk,
 ) -> Phase
-    ensures { left_at K.service result (K.hand kind.new) (queued rounds.new (K.own kind.new)) ≡
+    ensures { left_at K.service result (K.hand (K.stage kind.new)) (queued rounds.new (K.own kind.new)) ≡
         walked K.service which queue (queued rounds.old (K.own kind.old)) came }
 {
     match came {
@@ -218,9 +215,9 @@ pub fn walked<K: Kind>(
         },
         Walk::Chain { head, parts } => {
             rounds.count(which);
-            let told = kind.take(which, &parts);
+            let told = kind.take(which, parts);
             let chain = InHand { which, queue, head };
-            take_told(rounds, kind, chain, parts, told)
+            take_told(rounds, kind, chain, told)
         }
     }
 }
@@ -234,7 +231,7 @@ pub fn walk_given<K: Kind>(
     reply: Reply,
 ) -> Phase
     requires { fits (walk_wants walk) reply ≡ true }
-    ensures { left_at K.service result (K.hand kind.new) (queued rounds.new (K.own kind.new)) ≡
+    ensures { left_at K.service result (K.hand (K.stage kind.new)) (queued rounds.new (K.own kind.new)) ≡
         perform (led (walk_left walk) reply) (queued rounds.old (K.own kind.old)) (walked K.service which walk.queue) }
 {
     let queue = SoundQueue::of(&walk);
@@ -242,6 +239,40 @@ pub fn walk_given<K: Kind>(
     match walk.give(reply) {
         Walk::More => Phase::Walk { which, walk },
         came => walked(rounds, kind, which, queue, came),
+    }
+}
+
+// How far a chain is given back, with what is still to be told of it.
+fn return_told<K: Kind>(
+    rounds: &Rounds,
+    kind: &K,
+    chain: InHand,
+    len: u32,
+    stage: ReturnStage,
+) -> Phase
+    ensures { (t : Doing (Unit {0})) → return_left stage (used_chain chain len rounds.now) ≡ t →
+        left_at K.service result (K.hand (K.stage kind.now)) (queued rounds.now (K.own kind.now)) ≡
+        perform t (queued rounds.now (K.own kind.now)) (λ e done. Ends (given_back K.service chain.which e)) }
+{
+    let _ = rounds;
+    let _ = kind;
+    let told = InHand {
+        which: chain.which,
+        queue: chain.queue,
+        head: 0,
+    };
+    match stage {
+        ReturnStage::Pair => Phase::Return { chain, len, stage },
+        ReturnStage::Half => Phase::Return {
+            chain: told,
+            len,
+            stage,
+        },
+        ReturnStage::Index | ReturnStage::Interrupt | ReturnStage::Line => Phase::Return {
+            chain: told,
+            len: 0,
+            stage,
+        },
     }
 }
 
@@ -254,7 +285,7 @@ pub fn return_given<K: Kind>(
     stage: ReturnStage,
     reply: &Reply,
 ) -> Phase
-    ensures { left_at K.service result (K.hand kind.new) (queued rounds.new (K.own kind.new)) ≡
+    ensures { left_at K.service result (K.hand (K.stage kind.new)) (queued rounds.new (K.own kind.new)) ≡
         perform (led (return_left stage (used_chain chain len rounds.old)) reply.now)
         (queued rounds.old (K.own kind.old)) (λ e done. Ends (given_back K.service chain.which e)) }
 {
@@ -263,7 +294,7 @@ pub fn return_given<K: Kind>(
     let used = used_chain(rounds, chain, len);
     let _queue = chain.queue.fields();
     match stage.give(&used) {
-        None => Phase::Return { chain, len, stage },
+        None => return_told(rounds, kind, chain, len, stage),
         Some(()) => {
             rounds.give(chain.which);
             kind.over(chain.which);
@@ -282,7 +313,7 @@ pub fn break_given<K: Kind>(
     stage: BreakStage,
     reply: &Reply,
 ) -> Phase
-    ensures { left_at K.service result (K.hand kind.new) (queued rounds.new (K.own kind.new)) ≡
+    ensures { left_at K.service result (K.hand (K.stage kind.new)) (queued rounds.new (K.own kind.new)) ≡
         perform (led (break_left stage rounds.old.port) reply.now)
         (queued rounds.old (K.own kind.old)) (λ e done. Ends (broken_off K.service which e)) }
 {
@@ -300,8 +331,8 @@ pub fn break_given<K: Kind>(
 /// What a kind tells of the answer to its question.
 pub fn answer_told<K: Kind>(rounds: &mut Rounds, kind: &K, told: Option<bool>) -> Phase
     ensures { (t : Acting K.Own Bool) →
-        Works t told (K.own kind.now) (K.hand kind.now).op (K.hand kind.now).answering →
-        left_at K.service result (K.hand kind.now) (queued rounds.new (K.own kind.now)) ≡
+        Works t told (K.own kind.now) (K.hand (K.stage kind.now)).op (K.hand (K.stage kind.now)).answering →
+        left_at K.service result (K.hand (K.stage kind.now)) (queued rounds.new (K.own kind.now)) ≡
         during t rounds.old (answered K.service) }
 {
     match told {

@@ -15,9 +15,9 @@ use vm_types::{Op, Reply};
 /// The act that is wanted; a wait where no group is begun.
 pub fn inside_op<K: Kind>(rounds: &Rounds, kind: &K, phase: &Phase) -> Op
     ensures root { result ≡ root_op
-        (left_at K.service phase.now (K.hand kind.now) (queued rounds.now (K.own kind.now))) }
+        (left_at K.service phase.now (K.hand (K.stage kind.now)) (queued rounds.now (K.own kind.now))) }
     ensures holds { is_between phase.now ≡ false →
-        Holds K.service phase.now (K.hand kind.now) rounds.now result }
+        Holds K.service phase.now (K.hand (K.stage kind.now)) rounds.now result }
 {
     match phase {
         Phase::Between => Op::Idle,
@@ -36,9 +36,9 @@ pub fn inside_op<K: Kind>(rounds: &Rounds, kind: &K, phase: &Phase) -> Op
 /// A reply came to it.
 pub fn inside_given<K: Kind>(rounds: &mut Rounds, kind: &mut K, phase: Phase, reply: Reply) -> Phase
     requires { fits (root_op
-        (left_at K.service phase (K.hand kind.old) (queued rounds.old (K.own kind.old)))) reply ≡ true }
-    ensures { left_at K.service result (K.hand kind.new) (queued rounds.new (K.own kind.new)) ≡
-        root_next (left_at K.service phase (K.hand kind.old) (queued rounds.old (K.own kind.old))) reply }
+        (left_at K.service phase (K.hand (K.stage kind.old)) (queued rounds.old (K.own kind.old)))) reply ≡ true }
+    ensures { left_at K.service result (K.hand (K.stage kind.new)) (queued rounds.new (K.own kind.new)) ≡
+        root_next (left_at K.service phase (K.hand (K.stage kind.old)) (queued rounds.old (K.own kind.old))) reply }
 {
     match phase {
         Phase::Between => Phase::Between,
@@ -50,9 +50,9 @@ pub fn inside_given<K: Kind>(rounds: &mut Rounds, kind: &mut K, phase: Phase, re
             walk.wanting();
             walk_given(rounds, kind, which, walk, reply)
         }
-        Phase::Take { chain, parts } => {
+        Phase::Take { chain } => {
             let told = kind.take_on(&reply);
-            take_told(rounds, kind, chain, parts, told)
+            take_told(rounds, kind, chain, told)
         }
         Phase::Serve { chain } => {
             let told = kind.serve_on(&reply);

@@ -1,7 +1,7 @@
 // What a kind of device with queues does, beside its rounds.
-use crate::chain::TakenChain;
+use crate::chain::{TakenChain, TakenParts};
 use crate::lanes::Which;
-use dev_core::Collect;
+use crate::phase::Work;
 use vm_types::{Op, Reply};
 use vq_split::PartList;
 
@@ -19,20 +19,25 @@ pub enum Begin {
 /// the act that `want` gives, and `Some` what it came to.
 ///
 /// `service` is its definition, and `changing` what changes from outside make of its data. It may ask guest time where `times`
-/// says so, and its host object for the calls of `calls` alone. `own` are its data, and `hand` the work that was begun.
+/// says so, and its host object for the calls of `calls` alone. `own` are its data, `stage` is where it is, and `hand` the
+/// work that was begun. `is_work` says where it may be in a guest of so many pages, by what its device is at,
+/// and `IsFine` which data it may have.
 pub trait Kind: Drop {
-    ghost use Rattle.std.specs.Prelude.{◌≡◌, Bool, true, false, Option, Some, None, if◌then◌else◌, IfSome};
+    ghost use Rattle.std.specs.Prelude.{ℕ, ◌≡◌, Bool, true, false, Option, Some, None, if◌then◌else◌, IfSome};
     ghost use Rattle.vm_types.specs.declared.op.OutOp.{OutOp};
     ghost use Rattle.vm_types.specs.Fits.{fits};
     ghost use Rattle.device_trace.specs.Traces.{Changing};
     ghost use Rattle.queue_device.specs.Acting.{Works};
-    ghost use Rattle.queue_device.specs.Left.{Hand, TakeWorks, begin_of};
+    ghost use Rattle.queue_device.specs.Left.{Hand, begin_of};
     ghost use Rattle.queue_device.specs.Service.{Service};
+    ghost use Rattle.queue_device.specs.declared.phase.Work.{Work};
 
     /// What may be changed from outside.
     type Change: Drop;
 
     ghost Own: { Type 0 };
+
+    ghost Stage: { Type 0 };
 
     ghost service: { Service Self.Own };
 
@@ -44,11 +49,37 @@ pub trait Kind: Drop {
 
     ghost own: { Self → Self.Own };
 
-    ghost hand: { Self → Hand Self.Own };
+    ghost stage: { Self → Self.Stage };
+
+    ghost hand: { Self.Stage → Hand Self.Own };
+
+    ghost is_work: { Work → ℕ → Self.Stage → Bool };
+
+    ghost IsFine: { Self.Own → Type 0 };
+
+    /// The last of its queues.
+    fn last(&self) -> Which
+        ensures { result ≡ service.last };
+
+    /// Whether it may ask its host object at all.
+    fn may_ask(&self) -> bool
+        ensures { result ≡ service.may_ask };
+
+    /// Whether it may ask guest time at all, so that a chain may wait.
+    fn may_wait(&self) -> bool
+        ensures { result ≡ times };
+
+    /// Whether a chain may be served of which this is kept.
+    fn is_taken(&self, which: Which, chain: &TakenChain) -> bool
+        ensures { result ≡ service.is_taken which chain.now.parts chain.now.got };
+
+    /// Whether it may be where it is, by this work of its device in a guest of so many pages.
+    fn is_work(&self, work: Work, pages: u32) -> bool
+        ensures { result ≡ is_work work pages (stage self.now) };
 
     /// The act that is wanted by the work that was begun.
     fn want(&self) -> Op
-        ensures { result ≡ (hand self.now).op };
+        ensures { result ≡ (hand (stage self.now)).op };
 
     /// Whether there is something to ask the host object.
     fn asks(&self) -> bool
@@ -62,13 +93,13 @@ pub trait Kind: Drop {
     fn answer(&mut self, reply: &Reply) -> Option<bool>
         requires { fits (service.question (own self.old)) reply.now ≡ true }
         ensures { Works (service.answer (own self.old) reply.now) result
-            (own self.new) (hand self.new).op (hand self.new).answering };
+            (own self.new) (hand (stage self.new)).op (hand (stage self.new)).answering };
 
     /// A reply came to the work that follows the answer.
     fn answer_on(&mut self, reply: &Reply) -> Option<bool>
-        requires { fits (hand self.old).op reply.now ≡ true }
-        ensures { Works ((hand self.old).answering (own self.old) reply.now) result
-            (own self.new) (hand self.new).op (hand self.new).answering };
+        requires { fits (hand (stage self.old)).op reply.now ≡ true }
+        ensures { Works ((hand (stage self.old)).answering (own self.old) reply.now) result
+            (own self.new) (hand (stage self.new)).op (hand (stage self.new)).answering };
 
     /// Whether the next chain of a queue is wanted, which was kicked or wasn't.
     fn wants_chain(&self, which: Which, is_kicked: bool) -> bool
@@ -78,14 +109,16 @@ pub trait Kind: Drop {
     fn begun(&mut self, which: Which)
         ensures { own self.new ≡ service.begun which (own self.old) };
 
-    /// A chain of these parts is taken. What was read of it, or nothing where it breaks the queue.
-    fn take(&mut self, which: Which, parts: &PartList) -> Option<Option<Collect>>
-        ensures { TakeWorks (service.take which parts.now (own self.old)) result (own self.new) (hand self.new) };
+    /// A chain of these parts is taken. What is kept of it, or nothing where it breaks the queue.
+    fn take(&mut self, which: Which, parts: PartList) -> Option<Option<TakenParts>>
+        ensures { Works (service.take which parts (own self.old)) result
+            (own self.new) (hand (stage self.new)).op (hand (stage self.new)).taking };
 
     /// A reply came to that.
-    fn take_on(&mut self, reply: &Reply) -> Option<Option<Collect>>
-        requires { fits (hand self.old).op reply.now ≡ true }
-        ensures { TakeWorks ((hand self.old).taking (own self.old) reply.now) result (own self.new) (hand self.new) };
+    fn take_on(&mut self, reply: &Reply) -> Option<Option<TakenParts>>
+        requires { fits (hand (stage self.old)).op reply.now ≡ true }
+        ensures { Works ((hand (stage self.old)).taking (own self.old) reply.now) result
+            (own self.new) (hand (stage self.new)).op (hand (stage self.new)).taking };
 
     /// Whether guest time is asked for a chain.
     fn is_timed(&self, which: Which, chain: &TakenChain) -> bool
@@ -104,13 +137,13 @@ pub trait Kind: Drop {
     /// A chain is served. How many bytes were written, or nothing where the queue is broken.
     fn serve(&mut self, which: Which, chain: &TakenChain) -> Option<Option<u32>>
         ensures { Works (service.serve which chain.now (own self.old)) result
-            (own self.new) (hand self.new).op (hand self.new).serving };
+            (own self.new) (hand (stage self.new)).op (hand (stage self.new)).serving };
 
     /// A reply came to that.
     fn serve_on(&mut self, reply: &Reply) -> Option<Option<u32>>
-        requires { fits (hand self.old).op reply.now ≡ true }
-        ensures { Works ((hand self.old).serving (own self.old) reply.now) result
-            (own self.new) (hand self.new).op (hand self.new).serving };
+        requires { fits (hand (stage self.old)).op reply.now ≡ true }
+        ensures { Works ((hand (stage self.old)).serving (own self.old) reply.now) result
+            (own self.new) (hand (stage self.new)).op (hand (stage self.new)).serving };
 
     /// The chain in hand was given back, or its queue was found broken.
     fn over(&mut self, which: Which)
@@ -127,7 +160,7 @@ pub trait Kind: Drop {
     /// A change from outside while `op` is wanted. The reply by which that act is left out, if it is.
     fn change_inside(&mut self, change: Self::Change, op: &Op) -> Option<Reply>
         ensures own { own self.new ≡ changing.inside change (own self.old) }
-        ensures hand { hand self.new ≡ hand self.old }
+        ensures stage { stage self.new ≡ stage self.old }
         ensures cut { result ≡ changing.cut change (own self.old) op.now }
         ensures fits { IfSome result (λ reply. fits op.now reply ≡ true) };
 }

@@ -2,7 +2,7 @@
 ghost use Rattle.std.specs.Prelude.{◌≡◌, is_some};
 ghost use Rattle.queue_device.specs.Lanes.{lane_closed, lane_counted, lane_emptied, lane_freed, lane_given, lane_looked};
 ghost use Rattle.queue_device.specs.Lanes.{lane_of, lane_reset, lane_waiting, new_lane, new_rounds, round_begun, round_over};
-ghost use Rattle.queue_device.specs.Lanes.{busy, in_lane, is_running, next_rounds, with_due};
+ghost use Rattle.queue_device.specs.Lanes.{busy, in_lane, is_running, is_up_to, next_rounds, with_due};
 ghost use Rattle.queue_device.specs.declared.lanes.Due.TheVariants as due;
 
 use crate::chain::TakenChain;
@@ -67,6 +67,23 @@ pub fn is_running(status: u32) -> bool
     ensures { result ≡ is_running status }
 {
     status / 4 % 2 == 1
+}
+
+/// Whether a device has a queue, by the last one that it has.
+pub fn is_up_to(last: Which, which: Which) -> bool
+    ensures { result ≡ is_up_to last which }
+{
+    match last {
+        Which::Third => true,
+        Which::Second => match which {
+            Which::First | Which::Second => true,
+            Which::Third => false,
+        },
+        Which::First => match which {
+            Which::First => true,
+            Which::Second | Which::Third => false,
+        },
+    }
 }
 
 impl Lane {
@@ -146,16 +163,22 @@ impl Rounds {
         }
     }
 
-    /// A look begins a round.
-    pub fn begin(&mut self, look: &PortLook)
-        ensures { self.new ≡ round_begun look.now self.old }
+    /// A look begins a round over the queues up to the last one.
+    pub fn begin(&mut self, last: Which, look: &PortLook)
+        ensures { self.new ≡ round_begun last look.now self.old }
     {
-        self.first
-            .look(self.pages, look.status, look.was_reset, &look.first);
-        self.second
-            .look(self.pages, look.status, look.was_reset, &look.second);
-        self.third
-            .look(self.pages, look.status, look.was_reset, &look.third);
+        if is_up_to(last, Which::First) {
+            self.first
+                .look(self.pages, look.status, look.was_reset, &look.first);
+        }
+        if is_up_to(last, Which::Second) {
+            self.second
+                .look(self.pages, look.status, look.was_reset, &look.second);
+        }
+        if is_up_to(last, Which::Third) {
+            self.third
+                .look(self.pages, look.status, look.was_reset, &look.third);
+        }
         self.is_busy = false;
     }
 

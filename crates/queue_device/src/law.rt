@@ -1,10 +1,17 @@
 // What holds of every kind of device with queues.
-ghost use Rattle.std.specs.Prelude.{◌≡◌, ◌<◌, ◌^◌, ℕ, true, List};
-ghost use Rattle.device_trace.specs.Script.{Script};
-ghost use Rattle.device_trace.specs.States.{Leads, wants};
+ghost use Rattle.std.specs.Prelude.{◌≡◌, ◌<◌, ◌≤◌, ◌^◌, ℕ, true, List};
+ghost use Rattle.vm_types.specs.declared.reply.Reply.{Reply};
+ghost use Rattle.vm_types.specs.Fits.{Fits};
+ghost use Rattle.device_trace.specs.Script.{Ends, Script};
+ghost use Rattle.device_trace.specs.States.{Leads, changed_at, stepped, wants};
 ghost use Rattle.device_trace.specs.Traces.{Item};
 ghost use Rattle.queue_device.specs.Confined.{Confines, IsConfined, IsDeviceAct, are_rounds};
+ghost use Rattle.queue_device.specs.declared.lanes.Rounds.{Rounds};
+ghost use Rattle.queue_device.specs.declared.phase.Phase.{Phase};
+ghost use Rattle.queue_device.specs.Kept.{is_state};
 ghost use Rattle.queue_device.specs.Lanes.{new_rounds};
+ghost use Rattle.queue_device.specs.Left.{left_at, queued};
+ghost use Rattle.queue_device.specs.Resuming.{HasKept, Resumes};
 ghost use Rattle.queue_device.specs.Rounds.{queue_rules};
 ghost use Rattle.queue_device.specs.Service.{Queued};
 
@@ -24,4 +31,46 @@ pub fn queue_stays<T: Kind>()
     ensures acts { (port pages : ℕ) (left : Script (Queued T.Own)) → pages < 2 ^ 32 →
         Confines T.service T.changing T.times T.calls → IsConfined T.service T.times T.calls port pages left →
         IsDeviceAct T.times T.calls port pages (wants (queue_rules T.service T.changing) left) }
+{}
+
+/// What is left of a device in a state that it may be in is confined, where the kind keeps to its own: it asks for no act but
+/// its own, or guest time where the kind may, inside RAM of so many pages, whatever is replied and changed.
+pub fn queue_kept<T: Kind>()
+    ensures { (p : Phase) (r : Rounds) (e : T.Own) (g : T.Stage) → r.pages < 2 ^ 32 →
+        Confines T.service T.changing T.times T.calls →
+        Resumes T.service T.hand T.is_work T.IsFine T.changing T.times T.calls →
+        is_state T.service T.times T.is_work p r g ≡ true →
+        IsConfined T.service T.times T.calls r.port r.pages (left_at T.service p (T.hand g) (queued r e)) }
+{}
+
+/// Of two devices in states that they may be in of which as much is left to do the data are one.
+pub fn queue_one<T: Kind>()
+    ensures { (p q : Phase) (r t : Rounds) (e f : T.Own) (g h : T.Stage) →
+        r.pages < 2 ^ 32 → t.pages < 2 ^ 32 →
+        is_state T.service T.times T.is_work p r g ≡ true → is_state T.service T.times T.is_work q t h ≡ true →
+        left_at T.service p (T.hand g) (queued r e) ≡ left_at T.service q (T.hand h) (queued t f) →
+        queued r e ≡ queued t f }
+{}
+
+/// What is kept of a device leads to what is kept of it, in a guest of at most 2^20 pages: behind each fitting reply, and behind
+/// each change that leaves the kind's data fine; and there is something for a device that has done nothing.
+pub fn queue_goes_on<T: Kind>()
+    ensures begins { (port pages : ℕ) (e : T.Own) → pages ≤ 2 ^ 20 →
+        Confines T.service T.changing T.times T.calls →
+        Resumes T.service T.hand T.is_work T.IsFine T.changing T.times T.calls → T.IsFine e →
+        HasKept T.service T.hand T.is_work T.IsFine T.times port pages (Ends (queued (new_rounds port pages) e)) }
+    ensures reply { (port pages : ℕ) (t : Script (Queued T.Own)) (reply : Reply) →
+        pages ≤ 2 ^ 20 → Confines T.service T.changing T.times T.calls →
+        Resumes T.service T.hand T.is_work T.IsFine T.changing T.times T.calls →
+        HasKept T.service T.hand T.is_work T.IsFine T.times port pages t →
+        Fits (wants (queue_rules T.service T.changing) t) reply →
+        HasKept T.service T.hand T.is_work T.IsFine T.times port pages
+        (stepped (queue_rules T.service T.changing) t reply) }
+    ensures change { (port pages : ℕ) (t : Script (Queued T.Own)) (c : T.Change) →
+        pages ≤ 2 ^ 20 → Confines T.service T.changing T.times T.calls →
+        Resumes T.service T.hand T.is_work T.IsFine T.changing T.times T.calls →
+        HasKept T.service T.hand T.is_work T.IsFine T.times port pages t →
+        ((e : T.Own) → T.IsFine e → T.IsFine (T.changing.between c e) × T.IsFine (T.changing.inside c e)) →
+        HasKept T.service T.hand T.is_work T.IsFine T.times port pages
+        (changed_at (queue_rules T.service T.changing) c t) }
 {}

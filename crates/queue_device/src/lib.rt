@@ -17,11 +17,13 @@ mod law;
 mod opening;
 mod phase;
 mod spill;
+mod valid;
 
-pub use chain::{SoundQueue, TakenChain};
+pub use chain::{SoundQueue, TakenChain, TakenParts};
 pub use device::QueueRounds;
 pub use kind::{Begin, Kind};
 pub use lanes::{Due, Lane, Rounds, Which, is_running};
-pub use law::queue_stays;
-pub use phase::{InHand, Phase};
+pub use law::{queue_goes_on, queue_kept, queue_one, queue_stays};
+pub use phase::{InHand, Phase, Work};
 pub use spill::Spill;
+pub use valid::is_state;

@@ -2,7 +2,7 @@
 use crate::chain::SoundQueue;
 use crate::lanes::Which;
 use dev_core::{BreakStage, ReturnStage};
-use vq_split::{ChainWalk, PartList};
+use vq_split::ChainWalk;
 
 /// The chain in hand: its queue, as it was when it was taken, and the number of its first descriptor.
 #[derive(Clone, Copy, Drop)]
@@ -10,6 +10,19 @@ pub struct InHand {
     pub which: Which,
     pub queue: SoundQueue,
     pub head: u16,
+}
+
+/// What a kind is at, by what its device is at.
+#[derive(Clone, Copy, Drop)]
+pub enum Work {
+    /// No work was begun.
+    Rest,
+    /// The host object answered.
+    Answer,
+    /// A chain of this queue is taken.
+    Take(Which),
+    /// A chain of this queue is served.
+    Serve(Which),
 }
 
 /// What a device is at.
@@ -24,10 +37,9 @@ pub enum Phase {
         which: Which,
         walk: ChainWalk,
     },
-    /// A chain of these parts is read, before it may be served.
+    /// A chain is read, before it may be served.
     Take {
         chain: InHand,
-        parts: PartList,
     },
     /// A chain is served.
     Serve {

@@ -28,8 +28,8 @@ impl Spill {
         }
     }
 
-    // How many of the bytes the next piece takes.
-    fn share(&self) -> usize
+    /// How many of the bytes the next piece takes.
+    pub fn share(&self) -> usize
         ensures share { result ≡ share self.now.held self.now.to }
         ensures most { result ≤ 64 }
     {

@@ -9,7 +9,7 @@ inside_given-requires g c =
     let some = c.requires.some in
     goes_untimed g.K.Kind.service c.args.which some.0 (queued c.args.rounds.now (g.K.Kind.own c.args.kind.now))
     c.args.reply
-    (left_at g.K.Kind.service c.serve_freed-phase.result (g.K.Kind.hand c.serve_freed-phase.new.kind)
+    (left_at g.K.Kind.service c.serve_freed-phase.result (g.K.Kind.hand (g.K.Kind.stage c.serve_freed-phase.new.kind))
     (queued c.serve_freed-phase.new.rounds (g.K.Kind.own c.serve_freed-phase.new.kind)))
     (sym (c.is_timed.ensures some.0 some.1) ∙ c.if-is_timed.false) (c.requires.fit some.0 some.1)
     (c.serve_freed-phase.ensures some.0 some.1)

@@ -5,7 +5,7 @@ use Rattle.queue_device.proofs.inside.inside_given.Goals as goal
 
 pub returns-in-Return : goal.returns-in-Return
 returns-in-Return g c =
-    return_next g.K.Kind.service (g.K.Kind.hand c.args.kind.now)
+    return_next g.K.Kind.service (g.K.Kind.hand (g.K.Kind.stage c.args.kind.now))
     (queued c.args.rounds.now (g.K.Kind.own c.args.kind.now)) c.args.phase c.want-op.result c.in-Return.chain
     c.in-Return.len c.in-Return.stage c.used_chain.result c.args.reply _ c.in-Return.is c.used_chain.ensures
     c.want-op.ensures c.return_given.ensures
