@@ -1,5 +1,5 @@
 // The frames of a stream, from whatever parts it comes in.
-ghost use Rattle.std.specs.Prelude.{◌≡◌, ◌≤◌, ◌<◌, ◌++◌, [], List, ℕ, length, IfOk};
+ghost use Rattle.std.specs.Prelude.{◌≡◌, ◌≤◌, ◌<◌, ◌++◌, [], List, ℕ, length, IfOk, OnErr};
 ghost use Rattle.link_frames.specs.Stream.{Feeds, IsBegun, IsBegun-prop, IsGiven, Stands, most_wanted, wanted_of};
 
 use crate::coming::{Coming, Fed};
@@ -39,12 +39,14 @@ impl FrameReader {
         }
     }
 
-    /// Takes the next bytes of the stream. After an `Err`, which is want of memory, it has lost its place there.
+    /// Takes the next bytes of the stream. After an `Err`, which is want of memory, it has lost its place there, and reads on as from a
+    /// border between two frames.
     pub fn feed(&mut self, bytes: &[u8]) -> Result<Fed, AllocError>
         requires { length bytes.now ≤ wanted_of self.old.coming }
         ensures given { IfOk result IsGiven }
         ensures feeds { IfOk result (λ fed. (begun : List ℕ) → Stands self.old.coming begun →
             Feeds fed (begun ++ bytes.now) self.new.coming) }
+        ensures lost { OnErr result (Stands self.new.coming []) }
     {
         let before = replace(&mut self.coming, nothing(self.alloc));
         let (fed, coming) = with_bytes(self.alloc, before, bytes)?;
