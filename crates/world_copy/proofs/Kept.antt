@@ -66,4 +66,5 @@ module _ (c : StateCopy) (kept : List Device) (devices : List FlatDevice) (r : R
     devices = has_too;
     reservations = r.reservations;
     rising = r.rising;
+    sections = r.sections;
   }
