@@ -10,7 +10,7 @@ use Rattle.vm_host.specs.Telling.{ClockKnown}
 use Rattle.vm_config.specs.declared.config.Config.{Config}
 use Rattle.script_text.specs.declared.item.Item.{Item}
 use Rattle.script_text.specs.declared.item.Item.TheVariants as item
-use Rattle.flat_guest.specs.Given.Given.{Host}
+use Rattle.flat_guest.specs.Given.Given.{Host as ByHost}
 use Rattle.flat_guest.specs.Guest.{Guest, Wants}
 use Rattle.flat_machine.specs.Given.{reply_given}
 use Rattle.flat_machine.specs.Machine.{Machine, running}
@@ -39,7 +39,7 @@ HasOwnFile start config actor disk = Unit {0}
 abbrev pub ItemAsks : Health → Item → Config → Option Guest → DiskKnown → DiskKnown → Type 0
 ItemAsks start (item.Reply actor reply) config (Some g) old new =
     HasOwnFile start config actor old
-    × (op : Op) × (given : Reply) × Wants g actor op × (reply_given reply ≡ Host given) × AsksDisk op actor given old new
+    × (op : Op) × (given : Reply) × Wants g actor op × (reply_given reply ≡ ByHost given) × AsksDisk op actor given old new
 ItemAsks start it config guest old new = DiskUncalled old new
 
 -- the disks were asked in this run, one item after another
