@@ -1,3 +1,3 @@
 pub mod Allowed
-pub mod Living
 pub mod Loading
+pub mod Living

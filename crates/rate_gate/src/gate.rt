@@ -1,11 +1,11 @@
 // The gate, and what a request is told.
 ghost use Rattle.std.specs.Prelude.{◌≡◌, ◌↔◌, ◌≢◌, ℕ, IsTrue, true, option_map, unwrap_or};
 ghost use Rattle.token_bucket.specs.Kept.{saved_of};
-ghost use Rattle.rate_gate.specs.Gate.{Allows, Adds, WaitsFor, WaitsForBoth, ops_need};
+ghost use Rattle.rate_gate.specs.Gate.{Buckets, Allows, Adds, WaitsFor, WaitsForBoth, ops_need};
 ghost use Rattle.rate_gate.specs.Gate.{bucket_takes, bucket_took, bucket_wait, gate_took, is_limited, with_buckets};
 ghost use Rattle.rate_gate.specs.Passing.{told};
-ghost use Rattle.rate_gate.specs.Saved.{bucket_at, gate_at, gate_saved};
-ghost use Rattle.rate_gate.specs.Lives.{LivesOn};
+ghost use Rattle.rate_gate.specs.Saved.{HaveSameRates, bucket_at, gate_at, gate_saved};
+ghost use Rattle.rate_gate.specs.Lives.{LivesOn, StaysBounded};
 
 use crate::GateState;
 use std::marker::Model;
@@ -68,6 +68,7 @@ fn take_from(bucket: &mut Option<Bucket>, need: u64, now: u64)
     ensures adds { Adds bucket.old bucket.new need now }
     ensures took { bucket.new ≡ bucket_took bucket.old need now }
     ensures life { LivesOn bucket.old bucket.new need now }
+    ensures bound { StaysBounded bucket.old need now }
 {
     if let Some(bucket) = bucket {
         bucket.take(need, now);
@@ -148,16 +149,19 @@ impl RateGate {
     }
 
     /// This gate where each bucket goes on from its saved form, as fast as it is here. A bucket without a saved form
-    /// stays, and a saved form without a bucket is nothing.
+    /// stays, and a saved form without a bucket is nothing. Where a gate of the same rates made it, this is that gate.
     pub fn at_state(mut self, state: GateState) -> RateGate
-        ensures { result ≡ gate_at self state }
+        ensures value { result ≡ gate_at self state }
+        ensures goes_on { (saved : Buckets) → HaveSameRates self saved → state ≡ gate_saved saved → result ≡ saved }
     {
         restore(&mut self.bandwidth, state.bandwidth);
         restore(&mut self.ops, state.ops);
         self
     }
 
-    /// Takes so many bytes and one operation at a moment, if both may pass; else nothing changes.
+    /// Takes so many bytes and one operation at a moment, if both may pass; else nothing changes. What passes in any window of a
+    /// bucket's life is at most the burst that is left as it begins, a full bucket, what flows in, and the excess: what the newest
+    /// of its needs that the burst doesn't pay whole takes beyond the bucket's size.
     pub fn take(&mut self, bytes: u64, now: u64) -> Pass
         ensures told { result ≡ told self.old bytes now }
         ensures took { result ≡ Pass.Go → self.new ≡ gate_took self.old bytes now }
@@ -168,6 +172,8 @@ impl RateGate {
         ensures wait { (wait : ℕ) → result ≡ Pass.WaitUntil wait → WaitsForBoth self.old bytes wait }
         ensures bandwidth_life { result ≡ Pass.Go → LivesOn self.old.bandwidth self.new.bandwidth bytes now }
         ensures ops_life { result ≡ Pass.Go → LivesOn self.old.ops self.new.ops ops_need now }
+        ensures bandwidth_bound { result ≡ Pass.Go → StaysBounded self.old.bandwidth bytes now }
+        ensures ops_bound { result ≡ Pass.Go → StaysBounded self.old.ops ops_need now }
     {
         if allows(&self.bandwidth, bytes, now) && allows(&self.ops, OPS_NEED, now) {
             take_from(&mut self.bandwidth, bytes, now);

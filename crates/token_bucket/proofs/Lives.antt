@@ -18,6 +18,10 @@ lives_on kept start needs tokens now lives is =
       life = (omega arith, sym (may_pass_is kept start needs tokens now lives.keeps) ∙ is, lives.life);
     }
 
+pub need_is_bounded : (kept : Kept) (start : Start) (needs : List Need) (tokens now : ℕ) → Lives kept start needs → takes kept tokens now ≡ true
+    → IsBounded kept.rate start (with_need start needs tokens now)
+need_is_bounded kept start needs tokens now lives is = life_is_bounded kept.rate start _ (lives_on kept start needs tokens now lives is).life
+
 pub needs_in_order : (start : Start) (needs newer : List Need) → NeverFall start (newer ++ needs) → with_needs start needs newer ≡ newer ++ needs
 needs_in_order start needs [] falls = refl
 needs_in_order start needs (need ∷ older) falls =

@@ -5,7 +5,7 @@ ghost use Rattle.token_bucket.specs.Rate.{full, rate_of};
 ghost use Rattle.token_bucket.specs.Allowance.{Start, Need, may_pass, moment_at, saved, NeverFall};
 ghost use Rattle.token_bucket.specs.Kept.{Keeps, IsWait, new_bucket, owed_of, kept_at, saved_of};
 ghost use Rattle.token_bucket.specs.Kept.{owes_at, takes, took, most_owed, waits_until};
-ghost use Rattle.token_bucket.specs.Window.{IsLife};
+ghost use Rattle.token_bucket.specs.Window.{IsLife, IsBounded, Lives, with_need};
 
 use crate::State;
 use std::marker::Model;
@@ -162,7 +162,8 @@ impl Bucket {
     }
 
     /// Takes so many tokens at a moment, if they may pass; else nothing changes. A moment before the newest need's
-    /// counts as that one.
+    /// counts as that one. What passes in any window of the bucket's life is at most the burst that is left as it begins, a full
+    /// bucket, what flows in, and the excess: what the newest of its needs that the burst doesn't pay whole takes beyond the size.
     pub fn take(&mut self, need: u64, now: u64) -> bool
         ensures answer { (start : Start) (needs : List Need) → Keeps self.old start needs →
             result ≡ may_pass self.old.rate start needs need (moment_at start needs now) }
@@ -171,6 +172,8 @@ impl Bucket {
         ensures life { IsTrue result → (start : Start) (needs : List Need) → Keeps self.old start needs →
             IsLife self.old.rate start needs →
             IsLife self.old.rate start (record { tokens = need; moment = moment_at start needs now } ∷ needs) }
+        ensures bound { IsTrue result → (start : Start) (needs : List Need) → Lives self.old start needs →
+            IsBounded self.old.rate start (with_need start needs need now) }
         ensures takes { result ≡ takes self.old need now }
         ensures took { IsTrue result → self.new ≡ took self.old need now }
         ensures refused { result ≡ false → self.new ≡ self.old }

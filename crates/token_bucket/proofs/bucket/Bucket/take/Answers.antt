@@ -1,5 +1,6 @@
-use Rattle.std.proofs.Common.{◌≡◌, ◌-◌, ◌*◌, ◌∙◌, ap, arith}
+use Rattle.std.proofs.Common.{◌≡◌, ◌-◌, ◌*◌, ◌∙◌, ap, sym, arith}
 use Rattle.token_bucket.specs.Kept.{Kept}
+use Rattle.token_bucket.proofs.Lives.{need_is_bounded}
 use Rattle.token_bucket.proofs.Takes.{kept_is, keeps_on}
 use Rattle.token_bucket.proofs.bucket.Bucket.take.Goals as goal
 
@@ -18,6 +19,10 @@ pub returns-then-self-now-clause-passed : goal.returns-then-self-now-clause-pass
 returns-then-self-now-clause-passed c =
     λ is start needs keeps. rw (returns-then-self-now-clause-took c is) (keeps_on c.args.self.now start needs c.args.need c.args.now keeps)
 
+pub returns-then-self-now-clause-bound : goal.returns-then-self-now-clause-bound
+returns-then-self-now-clause-bound c =
+    λ is start needs lives. need_is_bounded c.args.self.now start needs c.args.need c.args.now lives (sym c.if-not-passes.ensures.takes)
+
 pub returns-else-self-now-clause-took : goal.returns-else-self-now-clause-took
 returns-else-self-now-clause-took c =
     let adds : c.saturating_sub-adds.result ≡ c.args.need - c.args.self.now.burst =
@@ -32,3 +37,7 @@ returns-else-self-now-clause-took c =
 pub returns-else-self-now-clause-passed : goal.returns-else-self-now-clause-passed
 returns-else-self-now-clause-passed c =
     λ is start needs keeps. rw (returns-else-self-now-clause-took c is) (keeps_on c.args.self.now start needs c.args.need c.args.now keeps)
+
+pub returns-else-self-now-clause-bound : goal.returns-else-self-now-clause-bound
+returns-else-self-now-clause-bound c =
+    λ is start needs lives. need_is_bounded c.args.self.now start needs c.args.need c.args.now lives (sym c.if-not-passes.ensures.takes)
