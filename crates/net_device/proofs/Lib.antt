@@ -1,0 +1,4 @@
+pub mod Net
+pub mod Passing
+pub mod Pieces
+pub mod Working

@@ -1,0 +1,4 @@
+pub mod Frames
+pub mod Net
+pub mod Sequences
+pub mod Work

@@ -1,0 +1,42 @@
+// What holds of a network device, by what holds of every kind of device with queues.
+ghost use Rattle.std.specs.Prelude.{◌≡◌, ◌<◌, ◌^◌, ℕ, true, List};
+ghost use Rattle.device_trace.specs.Script.{Ends, Script};
+ghost use Rattle.device_trace.specs.States.{LeadsTo, wants};
+ghost use Rattle.device_trace.specs.Traces.{Item};
+ghost use Rattle.rate_gate.specs.Gate.{Buckets};
+ghost use Rattle.queue_device.specs.Confined.{IsDeviceAct};
+ghost use Rattle.queue_device.specs.Lanes.{new_lane};
+ghost use Rattle.queue_device.specs.Service.{Queued};
+ghost use Rattle.net_device.specs.declared.kind.NetChange.{NetChange};
+ghost use Rattle.net_device.specs.Net.{Net, is_link_call, net_rules, new_net};
+ghost use Rattle.net_device.specs.Sequences.{dropped, finish, limits_at, lost, no_limits, received, start, too_short, transmitted};
+ghost use Rattle.net_device.specs.Sequences.{used_lane};
+
+use crate::kind::NetKind;
+use queue_device::queue_stays;
+
+/// Wherever the items of a network device lead, it wants an act of its own, on the link alone of host objects, or guest time, and
+/// no byte outside RAM.
+pub fn net_stays()
+    ensures { (port pages : ℕ) (rx tx : Buckets) (items : List (Item NetChange)) (left : Script (Queued Net)) →
+        pages < 2 ^ 32 → LeadsTo net_rules (new_net port pages rx tx) items left →
+        IsDeviceAct true is_link_call port pages (wants net_rules left) }
+{
+    queue_stays::<NetKind>();
+}
+
+/// A frame of the link goes into the next chain behind its header. One for which the chain is too short is dropped, and one of
+/// which a piece fails is gone: neither waits for its limit. A frame that the driver sends waits until its bytes have flowed in,
+/// and goes out in pieces; one of another length is dropped at once.
+pub fn net_sequences()
+    ensures received { LeadsTo net_rules (start no_limits no_limits) received
+        (Ends (finish used_lane new_lane no_limits no_limits)) }
+    ensures too_short { LeadsTo net_rules (start (limits_at 0) no_limits) too_short
+        (Ends (finish used_lane new_lane (limits_at 0) no_limits)) }
+    ensures lost { LeadsTo net_rules (start (limits_at 0) no_limits) lost
+        (Ends (finish new_lane new_lane (limits_at 0) no_limits)) }
+    ensures transmitted { LeadsTo net_rules (start no_limits (limits_at 0)) transmitted
+        (Ends (finish new_lane used_lane no_limits (limits_at 1000))) }
+    ensures dropped { LeadsTo net_rules (start no_limits (limits_at 0)) dropped
+        (Ends (finish new_lane used_lane no_limits (limits_at 0))) }
+{}

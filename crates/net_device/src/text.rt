@@ -1,0 +1,78 @@
+// A header and a frame behind it.
+ghost use Rattle.std.specs.Prelude.{◌≡◌, ◌≤◌, ◌+◌, ◌++◌, [], length, take, drop};
+ghost use Rattle.net_device.specs.Frames.{header};
+
+use std::marker::Model;
+use vm_types::Piece;
+
+/// The header of 12 bytes and as much of a frame of at most 1,514 bytes as has come; or no byte.
+#[derive(Drop)]
+pub(crate) struct Text {
+    bytes: [u8; 1526],
+    len: usize,
+}
+
+impl Model for Text {
+    ghost use Rattle.std.specs.Prelude.{◌≡◌, ◌≤◌, List, ℕ, take, length};
+
+    ghost Value = { List ℕ };
+
+    ghost view = { λ t. take t.len t.bytes };
+
+    ghost invariant = { λ t. (t.len ≤ 1526) × (length t.bytes ≡ 1526) };
+}
+
+impl Text {
+    /// No byte.
+    pub(crate) fn new() -> Text
+        ensures { result ≡ [] }
+    {
+        Text {
+            bytes: [0; 1526],
+            len: 0,
+        }
+    }
+
+    /// No byte any more.
+    pub(crate) fn clear(&mut self)
+        ensures { self.new ≡ [] }
+    {
+        self.len = 0;
+    }
+
+    /// The header alone.
+    pub(crate) fn begin(&mut self)
+        ensures { self.new ≡ header }
+    {
+        self.bytes[..12].copy_from_slice(&[0, 0, 0, 0, 0, 0, 0, 0, 0, 0, 1, 0]);
+        self.len = 12;
+    }
+
+    pub(crate) fn len(&self) -> usize
+        ensures len { result ≡ length self.now }
+        ensures most { result ≤ 1526 }
+    {
+        self.len
+    }
+
+    /// One more piece at the end.
+    pub(crate) fn append(&mut self, piece: &Piece)
+        requires { length self.old + length piece.now ≤ 1526 }
+        ensures { self.new ≡ self.old ++ piece.now }
+    {
+        let piece = piece.as_slice();
+        let end = self.len + piece.len();
+        self.bytes[self.len..end].copy_from_slice(piece);
+        self.len = end;
+    }
+
+    /// So many bytes from a place on.
+    pub(crate) fn piece(&self, at: usize, n: usize) -> Piece
+        requires most { n ≤ 64 }
+        requires there { at + n ≤ length self.now }
+        ensures { result ≡ take n (drop at self.now) }
+    {
+        let bytes = &self.bytes[..self.len];
+        Piece::from_slice(&bytes[at..][..n])
+    }
+}
