@@ -1,7 +1,7 @@
 // Two harts that add to one word, in a hundred slices of 64 steps, each replayed step by step on another world.
 ghost use Rattle.std.specs.Prelude.{◌≡◌, All};
 
-use crate::worlds::{host, replays, two_harts, word_at};
+use crate::worlds::{clock, replays, two_harts, word_at};
 use pause_gate::{FlagGate, Pass};
 use slice_runner::{Slice, run_slice};
 use std::io;
@@ -47,7 +47,7 @@ fn run_all<R: Threads + Wait + AllocGlobal + Sync>(
 ) -> Counts
     requires { All (λ pass. pass.0 ≡ gate.now) passes.old.items }
 {
-    let mut host = host();
+    let mut clock = clock();
     let mut counts = Counts {
         slices: 0,
         stopped: 0,
@@ -57,7 +57,7 @@ fn run_all<R: Threads + Wait + AllocGlobal + Sync>(
         if world.hart_count() > 32 || passes.len() <= world.hart_count() {
             return counts;
         }
-        if let Ok(slice) = run_slice(rt, rt.alloc(), world, &mut host, gate, passes, 64) {
+        if let Ok(slice) = run_slice(rt, rt.alloc(), world, &mut clock, gate, passes, 64) {
             count(&mut counts, other, &slice);
         }
     }

@@ -1,7 +1,7 @@
 // Two harts that are held inside pages of their own, and then a closed gate.
 ghost use Rattle.std.specs.Prelude.{◌≡◌, All};
 
-use crate::worlds::{host, two_harts};
+use crate::worlds::{clock, two_harts};
 use pause_gate::{FlagGate, HoldGate, Party, Pass};
 use slice_runner::{Stop, run_slice};
 use std::io;
@@ -54,7 +54,7 @@ fn stop_of_hart_0<R: Threads + Wait + AllocGlobal + Sync>(
     if world.hart_count() > 32 || passes.len() <= world.hart_count() {
         return None;
     }
-    match run_slice(rt, rt.alloc(), world, &mut host(), gate, passes, 64) {
+    match run_slice(rt, rt.alloc(), world, &mut clock(), gate, passes, 64) {
         Ok(slice) => Some(slice.stops.get(1)?.stop),
         Err(_) => None,
     }

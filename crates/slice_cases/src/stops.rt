@@ -2,7 +2,7 @@
 ghost use Rattle.std.specs.Prelude.{◌≡◌, All};
 
 use crate::gates::pass_of;
-use crate::worlds::{host, two_drives, two_harts};
+use crate::worlds::{clock, two_drives, two_harts};
 use pause_gate::{FlagGate, Pass};
 use slice_runner::{Slice, Stop, run_slice};
 use std::io;
@@ -83,7 +83,7 @@ fn slice_of<R: Threads + Wait + AllocGlobal + Sync>(
     if world.hart_count() > 32 || passes.len() <= world.hart_count() {
         return None;
     }
-    match run_slice(rt, rt.alloc(), world, &mut host(), gate, passes, 20_000) {
+    match run_slice(rt, rt.alloc(), world, &mut clock(), gate, passes, 20_000) {
         Ok(slice) => Some(slice),
         Err(_) => None,
     }

@@ -2,7 +2,7 @@
 use boot_loader::Loads;
 use guest_devices::{NewDevice, NewDrive};
 use std::alloc::Global;
-use vm_host::{Clock, Host};
+use vm_host::Clock;
 use vm_types::{Entry, Op, is_same_op, is_same_place, is_same_reply};
 use vm_world::World;
 
@@ -25,13 +25,8 @@ impl Clock for Ticks {
     fn rest(&mut self, _most: u64) {}
 }
 
-pub fn host() -> Host<(), (), (), Ticks> {
-    Host {
-        disk: (),
-        link: (),
-        vsock: (),
-        clock: Ticks { moment: 0 },
-    }
+pub fn clock() -> Ticks {
+    Ticks { moment: 0 }
 }
 
 pub fn two_harts(alloc: Global, image: &[u8]) -> Option<World> {

@@ -16,7 +16,7 @@ use std::alloc::Global;
 use std::marker::Brand;
 use std::sync::Wait;
 use std::thread::Threads;
-use vm_host::{Clock, Host};
+use vm_host::Clock;
 use vm_types::{Entry, Torn};
 use vm_world::World;
 
@@ -72,16 +72,13 @@ fn give_up(world: &mut World, unshared: Unshared) -> SliceError
 ///
 /// The events lead from the world before to the world after, each as the flat machine's step, with the reply that it got;
 /// each is the timer's or a hart's, and devices are as they were. Their stamps begin anew with the slice. The timer's
-/// `Clock` answers are the clock's next ones, and no other host object is asked. Nothing is said of waiting, nor of which
+/// `Clock` answers are the clock's next ones. Nothing is said of waiting, nor of which
 /// actor gets on.
 ///
 /// Errors: `OutOfMemory` where the lists of events and journals, or what moves places, found no room before the first
 /// step, and then the world and the clock are as they were; `Torn` where journals and histories don't agree.
 pub fn run_slice<
     Q: Send + Drop,
-    D,
-    L,
-    V,
     C: Clock,
     G: Gate<Pass = Q> + Sync,
     R: Threads + Wait + Sync,
@@ -89,7 +86,7 @@ pub fn run_slice<
     rt: &R,
     alloc: Global,
     world: &mut World,
-    host: &mut Host<D, L, V, C>,
+    clock: &mut C,
     gate: &G,
     passes: &mut Vec<Q>,
     steps: u32,
@@ -104,11 +101,10 @@ pub fn run_slice<
     ensures stops { IfOk result (λ slice.
         AreStopped G.tally steps slice.events.items world.new slice.stops.items passes.old.items passes.new.items) }
     ensures clock { IfOk result (λ slice.
-        ClockWasAsked (C.known host.old.clock) slice.events.items (C.known host.new.clock)) }
+        ClockWasAsked (C.known clock.old) slice.events.items (C.known clock.new)) }
     ensures devices { OnOk result (world.new.devices ≡ world.old.devices) }
-    ensures beside { host.new ≡ record host.old { clock = host.new.clock } }
     ensures failed { IfErr result (λ why. HasFailed world.old world.new
-        (C.known host.old.clock) (C.known host.new.clock) passes.old.items passes.new.items why) }
+        (C.known clock.old) (C.known clock.new) passes.old.items passes.new.items why) }
     ensures serve { All (G.serves gate.now) passes.new.items }
     ensures same { length passes.new.items ≡ length passes.old.items }
 {
@@ -126,7 +122,7 @@ pub fn run_slice<
         rt,
         alloc,
         gate,
-        &mut host.clock,
+        clock,
         passes,
         parts,
         room,
