@@ -7,6 +7,7 @@ use host_real::{
     keep_freed_memory,
 };
 use monitor_cli::{NoWords, Outside};
+use monitor_running::TracedHost;
 use outside_real::{Folder, Output, Reading, fill_standard};
 use std::io::ErrorKind;
 use std::process::ExitCode;
@@ -30,15 +31,17 @@ fn main(rt: HostRuntime) -> ExitCode {
         files: Folder::new(&rt),
     };
     let mut with = ServeOutside {
-        host: Host {
-            disk: DiskFiles::new(&rt),
-            link: (),
-            vsock: (),
-            clock: SystemClock::new(&rt, &bell),
+        turns: TracedHost {
+            host: Host {
+                disk: DiskFiles::new(&rt),
+                link: (),
+                vsock: (),
+                clock: SystemClock::new(&rt, &bell),
+            },
+            trace: TraceFile::new(&rt),
         },
         words: RandomWords::new(&rt),
         listener: SocketListener::new(&rt, &bell),
-        trace: TraceFile::new(&rt),
     };
     let words = words(&rt).map_err(|e| why(&e));
     let exit = firecracker_main::<_, _, _, _, _, _, SocketConn<'_, _>, _, _, _>(

@@ -24,6 +24,7 @@ use Rattle.flat_trace.specs.Events.{quiet_act}
 use Rattle.flat_trace.specs.Showing.{Out, Run, items_of, said, shown}
 use Rattle.monitor_running.specs.Asked.{HostAnswered, HostKnown}
 use Rattle.monitor_running.specs.Reached.{LeadsAhead, NoLineage}
+use Rattle.monitor_running.specs.Traced.{traced_known}
 use Rattle.monitor_serving.specs.Connections.{AreTold, AreToldInPart, AreToldOff, HaveCome}
 use Rattle.monitor_serving.specs.Turns.{IsTorn}
 use Rattle.monitor_serving.specs.Views.{AllTell, Hosts, hosts_of}
@@ -42,7 +43,7 @@ serve_known hosts words listener = record { hosts = hosts; words = words; listen
 abbrev pub serve_known_of : {T K C D F W M : Type 0} → (T → TraceKnown) → (K → SinkKnown) → (C → ClockKnown) → (D → DiskKnown)
     → (F → FilesKnown) → (W → WordsKnown) → (M → ListenerKnown) → K → F → ServeOutside D C W M T → ServeKnown
 serve_known_of of_trace of_sink of_clock of_disk of_files of_words of_listener sink files with =
-    serve_known (hosts_of of_trace of_sink of_clock of_disk of_files with.trace sink with.host files) (of_words with.words)
+    serve_known (hosts_of (traced_known of_trace of_clock of_disk) of_sink of_files with.turns sink files) (of_words with.words)
     (of_listener with.listener)
 
 -- the trace, the sink, the files and the listener tell their content; what is said of the words holds where these tell theirs

@@ -131,10 +131,10 @@ fn serve_on<
         (serve_known_of T.known K.known C.known D.known F.known W.known M.known sink.old files.old with.old)
         (serve_known_of T.known K.known C.known D.known F.known W.known M.known sink.new files.new with.new) }
 {
-    if let Err(object) = open(words, &mut with.listener, &mut with.trace) {
+    if let Err(object) = open(words, &mut with.listener, &mut with.turns.trace) {
         return Exit::Fault(object);
     }
-    if let Err(object) = draw_lineage(&mut with.words, &mut with.trace, &mut monitor) {
+    if let Err(object) = draw_lineage(&mut with.words, &mut with.turns.trace, &mut monitor) {
         return Exit::Fault(object);
     }
     let served = serve(
@@ -143,12 +143,11 @@ fn serve_on<
         steps,
         &mut monitor,
         files,
-        &mut with.host,
+        &mut with.turns,
         &mut with.listener,
-        &mut with.trace,
         sink,
     );
-    close(exit_of(&served), &monitor, &mut with.trace, sink)
+    close(exit_of(&served), &monitor, &mut with.turns.trace, sink)
 }
 
 // Serves a machine of the id that the words give, all but the last line.

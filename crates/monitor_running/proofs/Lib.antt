@@ -5,6 +5,7 @@ pub mod Disks
 pub mod Going
 pub mod Joins
 pub mod Led
+pub mod Lent
 pub mod Lifts
 pub mod Lone
 pub mod Making

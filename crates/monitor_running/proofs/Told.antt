@@ -9,7 +9,6 @@ use Rattle.vm_outside.specs.Known as objects
 use Rattle.vm_outside.specs.Passing.{TakesPart}
 use Rattle.serve_host.specs.Tracing.{TraceKnown, TraceStays}
 use Rattle.script_text.specs.declared.item.Item.{Item}
-use Rattle.vm_host.specs.declared.host.Host.{Host}
 use Rattle.vm_host.specs.Storing.{DiskKnown}
 use Rattle.vm_host.specs.Telling.{ClockKnown}
 use Rattle.board_table.specs.Board.{Board}
@@ -247,11 +246,6 @@ pub slice_gone : (es : List Entry) (w v : WorldValue) (asked now : HostKnown) �
     → EventsGone es w v asked now
 slice_gone es w v asked now serial there was same g is =
     (serial g is, was, rw same (unasked_there (length w.harts) es asked.disk there), ports_there (length w.harts) es there)
-
--- the disks of a host of which the clock alone is asked
-pub same_disk : {D L V C : Type 0} (known : D → DiskKnown) (first last : Host D L V C) → last ≡ record first { clock = last.clock }
-    → known last.disk ≡ known first.disk
-same_disk {D} {L} {V} {C} known first last is = ap (λ (h : Host D L V C). known h.disk) is
 
 -- what a round says
 pub round_gone : (but : Option ℕ) (es : List Entry) (w v : WorldValue) (asked now : ClockKnown) (disk : DiskKnown)

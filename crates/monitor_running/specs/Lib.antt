@@ -2,8 +2,10 @@ pub mod Alone
 pub mod Asked
 pub mod Devices
 pub mod Items
+pub mod Objects
 pub mod Passes
 pub mod Ran
 pub mod Reached
+pub mod Traced
 pub mod Waiting
 pub mod Working

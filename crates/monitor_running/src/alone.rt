@@ -5,21 +5,19 @@ ghost use Rattle.vm_types.specs.declared.op.Op.TheVariants.{Idle};
 ghost use Rattle.vm_world.specs.Worlds.{want_in};
 ghost use Rattle.monitor_running.specs.declared.ran.Ran.TheVariants as ran;
 ghost use Rattle.monitor_running.specs.Alone.{HasRun};
-ghost use Rattle.monitor_running.specs.Asked.{host_known};
+ghost use Rattle.monitor_running.specs.Objects.{known_with};
 ghost use Rattle.monitor_running.specs.Passes.{ArePassed};
 ghost use Rattle.monitor_running.specs.Ran.{IsRunning, Went};
-ghost use Rattle.monitor_running.specs.Reached.{known};
 ghost use Rattle.monitor_running.specs.Waiting.{IsAlone, OthersIdle};
 
 use crate::gating::looks_open;
+use crate::objects::TurnObjects;
 use crate::ran::Ran;
 use crate::telling::{end_by, tell_steps};
 use crate::waiting::{MOST_HARTS, pass_round, waits};
 use crate::working::device_works;
 use pause_gate::Gate;
-use serve_host::Trace;
 use std::alloc::Global;
-use vm_host::{Clock, Disk, Host};
 use vm_outside::Sink;
 use vm_types::ActorId;
 use vm_world::World;
@@ -132,33 +130,32 @@ fn run_hart<Q, G: Gate<Pass = Q>>(
 
 /// A turn of one hart. Before it two events of the timer and of each other hart are made, and where another one waits no more after
 /// them, this turn has no event of the hart. They are told, and drained, and so are then the hart's.
-pub fn run_alone<Q, D: Disk, L, V, C: Clock, G: Gate<Pass = Q>, T: Trace, K: Sink>(
+pub fn run_alone<Q, W: TurnObjects, G: Gate<Pass = Q>, K: Sink>(
     alloc: Global,
     world: &mut World,
-    host: &mut Host<D, L, V, C>,
+    with: &mut W,
     gate: &G,
     passes: &mut Vec<Q>,
     turn: Turn,
-    trace: &mut T,
     sink: &mut K,
 ) -> Option<Ran>
     requires harts { length world.old.harts ≤ 32 }
     requires some { 0 < length passes.old.items }
     requires serve { All (G.serves gate.now) passes.old.items }
     ensures went { Went IsRunning result
-        (known (T.known trace.old) (K.known sink.old) (host_known C.known D.known host.old)) world.old
-        (known (T.known trace.new) (K.known sink.new) (host_known C.known D.known host.new)) world.new }
+        (known_with (W.known with.old) (K.known sink.old)) world.old
+        (known_with (W.known with.new) (K.known sink.new)) world.new }
     ensures passes { ArePassed (G.serves gate.now) G.tally result passes.old.items passes.new.items }
     ensures unclosed { result ≢ Some ran.Closed }
 {
-    if let Some(end) = pass_round(alloc, world, host, Some(turn.hart), trace, sink) {
+    if let Some(end) = pass_round(alloc, world, with, Some(turn.hart), sink) {
         return Some(end);
     }
     if world.hart_count() > MOST_HARTS || !others_wait(world, turn.hart) {
         return None;
     }
     let made = run_hart(world, turn, gate, passes);
-    if let Err(why) = tell_steps(ActorId::Hart(turn.hart), made, world, trace, sink) {
+    if let Err(why) = tell_steps(ActorId::Hart(turn.hart), made, world, with, sink) {
         return Some(end_by(why));
     }
     None

@@ -6,13 +6,14 @@
 //! the sink, its item to the trace first, unless the sink isn't ready: then the console keeps it. Before each turn the devices act, and their disks answer them (`devices`); where
 //! every hart waits a few events are made in place of a slice (`waiting`). So what the trace took is a run of the flat
 //! machine that leaves the machine and shows what the sink took, and where turns end early the sink took a front of what
-//! the trace says. `flat_trace` has what an item of a trace does, `specs/Reached.antt` what is kept, `specs/Asked.antt` what
+//! the trace says. What turns are given is one object (`objects`), of which one ghost fact is known. `flat_trace` has what an item of a trace does, `specs/Reached.antt` what is kept, `specs/Asked.antt` what
 //! the clock and the disks were asked, and `specs/Ran.antt` how turns go and end.
 #![tactic(auto)]
 
 mod alone;
 mod devices;
 mod gating;
+mod objects;
 mod ran;
 mod running;
 mod telling;
@@ -20,6 +21,7 @@ mod waiting;
 mod working;
 
 pub use devices::run_devices;
+pub use objects::{TracedHost, TurnObjects};
 pub use ran::Ran;
 pub use running::{end_of_closed, run_once, run_while};
 pub use waiting::is_quiet;

@@ -1,29 +1,36 @@
 // Turns of a machine until a gate is closed.
-ghost use Rattle.std.specs.Prelude.{◌≡◌, ◌≢◌, ◌⊎◌, ◌≤◌, ◌<◌, ◌+◌, true, length, All, MatchBool};
+ghost use Rattle.std.specs.Prelude.{◌≡◌, ◌≢◌, ◌⊎◌, ◌≤◌, ◌<◌, ◌+◌, true, length, All, IfErr, IfOk, MatchBool, OnErr};
 ghost use Rattle.vm_host.specs.Telling as clocks;
+ghost use Rattle.flat_guest.specs.Guest.{Guest};
+ghost use Rattle.vm_world.specs.Worlds.{IsWorld};
+ghost use Rattle.slice_runner.specs.Ended.{HasFailed};
+ghost use Rattle.slice_runner.specs.Slices.{ClockWasAsked, IsSerial, IsThere};
+ghost use Rattle.slice_runner.specs.Stops.{AreStopped};
 ghost use Rattle.monitor_machine.specs.State.{IsLive};
+ghost use Rattle.monitor_running.specs.Devices.{DiskWasAsked, IsDevices};
 ghost use Rattle.monitor_running.specs.declared.ran.Ran.TheVariants as ran;
 ghost use Rattle.monitor_running.specs.Passes.{ArePassed};
 ghost use Rattle.monitor_running.specs.Ran.{IsRunning, Went, slice_end};
-ghost use Rattle.monitor_running.specs.Asked.{host_known};
-ghost use Rattle.monitor_running.specs.Reached.{Known, known};
+ghost use Rattle.monitor_running.specs.Objects.{known_with, with_clock, with_disk};
+ghost use Rattle.monitor_running.specs.Reached.{Known};
 
 use crate::alone::{MOST_ALONE, Turn, lone_hart, run_alone};
 use crate::devices::{MOST_DEVICES, run_devices};
 use crate::gating::is_open;
+use crate::objects::TurnObjects;
 use crate::ran::Ran;
 use crate::telling::{end_by, tell_slice};
 use crate::waiting::{MOST_HARTS, all_wait, pass_round, time_left};
 use crate::working::device_works;
 use monitor_machine::LiveMachine;
 use pause_gate::Gate;
-use serve_host::Trace;
-use slice_runner::{SliceError, run_slice};
-use std::alloc::Global;
+use slice_runner::{Slice, SliceError, run_slice};
+use std::alloc::{AllocError, Global};
 use std::sync::Wait;
 use std::thread::Threads;
-use vm_host::{Clock, Disk, Host};
+use vm_host::Clock;
 use vm_outside::Sink;
+use vm_types::Entry;
 use vm_world::World;
 
 /// All actors of a slice together make at most so many steps, so that their journals take some 45 MiB at most.
@@ -71,43 +78,66 @@ fn steps_each(world: &World, steps: u32) -> u32
     steps.min(MOST_STEPS / actors)
 }
 
+// A slice, for which the clock is lent.
+fn slice_by<Q: Send + Drop, W: TurnObjects, G: Gate<Pass = Q> + Sync, R: Threads + Wait + Sync>(
+    rt: &R,
+    alloc: Global,
+    world: &mut World,
+    with: &mut W,
+    gate: &G,
+    passes: &mut Vec<Q>,
+    steps: u32,
+) -> Result<Slice, SliceError>
+    requires harts { length world.old.harts ≤ 32 }
+    requires passes { length world.old.harts + 1 ≤ length passes.old.items }
+    requires serve { All (G.serves gate.now) passes.old.items }
+    ensures serial { IfOk result (λ slice. IsSerial world.old slice.events.items world.new) }
+    ensures actors { IfOk result (λ slice. All (λ e. IsThere (length world.old.harts) e.actor) slice.events.items) }
+    ensures stops { IfOk result (λ slice.
+        AreStopped G.tally steps slice.events.items world.new slice.stops.items passes.old.items passes.new.items) }
+    ensures clock { IfOk result (λ slice.
+        ClockWasAsked (W.known with.old).host.clock slice.events.items (W.known with.new).host.clock) }
+    ensures failed { IfErr result (λ why. HasFailed world.old world.new
+        (W.known with.old).host.clock (W.known with.new).host.clock passes.old.items passes.new.items why) }
+    ensures serve { All (G.serves gate.now) passes.new.items }
+    ensures same { length passes.new.items ≡ length passes.old.items }
+    ensures beside { W.known with.new ≡ with_clock (W.known with.old) (W.known with.new).host.clock }
+{
+    run_slice(rt, alloc, world, with.clock(), gate, passes, steps)
+}
+
 // One slice of a guest, its events and a drain.
 fn run_guest<
     Q: Send + Drop,
-    D: Disk,
-    L,
-    V,
-    C: Clock,
+    W: TurnObjects,
     G: Gate<Pass = Q> + Sync,
-    T: Trace,
     K: Sink,
     R: Threads + Wait + Sync,
 >(
     rt: &R,
     alloc: Global,
     world: &mut World,
-    host: &mut Host<D, L, V, C>,
+    with: &mut W,
     gate: &G,
     passes: &mut Vec<Q>,
     steps: u32,
-    trace: &mut T,
     sink: &mut K,
 ) -> Option<Ran>
     requires harts { length world.old.harts ≤ 32 }
     requires passes { length world.old.harts + 1 ≤ length passes.old.items }
     requires serve { All (G.serves gate.now) passes.old.items }
     ensures went { Went IsRunning result
-        (known (T.known trace.old) (K.known sink.old) (host_known C.known D.known host.old)) world.old
-        (known (T.known trace.new) (K.known sink.new) (host_known C.known D.known host.new)) world.new }
+        (known_with (W.known with.old) (K.known sink.old)) world.old
+        (known_with (W.known with.new) (K.known sink.new)) world.new }
     ensures passes { ArePassed (G.serves gate.now) G.tally result passes.old.items passes.new.items }
     ensures unclosed { result ≢ Some ran.Closed }
 {
     let each = steps_each(world, steps);
-    let slice = match run_slice(rt, alloc, world, host, gate, passes, each) {
+    let slice = match slice_by(rt, alloc, world, with, gate, passes, each) {
         Ok(slice) => slice,
         Err(why) => return Some(slice_end(why)),
     };
-    if let Err(why) = tell_slice(slice.events.as_slice(), world, trace, sink) {
+    if let Err(why) = tell_slice(slice.events.as_slice(), world, with, sink) {
         return Some(end_by(why));
     }
     None
@@ -121,56 +151,81 @@ fn events_each(world: &World) -> u32
     MOST_EVENTS.min(MOST_EVENTS_OF_ALL / devices)
 }
 
-// The devices act, and a drain.
-fn act<D: Disk, L, V, C: Clock, T: Trace, K: Sink>(
+// The devices act, for which the disks are lent.
+fn devices_by<W: TurnObjects>(
     alloc: Global,
     world: &mut World,
-    host: &mut Host<D, L, V, C>,
-    trace: &mut T,
+    with: &mut W,
+    most: u32,
+) -> Result<Vec<Entry>, AllocError>
+    ensures gone { IfOk result (λ events. IsSerial world.old events.items world.new) }
+    ensures made { IfOk result (λ events. (g : Guest) → IsWorld world.old g → All IsDevices events.items) }
+    ensures asked { IfOk result (λ events. (g : Guest) → IsWorld world.old g →
+        DiskWasAsked (W.known with.old).host.disk events.items (W.known with.new).host.disk) }
+    ensures world { OnErr result (world.new ≡ world.old) }
+    ensures disk { OnErr result ((W.known with.new).host.disk ≡ (W.known with.old).host.disk) }
+    ensures beside { W.known with.new ≡ with_disk (W.known with.old) (W.known with.new).host.disk }
+{
+    run_devices(alloc, world, with.disk(), most)
+}
+
+// The devices act, and a drain.
+fn act<W: TurnObjects, K: Sink>(
+    alloc: Global,
+    world: &mut World,
+    with: &mut W,
     sink: &mut K,
 ) -> Option<Ran>
     ensures went { Went IsRunning result
-        (known (T.known trace.old) (K.known sink.old) (host_known C.known D.known host.old)) world.old
-        (known (T.known trace.new) (K.known sink.new) (host_known C.known D.known host.new)) world.new }
+        (known_with (W.known with.old) (K.known sink.old)) world.old
+        (known_with (W.known with.new) (K.known sink.new)) world.new }
     ensures unclosed { result ≢ Some ran.Closed }
 {
     let each = events_each(world);
-    let Ok(events) = run_devices(alloc, world, &mut host.disk, each) else {
+    let Ok(events) = devices_by(alloc, world, with, each) else {
         return Some(Ran::OutOfMemory);
     };
-    if let Err(why) = tell_slice(events.as_slice(), world, trace, sink) {
+    if let Err(why) = tell_slice(events.as_slice(), world, with, sink) {
         return Some(end_by(why));
     }
     None
 }
 
 // The clock rests, where every hart waits still and no device has something to do, until the next timer interrupt is due at most.
-fn rest_where_all_wait<C: Clock>(world: &World, clock: &mut C)
-    ensures { clocks.Lasts (C.known clock.old) (C.known clock.new) }
+fn rest_where_all_wait<W: TurnObjects>(world: &World, with: &mut W)
+    ensures rests { clocks.Lasts (W.known with.old).host.clock (W.known with.new).host.clock }
+    ensures beside { W.known with.new ≡ with_clock (W.known with.old) (W.known with.new).host.clock }
 {
     if world.hart_count() <= MOST_HARTS && all_wait(world) && !device_works(world) {
-        clock.rest(time_left(world.board()));
+        with.clock().rest(time_left(world.board()));
     }
 }
 
+// The clock rests until something comes from outside.
+fn rest_long<W: TurnObjects>(with: &mut W)
+    ensures rests { clocks.Lasts (W.known with.old).host.clock (W.known with.new).host.clock }
+    ensures beside { W.known with.new ≡ with_clock (W.known with.old) (W.known with.new).host.clock }
+{
+    with.clock().rest(u64::MAX);
+}
+
 // Time passes, and the clock rests where that woke no hart.
-fn wait<D: Disk, L, V, C: Clock, T: Trace, K: Sink>(
+fn wait<W: TurnObjects, K: Sink>(
     alloc: Global,
     world: &mut World,
-    host: &mut Host<D, L, V, C>,
-    trace: &mut T,
+    with: &mut W,
     sink: &mut K,
 ) -> Option<Ran>
     requires { length world.old.harts ≤ 32 }
     ensures went { Went IsRunning result
-        (known (T.known trace.old) (K.known sink.old) (host_known C.known D.known host.old)) world.old
-        (known (T.known trace.new) (K.known sink.new) (host_known C.known D.known host.new)) world.new }
+        (known_with (W.known with.old) (K.known sink.old)) world.old
+        (known_with (W.known with.new) (K.known sink.new)) world.new }
     ensures unclosed { result ≢ Some ran.Closed }
 {
-    if let Some(end) = pass_round(alloc, world, host, None, trace, sink) {
+    if let Some(end) = pass_round(alloc, world, with, None, sink) {
         return Some(end);
     }
-    rest_where_all_wait(world, &mut host.clock);
+    rest_where_all_wait(world, with);
     None
 }
 
@@ -178,80 +233,70 @@ fn wait<D: Disk, L, V, C: Clock, T: Trace, K: Sink>(
 // and else time passes.
 fn run_or_wait<
     Q: Send + Drop,
-    D: Disk,
-    L,
-    V,
-    C: Clock,
+    W: TurnObjects,
     G: Gate<Pass = Q> + Sync,
-    T: Trace,
     K: Sink,
     R: Threads + Wait + Sync,
 >(
     rt: &R,
     alloc: Global,
     world: &mut World,
-    host: &mut Host<D, L, V, C>,
+    with: &mut W,
     gate: &G,
     passes: &mut Vec<Q>,
     steps: u32,
-    trace: &mut T,
     sink: &mut K,
 ) -> Option<Ran>
     requires { All (G.serves gate.now) passes.old.items }
     ensures went { Went IsRunning result
-        (known (T.known trace.old) (K.known sink.old) (host_known C.known D.known host.old)) world.old
-        (known (T.known trace.new) (K.known sink.new) (host_known C.known D.known host.new)) world.new }
+        (known_with (W.known with.old) (K.known sink.old)) world.old
+        (known_with (W.known with.new) (K.known sink.new)) world.new }
     ensures passes { ArePassed (G.serves gate.now) G.tally result passes.old.items passes.new.items }
     ensures unclosed { result ≢ Some ran.Closed }
 {
     if !has_passes(world, passes.len()) {
-        host.clock.rest(u64::MAX);
+        rest_long(with);
         return None;
     }
     if all_wait(world) {
-        return wait(alloc, world, host, trace, sink);
+        return wait(alloc, world, with, sink);
     }
     if let Some(hart) = lone_hart(world) {
         let most = steps.min(MOST_ALONE);
         let turn = Turn { hart, most };
-        return run_alone(alloc, world, host, gate, passes, turn, trace, sink);
+        return run_alone(alloc, world, with, gate, passes, turn, sink);
     }
-    run_guest(rt, alloc, world, host, gate, passes, steps, trace, sink)
+    run_guest(rt, alloc, world, with, gate, passes, steps, sink)
 }
 
 // The devices act, and then the harts and the timer.
 fn run_world<
     Q: Send + Drop,
-    D: Disk,
-    L,
-    V,
-    C: Clock,
+    W: TurnObjects,
     G: Gate<Pass = Q> + Sync,
-    T: Trace,
     K: Sink,
     R: Threads + Wait + Sync,
 >(
     rt: &R,
     alloc: Global,
     world: &mut World,
-    host: &mut Host<D, L, V, C>,
+    with: &mut W,
     gate: &G,
     passes: &mut Vec<Q>,
     steps: u32,
-    trace: &mut T,
     sink: &mut K,
 ) -> Option<Ran>
     requires { All (G.serves gate.now) passes.old.items }
     ensures went { Went IsRunning result
-        (known (T.known trace.old) (K.known sink.old) (host_known C.known D.known host.old)) world.old
-        (known (T.known trace.new) (K.known sink.new) (host_known C.known D.known host.new)) world.new }
+        (known_with (W.known with.old) (K.known sink.old)) world.old
+        (known_with (W.known with.new) (K.known sink.new)) world.new }
     ensures passes { ArePassed (G.serves gate.now) G.tally result passes.old.items passes.new.items }
     ensures unclosed { result ≢ Some ran.Closed }
 {
-    if let Some(end) = act(alloc, world, host, trace, sink) {
+    if let Some(end) = act(alloc, world, with, sink) {
         return Some(end);
     }
-    run_or_wait(rt, alloc, world, host, gate, passes, steps, trace, sink)
+    run_or_wait(rt, alloc, world, with, gate, passes, steps, sink)
 }
 
 /// One turn of a machine. Before it the devices act without the gate (`run_devices`), each of them 4,096 events at most, and all of
@@ -271,29 +316,24 @@ fn run_world<
 /// the console of a guest that is on keeps what it holds, for a later turn.
 pub fn run_once<
     Q: Send + Drop,
-    D: Disk,
-    L,
-    V,
-    C: Clock,
+    W: TurnObjects,
     G: Gate<Pass = Q> + Sync,
-    T: Trace,
     K: Sink,
     R: Threads + Wait + Sync,
 >(
     rt: &R,
     alloc: Global,
     machine: &mut LiveMachine,
-    host: &mut Host<D, L, V, C>,
+    with: &mut W,
     gate: &G,
     passes: &mut Vec<Q>,
     steps: u32,
-    trace: &mut T,
     sink: &mut K,
 ) -> Option<Ran>
     requires { All (G.serves gate.now) passes.old.items }
     ensures went { Went IsLive result
-        (known (T.known trace.old) (K.known sink.old) (host_known C.known D.known host.old)) machine.old
-        (known (T.known trace.new) (K.known sink.new) (host_known C.known D.known host.new)) machine.new }
+        (known_with (W.known with.old) (K.known sink.old)) machine.old
+        (known_with (W.known with.new) (K.known sink.new)) machine.new }
     ensures passes { ArePassed (G.serves gate.now) G.tally result passes.old.items passes.new.items }
     ensures unclosed { result ≢ Some ran.Closed }
 {
@@ -303,12 +343,10 @@ pub fn run_once<
     let Some(mut world) = machine.take_running() else {
         // (what the sink took and held back may go on by that)
         let _ = sink.ready();
-        host.clock.rest(u64::MAX);
+        rest_long(with);
         return None;
     };
-    let end = run_world(
-        rt, alloc, &mut world, host, gate, passes, steps, trace, sink,
-    );
+    let end = run_world(rt, alloc, &mut world, with, gate, passes, steps, sink);
     machine.put_guest(world);
     end
 }
@@ -329,37 +367,32 @@ pub fn end_of_closed(machine: &LiveMachine) -> Ran
 /// `Closed` is answered where the guest is on, and `Off` where it is off.
 pub fn run_while<
     Q: Send + Drop,
-    D: Disk,
-    L,
-    V,
-    C: Clock,
+    W: TurnObjects,
     G: Gate<Pass = Q> + Sync,
-    T: Trace,
     K: Sink,
     R: Threads + Wait + Sync,
 >(
     rt: &R,
     alloc: Global,
     machine: &mut LiveMachine,
-    host: &mut Host<D, L, V, C>,
+    with: &mut W,
     gate: &G,
     passes: &mut Vec<Q>,
     steps: u32,
-    trace: &mut T,
     sink: &mut K,
 ) -> Ran
     requires some { 0 < length passes.old.items }
     requires serve { All (G.serves gate.now) passes.old.items }
     ensures went { Went IsLive (Some result)
-        (known (T.known trace.old) (K.known sink.old) (host_known C.known D.known host.old)) machine.old
-        (known (T.known trace.new) (K.known sink.new) (host_known C.known D.known host.new)) machine.new }
+        (known_with (W.known with.old) (K.known sink.old)) machine.old
+        (known_with (W.known with.new) (K.known sink.new)) machine.new }
     ensures passes { ArePassed (G.serves gate.now) G.tally (Some result) passes.old.items passes.new.items }
 {
     for _ in rt.forever() {
         if !is_open(gate, passes) {
             return end_of_closed(machine);
         }
-        if let Some(end) = run_once(rt, alloc, machine, host, gate, passes, steps, trace, sink) {
+        if let Some(end) = run_once(rt, alloc, machine, with, gate, passes, steps, sink) {
             return end;
         }
     }

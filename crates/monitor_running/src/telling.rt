@@ -5,8 +5,10 @@ ghost use Rattle.vm_outside.specs.Known.{Lasts, Tells};
 ghost use Rattle.vm_types.specs.Causes.{Rose};
 ghost use Rattle.monitor_running.specs.declared.telling.Untold.TheVariants as untold;
 ghost use Rattle.monitor_running.specs.Items.{Drains, MayDrain, TellsSlice, TellsSteps};
+ghost use Rattle.monitor_running.specs.Objects.{with_trace};
 ghost use Rattle.monitor_running.specs.Ran.{end_by};
 
+use crate::objects::TurnObjects;
 use crate::ran::Ran;
 use monitor_machine::drain_all;
 use script_text::Item;
@@ -83,8 +85,8 @@ fn drain_if_ready<T: Trace, K: Sink>(
     drain(guest, trace, sink)
 }
 
-/// Tells the trace the events of a slice, and then drains the console, or leaves that for later (`drain_if_ready`).
-pub fn tell_slice<T: Trace, K: Sink>(
+// The events of a slice, and then a drain, or none.
+fn slice_to<T: Trace, K: Sink>(
     events: &[Entry],
     guest: &mut World,
     trace: &mut T,
@@ -107,8 +109,8 @@ pub fn tell_slice<T: Trace, K: Sink>(
     drain_if_ready(guest, trace, sink)
 }
 
-/// Tells the trace so many steps of an actor, and then drains the console as above. No item is made for them.
-pub fn tell_steps<T: Trace, K: Sink>(
+// So many steps of an actor, and then a drain, or none.
+fn steps_to<T: Trace, K: Sink>(
     actor: ActorId,
     count: u64,
     guest: &mut World,
@@ -130,4 +132,49 @@ pub fn tell_steps<T: Trace, K: Sink>(
         return Err(Untold::Trace);
     };
     drain_if_ready(guest, trace, sink)
+}
+
+/// Tells the trace the events of a slice, and then drains the console, or leaves that for later (`drain_if_ready`).
+pub fn tell_slice<W: TurnObjects, K: Sink>(
+    events: &[Entry],
+    guest: &mut World,
+    with: &mut W,
+    sink: &mut K,
+) -> Result<(), Untold>
+    ensures told { Tells (W.known with.old).trace.health → Tells (K.known sink.old).health →
+        TellsSlice result events.now guest.old (W.known with.old).trace.took (K.known sink.old).taken
+        guest.new (W.known with.new).trace.took (K.known sink.new).taken }
+    ensures trace_cause { IfErr result (λ why. why ≡ untold.Trace →
+        Rose (W.known with.old).trace.health.faults (W.known with.new).trace.health.faults) }
+    ensures sink_cause { IfErr result (λ why. why ≡ untold.Sink →
+        Rose (K.known sink.old).health.faults (K.known sink.new).health.faults) }
+    ensures trace_lasts { Lasts (W.known with.old).trace.health (W.known with.new).trace.health }
+    ensures trace_stays { TraceStays (W.known with.old).trace (W.known with.new).trace }
+    ensures sink_lasts { Lasts (K.known sink.old).health (K.known sink.new).health }
+    ensures beside { W.known with.new ≡ with_trace (W.known with.old) (W.known with.new).trace }
+{
+    slice_to(events, guest, with.trace(), sink)
+}
+
+/// Tells the trace so many steps of an actor, and then drains the console as above. No item is made for them.
+pub fn tell_steps<W: TurnObjects, K: Sink>(
+    actor: ActorId,
+    count: u64,
+    guest: &mut World,
+    with: &mut W,
+    sink: &mut K,
+) -> Result<(), Untold>
+    ensures told { Tells (W.known with.old).trace.health → Tells (K.known sink.old).health →
+        TellsSteps result actor count guest.old (W.known with.old).trace.took (K.known sink.old).taken
+        guest.new (W.known with.new).trace.took (K.known sink.new).taken }
+    ensures trace_cause { IfErr result (λ why. why ≡ untold.Trace →
+        Rose (W.known with.old).trace.health.faults (W.known with.new).trace.health.faults) }
+    ensures sink_cause { IfErr result (λ why. why ≡ untold.Sink →
+        Rose (K.known sink.old).health.faults (K.known sink.new).health.faults) }
+    ensures trace_lasts { Lasts (W.known with.old).trace.health (W.known with.new).trace.health }
+    ensures trace_stays { TraceStays (W.known with.old).trace (W.known with.new).trace }
+    ensures sink_lasts { Lasts (K.known sink.old).health (K.known sink.new).health }
+    ensures beside { W.known with.new ≡ with_trace (W.known with.old) (W.known with.new).trace }
+{
+    steps_to(actor, count, guest, with.trace(), sink)
 }

@@ -23,19 +23,18 @@ ghost use Rattle.vm_host.specs.Telling.{ClockKnown};
 ghost use Rattle.flat_guest.specs.Guest.{Guest};
 ghost use Rattle.vm_world.specs.Worlds.{IsWorld, WorldValue, want_in};
 ghost use Rattle.monitor_running.specs.declared.ran.Ran.TheVariants as ran;
-ghost use Rattle.monitor_running.specs.Asked.{host_known};
+ghost use Rattle.monitor_running.specs.Objects.{known_with, with_clock};
 ghost use Rattle.monitor_running.specs.Ran.{IsRunning, Went};
-ghost use Rattle.monitor_running.specs.Reached.{known};
 ghost use Rattle.monitor_running.specs.Waiting.{AllIdle, HasGone, HasMade, IsQuiet, hart_turn, is_left_out, makers, takes_turn, turns};
 
+use crate::objects::TurnObjects;
 use crate::ran::Ran;
 use crate::telling::{end_by, tell_slice};
 use line_board::Board;
 use monitor_machine::LiveMachine;
-use serve_host::Trace;
 use slice_runner::ask_clock;
 use std::alloc::{AllocError, Global};
-use vm_host::{Clock, Disk, Host};
+use vm_host::Clock;
 use vm_outside::Sink;
 use vm_types::{ActorId, Entry, Op};
 use vm_world::World;
@@ -184,25 +183,43 @@ fn pass_time<C: Clock>(
     Ok(events)
 }
 
-/// Two events of the timer, and then of each hart but the one that is left out, in order, whatever they want, and a drain.
-pub fn pass_round<D: Disk, L, V, C: Clock, T: Trace, K: Sink>(
+// The same, for which the clock is lent.
+fn pass_by<W: TurnObjects>(
     alloc: Global,
     world: &mut World,
-    host: &mut Host<D, L, V, C>,
     but: Option<u8>,
-    trace: &mut T,
+    with: &mut W,
+) -> Result<Vec<Entry>, AllocError>
+    requires { length world.old.harts ≤ 32 }
+    ensures gone { IfOk result (λ events.
+        HasGone events.items world.old world.new (W.known with.old).host.clock (W.known with.new).host.clock) }
+    ensures made { IfOk result (λ events. (g : Guest) → IsWorld world.old g →
+        makers events.items ≡ turns but (length world.old.harts)) }
+    ensures world { OnErr result (world.new ≡ world.old) }
+    ensures clock { OnErr result ((W.known with.new).host.clock ≡ (W.known with.old).host.clock) }
+    ensures beside { W.known with.new ≡ with_clock (W.known with.old) (W.known with.new).host.clock }
+{
+    pass_time(alloc, world, but, with.clock())
+}
+
+/// Two events of the timer, and then of each hart but the one that is left out, in order, whatever they want, and a drain.
+pub fn pass_round<W: TurnObjects, K: Sink>(
+    alloc: Global,
+    world: &mut World,
+    with: &mut W,
+    but: Option<u8>,
     sink: &mut K,
 ) -> Option<Ran>
     requires { length world.old.harts ≤ 32 }
     ensures went { Went IsRunning result
-        (known (T.known trace.old) (K.known sink.old) (host_known C.known D.known host.old)) world.old
-        (known (T.known trace.new) (K.known sink.new) (host_known C.known D.known host.new)) world.new }
+        (known_with (W.known with.old) (K.known sink.old)) world.old
+        (known_with (W.known with.new) (K.known sink.new)) world.new }
     ensures unclosed { result ≢ Some ran.Closed }
 {
-    let Ok(events) = pass_time(alloc, world, but, &mut host.clock) else {
+    let Ok(events) = pass_by(alloc, world, but, with) else {
         return Some(Ran::OutOfMemory);
     };
-    if let Err(why) = tell_slice(events.as_slice(), world, trace, sink) {
+    if let Err(why) = tell_slice(events.as_slice(), world, with, sink) {
         return Some(end_by(why));
     }
     None

@@ -1,11 +1,7 @@
 -- Connections one after another: what each gave and took is what was said on it.
 use Rattle.std.specs.Prelude.{ℕ, ◌≡◌, ◌⊎◌, ◌<◌, true, List, [], ◌∷◌, ◌++◌, Option, Some, None}
 use Rattle.monitor_running.specs.Asked.{HostKnown}
-use Rattle.vm_host.specs.declared.host.Host.{Host}
-use Rattle.vm_host.specs.Storing.{DiskKnown}
-use Rattle.vm_host.specs.Telling.{ClockKnown}
 use Rattle.vm_outside.specs.Known.{FilesKnown, Health, SinkKnown}
-use Rattle.serve_host.specs.Tracing.{TraceKnown}
 use Rattle.vm_types.specs.Causes.{Rose}
 use Rattle.vm_types.specs.declared.exit.Object.TheVariants as object
 use Rattle.serve_host.specs.Listening.{Ended, ListenerKnown, brought}
@@ -13,6 +9,7 @@ use Rattle.flat_machine.specs.Machine.{AreFilesOf, Machine, is_off}
 use Rattle.flat_trace.specs.Showing.{Out, given, replied}
 use Rattle.flat_trace.specs.Showing.Out.{Opened}
 use Rattle.monitor_core.specs.declared.monitor.Monitor.{Monitor}
+use Rattle.monitor_running.specs.Objects.{TurnKnown}
 use Rattle.monitor_running.specs.Reached.{Reached, Start, told_at}
 use Rattle.monitor_serving.specs.declared.served.Served.{Served as End}
 use Rattle.monitor_serving.specs.declared.served.Served.TheVariants as served
@@ -78,10 +75,10 @@ pub record HaveCome (first : ListenerKnown) (since : List Ended) (now : Listener
 abbrev pub still_coming : List ℕ → ListenerKnown → ListenerKnown
 still_coming bytes listener = record listener { coming = bytes ∷ listener.coming }
 
-abbrev pub place_of : {T K C D F M L V : Type 0} → (T → TraceKnown) → (K → SinkKnown) → (C → ClockKnown) → (D → DiskKnown)
-    → (F → FilesKnown) → (M → ListenerKnown) → Monitor → T → K → Host D L V C → F → M → Place
-place_of of_trace of_sink of_clock of_disk of_files of_listener monitor trace sink host files listener =
-    place monitor (hosts_of of_trace of_sink of_clock of_disk of_files trace sink host files) (of_listener listener)
+abbrev pub place_of : {W K F M : Type 0} → (W → TurnKnown) → (K → SinkKnown) → (F → FilesKnown) → (M → ListenerKnown)
+    → Monitor → W → K → F → M → Place
+place_of of_turns of_sink of_files of_listener monitor with sink files listener =
+    place monitor (hosts_of of_turns of_sink of_files with sink files) (of_listener listener)
 
 -- All that happened since a start, when this was known of the listener, is in the trace, and all that it shows was taken.
 pub record HasServed (s : Start) (first : ListenerKnown) (now : Place) : Type 0 where

@@ -1,19 +1,19 @@
 -- Where everything is while connections are served.
 use Rattle.std.specs.Prelude.{ℕ, ◌≡◌, Bool, true, false, List, [], ◌∷◌, ◌++◌}
 use Rattle.std.specs.List.{list_any}
-use Rattle.vm_host.specs.declared.host.Host.{Host}
 use Rattle.vm_host.specs.Storing.{DiskKnown}
 use Rattle.vm_host.specs.Telling.{ClockKnown}
 use Rattle.vm_outside.specs.Known.{FilesKnown, Lasts, SinkKnown, Tells}
 use Rattle.serve_host.specs.Passing.{ConnKnown}
-use Rattle.serve_host.specs.Tracing.{TraceKnown, TraceStays}
+use Rattle.serve_host.specs.Tracing.{TraceStays}
 use Rattle.flat_machine.specs.Machine.{Machine}
 use Rattle.flat_trace.specs.Showing.{Out, given, replied}
 use Rattle.flat_trace.specs.Showing.Out.{Heard}
 use Rattle.monitor_core.specs.declared.monitor.Monitor.{Monitor}
 use Rattle.monitor_core.specs.State.{IsMonitor}
-use Rattle.monitor_running.specs.Asked.{HostKnown, host_known}
-use Rattle.monitor_running.specs.Reached.{AreFiles, Known, Reached, Seen, Start, known, seen}
+use Rattle.monitor_running.specs.Asked.{HostKnown}
+use Rattle.monitor_running.specs.Objects.{TurnKnown, known_with}
+use Rattle.monitor_running.specs.Reached.{AreFiles, Known, Reached, Seen, Start, seen}
 
 -- what is known of the host objects: those of slices, and the files
 pub record Hosts : Type 0 where
@@ -24,15 +24,8 @@ abbrev pub hosts : Known → FilesKnown → Hosts
 hosts slices files = record { slices = slices; files = files }
 
 -- of these objects, by what each of their types tells
-abbrev pub known_of : {T K C D L V : Type 0} → (T → TraceKnown) → (K → SinkKnown) → (C → ClockKnown) → (D → DiskKnown)
-    → T → K → Host D L V C → Known
-known_of of_trace of_sink of_clock of_disk trace sink host =
-    known (of_trace trace) (of_sink sink) (host_known of_clock of_disk host)
-
-abbrev pub hosts_of : {T K C D F L V : Type 0} → (T → TraceKnown) → (K → SinkKnown) → (C → ClockKnown) → (D → DiskKnown)
-    → (F → FilesKnown) → T → K → Host D L V C → F → Hosts
-hosts_of of_trace of_sink of_clock of_disk of_files trace sink host files =
-    hosts (known_of of_trace of_sink of_clock of_disk trace sink host) (of_files files)
+abbrev pub hosts_of : {W K F : Type 0} → (W → TurnKnown) → (K → SinkKnown) → (F → FilesKnown) → W → K → F → Hosts
+hosts_of of_turns of_sink of_files with sink files = hosts (known_with (of_turns with) (of_sink sink)) (of_files files)
 
 -- of a clock and of disks
 abbrev pub host_with : ClockKnown → DiskKnown → HostKnown
@@ -60,10 +53,10 @@ pub record View : Type 0 where
 abbrev pub view : Monitor → Hosts → ConnKnown → View
 view monitor hosts conn = record { monitor = monitor; hosts = hosts; conn = conn }
 
-abbrev pub view_of : {T K C D F N L V : Type 0} → (T → TraceKnown) → (K → SinkKnown) → (C → ClockKnown) → (D → DiskKnown)
-    → (F → FilesKnown) → (N → ConnKnown) → Monitor → T → K → Host D L V C → F → N → View
-view_of of_trace of_sink of_clock of_disk of_files of_conn monitor trace sink host files conn =
-    view monitor (hosts_of of_trace of_sink of_clock of_disk of_files trace sink host files) (of_conn conn)
+abbrev pub view_of : {W K F N : Type 0} → (W → TurnKnown) → (K → SinkKnown) → (F → FilesKnown) → (N → ConnKnown)
+    → Monitor → W → K → F → N → View
+view_of of_turns of_sink of_files of_conn monitor with sink files conn =
+    view monitor (hosts_of of_turns of_sink of_files with sink files) (of_conn conn)
 
 -- the monitor is the machine after all that happened since the start, which the trace has, and its disks are the files of its
 -- drives

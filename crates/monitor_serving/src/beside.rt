@@ -2,34 +2,26 @@
 ghost use Rattle.std.specs.Prelude.{◌≡◌, Some, length};
 ghost use Rattle.vm_outside.specs.Known.{Lasts, Tells};
 ghost use Rattle.monitor_machine.specs.State.{IsLive};
+ghost use Rattle.monitor_running.specs.Objects.{known_with};
 ghost use Rattle.monitor_running.specs.Ran.{Went};
 ghost use Rattle.monitor_serving.specs.Hearing.{HeardCause, HearsBy, IsWithin};
 ghost use Rattle.monitor_serving.specs.Passes.{ArePasses};
-ghost use Rattle.monitor_serving.specs.Views.{known_of};
 
 use crate::listening::{Heard, listen};
 use crate::quiet::run_quiet;
 use monitor_machine::LiveMachine;
-use monitor_running::{Ran, is_quiet, run_while};
+use monitor_running::{Ran, TurnObjects, is_quiet, run_while};
 use pause_gate::{FlagGate, Pass};
-use serve_host::{Conn, Trace};
+use serve_host::Conn;
 use std::alloc::Global;
 use std::sync::Wait;
 use std::thread::{Threads, join_mut};
-use vm_host::{Clock, Disk, Host};
 use vm_outside::Sink;
 
 // Slices until something is heard of the connection, or they end by themselves. Whichever ends first closes the gate. Where no
 // thread can be made for the slices, something is heard first, and they find the gate closed: the guest stands still, and
 // requests are answered.
-fn run_in_threads<
-    D: Disk + Send,
-    C: Clock + Send,
-    N: Conn,
-    T: Trace + Send,
-    K: Sink + Send,
-    R: Threads + Wait + Sync,
->(
+fn run_in_threads<W: TurnObjects + Send, N: Conn, K: Sink + Send, R: Threads + Wait + Sync>(
     rt: &R,
     alloc: Global,
     gate: &FlagGate,
@@ -37,8 +29,7 @@ fn run_in_threads<
     reader: &mut Pass,
     steps: u32,
     machine: &mut LiveMachine,
-    host: &mut Host<D, (), (), C>,
-    trace: &mut T,
+    with: &mut W,
     sink: &mut K,
     conn: &mut N,
     buf: &mut Vec<u8>,
@@ -53,8 +44,8 @@ fn run_in_threads<
     ensures conn_lasts { Lasts (N.known conn.old).health (N.known conn.new).health }
     ensures room { length buf.new.items ≡ length buf.old.items }
     ensures went { Went IsLive (Some result.1)
-        (known_of T.known K.known C.known D.known trace.old sink.old host.old) machine.old
-        (known_of T.known K.known C.known D.known trace.new sink.new host.new) machine.new }
+        (known_with (W.known with.old) (K.known sink.old)) machine.old
+        (known_with (W.known with.new) (K.known sink.new)) machine.new }
     ensures reader { reader.new.0 ≡ gate.now }
     ensures opened { reader.new.1.openings ≡ reader.old.1.openings }
     ensures passes { ArePasses gate.now passes.new.items }
@@ -82,12 +73,12 @@ fn run_in_threads<
     let mut run = || -> Ran
         requires { ArePasses also_gate.now passes.now.items }
         ensures went { Went IsLive (Some result)
-            (known_of T.known K.known C.known D.known trace.entry.now sink.entry.now host.entry.now) machine.entry.now
-            (known_of T.known K.known C.known D.known trace.exit.now sink.exit.now host.exit.now) machine.exit.now }
+            (known_with (W.known with.entry.now) (K.known sink.entry.now)) machine.entry.now
+            (known_with (W.known with.exit.now) (K.known sink.exit.now)) machine.exit.now }
         ensures passes { ArePasses also_gate.entry.now passes.exit.now.items }
     {
         let ran = run_while(
-            also_rt, alloc, machine, host, also_gate, passes, steps, trace, sink,
+            also_rt, alloc, machine, with, also_gate, passes, steps, sink,
         );
         also_gate.close(&mut passes[0]);
         ran
@@ -98,14 +89,7 @@ fn run_in_threads<
 
 /// Turns, and what is heard of the connection meanwhile. Where nothing runs it is one turn with a read behind it. Else turns are made
 /// in a thread of their own until something is heard, or they end by themselves.
-pub fn run_beside<
-    D: Disk + Send,
-    C: Clock + Send,
-    N: Conn,
-    T: Trace + Send,
-    K: Sink + Send,
-    R: Threads + Wait + Sync,
->(
+pub fn run_beside<W: TurnObjects + Send, N: Conn, K: Sink + Send, R: Threads + Wait + Sync>(
     rt: &R,
     alloc: Global,
     gate: &FlagGate,
@@ -113,8 +97,7 @@ pub fn run_beside<
     reader: &mut Pass,
     steps: u32,
     machine: &mut LiveMachine,
-    host: &mut Host<D, (), (), C>,
-    trace: &mut T,
+    with: &mut W,
     sink: &mut K,
     conn: &mut N,
     buf: &mut Vec<u8>,
@@ -129,18 +112,18 @@ pub fn run_beside<
     ensures conn_lasts { Lasts (N.known conn.old).health (N.known conn.new).health }
     ensures room { length buf.new.items ≡ length buf.old.items }
     ensures went { Went IsLive (Some result.1)
-        (known_of T.known K.known C.known D.known trace.old sink.old host.old) machine.old
-        (known_of T.known K.known C.known D.known trace.new sink.new host.new) machine.new }
+        (known_with (W.known with.old) (K.known sink.old)) machine.old
+        (known_with (W.known with.new) (K.known sink.new)) machine.new }
     ensures reader { reader.new.0 ≡ gate.now }
     ensures opened { reader.new.1.openings ≡ reader.old.1.openings }
     ensures passes { ArePasses gate.now passes.new.items }
 {
     if is_quiet(machine) {
         return run_quiet(
-            rt, alloc, gate, passes, steps, machine, host, trace, sink, conn, buf,
+            rt, alloc, gate, passes, steps, machine, with, sink, conn, buf,
         );
     }
     run_in_threads(
-        rt, alloc, gate, passes, reader, steps, machine, host, trace, sink, conn, buf,
+        rt, alloc, gate, passes, reader, steps, machine, with, sink, conn, buf,
     )
 }

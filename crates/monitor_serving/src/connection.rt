@@ -9,27 +9,19 @@ ghost use Rattle.monitor_serving.specs.Views.{AllLast, AllTell, hosts_of, view_o
 use crate::served::Served;
 use crate::turning::turn;
 use monitor_core::Monitor;
+use monitor_running::TurnObjects;
 use pause_gate::{FlagGate, Pass};
-use serve_host::{Conn, Trace};
+use serve_host::Conn;
 use std::alloc::Global;
 use std::sync::Wait;
 use std::thread::Threads;
-use vm_host::{Clock, Disk, Host};
 use vm_outside::{Files, Sink};
 
 /// A pass for each of 32 harts and the timer, one for who asks before each slice, and one for the reader.
 pub(crate) const PASSES: usize = 35;
 
 // Turns until the connection is over.
-fn serve_turns<
-    D: Disk + Send,
-    C: Clock + Send,
-    N: Conn,
-    F: Files,
-    T: Trace + Send,
-    K: Sink + Send,
-    R: Threads + Wait + Sync,
->(
+fn serve_turns<W: TurnObjects + Send, N: Conn, F: Files, K: Sink + Send, R: Threads + Wait + Sync>(
     rt: &R,
     alloc: Global,
     gate: &FlagGate,
@@ -38,28 +30,27 @@ fn serve_turns<
     steps: u32,
     monitor: &mut Monitor,
     files: &mut F,
-    host: &mut Host<D, (), (), C>,
+    with: &mut W,
     conn: &mut N,
-    trace: &mut T,
     sink: &mut K,
 ) -> Served
     requires reader { reader.old.0 ≡ gate.now }
     requires passes { ArePasses gate.now passes.old.items }
-    ensures served { AllTell (hosts_of T.known K.known C.known D.known F.known trace.old sink.old host.old files.old) →
+    ensures served { AllTell (hosts_of W.known K.known F.known with.old sink.old files.old) →
         Tells (N.known conn.old).health → ServedAs result
-        (view_of T.known K.known C.known D.known F.known N.known monitor.old trace.old sink.old host.old files.old conn.old)
-        (view_of T.known K.known C.known D.known F.known N.known monitor.new trace.new sink.new host.new files.new conn.new) }
+        (view_of W.known K.known F.known N.known monitor.old with.old sink.old files.old conn.old)
+        (view_of W.known K.known F.known N.known monitor.new with.new sink.new files.new conn.new) }
     ensures cause { ServedCause result
-        (view_of T.known K.known C.known D.known F.known N.known monitor.old trace.old sink.old host.old files.old conn.old)
-        (view_of T.known K.known C.known D.known F.known N.known monitor.new trace.new sink.new host.new files.new conn.new) }
+        (view_of W.known K.known F.known N.known monitor.old with.old sink.old files.old conn.old)
+        (view_of W.known K.known F.known N.known monitor.new with.new sink.new files.new conn.new) }
     ensures lasts { AllLast
-        (hosts_of T.known K.known C.known D.known F.known trace.old sink.old host.old files.old)
-        (hosts_of T.known K.known C.known D.known F.known trace.new sink.new host.new files.new) }
+        (hosts_of W.known K.known F.known with.old sink.old files.old)
+        (hosts_of W.known K.known F.known with.new sink.new files.new) }
     ensures conn_lasts { Lasts (N.known conn.old).health (N.known conn.new).health }
 {
     for _ in rt.forever() {
         let end = turn(
-            rt, alloc, gate, passes, reader, steps, monitor, files, host, conn, trace, sink,
+            rt, alloc, gate, passes, reader, steps, monitor, files, with, conn, sink,
         );
         if let Some(end) = end {
             return end;
@@ -74,11 +65,9 @@ fn serve_turns<
 /// is over where it was read to its end, where its bytes are no request, which is answered and closes it, and where a call
 /// on it fails. No fault of the files ends it: that is answered 500.
 pub fn serve_connection<
-    D: Disk + Send,
-    C: Clock + Send,
+    W: TurnObjects + Send,
     N: Conn,
     F: Files,
-    T: Trace + Send,
     K: Sink + Send,
     R: Threads + Wait + Sync,
 >(
@@ -87,21 +76,20 @@ pub fn serve_connection<
     steps: u32,
     monitor: &mut Monitor,
     files: &mut F,
-    host: &mut Host<D, (), (), C>,
+    with: &mut W,
     conn: &mut N,
-    trace: &mut T,
     sink: &mut K,
 ) -> Served
-    ensures served { AllTell (hosts_of T.known K.known C.known D.known F.known trace.old sink.old host.old files.old) →
+    ensures served { AllTell (hosts_of W.known K.known F.known with.old sink.old files.old) →
         Tells (N.known conn.old).health → ServedAs result
-        (view_of T.known K.known C.known D.known F.known N.known monitor.old trace.old sink.old host.old files.old conn.old)
-        (view_of T.known K.known C.known D.known F.known N.known monitor.new trace.new sink.new host.new files.new conn.new) }
+        (view_of W.known K.known F.known N.known monitor.old with.old sink.old files.old conn.old)
+        (view_of W.known K.known F.known N.known monitor.new with.new sink.new files.new conn.new) }
     ensures cause { ServedCause result
-        (view_of T.known K.known C.known D.known F.known N.known monitor.old trace.old sink.old host.old files.old conn.old)
-        (view_of T.known K.known C.known D.known F.known N.known monitor.new trace.new sink.new host.new files.new conn.new) }
+        (view_of W.known K.known F.known N.known monitor.old with.old sink.old files.old conn.old)
+        (view_of W.known K.known F.known N.known monitor.new with.new sink.new files.new conn.new) }
     ensures lasts { AllLast
-        (hosts_of T.known K.known C.known D.known F.known trace.old sink.old host.old files.old)
-        (hosts_of T.known K.known C.known D.known F.known trace.new sink.new host.new files.new) }
+        (hosts_of W.known K.known F.known with.old sink.old files.old)
+        (hosts_of W.known K.known F.known with.new sink.new files.new) }
     ensures conn_lasts { Lasts (N.known conn.old).health (N.known conn.new).health }
 {
     let Ok((gate, mut passes)) = FlagGate::new(alloc, PASSES) else {
@@ -119,9 +107,8 @@ pub fn serve_connection<
         steps,
         monitor,
         files,
-        host,
+        with,
         conn,
-        trace,
         sink,
     )
 }

@@ -8,6 +8,7 @@
 
 mod beside;
 mod connection;
+mod items;
 mod listening;
 mod quiet;
 mod served;

@@ -2,20 +2,19 @@
 ghost use Rattle.std.specs.Prelude.{◌≡◌, Some, length};
 ghost use Rattle.vm_outside.specs.Known.{Lasts, Tells};
 ghost use Rattle.monitor_machine.specs.State.{IsLive};
+ghost use Rattle.monitor_running.specs.Objects.{known_with};
 ghost use Rattle.monitor_running.specs.Ran.{Went};
 ghost use Rattle.monitor_serving.specs.Hearing.{HeardCause, HearsBy, IsWithin};
 ghost use Rattle.monitor_serving.specs.Passes.{ArePasses};
-ghost use Rattle.monitor_serving.specs.Views.{known_of};
 
 use crate::listening::{Heard, hear};
 use monitor_machine::LiveMachine;
-use monitor_running::{Ran, end_of_closed, is_quiet, run_once};
+use monitor_running::{Ran, TurnObjects, end_of_closed, is_quiet, run_once};
 use pause_gate::{FlagGate, Pass};
-use serve_host::{Conn, Trace};
+use serve_host::Conn;
 use std::alloc::Global;
 use std::sync::Wait;
 use std::thread::Threads;
-use vm_host::{Clock, Disk, Host};
 use vm_outside::Sink;
 
 // One read, unless the machine has something to do: who reads might wait.
@@ -35,22 +34,14 @@ fn hear_if_quiet<N: Conn>(machine: &LiveMachine, conn: &mut N, buf: &mut Vec<u8>
 }
 
 /// One turn, in which the clock may rest until something comes on the connection, and then one read, if nothing runs still.
-pub fn run_quiet<
-    D: Disk + Send,
-    C: Clock + Send,
-    N: Conn,
-    T: Trace + Send,
-    K: Sink + Send,
-    R: Threads + Wait + Sync,
->(
+pub fn run_quiet<W: TurnObjects + Send, N: Conn, K: Sink + Send, R: Threads + Wait + Sync>(
     rt: &R,
     alloc: Global,
     gate: &FlagGate,
     passes: &mut Vec<Pass>,
     steps: u32,
     machine: &mut LiveMachine,
-    host: &mut Host<D, (), (), C>,
-    trace: &mut T,
+    with: &mut W,
     sink: &mut K,
     conn: &mut N,
     buf: &mut Vec<u8>,
@@ -64,11 +55,11 @@ pub fn run_quiet<
     ensures conn_lasts { Lasts (N.known conn.old).health (N.known conn.new).health }
     ensures room { length buf.new.items ≡ length buf.old.items }
     ensures went { Went IsLive (Some result.1)
-        (known_of T.known K.known C.known D.known trace.old sink.old host.old) machine.old
-        (known_of T.known K.known C.known D.known trace.new sink.new host.new) machine.new }
+        (known_with (W.known with.old) (K.known sink.old)) machine.old
+        (known_with (W.known with.new) (K.known sink.new)) machine.new }
     ensures passes { ArePasses gate.now passes.new.items }
 {
-    let end = run_once(rt, alloc, machine, host, gate, passes, steps, trace, sink);
+    let end = run_once(rt, alloc, machine, with, gate, passes, steps, sink);
     match end {
         Some(end) => (Heard::Nothing, end),
         None => {

@@ -3,28 +3,31 @@ ghost use Rattle.std.specs.Prelude.{◌≡◌, ◌⊎◌, ◌+◌, ◌++◌, ◌
 ghost use Rattle.script_text.specs.declared.item.Item.TheVariants as item;
 ghost use Rattle.serve_host.specs.Passing.{ConnKnown, Waits};
 ghost use Rattle.serve_host.specs.Tracing.{TraceKnown, TraceStays};
-ghost use Rattle.vm_host.specs.Telling.{ClockKnown};
-ghost use Rattle.vm_outside.specs.Known.{Called, Lasts, SinkKnown, Tells};
-ghost use Rattle.monitor_machine.specs.Disks.{DiskUncalled};
+ghost use Rattle.vm_outside.specs.Known.{Called, FilesKnown, Lasts, SinkKnown, Tells};
+ghost use Rattle.flat_machine.specs.Machine.{Machine};
+ghost use Rattle.monitor_machine.specs.Disks.{DiskUncalled, HasFiles};
+ghost use Rattle.monitor_core.specs.State.{IsMonitor};
 ghost use Rattle.monitor_serving.specs.Causes.{AnswerCause, ReplyCause, TurnedCause};
 ghost use Rattle.monitor_serving.specs.Hearing.{Gave, HeardCause, HearsBy, IsWithin, bytes_in};
 ghost use Rattle.monitor_serving.specs.Passes.{ArePasses};
 ghost use Rattle.monitor_serving.specs.Turns.{TurnedAs};
+ghost use Rattle.monitor_running.specs.Objects.{known_with, with_disk, with_trace};
 ghost use Rattle.monitor_running.specs.Reached.{known};
-ghost use Rattle.monitor_serving.specs.Views.{AllLast, AllTell, Hosts, host_with, hosts, hosts_of, view, view_of};
+ghost use Rattle.monitor_serving.specs.Views.{AllLast, AllTell, Hosts, hosts, hosts_of, view, view_of};
 
 use crate::beside::run_beside;
+use crate::items::tell_item;
 use crate::listening::Heard;
 use crate::served::{Served, end_of};
 use gate_file::zeros;
 use monitor_core::Monitor;
+use monitor_running::TurnObjects;
 use pause_gate::{FlagGate, Pass};
 use script_text::Item;
-use serve_host::{Conn, Trace, put_all};
+use serve_host::{Conn, put_all};
 use std::alloc::Global;
 use std::sync::Wait;
 use std::thread::Threads;
-use vm_host::{Clock, Disk, Host};
 use vm_outside::{Failed, Files, Sink};
 use vm_types::{ByteList, Object};
 
@@ -32,17 +35,18 @@ use vm_types::{ByteList, Object};
 const PIECE: usize = 4_096;
 
 // Tells the trace these bytes, in an item that is given back.
-fn tell_bytes<T: Trace>(trace: &mut T, bytes: ByteList) -> Result<Item, Failed>
+fn tell_bytes<W: TurnObjects>(with: &mut W, bytes: ByteList) -> Result<Item, Failed>
     ensures item { IfOk result (λ told. told ≡ item.Bytes bytes) }
-    ensures told { OnOk result (Tells (T.known trace.old).health →
-        (T.known trace.new).took ≡ (T.known trace.old).took ++ item.Bytes bytes ∷ []) }
-    ensures untold { OnErr result (Tells (T.known trace.old).health →
-        (T.known trace.new).took ≡ (T.known trace.old).took) }
-    ensures stays { TraceStays (T.known trace.old) (T.known trace.new) }
-    ensures called { Called (T.known trace.old).health (T.known trace.new).health result }
+    ensures told { OnOk result (Tells (W.known with.old).trace.health →
+        (W.known with.new).trace.took ≡ (W.known with.old).trace.took ++ item.Bytes bytes ∷ []) }
+    ensures untold { OnErr result (Tells (W.known with.old).trace.health →
+        (W.known with.new).trace.took ≡ (W.known with.old).trace.took) }
+    ensures stays { TraceStays (W.known with.old).trace (W.known with.new).trace }
+    ensures called { Called (W.known with.old).trace.health (W.known with.new).trace.health result }
+    ensures beside { W.known with.new ≡ with_trace (W.known with.old) (W.known with.new).trace }
 {
     let item = Item::Bytes { bytes };
-    match trace.add(&item) {
+    match tell_item(with, &item) {
         Ok(()) => Ok(item),
         Err(Failed) => Err(Failed),
     }
@@ -57,24 +61,34 @@ fn bytes_in(item: &Item) -> &[u8]
     }
 }
 
+// The disks are attached as the machine's drives name them.
+fn attach<W: TurnObjects>(monitor: &Monitor, with: &mut W)
+    ensures attached { (files : FilesKnown) (m : Machine) → IsMonitor monitor.now files m →
+        HasFiles (W.known with.old).host.disk.health m (W.known with.new).host.disk }
+    ensures uncalled { DiskUncalled (W.known with.old).host.disk (W.known with.new).host.disk }
+    ensures beside { W.known with.new ≡ with_disk (W.known with.old) (W.known with.new).host.disk }
+{
+    monitor.attach_disks(with.disk());
+}
+
 // Bytes that are in the trace: what is due is answered. It may have changed which files the disks are, and they are attached before
 // the answer is sent, so that who has it may move them. Once the guest is off nothing is answered.
-fn reply<N: Conn, F: Files, D: Disk>(
+fn reply<N: Conn, F: Files, W: TurnObjects>(
     monitor: &mut Monitor,
     files: &mut F,
-    disk: &mut D,
+    with: &mut W,
     conn: &mut N,
     bytes: &[u8],
 ) -> Option<Served>
-    ensures replied { (trace told : TraceKnown) (sink : SinkKnown) (clock : ClockKnown) (before : ConnKnown) →
-        told.took ≡ trace.took ++ item.Bytes bytes.now ∷ [] → Tells (F.known files.old).health →
+    ensures replied { (trace : TraceKnown) (sink : SinkKnown) (before : ConnKnown) →
+        (W.known with.old).trace.took ≡ trace.took ++ item.Bytes bytes.now ∷ [] → Tells (F.known files.old).health →
         Tells (N.known conn.old).health → Gave before (N.known conn.old) bytes.now →
-        TurnedAs result (view monitor.old (hosts (known trace sink (host_with clock (D.known disk.old))) (F.known files.old)) before)
-        (view monitor.new (hosts (known told sink (host_with clock (D.known disk.new))) (F.known files.new)) (N.known conn.new)) }
+        TurnedAs result (view monitor.old (hosts (known trace sink (W.known with.old).host) (F.known files.old)) before)
+        (view monitor.new (hosts (known_with (W.known with.new) sink) (F.known files.new)) (N.known conn.new)) }
     ensures cause { IfSome result (λ end. ReplyCause end monitor.new (N.known conn.old) (N.known conn.new)) }
     ensures files_last { Lasts (F.known files.old).health (F.known files.new).health }
     ensures conn_lasts { Lasts (N.known conn.old).health (N.known conn.new).health }
-    ensures disk { DiskUncalled (D.known disk.old) (D.known disk.new) }
+    ensures trace { (W.known with.new).trace ≡ (W.known with.old).trace }
 {
     if monitor.is_off() {
         return Some(Served::Off);
@@ -82,7 +96,7 @@ fn reply<N: Conn, F: Files, D: Disk>(
     let Ok(text) = monitor.hear(bytes, files) else {
         return Some(Served::OutOfMemory);
     };
-    monitor.attach_disks(disk);
+    attach(monitor, with);
     let Ok(()) = put_all(conn, text.as_slice()) else {
         return Some(Served::Ended);
     };
@@ -93,31 +107,29 @@ fn reply<N: Conn, F: Files, D: Disk>(
 }
 
 // Bytes that the connection gave: they go to the trace, and what is due is answered.
-fn answer<N: Conn, F: Files, D: Disk, T: Trace>(
+fn answer<N: Conn, F: Files, W: TurnObjects>(
     monitor: &mut Monitor,
     files: &mut F,
-    disk: &mut D,
+    with: &mut W,
     conn: &mut N,
-    trace: &mut T,
     piece: Vec<u8>,
 ) -> Option<Served>
-    ensures answered { (sink : SinkKnown) (clock : ClockKnown) (before : ConnKnown) →
-        AllTell (hosts (known (T.known trace.old) sink (host_with clock (D.known disk.old))) (F.known files.old)) → Tells (N.known conn.old).health →
+    ensures answered { (sink : SinkKnown) (before : ConnKnown) →
+        AllTell (hosts (known_with (W.known with.old) sink) (F.known files.old)) → Tells (N.known conn.old).health →
         Gave before (N.known conn.old) piece.items →
-        TurnedAs result (view monitor.old (hosts (known (T.known trace.old) sink (host_with clock (D.known disk.old))) (F.known files.old)) before)
-        (view monitor.new (hosts (known (T.known trace.new) sink (host_with clock (D.known disk.new))) (F.known files.new)) (N.known conn.new)) }
-    ensures cause { IfSome result (λ end. AnswerCause end monitor.new (T.known trace.old).health (T.known trace.new).health
-        (N.known conn.old) (N.known conn.new)) }
-    ensures trace_lasts { Lasts (T.known trace.old).health (T.known trace.new).health }
-    ensures trace_stays { TraceStays (T.known trace.old) (T.known trace.new) }
+        TurnedAs result (view monitor.old (hosts (known_with (W.known with.old) sink) (F.known files.old)) before)
+        (view monitor.new (hosts (known_with (W.known with.new) sink) (F.known files.new)) (N.known conn.new)) }
+    ensures cause { IfSome result (λ end. AnswerCause end monitor.new
+        (W.known with.old).trace.health (W.known with.new).trace.health (N.known conn.old) (N.known conn.new)) }
+    ensures trace_lasts { Lasts (W.known with.old).trace.health (W.known with.new).trace.health }
+    ensures trace_stays { TraceStays (W.known with.old).trace (W.known with.new).trace }
     ensures files_last { Lasts (F.known files.old).health (F.known files.new).health }
     ensures conn_lasts { Lasts (N.known conn.old).health (N.known conn.new).health }
-    ensures disk { DiskUncalled (D.known disk.old) (D.known disk.new) }
 {
-    let Ok(item) = tell_bytes(trace, ByteList::from_vec(piece)) else {
+    let Ok(item) = tell_bytes(with, ByteList::from_vec(piece)) else {
         return Some(Served::Fault(Object::Trace));
     };
-    reply(monitor, files, disk, conn, bytes_in(&item))
+    reply(monitor, files, with, conn, bytes_in(&item))
 }
 
 // The connection is over, unless the guest is off.
@@ -152,36 +164,34 @@ struct Came {
 }
 
 // What comes of what the reader heard, which the connection gave.
-fn settle<N: Conn, F: Files, D: Disk, T: Trace>(
+fn settle<N: Conn, F: Files, W: TurnObjects>(
     monitor: &mut Monitor,
     files: &mut F,
-    disk: &mut D,
+    with: &mut W,
     conn: &mut N,
-    trace: &mut T,
     came: Came,
 ) -> Option<Served>
     requires { IsWithin came.heard (length came.piece.items) }
-    ensures settled { (sink : SinkKnown) (clock : ClockKnown) (before : ConnKnown) →
-        AllTell (hosts (known (T.known trace.old) sink (host_with clock (D.known disk.old))) (F.known files.old)) → Tells (N.known conn.old).health →
+    ensures settled { (sink : SinkKnown) (before : ConnKnown) →
+        AllTell (hosts (known_with (W.known with.old) sink) (F.known files.old)) → Tells (N.known conn.old).health →
         HearsBy came.heard before (N.known conn.old) came.piece.items → (N.known conn.old).took ≡ before.took →
         Lasts before.health (N.known conn.old).health →
-        TurnedAs result (view monitor.old (hosts (known (T.known trace.old) sink (host_with clock (D.known disk.old))) (F.known files.old)) before)
-        (view monitor.new (hosts (known (T.known trace.new) sink (host_with clock (D.known disk.new))) (F.known files.new)) (N.known conn.new)) }
+        TurnedAs result (view monitor.old (hosts (known_with (W.known with.old) sink) (F.known files.old)) before)
+        (view monitor.new (hosts (known_with (W.known with.new) sink) (F.known files.new)) (N.known conn.new)) }
     ensures cause { IfSome result (λ end. (before : ConnKnown) → Lasts before.health (N.known conn.old).health →
         (Tells before.health → HearsBy came.heard before (N.known conn.old) came.piece.items) →
         HeardCause came.heard before.health.faults (N.known conn.old).health.faults →
-        AnswerCause end monitor.new (T.known trace.old).health (T.known trace.new).health before (N.known conn.new)) }
-    ensures trace_lasts { Lasts (T.known trace.old).health (T.known trace.new).health }
-    ensures trace_stays { TraceStays (T.known trace.old) (T.known trace.new) }
+        AnswerCause end monitor.new (W.known with.old).trace.health (W.known with.new).trace.health before (N.known conn.new)) }
+    ensures trace_lasts { Lasts (W.known with.old).trace.health (W.known with.new).trace.health }
+    ensures trace_stays { TraceStays (W.known with.old).trace (W.known with.new).trace }
     ensures files_last { Lasts (F.known files.old).health (F.known files.new).health }
     ensures conn_lasts { Lasts (N.known conn.old).health (N.known conn.new).health }
-    ensures disk { DiskUncalled (D.known disk.old) (D.known disk.new) }
 {
     let Came { heard, mut piece } = came;
     match heard {
         Heard::Bytes(count) => {
             piece.truncate(count);
-            answer(monitor, files, disk, conn, trace, piece)
+            answer(monitor, files, with, conn, piece)
         }
         Heard::End => close(monitor),
         Heard::Fault => close(monitor),
@@ -191,15 +201,7 @@ fn settle<N: Conn, F: Files, D: Disk, T: Trace>(
 
 /// Slices until something is heard of the connection, which is answered then. Each turn opens the gate once, which the one before
 /// it closed. `None` where the connection goes on.
-pub fn turn<
-    D: Disk + Send,
-    C: Clock + Send,
-    N: Conn,
-    F: Files,
-    T: Trace + Send,
-    K: Sink + Send,
-    R: Threads + Wait + Sync,
->(
+pub fn turn<W: TurnObjects + Send, N: Conn, F: Files, K: Sink + Send, R: Threads + Wait + Sync>(
     rt: &R,
     alloc: Global,
     gate: &FlagGate,
@@ -208,23 +210,22 @@ pub fn turn<
     steps: u32,
     monitor: &mut Monitor,
     files: &mut F,
-    host: &mut Host<D, (), (), C>,
+    with: &mut W,
     conn: &mut N,
-    trace: &mut T,
     sink: &mut K,
 ) -> Option<Served>
     requires reader { reader.old.0 ≡ gate.now }
     requires passes { ArePasses gate.now passes.old.items }
-    ensures turned { AllTell (hosts_of T.known K.known C.known D.known F.known trace.old sink.old host.old files.old) →
+    ensures turned { AllTell (hosts_of W.known K.known F.known with.old sink.old files.old) →
         Tells (N.known conn.old).health → TurnedAs result
-        (view_of T.known K.known C.known D.known F.known N.known monitor.old trace.old sink.old host.old files.old conn.old)
-        (view_of T.known K.known C.known D.known F.known N.known monitor.new trace.new sink.new host.new files.new conn.new) }
+        (view_of W.known K.known F.known N.known monitor.old with.old sink.old files.old conn.old)
+        (view_of W.known K.known F.known N.known monitor.new with.new sink.new files.new conn.new) }
     ensures cause { TurnedCause result
-        (view_of T.known K.known C.known D.known F.known N.known monitor.old trace.old sink.old host.old files.old conn.old)
-        (view_of T.known K.known C.known D.known F.known N.known monitor.new trace.new sink.new host.new files.new conn.new) }
+        (view_of W.known K.known F.known N.known monitor.old with.old sink.old files.old conn.old)
+        (view_of W.known K.known F.known N.known monitor.new with.new sink.new files.new conn.new) }
     ensures lasts { AllLast
-        (hosts_of T.known K.known C.known D.known F.known trace.old sink.old host.old files.old)
-        (hosts_of T.known K.known C.known D.known F.known trace.new sink.new host.new files.new) }
+        (hosts_of W.known K.known F.known with.old sink.old files.old)
+        (hosts_of W.known K.known F.known with.new sink.new files.new) }
     ensures conn_lasts { Lasts (N.known conn.old).health (N.known conn.new).health }
     ensures reader { reader.new.0 ≡ gate.now }
     ensures opened { reader.new.1.openings ≡ reader.old.1.openings + 1 }
@@ -242,8 +243,7 @@ pub fn turn<
         reader,
         steps,
         monitor.machine(),
-        host,
-        trace,
+        with,
         sink,
         conn,
         &mut piece,
@@ -252,7 +252,7 @@ pub fn turn<
         Some(end) => Some(end),
         None => {
             let came = Came { heard, piece };
-            settle(monitor, files, &mut host.disk, conn, trace, came)
+            settle(monitor, files, with, conn, came)
         }
     }
 }

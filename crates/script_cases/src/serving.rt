@@ -153,9 +153,9 @@ fn serve_and_print<R: Threads + Wait + Print + AllocGlobal + Sync>(
     run(rt, &SERVED, out, with)?;
     print_took(rt, "first", with.listener.took_before())?;
     print_took(rt, "second", with.listener.took())?;
-    print_front(rt, with.trace.took())?;
+    print_front(rt, with.turns.trace.took())?;
     print_lineage(rt, &out.files)?;
-    print_replay(rt, with.trace.took(), &out.files)
+    print_replay(rt, with.turns.trace.took(), &out.files)
 }
 
 fn print_took<R: Print>(rt: &R, which: &str, took: Option<&[u8]>) -> io::Result<()> {

@@ -5,6 +5,7 @@ use crate::ticking::Ticks;
 use firecracker_cli::{ServeOutside, firecracker_main};
 use host_mem::{MemoryDisk, MemoryTrace, Numbers, SteadyWords};
 use monitor_cli::{Outside, replay_main};
+use monitor_running::TracedHost;
 use outside_mem::{Failing, MemoryFiles, MemorySink, MemorySource};
 use script_text::{Item, write_item};
 use std::alloc::{AllocError, Global};
@@ -84,10 +85,9 @@ pub fn with_of(alloc: Global, session: &Session, disk: &[u8]) -> Result<With, Al
     let words = SteadyWords::new(Numbers::new([77].to_vec(alloc)?));
     let trace = MemoryTrace::new(alloc, fails(alloc, session.trace_fails)?);
     Ok(ServeOutside {
-        host,
+        turns: TracedHost { host, trace },
         words,
         listener: door_of(alloc, session)?,
-        trace,
     })
 }
 
@@ -135,7 +135,7 @@ pub fn run<R: Threads + Wait + Print + AllocGlobal + Sync>(
         session.name,
         exit.status(),
         text_of(out.sink.taken()),
-        with.trace.faults()
+        with.turns.trace.faults()
     )
 }
 

@@ -10,7 +10,7 @@ use crate::showing::text_of;
 use crate::ticking::Ticks;
 use host_mem::MemoryDisk;
 use monitor_machine::LiveMachine;
-use monitor_running::{Ran, run_while};
+use monitor_running::{Ran, TracedHost, run_while};
 use outside_mem::{Failing, MemorySink};
 use pause_gate::{FlagGate, Gate, HoldGate, Party, Pass};
 use std::alloc::{AllocError, Global};
@@ -135,7 +135,7 @@ fn print_row<R: Threads + Wait + Print + AllocGlobal + Sync>(rt: &R, row: &Row) 
     let gate = gate_of(flag, row);
     let mut running = running_of(rt.alloc(), row, &gate)?;
     run_and_print(rt, row.name, &mut running, &gate, &mut passes)?;
-    Ok(running.player.taken())
+    Ok(running.turns.trace.taken())
 }
 
 // Closed from the start where no item is to come.
@@ -161,9 +161,8 @@ fn party(hart: u8, page: u32) -> Party {
 #[derive(Drop)]
 struct Running<'a> {
     machine: LiveMachine,
-    host: Host<MemoryDisk, (), (), Ticks>,
+    turns: TracedHost<MemoryDisk, Ticks, Player<'a>>,
     sink: MemorySink,
-    player: Player<'a>,
 }
 
 fn running_of<'a>(alloc: Global, row: &Row, gate: &'a HoldGate) -> Result<Running<'a>, AllocError> {
@@ -172,9 +171,11 @@ fn running_of<'a>(alloc: Global, row: &Row, gate: &'a HoldGate) -> Result<Runnin
     let machine = machine_of(alloc, row.is_alone, row.image, row.made)?;
     Ok(Running {
         machine,
-        host: host_of(alloc),
+        turns: TracedHost {
+            host: host_of(alloc),
+            trace: player,
+        },
         sink: MemorySink::new(alloc, usize::MAX, sink_fails),
-        player,
     })
 }
 
@@ -225,11 +226,10 @@ fn run<R: Threads + Wait + AllocGlobal + Sync>(
         rt,
         rt.alloc(),
         &mut running.machine,
-        &mut running.host,
+        &mut running.turns,
         gate,
         passes,
         64,
-        &mut running.player,
         &mut running.sink,
     );
     end_of(&ran)
@@ -247,8 +247,8 @@ fn end_of(ran: &Ran) -> &'static str {
 }
 
 fn print_running<R: Print>(rt: &R, name: &str, running: &Running<'_>) -> io::Result<()> {
-    let asked = running.host.clock.asked();
-    let untold = asked.wrapping_sub(running.player.moments());
+    let asked = running.turns.host.clock.asked();
+    let untold = asked.wrapping_sub(running.turns.trace.moments());
     println!(rt; "{name}: moments that were not told => {untold}")?;
     println!(rt;
         "{name}: the sink took => {:?}",
@@ -256,13 +256,13 @@ fn print_running<R: Print>(rt: &R, name: &str, running: &Running<'_>) -> io::Res
     )?;
     println!(rt;
         "{name}: the player answered => {:?}",
-        text_of(running.player.answered())
+        text_of(running.turns.trace.answered())
     )
 }
 
 fn print_player<R: Print>(rt: &R, name: &str, running: &mut Running<'_>) -> io::Result<()> {
     let world = running.machine.take_running();
-    match (world, running.player.machine.take_running()) {
+    match (world, running.turns.trace.machine.take_running()) {
         (Some(world), Some(other)) => print_worlds(rt, name, &world, &other),
         _ => println!(rt; "{name}: a machine has no world"),
     }

@@ -77,12 +77,7 @@ fn give_up(world: &mut World, unshared: Unshared) -> SliceError
 ///
 /// Errors: `OutOfMemory` where the lists of events and journals, or what moves places, found no room before the first
 /// step, and then the world and the clock are as they were; `Torn` where journals and histories don't agree.
-pub fn run_slice<
-    Q: Send + Drop,
-    C: Clock,
-    G: Gate<Pass = Q> + Sync,
-    R: Threads + Wait + Sync,
->(
+pub fn run_slice<Q: Send + Drop, C: Clock, G: Gate<Pass = Q> + Sync, R: Threads + Wait + Sync>(
     rt: &R,
     alloc: Global,
     world: &mut World,
@@ -119,14 +114,7 @@ pub fn run_slice<
     };
     let parts = world.take(alloc, board);
     match share::<Q, Brand, Brand, Brand, C, G, R>(
-        rt,
-        alloc,
-        gate,
-        clock,
-        passes,
-        parts,
-        room,
-        steps,
+        rt, alloc, gate, clock, passes, parts, room, steps,
     ) {
         Ok(shared) => {
             let Shared {

@@ -68,8 +68,8 @@ returns-clause-so_far g c = λ tells new.
     before.hosts.files) before.words (g.M.Listener.known c.open.new.listener) in
     let drawn : ServeKnown = serve_known (hosts (known (g.T.Trace.known c.draw_lineage.new.trace) before.hosts.slices.sink before.hosts.slices.host)
     before.hosts.files) (g.W.Words.known c.draw_lineage.new.words) (g.M.Listener.known c.open.new.listener) in
-    let now : Hosts = hosts (known (g.T.Trace.known c.serve-served.new.trace) (g.K.Sink.known c.serve-served.new.sink)
-    (host_known g.C.Clock.known g.D.Disk.known c.serve-served.new.host)) (g.F.Files.known c.serve-served.new.files) in
+    let now : Hosts = hosts (known (g.T.Trace.known c.serve-served.new.with.trace) (g.K.Sink.known c.serve-served.new.sink)
+    (host_known g.C.Clock.known g.D.Disk.known c.serve-served.new.with.host)) (g.F.Files.known c.serve-served.new.files) in
     let served : ServeKnown = serve_known now drawn.words (g.M.Listener.known c.serve-served.new.listener) in
     let given : ServeWords = words_said c.args.words in
     let still = c.open.ensures.trace_lasts.still tells.hosts.trace in
@@ -110,8 +110,8 @@ returns-clause-told g c =
     before.hosts.files) before.words (g.M.Listener.known c.open.new.listener) in
     let drawn : ServeKnown = serve_known (hosts (known (g.T.Trace.known c.draw_lineage.new.trace) before.hosts.slices.sink before.hosts.slices.host)
     before.hosts.files) (g.W.Words.known c.draw_lineage.new.words) (g.M.Listener.known c.open.new.listener) in
-    let now : Hosts = hosts (known (g.T.Trace.known c.serve-served.new.trace) (g.K.Sink.known c.serve-served.new.sink)
-    (host_known g.C.Clock.known g.D.Disk.known c.serve-served.new.host)) (g.F.Files.known c.serve-served.new.files) in
+    let now : Hosts = hosts (known (g.T.Trace.known c.serve-served.new.with.trace) (g.K.Sink.known c.serve-served.new.sink)
+    (host_known g.C.Clock.known g.D.Disk.known c.serve-served.new.with.host)) (g.F.Files.known c.serve-served.new.files) in
     let served : ServeKnown = serve_known now drawn.words (g.M.Listener.known c.serve-served.new.listener) in
     let last : ServeKnown = serve_known (hosts (known (g.T.Trace.known c.close.new.trace) (g.K.Sink.known c.close.new.sink) now.slices.host)
     now.files) drawn.words served.listener in

@@ -3,21 +3,28 @@ use Rattle.monitor_running.specs.Ran.{IsRunning}
 use Rattle.monitor_running.proofs.Joins.{host_same}
 use Rattle.monitor_running.proofs.Lifts.{went_on}
 use Rattle.monitor_running.proofs.Lone.{steps_gone}
+use Rattle.monitor_running.proofs.Lent.{by_trace}
 use Rattle.monitor_running.proofs.Told.{went_items_told, went_items_untold}
 use Rattle.monitor_running.proofs.alone.run_alone.Goals as goal
 
 pub returns-in-Err-clause-went : goal.returns-in-Err-clause-went
 returns-in-Err-clause-went g c =
+    let all = g.W.TurnObjects.known in
     let told = c.in-Err.ensures in
+    let mid = all c.pass_round.new.with in
     went_on IsRunning (Some c.end_by.result) _ _ _ _ _ _ c.in_default.ensures.went
+    (by_trace IsRunning (Some c.end_by.result) mid mid (all c.tell_steps.new.with) _ _ _ _ told.beside
     (went_items_untold c.end_by.result c.in-Err.why _ _ _ _ _ _ _ _ _ _ c.end_by.ensures
     (steps_gone c.args.turn.hart c.run_hart-made.result _ _ _ c.run_hart-made.ensures.run)
-    told.told told.trace_cause told.sink_cause told.trace_lasts told.trace_stays told.sink_lasts)
+    told.told told.trace_cause told.sink_cause told.trace_lasts told.trace_stays told.sink_lasts))
 
 pub returns-clause-went : goal.returns-clause-went
 returns-clause-went g c =
+    let all = g.W.TurnObjects.known in
     let told = c.in_default-tell_steps.ensures in
+    let mid = all c.pass_round.new.with in
     went_on IsRunning None _ _ _ _ _ _ c.in_default.ensures.went
+    (by_trace IsRunning None mid mid (all c.tell_steps.new.with) _ _ _ _ told.beside
     (went_items_told _ _ _ _ _ _ _ _ _ _ _
     (steps_gone c.args.turn.hart c.run_hart-made.result _ _ _ c.run_hart-made.ensures.run)
-    told.told told.trace_lasts told.trace_stays told.sink_lasts (host_same _))
+    told.told told.trace_lasts told.trace_stays told.sink_lasts (host_same _)))

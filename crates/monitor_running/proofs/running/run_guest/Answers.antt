@@ -1,29 +1,38 @@
+use Rattle.std.proofs.Common.{refl, None, Some}
+use Rattle.monitor_running.specs.Ran.{IsRunning}
 use Rattle.monitor_running.proofs.Joins.{host_same}
+use Rattle.monitor_running.proofs.Lent.{by_clock}
 use Rattle.monitor_running.proofs.Passing.{passed_slice}
-use Rattle.monitor_running.proofs.Told.{same_disk, slice_gone, went_failed, went_told, went_untold}
+use Rattle.monitor_running.proofs.Told.{slice_gone, went_failed, went_told, went_untold}
 use Rattle.monitor_running.proofs.running.run_guest.Goals as goal
 
 pub returns-in-Err-clause-went : goal.returns-in-Err-clause-went
 returns-in-Err-clause-went g c =
-    went_failed c.slice_end.result c.in-Err.why _ _ _ _ _ _ _ _ c.slice_end.ensures
-    (same_disk g.D.Disk.known c.args.host.now c.run_slice.new.host c.run_slice.ensures.beside) c.in-Err.ensures.failed
+    let all = g.W.TurnObjects.known in
+    by_clock IsRunning (Some c.slice_end.result) (all c.args.with.now) (all c.slice_by.new.with) (all c.slice_by.new.with) _ _ _ _ refl
+    c.slice_by.ensures.beside
+    (went_failed c.slice_end.result c.in-Err.why _ _ _ _ _ _ _ _ c.slice_end.ensures refl c.in-Err.ensures.failed)
 
 pub returns-in-Err-tell_slice-clause-went : goal.returns-in-Err-tell_slice-clause-went
 returns-in-Err-tell_slice-clause-went g c =
+    let all = g.W.TurnObjects.known in
     let told = c.in-Err-tell_slice.ensures in
-    went_untold c.end_by.result c.in-Err-tell_slice.why _ _ _ _ _ _ _ _ _ c.in-Ok.slice.events.items _ c.end_by.ensures
+    by_clock IsRunning (Some c.end_by.result) (all c.args.with.now) (all c.slice_by.new.with) (all c.tell_slice.new.with) _ _ _ _ told.beside
+    c.slice_by.ensures.beside
+    (went_untold c.end_by.result c.in-Err-tell_slice.why _ _ _ _ _ _ _ _ _ c.in-Ok.slice.events.items _ c.end_by.ensures
     c.as_slice.ensures.value
-    (slice_gone _ _ _ _ _ c.in-Ok.ensures.serial c.in-Ok.ensures.actors c.in-Ok.ensures.clock
-    (same_disk g.D.Disk.known c.args.host.now c.run_slice.new.host c.run_slice.ensures.beside))
-    told.told told.trace_cause told.sink_cause told.trace_lasts told.trace_stays told.sink_lasts
+    (slice_gone _ _ _ _ _ c.in-Ok.ensures.serial c.in-Ok.ensures.actors c.in-Ok.ensures.clock refl)
+    told.told told.trace_cause told.sink_cause told.trace_lasts told.trace_stays told.sink_lasts)
 
 pub returns-clause-went : goal.returns-clause-went
 returns-clause-went g c =
+    let all = g.W.TurnObjects.known in
     let told = c.in_default.ensures in
-    went_told _ _ _ _ _ _ _ _ _ _ c.in-Ok.slice.events.items _ c.as_slice.ensures.value
-    (slice_gone _ _ _ _ _ c.in-Ok.ensures.serial c.in-Ok.ensures.actors c.in-Ok.ensures.clock
-    (same_disk g.D.Disk.known c.args.host.now c.run_slice.new.host c.run_slice.ensures.beside))
-    told.told told.trace_lasts told.trace_stays told.sink_lasts (host_same _)
+    by_clock IsRunning None (all c.args.with.now) (all c.slice_by.new.with) (all c.tell_slice.new.with) _ _ _ _ told.beside
+    c.slice_by.ensures.beside
+    (went_told _ _ _ _ _ _ _ _ _ _ c.in-Ok.slice.events.items _ c.as_slice.ensures.value
+    (slice_gone _ _ _ _ _ c.in-Ok.ensures.serial c.in-Ok.ensures.actors c.in-Ok.ensures.clock refl)
+    told.told told.trace_lasts told.trace_stays told.sink_lasts (host_same _))
 
 pub returns-clause-passes : goal.returns-clause-passes
-returns-clause-passes g c = passed_slice _ _ _ _ _ _ _ _ c.in-Ok.ensures.stops c.run_slice.ensures.serve c.run_slice.ensures.same
+returns-clause-passes g c = passed_slice _ _ _ _ _ _ _ _ c.in-Ok.ensures.stops c.slice_by.ensures.serve c.slice_by.ensures.same

@@ -1,7 +1,8 @@
-use Rattle.std.proofs.Common.{sym}
+use Rattle.std.proofs.Common.{refl, sym, None}
 use Rattle.monitor_machine.specs.State.{IsLive}
 use Rattle.monitor_running.proofs.Disks.{rests_same}
 use Rattle.monitor_running.proofs.Lifts.{nothing_taken, slice_lifted, went_off, went_resting}
+use Rattle.monitor_running.proofs.Lent.{by_clock}
 use Rattle.monitor_running.proofs.running.run_once.Goals as goal
 
 pub returns-then-is_off-clause-went : goal.returns-then-is_off-clause-went
@@ -9,10 +10,14 @@ returns-then-is_off-clause-went g c = went_off _ c.args.machine.now c.is_off.res
 
 pub returns-in_default-clause-went : goal.returns-in_default-clause-went
 returns-in_default-clause-went g c =
+    let all = g.W.TurnObjects.known in
+    let rested = c.rest_long.ensures in
+    let now = all c.rest_long.new.with in
     rw c.ready.ensures.same
+    (by_clock IsLive None (all c.args.with.now) now now _ _ _ _ refl rested.beside
     (went_resting IsLive _ _ _ _ _ _
     (nothing_taken c.args.machine.now c.take_running.new.self (sym c.in_default.ensures.running) c.in_default.ensures.left)
-    (record { clock = c.rest.ensures; disk = rests_same _ }))
+    (record { clock = rested.rests; disk = rests_same _ })))
 
 pub returns-clause-went : goal.returns-clause-went
 returns-clause-went g c =

@@ -1,25 +1,36 @@
-use Rattle.std.proofs.Common.{ℕ, refl, []}
+use Rattle.std.proofs.Common.{ℕ, refl, [], None, Some}
 use Rattle.slice_runner.specs.declared.slice.SliceError.TheVariants as error
 use Rattle.monitor_running.specs.declared.ran.Ran.TheVariants as ran
+use Rattle.monitor_running.specs.Ran.{IsRunning}
 use Rattle.monitor_running.proofs.Joins.{host_same}
+use Rattle.monitor_running.proofs.Lent.{by_clock}
 use Rattle.monitor_running.proofs.Told.{round_gone, went_failed, went_told, went_untold}
 use Rattle.monitor_running.proofs.waiting.pass_round.Goals as goal
 
 pub returns-in_default-clause-went : goal.returns-in_default-clause-went
 returns-in_default-clause-went g c =
-    went_failed {Q = ℕ} ran.OutOfMemory error.OutOfMemory _ _ _ _ _ _ [] [] refl refl
-    (c.in_default.ensures.world, c.in_default.ensures.clock, refl)
+    let all = g.W.TurnObjects.known in
+    by_clock IsRunning (Some ran.OutOfMemory) (all c.args.with.now) (all c.pass_by.new.with) (all c.pass_by.new.with) _ _ _ _ refl
+    c.pass_by.ensures.beside
+    (went_failed {Q = ℕ} ran.OutOfMemory error.OutOfMemory _ _ _ _ _ _ [] [] refl refl
+    (c.in_default.ensures.world, c.in_default.ensures.clock, refl))
 
 pub returns-in-Err-clause-went : goal.returns-in-Err-clause-went
 returns-in-Err-clause-went g c =
+    let all = g.W.TurnObjects.known in
     let told = c.in-Err.ensures in
-    went_untold c.end_by.result c.in-Err.why _ _ _ _ _ _ _ _ _ c.in-Ok.events.items _ c.end_by.ensures
+    by_clock IsRunning (Some c.end_by.result) (all c.args.with.now) (all c.pass_by.new.with) (all c.tell_slice.new.with) _ _ _ _ told.beside
+    c.pass_by.ensures.beside
+    (went_untold c.end_by.result c.in-Err.why _ _ _ _ _ _ _ _ _ c.in-Ok.events.items _ c.end_by.ensures
     c.as_slice.ensures.value (round_gone c.args.but _ _ _ _ _ _ c.in-Ok.ensures.gone c.in-Ok.ensures.made)
-    told.told told.trace_cause told.sink_cause told.trace_lasts told.trace_stays told.sink_lasts
+    told.told told.trace_cause told.sink_cause told.trace_lasts told.trace_stays told.sink_lasts)
 
 pub returns-clause-went : goal.returns-clause-went
 returns-clause-went g c =
+    let all = g.W.TurnObjects.known in
     let told = c.in_default-tell_slice.ensures in
-    went_told _ _ _ _ _ _ _ _ _ _ c.in-Ok.events.items _ c.as_slice.ensures.value
+    by_clock IsRunning None (all c.args.with.now) (all c.pass_by.new.with) (all c.tell_slice.new.with) _ _ _ _ told.beside
+    c.pass_by.ensures.beside
+    (went_told _ _ _ _ _ _ _ _ _ _ c.in-Ok.events.items _ c.as_slice.ensures.value
     (round_gone c.args.but _ _ _ _ _ _ c.in-Ok.ensures.gone c.in-Ok.ensures.made) told.told told.trace_lasts told.trace_stays told.sink_lasts
-    (host_same _)
+    (host_same _))

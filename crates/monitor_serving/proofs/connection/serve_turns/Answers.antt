@@ -1,6 +1,5 @@
 use Rattle.std.proofs.Common.{refl}
-use Rattle.monitor_running.specs.Asked.{host_known}
-use Rattle.monitor_running.specs.Reached.{known}
+use Rattle.monitor_running.specs.Objects.{known_with}
 use Rattle.monitor_serving.specs.Views.{Hosts, hosts, view}
 use Rattle.monitor_serving.proofs.Turns.{all_last_on, all_last_self, goes_on, lasts_on, lasts_self, served_on}
 use Rattle.monitor_serving.proofs.Waiting.{stays_on}
@@ -9,7 +8,7 @@ use Rattle.monitor_serving.proofs.connection.serve_turns.Goals as goal
 pub loop-init : goal.loop-init
 loop-init g c =
     let N = g.N.Conn in
-    let before : Hosts = hosts (known (g.T.Trace.known c.args.trace.now) (g.K.Sink.known c.args.sink.now) (host_known g.C.Clock.known g.D.Disk.known c.args.host.now))
+    let before : Hosts = hosts (known_with (g.W.TurnObjects.known c.args.with.now) (g.K.Sink.known c.args.sink.now))
     (g.F.Files.known c.args.files.now) in
     record {
       can = tt;
@@ -26,11 +25,11 @@ pub loop-preserved : goal.loop-preserved
 loop-preserved g c =
     let N = g.N.Conn in
     let turn = c.turn-end in
-    let start : Hosts = hosts (known (g.T.Trace.known c.args.trace.now) (g.K.Sink.known c.args.sink.now) (host_known g.C.Clock.known g.D.Disk.known c.args.host.now))
+    let start : Hosts = hosts (known_with (g.W.TurnObjects.known c.args.with.now) (g.K.Sink.known c.args.sink.now))
     (g.F.Files.known c.args.files.now) in
-    let before : Hosts = hosts (known (g.T.Trace.known c.loop.trace) (g.K.Sink.known c.loop.sink) (host_known g.C.Clock.known g.D.Disk.known c.loop.host))
+    let before : Hosts = hosts (known_with (g.W.TurnObjects.known c.loop.with) (g.K.Sink.known c.loop.sink))
     (g.F.Files.known c.loop.files) in
-    let after : Hosts = hosts (known (g.T.Trace.known turn.new.trace) (g.K.Sink.known turn.new.sink) (host_known g.C.Clock.known g.D.Disk.known turn.new.host))
+    let after : Hosts = hosts (known_with (g.W.TurnObjects.known turn.new.with) (g.K.Sink.known turn.new.sink))
     (g.F.Files.known turn.new.files) in
     record {
       can = tt;
@@ -57,11 +56,11 @@ pub returns-in-Some-end-clause-served : goal.returns-in-Some-end-clause-served
 returns-in-Some-end-clause-served g c =
     let N = g.N.Conn in
     let turn = c.turn-end in
-    let start : Hosts = hosts (known (g.T.Trace.known c.args.trace.now) (g.K.Sink.known c.args.sink.now) (host_known g.C.Clock.known g.D.Disk.known c.args.host.now))
+    let start : Hosts = hosts (known_with (g.W.TurnObjects.known c.args.with.now) (g.K.Sink.known c.args.sink.now))
     (g.F.Files.known c.args.files.now) in
-    let before : Hosts = hosts (known (g.T.Trace.known c.loop.trace) (g.K.Sink.known c.loop.sink) (host_known g.C.Clock.known g.D.Disk.known c.loop.host))
+    let before : Hosts = hosts (known_with (g.W.TurnObjects.known c.loop.with) (g.K.Sink.known c.loop.sink))
     (g.F.Files.known c.loop.files) in
-    let after : Hosts = hosts (known (g.T.Trace.known turn.new.trace) (g.K.Sink.known turn.new.sink) (host_known g.C.Clock.known g.D.Disk.known turn.new.host))
+    let after : Hosts = hosts (known_with (g.W.TurnObjects.known turn.new.with) (g.K.Sink.known turn.new.sink))
     (g.F.Files.known turn.new.files) in
     λ tell tells.
     served_on (view c.args.monitor.now start (N.known c.args.conn.now)) (view c.loop.monitor before (N.known c.loop.conn))

@@ -1,7 +1,6 @@
 use Rattle.std.proofs.Common.{◌≡◌}
 use Rattle.vm_outside.specs.Known.{Lasts, Tells}
-use Rattle.monitor_running.specs.Asked.{host_known}
-use Rattle.monitor_running.specs.Reached.{known}
+use Rattle.monitor_running.specs.Objects.{known_with}
 use Rattle.monitor_serving.specs.Passes.{ArePasses}
 use Rattle.monitor_serving.specs.Turns.{GoesOn}
 use Rattle.monitor_serving.specs.Views.{AllLast, AllTell, Hosts, hosts, view}
@@ -10,8 +9,8 @@ use Rattle.monitor_serving.proofs.connection.serve_turns.Given as goal
 abbrev pub invariant-loop : goal.invariant-loop
 invariant-loop g l =
     let before : Hosts =
-    hosts (known (g.T.Trace.known l.fn.trace) (g.K.Sink.known l.fn.sink) (host_known g.C.Clock.known g.D.Disk.known l.fn.host)) (g.F.Files.known l.fn.files) in
-    let now : Hosts = hosts (known (g.T.Trace.known l.trace) (g.K.Sink.known l.sink) (host_known g.C.Clock.known g.D.Disk.known l.host)) (g.F.Files.known l.files) in
+    hosts (known_with (g.W.TurnObjects.known l.fn.with) (g.K.Sink.known l.fn.sink)) (g.F.Files.known l.fn.files) in
+    let now : Hosts = hosts (known_with (g.W.TurnObjects.known l.with) (g.K.Sink.known l.sink)) (g.F.Files.known l.files) in
     let N = g.N.Conn in
     record {
       can : (goal.iterator-loop g).can_next l.iterator';

@@ -1,6 +1,5 @@
 use Rattle.std.proofs.Common.{refl, Some}
-use Rattle.monitor_running.specs.Asked.{host_known}
-use Rattle.monitor_running.specs.Reached.{known}
+use Rattle.monitor_running.specs.Objects.{known_with}
 use Rattle.monitor_serving.specs.Connections.{place}
 use Rattle.monitor_serving.specs.Views.{Hosts, hosts}
 use Rattle.monitor_serving.proofs.Alone.{goes_on}
@@ -12,7 +11,7 @@ loop-init g c = record {
   can = tt;
   finite = tt;
   on = λ tell tells s first old. old;
-  last = all_last_self (hosts (known (g.T.Trace.known c.args.trace.now) (g.K.Sink.known c.args.sink.now) (host_known g.C.Clock.known g.D.Disk.known c.args.host.now))
+  last = all_last_self (hosts (known_with (g.W.TurnObjects.known c.args.with.now) (g.K.Sink.known c.args.sink.now))
       (g.F.Files.known c.args.files.now));
   listener = lasts_self (g.M.Listener.known c.args.listener.now).health;
   stays = λ tells. refl;
@@ -23,11 +22,11 @@ pub loop-preserved : goal.loop-preserved
 loop-preserved g c =
     let M = g.M.Listener in
     let next = c.serve_next-end in
-    let start : Hosts = hosts (known (g.T.Trace.known c.args.trace.now) (g.K.Sink.known c.args.sink.now) (host_known g.C.Clock.known g.D.Disk.known c.args.host.now))
+    let start : Hosts = hosts (known_with (g.W.TurnObjects.known c.args.with.now) (g.K.Sink.known c.args.sink.now))
     (g.F.Files.known c.args.files.now) in
-    let before : Hosts = hosts (known (g.T.Trace.known c.loop.trace) (g.K.Sink.known c.loop.sink) (host_known g.C.Clock.known g.D.Disk.known c.loop.host))
+    let before : Hosts = hosts (known_with (g.W.TurnObjects.known c.loop.with) (g.K.Sink.known c.loop.sink))
     (g.F.Files.known c.loop.files) in
-    let after : Hosts = hosts (known (g.T.Trace.known next.new.trace) (g.K.Sink.known next.new.sink) (host_known g.C.Clock.known g.D.Disk.known next.new.host))
+    let after : Hosts = hosts (known_with (g.W.TurnObjects.known next.new.with) (g.K.Sink.known next.new.sink))
     (g.F.Files.known next.new.files) in
     record {
       can = tt;
@@ -52,11 +51,11 @@ pub returns-in-Some-end-clause-serves : goal.returns-in-Some-end-clause-serves
 returns-in-Some-end-clause-serves g c =
     let M = g.M.Listener in
     let next = c.serve_next-end in
-    let start : Hosts = hosts (known (g.T.Trace.known c.args.trace.now) (g.K.Sink.known c.args.sink.now) (host_known g.C.Clock.known g.D.Disk.known c.args.host.now))
+    let start : Hosts = hosts (known_with (g.W.TurnObjects.known c.args.with.now) (g.K.Sink.known c.args.sink.now))
     (g.F.Files.known c.args.files.now) in
-    let before : Hosts = hosts (known (g.T.Trace.known c.loop.trace) (g.K.Sink.known c.loop.sink) (host_known g.C.Clock.known g.D.Disk.known c.loop.host))
+    let before : Hosts = hosts (known_with (g.W.TurnObjects.known c.loop.with) (g.K.Sink.known c.loop.sink))
     (g.F.Files.known c.loop.files) in
-    let after : Hosts = hosts (known (g.T.Trace.known next.new.trace) (g.K.Sink.known next.new.sink) (host_known g.C.Clock.known g.D.Disk.known next.new.host))
+    let after : Hosts = hosts (known_with (g.W.TurnObjects.known next.new.with) (g.K.Sink.known next.new.sink))
     (g.F.Files.known next.new.files) in
     λ tell tells.
     goes_on (place c.args.monitor.now start (M.known c.args.listener.now)) (place c.loop.monitor before (M.known c.loop.listener))

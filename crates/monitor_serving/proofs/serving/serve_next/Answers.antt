@@ -1,6 +1,5 @@
 use Rattle.std.proofs.Common.{Option, subst, sym}
-use Rattle.monitor_running.specs.Asked.{host_known}
-use Rattle.monitor_running.specs.Reached.{known}
+use Rattle.monitor_running.specs.Objects.{known_with}
 use Rattle.monitor_serving.specs.declared.served.Served.{Served}
 use Rattle.monitor_serving.specs.Connections.{Goes, Place, place}
 use Rattle.monitor_serving.specs.Views.{Hosts, hosts}
@@ -9,15 +8,16 @@ use Rattle.monitor_serving.proofs.serving.serve_next.Goals as goal
 
 pub returns-in-Err-clause-goes : goal.returns-in-Err-clause-goes
 returns-in-Err-clause-goes g c = λ tell tells.
-    breaks_on_accept c.args.monitor.now (g.T.Trace.known c.args.trace.now) (g.K.Sink.known c.args.sink.now) (host_known g.C.Clock.known g.D.Disk.known c.args.host.now)
+    let was = g.W.TurnObjects.known c.args.with.now in
+    breaks_on_accept c.args.monitor.now was.trace (g.K.Sink.known c.args.sink.now) was.host
     (g.F.Files.known c.args.files.now) (g.M.Listener.known c.args.listener.now) (g.M.Listener.known c.accept.new.self) (c.in-Err.ensures.same tells)
 
 pub returns-in-Ok-NotYet-clause-cause : goal.returns-in-Ok-NotYet-clause-cause
 returns-in-Ok-NotYet-clause-cause g c =
     cause_unheard c.run_alone.result
-    (hosts (known (g.T.Trace.known c.args.trace.now) (g.K.Sink.known c.args.sink.now) (host_known g.C.Clock.known g.D.Disk.known c.args.host.now))
+    (hosts (known_with (g.W.TurnObjects.known c.args.with.now) (g.K.Sink.known c.args.sink.now))
     (g.F.Files.known c.args.files.now))
-    (hosts (known (g.T.Trace.known c.run_alone.new.trace) (g.K.Sink.known c.run_alone.new.sink) (host_known g.C.Clock.known g.D.Disk.known c.run_alone.new.host))
+    (hosts (known_with (g.W.TurnObjects.known c.run_alone.new.with) (g.K.Sink.known c.run_alone.new.sink))
     (g.F.Files.known c.args.files.now))
     (g.M.Listener.known c.args.listener.now).health (g.M.Listener.known c.accept.new.self).health c.accept.ensures.called.lasts
     (c.run_alone.ensures.cause (g.F.Files.known c.args.files.now) (g.M.Listener.known c.args.listener.now).health)
@@ -25,7 +25,7 @@ returns-in-Ok-NotYet-clause-cause g c =
 pub returns-in-Ok-Ended-clause-goes : goal.returns-in-Ok-Ended-clause-goes
 returns-in-Ok-Ended-clause-goes g c = λ tell tells.
     goes_to_end g.N.Conn.known c.args.monitor.now
-    (hosts (known (g.T.Trace.known c.args.trace.now) (g.K.Sink.known c.args.sink.now) (host_known g.C.Clock.known g.D.Disk.known c.args.host.now))
+    (hosts (known_with (g.W.TurnObjects.known c.args.with.now) (g.K.Sink.known c.args.sink.now))
     (g.F.Files.known c.args.files.now))
     (g.M.Listener.known c.args.listener.now) (g.M.Listener.known c.accept.new.self) c.in-Ok-Ended.field-0 c.in-Ok-Ended.field-0-is
     (c.in-Ok-Ended.ensures.accepts tells)
@@ -37,20 +37,20 @@ returns-in-Ok-NotYet-clause-goes g c =
     let heard = g.M.Listener.known c.accept.new.self in
     λ tell tells.
     goes_unheard g.N.Conn.known c.args.monitor.now
-    (hosts (known (g.T.Trace.known c.args.trace.now) (g.K.Sink.known c.args.sink.now) (host_known g.C.Clock.known g.D.Disk.known c.args.host.now)) files)
+    (hosts (known_with (g.W.TurnObjects.known c.args.with.now) (g.K.Sink.known c.args.sink.now)) files)
     (g.M.Listener.known c.args.listener.now) heard c.in-Ok-NotYet.field-0 c.in-Ok-NotYet.field-0-is (c.in-Ok-NotYet.ensures.accepts tells)
     alone.result
     (place alone.new.monitor
-    (hosts (known (g.T.Trace.known alone.new.trace) (g.K.Sink.known alone.new.sink) (host_known g.C.Clock.known g.D.Disk.known alone.new.host)) files) heard)
+    (hosts (known_with (g.W.TurnObjects.known alone.new.with) (g.K.Sink.known alone.new.sink)) files) heard)
     (alone.ensures.goes files heard tell)
 
 pub returns-in-Ok-Conn-clause-goes : goal.returns-in-Ok-Conn-clause-goes
 returns-in-Ok-Conn-clause-goes g c =
     let M = g.M.Listener in
     let one = c.serve_one in
-    let start : Hosts = hosts (known (g.T.Trace.known c.args.trace.now) (g.K.Sink.known c.args.sink.now) (host_known g.C.Clock.known g.D.Disk.known c.args.host.now))
+    let start : Hosts = hosts (known_with (g.W.TurnObjects.known c.args.with.now) (g.K.Sink.known c.args.sink.now))
     (g.F.Files.known c.args.files.now) in
-    let after : Place = place one.new.monitor (hosts (known (g.T.Trace.known one.new.trace) (g.K.Sink.known one.new.sink) (host_known g.C.Clock.known g.D.Disk.known one.new.host))
+    let after : Place = place one.new.monitor (hosts (known_with (g.W.TurnObjects.known one.new.with) (g.K.Sink.known one.new.sink))
     (g.F.Files.known one.new.files)) (M.known one.new.listener) in
     λ tell tells.
     let gives = given_of g.N.Conn.known (M.known c.args.listener.now) (M.known c.accept.new.self) c.in-Ok-Conn.field-0 c.in-Ok-Conn.conn

@@ -1,10 +1,10 @@
 use Rattle.std.proofs.Common.{sym, subst, ◌∙◌, refl, Some, arith}
 use Rattle.monitor_machine.specs.declared.machine.LiveMachine.{LiveMachine}
 use Rattle.monitor_machine.specs.State.{IsLive}
-use Rattle.monitor_running.specs.Asked.{host_known}
 use Rattle.monitor_running.specs.Ran.{RanOn}
-use Rattle.monitor_running.specs.Reached.{known, seen}
-use Rattle.monitor_serving.specs.Views.{host_with, hosts, view}
+use Rattle.monitor_running.specs.Objects.{known_with}
+use Rattle.monitor_running.specs.Reached.{seen}
+use Rattle.monitor_serving.specs.Views.{hosts, view}
 use Rattle.monitor_serving.proofs.Settling.{breaks_idle, for_some, settled_cause}
 use Rattle.monitor_serving.proofs.Slices.{came_unsaid, slices_broke, slices_on, unsaid_by}
 use Rattle.monitor_serving.proofs.Turns.{turned_on}
@@ -16,8 +16,8 @@ returns-in_default-clause-turned g c = λ tell tells. breaks_idle _
 pub returns-in-Some-clause-turned : goal.returns-in-Some-clause-turned
 returns-in-Some-clause-turned g c =
     let ran = c.run_beside-heard in
-    let before = known (g.T.Trace.known c.args.trace.now) (g.K.Sink.known c.args.sink.now) (host_known g.C.Clock.known g.D.Disk.known c.args.host.now) in
-    let after = known (g.T.Trace.known ran.new.trace) (g.K.Sink.known ran.new.sink) (host_known g.C.Clock.known g.D.Disk.known ran.new.host) in
+    let before = known_with (g.W.TurnObjects.known c.args.with.now) (g.K.Sink.known c.args.sink.now) in
+    let after = known_with (g.W.TurnObjects.known ran.new.with) (g.K.Sink.known ran.new.sink) in
     let files = g.F.Files.known c.args.files.now in
     let conn = g.N.Conn.known c.args.conn.now in
     let now = g.N.Conn.known ran.new.conn in
@@ -32,11 +32,9 @@ returns-in-Some-clause-turned g c =
 pub returns-in-None-clause-turned : goal.returns-in-None-clause-turned
 returns-in-None-clause-turned g c =
     let ran = c.run_beside-heard in
-    let host = host_known g.C.Clock.known g.D.Disk.known in
-    let before = known (g.T.Trace.known c.args.trace.now) (g.K.Sink.known c.args.sink.now) (host c.args.host.now) in
-    let after = known (g.T.Trace.known ran.new.trace) (g.K.Sink.known ran.new.sink) (host ran.new.host) in
+    let before = known_with (g.W.TurnObjects.known c.args.with.now) (g.K.Sink.known c.args.sink.now) in
+    let after = known_with (g.W.TurnObjects.known ran.new.with) (g.K.Sink.known ran.new.sink) in
     let sunk = g.K.Sink.known ran.new.sink in
-    let told = g.T.Trace.known c.settle.new.trace in
     let files = g.F.Files.known c.args.files.now in
     let left = g.F.Files.known c.settle.new.files in
     let conn = g.N.Conn.known c.args.conn.now in
@@ -44,14 +42,13 @@ returns-in-None-clause-turned g c =
     let monitor = record c.args.monitor.now { machine = ran.new.machine } in
     λ tell tells.
     turned_on (view c.args.monitor.now (hosts before files) conn) (view monitor (hosts after files) conn)
-    (view c.settle.new.monitor
-    (hosts (known told sunk (host_with (g.C.Clock.known ran.new.host.clock) (g.D.Disk.known c.settle.new.disk))) left) now)
+    (view c.settle.new.monitor (hosts (known_with (g.W.TurnObjects.known c.settle.new.with) sunk) left) now)
     (slices_on c.args.monitor.now ran.new.machine (hosts before files) (hosts after files) conn refl ran.result.1
     (subst (λ (m : LiveMachine). RanOn IsLive (Some ran.result.1) (seen before) m (seen after) ran.new.machine) c.machine.ensures.value
     (ran.ensures.went.ran tell.trace tell.sink))
     (sym c.end_of.ensures ∙ c.in-None.is))
     (record { still = λ it. it; later = omega arith }) c.settle.result
-    (c.settle.ensures.settled sunk (g.C.Clock.known ran.new.host.clock) conn
+    (c.settle.ensures.settled sunk conn
     (record {
       trace = ran.ensures.went.trace_lasts.still tell.trace;
       sink = ran.ensures.went.sink_lasts.still tell.sink;
@@ -63,6 +60,6 @@ pub returns-in-None-clause-cause : goal.returns-in-None-clause-cause
 returns-in-None-clause-cause g c =
     let ran = c.run_beside-heard in
     let conn = g.N.Conn.known c.args.conn.now in
-    settled_cause c.settle.result _ _ (g.T.Trace.known ran.new.trace).health ran.ensures.went.trace_lasts
+    settled_cause c.settle.result _ _ (g.W.TurnObjects.known ran.new.with).trace.health ran.ensures.went.trace_lasts
     (for_some c.settle.result (λ end cause. cause conn ran.ensures.conn_lasts (λ tells. ran.ensures.heard tells) ran.ensures.conn_cause)
     c.settle.ensures.cause)

@@ -1,6 +1,6 @@
 use Rattle.std.proofs.Common.{refl}
 use Rattle.monitor_running.proofs.Told.{told_then}
-use Rattle.monitor_running.proofs.telling.tell_steps.Goals as goal
+use Rattle.monitor_running.proofs.telling.steps_to.Goals as goal
 
 pub returns-in_default-clause-told : goal.returns-in_default-clause-told
 returns-in_default-clause-told g c = λ t k.
