@@ -232,6 +232,14 @@ goes_by (served.Fault name) a b serves = serves
 goes_by (served.Torn torn journals histories) a b serves = serves
 goes_by served.OutOfMemory a b serves = serves
 
+-- which names what it named
+pub cause_by : (end : End) (a b : Hosts) (x y : Health) → EndCause end a b x y → GoCause (going end) a b x y
+cause_by served.Ended a b x y cause = tt
+cause_by served.Off a b x y cause = cause
+cause_by (served.Fault name) a b x y cause = cause
+cause_by (served.Torn torn journals histories) a b x y cause = cause
+cause_by served.OutOfMemory a b x y cause = cause
+
 -- ---- what was accepted
 
 -- none is to come any more

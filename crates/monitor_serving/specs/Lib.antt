@@ -1,7 +1,7 @@
 pub mod Causes
 pub mod Connections
 pub mod Ends
+pub mod Gating
 pub mod Hearing
-pub mod Passes
 pub mod Turns
 pub mod Views

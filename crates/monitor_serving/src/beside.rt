@@ -4,14 +4,14 @@ ghost use Rattle.vm_outside.specs.Known.{Lasts, Tells};
 ghost use Rattle.monitor_machine.specs.State.{IsLive};
 ghost use Rattle.monitor_running.specs.Objects.{known_with};
 ghost use Rattle.monitor_running.specs.Ran.{Went};
+ghost use Rattle.monitor_serving.specs.Gating.{ArePasses, IsGated, StaysGated};
 ghost use Rattle.monitor_serving.specs.Hearing.{HeardCause, HearsBy, IsWithin};
-ghost use Rattle.monitor_serving.specs.Passes.{ArePasses};
 
+use crate::gating::Gating;
 use crate::listening::{Heard, listen};
 use crate::quiet::run_quiet;
 use monitor_machine::LiveMachine;
 use monitor_running::{Ran, TurnObjects, is_quiet, run_while};
-use pause_gate::{FlagGate, Pass};
 use serve_host::Conn;
 use std::alloc::Global;
 use std::sync::Wait;
@@ -24,18 +24,14 @@ use vm_outside::Sink;
 fn run_in_threads<W: TurnObjects + Send, N: Conn, K: Sink + Send, R: Threads + Wait + Sync>(
     rt: &R,
     alloc: Global,
-    gate: &FlagGate,
-    passes: &mut Vec<Pass>,
-    reader: &mut Pass,
-    steps: u32,
+    gating: &mut Gating,
     machine: &mut LiveMachine,
     with: &mut W,
     sink: &mut K,
     conn: &mut N,
     buf: &mut Vec<u8>,
 ) -> (Heard, Ran)
-    requires reader { reader.old.0 ≡ gate.now }
-    requires passes { ArePasses gate.now passes.old.items }
+    requires { IsGated gating.old }
     ensures heard { Tells (N.known conn.old).health →
         HearsBy result.0 (N.known conn.old) (N.known conn.new) buf.new.items }
     ensures within { IsWithin result.0 (length buf.new.items) }
@@ -46,10 +42,13 @@ fn run_in_threads<W: TurnObjects + Send, N: Conn, K: Sink + Send, R: Threads + W
     ensures went { Went IsLive (Some result.1)
         (known_with (W.known with.old) (K.known sink.old)) machine.old
         (known_with (W.known with.new) (K.known sink.new)) machine.new }
-    ensures reader { reader.new.0 ≡ gate.now }
-    ensures opened { reader.new.1.openings ≡ reader.old.1.openings }
-    ensures passes { ArePasses gate.now passes.new.items }
+    ensures gated { StaysGated gating.old gating.new }
+    ensures opened { gating.new.reader.1.openings ≡ gating.old.reader.1.openings }
 {
+    let gate = &gating.gate;
+    let passes = &mut gating.passes;
+    let reader = &mut gating.reader;
+    let steps = gating.steps;
     let mut read = || -> Heard
         requires { reader.now.0 ≡ gate.now }
         ensures heard { Tells (N.known conn.entry.now).health →
@@ -92,18 +91,14 @@ fn run_in_threads<W: TurnObjects + Send, N: Conn, K: Sink + Send, R: Threads + W
 pub fn run_beside<W: TurnObjects + Send, N: Conn, K: Sink + Send, R: Threads + Wait + Sync>(
     rt: &R,
     alloc: Global,
-    gate: &FlagGate,
-    passes: &mut Vec<Pass>,
-    reader: &mut Pass,
-    steps: u32,
+    gating: &mut Gating,
     machine: &mut LiveMachine,
     with: &mut W,
     sink: &mut K,
     conn: &mut N,
     buf: &mut Vec<u8>,
 ) -> (Heard, Ran)
-    requires reader { reader.old.0 ≡ gate.now }
-    requires passes { ArePasses gate.now passes.old.items }
+    requires { IsGated gating.old }
     ensures heard { Tells (N.known conn.old).health →
         HearsBy result.0 (N.known conn.old) (N.known conn.new) buf.new.items }
     ensures within { IsWithin result.0 (length buf.new.items) }
@@ -114,16 +109,11 @@ pub fn run_beside<W: TurnObjects + Send, N: Conn, K: Sink + Send, R: Threads + W
     ensures went { Went IsLive (Some result.1)
         (known_with (W.known with.old) (K.known sink.old)) machine.old
         (known_with (W.known with.new) (K.known sink.new)) machine.new }
-    ensures reader { reader.new.0 ≡ gate.now }
-    ensures opened { reader.new.1.openings ≡ reader.old.1.openings }
-    ensures passes { ArePasses gate.now passes.new.items }
+    ensures gated { StaysGated gating.old gating.new }
+    ensures opened { gating.new.reader.1.openings ≡ gating.old.reader.1.openings }
 {
     if is_quiet(machine) {
-        return run_quiet(
-            rt, alloc, gate, passes, steps, machine, with, sink, conn, buf,
-        );
+        return run_quiet(rt, alloc, gating, machine, with, sink, conn, buf);
     }
-    run_in_threads(
-        rt, alloc, gate, passes, reader, steps, machine, with, sink, conn, buf,
-    )
+    run_in_threads(rt, alloc, gating, machine, with, sink, conn, buf)
 }

@@ -1,41 +1,33 @@
 // One connection, from its first byte to its end.
-ghost use Rattle.std.specs.Prelude.{◌≡◌};
 ghost use Rattle.vm_outside.specs.Known.{Lasts, Tells};
 ghost use Rattle.monitor_serving.specs.Causes.{ServedCause};
-ghost use Rattle.monitor_serving.specs.Passes.{ArePasses};
+ghost use Rattle.monitor_serving.specs.Gating.{IsGated};
 ghost use Rattle.monitor_serving.specs.Turns.{ServedAs};
 ghost use Rattle.monitor_serving.specs.Views.{AllLast, AllTell, hosts_of, view_of};
 
+use crate::gating::Gating;
 use crate::served::Served;
 use crate::turning::turn;
 use monitor_core::Monitor;
 use monitor_running::TurnObjects;
-use pause_gate::{FlagGate, Pass};
 use serve_host::Conn;
 use std::alloc::Global;
 use std::sync::Wait;
 use std::thread::Threads;
 use vm_outside::{Files, Sink};
 
-/// A pass for each of 32 harts and the timer, one for who asks before each slice, and one for the reader.
-pub(crate) const PASSES: usize = 35;
-
 // Turns until the connection is over.
 fn serve_turns<W: TurnObjects + Send, N: Conn, F: Files, K: Sink + Send, R: Threads + Wait + Sync>(
     rt: &R,
     alloc: Global,
-    gate: &FlagGate,
-    passes: &mut Vec<Pass>,
-    reader: &mut Pass,
-    steps: u32,
+    gating: &mut Gating,
     monitor: &mut Monitor,
     files: &mut F,
     with: &mut W,
     conn: &mut N,
     sink: &mut K,
 ) -> Served
-    requires reader { reader.old.0 ≡ gate.now }
-    requires passes { ArePasses gate.now passes.old.items }
+    requires { IsGated gating.old }
     ensures served { AllTell (hosts_of W.known K.known F.known with.old sink.old files.old) →
         Tells (N.known conn.old).health → ServedAs result
         (view_of W.known K.known F.known N.known monitor.old with.old sink.old files.old conn.old)
@@ -49,9 +41,7 @@ fn serve_turns<W: TurnObjects + Send, N: Conn, F: Files, K: Sink + Send, R: Thre
     ensures conn_lasts { Lasts (N.known conn.old).health (N.known conn.new).health }
 {
     for _ in rt.forever() {
-        let end = turn(
-            rt, alloc, gate, passes, reader, steps, monitor, files, with, conn, sink,
-        );
+        let end = turn(rt, alloc, gating, monitor, files, with, conn, sink);
         if let Some(end) = end {
             return end;
         }
@@ -92,23 +82,8 @@ pub fn serve_connection<
         (hosts_of W.known K.known F.known with.new sink.new files.new) }
     ensures conn_lasts { Lasts (N.known conn.old).health (N.known conn.new).health }
 {
-    let Ok((gate, mut passes)) = FlagGate::new(alloc, PASSES) else {
+    let Ok(mut gating) = Gating::new(alloc, steps) else {
         return Served::OutOfMemory;
     };
-    let Some(mut reader) = passes.pop() else {
-        unreachable!()
-    };
-    serve_turns(
-        rt,
-        alloc,
-        &gate,
-        &mut passes,
-        &mut reader,
-        steps,
-        monitor,
-        files,
-        with,
-        conn,
-        sink,
-    )
+    serve_turns(rt, alloc, &mut gating, monitor, files, with, conn, sink)
 }

@@ -8,6 +8,7 @@
 
 mod beside;
 mod connection;
+mod gating;
 mod items;
 mod listening;
 mod quiet;

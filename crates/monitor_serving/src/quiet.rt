@@ -4,13 +4,13 @@ ghost use Rattle.vm_outside.specs.Known.{Lasts, Tells};
 ghost use Rattle.monitor_machine.specs.State.{IsLive};
 ghost use Rattle.monitor_running.specs.Objects.{known_with};
 ghost use Rattle.monitor_running.specs.Ran.{Went};
+ghost use Rattle.monitor_serving.specs.Gating.{IsGated, StaysGated};
 ghost use Rattle.monitor_serving.specs.Hearing.{HeardCause, HearsBy, IsWithin};
-ghost use Rattle.monitor_serving.specs.Passes.{ArePasses};
 
+use crate::gating::Gating;
 use crate::listening::{Heard, hear};
 use monitor_machine::LiveMachine;
 use monitor_running::{Ran, TurnObjects, end_of_closed, is_quiet, run_once};
-use pause_gate::{FlagGate, Pass};
 use serve_host::Conn;
 use std::alloc::Global;
 use std::sync::Wait;
@@ -37,16 +37,14 @@ fn hear_if_quiet<N: Conn>(machine: &LiveMachine, conn: &mut N, buf: &mut Vec<u8>
 pub fn run_quiet<W: TurnObjects + Send, N: Conn, K: Sink + Send, R: Threads + Wait + Sync>(
     rt: &R,
     alloc: Global,
-    gate: &FlagGate,
-    passes: &mut Vec<Pass>,
-    steps: u32,
+    gating: &mut Gating,
     machine: &mut LiveMachine,
     with: &mut W,
     sink: &mut K,
     conn: &mut N,
     buf: &mut Vec<u8>,
 ) -> (Heard, Ran)
-    requires { ArePasses gate.now passes.old.items }
+    requires { IsGated gating.old }
     ensures heard { Tells (N.known conn.old).health →
         HearsBy result.0 (N.known conn.old) (N.known conn.new) buf.new.items }
     ensures within { IsWithin result.0 (length buf.new.items) }
@@ -57,8 +55,12 @@ pub fn run_quiet<W: TurnObjects + Send, N: Conn, K: Sink + Send, R: Threads + Wa
     ensures went { Went IsLive (Some result.1)
         (known_with (W.known with.old) (K.known sink.old)) machine.old
         (known_with (W.known with.new) (K.known sink.new)) machine.new }
-    ensures passes { ArePasses gate.now passes.new.items }
+    ensures gated { StaysGated gating.old gating.new }
+    ensures opened { gating.new.reader.1.openings ≡ gating.old.reader.1.openings }
 {
+    let gate = &gating.gate;
+    let passes = &mut gating.passes;
+    let steps = gating.steps;
     let end = run_once(rt, alloc, machine, with, gate, passes, steps, sink);
     match end {
         Some(end) => (Heard::Nothing, end),

@@ -1,19 +1,19 @@
 // Connections one after another, with slices between them.
 ghost use Rattle.std.specs.Prelude.{◌≡◌, ℕ, List, Some};
-ghost use Rattle.serve_host.specs.Listening.{IsFresh, ListenerKnown, ListenerStays};
+ghost use Rattle.serve_host.specs.Listening.{IsFresh, ListenerKnown, ListenerStays, TakesBack};
 ghost use Rattle.serve_host.specs.Tracing.{TraceStays};
 ghost use Rattle.vm_outside.specs.Known.{FilesKnown, Health, Lasts, Tells};
 ghost use Rattle.monitor_running.specs.Objects.{known_with};
 ghost use Rattle.monitor_serving.specs.Connections.{EndCause, GoCause, Goes, Serves, going, place, place_of, still_coming};
-ghost use Rattle.monitor_serving.specs.Passes.{ArePasses};
+ghost use Rattle.monitor_serving.specs.Gating.{IsGated, StaysGated};
 ghost use Rattle.monitor_serving.specs.Views.{AllLast, AllTell, hosts, hosts_of};
 
-use crate::connection::{PASSES, serve_connection};
+use crate::connection::serve_connection;
+use crate::gating::Gating;
 use crate::items::tell_item;
 use crate::served::{Served, alone_end};
 use monitor_core::Monitor;
 use monitor_running::{TurnObjects, run_once};
-use pause_gate::{FlagGate, Pass};
 use script_text::Item;
 use serve_host::{Accepted, Conn, Listener};
 use std::alloc::Global;
@@ -22,49 +22,34 @@ use std::thread::Threads;
 use vm_outside::{Failed, Files, Sink};
 use vm_types::Object;
 
-// Serves a connection that was accepted, and gives it back to the listener, also where the trace fails before.
-fn serve_one<
-    W: TurnObjects + Send,
-    N: Conn,
-    F: Files,
-    M: Listener<N>,
-    K: Sink + Send,
-    R: Threads + Wait + Sync,
->(
+// Serves a connection that was accepted, unless the trace fails before.
+fn serve_one<W: TurnObjects + Send, N: Conn, F: Files, K: Sink + Send, R: Threads + Wait + Sync>(
     rt: &R,
     alloc: Global,
     steps: u32,
     monitor: &mut Monitor,
     files: &mut F,
     with: &mut W,
-    listener: &mut M,
+    conn: &mut N,
     sink: &mut K,
-    mut conn: N,
 ) -> Served
     ensures serves { AllTell (hosts_of W.known K.known F.known with.old sink.old files.old) →
-        Tells (M.known listener.old).health → (bytes : List ℕ) → IsFresh (N.known conn) bytes → Serves result
-        (place monitor.old (hosts_of W.known K.known F.known with.old sink.old files.old)
-        (still_coming bytes (M.known listener.old)))
-        (place_of W.known K.known F.known M.known
-        monitor.new with.new sink.new files.new listener.new) }
-    ensures cause { EndCause result
+        (bytes : List ℕ) → IsFresh (N.known conn.old) bytes →
+        (listener left : ListenerKnown) → TakesBack (N.known conn.new) listener left → Serves result
+        (place monitor.old (hosts_of W.known K.known F.known with.old sink.old files.old) (still_coming bytes listener))
+        (place monitor.new (hosts_of W.known K.known F.known with.new sink.new files.new) left) }
+    ensures cause { (before now : Health) → EndCause result
         (hosts_of W.known K.known F.known with.old sink.old files.old)
-        (hosts_of W.known K.known F.known with.new sink.new files.new)
-        (M.known listener.old).health (M.known listener.new).health }
+        (hosts_of W.known K.known F.known with.new sink.new files.new) before now }
     ensures lasts { AllLast
         (hosts_of W.known K.known F.known with.old sink.old files.old)
         (hosts_of W.known K.known F.known with.new sink.new files.new) }
-    ensures listener_lasts { Lasts (M.known listener.old).health (M.known listener.new).health }
-    ensures listener_stays { ListenerStays (M.known listener.old) (M.known listener.new) }
 {
     let Ok(()) = tell_item(with, &Item::Connect) else {
-        listener.end(conn);
         return Served::Fault(Object::Trace);
     };
     monitor.connect();
-    let end = serve_connection(rt, alloc, steps, monitor, files, with, &mut conn, sink);
-    listener.end(conn);
-    end
+    serve_connection(rt, alloc, steps, monitor, files, with, conn, sink)
 }
 
 // The connection's end alone is no end of serving.
@@ -81,14 +66,12 @@ fn going(end: Served) -> Option<Served>
 fn run_alone<W: TurnObjects, K: Sink, R: Threads + Wait + Sync>(
     rt: &R,
     alloc: Global,
-    steps: u32,
+    gating: &mut Gating,
     monitor: &mut Monitor,
     with: &mut W,
-    gate: &FlagGate,
-    passes: &mut Vec<Pass>,
     sink: &mut K,
 ) -> Option<Served>
-    requires { ArePasses gate.now passes.old.items }
+    requires { IsGated gating.old }
     ensures goes { (files : FilesKnown) (listener : ListenerKnown) →
         AllTell (hosts (known_with (W.known with.old) (K.known sink.old)) files) →
         Goes result
@@ -100,8 +83,11 @@ fn run_alone<W: TurnObjects, K: Sink, R: Threads + Wait + Sync>(
     ensures trace_lasts { Lasts (W.known with.old).trace.health (W.known with.new).trace.health }
     ensures trace_stays { TraceStays (W.known with.old).trace (W.known with.new).trace }
     ensures sink_lasts { Lasts (K.known sink.old).health (K.known sink.new).health }
-    ensures passes { ArePasses gate.now passes.new.items }
+    ensures gated { StaysGated gating.old gating.new }
 {
+    let gate = &gating.gate;
+    let passes = &mut gating.passes;
+    let steps = gating.steps;
     alone_end(run_once(
         rt,
         alloc,
@@ -125,16 +111,14 @@ fn serve_next<
 >(
     rt: &R,
     alloc: Global,
-    gate: &FlagGate,
-    passes: &mut Vec<Pass>,
-    steps: u32,
+    gating: &mut Gating,
     monitor: &mut Monitor,
     files: &mut F,
     with: &mut W,
     listener: &mut M,
     sink: &mut K,
 ) -> Option<Served>
-    requires { ArePasses gate.now passes.old.items }
+    requires { IsGated gating.old }
     ensures goes { AllTell (hosts_of W.known K.known F.known with.old sink.old files.old) →
         Tells (M.known listener.old).health → Goes result
         (place_of W.known K.known F.known M.known
@@ -150,15 +134,18 @@ fn serve_next<
         (hosts_of W.known K.known F.known with.new sink.new files.new) }
     ensures listener_lasts { Lasts (M.known listener.old).health (M.known listener.new).health }
     ensures listener_stays { ListenerStays (M.known listener.old) (M.known listener.new) }
-    ensures passes { ArePasses gate.now passes.new.items }
+    ensures gated { StaysGated gating.old gating.new }
 {
     match listener.accept() {
         Err(Failed) => Some(Served::Fault(Object::Listener)),
         Ok(Accepted::Ended) => Some(Served::Ended),
-        Ok(Accepted::NotYet) => run_alone(rt, alloc, steps, monitor, with, gate, passes, sink),
-        Ok(Accepted::Conn(conn)) => going(serve_one(
-            rt, alloc, steps, monitor, files, with, listener, sink, conn,
-        )),
+        Ok(Accepted::NotYet) => run_alone(rt, alloc, gating, monitor, with, sink),
+        Ok(Accepted::Conn(mut conn)) => {
+            let steps = gating.steps;
+            let end = serve_one(rt, alloc, steps, monitor, files, with, &mut conn, sink);
+            listener.end(conn);
+            going(end)
+        }
     }
 }
 
@@ -173,16 +160,14 @@ fn serve_all<
 >(
     rt: &R,
     alloc: Global,
-    gate: &FlagGate,
-    passes: &mut Vec<Pass>,
-    steps: u32,
+    gating: &mut Gating,
     monitor: &mut Monitor,
     files: &mut F,
     with: &mut W,
     listener: &mut M,
     sink: &mut K,
 ) -> Served
-    requires { ArePasses gate.now passes.old.items }
+    requires { IsGated gating.old }
     ensures serves { AllTell (hosts_of W.known K.known F.known with.old sink.old files.old) →
         Tells (M.known listener.old).health → Goes (Some result)
         (place_of W.known K.known F.known M.known
@@ -200,9 +185,7 @@ fn serve_all<
     ensures listener_stays { ListenerStays (M.known listener.old) (M.known listener.new) }
 {
     for _ in rt.forever() {
-        let end = serve_next(
-            rt, alloc, gate, passes, steps, monitor, files, with, listener, sink,
-        );
+        let end = serve_next(rt, alloc, gating, monitor, files, with, listener, sink);
         if let Some(end) = end {
             return end;
         }
@@ -246,19 +229,8 @@ pub fn serve<
     ensures listener_lasts { Lasts (M.known listener.old).health (M.known listener.new).health }
     ensures listener_stays { ListenerStays (M.known listener.old) (M.known listener.new) }
 {
-    let Ok((gate, mut passes)) = FlagGate::new(alloc, PASSES) else {
+    let Ok(mut gating) = Gating::new(alloc, steps) else {
         return Served::OutOfMemory;
     };
-    serve_all(
-        rt,
-        alloc,
-        &gate,
-        &mut passes,
-        steps,
-        monitor,
-        files,
-        with,
-        listener,
-        sink,
-    )
+    serve_all(rt, alloc, &mut gating, monitor, files, with, listener, sink)
 }

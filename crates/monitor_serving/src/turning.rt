@@ -8,21 +8,21 @@ ghost use Rattle.flat_machine.specs.Machine.{Machine};
 ghost use Rattle.monitor_machine.specs.Disks.{DiskUncalled, HasFiles};
 ghost use Rattle.monitor_core.specs.State.{IsMonitor};
 ghost use Rattle.monitor_serving.specs.Causes.{AnswerCause, ReplyCause, TurnedCause};
+ghost use Rattle.monitor_serving.specs.Gating.{IsGated, StaysGated};
 ghost use Rattle.monitor_serving.specs.Hearing.{Gave, HeardCause, HearsBy, IsWithin, bytes_in};
-ghost use Rattle.monitor_serving.specs.Passes.{ArePasses};
 ghost use Rattle.monitor_serving.specs.Turns.{TurnedAs};
 ghost use Rattle.monitor_running.specs.Objects.{known_with, with_disk, with_trace};
 ghost use Rattle.monitor_running.specs.Reached.{known};
 ghost use Rattle.monitor_serving.specs.Views.{AllLast, AllTell, Hosts, hosts, hosts_of, view, view_of};
 
 use crate::beside::run_beside;
+use crate::gating::Gating;
 use crate::items::tell_item;
 use crate::listening::Heard;
 use crate::served::{Served, end_of};
 use gate_file::zeros;
 use monitor_core::Monitor;
 use monitor_running::TurnObjects;
-use pause_gate::{FlagGate, Pass};
 use script_text::Item;
 use serve_host::{Conn, put_all};
 use std::alloc::Global;
@@ -204,18 +204,14 @@ fn settle<N: Conn, F: Files, W: TurnObjects>(
 pub fn turn<W: TurnObjects + Send, N: Conn, F: Files, K: Sink + Send, R: Threads + Wait + Sync>(
     rt: &R,
     alloc: Global,
-    gate: &FlagGate,
-    passes: &mut Vec<Pass>,
-    reader: &mut Pass,
-    steps: u32,
+    gating: &mut Gating,
     monitor: &mut Monitor,
     files: &mut F,
     with: &mut W,
     conn: &mut N,
     sink: &mut K,
 ) -> Option<Served>
-    requires reader { reader.old.0 ≡ gate.now }
-    requires passes { ArePasses gate.now passes.old.items }
+    requires { IsGated gating.old }
     ensures turned { AllTell (hosts_of W.known K.known F.known with.old sink.old files.old) →
         Tells (N.known conn.old).health → TurnedAs result
         (view_of W.known K.known F.known N.known monitor.old with.old sink.old files.old conn.old)
@@ -227,21 +223,17 @@ pub fn turn<W: TurnObjects + Send, N: Conn, F: Files, K: Sink + Send, R: Threads
         (hosts_of W.known K.known F.known with.old sink.old files.old)
         (hosts_of W.known K.known F.known with.new sink.new files.new) }
     ensures conn_lasts { Lasts (N.known conn.old).health (N.known conn.new).health }
-    ensures reader { reader.new.0 ≡ gate.now }
-    ensures opened { reader.new.1.openings ≡ reader.old.1.openings + 1 }
-    ensures passes { ArePasses gate.now passes.new.items }
+    ensures gated { StaysGated gating.old gating.new }
+    ensures opened { gating.new.reader.1.openings ≡ gating.old.reader.1.openings + 1 }
 {
-    gate.open(reader);
+    gating.gate.open(&mut gating.reader);
     let Ok(mut piece) = zeros(alloc, PIECE) else {
         return Some(Served::OutOfMemory);
     };
     let (heard, ran) = run_beside(
         rt,
         alloc,
-        gate,
-        passes,
-        reader,
-        steps,
+        gating,
         monitor.machine(),
         with,
         sink,

@@ -17,8 +17,7 @@ loop-init g c =
           (record { gave = refl; left = refl }) refl;
       last = all_last_self before;
       conn = lasts_self (N.known c.args.conn.now).health;
-      reader = c.requires.reader;
-      passes = c.requires.passes;
+      gated = c.requires;
     }
 
 pub loop-preserved : goal.loop-preserved
@@ -48,8 +47,7 @@ loop-preserved g c =
       last = all_last_on start before after c.loop.invariant.last turn.ensures.lasts;
       conn = lasts_on (N.known c.args.conn.now).health (N.known c.loop.conn).health (N.known turn.new.conn).health
           c.loop.invariant.conn turn.ensures.conn_lasts;
-      reader = turn.ensures.reader;
-      passes = turn.ensures.passes;
+      gated = turn.ensures.gated.is;
     }
 
 pub returns-in-Some-end-clause-served : goal.returns-in-Some-end-clause-served

@@ -1,7 +1,6 @@
-use Rattle.std.proofs.Common.{◌≡◌}
 use Rattle.vm_outside.specs.Known.{Lasts, Tells}
 use Rattle.monitor_running.specs.Objects.{known_with}
-use Rattle.monitor_serving.specs.Passes.{ArePasses}
+use Rattle.monitor_serving.specs.Gating.{IsGated}
 use Rattle.monitor_serving.specs.Turns.{GoesOn}
 use Rattle.monitor_serving.specs.Views.{AllLast, AllTell, Hosts, hosts, view}
 use Rattle.monitor_serving.proofs.connection.serve_turns.Given as goal
@@ -19,6 +18,5 @@ invariant-loop g l =
           → GoesOn (view l.fn.monitor before (N.known l.fn.conn)) (view l.monitor now (N.known l.conn));
       last : AllLast before now;
       conn : Lasts (N.known l.fn.conn).health (N.known l.conn).health;
-      reader : l.reader.0 ≡ l.gate;
-      passes : ArePasses l.gate l.passes.items;
+      gated : IsGated l.gating;
     }

@@ -15,7 +15,7 @@ loop-init g c = record {
       (g.F.Files.known c.args.files.now));
   listener = lasts_self (g.M.Listener.known c.args.listener.now).health;
   stays = λ tells. refl;
-  passes = c.requires;
+  gated = c.requires;
 }
 
 pub loop-preserved : goal.loop-preserved
@@ -44,7 +44,7 @@ loop-preserved g c =
           c.loop.invariant.listener next.ensures.listener_lasts;
       stays = listener_on (M.known c.args.listener.now) (M.known c.loop.listener) (M.known next.new.listener) c.loop.invariant.listener
           c.loop.invariant.stays next.ensures.listener_stays;
-      passes = next.ensures.passes;
+      gated = next.ensures.gated.is;
     }
 
 pub returns-in-Some-end-clause-serves : goal.returns-in-Some-end-clause-serves

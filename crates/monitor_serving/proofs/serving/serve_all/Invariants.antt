@@ -3,7 +3,7 @@ use Rattle.vm_outside.specs.Known.{Lasts, Tells}
 use Rattle.monitor_running.specs.Objects.{known_with}
 use Rattle.monitor_serving.specs.declared.served.Served.TheVariants as served
 use Rattle.monitor_serving.specs.Connections.{Serves, place}
-use Rattle.monitor_serving.specs.Passes.{ArePasses}
+use Rattle.monitor_serving.specs.Gating.{IsGated}
 use Rattle.monitor_serving.specs.Views.{AllLast, AllTell, Hosts, hosts}
 use Rattle.monitor_serving.proofs.serving.serve_all.Given as goal
 
@@ -21,5 +21,5 @@ invariant-loop g l =
       last : AllLast before now;
       listener : Lasts (M.known l.fn.listener).health (M.known l.listener).health;
       stays : ListenerStays (M.known l.fn.listener) (M.known l.listener);
-      passes : ArePasses l.gate l.passes.items;
+      gated : IsGated l.gating;
     }

@@ -1,9 +1,9 @@
 use Rattle.std.proofs.Common.{Option, subst, sym}
 use Rattle.monitor_running.specs.Objects.{known_with}
 use Rattle.monitor_serving.specs.declared.served.Served.{Served}
-use Rattle.monitor_serving.specs.Connections.{Goes, Place, place}
+use Rattle.monitor_serving.specs.Connections.{GoCause, Goes, Place, place}
 use Rattle.monitor_serving.specs.Views.{Hosts, hosts}
-use Rattle.monitor_serving.proofs.Alone.{breaks_on_accept, cause_unheard, given_of, goes_to_end, goes_unheard, goes_with_one}
+use Rattle.monitor_serving.proofs.Alone.{breaks_on_accept, cause_by, cause_unheard, given_of, goes_to_end, goes_unheard, goes_with_one}
 use Rattle.monitor_serving.proofs.serving.serve_next.Goals as goal
 
 pub returns-in-Err-clause-goes : goal.returns-in-Err-clause-goes
@@ -47,15 +47,29 @@ returns-in-Ok-NotYet-clause-goes g c =
 pub returns-in-Ok-Conn-clause-goes : goal.returns-in-Ok-Conn-clause-goes
 returns-in-Ok-Conn-clause-goes g c =
     let M = g.M.Listener in
-    let one = c.serve_one in
+    let one = c.serve_one-end in
+    let left = M.known c.end.new.self in
     let start : Hosts = hosts (known_with (g.W.TurnObjects.known c.args.with.now) (g.K.Sink.known c.args.sink.now))
     (g.F.Files.known c.args.files.now) in
     let after : Place = place one.new.monitor (hosts (known_with (g.W.TurnObjects.known one.new.with) (g.K.Sink.known one.new.sink))
-    (g.F.Files.known one.new.files)) (M.known one.new.listener) in
+    (g.F.Files.known one.new.files)) left in
     λ tell tells.
     let gives = given_of g.N.Conn.known (M.known c.args.listener.now) (M.known c.accept.new.self) c.in-Ok-Conn.field-0 c.in-Ok-Conn.conn
     c.in-Ok-Conn.field-0-is (c.in-Ok-Conn.ensures.accepts tells) in
     subst (λ (end : Option Served). Goes end (place c.args.monitor.now start (M.known c.args.listener.now)) after) (sym c.going.ensures)
     (goes_with_one c.args.monitor.now start (M.known c.args.listener.now) (M.known c.accept.new.self) (g.N.Conn.known c.in-Ok-Conn.conn) gives
     one.result after
-    (one.ensures.serves tell (c.accept.ensures.called.lasts.still tells) gives.bytes gives.fresh))
+    (one.ensures.serves tell gives.bytes gives.fresh (M.known c.accept.new.self) left
+    (c.end.ensures.ended (c.accept.ensures.called.lasts.still tells))))
+
+pub returns-in-Ok-Conn-clause-cause : goal.returns-in-Ok-Conn-clause-cause
+returns-in-Ok-Conn-clause-cause g c =
+    let one = c.serve_one-end in
+    let before = (g.M.Listener.known c.args.listener.now).health in
+    let now = (g.M.Listener.known c.end.new.self).health in
+    let start : Hosts = hosts (known_with (g.W.TurnObjects.known c.args.with.now) (g.K.Sink.known c.args.sink.now))
+    (g.F.Files.known c.args.files.now) in
+    let after : Hosts = hosts (known_with (g.W.TurnObjects.known one.new.with) (g.K.Sink.known one.new.sink))
+    (g.F.Files.known one.new.files) in
+    subst (λ (end : Option Served). GoCause end start after before now) (sym c.going.ensures)
+    (cause_by one.result start after before now (one.ensures.cause before now))

@@ -1,0 +1,37 @@
+// The gate beside slices, and who has a pass of it.
+ghost use Rattle.std.specs.Prelude.{◌≡◌, IfOk};
+ghost use Rattle.monitor_serving.specs.Gating.{IsGated};
+
+use pause_gate::{FlagGate, Pass};
+use std::alloc::{AllocError, Global};
+
+/// A pass for each of 32 harts and the timer, one for who asks before each slice, and one for the reader.
+const PASSES: usize = 35;
+
+/// A gate with its passes: those of slices, and that of the reader, who closes it. In a slice each actor makes so many steps at most.
+#[derive(Drop)]
+pub struct Gating {
+    pub gate: FlagGate,
+    pub passes: Vec<Pass>,
+    pub reader: Pass,
+    pub steps: u32,
+}
+
+impl Gating {
+    /// An open gate with all its passes.
+    pub fn new(alloc: Global, steps: u32) -> Result<Gating, AllocError>
+        ensures gated { IfOk result (λ it. IsGated it) }
+        ensures steps { IfOk result (λ it. it.steps ≡ steps) }
+    {
+        let (gate, mut passes) = FlagGate::new(alloc, PASSES)?;
+        let Some(reader) = passes.pop() else {
+            unreachable!()
+        };
+        Ok(Gating {
+            gate,
+            passes,
+            reader,
+            steps,
+        })
+    }
+}
