@@ -1,12 +1,12 @@
 -- A gate and its passes.
-use Rattle.std.specs.Prelude.{◌≡◌, ◌<◌, List, All, length}
+use Rattle.std.specs.Prelude.{◌≡◌, List, All, length}
 use Rattle.atomic_table.specs.Seated.{TableId}
 use Rattle.pause_gate.specs.declared.steps.Counts.{Counts}
 use Rattle.monitor_serving.specs.declared.gating.Gating.{Gating}
 
--- they are of this gate, and there is one at least
+-- They are of this gate, and as many as turns may want: one for each of 32 harts, for the timer, and for who asks before each turn.
 pub record ArePasses (gate : TableId) (passes : List (TableId × Counts)) : Type 0 where
-  pub some : 0 < length passes
+  pub many : length passes ≡ 34
   pub serve : All (λ pass. pass.0 ≡ gate) passes
 
 -- all passes are of the gate that is beside them
