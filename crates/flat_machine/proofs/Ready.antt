@@ -77,7 +77,7 @@ ready_is m n is ready = subst (λ (q : Machine). Ready q) (sym is) ready
 pub guest_ready : (m : Machine) (g : Guest) → Ready m → m.guest ≡ Some g → IsReadyGuest m.config m.paused g
 guest_ready m g ready there = subst (λ (o : Option Guest). ReadyBy m.config m.paused o) there ready.guest
 
-base_later : (next more : ℕ) (base : Option Identity) → next ≤ more → IsBaseBefore next base → IsBaseBefore more base
+pub base_later : (next more : ℕ) (base : Option Identity) → next ≤ more → IsBaseBefore next base → IsBaseBefore more base
 base_later next more None later is = tt
 base_later next more (Some base) later (first, below) = (first, omega (arith, below, later))
 
@@ -94,16 +94,16 @@ restarted_ready config paused g is = record {
   rests = λ stands. refl;
 }
 
-halted_ready : (config : Config) (paused : Bool) (guest : Option Guest) → ReadyBy config paused guest → ReadyBy config true (halted paused guest)
+pub halted_ready : (config : Config) (paused : Bool) (guest : Option Guest) → ReadyBy config paused guest → ReadyBy config true (halted paused guest)
 halted_ready config true guest is = is
 halted_ready config false None is = tt
 halted_ready config false (Some g) is = restarted_ready config false g is
 
-resumed_ready : (config : Config) (paused : Bool) (guest : Option Guest) → ReadyBy config paused guest → ReadyBy config false guest
+pub resumed_ready : (config : Config) (paused : Bool) (guest : Option Guest) → ReadyBy config paused guest → ReadyBy config false guest
 resumed_ready config paused None is = tt
 resumed_ready config paused (Some g) is = record { sound = is.sound; ready = is.ready; rests = λ stands. absurd cc }
 
-unwritten_ready : (config : Config) (paused : Bool) (g : Guest) → IsReadyGuest config paused g → IsReadyGuest config paused (unwritten g)
+pub unwritten_ready : (config : Config) (paused : Bool) (g : Guest) → IsReadyGuest config paused g → IsReadyGuest config paused (unwritten g)
 unwritten_ready config paused g is = record {
   sound = record { timer_on = is.sound.timer_on; harts_on = is.sound.harts_on; devices_on = is.sound.devices_on };
   ready = record {
@@ -114,7 +114,7 @@ unwritten_ready config paused g is = record {
   rests = is.rests;
 }
 
-drained_ready : (config : Config) (paused : Bool) (guest : Option Guest) → ReadyBy config paused guest → ReadyBy config paused (drained_guest guest)
+pub drained_ready : (config : Config) (paused : Bool) (guest : Option Guest) → ReadyBy config paused guest → ReadyBy config paused (drained_guest guest)
 drained_ready config paused None is = tt
 drained_ready config paused (Some g) is = record {
   sound = record { timer_on = is.sound.timer_on; harts_on = is.sound.harts_on; devices_on = is.sound.devices_on };
@@ -126,7 +126,7 @@ drained_ready config paused (Some g) is = record {
   rests = is.rests;
 }
 
-resized_ready : (config : Config) (paused : Bool) (g : Guest) (k sectors : ℕ) → sectors < 2 ^ 64 → IsReadyGuest config paused g
+pub resized_ready : (config : Config) (paused : Bool) (g : Guest) (k sectors : ℕ) → sectors < 2 ^ 64 → IsReadyGuest config paused g
     → IsReadyGuest config paused (resized k sectors g)
 resized_ready config paused g k sectors small is = record {
   sound = sound_resize g k sectors small is.sound;
@@ -141,10 +141,10 @@ resized_ready config paused g k sectors small is = record {
 -- ---- a drive has another file
 
 module _ (config : Config) (patch : DrivePatch) (paused : Bool) (taken : IsTaken (changed config (change.PatchDrive patch))) where
-  abbrev after : Config
+  abbrev pub after : Config
   after = changed config (change.PatchDrive patch)
 
-  patched_ready : (guest : Option Guest) → ReadyBy config paused guest → ReadyBy after paused guest
+  pub patched_ready : (guest : Option Guest) → ReadyBy config paused guest → ReadyBy after paused guest
   patched_ready None is = tt
   patched_ready (Some g) is = record {
     sound = is.sound;

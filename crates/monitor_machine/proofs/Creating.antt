@@ -42,7 +42,6 @@ use Rattle.flat_machine.specs.Requests.{CreateFails, Creates, RequestStep, by_co
 use Rattle.vm_world.specs.Worlds.{IsWorld, WorldValue}
 use Rattle.vm_world.proofs.Events.{unwritten_is}
 use Rattle.monitor_plans.specs.Creating.{CreateGives}
-use Rattle.monitor_plans.specs.Plans.{IsFittingTask}
 use Rattle.monitor_plans.specs.declared.creating.Creation.{Creation}
 use Rattle.monitor_plans.specs.declared.plan.Plan.TheVariants as plan
 use Rattle.monitor_plans.specs.declared.plan.Task.{Task}
@@ -50,7 +49,7 @@ use Rattle.monitor_plans.specs.declared.plan.Task.TheVariants as task
 use Rattle.create_end.specs.Marks.{unmarked_world}
 use Rattle.monitor_machine.specs.declared.machine.LiveMachine.{LiveMachine}
 use Rattle.monitor_machine.specs.declared.outcome.Outcome.{Outcome}
-use Rattle.monitor_machine.specs.Plans.{IsCreate, IsTask, created_after, failed_after}
+use Rattle.monitor_machine.specs.Plans.{IsCreate, IsTask, TaskKeepsReady, created_after, failed_after}
 use Rattle.monitor_machine.specs.Replying.{Replies, open_response}
 use Rattle.monitor_machine.specs.State.{IsGuestBy, IsMachine}
 use Rattle.monitor_machine.proofs.Leaving.{answered, tells_is, told_of}
@@ -105,19 +104,22 @@ create_task (task.Create c) live w it parent identity there since own gives = (
       },
 )
 
--- and it leaves what is configured as it was
-pub create_fits : (made : Task) (config of_guest : Config) (parent : Option Identity) (identity : Identity) (w : WorldValue) (names : SnapshotFiles)
-    → CreateGives made of_guest parent identity w names → IsFittingTask made config
-create_fits (task.Plan plan.NoMemory) config of_guest parent identity w names gives = tt
-create_fits (task.Plan (plan.Refused why)) config of_guest parent identity w names gives = absurd gives
-create_fits (task.Plan (plan.Changes c)) config of_guest parent identity w names gives = absurd gives
-create_fits (task.Plan (plan.Drives drives)) config of_guest parent identity w names gives = absurd gives
-create_fits (task.Plan (plan.Resizes r)) config of_guest parent identity w names gives = absurd gives
-create_fits (task.Plan (plan.Stores kept)) config of_guest parent identity w names gives = absurd gives
-create_fits (task.Plan (plan.Starts guest)) config of_guest parent identity w names gives = absurd gives
-create_fits (task.Plan (plan.Restores r)) config of_guest parent identity w names gives = absurd gives
-create_fits (task.Plan plan.FilesFailed) config of_guest parent identity w names gives = absurd gives
-create_fits (task.Create c) config of_guest parent identity w names gives = tt
+-- and a machine that is ready stays so by it
+pub create_keeps : (made : Task) (live : LiveMachine) (config : Config) (parent : Option Identity) (identity : Identity) (w : WorldValue)
+    (names : SnapshotFiles) → identity.number ≡ live.ids.next → CreateGives made config parent identity w names → TaskKeepsReady made live
+create_keeps (task.Plan plan.NoMemory) live config parent identity w names next gives = (tt, tt, tt)
+create_keeps (task.Plan (plan.Refused why)) live config parent identity w names next gives = absurd gives
+create_keeps (task.Plan (plan.Changes c)) live config parent identity w names next gives = absurd gives
+create_keeps (task.Plan (plan.Drives drives)) live config parent identity w names next gives = absurd gives
+create_keeps (task.Plan (plan.Resizes r)) live config parent identity w names next gives = absurd gives
+create_keeps (task.Plan (plan.Stores kept)) live config parent identity w names next gives = absurd gives
+create_keeps (task.Plan (plan.Starts guest)) live config parent identity w names next gives = absurd gives
+create_keeps (task.Plan (plan.Restores r)) live config parent identity w names next gives = absurd gives
+create_keeps (task.Plan plan.FilesFailed) live config parent identity w names next gives = absurd gives
+create_keeps (task.Create c) live config parent identity w names next gives = (
+  ap (λ (i : Identity). i.number) gives.identity_is ∙ next,
+  gives.next_is ∙ ap (λ (i : Identity). i.number + 1) (sym gives.identity_is),
+)
 
 -- ---- what a create left where a call on the files failed
 

@@ -1,7 +1,9 @@
 -- What is decided of a call, and which files it asks.
-use Rattle.std.proofs.Common.{◌≡◌, ℕ, Bool, true, false, refl, sym, ap, subst, ◌∙◌, List, Option, Some, None, Ok, Result}
-use Rattle.std.specs.Prelude.{is_some}
+use Rattle.std.proofs.Common.{◌≡◌, ℕ, ◌^◌, nat_le, Bool, true, false, not, ◌&&◌, if◌then◌else◌, refl, sym, ap, subst, ◌∙◌, List, Option, Some, None, Ok, Result}
+use Rattle.std.specs.Prelude.{is_none, is_some}
+use Rattle.std.proofs.lemmas.Bool.{leb-false}
 use Rattle.refusals.specs.declared.refusal.Refusal.{Refusal}
+use Rattle.refusals.specs.declared.refusal.Refusal.TheVariants as refusal
 use Rattle.http_stream.specs.declared.request.Request.{Request}
 use Rattle.http_stream.specs.declared.request.Next.TheVariants as next
 use Rattle.api_calls.specs.declared.call.ApiCall.{ApiCall}
@@ -13,14 +15,16 @@ use Rattle.vm_config.specs.declared.config.Config.{Config}
 use Rattle.vm_config.specs.declared.config.Phase.{Phase}
 use Rattle.vm_config.specs.declared.change.Change.{Change}
 use Rattle.api_rules.specs.declared.ids.Ids.{Ids}
-use Rattle.api_rules.specs.Table.{change_of, decision, misplaced, own_refusal, unless, when_allowed}
+use Rattle.api_rules.specs.Table.{change_of, decision, is_diff, is_paused, misplaced, own_refusal, unless, when_allowed}
+use Rattle.api_rules.specs.declared.deciding.When.TheVariants.{BeforeBoot}
 use Rattle.flat_guest.specs.Guest.{Guest}
 use Rattle.flat_machine.specs.Machine.{AreFilesOf, Machine}
 use Rattle.flat_machine.specs.Machine as machine
 use Rattle.flat_machine.specs.Requests.{decided}
 use Rattle.vm_world.specs.Worlds.{WorldValue}
+use Rattle.monitor_plans.specs.Plans.{IsEarly}
 use Rattle.monitor_machine.specs.declared.machine.LiveMachine.{LiveMachine}
-use Rattle.monitor_machine.specs.Plans.{HasGuest, HasTwoFiles, needs_files, phase_by, phase_of}
+use Rattle.monitor_machine.specs.Plans.{HasGuest, HasNumber, HasTwoFiles, needs_files, phase_by, phase_of}
 use Rattle.monitor_machine.specs.Replying.{calls_files}
 use Rattle.monitor_machine.specs.State.{IsGuestBy, IsLive}
 
@@ -101,6 +105,74 @@ has_guest guest paused config ids it c is = subst (λ (x : Change). HasGuest x g
     by_call (call.CreateSnapshot files) is = behind guest files is
     by_call (call.LoadSnapshot load) is = tt
     by_call (call.Get part) is = tt
+
+-- what a machine is made of is said before a start, and a create has a number that files can have
+module _ (guest : Option WorldValue) (paused : Bool) (config : Config) (ids : Ids) where
+  first_none : (why : Option Refusal) (due : Result Change Refusal) (c : Change) → unless why due ≡ Ok c → why ≡ None
+  first_none None due c is = refl
+  first_none (Some why) due c is = cc
+
+  not_started : (w : Option WorldValue) → misplaced BeforeBoot (phase_by w paused) ≡ None → w ≡ None
+  not_started None is = refl
+  not_started (Some w) is = by_pause paused is
+    where
+      by_pause : (b : Bool) → misplaced BeforeBoot (phase_by (Some w) b) ≡ None → ◌≡◌ {A = Option WorldValue} (Some w) None
+      by_pause true is = absurd cc
+      by_pause false is = absurd cc
+
+  early_by : (it : ApiCall) → misplaced (when_allowed it) (phase_by guest paused) ≡ None → IsEarly (change_of config it) guest
+  early_by (call.PutBootSource source) is = not_started guest is
+  early_by (call.PutDrive drive) is = not_started guest is
+  early_by (call.PatchDrive patch) is = tt
+  early_by (call.PutMachineConfig machine) is = not_started guest is
+  early_by (call.PatchMachineConfig patch) is = not_started guest is
+  early_by (call.PutMetadata body) is = tt
+  early_by (call.PatchMetadata patch) is = tt
+  early_by call.InstanceStart is = tt
+  early_by (call.PatchVm state) is = tt
+  early_by (call.CreateSnapshot files) is = tt
+  early_by (call.LoadSnapshot load) is = tt
+  early_by (call.Get part) is = tt
+
+  pub comes_early : (it : ApiCall) (c : Change) → decision (phase_by guest paused) config ids it ≡ Ok c → IsEarly c guest
+  comes_early it c is =
+      let p = phase_by guest paused in
+      subst (λ (x : Change). IsEarly x guest) (change_is p config ids it c is)
+      (early_by it (first_none (misplaced (when_allowed it) p) (unless (own_refusal p config ids it) (Ok (change_of config it))) c is))
+
+  last_row : (first second third fourth : Bool) (why because last late : Refusal)
+      → (if first then Some why else (if second then Some because else (if third then Some last else (if fourth then Some late else None)))) ≡ None
+      → fourth ≡ false
+  last_row true second third fourth why because last late none = absurd cc
+  last_row false true third fourth why because last late none = absurd cc
+  last_row false false true fourth why because last late none = absurd cc
+  last_row false false false true why because last late none = absurd cc
+  last_row false false false false why because last late none = refl
+
+  number_by : (it : ApiCall) → own_refusal (phase_by guest paused) config ids it ≡ None → HasNumber (change_of config it) ids
+  number_by (call.PutBootSource source) is = tt
+  number_by (call.PutDrive drive) is = tt
+  number_by (call.PatchDrive patch) is = tt
+  number_by (call.PutMachineConfig machine) is = tt
+  number_by (call.PatchMachineConfig patch) is = tt
+  number_by (call.PutMetadata body) is = tt
+  number_by (call.PatchMetadata patch) is = tt
+  number_by call.InstanceStart is = tt
+  number_by (call.PatchVm state) is = tt
+  number_by (call.CreateSnapshot it) is =
+      leb-false (2 ^ 63) ids.next
+      (last_row (not (is_paused (phase_by guest paused))) (is_diff it.snapshot_type && not config.machine.track_dirty_pages)
+      (is_diff it.snapshot_type && is_none ids.base) (nat_le (2 ^ 63) ids.next) refusal.NotPaused refusal.NotTracked refusal.NoBase refusal.NoSlotLeft is)
+  number_by (call.LoadSnapshot load) is = tt
+  number_by (call.Get part) is = tt
+
+  pub has_number : (it : ApiCall) (c : Change) → decision (phase_by guest paused) config ids it ≡ Ok c → HasNumber c ids
+  has_number it c is =
+      let p = phase_by guest paused in
+      let own : Option Refusal = own_refusal p config ids it in
+      let late = unless_ok (misplaced (when_allowed it) p) (unless own (Ok (change_of config it))) c is in
+      subst (λ (x : Change). HasNumber x ids) (change_is p config ids it c is)
+      (number_by it (first_none own (Ok (change_of config it)) c late))
 
 -- ---- which calls call the files
 

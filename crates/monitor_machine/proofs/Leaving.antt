@@ -73,7 +73,7 @@ answered live known m n given made answer kept asks is leaves = (
 )
 
 -- what a change other than a start leaves
-abbrev guest_by : Change → Bool → Option Guest → Option Guest
+abbrev pub guest_by : Change → Bool → Option Guest → Option Guest
 guest_by (change.State Paused) paused guest = halted paused guest
 guest_by it paused guest = guest
 
@@ -92,7 +92,7 @@ halted_is false (Some w) (Some g) is = restarted w g is
 halted_is false (Some w) None is = absurd is
 halted_is false None (Some g) is = absurd is
 
-left_is : (it : Change) (paused : Bool) (w : Option WorldValue) (g : Option Guest) → IsGuestBy w g
+pub left_is : (it : Change) (paused : Bool) (w : Option WorldValue) (g : Option Guest) → IsGuestBy w g
     → IsGuestBy (world_by it paused w) (guest_by it paused g)
 left_is (change.State Paused) paused w g is = halted_is paused w g is
 left_is (change.State Resumed) paused w g is = is

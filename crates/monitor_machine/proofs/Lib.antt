@@ -5,3 +5,4 @@ pub mod Leaving
 pub mod Lines
 pub mod Planning
 pub mod Plans
+pub mod Standing

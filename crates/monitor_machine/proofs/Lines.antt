@@ -23,13 +23,13 @@ use Rattle.monitor_machine.specs.Answering.{TakesReply}
 use Rattle.monitor_machine.specs.declared.machine.LiveMachine.{LiveMachine}
 use Rattle.monitor_machine.specs.State.{IsGuestBy, IsLive, IsMachine}
 
-no_guest : (w : Option WorldValue) (g : Option Guest) → IsGuestBy w g → w ≡ None → g ≡ None
+pub no_guest : (w : Option WorldValue) (g : Option Guest) → IsGuestBy w g → w ≡ None → g ≡ None
 no_guest None None is none = refl
 no_guest (Some w) None is none = refl
 no_guest None (Some g) is none = absurd is
 no_guest (Some w) (Some g) is none = cc
 
-some_guest : (w : Option WorldValue) (v : WorldValue) (g : Option Guest) → IsGuestBy w g → w ≡ Some v → (h : Guest) × (g ≡ Some h) × IsWorld v h
+pub some_guest : (w : Option WorldValue) (v : WorldValue) (g : Option Guest) → IsGuestBy w g → w ≡ Some v → (h : Guest) × (g ≡ Some h) × IsWorld v h
 some_guest None v None is some = cc
 some_guest None v (Some g) is some = cc
 some_guest (Some w) v None is some = absurd is

@@ -1,6 +1,9 @@
 pub mod Answering
 pub mod Disks
+pub mod Live
 pub mod Plans
+pub mod Ready
 pub mod Replying
 pub mod Running
+pub mod Seen
 pub mod State

@@ -1,5 +1,5 @@
 -- What a plan is of the machine, and what it leaves.
-use Rattle.std.specs.Prelude.{◌≡◌, ◌≢◌, ◌⊎◌, ◌+◌, ℕ, List, ◌++◌, length, Bool, true, false, not}
+use Rattle.std.specs.Prelude.{◌≡◌, ◌≢◌, ◌<◌, ◌⊎◌, ◌+◌, ◌^◌, ℕ, List, ◌++◌, length, Bool, true, false, not}
 use Rattle.std.specs.Prelude.{Option, Some, None, is_none, is_some, Ok, Err}
 use Rattle.std.specs.FinMap.{get}
 use Rattle.serde_json.specs.Data.{Data, null}
@@ -19,6 +19,7 @@ use Rattle.vm_config.specs.Changes.{changed, takes_memory}
 use Rattle.vm_config.specs.Drives.{device_of, put_drive}
 use Rattle.api_rules.specs.declared.answer.Answer.{Answer}
 use Rattle.api_rules.specs.Ids.{based, spent}
+use Rattle.api_rules.specs.declared.ids.Ids.{Ids}
 use Rattle.timer_trace.specs.States.{new_timer}
 use Rattle.guest_devices.specs.declared.device.Device.{Device}
 use Rattle.guest_devices.specs.Devices.{DeviceChange}
@@ -45,7 +46,7 @@ use Rattle.monitor_plans.specs.declared.plan.Plan.TheVariants as plan
 use Rattle.monitor_plans.specs.declared.plan.Task.{Task}
 use Rattle.monitor_plans.specs.declared.plan.Task.TheVariants as task
 use Rattle.monitor_plans.specs.Headings.{numbers_in}
-use Rattle.monitor_plans.specs.Plans.{plan_answer}
+use Rattle.monitor_plans.specs.Plans.{IsEarly, KeepsReady, plan_answer}
 use Rattle.monitor_plans.specs.Restoring.{GoesOn}
 use Rattle.monitor_machine.specs.declared.machine.LiveMachine.{LiveMachine}
 use Rattle.monitor_machine.specs.declared.outcome.Outcome.{Outcome}
@@ -158,12 +159,24 @@ abbrev pub HasGuest : Change → Option WorldValue → Type 0
 HasGuest (change.CreateSnapshot it) world = is_some world ≡ true
 HasGuest it world = Unit {0}
 
--- what is known of a change that the machine decided for: it leaves what is configured as the API takes it, and a create has a
--- guest and two files
+-- and has a number that files can have
+abbrev pub HasNumber : Change → Ids → Type 0
+HasNumber (change.CreateSnapshot it) ids = ids.next < 2 ^ 63
+HasNumber it ids = Unit {0}
+
+-- what is known of a change that the machine decided for: it leaves what is configured as the API takes it, and comes at its
+-- time; and a create has a guest, two files and a number
 pub record IsDue (live : LiveMachine) (it : Change) : Type 0 where
   pub fits : IsFitting live.config it
+  pub early : IsEarly it live.guest
   pub guest : HasGuest it live.guest
   pub two : HasTwoFiles it
+  pub number : HasNumber it live.ids
+
+-- a machine that is ready stays so by it; a create has the next number
+abbrev pub TaskKeepsReady : Task → LiveMachine → Type 0
+TaskKeepsReady (task.Plan it) live = KeepsReady it live.config live.guest
+TaskKeepsReady (task.Create c) live = (c.identity.number ≡ live.ids.next) × (c.next ≡ c.identity.number + 1)
 
 -- there is a world, and it has the pages that a create writes
 abbrev pub HasPages : Option WorldValue → Creation → Type 0

@@ -8,6 +8,7 @@ pub use lines::drain_all;
 use metadata_store::Store;
 use monitor_plans::TakenConfig;
 use std::alloc::Global;
+use std::marker::Model;
 use vm_types::TextList;
 use vm_world::World;
 
@@ -19,7 +20,8 @@ mod replying;
 mod running;
 
 /// A machine: its id, its lineage with the snapshots that it knows, what was configured, the metadata, the guest once it
-/// has started, and whether that stands still.
+/// has started, and whether that stands still. Each is a ready machine (`IsReadyLive`): its guest has what is configured, each
+/// copy of it is one that a state file can have, and its snapshots have numbers.
 #[derive(Drop)]
 pub struct LiveMachine {
     alloc: Global,
@@ -29,6 +31,19 @@ pub struct LiveMachine {
     metadata: Store,
     guest: Option<World>,
     paused: bool,
+}
+
+impl Model for LiveMachine {
+    ghost use Rattle.monitor_machine.specs.Live.{Live};
+
+    ghost Value = { Live };
+
+    ghost use Rattle.monitor_machine.specs.Seen.{live_of};
+    ghost use Rattle.monitor_machine.specs.Ready.{IsReadyLive};
+
+    ghost view = { live_of };
+
+    ghost invariant = { λ m. IsReadyLive (live_of m) };
 }
 
 impl LiveMachine {

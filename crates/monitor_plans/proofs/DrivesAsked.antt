@@ -1,6 +1,6 @@
 -- The files of the drives, asked one after another.
 use Rattle.std.proofs.Common.{◌≡◌, ℕ, zero, suc, ◌+◌, ◌-◌, ◌≤◌, ◌<◌, nat_le, nat_lt, min, Bool, true, false, not, ◌&&◌, cond, refl, sym, ap, ◌∙◌, List, [], ◌∷◌, ◌++◌, Some, None, length, map, take, drop, replicate, slice_get, arith, add-one}
-use Rattle.std.specs.Prelude.{is_some}
+use Rattle.std.specs.Prelude.{All, is_some}
 use Rattle.std.specs.FinMap.{get}
 use Rattle.std.specs.List.{filter, list_all, position_or_len}
 use Rattle.std.proofs.lemmas.Bool.{leb-false, leb-true, ltb-true}
@@ -14,6 +14,7 @@ use Rattle.vm_outside.specs.Known.{FilesKnown, Lasts, Tells}
 use Rattle.api_calls.specs.declared.call.Drive.{Drive}
 use Rattle.vm_config.specs.Drives.{device_of, in_order, is_named, is_root}
 use Rattle.guest_devices.specs.declared.new_device.NewDevice.{NewDevice}
+use Rattle.guest_devices.specs.Devices.{FitsNew}
 use Rattle.flat_machine.specs.Requests.{drive_from, have_files}
 use Rattle.monitor_plans.specs.declared.drives.DriveFiles.{DriveFiles}
 
@@ -136,7 +137,8 @@ module _ (saved : Saved) (drives : List Drive) where
 pub record HasAsked (drives : List Drive) (before now : FilesKnown) (found : DriveFiles) (i : ℕ) : Type 0 where
   pub drives_are : Tells before.health → found.drives.items ≡ drives_to before.saved drives i
   pub there_is : Tells before.health → found.are_there ≡ there_to before.saved drives i
-  pub few : length found.drives.items ≤ i
+  pub many : i ≤ length drives → length found.drives.items ≡ i
+  pub fit : All FitsNew found.drives.items
   pub same : Tells before.health → SameFiles before now
   pub kept : now.health.faults ≡ before.health.faults
   pub lasts : Lasts before.health now.health
@@ -146,9 +148,10 @@ pub one_asked : (drives : List Drive) (before mid now : FilesKnown) (found after
     → (Tells mid.health → after.drives.items ≡ found.drives.items ++ drive_from mid.saved d ∷ [])
     → (Tells mid.health → after.are_there ≡ (found.are_there && has_file mid.saved drives d))
     → length after.drives.items ≡ length found.drives.items + 1
+    → (All FitsNew found.drives.items → All FitsNew after.drives.items)
     → (Tells mid.health → SameFiles mid now) → now.health.faults ≡ mid.health.faults → Lasts mid.health now.health
     → HasAsked drives before now after (i + 1)
-one_asked drives before mid now found after i d so_far is drive there more same kept lasts = record {
+one_asked drives before mid now found after i d so_far is drive there more fit same kept lasts = record {
   drives_are = λ told.
       let on = so_far.lasts.still told in let held = (so_far.same told).saved in
       drive_more before.saved drives i d found.drives.items after.drives.items (sym is) (so_far.drives_are told)
@@ -157,7 +160,8 @@ one_asked drives before mid now found after i d so_far is drive there more same 
       let on = so_far.lasts.still told in let held = (so_far.same told).saved in
       there_more before.saved drives i d found.are_there after.are_there (sym is) (so_far.there_is told)
       (there on ∙ ap (λ (s : Saved). found.are_there && has_file s drives d) held);
-  few = let x = so_far.few in omega (arith, x, more);
+  many = λ inside. let x = so_far.many (omega (arith, inside)) in omega (arith, x, more);
+  fit = fit so_far.fit;
   same = λ told.
       let first = so_far.same told in let second = same (so_far.lasts.still told) in
       record { saved = second.saved ∙ first.saved; calls = second.calls ∙ first.calls };
@@ -168,6 +172,11 @@ one_asked drives before mid now found after i d so_far is drive there more same 
   };
 }
 
+some_at : {A : Type 0} (xs : List A) (i : ℕ) → i < length xs → slice_get xs i ≡ None → ⊥
+some_at [] i less none = omega (arith, less)
+some_at (x ∷ xs) zero less none = cc
+some_at (x ∷ xs) (suc i) less none = some_at xs i (omega (arith, less)) none
+
 -- there is no device of this number, and nothing was asked
 pub none_asked : (drives : List Drive) (before now : FilesKnown) (found : DriveFiles) (i : ℕ) → HasAsked drives before now found i
     → None ≡ slice_get (in_order drives) i → HasAsked drives before now found (i + 1)
@@ -176,7 +185,8 @@ none_asked drives before now found i so_far is =
     record {
       drives_are = λ told. so_far.drives_are told ∙ ap (map (drive_from before.saved)) more;
       there_is = λ told. so_far.there_is told ∙ ap (λ (l : List Drive). have_files l before.saved) more;
-      few = let x = so_far.few in omega (arith, x);
+      many = λ inside. absurd (some_at (in_order drives) i (omega (arith, inside, length-in_order drives)) (sym is));
+      fit = so_far.fit;
       same = so_far.same;
       kept = so_far.kept;
       lasts = so_far.lasts;

@@ -1,9 +1,11 @@
 -- What stands before the pages of a diff, and which pages these are.
-use Rattle.std.proofs.Common.{◌≡◌, ℕ, suc, ◌+◌, ◌≤◌, nat_le, nat_lt, Bool, true, false, cond, List, [], ◌∷◌, ◌++◌, Some, length, drop, slice_get, refl, ap, ◌∙◌, arith}
+use Rattle.std.proofs.Common.{◌≡◌, ℕ, suc, ◌+◌, ◌≤◌, ◌<◌, ◌^◌, nat_le, nat_lt, Bool, true, false, not, ◌&&◌, cond, List, [], ◌∷◌, ◌++◌, Some, length, drop, slice_get, refl, ap, ◌∙◌, arith}
 use Rattle.std.specs.List.{list_all}
-use Rattle.std.proofs.lemmas.Bool.{le-leb, lt-ltb}
+use Rattle.std.specs.Prelude.{IsTrue}
+use Rattle.std.proofs.lemmas.Bool.{and_from, le-leb, lt-ltb}
 use Rattle.std.proofs.lemmas.List.{length-map}
 use Rattle.vm_types.specs.declared.identity.Identity.{Identity}
+use Rattle.file_format.specs.Identities.{is_numbered, is_same}
 use Rattle.guest_pages.specs.Marks.{marked_from}
 use Rattle.guest_pages.specs.Pages.{PageValue, marks_of}
 use Rattle.flat_guest.specs.Guest.{Guest, numbers_written}
@@ -13,6 +15,7 @@ use Rattle.snap_diff.specs.Headers.{header}
 use Rattle.flat_snapshot.specs.Files.{diff_head, diff_in}
 use Rattle.snap_writer.specs.Selected.{are_there}
 use Rattle.vm_world.specs.Worlds.{IsWorld, WorldValue}
+use Rattle.monitor_plans.specs.Headings.{HasParent}
 
 -- the pages that are marked are those that were written
 by_mark : (mark wrote : Bool) (i : ℕ) (marks : List Bool) (others : List ℕ) → mark ≡ wrote → marked_from (suc i) marks ≡ others
@@ -80,6 +83,21 @@ are_pages pages numbers marked =
     le-leb (length (marked_from 0 marks)) (length pages) (omega (arith, marked_few marks 0, long)) in
     let below = marked_below marks 0 (length pages) (omega (arith, long)) in
     ap (λ (ns : List ℕ). are_there ns (length pages)) marked ∙ rw (few, below) refl
+
+-- as many as a number of 32 bits says
+pub few_marked : (pages : List PageValue) (numbers : List ℕ) → numbers ≡ marked_from 0 (marks_of pages) → length pages ≤ 2 ^ 28
+    → length numbers < 2 ^ 32
+few_marked pages numbers marked few =
+    let many = ap length marked in
+    let marks = marked_few (marks_of pages) 0 in
+    omega (arith, many, marks, length-map pages (λ (p : PageValue). p.marked), few)
+
+-- a header of a diff since another snapshot
+pub is_diff : (parent identity : Identity) → IsTrue (is_numbered identity) → HasParent (Some parent) identity
+    → (is_numbered parent && is_numbered identity && not (is_same parent identity)) ≡ true
+is_diff parent identity own (other, differ) =
+    and_from _ (not (is_same parent identity)) (and_from (is_numbered parent) (is_numbered identity) other own)
+    (ap not differ)
 
 -- the header and the table
 pub diff_head_is : (parent identity : Identity) (pages count : ℕ) (numbers file lent head : List ℕ) (g : Guest)

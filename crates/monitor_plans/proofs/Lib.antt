@@ -2,3 +2,4 @@ pub mod DrivesAsked
 pub mod Headings
 pub mod Heads
 pub mod Loads
+pub mod Standing

@@ -1,12 +1,18 @@
 -- What stands before the pages of a memory file, and which pages follow.
-use Rattle.std.specs.Prelude.{◌≡◌, ℕ, true, List, length, Option, Some, None, Vec}
+use Rattle.std.specs.Prelude.{◌≡◌, ℕ, true, false, IsTrue, List, length, Option, Some, None, Vec}
 use Rattle.std.specs.Global.{Global}
 use Rattle.vm_types.specs.declared.identity.Identity.{Identity}
+use Rattle.file_format.specs.Identities.{is_numbered, is_same}
 use Rattle.flat_guest.specs.Guest.{Guest}
 use Rattle.flat_snapshot.specs.Files.{head_of, saved_pages}
 use Rattle.snap_writer.specs.Selected.{can_select, selected}
 use Rattle.vm_world.specs.Worlds.{IsWorld, WorldValue}
 use Rattle.monitor_plans.specs.declared.heading.Heading.{Heading}
+
+-- a diff is one since another snapshot, which has a number
+abbrev pub HasParent : Option Identity → Identity → Type 0
+HasParent None identity = Unit {0}
+HasParent (Some parent) identity = IsTrue (is_numbered parent) × (is_same parent identity ≡ false)
 
 abbrev pub numbers_in : Option (Vec ℕ Global) → Option (List ℕ)
 numbers_in None = None

@@ -1,15 +1,19 @@
 -- What a plan answers, and why it is one.
-use Rattle.std.specs.Prelude.{◌≡◌, ℕ, List, true}
+use Rattle.std.specs.Prelude.{◌≡◌, ◌≤◌, ℕ, ◌+◌, Bool, List, Option, None, true, false}
 use Rattle.vm_types.specs.Causes.{Rose}
 use Rattle.serde_json.specs.Data.{Data}
 use Rattle.refusals.specs.declared.refusal.Refusal.TheVariants as refusal
 use Rattle.vm_config.specs.declared.config.Config.{Config}
 use Rattle.vm_config.specs.declared.config.Phase.{Phase}
+use Rattle.vm_config.specs.declared.change.Change.{Change}
 use Rattle.vm_config.specs.declared.change.Change.TheVariants as change
 use Rattle.api_rules.specs.declared.answer.Answer.{Answer}
 use Rattle.api_rules.specs.Answers.{accepted, no_content, refused}
 use Rattle.snap_state.specs.Valid.{are_drives}
-use Rattle.flat_machine.specs.Ready.{IsFitting}
+use Rattle.flat_guest.specs.Guest.{Guest}
+use Rattle.flat_machine.specs.Ready.{IsFitting, IsReadyGuest}
+use Rattle.vm_config.specs.Changes.{changed}
+use Rattle.vm_world.specs.Worlds.{IsWorld, WorldValue}
 use Rattle.monitor_plans.specs.declared.plan.Plan.{Plan}
 use Rattle.monitor_plans.specs.declared.plan.Plan.TheVariants as plan
 use Rattle.monitor_plans.specs.declared.plan.Task.{Task}
@@ -34,9 +38,32 @@ IsFittingPlan (plan.Drives drives) config = are_drives drives ≡ true
 IsFittingPlan (plan.Resizes r) config = IsFitting config (change.PatchDrive r.patch)
 IsFittingPlan it config = Unit {0}
 
-abbrev pub IsFittingTask : Task → Config → Type 0
-IsFittingTask (task.Plan it) config = IsFittingPlan it config
-IsFittingTask (task.Create c) config = Unit {0}
+-- the world is a ready guest of a machine that is configured so, which runs or stands still
+abbrev pub HasReadyGuest : Config → Bool → WorldValue → Type 0
+HasReadyGuest config paused w = (g : Guest) × IsWorld w g × IsReadyGuest config paused g
+
+-- a guest that it makes is ready, and a snapshot that it goes on from has a number, behind which the next one is
+abbrev pub IsReadyPlan : Plan → Config → Type 0
+IsReadyPlan (plan.Starts w) config = HasReadyGuest (changed config change.Start) false w
+IsReadyPlan (plan.Restores r) config =
+    HasReadyGuest r.config true r.guest × (1 ≤ r.identity.number) × (r.next ≡ r.identity.number + 1)
+IsReadyPlan it config = Unit {0}
+
+-- of what a machine is made is said before a start
+abbrev pub IsEarly : Change → Option WorldValue → Type 0
+IsEarly (change.BootSource source) world = world ≡ None
+IsEarly (change.PutDrive drive) world = world ≡ None
+IsEarly (change.MachineConfig machine) world = world ≡ None
+IsEarly it world = Unit {0}
+
+abbrev pub IsEarlyPlan : Plan → Option WorldValue → Type 0
+IsEarlyPlan (plan.Changes it) world = IsEarly it world
+IsEarlyPlan (plan.Drives drives) world = world ≡ None
+IsEarlyPlan it world = Unit {0}
+
+-- a machine that is configured so, with this world, and is ready stays so by the plan
+abbrev pub KeepsReady : Plan → Config → Option WorldValue → Type 0
+KeepsReady it config world = IsFittingPlan it config × IsEarlyPlan it world × IsReadyPlan it config
 
 -- a failure has a fault, and what did not come to one has none
 abbrev pub PlanCause : Plan → ℕ → ℕ → Type 0

@@ -6,13 +6,13 @@ ghost use Rattle.guest_pages.specs.Pages.{flat_of};
 ghost use Rattle.snap_writer.specs.Selected.{can_select, selected};
 ghost use Rattle.snap_state.specs.Valid.{is_valid};
 ghost use Rattle.monitor_plans.specs.Creating.{CreateGives, IsCreation};
-ghost use Rattle.monitor_plans.specs.Headings.{numbers_in};
+ghost use Rattle.monitor_plans.specs.Headings.{HasParent, numbers_in};
+ghost use Rattle.world_copy.specs.Ready.{IsReadyWorld};
 
 use crate::heading::{behind_gate, heading_of};
 use crate::plan::{Plan, Task};
 use api_calls::SnapshotFiles;
 use api_rules::Config;
-use file_format::is_numbered;
 use snap_state::{StateCopy, encode};
 use snap_writer::{Room, SavedPages};
 use std::alloc::{AllocError, Global};
@@ -39,7 +39,8 @@ pub struct Creation {
 }
 
 /// What comes of a create that the machine allows, of this guest and under this identity: of a diff since the parent, if
-/// there is one. The two names differ.
+/// there is one. The two names differ, the snapshot has a number, and so has the parent, which is another one. The guest has
+/// what is configured. The plan is `NoMemory` for want of memory alone.
 pub fn create(
     alloc: Global,
     config: &Config,
@@ -48,7 +49,10 @@ pub fn create(
     guest: &World,
     names: SnapshotFiles,
 ) -> Task
-    requires { names.mem_file_path ≢ names.snapshot_path }
+    requires names { names.mem_file_path ≢ names.snapshot_path }
+    requires numbered { IsTrue (is_numbered identity) }
+    requires parent { HasParent parent identity }
+    requires ready { IsReadyWorld config.now guest.now }
     ensures { CreateGives result config.now parent identity guest.now names }
 {
     match prepare(alloc, config, parent, identity, guest, names) {
@@ -57,7 +61,7 @@ pub fn create(
     }
 }
 
-// All that a create needs, or `None` where there is no memory, or no state file can have its copy.
+// All that a create needs, or `None` where there is no memory.
 fn prepare(
     alloc: Global,
     config: &Config,
@@ -66,12 +70,12 @@ fn prepare(
     guest: &World,
     names: SnapshotFiles,
 ) -> Option<Creation>
-    requires { names.mem_file_path ≢ names.snapshot_path }
+    requires names { names.mem_file_path ≢ names.snapshot_path }
+    requires numbered { IsTrue (is_numbered identity) }
+    requires parent { HasParent parent identity }
+    requires ready { IsReadyWorld config.now guest.now }
     ensures { IfSome result (λ creation. IsCreation creation config.now parent identity guest.now names) }
 {
-    if !is_numbered(identity) {
-        return None;
-    }
     let Ok(copy) = copy_world(alloc, config, guest) else {
         return None;
     };

@@ -1,5 +1,6 @@
 // What a PUT and a PATCH of a drive come to.
-ghost use Rattle.std.specs.Prelude.{◌≡◌, ℕ, true, List, None, Some, is_some};
+ghost use Rattle.std.specs.Prelude.{◌≡◌, ℕ, true, List, None, Option, Some, is_some};
+ghost use Rattle.vm_world.specs.Worlds.{WorldValue};
 ghost use Rattle.std.specs.FinMap.{get};
 ghost use Rattle.vm_types.specs.Saved.{Saved};
 ghost use Rattle.vm_config.specs.Drives.{device_of};
@@ -9,7 +10,7 @@ ghost use Rattle.vm_outside.specs.Filing.{SameFiles};
 ghost use Rattle.vm_outside.specs.Known.{Lasts, Tells};
 ghost use Rattle.flat_machine.specs.Requests.{sectors_of};
 ghost use Rattle.monitor_plans.specs.DriveChanges.{DrivesGive, PatchGives};
-ghost use Rattle.monitor_plans.specs.Plans.{IsFittingPlan, PlanCause};
+ghost use Rattle.monitor_plans.specs.Plans.{KeepsReady, PlanCause};
 
 use crate::drives::sectors_of;
 use crate::plan::Plan;
@@ -35,7 +36,7 @@ pub struct Resize {
 pub fn put_drive(alloc: Global, config: &TakenConfig, drive: Drive) -> Plan
     requires { IsFitting config.now (change.PutDrive drive) }
     ensures gives { DrivesGive result config.now drive }
-    ensures fits { IsFittingPlan result config.now }
+    ensures keeps { (world : Option WorldValue) → world ≡ None → KeepsReady result config.now world }
     ensures cause { (n : ℕ) → PlanCause result n n }
 {
     match config.get().with_drive(alloc, drive) {
@@ -48,7 +49,7 @@ pub fn put_drive(alloc: Global, config: &TakenConfig, drive: Drive) -> Plan
 pub fn patch_drive<F: Files>(config: &TakenConfig, patch: DrivePatch, files: &mut F) -> Plan
     requires { IsFitting config.now (change.PatchDrive patch) }
     ensures gives { Tells (F.known files.old).health → PatchGives result config.now patch (F.known files.old).saved }
-    ensures fits { IsFittingPlan result config.now }
+    ensures keeps { (world : Option WorldValue) → KeepsReady result config.now world }
     ensures same { Tells (F.known files.old).health → SameFiles (F.known files.old) (F.known files.new) }
     ensures cause { PlanCause result (F.known files.old).health.faults (F.known files.new).health.faults }
     ensures uncalled { patch.path_on_host ≡ None →
@@ -73,7 +74,7 @@ fn other_file(config: &TakenConfig, patch: DrivePatch, sectors: u64) -> Plan
     ensures gives { (saved : Saved) (path : List ℕ) → patch.path_on_host ≡ Some path →
         is_some (get saved path) ≡ true → sectors ≡ sectors_of (get saved path) →
         PatchGives result config.now patch saved }
-    ensures fits { IsFittingPlan result config.now }
+    ensures keeps { (world : Option WorldValue) → KeepsReady result config.now world }
     ensures cause { (n : ℕ) → PlanCause result n n }
 {
     let device = device_number(config, patch.drive_id.as_str());

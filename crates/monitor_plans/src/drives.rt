@@ -1,6 +1,7 @@
 // The files of the drives, as a start asks for them.
-ghost use Rattle.std.specs.Prelude.{◌≡◌, ◌≤◌, ◌+◌, ◌++◌, ◌∷◌, ◌&&◌, [], ℕ, true, List, Option, IfOk, OnOk, is_some, length, map, option_map};
+ghost use Rattle.std.specs.Prelude.{All, ◌≡◌, ◌≤◌, ◌+◌, ◌++◌, ◌∷◌, ◌&&◌, [], ℕ, true, List, Option, IfOk, OnOk, is_some, length, map, option_map};
 ghost use Rattle.std.specs.FinMap.{get};
+ghost use Rattle.guest_devices.specs.Devices.{FitsNew};
 ghost use Rattle.vm_types.specs.Saved.{Saved};
 ghost use Rattle.vm_outside.specs.Filing.{SameFiles};
 ghost use Rattle.vm_outside.specs.Known.{Lasts, Tells};
@@ -61,8 +62,9 @@ pub(crate) fn sectors_of(size: Option<u64>) -> u64
 
 // What a drive starts with whose file has this size.
 fn new_drive(drive: &Drive, size: Option<u64>) -> NewDevice
-    ensures { (saved : Saved) → size ≡ option_map length (get saved drive.now.path_on_host) →
+    ensures made { (saved : Saved) → size ≡ option_map length (get saved drive.now.path_on_host) →
         result ≡ drive_from saved drive.now }
+    ensures fits { FitsNew result }
 {
     NewDevice::Block(NewDrive {
         drive_id: id_bytes(drive.drive_id.as_bytes()),
@@ -90,6 +92,7 @@ impl DriveFiles {
         ensures there { OnOk result (Tells (F.known files.old).health → self.new.are_there
             ≡ (self.old.are_there && is_some (get (F.known files.old).saved drive.now.path_on_host))) }
         ensures more { OnOk result (length self.new.drives.items ≡ length self.old.drives.items + 1) }
+        ensures fit { OnOk result (All FitsNew self.old.drives.items → All FitsNew self.new.drives.items) }
         ensures same { Tells (F.known files.old).health → SameFiles (F.known files.old) (F.known files.new) }
         ensures cause { FileCause result (F.known files.old).health.faults (F.known files.new).health.faults }
         ensures lasts { Lasts (F.known files.old).health (F.known files.new).health }
@@ -115,7 +118,8 @@ pub(crate) fn drive_files<F: Files>(
         it.drives.items ≡ map (drive_from (F.known files.old).saved) (in_order drives.now)) }
     ensures there { IfOk result (λ it. Tells (F.known files.old).health →
         it.are_there ≡ have_files drives.now (F.known files.old).saved) }
-    ensures few { IfOk result (λ it. length it.drives.items ≤ length drives.now) }
+    ensures many { IfOk result (λ it. length it.drives.items ≡ length drives.now) }
+    ensures fit { IfOk result (λ it. All FitsNew it.drives.items) }
     ensures same { Tells (F.known files.old).health → SameFiles (F.known files.old) (F.known files.new) }
     ensures cause { FileCause result (F.known files.old).health.faults (F.known files.new).health.faults }
     ensures lasts { Lasts (F.known files.old).health (F.known files.new).health }

@@ -1,8 +1,8 @@
 // What stands before the pages of a memory file, and which pages follow.
-ghost use Rattle.std.specs.Prelude.{◌≡◌, drop, IfOk, IfSome, IsTrue};
+ghost use Rattle.std.specs.Prelude.{◌≡◌, drop, length, IfOk, IfSome, IsTrue, Some};
 ghost use Rattle.file_format.specs.Identities.{is_numbered};
 ghost use Rattle.flat_snapshot.specs.Files.{memory_head};
-ghost use Rattle.monitor_plans.specs.Headings.{IsHeading};
+ghost use Rattle.monitor_plans.specs.Headings.{HasParent, IsHeading};
 
 use snap_diff::DiffHeader;
 use snap_memory::MemHeader;
@@ -18,7 +18,7 @@ pub(crate) struct Heading {
 }
 
 /// That of a snapshot of this guest, whose memory has so many pages: of a diff since the parent, if there is one. `None`
-/// where there is no memory, or no diff file can have the parent.
+/// where there is no memory.
 pub(crate) fn heading_of(
     alloc: Global,
     parent: Option<Identity>,
@@ -26,7 +26,9 @@ pub(crate) fn heading_of(
     pages: u32,
     guest: &World,
 ) -> Option<Heading>
-    requires { IsTrue (is_numbered identity) }
+    requires numbered { IsTrue (is_numbered identity) }
+    requires parent { HasParent parent identity }
+    requires pages { pages ≡ length guest.now.pages }
     ensures { IfSome result (λ it. IsHeading it parent identity pages guest.now) }
 {
     match parent {
@@ -56,26 +58,20 @@ fn diff_heading(
     pages: u32,
     guest: &World,
 ) -> Option<Heading>
+    requires numbered { IsTrue (is_numbered identity) }
+    requires parent { HasParent (Some parent) identity }
+    requires pages { pages ≡ length guest.now.pages }
     ensures { IfSome result (λ it. IsHeading it (Some parent) identity pages guest.now) }
 {
-    if guest.pages().len() != pages as usize {
-        return None;
-    }
     let Ok(numbers) = guest.pages().marked(alloc) else {
-        return None;
-    };
-    let Ok(count) = u32::try_from(numbers.len()) else {
         return None;
     };
     let header = DiffHeader {
         pages,
         parent,
         identity,
-        count,
+        count: numbers.len() as u32,
     };
-    if !header.is_valid() {
-        return None;
-    }
     let Ok(file) = header.encode(alloc, &numbers) else {
         return None;
     };

@@ -1,9 +1,10 @@
 // What a load comes to.
-ghost use Rattle.std.specs.Prelude.{◌≡◌};
+ghost use Rattle.std.specs.Prelude.{◌≡◌, Option};
+ghost use Rattle.vm_world.specs.Worlds.{WorldValue};
 ghost use Rattle.vm_outside.specs.Filing.{SameFiles};
 ghost use Rattle.vm_outside.specs.Known.{Lasts, Tells};
 ghost use Rattle.vm_config.specs.declared.config.Config.{Config};
-ghost use Rattle.monitor_plans.specs.Plans.{IsFittingPlan, PlanCause};
+ghost use Rattle.monitor_plans.specs.Plans.{KeepsReady, PlanCause};
 ghost use Rattle.monitor_plans.specs.Restoring.{RestoreGives};
 
 use crate::plan::Plan;
@@ -32,7 +33,7 @@ pub struct Restored {
 /// What comes of a load that the machine allows, by the two files that it names.
 pub fn restore<F: Files>(alloc: Global, load: &SnapshotLoad, files: &mut F) -> Plan
     ensures gives { Tells (F.known files.old).health → RestoreGives result load.now (F.known files.old).saved }
-    ensures fits { (config : Config) → IsFittingPlan result config }
+    ensures keeps { (config : Config) (world : Option WorldValue) → KeepsReady result config world }
     ensures same { Tells (F.known files.old).health → SameFiles (F.known files.old) (F.known files.new) }
     ensures cause { PlanCause result (F.known files.old).health.faults (F.known files.new).health.faults }
     ensures lasts { Lasts (F.known files.old).health (F.known files.new).health }

@@ -1,15 +1,18 @@
 // What a start comes to.
-ghost use Rattle.std.specs.Prelude.{◌≡◌, ◌+◌, ◌≤◌, ◌^◌, IfOk, length, option_map, true};
+ghost use Rattle.std.specs.Prelude.{All, ◌≡◌, ◌+◌, ◌≤◌, ◌^◌, IfOk, Option, false, is_some, length, option_map, true};
 ghost use Rattle.guest_memory.specs.Boot as boot;
 ghost use Rattle.guest_memory.specs.Boot.{loads_fit};
 ghost use Rattle.boot_loader.specs.Loading.{have_room, loads_of};
 ghost use Rattle.flat_guest.specs.Start.{started};
 ghost use Rattle.flat_machine.specs.Ready.{IsTaken};
+ghost use Rattle.guest_devices.specs.Devices.{FitsNew};
+ghost use Rattle.vm_config.specs.Changes.{changed};
+ghost use Rattle.vm_config.specs.declared.change.Change.TheVariants as change;
 ghost use Rattle.flat_machine.specs.Requests.{loads_from, place_of};
 ghost use Rattle.vm_outside.specs.Filing.{SameFiles};
 ghost use Rattle.vm_outside.specs.Known.{Lasts, Tells};
-ghost use Rattle.vm_world.specs.Worlds.{IsWorld};
-ghost use Rattle.monitor_plans.specs.Plans.{IsFittingPlan, PlanCause};
+ghost use Rattle.vm_world.specs.Worlds.{IsWorld, WorldValue};
+ghost use Rattle.monitor_plans.specs.Plans.{HasReadyGuest, KeepsReady, PlanCause};
 ghost use Rattle.monitor_plans.specs.Starting.{StartGives};
 
 use crate::disk::{disk_file, load_disk};
@@ -32,7 +35,7 @@ use vm_world::World;
 /// What comes of a start that the configuration allows, by the files of its kernel image, its disk and its drives.
 pub fn start<F: Files>(alloc: Global, config: &TakenConfig, files: &mut F) -> Plan
     ensures gives { Tells (F.known files.old).health → StartGives result config.now (F.known files.old).saved }
-    ensures fits { IsFittingPlan result config.now }
+    ensures keeps { (world : Option WorldValue) → KeepsReady result config.now world }
     ensures same { Tells (F.known files.old).health → SameFiles (F.known files.old) (F.known files.new) }
     ensures cause { PlanCause result (F.known files.old).health.faults (F.known files.new).health.faults }
     ensures lasts { Lasts (F.known files.old).health (F.known files.new).health }
@@ -43,7 +46,7 @@ pub fn start<F: Files>(alloc: Global, config: &TakenConfig, files: &mut F) -> Pl
 fn start_by<F: Files>(alloc: Global, config: &Config, files: &mut F) -> Plan
     requires { IsTaken config.now }
     ensures gives { Tells (F.known files.old).health → StartGives result config.now (F.known files.old).saved }
-    ensures fits { IsFittingPlan result config.now }
+    ensures keeps { (world : Option WorldValue) → KeepsReady result config.now world }
     ensures same { Tells (F.known files.old).health → SameFiles (F.known files.old) (F.known files.new) }
     ensures cause { PlanCause result (F.known files.old).health.faults (F.known files.new).health.faults }
     ensures lasts { Lasts (F.known files.old).health (F.known files.new).health }
@@ -140,7 +143,7 @@ fn world_of(
     }
 }
 
-// The guest of this configuration, image, disk and drives, which fit.
+// The guest of this configuration, with what is booted, of this image, disk and drives, which fit.
 fn guest_of(
     alloc: Global,
     config: &Config,
@@ -149,11 +152,14 @@ fn guest_of(
     drives: &[NewDevice],
 ) -> Result<World, AllocError>
     requires taken { IsTaken config.now }
-    requires few { length drives.now ≤ 16 }
+    requires source { is_some config.now.boot_source ≡ true }
+    requires many { length drives.now ≡ length config.now.drives }
+    requires fit { All FitsNew drives.now }
     requires fits { loads_fit config.now.machine.mem_size_mib (length image.now) (option_map length disk.now) ≡ true }
-    ensures { IfOk result (λ guest.
+    ensures world { IfOk result (λ guest.
         IsWorld guest (started config.now.machine.vcpu_count config.now.machine.mem_size_mib
         (loads_from config.now image.now disk.now) drives.now)) }
+    ensures ready { IfOk result (λ guest. HasReadyGuest (changed config.now change.Start) false guest) }
 {
     let machine = config.machine;
     let tree = write_tree(alloc, config, place_of(machine.mem_size_mib, disk))?;

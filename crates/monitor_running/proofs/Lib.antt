@@ -11,4 +11,5 @@ pub mod Lone
 pub mod Making
 pub mod Passing
 pub mod Sound
+pub mod Staying
 pub mod Told

@@ -6,6 +6,7 @@ pub mod Objects
 pub mod Passes
 pub mod Ran
 pub mod Reached
+pub mod Staying
 pub mod Traced
 pub mod Waiting
 pub mod Working

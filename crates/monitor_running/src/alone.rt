@@ -9,6 +9,7 @@ ghost use Rattle.monitor_running.specs.Objects.{known_with};
 ghost use Rattle.monitor_running.specs.Passes.{ArePassed};
 ghost use Rattle.monitor_running.specs.Ran.{IsRunning, Went};
 ghost use Rattle.monitor_running.specs.Waiting.{IsAlone, OthersIdle};
+ghost use Rattle.monitor_running.specs.Staying.{StaysReady};
 
 use crate::gating::looks_open;
 use crate::objects::TurnObjects;
@@ -146,6 +147,7 @@ pub fn run_alone<Q, W: TurnObjects, G: Gate<Pass = Q>, K: Sink>(
         (known_with (W.known with.old) (K.known sink.old)) world.old
         (known_with (W.known with.new) (K.known sink.new)) world.new }
     ensures passes { ArePassed (G.serves gate.now) G.tally result passes.old.items passes.new.items }
+    ensures ready { StaysReady world.old world.new }
     ensures unclosed { result ≢ Some ran.Closed }
 {
     if let Some(end) = pass_round(alloc, world, with, Some(turn.hart), sink) {

@@ -7,6 +7,7 @@ ghost use Rattle.monitor_running.specs.declared.telling.Untold.TheVariants as un
 ghost use Rattle.monitor_running.specs.Items.{Drains, MayDrain, TellsSlice, TellsSteps};
 ghost use Rattle.monitor_running.specs.Objects.{with_trace};
 ghost use Rattle.monitor_running.specs.Ran.{end_by};
+ghost use Rattle.monitor_running.specs.Staying.{MayBeDrained};
 
 use crate::objects::TurnObjects;
 use crate::ran::Ran;
@@ -39,6 +40,7 @@ fn drain<T: Trace, K: Sink>(guest: &mut World, trace: &mut T, sink: &mut K) -> R
     ensures drains { Tells (T.known trace.old).health → Tells (K.known sink.old).health →
         Drains result guest.old (T.known trace.old).took (K.known sink.old).taken
         guest.new (T.known trace.new).took (K.known sink.new).taken }
+    ensures world { MayBeDrained guest.old guest.new }
     ensures trace_cause { IfErr result (λ why. why ≡ untold.Trace →
         Rose (T.known trace.old).health.faults (T.known trace.new).health.faults) }
     ensures sink_cause { IfErr result (λ why. why ≡ untold.Sink →
@@ -71,6 +73,7 @@ fn drain_if_ready<T: Trace, K: Sink>(
     ensures drains { Tells (T.known trace.old).health → Tells (K.known sink.old).health →
         MayDrain result guest.old (T.known trace.old).took (K.known sink.old).taken
         guest.new (T.known trace.new).took (K.known sink.new).taken }
+    ensures world { MayBeDrained guest.old guest.new }
     ensures trace_cause { IfErr result (λ why. why ≡ untold.Trace →
         Rose (T.known trace.old).health.faults (T.known trace.new).health.faults) }
     ensures sink_cause { IfErr result (λ why. why ≡ untold.Sink →
@@ -95,6 +98,7 @@ fn slice_to<T: Trace, K: Sink>(
     ensures told { Tells (T.known trace.old).health → Tells (K.known sink.old).health →
         TellsSlice result events.now guest.old (T.known trace.old).took (K.known sink.old).taken
         guest.new (T.known trace.new).took (K.known sink.new).taken }
+    ensures world { MayBeDrained guest.old guest.new }
     ensures trace_cause { IfErr result (λ why. why ≡ untold.Trace →
         Rose (T.known trace.old).health.faults (T.known trace.new).health.faults) }
     ensures sink_cause { IfErr result (λ why. why ≡ untold.Sink →
@@ -120,6 +124,7 @@ fn steps_to<T: Trace, K: Sink>(
     ensures told { Tells (T.known trace.old).health → Tells (K.known sink.old).health →
         TellsSteps result actor count guest.old (T.known trace.old).took (K.known sink.old).taken
         guest.new (T.known trace.new).took (K.known sink.new).taken }
+    ensures world { MayBeDrained guest.old guest.new }
     ensures trace_cause { IfErr result (λ why. why ≡ untold.Trace →
         Rose (T.known trace.old).health.faults (T.known trace.new).health.faults) }
     ensures sink_cause { IfErr result (λ why. why ≡ untold.Sink →
@@ -144,6 +149,7 @@ pub fn tell_slice<W: TurnObjects, K: Sink>(
     ensures told { Tells (W.known with.old).trace.health → Tells (K.known sink.old).health →
         TellsSlice result events.now guest.old (W.known with.old).trace.took (K.known sink.old).taken
         guest.new (W.known with.new).trace.took (K.known sink.new).taken }
+    ensures world { MayBeDrained guest.old guest.new }
     ensures trace_cause { IfErr result (λ why. why ≡ untold.Trace →
         Rose (W.known with.old).trace.health.faults (W.known with.new).trace.health.faults) }
     ensures sink_cause { IfErr result (λ why. why ≡ untold.Sink →
@@ -167,6 +173,7 @@ pub fn tell_steps<W: TurnObjects, K: Sink>(
     ensures told { Tells (W.known with.old).trace.health → Tells (K.known sink.old).health →
         TellsSteps result actor count guest.old (W.known with.old).trace.took (K.known sink.old).taken
         guest.new (W.known with.new).trace.took (K.known sink.new).taken }
+    ensures world { MayBeDrained guest.old guest.new }
     ensures trace_cause { IfErr result (λ why. why ≡ untold.Trace →
         Rose (W.known with.old).trace.health.faults (W.known with.new).trace.health.faults) }
     ensures sink_cause { IfErr result (λ why. why ≡ untold.Sink →

@@ -26,6 +26,7 @@ ghost use Rattle.monitor_running.specs.declared.ran.Ran.TheVariants as ran;
 ghost use Rattle.monitor_running.specs.Objects.{known_with, with_clock};
 ghost use Rattle.monitor_running.specs.Ran.{IsRunning, Went};
 ghost use Rattle.monitor_running.specs.Waiting.{AllIdle, HasGone, HasMade, IsQuiet, hart_turn, is_left_out, makers, takes_turn, turns};
+ghost use Rattle.monitor_running.specs.Staying.{StaysReady};
 
 use crate::objects::TurnObjects;
 use crate::ran::Ran;
@@ -214,6 +215,7 @@ pub fn pass_round<W: TurnObjects, K: Sink>(
     ensures went { Went IsRunning result
         (known_with (W.known with.old) (K.known sink.old)) world.old
         (known_with (W.known with.new) (K.known sink.new)) world.new }
+    ensures ready { StaysReady world.old world.new }
     ensures unclosed { result ≢ Some ran.Closed }
 {
     let Ok(events) = pass_by(alloc, world, but, with) else {

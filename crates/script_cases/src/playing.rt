@@ -2,9 +2,9 @@
 ghost use Rattle.std.specs.Prelude.{◌≡◌, MatchBool};
 ghost use Rattle.vm_types.specs.Causes.{IsCounted};
 
-use boot_loader::Loads;
+use monitor_core::Monitor;
 use monitor_machine::LiveMachine;
-use outside_mem::Failing;
+use outside_mem::{Failing, MemoryFiles};
 use pause_gate::{Gate, HoldGate};
 use script_text::{HostReply, Item};
 use serve_host::{Trace, event_item};
@@ -21,7 +21,7 @@ pub const NOBODY: ActorId = ActorId::Device(0);
 #[derive(Drop)]
 pub struct Player<'a> {
     alloc: Global,
-    pub machine: LiveMachine,
+    pub monitor: Monitor,
     answered: ByteList,
     moments: u64,
     taken: u64,
@@ -35,7 +35,7 @@ impl<'a> Player<'a> {
     /// Of all items, or of the console's alone, those of these numbers fail.
     pub fn new(
         alloc: Global,
-        machine: LiveMachine,
+        monitor: Monitor,
         left: u64,
         gate: &'a HoldGate,
         failing: Failing,
@@ -43,7 +43,7 @@ impl<'a> Player<'a> {
     ) -> Player<'a> {
         Player {
             alloc,
-            machine,
+            monitor,
             answered: ByteList::new(alloc),
             moments: 0,
             taken: 0,
@@ -120,7 +120,7 @@ impl Trace for Player<'_> {
         if self.fails_at(item) {
             return Err(Failed);
         }
-        if play_into(&mut self.machine, item, &mut self.answered).is_err() {
+        if play_into(self.monitor.machine(), item, &mut self.answered).is_err() {
             self.failing.count();
             return Err(Failed);
         }
@@ -158,26 +158,56 @@ impl Trace for Player<'_> {
     }
 }
 
+// A PUT of this body.
+fn put(alloc: Global, path: &str, body: &str) -> Result<Item, AllocError> {
+    Ok(Item::Api {
+        method: ByteList::copy_of(alloc, b"PUT")?,
+        path: ByteList::copy_of(alloc, path.as_bytes())?,
+        body: ByteList::copy_of(alloc, body.as_bytes())?,
+    })
+}
+
+fn take(monitor: &mut Monitor, item: Item, files: &mut MemoryFiles) -> Result<(), AllocError> {
+    match monitor.item(item, files) {
+        Ok(_) => Ok(()),
+        Err(_) => Err(AllocError),
+    }
+}
+
 /// A machine of 4 MiB that begins with this image, of which hart 0 has made so many steps. It is alone, or there are two.
-pub fn machine_of(
+pub fn monitor_of(
     alloc: Global,
     is_alone: bool,
     image: &[u8],
     made: u64,
-) -> Result<LiveMachine, AllocError> {
-    let harts = if is_alone { 1 } else { 2 };
-    let loads = Loads {
-        image,
-        initrd: None,
-        tree: &[],
+) -> Result<Monitor, AllocError> {
+    let harts = if is_alone {
+        "{\"vcpu_count\":1,\"mem_size_mib\":4}"
+    } else {
+        "{\"vcpu_count\":2,\"mem_size_mib\":4}"
     };
-    let mut machine = LiveMachine::new(alloc, TextList::copy_of(alloc, "harts")?);
-    let Ok(world) = World::start(alloc, harts, 4, &loads, &[]) else {
-        return Err(AllocError);
+    let mut files = MemoryFiles::new(alloc, Failing::new(Vec::new(alloc)));
+    let mut monitor = Monitor::new(alloc, TextList::copy_of(alloc, "harts")?)?;
+    let file = Item::File {
+        name: TextList::copy_of(alloc, "image")?,
+        content: ByteList::copy_of(alloc, image)?,
     };
-    machine.put_guest(world);
-    machine.step(ActorId::Hart(0), made)?;
-    Ok(machine)
+    take(&mut monitor, file, &mut files)?;
+    take(
+        &mut monitor,
+        put(alloc, "/machine-config", harts)?,
+        &mut files,
+    )?;
+    let source = "{\"kernel_image_path\":\"image\"}";
+    take(
+        &mut monitor,
+        put(alloc, "/boot-source", source)?,
+        &mut files,
+    )?;
+    let start = "{\"action_type\":\"InstanceStart\"}";
+    take(&mut monitor, put(alloc, "/actions", start)?, &mut files)?;
+    monitor.machine().step(ActorId::Hart(0), made)?;
+    Ok(monitor)
 }
 
 /// Whether both have the same registers, the same memory and the same console. Where a guest is off its registers may differ:

@@ -1,5 +1,5 @@
 -- The copy of a world is the copy of each guest that it is.
-use Rattle.std.proofs.Common.{◌≡◌, ℕ, zero, suc, ◌+◌, ◌<◌, Bool, true, false, ◌&&◌, List, [], ◌∷◌, Some, length, get_or, map, slice_get, refl, sym, ap, subst, ◌∙◌, arith}
+use Rattle.std.proofs.Common.{◌≡◌, ℕ, suc, ◌+◌, true, List, [], ◌∷◌, Some, length, slice_get, refl, sym, subst, arith}
 use Rattle.std.specs.List.{list_all}
 use Rattle.std.proofs.lemmas.Bool.{and_parts}
 use Rattle.vm_types.specs.declared.ids.ActorId.{ActorId}
@@ -13,14 +13,9 @@ use Rattle.guest_devices.specs.Devices.{DeviceLeads, DeviceLeft, FlatDevice}
 use Rattle.guest_devices.specs.Kept.{device_left, devices_left, is_kept}
 use Rattle.flat_guest.specs.Guest.{Guest, none_written}
 use Rattle.snap_state.specs.declared.copy.StateCopy.{StateCopy}
-use Rattle.snap_harts.specs.Copy.{saved_hart}
-use Rattle.snap_state.specs.Valid.{is_hart, is_valid}
-use Rattle.snap_state.proofs.Rules.{Rules, rules_hold, rules_of}
 use Rattle.flat_snapshot.specs.Copies.{AreHarts, AreKept, IsCopyOf, copy_of}
-use Rattle.flat_snapshot.proofs.Copied.{one_harts}
 use Rattle.vm_world.specs.Worlds.{IsWorld, WorldValue}
 use Rattle.world_copy.specs.Copying.{copy_in}
-use Rattle.world_copy.proofs.Kept.{rules_too}
 
 are_listed : (starts : List Regs) (k : ℕ) (steps : ActorId → List Step) (harts : List Hart) → length harts ≡ length starts
     → ((i : ℕ) (start : Regs) (hart : Hart) → slice_get starts i ≡ Some start → slice_get harts i ≡ Some hart
@@ -81,59 +76,3 @@ copied config w g copy made known is =
     let small : list_all is_kept w.devices ≡ true = subst (λ (c : StateCopy). list_all is_kept c.devices ≡ true) made known in
     subst (λ (c : StateCopy). IsCopyOf config g c) (sym made)
     (w.harts, harts_are w g is, in_world w g small is, guest_is config w g is)
-
--- each copy of a guest that the world is has the world's harts
-same_harts : (config : Config) (w : WorldValue) (g : Guest) (copy : StateCopy) → IsWorld w g → IsCopyOf config g copy
-    → copy ≡ copy_of config g w.harts copy.devices
-same_harts config w g copy world (harts, are, kept, is) =
-    is ∙ ap (λ (l : List Hart). copy_of config g l copy.devices) (one_harts g.starts 0 g.steps harts w.harts are (harts_are w g world))
-
--- where the copy of a world is none that a file can have, no guest that it is has one
-pub unsavable : (config : Config) (w : WorldValue) (made : StateCopy) → made ≡ copy_in config w
-    → list_all is_kept made.devices ≡ true → is_valid made ≡ false
-    → (g : Guest) (copy : StateCopy) → IsWorld w g → IsCopyOf config g copy → is_valid copy ≡ false
-unsavable config w made made_is sized bad g copy world of = by_test (is_valid copy) refl
-  where
-    mine_valid : is_valid copy ≡ true → is_valid made ≡ true
-    mine_valid valid =
-        let same = same_harts config w g copy world of in
-        let mine = made_is ∙ guest_is config w g world in
-        let rules : Rules (copy_of config g w.harts copy.devices) = subst (λ (c : StateCopy). Rules c) same (rules_of copy valid) in
-        let small : list_all is_kept w.devices ≡ true = subst (λ (c : StateCopy). list_all is_kept c.devices ≡ true) mine sized in
-        ap is_valid mine
-        ∙ rules_hold (copy_of config g w.harts w.devices)
-        (rules_too (copy_of config g w.harts copy.devices) w.devices g.devices rules of.2 (in_world w g small world))
-
-    by_test : (b : Bool) → is_valid copy ≡ b → is_valid copy ≡ false
-    by_test true valid = absurd (let k : true ≡ false = sym (mine_valid valid) ∙ bad in cc)
-    by_test false valid = valid
-
--- one hart that is none is enough
-all_but_one : (pages i : ℕ) (harts : List Hart) (h : Hart) → i < length harts → h ≡ get_or harts i h
-    → is_hart pages (saved_hart h) ≡ false → list_all (is_hart pages) (map saved_hart harts) ≡ false
-all_but_one pages i [] h lt is bad = absurd (omega arith)
-all_but_one pages zero (first ∷ harts) h lt is bad =
-    ap (λ (b : Bool). b && list_all (is_hart pages) (map saved_hart harts))
-    (ap (λ (q : Hart). is_hart pages (saved_hart q)) (sym is) ∙ bad)
-all_but_one pages (suc i) (first ∷ harts) h lt is bad =
-    ap (λ (b : Bool). is_hart pages (saved_hart first) && b) (all_but_one pages i harts h (omega arith) is bad)
-    ∙ no_right (is_hart pages (saved_hart first))
-  where
-    no_right : (a : Bool) → (a && false) ≡ false
-    no_right true = refl
-    no_right false = refl
-
-pub one_bad : (pages i : ℕ) (harts : List Hart) (h : Hart) → i < length harts → h ≡ get_or harts i h
-    → is_hart pages (saved_hart h) ≡ false → list_all (is_hart pages) (map saved_hart harts) ≡ false
-one_bad pages i harts h lt is bad = all_but_one pages i harts h lt is bad
-
-pub bad_harts : (config : Config) (w : WorldValue) → ((pages : ℕ) → list_all (is_hart pages) (map saved_hart w.harts) ≡ false)
-    → (g : Guest) (copy : StateCopy) → IsWorld w g → IsCopyOf config g copy → is_valid copy ≡ false
-bad_harts config w bad g copy world of =
-    let same : copy.harts ≡ map saved_hart w.harts =
-    ap (λ (c : StateCopy). c.harts) (same_harts config w g copy world of) in
-    by_test (is_valid copy) refl (ap (list_all (is_hart copy.pages)) same ∙ bad copy.pages)
-  where
-    by_test : (b : Bool) → is_valid copy ≡ b → list_all (is_hart copy.pages) copy.harts ≡ false → is_valid copy ≡ false
-    by_test true valid none = absurd (let k : true ≡ false = sym (rules_of copy valid).harts ∙ none in cc)
-    by_test false valid none = valid

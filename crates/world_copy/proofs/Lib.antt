@@ -1,3 +1,3 @@
 pub mod Copied
 pub mod GoingOn
-pub mod Kept
+pub mod Ready

@@ -1,7 +1,8 @@
 -- The copy of a world.
-use Rattle.std.specs.Prelude.{[]}
+use Rattle.std.specs.Prelude.{ℕ, ◌≡◌, ◌≤◌, List, [], Some, slice_get}
 use Rattle.vm_config.specs.declared.config.Config.{Config}
 use Rattle.guest_pages.specs.Pages.{flat_of}
+use Rattle.hart_trace.specs.States.{Hart}
 use Rattle.flat_guest.specs.Guest.{Guest, none_written}
 use Rattle.snap_state.specs.declared.copy.StateCopy.{StateCopy}
 use Rattle.flat_snapshot.specs.Copies.{copy_of}
@@ -21,3 +22,7 @@ guest_of w = record {
 
 abbrev pub copy_in : Config → WorldValue → StateCopy
 copy_in config w = copy_of config (guest_of w) w.harts w.devices
+
+-- the next look of each hart is within 32 instructions
+abbrev pub AreCounted : List Hart → Type 0
+AreCounted harts = (i : ℕ) (h : Hart) → slice_get harts i ≡ Some h → h.regs.count ≤ 32

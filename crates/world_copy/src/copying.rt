@@ -1,16 +1,15 @@
 // The copy of a world.
-ghost use Rattle.std.specs.Prelude.{◌≡◌, ◌≤◌, ℕ, true, false, IsTrue, IfErr, IfOk, MatchOption, map};
+ghost use Rattle.std.specs.Prelude.{◌≡◌, ◌≤◌, true, IsTrue, IfOk, length, map};
 ghost use Rattle.std.specs.List.{list_all};
 ghost use Rattle.guest_devices.specs.Kept.{is_kept};
 ghost use Rattle.flat_guest.specs.Guest.{Guest};
-ghost use Rattle.snap_state.specs.declared.copy.StateCopy.{StateCopy as Copy};
 ghost use Rattle.snap_harts.specs.Copy.{saved_hart};
 ghost use Rattle.snap_state.specs.Copy.{saved_board};
-ghost use Rattle.snap_state.specs.Valid.{is_hart, is_valid};
+ghost use Rattle.snap_state.specs.Valid.{is_valid};
 ghost use Rattle.flat_snapshot.specs.Copies.{IsCopyOf};
 ghost use Rattle.vm_world.specs.Worlds.{IsWorld};
-ghost use Rattle.world_copy.specs.Copying.{copy_in};
-ghost use Rattle.world_copy.specs.declared.copying.CopyError as copy_error;
+ghost use Rattle.world_copy.specs.Copying.{AreCounted, copy_in};
+ghost use Rattle.world_copy.specs.Ready.{IsReadyWorld};
 
 use crate::attached::{devices_kept, ports_kept};
 use crate::configuring::configuration_of;
@@ -20,47 +19,26 @@ use hart_rv64::Hart;
 use line_board::Board;
 use reservation_copy::reservations_of;
 use snap_harts::{SavedHart, SavedHartState};
-use snap_state::{SavedBoard, StateCopy, is_valid};
+use snap_state::{SavedBoard, StateCopy};
 use std::alloc::{AllocError, Global};
 use vm_config::Config;
 use vm_types::ByteList;
 use vm_world::World;
 
-/// The most instructions that are left to a hart's next look.
-const MOST_LEFT: u64 = 32;
-
-/// Why a world is not copied.
-#[derive(Clone, Copy, Drop)]
-pub enum CopyError {
-    /// No state file can have its copy.
-    Unsavable,
-    OutOfMemory,
-}
-
-fn hart_copy(hart: &Hart) -> Option<SavedHart>
-    ensures { MatchOption result ((pages : ℕ) → is_hart pages (saved_hart hart.now) ≡ false)
-        (λ copy. copy ≡ saved_hart hart.now) }
+fn hart_copy(hart: &Hart) -> SavedHart
+    requires { hart.now.regs.count ≤ 32 }
+    ensures { result ≡ saved_hart hart.now }
 {
-    let regs = hart.regs();
-    if regs.count > MOST_LEFT {
-        return None;
-    }
-    Some(SavedHart::new(regs, hart.begun()))
+    SavedHart::new(hart.regs(), hart.begun())
 }
 
-fn hart_copies(alloc: Global, harts: &[Hart]) -> Result<Items<SavedHart>, CopyError>
-    ensures copied { IfOk result (λ copies. copies ≡ map saved_hart harts.now) }
-    ensures unsavable { IfErr result (λ why. why ≡ copy_error.CopyError.Unsavable →
-        (pages : ℕ) → list_all (is_hart pages) (map saved_hart harts.now) ≡ false) }
+fn hart_copies(alloc: Global, harts: &[Hart]) -> Result<Items<SavedHart>, AllocError>
+    requires { AreCounted harts.now }
+    ensures { IfOk result (λ copies. copies ≡ map saved_hart harts.now) }
 {
     let mut copies = Items::new(alloc);
     for hart in harts {
-        let Some(copy) = hart_copy(hart) else {
-            return Err(CopyError::Unsavable);
-        };
-        let Ok(()) = copies.push(copy) else {
-            return Err(CopyError::OutOfMemory);
-        };
+        copies.push(hart_copy(hart))?;
     }
     Ok(copies)
 }
@@ -113,6 +91,7 @@ fn copy_with(
     requires { harts ≡ map saved_hart world.now.harts }
     ensures copied { IfOk result (λ copy. copy ≡ copy_in config.now world.now) }
     ensures known { IfOk result (λ copy. list_all is_kept copy.devices ≡ true) }
+    ensures pages { IfOk result (λ copy. copy.pages ≡ length world.now.pages) }
 {
     let configuration = configuration_of(alloc, config)?;
     let board = board_copy(alloc, world.board())?;
@@ -133,25 +112,15 @@ fn copy_with(
     })
 }
 
-/// The copy of a world of a machine that is configured so.
-///
-/// Errors: `Unsavable` exactly where no state file can have it, unless memory is wanting first, and `OutOfMemory`.
-pub fn copy_world(alloc: Global, config: &Config, world: &World) -> Result<StateCopy, CopyError>
+/// The copy of a world of a machine that is configured so. It is one that a state file can have, as each copy of a ready
+/// world is.
+pub fn copy_world(alloc: Global, config: &Config, world: &World) -> Result<StateCopy, AllocError>
+    requires { IsReadyWorld config.now world.now }
     ensures copied { IfOk result (λ copy. (g : Guest) → IsWorld world.now g → IsCopyOf config.now g copy) }
     ensures valid { IfOk result (λ copy. IsTrue (is_valid copy)) }
-    ensures unsavable { IfErr result (λ why. why ≡ copy_error.CopyError.Unsavable →
-        (g : Guest) (copy : Copy) → IsWorld world.now g → IsCopyOf config.now g copy → is_valid copy ≡ false) }
+    ensures pages { IfOk result (λ copy. copy.pages ≡ length world.now.pages) }
 {
-    let harts = match hart_copies(alloc, world.harts()) {
-        Ok(harts) => harts,
-        Err(why) => return Err(why),
-    };
-    let Ok(copy) = copy_with(alloc, config, world, harts) else {
-        return Err(CopyError::OutOfMemory);
-    };
-    if is_valid(&copy) {
-        Ok(copy)
-    } else {
-        Err(CopyError::Unsavable)
-    }
+    let harts = hart_copies(alloc, world.harts())?;
+    let copy = copy_with(alloc, config, world, harts)?;
+    Ok(copy)
 }

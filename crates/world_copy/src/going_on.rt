@@ -1,6 +1,7 @@
 // The world that goes on from a copy.
-ghost use Rattle.std.specs.Prelude.{◌≡◌, ◌≤◌, true, false, IsTrue, IfOk, length, replicate};
+ghost use Rattle.std.specs.Prelude.{◌≡◌, ◌≤◌, ◌*◌, true, false, IsTrue, IfOk, length, replicate};
 ghost use Rattle.std.specs.List.{list_all};
+ghost use Rattle.guest_memory.specs.Ram.{page_size};
 ghost use Rattle.guest_memory.specs.Reserved.{unreserved};
 ghost use Rattle.guest_pages.specs.Pages.{flat_of, marks_of};
 ghost use Rattle.hart_trace.specs.States.{LeadsTo};
@@ -88,7 +89,8 @@ pub fn world_of(alloc: Global, copy: &StateCopy, pages: PageSet) -> Result<World
     requires count { length pages ≡ copy.now.pages }
     requires free { (flat_of pages).reserved ≡ unreserved copy.now.pages }
     requires unmarked { marks_of pages ≡ replicate copy.now.pages false }
-    ensures { IfOk result (λ world. IsWorld world (carried_guest copy.now (flat_of pages).bytes)) }
+    ensures world { IfOk result (λ world. IsWorld world (carried_guest copy.now (flat_of pages).bytes)) }
+    ensures whole { length (flat_of pages).bytes ≡ page_size * copy.now.pages }
 {
     let mut pages = pages;
     // Their bytes are so many whole pages.

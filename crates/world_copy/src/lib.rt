@@ -1,6 +1,6 @@
 //! A world as the copy that a snapshot keeps of it, and the world that goes on from a copy.
 //!
-//! `copy_world` answers the copy of each guest that the world is (`flat_snapshot`), and only one that a state file can
+//! `copy_world` answers the copy of each guest that a ready world is (`flat_snapshot`), which is one that a state file can
 //! have. `world_of` makes of a copy and the pages of its memory the world of the guest that goes on from them.
 #![tactic(auto)]
 
@@ -10,5 +10,5 @@ mod copying;
 mod going_on;
 
 pub use configuring::config_of;
-pub use copying::{CopyError, copy_world};
+pub use copying::copy_world;
 pub use going_on::world_of;

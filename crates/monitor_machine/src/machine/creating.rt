@@ -1,5 +1,5 @@
 // What is answered to a create that is due.
-ghost use Rattle.std.specs.Prelude.{◌≡◌, ◌++◌, List, IfOk, OnErr};
+ghost use Rattle.std.specs.Prelude.{◌≡◌, ◌+◌, ◌++◌, List, IfOk, OnErr};
 ghost use Rattle.refusals.specs.declared.refusal.Refusal.TheVariants as refusal;
 ghost use Rattle.api_rules.specs.Answers.{no_content, refused};
 ghost use Rattle.http_stream.specs.declared.request.Next.{Next};
@@ -58,6 +58,8 @@ impl LiveMachine {
     ) -> Result<Outcome, AllocError>
         requires names { HasTwoNames creation.names }
         requires pages { HasPages self.old.guest creation }
+        requires number { creation.identity.number ≡ self.old.ids.next }
+        requires next { creation.next ≡ creation.identity.number + 1 }
         ensures ok { IfOk result (λ how. (request : Request) (kept : List Device) →
             (Tells (F.known files.old).health → (m : Machine) →
             IsMachine self.old (F.known files.old) m → IsCreate creation m (Next.Request request) kept) →

@@ -10,7 +10,7 @@ ghost use Rattle.flat_machine.specs.Machine.{Machine};
 ghost use Rattle.flat_machine.specs.Ready.{IsTaken};
 ghost use Rattle.flat_machine.specs.Requests.{decided, parent_of};
 ghost use Rattle.vm_config.specs.declared.change.Change.TheVariants as change;
-ghost use Rattle.monitor_plans.specs.Plans.{IsFittingTask, TaskCause};
+ghost use Rattle.monitor_plans.specs.Plans.{TaskCause};
 ghost use Rattle.monitor_machine.specs.Replying.{AsksFiles, calls_files};
 
 use crate::machine::LiveMachine;
@@ -26,7 +26,7 @@ use vm_outside::Files;
 use vm_types::Identity;
 
 impl LiveMachine {
-    ghost use Rattle.monitor_machine.specs.Plans.{CallsLater, CallsNone, IsDue, IsReady, IsTask};
+    ghost use Rattle.monitor_machine.specs.Plans.{CallsLater, CallsNone, IsDue, IsReady, IsTask, TaskKeepsReady};
     ghost use Rattle.monitor_machine.specs.Plans.{needs_files, phase_of};
     ghost use Rattle.monitor_machine.specs.State.{IsMachine};
 
@@ -54,7 +54,7 @@ impl LiveMachine {
             IsMachine self.now (F.known files.old) m → (request : Request) → call_of request ≡ Ok call →
             IsTask result m (Next.Request request) kept) }
         ensures ready { IsReady result self.now.guest }
-        ensures fits { IsFittingTask result self.now.config }
+        ensures keeps { TaskKeepsReady result self.now }
         ensures later { CallsLater result (F.known files.old) (F.known files.new) }
         ensures cause { TaskCause result (F.known files.old).health.faults (F.known files.new).health.faults }
         ensures uncalled { (calls_files call ≡ true → ⊥) → CallsNone result
@@ -75,7 +75,7 @@ impl LiveMachine {
             IsMachine self.now (F.known files.old) m → (given : Next) → decided m given ≡ Ok change →
             IsTask result m given kept) }
         ensures ready { IsReady result self.now.guest }
-        ensures fits { IsFittingTask result self.now.config }
+        ensures keeps { TaskKeepsReady result self.now }
         ensures later { CallsLater result (F.known files.old) (F.known files.new) }
         ensures cause { TaskCause result (F.known files.old).health.faults (F.known files.new).health.faults }
         ensures uncalled { needs_files change ≡ false → CallsNone result
@@ -101,7 +101,7 @@ impl LiveMachine {
         ensures task { (kept : List Device) × ((known : FilesKnown) (m : Machine) → IsMachine self.now known m →
             (given : Next) → decided m given ≡ Ok (change.CreateSnapshot it) → IsTask result m given kept) }
         ensures ready { IsReady result self.now.guest }
-        ensures fits { IsFittingTask result self.now.config }
+        ensures keeps { TaskKeepsReady result self.now }
         ensures cause { (n : ℕ) → TaskCause result n n }
     {
         let identity = Identity {
@@ -131,7 +131,7 @@ impl LiveMachine {
         ensures task { (kept : List Device) × (Tells (F.known files.old).health → (m : Machine) →
             IsMachine self.now (F.known files.old) m → IsTask result m (Next.Request request.now) kept) }
         ensures ready { IsReady result self.now.guest }
-        ensures fits { IsFittingTask result self.now.config }
+        ensures keeps { TaskKeepsReady result self.now }
         ensures later { CallsLater result (F.known files.old) (F.known files.new) }
         ensures cause { TaskCause result (F.known files.old).health.faults (F.known files.new).health.faults }
         ensures uncalled { (AsksFiles request.now → ⊥) → CallsNone result

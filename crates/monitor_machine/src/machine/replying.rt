@@ -23,7 +23,7 @@ use vm_types::ByteList;
 impl LiveMachine {
     ghost use Rattle.monitor_machine.specs.Plans.{Answers, PlanLeaves, plan_outcome, plan_response};
     ghost use Rattle.monitor_machine.specs.Replying.{AsksFiles, Replies};
-    ghost use Rattle.monitor_plans.specs.Plans.{IsFittingPlan};
+    ghost use Rattle.monitor_plans.specs.Plans.{KeepsReady};
 
     // Puts the plan's response behind the text.
     pub(super) fn write_response(
@@ -59,7 +59,8 @@ impl LiveMachine {
         ensures which { IfOk result (λ done. (done ≡ plan) ⊎ (done ≡ Plan.NoMemory)) }
         ensures response { IfOk result (λ done.
             text.new ≡ text.old ++ written_as form (plan_response done closes self.now)) }
-        ensures fits { IfOk result (λ done. IsFittingPlan plan self.now.config → IsFittingPlan done self.now.config) }
+        ensures keeps { IfOk result (λ done. KeepsReady plan self.now.config self.now.guest →
+            KeepsReady done self.now.config self.now.guest) }
     {
         match self.write_response(form, &plan, closes, text) {
             Ok(()) => Ok(plan),
@@ -100,7 +101,7 @@ impl LiveMachine {
 
     // Does what was answered, which takes no memory.
     fn perform(&mut self, plan: Plan) -> Outcome
-        requires { IsFittingPlan plan self.old.config }
+        requires { KeepsReady plan self.old.config self.old.guest }
         ensures how { result ≡ plan_outcome plan }
         ensures leaves { PlanLeaves plan self.old self.new }
     {
@@ -151,7 +152,7 @@ impl LiveMachine {
         closes: bool,
         text: &mut ByteList,
     ) -> Result<Outcome, AllocError>
-        requires { IsFittingPlan plan self.old.config }
+        requires { KeepsReady plan self.old.config self.old.guest }
         ensures ok { IfOk result (λ how. Answers form plan closes how self.old self.new text.old text.new) }
         ensures err { OnErr result (self.new ≡ self.old) }
     {

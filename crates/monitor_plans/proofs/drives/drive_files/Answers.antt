@@ -18,7 +18,7 @@ loop-number-preserved g c =
             so_far = subst (λ (files : g.row.F.Denot). Asked files c.match-at_device.found) (sym w.files-is)
                 (subst (λ (found : DriveFiles). Asked w.ask.new.files found) (sym w.found-is)
                 (one_asked drives before (known c.loop-number.files) (known w.ask.new.files) c.loop-number.found w.ask.new.self number w.in-Some.drive.now
-                so_far w.in-Some.ensures e.drives e.there e.more e.same e.cause e.lasts));
+                so_far w.in-Some.ensures e.drives e.there e.more e.fit e.same e.cause e.lasts));
           }
       | in_default w ↦ record {
         so_far = subst (λ (files : g.row.F.Denot). Asked files c.match-at_device.found) (sym w.files-is)
@@ -37,5 +37,10 @@ returns-clause-there g c = λ told.
     (all_asked c.args.drives.now (g.F.Files.known c.args.files.now) (g.F.Files.known c.loop-number.files) c.loop-number.found c.loop-number.number
     c.loop-number.invariant.so_far (omega arith) told).1
 
-pub returns-clause-few : goal.returns-clause-few
-returns-clause-few g c = let few = c.loop-number.invariant.so_far.few in omega (arith, few)
+pub returns-clause-many : goal.returns-clause-many
+returns-clause-many g c =
+    let many = c.loop-number.invariant.so_far.many (omega arith) in
+    omega (arith, many)
+
+pub returns-clause-fit : goal.returns-clause-fit
+returns-clause-fit g c = c.loop-number.invariant.so_far.fit

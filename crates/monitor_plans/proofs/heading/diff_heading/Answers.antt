@@ -1,31 +1,31 @@
-use Rattle.std.proofs.Common.{◌≡◌, List, ℕ, length, ap, ◌∙◌, arith}
+use Rattle.std.proofs.Common.{◌≡◌, List, ℕ, length, ap, sym, ◌∙◌, arith}
 use Rattle.guest_pages.specs.Marks.{marked_from}
 use Rattle.guest_pages.specs.Pages.{PageValue, marks_of}
 use Rattle.snap_diff.specs.Copies.{pages_at}
-use Rattle.monitor_plans.proofs.Headings.{are_pages, diff_head_is, numbers_are, numbers_rise}
+use Rattle.monitor_plans.proofs.Headings.{are_pages, diff_head_is, is_diff, numbers_are, numbers_rise}
 use Rattle.monitor_plans.proofs.heading.diff_heading.Goals as goal
+
+pub encode-requires-clause-header : goal.encode-requires-clause-header
+encode-requires-clause-header c = is_diff c.args.parent c.args.identity c.requires.numbered c.requires.parent
 
 pub encode-requires-clause-rise : goal.encode-requires-clause-rise
 encode-requires-clause-rise c =
-    let long : length c.args.guest.now.pages ≡ c.args.pages =
-    omega (arith, c.if-len-pages.false, c.len.ensures.pages, ap length c.pages.ensures.pages) in
     let marked : c.in-Ok.numbers.items ≡ marked_from 0 (marks_of c.args.guest.now.pages) =
-    c.in-Ok.ensures ∙ ap (λ (ps : List PageValue). marked_from 0 (marks_of ps)) c.pages-2.ensures.pages in
-    numbers_rise c.args.guest.now.pages c.args.pages c.deref.result.now long (c.deref.ensures.value ∙ marked)
+    c.in-Ok.ensures ∙ ap (λ (ps : List PageValue). marked_from 0 (marks_of ps)) c.pages.ensures.pages in
+    numbers_rise c.args.guest.now.pages c.args.pages c.deref.result.now (sym c.requires.pages) (c.deref.ensures.value ∙ marked)
 
 pub returns : goal.returns
 returns c =
-    let long : length c.args.guest.now.pages ≡ c.args.pages =
-    omega (arith, c.if-len-pages.false, c.len.ensures.pages, ap length c.pages.ensures.pages) in
+    let long = sym c.requires.pages in
     let marked : c.in-Ok.numbers.items ≡ marked_from 0 (marks_of c.args.guest.now.pages) =
-    c.in-Ok.ensures ∙ ap (λ (ps : List PageValue). marked_from 0 (marks_of ps)) c.pages-2.ensures.pages in
+    c.in-Ok.ensures ∙ ap (λ (ps : List PageValue). marked_from 0 (marks_of ps)) c.pages.ensures.pages in
     record {
       there = are_pages c.args.guest.now.pages c.in-Ok.numbers.items marked;
       head_is = λ g is.
-          diff_head_is c.args.parent c.args.identity c.args.pages c.in-Ok-try_from.count c.deref.result.now
+          diff_head_is c.args.parent c.args.identity c.args.pages _ c.deref.result.now
           c.in-Ok-encode.file.items c.deref-2.result.now c.in-Ok-behind_gate.head g
           (c.deref.ensures.value ∙ numbers_are c.args.guest.now g c.args.pages c.in-Ok.numbers.items is long marked)
-          (omega (arith, c.in-Ok-try_from.ensures, c.len-2.ensures, ap length c.deref.ensures.value))
+          (omega (arith, c.len.ensures, ap length c.deref.ensures.value))
           c.in-Ok-encode.ensures.bytes c.deref-2.ensures.value c.in-Ok-behind_gate.ensures;
       pages_are = λ g is.
           ap (λ (ns : List ℕ). pages_at ns g.memory.bytes)

@@ -1,14 +1,18 @@
-use Rattle.std.proofs.Common.{ap, arith, length}
-use Rattle.flat_machine.proofs.Taken.{bounded}
+use Rattle.std.proofs.Common.{ap, arith, is_some, length}
 use Rattle.monitor_plans.proofs.Loads.{fits_here, start_gives}
 use Rattle.monitor_plans.proofs.starting.start_by.Goals as goal
 
-pub guest_of-requires-clause-few : goal.guest_of-requires-clause-few
-guest_of-requires-clause-few g c =
-    let few = c.in-Ok-drive_files.ensures.few in
+pub guest_of-requires-clause-source : goal.guest_of-requires-clause-source
+guest_of-requires-clause-source g c = ap is_some c.in-Some.is
+
+pub guest_of-requires-clause-many : goal.guest_of-requires-clause-many
+guest_of-requires-clause-many g c =
+    let many = c.in-Ok-drive_files.ensures.many in
     let lent = ap length c.deref-in-Ok-load_disk.ensures.value in
-    let most = (bounded c.args.config.now c.requires).drives in
-    omega (arith, few, lent, most)
+    omega (arith, many, lent)
+
+pub guest_of-requires-clause-fit : goal.guest_of-requires-clause-fit
+guest_of-requires-clause-fit g c = rw c.deref-in-Ok-load_disk.ensures.value c.in-Ok-drive_files.ensures.fit
 
 pub guest_of-requires-clause-fits : goal.guest_of-requires-clause-fits
 guest_of-requires-clause-fits g c =
@@ -29,4 +33,7 @@ returns-in-Ok-guest_of-clause-gives g c t =
     (c.in-Ok.ensures.same t).saved (c.in-Ok-disk_file.ensures.same t1).saved (c.in-Ok-drive_files.ensures.same t2).saved
     (c.in-Ok-read_front.ensures.same t3).saved (c.in-Ok-disk_file.ensures.file t1) (c.in-Ok-drive_files.ensures.drives t2)
     (c.in-Ok-drive_files.ensures.there t2) c.in_default-boot_refusal.ensures c.in-Ok-read_front.ensures.size (c.in-Ok-read_front.ensures.bytes t3)
-    (c.in-Ok-load_disk.ensures.disk t4) c.deref.ensures.value c.deref-in-Ok-load_disk.ensures.value c.in-Ok-guest_of.ensures
+    (c.in-Ok-load_disk.ensures.disk t4) c.deref.ensures.value c.deref-in-Ok-load_disk.ensures.value c.in-Ok-guest_of.ensures.world
+
+pub returns-in-Ok-guest_of-clause-keeps : goal.returns-in-Ok-guest_of-clause-keeps
+returns-in-Ok-guest_of-clause-keeps g c = λ world. (tt, tt, c.in-Ok-guest_of.ensures.ready)

@@ -5,6 +5,7 @@ use Rattle.monitor_running.proofs.Lifts.{went_on}
 use Rattle.monitor_running.proofs.Lone.{steps_gone}
 use Rattle.monitor_running.proofs.Lent.{by_trace}
 use Rattle.monitor_running.proofs.Told.{went_items_told, went_items_untold}
+use Rattle.monitor_running.proofs.Staying.{stays_drained, stays_run, stays_then}
 use Rattle.monitor_running.proofs.alone.run_alone.Goals as goal
 
 pub returns-in-Err-clause-went : goal.returns-in-Err-clause-went
@@ -28,3 +29,15 @@ returns-clause-went g c =
     (went_items_told _ _ _ _ _ _ _ _ _ _ _
     (steps_gone c.args.turn.hart c.run_hart-made.result _ _ _ c.run_hart-made.ensures.run)
     told.told told.trace_lasts told.trace_stays told.sink_lasts (host_same _)))
+
+pub returns-in-Err-clause-ready : goal.returns-in-Err-clause-ready
+returns-in-Err-clause-ready g c =
+    stays_then _ _ _ c.in_default.ensures.ready
+    (stays_then _ _ _ (stays_run c.args.turn.hart c.run_hart-made.result _ _ c.run_hart-made.ensures.run)
+    (stays_drained _ _ c.in-Err.ensures.world))
+
+pub returns-clause-ready : goal.returns-clause-ready
+returns-clause-ready g c =
+    stays_then _ _ _ c.in_default.ensures.ready
+    (stays_then _ _ _ (stays_run c.args.turn.hart c.run_hart-made.result _ _ c.run_hart-made.ensures.run)
+    (stays_drained _ _ c.in_default-tell_steps.ensures.world))

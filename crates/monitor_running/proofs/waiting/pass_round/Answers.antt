@@ -5,6 +5,7 @@ use Rattle.monitor_running.specs.Ran.{IsRunning}
 use Rattle.monitor_running.proofs.Joins.{host_same}
 use Rattle.monitor_running.proofs.Lent.{by_clock}
 use Rattle.monitor_running.proofs.Told.{round_gone, went_failed, went_told, went_untold}
+use Rattle.monitor_running.proofs.Staying.{stays_drained, stays_gone, stays_same, stays_then}
 use Rattle.monitor_running.proofs.waiting.pass_round.Goals as goal
 
 pub returns-in_default-clause-went : goal.returns-in_default-clause-went
@@ -34,3 +35,15 @@ returns-clause-went g c =
     (went_told _ _ _ _ _ _ _ _ _ _ c.in-Ok.events.items _ c.as_slice.ensures.value
     (round_gone c.args.but _ _ _ _ _ _ c.in-Ok.ensures.gone c.in-Ok.ensures.made) told.told told.trace_lasts told.trace_stays told.sink_lasts
     (host_same _))
+
+pub returns-in_default-clause-ready : goal.returns-in_default-clause-ready
+returns-in_default-clause-ready g c = stays_same _ _ c.in_default.ensures.world
+
+pub returns-in-Err-clause-ready : goal.returns-in-Err-clause-ready
+returns-in-Err-clause-ready g c =
+    stays_then _ _ _ (stays_gone _ _ c.in-Ok.events.items _ _ c.in-Ok.ensures.gone) (stays_drained _ _ c.in-Err.ensures.world)
+
+pub returns-clause-ready : goal.returns-clause-ready
+returns-clause-ready g c =
+    stays_then _ _ _ (stays_gone _ _ c.in-Ok.events.items _ _ c.in-Ok.ensures.gone)
+    (stays_drained _ _ c.in_default-tell_slice.ensures.world)

@@ -1,20 +1,25 @@
 use Rattle.monitor_machine.proofs.Creating.{ended_done, ended_failed, is_unwritten, is_written, same_create, same_part}
+use Rattle.monitor_machine.specs.Seen.{live_of}
 use Rattle.monitor_machine.proofs.machine.LiveMachine.answer_create.Goals as goal
 
 pub returns-in-Ok-written-clause-ok : goal.returns-in-Ok-written-clause-ok
-returns-in-Ok-written-clause-ok g c = λ request kept due.
+returns-in-Ok-written-clause-ok g c =
+    rw (← c.self.view_is)
+    (λ request kept due.
     let known = g.F.Files.known in
-    is_written c.args.form c.args.creation c.args.self.now _ c.in-Some.guest c.args.text.now c.in-Ok.texts.done (known c.args.files.now)
+    is_written c.args.form c.args.creation (live_of c.self.inside) _ c.in-Some.guest c.args.text.now c.in-Ok.texts.done (known c.args.files.now)
     (known c.create-written.new.files) request kept c.in-Some.is due
-    (ended_done c.args.creation c.args.self.now _ _ _ _ c.in-Ok-written.is c.end_create.ensures.done) c.in-Ok.ensures.done c.in-Ok-written.ensures.called.kept
+    (ended_done c.args.creation (live_of c.self.inside) _ _ _ _ c.in-Ok-written.is c.end_create.ensures.done) c.in-Ok.ensures.done c.in-Ok-written.ensures.called.kept
     (λ told. same_create _ _ _ _ _ _ _ _ _ _ _ _ c.as_str-2.ensures c.as_slice.ensures c.in-Some-pages_of.ensures.pages c.as_str.ensures
-    c.as_slice-2.ensures (c.in-Ok-written.ensures.created told))
+    c.as_slice-2.ensures (c.in-Ok-written.ensures.created told)))
 
 pub returns-clause-ok : goal.returns-clause-ok
-returns-clause-ok g c = λ request kept due.
+returns-clause-ok g c =
+    rw (← c.self.view_is)
+    (λ request kept due.
     let known = g.F.Files.known in
-    is_unwritten c.args.form c.args.creation c.args.self.now _ c.in-Some.guest c.args.text.now c.in-Ok.texts.failed (known c.args.files.now)
+    is_unwritten c.args.form c.args.creation (live_of c.self.inside) _ c.in-Some.guest c.args.text.now c.in-Ok.texts.failed (known c.args.files.now)
     (known c.create-written.new.files) request kept c.in-Some.is due
-    (ended_failed c.args.creation c.args.self.now _ _ _ _ c.in-Err.is c.end_create.ensures.failed) c.in-Ok.ensures.failed c.in-Err.ensures.called.failed
+    (ended_failed c.args.creation (live_of c.self.inside) _ _ _ _ c.in-Err.is c.end_create.ensures.failed) c.in-Ok.ensures.failed c.in-Err.ensures.called.failed
     (λ told. same_part _ _ _ _ _ _ _ _ _ _ _ _ c.as_str-2.ensures c.as_slice.ensures c.in-Some-pages_of.ensures.pages c.as_str.ensures
-    c.as_slice-2.ensures (c.in-Err.ensures.begun told))
+    c.as_slice-2.ensures (c.in-Err.ensures.begun told)))

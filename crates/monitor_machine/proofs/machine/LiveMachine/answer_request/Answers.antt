@@ -7,7 +7,7 @@ use Rattle.monitor_machine.proofs.Plans.{replies}
 use Rattle.monitor_machine.proofs.machine.LiveMachine.answer_request.Goals as goal
 
 pub answer-requires : goal.answer-requires
-answer-requires g c = c.in-Plan.ensures.fits
+answer-requires g c = c.in-Plan.ensures.keeps
 
 pub returns-in_ok-how-in-Plan-clause-ok : goal.returns-in_ok-how-in-Plan-clause-ok
 returns-in_ok-how-in-Plan-clause-ok g c =

@@ -14,7 +14,7 @@ loop-device-preserved g c =
     let before = c.loop-device.invariant in
     let after = c.attach_disk.ensures in record {
       attached =
-          files_more c.args.self.now.config c.loop-device.device (D.known c.args.disk.now) (D.known c.loop-device.disk)
+          files_more c.self.inside.config c.loop-device.device (D.known c.args.disk.now) (D.known c.loop-device.disk)
           (D.known c.attach_disk.new.disk) before.uncalled before.attached after.attached after.others;
       uncalled = uncalled_more _ _ _ before.uncalled after.uncalled;
     }

@@ -6,6 +6,6 @@ abbrev pub invariant-loop-device : goal.invariant-loop-device
 invariant-loop-device g l =
     let D = g.D.Disk in
     record {
-      attached : (k : ℕ) → k < l.device → HasFile (D.known l.fn.disk).health l.self.config k (D.known l.disk);
+      attached : (k : ℕ) → k < l.device → HasFile (D.known l.fn.disk).health l.self-inside.config k (D.known l.disk);
       uncalled : DiskUncalled (D.known l.fn.disk) (D.known l.disk);
     }

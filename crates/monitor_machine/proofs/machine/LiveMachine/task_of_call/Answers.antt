@@ -2,7 +2,7 @@ use Rattle.std.proofs.Common.{sym, ◌∙◌, []}
 use Rattle.http_stream.specs.declared.request.Next.TheVariants as next
 use Rattle.monitor_machine.specs.Plans.{phase_of}
 use Rattle.flat_machine.proofs.Taken.{decided_fits}
-use Rattle.monitor_machine.proofs.Deciding.{decided_is, has_guest, no_files, two_files}
+use Rattle.monitor_machine.proofs.Deciding.{comes_early, decided_is, has_guest, has_number, no_files, two_files}
 use Rattle.monitor_machine.proofs.Planning.{refused_plan}
 use Rattle.monitor_machine.proofs.machine.LiveMachine.task_of_call.Goals as goal
 
@@ -13,8 +13,10 @@ task_of_change-requires g c =
       fits =
           decided_fits (phase_of live) live.config live.ids c.decided.ensures.taken c.requires.0 c.args.call c.in-Ok.change c.requires.1
           asks;
+      early = comes_early live.guest live.paused live.config live.ids c.args.call c.in-Ok.change asks;
       guest = has_guest live.guest live.paused live.config live.ids c.args.call c.in-Ok.change asks;
       two = two_files (phase_of live) live.config live.ids c.args.call c.in-Ok.change asks c.requires.0 c.requires.1;
+      number = has_number live.guest live.paused live.config live.ids c.args.call c.in-Ok.change asks;
     }
 
 pub returns-in-Ok-clause-task : goal.returns-in-Ok-clause-task

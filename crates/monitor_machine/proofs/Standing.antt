@@ -1,0 +1,473 @@
+-- A live machine that is ready stays so, whatever becomes of its guest, its configuration and its numbers.
+use Rattle.std.proofs.Common.{◌≡◌, ◌≤◌, ◌<◌, ◌^◌, ◌+◌, ◌==◌, ◌&&◌, nat_lt, ℕ, Bool, true, false, refl, sym, ap, subst, ◌∙◌, List, [], Option, Some, None, arith}
+use Rattle.std.specs.Prelude.{IsTrue}
+use Rattle.std.proofs.lemmas.Bool.{and_from, eqb-true, lt-ltb}
+use Rattle.serde_json.specs.Data.{Data, null}
+use Rattle.file_format.specs.Identities.{is_numbered}
+use Rattle.vm_types.specs.declared.identity.Identity.{Identity}
+use Rattle.vm_types.specs.declared.ids.ActorId.{ActorId}
+use Rattle.vm_types.specs.declared.reply.Reply.{Reply}
+use Rattle.vm_types.specs.Saved.{nothing_saved}
+use Rattle.api_calls.specs.declared.call.Drive.{Drive}
+use Rattle.api_calls.specs.declared.call.SnapshotType.{SnapshotType}
+use Rattle.api_calls.specs.declared.call.SnapshotType.TheVariants as snapshot
+use Rattle.api_calls.specs.declared.call.VmState.TheVariants.{Paused, Resumed}
+use Rattle.vm_config.specs.declared.config.Config.{Config}
+use Rattle.vm_config.specs.declared.change.Change.{Change}
+use Rattle.vm_config.specs.declared.change.Change.TheVariants as change
+use Rattle.vm_config.specs.Changes.{changed, default_config}
+use Rattle.api_rules.specs.declared.ids.Ids.{Ids}
+use Rattle.api_rules.specs.Ids.{based, spent}
+use Rattle.guest_pages.specs.Pages.{cleared}
+use Rattle.guest_pages.proofs.Marking.{flat_cleared, marks_cleared}
+use Rattle.flat_guest.specs.Changes.{resized}
+use Rattle.flat_guest.specs.Guest.{Guest, unwritten}
+use Rattle.flat_machine.specs.Machine.{Machine, drained_guest, first_ids, new_machine}
+use Rattle.flat_machine.specs.Requests.{halted, parent_of}
+use Rattle.flat_machine.specs.Ready.{IsBaseBefore, IsFitting, IsReadyGuest, IsTaken, Ready, ReadyBy}
+use Rattle.flat_machine.proofs.Ready.{base_later, drained_ready, event_ready, guest_ready, halted_ready, makes_ready, new_ready, patched_ready, resized_ready, resumed_ready, unwritten_ready}
+use Rattle.flat_machine.proofs.Taken.{changed_taken, configured_taken}
+use Rattle.snap_state.specs.Valid.{are_drives}
+use Rattle.timer_trace.specs.States.{new_timer}
+use Rattle.vm_world.specs.Worlds.{IsWorld, Runs, WorldValue}
+use Rattle.vm_world.proofs.Events.{restarted, unwritten_is}
+use Rattle.world_copy.specs.Ready.{IsReadyWorld}
+use Rattle.create_end.specs.Marks.{unmarked_world}
+use Rattle.monitor_plans.specs.Headings.{HasParent}
+use Rattle.monitor_plans.specs.Plans.{HasReadyGuest, IsEarly}
+use Rattle.monitor_machine.specs.Answering.{TakesReply}
+use Rattle.monitor_machine.specs.Live.{Live}
+use Rattle.monitor_machine.specs.Plans.{halted_world, paused_by, world_by}
+use Rattle.monitor_machine.specs.Ready.{IsReadyLive}
+use Rattle.monitor_machine.specs.State.{IsGuestBy, IsLive}
+use Rattle.monitor_machine.proofs.Leaving.{left_is}
+use Rattle.monitor_machine.proofs.Lines.{no_guest, some_guest}
+
+-- ---- its guest
+
+-- the guest of the machine that it is
+record Stands (live : Live) (w : WorldValue) : Type 0 where
+  flat : Machine
+  own : IsLive live flat
+  ready : Ready flat
+  guest : Guest
+  there : flat.guest ≡ Some guest
+  world : IsWorld w guest
+  stands : IsReadyGuest flat.config flat.paused guest
+
+standing : (live : Live) (w : WorldValue) → live.guest ≡ Some w → IsReadyLive live → Stands live w
+standing live w there (m, own, ready) =
+    let g = some_guest live.guest w m.guest own.guest_is there in
+    record { flat = m; own = own; ready = ready; guest = g.0; there = g.1; world = g.2; stands = guest_ready m g.0 ready g.1 }
+
+-- it can be copied
+pub ready_world : (live : Live) (w : WorldValue) → live.guest ≡ Some w → IsReadyLive live → IsReadyWorld live.config w
+ready_world live w there it =
+    let on = standing live w there it in
+    subst (λ (c : Config). IsReadyWorld c w) (sym on.own.config_is)
+    (record { guest = on.guest; is = on.world; sound = on.stands.sound; ready = on.stands.ready })
+
+-- another guest of the same machine
+other_guest : (live : Live) (m : Machine) (v : WorldValue) (h : Guest) → IsLive live m → IsWorld v h
+    → IsLive (record live { guest = Some v }) (record m { guest = Some h })
+other_guest live m v h own is = record {
+  id_is = own.id_is;
+  ids_is = own.ids_is;
+  config_is = own.config_is;
+  metadata_is = own.metadata_is;
+  guest_is = is;
+  paused_is = own.paused_is;
+}
+
+changes_to : (live : Live) (w v : WorldValue) (on : Stands live w) (h : Guest) → IsReadyGuest on.flat.config on.flat.paused h → IsWorld v h
+    → IsReadyLive (record live { guest = Some v })
+changes_to live w v on h ready is = (
+  record on.flat { guest = Some h },
+  other_guest live on.flat v h on.own is,
+  record { taken = on.ready.taken; guest = ready; next = on.ready.next; base = on.ready.base },
+)
+
+moves_to : (live : Live) (w v : WorldValue) (on : Stands live w) (h : Guest) → Ready (record on.flat { guest = Some h }) → IsWorld v h
+    → IsReadyLive (record live { guest = Some v })
+moves_to live w v on h ready is = (record on.flat { guest = Some h }, other_guest live on.flat v h on.own is, ready)
+
+-- a machine that runs is one that runs
+runs_so : (live : Live) (w : WorldValue) (on : Stands live w) → live.paused ≡ false
+    → (on.flat.paused ≡ false) × IsReadyGuest on.flat.config false on.guest
+runs_so live w on moving =
+    let is = sym on.own.paused_is ∙ moving in
+    (is, subst (λ (b : Bool). IsReadyGuest on.flat.config b on.guest) is on.stands)
+
+-- events of an actor
+pub run_stays : (live : Live) (w v : WorldValue) (actor : ActorId) (count made : ℕ) → live.paused ≡ false → live.guest ≡ Some w
+    → Runs w actor count made v → IsReadyLive live → IsReadyLive (record live { guest = Some v })
+run_stays live w v actor count made moving there runs it =
+    let on = standing live w there it in
+    let run = runs on.guest on.world in
+    let so = runs_so live w on moving in
+    moves_to live w v on run.1 (makes_ready on.flat on.guest run.1 actor run.0 on.ready so.1 so.0 run.2.made) run.4
+
+-- a reply
+pub reply_stays : (live : Live) (w v : WorldValue) (actor : ActorId) (given : Option Reply) → live.paused ≡ false → live.guest ≡ Some w
+    → TakesReply None w actor given v → IsReadyLive live → IsReadyLive (record live { guest = Some v })
+reply_stays live w v actor given moving there takes it =
+    let on = standing live w there it in
+    let so = runs_so live w on moving in
+    let is = takes on.guest on.world in
+    moves_to live w v on is.end
+    (event_ready on.flat on.guest is.end (record { actor = actor; reply = given }) is.entry on.ready so.1 so.0 is.step) is.world
+
+-- the console is drained
+pub drain_stays : (live : Live) (w : WorldValue) → live.guest ≡ Some w → IsReadyLive live
+    → IsReadyLive (record live { guest = Some (record w { board = record w.board { console = [] } }) })
+drain_stays live w there it =
+    let on = standing live w there it in
+    let g = on.guest in
+    let h : Guest = record g { board = record g.board { console = [] } } in
+    changes_to live w (record w { board = record w.board { console = [] } }) on h
+    (drained_ready on.flat.config on.flat.paused (Some g) on.stands) (drained_is w g on.world)
+  where
+    drained_is : (w : WorldValue) (g : Guest) → IsWorld w g
+        → IsWorld (record w { board = record w.board { console = [] } }) (record g { board = record g.board { console = [] } })
+    drained_is w g is = record {
+      memory_is = is.memory_is;
+      marks_are = is.marks_are;
+      board_is = λ i. record (is.board_is i) { console = [] };
+      ports_are = is.ports_are;
+      timer_is = is.timer_is;
+      harts_are = record { count = is.harts_are.count; each = is.harts_are.each };
+      devices_are = record { count = is.devices_are.count; each = is.devices_are.each; sound = is.devices_are.sound };
+    }
+
+-- another size of a disk
+pub resize_stays : (live : Live) (w v : WorldValue) (k sectors : ℕ) → sectors < 2 ^ 64 → live.guest ≡ Some w
+    → ((g : Guest) → IsWorld w g → IsWorld v (resized k sectors g)) → IsReadyLive live → IsReadyLive (record live { guest = Some v })
+resize_stays live w v k sectors small there told it =
+    let on = standing live w there it in
+    changes_to live w v on (resized k sectors on.guest)
+    (resized_ready on.flat.config on.flat.paused on.guest k sectors small on.stands) (told on.guest on.world)
+
+-- the guest is taken out
+pub taken_out : (live : Live) → IsReadyLive live → IsReadyLive (record live { guest = None })
+taken_out live (m, own, ready) = (
+  record m { guest = None },
+  record {
+    id_is = own.id_is;
+    ids_is = own.ids_is;
+    config_is = own.config_is;
+    metadata_is = own.metadata_is;
+    guest_is = tt;
+    paused_is = own.paused_is;
+  },
+  record { taken = ready.taken; guest = tt; next = ready.next; base = ready.base },
+)
+
+-- ---- it stands still, or goes on
+
+stand_guest : (it : Change) (paused : Bool) (config : Config) (guest : Option Guest) → ReadyBy config paused guest
+    → (after : Option Guest) × ((w : Option WorldValue) → IsGuestBy w guest → IsGuestBy (world_by it paused w) after)
+    × ReadyBy config (paused_by it paused) after
+stand_guest (change.State Paused) paused config guest is =
+    (halted paused guest, λ w here. left_is (change.State Paused) paused w guest here, halted_ready config paused guest is)
+stand_guest (change.State Resumed) paused config guest is = (guest, λ w here. here, resumed_ready config paused guest is)
+stand_guest (change.BootSource source) paused config guest is = (guest, λ w here. here, is)
+stand_guest (change.PutDrive drive) paused config guest is = (guest, λ w here. here, is)
+stand_guest (change.PatchDrive patch) paused config guest is = (guest, λ w here. here, is)
+stand_guest (change.MachineConfig machine) paused config guest is = (guest, λ w here. here, is)
+stand_guest (change.PutMetadata body) paused config guest is = (guest, λ w here. here, is)
+stand_guest (change.PatchMetadata patch) paused config guest is = (guest, λ w here. here, is)
+stand_guest change.Start paused config guest is = (guest, λ w here. here, is)
+stand_guest (change.CreateSnapshot files) paused config guest is = (guest, λ w here. here, is)
+stand_guest (change.LoadSnapshot load) paused config guest is = (guest, λ w here. here, is)
+stand_guest (change.Tell part) paused config guest is = (guest, λ w here. here, is)
+
+pub stand_stays : (live : Live) (it : Change) → IsReadyLive live
+    → IsReadyLive (record live { guest = world_by it live.paused live.guest; paused = paused_by it live.paused })
+stand_stays live it (m, own, ready) =
+    let on = stand_guest it m.paused m.config m.guest ready.guest in
+    let after : Machine = record m { guest = on.0; paused = paused_by it m.paused } in (
+      after,
+      record {
+        id_is = own.id_is;
+        ids_is = own.ids_is;
+        config_is = own.config_is;
+        metadata_is = own.metadata_is;
+        guest_is = subst (λ (b : Bool). IsGuestBy (world_by it b live.guest) on.0) (sym own.paused_is) (on.1 live.guest own.guest_is);
+        paused_is = ap (λ (b : Bool). paused_by it b) own.paused_is;
+      },
+      record { taken = ready.taken; guest = on.2; next = ready.next; base = ready.base },
+    )
+
+-- its timer begins anew
+pub restart_stays : (live : Live) → IsReadyLive live → IsReadyLive (record live { guest = halted_world false live.guest })
+restart_stays live it = by_guest live.guest refl
+  where
+    by_guest : (w : Option WorldValue) → live.guest ≡ w → IsReadyLive (record live { guest = halted_world false w })
+    by_guest None there = subst (λ (o : Option WorldValue). IsReadyLive (record live { guest = o })) there it
+    by_guest (Some w) there =
+        let on = standing live w there it in
+        let ready = halted_ready on.flat.config false (Some on.guest) (resumed_ready on.flat.config on.flat.paused (Some on.guest) on.stands) in
+        changes_to live w (record w { timer = new_timer }) on _
+        (for_any on.flat.config on.flat.paused _ ready) (restarted w on.guest on.world)
+
+    for_any : (config : Config) (paused : Bool) (g : Guest) → IsReadyGuest config true g → IsReadyGuest config paused g
+    for_any config paused g is = record { sound = is.sound; ready = is.ready; rests = λ stands. is.rests refl }
+
+-- ---- what is configured
+
+-- the same but for a mark of the configuration
+mark_configured : (config : Config) (paused : Bool) (guest : Option Guest) → ReadyBy config paused guest
+    → ReadyBy (record config { configured = true }) paused guest
+mark_configured config paused None is = tt
+mark_configured config paused (Some g) is = record {
+  sound = is.sound;
+  ready = record {
+    configured = record {
+      source = is.ready.configured.source;
+      drives = is.ready.configured.drives;
+      machine = is.ready.configured.machine;
+    };
+    shaped = is.ready.shaped;
+    devices = is.ready.devices;
+  };
+  rests = is.rests;
+}
+
+not_yet : (config : Config) (paused : Bool) (guest : Option Guest) → guest ≡ None → ReadyBy config paused guest
+not_yet config paused guest none = subst (λ (o : Option Guest). ReadyBy config paused o) (sym none) tt
+
+config_guest : (it : Change) (config : Config) (paused : Bool) (w : Option WorldValue) (guest : Option Guest) → IsTaken (changed config it)
+    → IsGuestBy w guest → IsEarly it w → ReadyBy config paused guest → ReadyBy (changed config it) paused guest
+config_guest (change.BootSource source) config paused w guest taken here early is = not_yet _ paused guest (no_guest w guest here early)
+config_guest (change.PutDrive drive) config paused w guest taken here early is = not_yet _ paused guest (no_guest w guest here early)
+config_guest (change.MachineConfig machine) config paused w guest taken here early is = not_yet _ paused guest (no_guest w guest here early)
+config_guest (change.PatchDrive patch) config paused w guest taken here early is = patched_ready config patch paused taken guest is
+config_guest (change.PutMetadata body) config paused w guest taken here early is = is
+config_guest (change.PatchMetadata patch) config paused w guest taken here early is = is
+config_guest change.Start config paused w guest taken here early is = mark_configured config paused guest is
+config_guest (change.State state) config paused w guest taken here early is = is
+config_guest (change.CreateSnapshot files) config paused w guest taken here early is = is
+config_guest (change.LoadSnapshot load) config paused w guest taken here early is = mark_configured config paused guest is
+config_guest (change.Tell part) config paused w guest taken here early is = is
+
+pub change_stays : (live : Live) (it : Change) → IsFitting live.config it → IsEarly it live.guest → IsReadyLive live
+    → IsReadyLive (record live { config = changed live.config it })
+change_stays live it fits early (m, own, ready) =
+    let taken = changed_taken m.config it ready.taken (subst (λ (c : Config). IsFitting c it) own.config_is fits) in (
+      record m { config = changed m.config it },
+      record {
+        id_is = own.id_is;
+        ids_is = own.ids_is;
+        config_is = ap (λ (c : Config). changed c it) own.config_is;
+        metadata_is = own.metadata_is;
+        guest_is = own.guest_is;
+        paused_is = own.paused_is;
+      },
+      record {
+        taken = taken;
+        guest = config_guest it m.config m.paused live.guest m.guest taken own.guest_is early ready.guest;
+        next = ready.next;
+        base = ready.base;
+      },
+    )
+
+-- other drives, before a start
+pub drives_stay : (live : Live) (drives : List Drive) → are_drives drives ≡ true → live.guest ≡ None → IsReadyLive live
+    → IsReadyLive (record live { config = record live.config { drives = drives; configured = true } })
+drives_stay live drives fit none (m, own, ready) =
+    let taken = subst (λ (c : Config). IsTaken c) (sym own.config_is) ready.taken in
+    let config : Config = record live.config { drives = drives; configured = true } in (
+      record m { config = config },
+      record {
+        id_is = own.id_is;
+        ids_is = own.ids_is;
+        config_is = refl;
+        metadata_is = own.metadata_is;
+        guest_is = own.guest_is;
+        paused_is = own.paused_is;
+      },
+      record {
+        taken = record { source = taken.source; drives = fit; machine = taken.machine };
+        guest = not_yet config m.paused m.guest (no_guest live.guest m.guest own.guest_is none);
+        next = ready.next;
+        base = ready.base;
+      },
+    )
+
+pub metadata_stay : (live : Live) (stored : Data) → IsReadyLive live → IsReadyLive (record live { metadata = stored })
+metadata_stay live stored (m, own, ready) = (
+  record m { metadata = stored },
+  record {
+    id_is = own.id_is;
+    ids_is = own.ids_is;
+    config_is = own.config_is;
+    metadata_is = refl;
+    guest_is = own.guest_is;
+    paused_is = own.paused_is;
+  },
+  record { taken = ready.taken; guest = ready.guest; next = ready.next; base = ready.base },
+)
+
+-- ---- a start, and a load
+
+pub start_stays : (live : Live) (w : WorldValue) → HasReadyGuest (changed live.config change.Start) false w → IsReadyLive live
+    → IsReadyLive (record live { config = changed live.config change.Start; guest = Some w; paused = false })
+start_stays live w (g, is, stands) (m, own, ready) = (
+  record m { config = changed live.config change.Start; guest = Some g; paused = false },
+  record {
+    id_is = own.id_is;
+    ids_is = own.ids_is;
+    config_is = refl;
+    metadata_is = own.metadata_is;
+    guest_is = is;
+    paused_is = refl;
+  },
+  record {
+    taken = configured_taken (changed live.config change.Start) stands.ready.configured;
+    guest = stands;
+    next = ready.next;
+    base = ready.base;
+  },
+)
+
+pub load_stays : (live : Live) (config : Config) (w : WorldValue) (identity : Identity) (next : ℕ) (paused : Bool)
+    → HasReadyGuest config true w → 1 ≤ identity.number → next ≡ identity.number + 1 → IsReadyLive live
+    → IsReadyLive (record live { ids = based identity next live.ids; config = config; metadata = null; guest = Some w; paused = paused })
+load_stays live config w identity next paused (g, is, stands) first behind (m, own, ready) = (
+  record m { ids = based identity next m.ids; config = config; metadata = null; guest = Some g; paused = paused },
+  record {
+    id_is = own.id_is;
+    ids_is = ap (based identity next) own.ids_is;
+    config_is = refl;
+    metadata_is = refl;
+    guest_is = is;
+    paused_is = refl;
+  },
+  record {
+    taken = configured_taken config stands.ready.configured;
+    guest = record { sound = stands.sound; ready = stands.ready; rests = λ still. stands.rests refl };
+    next = omega (arith, behind);
+    base = (first, omega (arith, behind));
+  },
+)
+
+-- ---- a create
+
+unmarked : (config : Config) (paused : Bool) (w : Option WorldValue) (guest : Option Guest) → IsGuestBy w guest → ReadyBy config paused guest
+    → (after : Option Guest) × IsGuestBy (unmarked_world w) after × ReadyBy config paused after
+unmarked config paused None None is ready = (None, tt, tt)
+unmarked config paused None (Some g) is ready = absurd is
+unmarked config paused (Some w) None is ready = absurd is
+unmarked config paused (Some w) (Some g) is ready = (
+  Some (unwritten g),
+  unwritten_is w (cleared w.pages) g is (flat_cleared w.pages) (marks_cleared w.pages),
+  unwritten_ready config paused g ready,
+)
+
+pub create_stays : (live : Live) (identity : Identity) (next : ℕ) → identity.number ≡ live.ids.next → next ≡ identity.number + 1
+    → IsReadyLive live → IsReadyLive (record live { ids = based identity next live.ids; guest = unmarked_world live.guest })
+create_stays live identity next own_is behind (m, own, ready) =
+    let after = unmarked m.config m.paused live.guest m.guest own.guest_is ready.guest in
+    let first : live.ids.next ≡ m.ids.next = ap (λ (i : Ids). i.next) own.ids_is in
+    let some = ready.next in (
+      record m { ids = based identity next m.ids; guest = after.0 },
+      record {
+        id_is = own.id_is;
+        ids_is = ap (based identity next) own.ids_is;
+        config_is = own.config_is;
+        metadata_is = own.metadata_is;
+        guest_is = after.1;
+        paused_is = own.paused_is;
+      },
+      record {
+        taken = ready.taken;
+        guest = after.2;
+        next = omega (arith, behind);
+        base = (omega (arith, own_is, first, some), omega (arith, behind));
+      },
+    )
+
+pub failure_stays : (live : Live) (identity : Identity) (next : ℕ) → identity.number ≡ live.ids.next → next ≡ identity.number + 1
+    → IsReadyLive live → IsReadyLive (record live { ids = spent next live.ids })
+failure_stays live identity next own_is behind (m, own, ready) =
+    let first : live.ids.next ≡ m.ids.next = ap (λ (i : Ids). i.next) own.ids_is in (
+      record m { ids = spent next m.ids },
+      record {
+        id_is = own.id_is;
+        ids_is = ap (spent next) own.ids_is;
+        config_is = own.config_is;
+        metadata_is = own.metadata_is;
+        guest_is = own.guest_is;
+        paused_is = own.paused_is;
+      },
+      record {
+        taken = ready.taken;
+        guest = ready.guest;
+        next = omega (arith, behind);
+        base = base_later m.ids.next next m.ids.base (omega (arith, behind, own_is, first)) ready.base;
+      },
+    )
+
+-- ---- the first one, and another lineage
+
+pub new_stands : (id : List ℕ) (ids : Ids) (config : Config) (stored : Data) → ids ≡ first_ids → config ≡ default_config → stored ≡ null
+    → IsReadyLive (record { id = id; ids = ids; config = config; metadata = stored; guest = None; paused = false })
+new_stands id ids config stored ids_is config_is stored_is = (
+  new_machine id nothing_saved [],
+  record { id_is = refl; ids_is = ids_is; config_is = config_is; metadata_is = stored_is; guest_is = tt; paused_is = refl },
+  new_ready id nothing_saved [],
+)
+
+pub lineage_stays : (live : Live) (lineage : ℕ) → IsReadyLive live
+    → IsReadyLive (record live { ids = record live.ids { lineage = lineage } })
+lineage_stays live lineage (m, own, ready) = (
+  record m { ids = record m.ids { lineage = lineage } },
+  record {
+    id_is = own.id_is;
+    ids_is = λ i. record (own.ids_is i) { lineage = lineage };
+    config_is = own.config_is;
+    metadata_is = own.metadata_is;
+    guest_is = own.guest_is;
+    paused_is = own.paused_is;
+  },
+  record { taken = ready.taken; guest = ready.guest; next = ready.next; base = ready.base },
+)
+
+-- ---- what a create may ask of it
+
+no_right : (b : Bool) → (b && false) ≡ false
+no_right true = refl
+no_right false = refl
+
+below : (b : Bool) (a n : ℕ) → a < n → (b && (a == n)) ≡ false
+below b a n less = by_test (a == n) refl
+  where
+    by_test : (t : Bool) → (a == n) ≡ t → (b && (a == n)) ≡ false
+    by_test true is = let same = eqb-true a n is in absurd (omega (arith, same, less))
+    by_test false is = ap (λ (t : Bool). b && t) is ∙ no_right b
+
+is_number : (i : Identity) → 1 ≤ i.number → i.number < 2 ^ 63 → IsTrue (is_numbered i)
+is_number i first small =
+    and_from (nat_lt 0 i.number) (nat_lt i.number 0x8000_0000_0000_0000) (lt-ltb 0 i.number (omega (arith, first)))
+    (lt-ltb i.number 0x8000_0000_0000_0000 (omega (arith, small)))
+
+-- the next snapshot has a number
+pub next_numbered : (live : Live) → live.ids.next < 2 ^ 63 → IsReadyLive live
+    → IsTrue (is_numbered (record { lineage = live.ids.lineage; number = live.ids.next }))
+next_numbered live small (m, own, ready) =
+    let same : live.ids.next ≡ m.ids.next = ap (λ (i : Ids). i.next) own.ids_is in
+    let first = ready.next in
+    is_number (record { lineage = live.ids.lineage; number = live.ids.next }) (omega (arith, same, first)) small
+
+-- and so has its base, which is another one
+based_on : (base : Option Identity) (own : Identity) → own.number < 2 ^ 63 → IsBaseBefore own.number base → HasParent base own
+based_on None own small is = tt
+based_on (Some parent) own small (first, less) =
+    (is_number parent first (omega (arith, less, small)), below (parent.lineage == own.lineage) parent.number own.number less)
+
+pub has_parent : (live : Live) (type : SnapshotType) → live.ids.next < 2 ^ 63 → IsReadyLive live
+    → HasParent (parent_of type live.ids.base) (record { lineage = live.ids.lineage; number = live.ids.next })
+has_parent live snapshot.Full small it = tt
+has_parent live snapshot.Diff small (m, own, ready) =
+    let base = subst (λ (i : Ids). IsBaseBefore i.next i.base) (sym own.ids_is) ready.base in
+    based_on live.ids.base (record { lineage = live.ids.lineage; number = live.ids.next }) small base
