@@ -6,7 +6,6 @@ use Rattle.serde_json.specs.Data.{Data, null}
 use Rattle.file_format.specs.Identities.{is_numbered}
 use Rattle.vm_types.specs.declared.identity.Identity.{Identity}
 use Rattle.vm_types.specs.declared.ids.ActorId.{ActorId}
-use Rattle.vm_types.specs.declared.reply.Reply.{Reply}
 use Rattle.vm_types.specs.Saved.{nothing_saved}
 use Rattle.api_calls.specs.declared.call.Drive.{Drive}
 use Rattle.api_calls.specs.declared.call.SnapshotType.{SnapshotType}
@@ -21,6 +20,7 @@ use Rattle.api_rules.specs.Ids.{based, spent}
 use Rattle.guest_pages.specs.Pages.{cleared}
 use Rattle.guest_pages.proofs.Marking.{flat_cleared, marks_cleared}
 use Rattle.flat_guest.specs.Changes.{resized}
+use Rattle.flat_guest.specs.Given.{Given}
 use Rattle.flat_guest.specs.Guest.{Guest, unwritten}
 use Rattle.flat_machine.specs.Machine.{Machine, drained_guest, first_ids, new_machine}
 use Rattle.flat_machine.specs.Requests.{halted, parent_of}
@@ -108,14 +108,14 @@ run_stays live w v actor count made moving there runs it =
     moves_to live w v on run.1 (makes_ready on.flat on.guest run.1 actor run.0 on.ready so.1 so.0 run.2.made) run.4
 
 -- a reply
-pub reply_stays : (live : Live) (w v : WorldValue) (actor : ActorId) (given : Option Reply) → live.paused ≡ false → live.guest ≡ Some w
+pub reply_stays : (live : Live) (w v : WorldValue) (actor : ActorId) (given : Given) → live.paused ≡ false → live.guest ≡ Some w
     → TakesReply None w actor given v → IsReadyLive live → IsReadyLive (record live { guest = Some v })
 reply_stays live w v actor given moving there takes it =
     let on = standing live w there it in
     let so = runs_so live w on moving in
     let is = takes on.guest on.world in
     moves_to live w v on is.end
-    (event_ready on.flat on.guest is.end (record { actor = actor; reply = given }) is.entry on.ready so.1 so.0 is.step) is.world
+    (event_ready on.flat on.guest is.end (record { actor = actor; given = given }) is.entry on.ready so.1 so.0 is.step) is.world
 
 -- the console is drained
 pub drain_stays : (live : Live) (w : WorldValue) → live.guest ≡ Some w → IsReadyLive live
