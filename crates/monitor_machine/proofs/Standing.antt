@@ -1,12 +1,13 @@
 -- A live machine that is ready stays so, whatever becomes of its guest, its configuration and its numbers.
-use Rattle.std.proofs.Common.{◌≡◌, ◌≤◌, ◌<◌, ◌^◌, ◌+◌, ◌==◌, ◌&&◌, nat_lt, ℕ, Bool, true, false, refl, sym, ap, subst, ◌∙◌, List, [], Option, Some, None, arith}
-use Rattle.std.specs.Prelude.{IsTrue}
+use Rattle.std.proofs.Common.{◌≡◌, ◌≤◌, ◌<◌, ◌^◌, ◌+◌, ◌==◌, ◌&&◌, nat_lt, ℕ, Bool, true, false, refl, sym, ap, subst, ◌∙◌, List, [], Option, Some, None, Result, Ok, Err, arith}
+use Rattle.std.specs.Prelude.{IfErr, IfOk, IsTrue}
 use Rattle.std.proofs.lemmas.Bool.{and_from, eqb-true, lt-ltb}
 use Rattle.serde_json.specs.Data.{Data, null}
 use Rattle.file_format.specs.Identities.{is_numbered}
 use Rattle.vm_types.specs.declared.identity.Identity.{Identity}
 use Rattle.vm_types.specs.declared.ids.ActorId.{ActorId}
 use Rattle.vm_types.specs.Saved.{nothing_saved}
+use Rattle.vm_outside.specs.declared.failed.Failed.{Failed}
 use Rattle.api_calls.specs.declared.call.Drive.{Drive}
 use Rattle.api_calls.specs.declared.call.SnapshotType.{SnapshotType}
 use Rattle.api_calls.specs.declared.call.SnapshotType.TheVariants as snapshot
@@ -37,7 +38,7 @@ use Rattle.monitor_plans.specs.Headings.{HasParent}
 use Rattle.monitor_plans.specs.Plans.{HasReadyGuest, IsEarly}
 use Rattle.monitor_machine.specs.Answering.{TakesReply}
 use Rattle.monitor_machine.specs.Live.{Live}
-use Rattle.monitor_machine.specs.Plans.{halted_world, paused_by, world_by}
+use Rattle.monitor_machine.specs.Plans.{Resizes, halted_world, paused_by, world_by}
 use Rattle.monitor_machine.specs.Ready.{IsReadyLive}
 use Rattle.monitor_machine.specs.State.{IsGuestBy, IsLive}
 use Rattle.monitor_machine.proofs.Leaving.{left_is}
@@ -147,6 +148,17 @@ resize_stays live w v k sectors small there told it =
     changes_to live w v on (resized k sectors on.guest)
     (resized_ready on.flat.config on.flat.paused on.guest k sectors small on.stands) (told on.guest on.world)
 
+-- a device is told of it, if both are there
+pub resizes_stay : (live : Live) (device : Option ℕ) (sectors : ℕ) (after : Option WorldValue) → sectors < 2 ^ 64
+    → Resizes device sectors live.guest after → IsReadyLive live → IsReadyLive (record live { guest = after })
+resizes_stay live device sectors after small told it = by_guest device live.guest after refl told
+  where
+    by_guest : (k : Option ℕ) (w v : Option WorldValue) → live.guest ≡ w → Resizes k sectors w v → IsReadyLive (record live { guest = v })
+    by_guest None w v there is = subst (λ (o : Option WorldValue). IsReadyLive (record live { guest = o })) (there ∙ sym is) it
+    by_guest (Some k) None v there is = subst (λ (o : Option WorldValue). IsReadyLive (record live { guest = o })) (there ∙ sym is) it
+    by_guest (Some k) (Some w) None there is = absurd is
+    by_guest (Some k) (Some w) (Some v) there is = resize_stays live w v k sectors small there is it
+
 -- the guest is taken out
 pub taken_out : (live : Live) → IsReadyLive live → IsReadyLive (record live { guest = None })
 taken_out live (m, own, ready) = (
@@ -212,6 +224,20 @@ restart_stays live it = by_guest live.guest refl
 
     for_any : (config : Config) (paused : Bool) (g : Guest) → IsReadyGuest config true g → IsReadyGuest config paused g
     for_any config paused g is = record { sound = is.sound; ready = is.ready; rests = λ stands. is.rests refl }
+
+-- one that ran stands still from now on
+pub pause_stays : (live : Live) → live.paused ≡ false → IsReadyLive live
+    → IsReadyLive (record live { guest = halted_world false live.guest; paused = true })
+pause_stays live runs it =
+    subst (λ (b : Bool). IsReadyLive (record live { guest = halted_world b live.guest; paused = true })) runs (stand_stays live (change.State Paused) it)
+
+-- and one that stood still goes on
+pub resume_stays : (live : Live) → IsReadyLive live → IsReadyLive (record live { paused = false })
+resume_stays live it = stand_stays live (change.State Resumed) it
+
+-- the same with a guest that is its own
+pub same_stays : (live : Live) (guest : Option WorldValue) → live.guest ≡ guest → IsReadyLive live → IsReadyLive (record live { guest = guest })
+same_stays live guest same it = subst (λ (o : Option WorldValue). IsReadyLive (record live { guest = o })) same it
 
 -- ---- what is configured
 
@@ -407,6 +433,19 @@ failure_stays live identity next own_is behind (m, own, ready) =
         base = base_later m.ids.next next m.ids.base (omega (arith, behind, own_is, first)) ready.base;
       },
     )
+
+-- by how it ended
+pub ended_stays : (live : Live) (written : Result (Unit {0}) Failed) (identity : Identity) (next : ℕ) (ids : Ids) (guest : Option WorldValue)
+    → identity.number ≡ live.ids.next → next ≡ identity.number + 1
+    → IfOk written (λ _. (ids ≡ based identity next live.ids) × (guest ≡ unmarked_world live.guest))
+    → IfErr written (λ _. (ids ≡ spent next live.ids) × (guest ≡ live.guest)) → IsReadyLive live
+    → IsReadyLive (record live { ids = ids; guest = guest })
+ended_stays live (Ok v) identity next ids guest own behind done failed it =
+    subst (λ (l : Live). IsReadyLive l) (λ i. record live { ids = sym done.0 i; guest = sym done.1 i })
+    (create_stays live identity next own behind it)
+ended_stays live (Err why) identity next ids guest own behind done failed it =
+    subst (λ (l : Live). IsReadyLive l) (λ i. record live { ids = sym failed.0 i; guest = sym failed.1 i })
+    (failure_stays live identity next own behind it)
 
 -- ---- the first one, and another lineage
 

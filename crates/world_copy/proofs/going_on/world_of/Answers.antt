@@ -43,8 +43,12 @@ from_parts-requires-clause-few_ports c =
     let on = attached c.args.copy.now (rules_of c.args.copy.now c.requires.valid) in
     omega (arith, ap length c.in_ok-ports.ensures, ap length c.as_slice-2.ensures, on.ports, on.few)
 
-pub returns : goal.returns
-returns c =
+pub returns-clause-whole : goal.returns-clause-whole
+returns-clause-whole c =
+    c.len-size.ensures.bytes ∙ ap (λ (n : ℕ). page_size * n) (c.len-size.ensures.pages ∙ c.requires.count)
+
+pub returns-clause-world : goal.returns-clause-world
+returns-clause-world c =
     let copy = c.args.copy.now in
     let whole : length (flat_of c.args.pages).bytes ≡ page_size * copy.pages =
     c.len-size.ensures.bytes ∙ ap (λ (n : ℕ). page_size * n) (c.len-size.ensures.pages ∙ c.requires.count) in
