@@ -1,5 +1,5 @@
 -- A ready world has counted harts, and each copy of it passes the tests of a state file.
-use Rattle.std.proofs.Common.{◌≡◌, ◌≤◌, ◌<◌, ℕ, zero, suc, true, nat_le, List, [], ◌∷◌, Some, length, get_or, slice_get, refl, sym, ap, ◌∙◌, arith}
+use Rattle.std.proofs.Common.{◌≡◌, ◌≤◌, ◌<◌, ℕ, zero, suc, true, nat_le, List, [], ◌∷◌, Some, length, get_or, slice_get, refl, sym, ap, arith}
 use Rattle.std.specs.Prelude.{IsTrue}
 use Rattle.std.proofs.lemmas.Bool.{and_parts, leb-true}
 use Rattle.api_calls.specs.declared.call.MachineConfig.{MachineConfig}
