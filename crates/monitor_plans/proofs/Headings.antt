@@ -84,13 +84,12 @@ are_pages pages numbers marked =
     let below = marked_below marks 0 (length pages) (omega (arith, long)) in
     ap (λ (ns : List ℕ). are_there ns (length pages)) marked ∙ rw (few, below) refl
 
--- as many as a number of 32 bits says
-pub few_marked : (pages : List PageValue) (numbers : List ℕ) → numbers ≡ marked_from 0 (marks_of pages) → length pages ≤ 2 ^ 28
-    → length numbers < 2 ^ 32
-few_marked pages numbers marked few =
+-- no more than there are pages
+pub few_numbers : (pages : List PageValue) (numbers : List ℕ) → numbers ≡ marked_from 0 (marks_of pages) → length numbers ≤ length pages
+few_numbers pages numbers marked =
     let many = ap length marked in
     let marks = marked_few (marks_of pages) 0 in
-    omega (arith, many, marks, length-map pages (λ (p : PageValue). p.marked), few)
+    omega (arith, many, marks, length-map pages (λ (p : PageValue). p.marked))
 
 -- a header of a diff since another snapshot
 pub is_diff : (parent identity : Identity) → IsTrue (is_numbered identity) → HasParent (Some parent) identity

@@ -8,7 +8,10 @@ use Rattle.monitor_plans.proofs.drive_changes.put_drive.Goals as goal
 pub returns-in-Ok-clause-gives : goal.returns-in-Ok-clause-gives
 returns-in-Ok-clause-gives c = c.in-Ok.ensures ∙ ap (λ (k : Config). put_drive k.drives c.args.drive) c.get.ensures.same
 
-pub returns-in-Ok-clause-fits : goal.returns-in-Ok-clause-fits
-returns-in-Ok-clause-fits c =
-    subst (λ (drives : List Drive). are_drives drives ≡ true)
-    (sym (c.in-Ok.ensures ∙ ap (λ (k : Config). put_drive k.drives c.args.drive) c.get.ensures.same)) c.requires
+pub returns-in-Ok-clause-keeps : goal.returns-in-Ok-clause-keeps
+returns-in-Ok-clause-keeps c = λ world early. (
+  subst (λ (drives : List Drive). are_drives drives ≡ true)
+      (sym (c.in-Ok.ensures ∙ ap (λ (k : Config). put_drive k.drives c.args.drive) c.get.ensures.same)) c.requires,
+  early,
+  tt,
+)

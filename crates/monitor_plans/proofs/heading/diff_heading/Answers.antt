@@ -2,7 +2,7 @@ use Rattle.std.proofs.Common.{◌≡◌, List, ℕ, length, ap, sym, ◌∙◌, 
 use Rattle.guest_pages.specs.Marks.{marked_from}
 use Rattle.guest_pages.specs.Pages.{PageValue, marks_of}
 use Rattle.snap_diff.specs.Copies.{pages_at}
-use Rattle.monitor_plans.proofs.Headings.{are_pages, diff_head_is, is_diff, numbers_are, numbers_rise}
+use Rattle.monitor_plans.proofs.Headings.{are_pages, diff_head_is, few_numbers, is_diff, numbers_are, numbers_rise}
 use Rattle.monitor_plans.proofs.heading.diff_heading.Goals as goal
 
 pub encode-requires-clause-header : goal.encode-requires-clause-header
@@ -31,3 +31,10 @@ returns c =
           ap (λ (ns : List ℕ). pages_at ns g.memory.bytes)
           (numbers_are c.args.guest.now g c.args.pages c.in-Ok.numbers.items is long marked);
     }
+
+pub overflow_cast-header : goal.overflow_cast-header
+overflow_cast-header c =
+    let many = few_numbers c.args.guest.now.pages c.in-Ok.numbers.items
+    (c.in-Ok.ensures ∙ ap (λ (ps : List PageValue). marked_from 0 (marks_of ps)) c.pages.ensures.pages) in
+    let small = c.ranges.pages.fits in
+    omega (arith, many, small, c.requires.pages, c.len.ensures)

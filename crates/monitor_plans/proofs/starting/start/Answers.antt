@@ -1,6 +1,6 @@
 use Rattle.std.proofs.Common.{subst}
 use Rattle.vm_config.specs.declared.config.Config.{Config}
-use Rattle.monitor_plans.specs.Plans.{IsFittingPlan}
+use Rattle.monitor_plans.specs.Plans.{KeepsReady}
 use Rattle.monitor_plans.specs.Starting.{StartGives}
 use Rattle.monitor_plans.proofs.starting.start.Goals as goal
 
@@ -9,5 +9,6 @@ returns-clause-gives g c = λ told.
     subst (λ (k : Config). StartGives c.start_by.result k (g.F.Files.known c.args.files.now).saved) c.get.ensures.same
     (c.start_by.ensures.gives told)
 
-pub returns-clause-fits : goal.returns-clause-fits
-returns-clause-fits g c = subst (λ (k : Config). IsFittingPlan c.start_by.result k) c.get.ensures.same c.start_by.ensures.fits
+pub returns-clause-keeps : goal.returns-clause-keeps
+returns-clause-keeps g c = λ world.
+    subst (λ (k : Config). KeepsReady c.start_by.result k world) c.get.ensures.same (c.start_by.ensures.keeps world)
