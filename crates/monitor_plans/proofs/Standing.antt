@@ -1,5 +1,5 @@
 -- The guest of a start and of a load is ready.
-use Rattle.std.proofs.Common.{◌≡◌, ◌≤◌, ◌<◌, ◌+◌, ◌*◌, ◌^◌, nat_lt, ℕ, Bool, true, false, refl, sym, subst, ◌∙◌, List, length, option_map, Option, Some, None, arith}
+use Rattle.std.proofs.Common.{◌≡◌, ◌≤◌, ◌*◌, nat_lt, ℕ, Bool, true, false, refl, sym, subst, ◌∙◌, List, length, option_map, Option, Some, None, arith}
 use Rattle.std.specs.Prelude.{All, IsTrue, is_some}
 use Rattle.std.proofs.lemmas.Bool.{and_parts, ltb-true}
 use Rattle.std.proofs.lemmas.List.{length-map}
