@@ -214,6 +214,9 @@ stand_stays live it (m, own, ready) =
 pub restart_stays : (live : Live) → IsReadyLive live → IsReadyLive (record live { guest = halted_world false live.guest })
 restart_stays live it = by_guest live.guest refl
   where
+    for_any : (config : Config) (paused : Bool) (g : Guest) → IsReadyGuest config true g → IsReadyGuest config paused g
+    for_any config paused g is = record { sound = is.sound; ready = is.ready; rests = λ stands. is.rests refl }
+
     by_guest : (w : Option WorldValue) → live.guest ≡ w → IsReadyLive (record live { guest = halted_world false w })
     by_guest None there = subst (λ (o : Option WorldValue). IsReadyLive (record live { guest = o })) there it
     by_guest (Some w) there =
@@ -221,9 +224,6 @@ restart_stays live it = by_guest live.guest refl
         let ready = halted_ready on.flat.config false (Some on.guest) (resumed_ready on.flat.config on.flat.paused (Some on.guest) on.stands) in
         changes_to live w (record w { timer = new_timer }) on _
         (for_any on.flat.config on.flat.paused _ ready) (restarted w on.guest on.world)
-
-    for_any : (config : Config) (paused : Bool) (g : Guest) → IsReadyGuest config true g → IsReadyGuest config paused g
-    for_any config paused g is = record { sound = is.sound; ready = is.ready; rests = λ stands. is.rests refl }
 
 -- one that ran stands still from now on
 pub pause_stays : (live : Live) → live.paused ≡ false → IsReadyLive live

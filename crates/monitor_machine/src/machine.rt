@@ -34,9 +34,13 @@ pub struct LiveMachine {
 }
 
 impl Model for LiveMachine {
+    ghost use Rattle.std.specs.Coded.{codes};
+    ghost use Rattle.metadata_store.specs.Code.{data_code};
     ghost use Rattle.monitor_machine.specs.Live.{Live};
 
     ghost Value = { Live };
+
+    ghost coded = { Prim.hlevel (codes, data_code) };
 
     ghost use Rattle.monitor_machine.specs.Seen.{live_of};
     ghost use Rattle.monitor_machine.specs.Ready.{IsReadyLive};

@@ -12,6 +12,7 @@ use crate::machine::LiveMachine;
 use api_rules::Change;
 use monitor_plans::{Resize, TakenConfig};
 use vm_host::Disk;
+use vm_world::World;
 
 /// A guest has at most so many devices, one at each port.
 const MOST_DEVICES: u8 = 16;
@@ -28,6 +29,19 @@ fn attach_disk<D: Disk>(config: &TakenConfig, device: u8, disk: &mut D)
     }
 }
 
+// The device, if it is one, is told how many sectors its disk has.
+fn tell_sectors(guest: &mut Option<World>, device: Option<u8>, sectors: u64)
+    ensures { Resizes device sectors guest.old guest.new }
+{
+    let Some(device) = device else {
+        return;
+    };
+    match guest {
+        None => {}
+        Some(guest) => guest.set_sectors(device, sectors),
+    }
+}
+
 impl LiveMachine {
     ghost use Rattle.monitor_machine.specs.Plans.{TakesFile};
 
@@ -36,22 +50,8 @@ impl LiveMachine {
         requires { IsFitting self.old.config (change.PatchDrive resize.patch) }
         ensures { TakesFile resize self.old self.new }
     {
-        self.tell_sectors(resize.device, resize.sectors);
+        tell_sectors(&mut self.guest, resize.device, resize.sectors);
         let _applied = self.config.apply(Change::PatchDrive(resize.patch));
-    }
-
-    // The device, if it is one, is told how many sectors its disk has.
-    fn tell_sectors(&mut self, device: Option<u8>, sectors: u64)
-        ensures world { Resizes device sectors self.old.guest self.new.guest }
-        ensures rest { self.new ≡ record self.old { guest = self.new.guest } }
-    {
-        let Some(device) = device else {
-            return;
-        };
-        match &mut self.guest {
-            None => {}
-            Some(guest) => guest.set_sectors(device, sectors),
-        }
     }
 
     /// Where there is a guest, the disk of each of its devices is the file that its drive names from now on. What can't be

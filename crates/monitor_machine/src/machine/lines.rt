@@ -16,7 +16,7 @@ use script_output::console_line;
 use script_text::{HostReply, Misfit, memory_line, misfit_line, register_line};
 use std::alloc::{AllocError, Global};
 use vm_types::{ActorId, ByteList, GuestAddr};
-use vm_world::{NoActor, NotRam, World};
+use vm_world::{NotRam, World};
 
 /// So many of the console's bytes are drained at a time.
 const PART: usize = 256;
@@ -35,13 +35,13 @@ impl LiveMachine {
             return Ok(misfit_line(self.alloc, Misfit::NotRunning)?);
         }
         let room = waits_room(self.alloc)?;
-        match &mut self.guest {
-            None => Ok(misfit_line(self.alloc, Misfit::NotRunning)?),
-            Some(guest) => match guest.run(actor, count) {
-                Ok(made) => Ok(steps_line(self.alloc, room, count, made, guest.is_off())),
-                Err(NoActor) => Ok(misfit_line(self.alloc, Misfit::NoActor)?),
-            },
-        }
+        let Some(guest) = &mut self.guest else {
+            return Ok(misfit_line(self.alloc, Misfit::NotRunning)?);
+        };
+        let Ok(made) = guest.run(actor, count) else {
+            return Ok(misfit_line(self.alloc, Misfit::NoActor)?);
+        };
+        Ok(steps_line(self.alloc, room, count, made, guest.is_off()))
     }
 
     /// A reply line: one event of an actor that wants an act on a host object. An `Err` changes nothing.
@@ -54,13 +54,13 @@ impl LiveMachine {
         if self.paused {
             return Ok(misfit_line(self.alloc, Misfit::NotRunning)?);
         }
-        match &mut self.guest {
-            None => Ok(misfit_line(self.alloc, Misfit::NotRunning)?),
-            Some(guest) => match take_reply(guest, actor, reply_given(given)) {
-                None => Ok(ByteList::new(self.alloc)),
-                Some(why) => Ok(misfit_line(self.alloc, why)?),
-            },
+        let Some(guest) = &mut self.guest else {
+            return Ok(misfit_line(self.alloc, Misfit::NotRunning)?);
+        };
+        if let Some(why) = take_reply(guest, actor, reply_given(given)) {
+            return Ok(misfit_line(self.alloc, why)?);
         }
+        Ok(ByteList::new(self.alloc))
     }
 
     /// The console's line, and then the console is drained. An `Err` changes nothing.
@@ -69,14 +69,12 @@ impl LiveMachine {
             (text ≡ console_line (console_of m)) × IsMachine self.new known (drained m)) }
         ensures err { OnErr result (self.new ≡ self.old) }
     {
-        match &mut self.guest {
-            None => Ok(ByteList::new(self.alloc)),
-            Some(guest) => {
-                let line = console_line(self.alloc, guest.console())?;
-                drain_all(guest);
-                Ok(line)
-            }
-        }
+        let Some(guest) = &mut self.guest else {
+            return Ok(ByteList::new(self.alloc));
+        };
+        let line = console_line(self.alloc, guest.console())?;
+        drain_all(guest);
+        Ok(line)
     }
 
     /// The line of a hart's register.

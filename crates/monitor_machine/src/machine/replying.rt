@@ -1,5 +1,9 @@
 // What is answered to something that is due.
-ghost use Rattle.std.specs.Prelude.{◌≡◌, ◌⊎◌, ◌++◌, false, IfOk, OnOk, OnErr};
+ghost use Rattle.std.specs.Prelude.{◌≡◌, ◌⊎◌, ◌++◌, false, true, IfOk, None, OnOk, OnErr};
+ghost use Rattle.flat_machine.specs.Ready.{IsFitting};
+ghost use Rattle.snap_state.specs.Valid.{are_drives};
+ghost use Rattle.vm_config.specs.Changes.{changed};
+ghost use Rattle.vm_config.specs.declared.change.Change.TheVariants as change;
 ghost use Rattle.vm_outside.specs.Filing.{SameFiles};
 ghost use Rattle.vm_outside.specs.Known.{FilesKnown, Lasts, Tells};
 ghost use Rattle.http_stream.specs.declared.request.Next.{Next};
@@ -13,17 +17,29 @@ use api_calls::VmState;
 use api_rules::Change;
 use http_stream::Request;
 use metadata_store::Store;
-use monitor_plans::{Plan, Task};
+use monitor_plans::{Plan, Restored, Task};
 use refusals::Refusal;
 use response_form::{ResponseForm, write_response};
 use std::alloc::AllocError;
+use vm_config::Drives;
 use vm_outside::Files;
 use vm_types::ByteList;
+use vm_world::World;
+
+// A guest that there is begins its timer anew.
+fn restart_timer(guest: &mut Option<World>)
+    ensures { guest.new ≡ halted_world false guest.old }
+{
+    match guest {
+        None => {}
+        Some(guest) => guest.restart_timer(),
+    }
+}
 
 impl LiveMachine {
     ghost use Rattle.monitor_machine.specs.Plans.{Answers, PlanLeaves, plan_outcome, plan_response};
     ghost use Rattle.monitor_machine.specs.Replying.{AsksFiles, Replies};
-    ghost use Rattle.monitor_plans.specs.Plans.{KeepsReady};
+    ghost use Rattle.monitor_plans.specs.Plans.{HasReadyGuest, IsEarly, IsReadyPlan, KeepsReady};
 
     // Puts the plan's response behind the text.
     pub(super) fn write_response(
@@ -79,24 +95,73 @@ impl LiveMachine {
         } }
     {
         match change {
-            Change::State(VmState::Paused) => {
-                if !self.paused {
-                    self.restart_timer();
-                }
-                self.paused = true;
-            }
-            Change::State(VmState::Resumed) => self.paused = false,
+            Change::State(VmState::Paused) => self.pause(),
+            Change::State(VmState::Resumed) => self.resume(),
             _ => {}
         }
     }
 
-    fn restart_timer(&mut self)
-        ensures { self.new ≡ record self.old { guest = halted_world false self.old.guest } }
+    fn pause(&mut self)
+        ensures { self.new ≡ record self.old { guest = halted_world self.old.paused self.old.guest; paused = true } }
     {
-        match &mut self.guest {
-            None => {}
-            Some(guest) => guest.restart_timer(),
+        if self.paused {
+            return;
         }
+        restart_timer(&mut self.guest);
+        self.paused = true;
+    }
+
+    fn resume(&mut self)
+        ensures { self.new ≡ record self.old { paused = false } }
+    {
+        self.paused = false;
+    }
+
+    // The change is done, which takes no memory.
+    fn take_change(&mut self, change: Change)
+        requires fits { IsFitting self.old.config change }
+        requires early { IsEarly change self.old.guest }
+        ensures { PlanLeaves (Plan.Changes change) self.old self.new }
+    {
+        self.stand(&change);
+        let _applied = self.config.apply(change);
+    }
+
+    fn take_drives(&mut self, drives: Drives)
+        requires fit { are_drives drives ≡ true }
+        requires early { self.old.guest ≡ None }
+        ensures { PlanLeaves (Plan.Drives drives) self.old self.new }
+    {
+        self.config.set_drives(drives);
+    }
+
+    fn take_metadata(&mut self, metadata: Store)
+        ensures { PlanLeaves (Plan.Stores metadata) self.old self.new }
+    {
+        self.metadata = metadata;
+    }
+
+    // The guest runs.
+    fn begin(&mut self, guest: World)
+        requires { HasReadyGuest (changed self.old.config change.Start) false guest }
+        ensures { PlanLeaves (Plan.Starts guest) self.old self.new }
+    {
+        let _applied = self.config.apply(Change::Start);
+        self.guest = Some(guest);
+        self.paused = false;
+    }
+
+    // The machine goes on from a snapshot.
+    fn go_on(&mut self, restored: Restored)
+        requires { IsReadyPlan (Plan.Restores restored) self.old.config }
+        ensures { PlanLeaves (Plan.Restores restored) self.old self.new }
+    {
+        self.ids.base = Some(restored.identity);
+        self.ids.next = restored.next;
+        self.config = restored.config;
+        self.metadata = Store::new(self.alloc);
+        self.guest = Some(restored.guest);
+        self.paused = !restored.resumes;
     }
 
     // Does what was answered, which takes no memory.
@@ -106,42 +171,17 @@ impl LiveMachine {
         ensures leaves { PlanLeaves plan self.old self.new }
     {
         match plan {
-            Plan::Refused(_) => Outcome::Answered,
-            Plan::Changes(change) => {
-                self.stand(&change);
-                let _applied = self.config.apply(change);
-                Outcome::Answered
-            }
-            Plan::Drives(drives) => {
-                self.config.set_drives(drives);
-                Outcome::Answered
-            }
-            Plan::Resizes(resize) => {
-                self.take_file(resize);
-                Outcome::Answered
-            }
-            Plan::Stores(metadata) => {
-                self.metadata = metadata;
-                Outcome::Answered
-            }
-            Plan::Starts(guest) => {
-                let _applied = self.config.apply(Change::Start);
-                self.guest = Some(guest);
-                self.paused = false;
-                Outcome::Answered
-            }
-            Plan::Restores(restored) => {
-                self.ids.base = Some(restored.identity);
-                self.ids.next = restored.next;
-                self.config = restored.config;
-                self.metadata = Store::new(self.alloc);
-                self.guest = Some(restored.guest);
-                self.paused = !restored.resumes;
-                Outcome::Answered
-            }
-            Plan::FilesFailed => Outcome::Failed,
-            Plan::NoMemory => Outcome::NoMemory,
+            Plan::Refused(_) => {}
+            Plan::Changes(change) => self.take_change(change),
+            Plan::Drives(drives) => self.take_drives(drives),
+            Plan::Resizes(resize) => self.take_file(resize),
+            Plan::Stores(metadata) => self.take_metadata(metadata),
+            Plan::Starts(guest) => self.begin(guest),
+            Plan::Restores(restored) => self.go_on(restored),
+            Plan::FilesFailed => return Outcome::Failed,
+            Plan::NoMemory => return Outcome::NoMemory,
         }
+        Outcome::Answered
     }
 
     // Answers what is due by its plan. An `Err` changes nothing.
