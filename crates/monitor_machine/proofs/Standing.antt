@@ -1,6 +1,6 @@
 -- A live machine that is ready stays so, whatever becomes of its guest, its configuration and its numbers.
 use Rattle.std.proofs.Common.{◌≡◌, ◌≤◌, ◌<◌, ◌^◌, ◌+◌, ◌==◌, ◌&&◌, nat_lt, ℕ, Bool, true, false, refl, sym, ap, subst, ◌∙◌, List, [], Option, Some, None, Result, Ok, Err, arith}
-use Rattle.std.specs.Prelude.{IfErr, IfOk, IsTrue}
+use Rattle.std.specs.Prelude.{IfErr, IfOk, IfSome, IsOk, IsTrue, OnErr, OnOk}
 use Rattle.std.proofs.lemmas.Bool.{and_from, eqb-true, lt-ltb}
 use Rattle.serde_json.specs.Data.{Data, null}
 use Rattle.file_format.specs.Identities.{is_numbered}
@@ -12,6 +12,8 @@ use Rattle.api_calls.specs.declared.call.Drive.{Drive}
 use Rattle.api_calls.specs.declared.call.SnapshotType.{SnapshotType}
 use Rattle.api_calls.specs.declared.call.SnapshotType.TheVariants as snapshot
 use Rattle.api_calls.specs.declared.call.VmState.TheVariants.{Paused, Resumed}
+use Rattle.script_text.specs.declared.output.Misfit.{Misfit}
+use Rattle.script_text.specs.declared.output.Misfit.TheVariants as misfit
 use Rattle.vm_config.specs.declared.config.Config.{Config}
 use Rattle.vm_config.specs.declared.change.Change.{Change}
 use Rattle.vm_config.specs.declared.change.Change.TheVariants as change
@@ -45,6 +47,10 @@ use Rattle.monitor_machine.proofs.Leaving.{left_is}
 use Rattle.monitor_machine.proofs.Lines.{no_guest, some_guest}
 
 -- ---- its guest
+
+-- the same with a guest that is its own
+pub same_stays : (live : Live) (guest : Option WorldValue) → live.guest ≡ guest → IsReadyLive live → IsReadyLive (record live { guest = guest })
+same_stays live guest same it = subst (λ (o : Option WorldValue). IsReadyLive (record live { guest = o })) same it
 
 -- the guest of the machine that it is
 record Stands (live : Live) (w : WorldValue) : Type 0 where
@@ -117,6 +123,14 @@ reply_stays live w v actor given moving there takes it =
     let is = takes on.guest on.world in
     moves_to live w v on is.end
     (event_ready on.flat on.guest is.end (record { actor = actor; given = given }) is.entry on.ready so.1 so.0 is.step) is.world
+
+-- one that isn't taken
+pub unfit_stays : (live : Live) (w v : WorldValue) (why : Misfit) (actor : ActorId) (given : Given) → live.guest ≡ Some w
+    → TakesReply (Some why) w actor given v → IsReadyLive live → IsReadyLive (record live { guest = Some v })
+unfit_stays live w v misfit.NoActor actor given there is it = same_stays live (Some v) (there ∙ ap Some (sym is.0)) it
+unfit_stays live w v misfit.NotWaiting actor given there is it = same_stays live (Some v) (there ∙ ap Some (sym is.0)) it
+unfit_stays live w v misfit.Unfit actor given there is it = same_stays live (Some v) (there ∙ ap Some (sym is.0)) it
+unfit_stays live w v why actor given there is it = absurd is
 
 -- the console is drained
 pub drain_stays : (live : Live) (w : WorldValue) → live.guest ≡ Some w → IsReadyLive live
@@ -235,9 +249,11 @@ pause_stays live runs it =
 pub resume_stays : (live : Live) → IsReadyLive live → IsReadyLive (record live { paused = false })
 resume_stays live it = stand_stays live (change.State Resumed) it
 
--- the same with a guest that is its own
-pub same_stays : (live : Live) (guest : Option WorldValue) → live.guest ≡ guest → IsReadyLive live → IsReadyLive (record live { guest = guest })
-same_stays live guest same it = subst (λ (o : Option WorldValue). IsReadyLive (record live { guest = o })) same it
+-- and it is ready with the guest that is taken out
+pub taken_ready : (live : Live) (o : Option WorldValue) → o ≡ live.guest → IsReadyLive live
+    → IfSome o (λ w. IsReadyLive (record live { guest = Some w }))
+taken_ready live None is it = tt
+taken_ready live (Some w) is it = same_stays live (Some w) (sym is) it
 
 -- ---- what is configured
 
@@ -296,6 +312,33 @@ change_stays live it fits early (m, own, ready) =
         base = ready.base;
       },
     )
+
+-- what was asked of it, or nothing for want of memory
+pub applied_stays : {E : Type 0} (live : Live) (it : Change) (done : Result (Unit {0}) E) (config : Config)
+    → OnOk done (config ≡ changed live.config it) → OnErr done (config ≡ live.config) → IsFitting live.config it → IsEarly it live.guest
+    → IsReadyLive live → IsReadyLive (record live { config = config })
+applied_stays live it (Ok v) config ok err fits early ready =
+    subst (λ (c : Config). IsReadyLive (record live { config = c })) (sym ok) (change_stays live it fits early ready)
+applied_stays live it (Err why) config ok err fits early ready =
+    subst (λ (c : Config). IsReadyLive (record live { config = c })) (sym err) ready
+
+pub applied_is : {E : Type 0} (done : Result (Unit {0}) E) (P : Type 0) → IsOk done → OnOk done P → P
+applied_is (Ok v) P good is = is
+applied_is (Err why) P good is = absurd cc
+
+-- who stands still or goes on has started, and who hasn't stays so
+pub stays_early : (it : Change) (paused : Bool) (w : Option WorldValue) → IsEarly it w → IsEarly it (world_by it paused w)
+stays_early (change.BootSource source) paused w early = early
+stays_early (change.PutDrive drive) paused w early = early
+stays_early (change.MachineConfig machine) paused w early = early
+stays_early (change.PatchDrive patch) paused w early = tt
+stays_early (change.PutMetadata body) paused w early = tt
+stays_early (change.PatchMetadata patch) paused w early = tt
+stays_early change.Start paused w early = tt
+stays_early (change.State state) paused w early = tt
+stays_early (change.CreateSnapshot files) paused w early = tt
+stays_early (change.LoadSnapshot load) paused w early = tt
+stays_early (change.Tell part) paused w early = tt
 
 -- other drives, before a start
 pub drives_stay : (live : Live) (drives : List Drive) → are_drives drives ≡ true → live.guest ≡ None → IsReadyLive live

@@ -18,7 +18,7 @@ use monitor_plans::{Creation, Plan, pages_of};
 use response_form::{ResponseForm, write_response};
 use snap_writer::create;
 use std::alloc::AllocError;
-use vm_outside::Files;
+use vm_outside::{Failed, Files};
 use vm_types::ByteList;
 
 /// The two texts with which the run goes on: where the create is done, and where a call on the files failed.
@@ -96,10 +96,13 @@ impl LiveMachine {
             &mut self.ids,
             &mut self.guest,
         );
-        let Ok(()) = written else {
-            *text = texts.failed;
-            return Ok(Outcome::Failed);
-        };
+        match written {
+            Ok(()) => {}
+            Err(Failed) => {
+                *text = texts.failed;
+                return Ok(Outcome::Failed);
+            }
+        }
         *text = texts.done;
         Ok(Outcome::Answered)
     }

@@ -1,9 +1,24 @@
+use Rattle.std.proofs.Common.{◌∙◌, ap, sym}
 use Rattle.monitor_machine.proofs.Creating.{ended_done, ended_failed, is_unwritten, is_written, same_create, same_part}
+use Rattle.monitor_machine.proofs.Standing.{ended_stays}
+use Rattle.monitor_machine.specs.Live.{Live}
 use Rattle.monitor_machine.specs.Seen.{live_of}
 use Rattle.monitor_machine.proofs.machine.LiveMachine.answer_create.Goals as goal
 
-pub returns-in-Ok-written-clause-ok : goal.returns-in-Ok-written-clause-ok
-returns-in-Ok-written-clause-ok g c =
+pub invariant_of-self : goal.invariant_of-self
+invariant_of-self g c =
+    ended_stays (live_of c.self.inside) c.create-written.result c.args.creation.identity c.args.creation.next c.end_create.new.ids
+    c.end_create.new.guest (c.requires.number ∙ ap (λ (l : Live). l.ids.next) (sym c.self.view_is)) c.requires.next c.end_create.ensures.done
+    c.end_create.ensures.failed c.self.invariant
+
+pub invariant_of-self-2 : goal.invariant_of-self-2
+invariant_of-self-2 g c =
+    ended_stays (live_of c.self.inside) c.create-written.result c.args.creation.identity c.args.creation.next c.end_create.new.ids
+    c.end_create.new.guest (c.requires.number ∙ ap (λ (l : Live). l.ids.next) (sym c.self.view_is)) c.requires.next c.end_create.ensures.done
+    c.end_create.ensures.failed c.self.invariant
+
+pub returns-clause-ok : goal.returns-clause-ok
+returns-clause-ok g c =
     rw (← c.self.view_is)
     (λ request kept due.
     let known = g.F.Files.known in
@@ -13,8 +28,8 @@ returns-in-Ok-written-clause-ok g c =
     (λ told. same_create _ _ _ _ _ _ _ _ _ _ _ _ c.as_str-2.ensures c.as_slice.ensures c.in-Some-pages_of.ensures.pages c.as_str.ensures
     c.as_slice-2.ensures (c.in-Ok-written.ensures.created told)))
 
-pub returns-clause-ok : goal.returns-clause-ok
-returns-clause-ok g c =
+pub returns-in-Err-clause-ok : goal.returns-in-Err-clause-ok
+returns-in-Err-clause-ok g c =
     rw (← c.self.view_is)
     (λ request kept due.
     let known = g.F.Files.known in

@@ -1,0 +1,14 @@
+use Rattle.std.proofs.Common.{Some, sym, subst}
+use Rattle.vm_world.specs.Worlds.{WorldValue}
+use Rattle.monitor_machine.specs.Ready.{IsReadyLive}
+use Rattle.monitor_machine.specs.Seen.{live_of}
+use Rattle.monitor_machine.proofs.Standing.{drain_stays, same_stays}
+use Rattle.monitor_machine.proofs.machine.LiveMachine.take_console.Goals as goal
+
+pub invariant_of-self-in_err-line : goal.invariant_of-self-in_err-line
+invariant_of-self-in_err-line c = same_stays (live_of c.self.inside) (Some c.in-Some.guest) c.in-Some.is c.self.invariant
+
+pub invariant_of-self-2 : goal.invariant_of-self-2
+invariant_of-self-2 c =
+    subst (λ (w : WorldValue). IsReadyLive (record (live_of c.self.inside) { guest = Some w })) (sym c.drain_all.ensures)
+    (drain_stays (live_of c.self.inside) c.in-Some.guest c.in-Some.is c.self.invariant)
