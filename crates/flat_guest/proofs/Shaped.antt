@@ -1,9 +1,9 @@
 -- A guest whose copy passes each test of a state file stays one.
-use Rattle.std.proofs.Common.{◌≡◌, ◌≤◌, ◌<◌, ℕ, zero, suc, ◌*◌, ◌%◌, Bool, true, false, cond, refl, sym, subst, ◌∙◌, List, [], ◌∷◌, ◌++◌, length, map, replicate, Option, Some, None, slice_get, arith}
+use Rattle.std.proofs.Common.{◌≡◌, ◌≤◌, ◌<◌, ℕ, zero, suc, ◌*◌, ◌%◌, Bool, true, false, cond, refl, sym, ap, subst, ◌∙◌, List, [], ◌∷◌, ◌++◌, length, replicate, Option, Some, None, slice_get, slice_set, arith}
 use Rattle.std.specs.List.{All}
 use Rattle.std.proofs.lemmas.Bool.{ltb-true}
 use Rattle.std.proofs.lemmas.List.{length-replicate, length-set}
-use Rattle.std.proofs.lemmas.List.Elements.{All-cons, All-head, All-nil, All-replicate, All-set, All-tail}
+use Rattle.std.proofs.lemmas.List.Elements.{All-head, All-replicate, All-set, All-tail}
 use Rattle.vm_types.specs.declared.ids.ActorId.{ActorId}
 use Rattle.vm_types.specs.declared.ids.PlaceId.{PlaceId}
 use Rattle.vm_types.specs.declared.op.Op.{Op}
@@ -22,6 +22,7 @@ use Rattle.board_table.specs.Acts as board_acts
 use Rattle.board_table.specs.Board.{Board}
 use Rattle.board_table.specs.Kept as board_kept
 use Rattle.port_table.specs.Acts as port_acts
+use Rattle.port_table.specs.declared.kind.DeviceKind.{DeviceKind}
 use Rattle.port_table.specs.declared.state.PortState.{PortState}
 use Rattle.rv_supervisor.specs.declared.regs.Regs.{Regs}
 use Rattle.rv_supervisor.specs.Start.{start_regs}
@@ -34,12 +35,11 @@ use Rattle.hart_trace.proofs.Leads.{leads_next}
 use Rattle.hart_trace.proofs.OneHart.{one_hart}
 use Rattle.hart_trace.proofs.Traces.{leads_start, some_hart, wants_only}
 use Rattle.guest_devices.specs.declared.new_device.NewDevice.{NewDevice}
-use Rattle.guest_devices.specs.declared.new_device.NewDevice.TheVariants as kinds
 use Rattle.flat_guest.specs.Body.{out_reply, reply_at}
 use Rattle.flat_guest.specs.Changes.{resized, sectors_shown}
 use Rattle.flat_guest.specs.Guest.{Guest, Wants, WantsFrom, unwritten}
 use Rattle.flat_guest.specs.Sound.{IsSound}
-use Rattle.flat_guest.specs.Start.{drive_port, port_at_start, start_of_harts, started, timer_restarted}
+use Rattle.flat_guest.specs.Start.{start_of_harts, started, timer_restarted}
 use Rattle.flat_guest.specs.Steps.{FlatStep, board_after, guest_after, memory_after, port_after, port_reply, ports_after}
 use Rattle.flat_guest.proofs.Lists.{get_lt}
 use Rattle.flat_guest.proofs.Soundness.{fit, hart_port_by, replied, same_hart, wants_from}
@@ -48,7 +48,7 @@ use Rattle.board_table.proofs.Lengths.{board_long, drained_long, new_long, raise
 use Rattle.port_table.proofs.KindStays.{touch_same}
 use Rattle.hart_trace.specs.Kept as hart
 use Rattle.hart_trace.proofs.Shapes.{hart_shaped, start_shaped, stopped_shaped}
-use Rattle.flat_guest.specs.Shaped.{IsBlockPort, IsShaped}
+use Rattle.flat_guest.specs.Shaped.{IsShaped, kinds_at_start, port_kinds}
 use Rattle.flat_guest.specs.Steps.{Makes}
 use Rattle.flat_guest.proofs.Soundness.{sound_next}
 
@@ -58,6 +58,16 @@ get_all P (y ∷ xs) zero x is all =
     let same : y ≡ x = cc in
     subst P same (All-head P y xs all)
 get_all P (y ∷ xs) (suc k) x is all = get_all P xs k x is (All-tail P y xs all)
+
+-- a port of its kind in the place of another
+kinds_set : (ports : List PortState) (k : ℕ) (p q : PortState) → slice_get ports k ≡ Some p → q.kind ≡ p.kind
+    → port_kinds (slice_set ports k q) ≡ port_kinds ports
+kinds_set [] k p q there same = cc
+kinds_set (first ∷ ports) zero p q there same =
+    let is : first ≡ p = cc in
+    ap (λ (kind : DeviceKind). kind ∷ port_kinds ports) (same ∙ sym (ap (λ (port : PortState). port.kind) is))
+kinds_set (first ∷ ports) (suc k) p q there same =
+    ap (λ (l : List DeviceKind). first.kind ∷ l) (kinds_set ports k p q there same)
 
 -- ---- to a load-reserved no place but RAM replies a word
 
@@ -81,8 +91,8 @@ out_ram size op = tt
 
 -- ---- an event
 
-module _ (pages harts : ℕ) (g : Guest) (event : Event) (e : Entry) (h : Guest) (sound : IsSound g)
-    (is : IsShaped pages harts g) (step : FlatStep g event e h) where
+module _ (pages harts : ℕ) (kinds : List DeviceKind) (g : Guest) (event : Event) (e : Entry) (h : Guest) (sound : IsSound g)
+    (is : IsShaped pages harts kinds g) (step : FlatStep g event e h) where
   abbrev size : ℕ
   size = page_size * pages
 
@@ -110,13 +120,11 @@ module _ (pages harts : ℕ) (g : Guest) (event : Event) (e : Entry) (h : Guest)
   board_on (PlaceId.Port k) = is.board
   board_on PlaceId.Out = is.board
 
-  port_on : (k : ℕ) (o : Option PortState) → slice_get g.ports k ≡ o → All IsBlockPort (port_after o g.ports k e.actor e.op)
+  port_on : (k : ℕ) (o : Option PortState) → slice_get g.ports k ≡ o → port_kinds (port_after o g.ports k e.actor e.op) ≡ kinds
   port_on k None there = is.ports
-  port_on k (Some p) there =
-      All-set IsBlockPort g.ports k (port_acts.touch p e.actor e.op).1
-      (touch_same p e.actor e.op ∙ get_all IsBlockPort g.ports k p there is.ports) is.ports
+  port_on k (Some p) there = kinds_set g.ports k p (port_acts.touch p e.actor e.op).1 there (touch_same p e.actor e.op) ∙ is.ports
 
-  ports_on : (place : PlaceId) → All IsBlockPort (ports_after place g.ports e.actor e.op)
+  ports_on : (place : PlaceId) → port_kinds (ports_after place g.ports e.actor e.op) ≡ kinds
   ports_on (PlaceId.Page i) = is.ports
   ports_on PlaceId.Board = is.ports
   ports_on (PlaceId.Port k) = port_on k (slice_get g.ports k) refl
@@ -163,7 +171,7 @@ module _ (pages harts : ℕ) (g : Guest) (event : Event) (e : Entry) (h : Guest)
   hart_on k start now true there same leads = own_hart k start now there (same_hart k e.actor same) leads
   hart_on k start now false there same leads = is.each k start now there leads
 
-  shaped_after : IsShaped pages harts (guest_after g e)
+  shaped_after : IsShaped pages harts kinds (guest_after g e)
   shaped_after = record {
     few = is.few;
     memory = memory_on e.place;
@@ -173,23 +181,18 @@ module _ (pages harts : ℕ) (g : Guest) (event : Event) (e : Entry) (h : Guest)
     each = λ k start now there leads. hart_on k start now (same_actor (ActorId.Hart k) e.actor) there refl leads;
   }
 
-  pub shaped_next : IsShaped pages harts h
-  shaped_next = subst (λ (q : Guest). IsShaped pages harts q) (sym step.after) shaped_after
+  pub shaped_next : IsShaped pages harts kinds h
+  shaped_next = subst (λ (q : Guest). IsShaped pages harts kinds q) (sym step.after) shaped_after
 
 -- several of one actor
-pub shaped_makes : (pages harts : ℕ) (es : List Entry) (g h : Guest) (actor : ActorId) → IsSound g → IsShaped pages harts g
-    → Makes g actor es h → IsShaped pages harts h
-shaped_makes pages harts [] g h actor sound is same = subst (λ (q : Guest). IsShaped pages harts q) same is
-shaped_makes pages harts (e ∷ es) g h actor sound is (unstamped, mid, step, more) =
+pub shaped_makes : (pages harts : ℕ) (kinds : List DeviceKind) (es : List Entry) (g h : Guest) (actor : ActorId) → IsSound g → IsShaped pages harts kinds g
+    → Makes g actor es h → IsShaped pages harts kinds h
+shaped_makes pages harts kinds [] g h actor sound is same = subst (λ (q : Guest). IsShaped pages harts kinds q) same is
+shaped_makes pages harts kinds (e ∷ es) g h actor sound is (unstamped, mid, step, more) =
     let event : Event = record { actor = actor; given = Nothing } in
-    shaped_makes pages harts es mid h actor (sound_next g event e mid sound step) (shaped_next pages harts g event e mid sound is step) more
+    shaped_makes pages harts kinds es mid h actor (sound_next g event e mid sound step) (shaped_next pages harts kinds g event e mid sound is step) more
 
 -- ---- a start
-
-start_ports : (all : List NewDevice) → All IsBlockPort (map port_at_start all)
-start_ports [] = All-nil IsBlockPort
-start_ports (kinds.Block d ∷ others) =
-    All-cons IsBlockPort (drive_port d) (map port_at_start others) refl (start_ports others)
 
 starts_shaped : (harts mib size : ℕ) → All (λ (r : Regs). hart.IsShaped size (fresh r)) (start_of_harts harts mib)
 starts_shaped harts mib size =
@@ -198,12 +201,12 @@ starts_shaped harts mib size =
     (All-replicate (λ (r : Regs). hart.IsShaped size (fresh r)) harts stopped_regs (stopped_shaped size))
 
 pub shaped_start : (harts mib : ℕ) (loads : Loads) (devices : List NewDevice) → harts ≤ hart_limit
-    → length (boot_memory mib loads).bytes ≡ bytes_of_mib mib → IsShaped (256 * mib) harts (started harts mib loads devices)
+    → length (boot_memory mib loads).bytes ≡ bytes_of_mib mib → IsShaped (256 * mib) harts (kinds_at_start devices) (started harts mib loads devices)
 shaped_start harts mib loads devices few whole = record {
   few = few;
   memory = booted_whole mib harts loads whole;
   board = new_long harts;
-  ports = start_ports devices;
+  ports = refl;
   many =
       length-set (replicate harts stopped_regs) 0 (start_regs image_start 0 (tree_start mib))
       ∙ length-replicate {A = Regs} harts stopped_regs;
@@ -215,8 +218,8 @@ shaped_start harts mib loads devices few whole = record {
 
 -- ---- what is no event
 
-pub shaped_restart : (pages harts : ℕ) (g : Guest) → IsShaped pages harts g → IsShaped pages harts (timer_restarted g)
-shaped_restart pages harts g is = record {
+pub shaped_restart : (pages harts : ℕ) (kinds : List DeviceKind) (g : Guest) → IsShaped pages harts kinds g → IsShaped pages harts kinds (timer_restarted g)
+shaped_restart pages harts kinds g is = record {
   few = is.few;
   memory = is.memory;
   board = is.board;
@@ -225,8 +228,8 @@ shaped_restart pages harts g is = record {
   each = λ k start now there leads. is.each k start now there leads;
 }
 
-pub shaped_unwritten : (pages harts : ℕ) (g : Guest) → IsShaped pages harts g → IsShaped pages harts (unwritten g)
-shaped_unwritten pages harts g is = record {
+pub shaped_unwritten : (pages harts : ℕ) (kinds : List DeviceKind) (g : Guest) → IsShaped pages harts kinds g → IsShaped pages harts kinds (unwritten g)
+shaped_unwritten pages harts kinds g is = record {
   few = is.few;
   memory = is.memory;
   board = is.board;
@@ -235,9 +238,9 @@ shaped_unwritten pages harts g is = record {
   each = λ k start now there leads. is.each k start now there leads;
 }
 
-pub shaped_drained : (pages harts : ℕ) (g : Guest) → IsShaped pages harts g
-    → IsShaped pages harts (record g { board = record g.board { console = [] } })
-shaped_drained pages harts g is = record {
+pub shaped_drained : (pages harts : ℕ) (kinds : List DeviceKind) (g : Guest) → IsShaped pages harts kinds g
+    → IsShaped pages harts kinds (record g { board = record g.board { console = [] } })
+shaped_drained pages harts kinds g is = record {
   few = is.few;
   memory = is.memory;
   board = drained_long harts g.board is.board;
@@ -247,17 +250,16 @@ shaped_drained pages harts g is = record {
 }
 
 shown_by : (k sectors : ℕ) (ports : List PortState) (o : Option PortState) → slice_get ports k ≡ o
-    → All IsBlockPort ports → All IsBlockPort (sectors_shown o ports k sectors)
-shown_by k sectors ports None there all = all
-shown_by k sectors ports (Some p) there all =
-    All-set IsBlockPort ports k (port_acts.configured p (bytes_of 8 sectors)) (get_all IsBlockPort ports k p there all) all
+    → port_kinds (sectors_shown o ports k sectors) ≡ port_kinds ports
+shown_by k sectors ports None there = refl
+shown_by k sectors ports (Some p) there = kinds_set ports k p (port_acts.configured p (bytes_of 8 sectors)) there refl
 
-pub shaped_resize : (pages harts : ℕ) (g : Guest) (k sectors : ℕ) → IsShaped pages harts g → IsShaped pages harts (resized k sectors g)
-shaped_resize pages harts g k sectors is = record {
+pub shaped_resize : (pages harts : ℕ) (kinds : List DeviceKind) (g : Guest) (k sectors : ℕ) → IsShaped pages harts kinds g → IsShaped pages harts kinds (resized k sectors g)
+shaped_resize pages harts kinds g k sectors is = record {
   few = is.few;
   memory = is.memory;
   board = raised_long harts g.board is.board (ActorId.Device k);
-  ports = shown_by k sectors g.ports (slice_get g.ports k) refl is.ports;
+  ports = shown_by k sectors g.ports (slice_get g.ports k) refl ∙ is.ports;
   many = is.many;
   each = λ j start now there leads. is.each j start now there leads;
 }

@@ -1,27 +1,33 @@
 -- A guest whose copy passes each test of a state file: all of it but its devices and the widths of its numbers.
-use Rattle.std.specs.Prelude.{ℕ, ◌≡◌, ◌≤◌, ◌*◌, Some, length, slice_get}
-use Rattle.std.specs.List.{All}
+use Rattle.std.specs.Prelude.{ℕ, ◌≡◌, ◌≤◌, ◌*◌, List, Some, length, map, slice_get}
 use Rattle.vm_types.specs.declared.ids.ActorId.TheVariants.{Hart as HartId}
 use Rattle.guest_memory.specs.Kept.{IsWhole}
 use Rattle.guest_memory.specs.Ram.{page_size}
 use Rattle.guest_memory.specs.Reserved.{hart_limit}
 use Rattle.board_table.specs.Kept.{IsLong}
-use Rattle.port_table.specs.declared.kind.DeviceKind.TheVariants.{Block}
+use Rattle.port_table.specs.declared.kind.DeviceKind.{DeviceKind}
 use Rattle.port_table.specs.declared.state.PortState.{PortState}
 use Rattle.rv_supervisor.specs.declared.regs.Regs.{Regs}
 use Rattle.hart_trace.specs.Kept as hart
 use Rattle.hart_trace.specs.States.{Hart, LeadsTo}
+use Rattle.guest_devices.specs.declared.new_device.NewDevice.{NewDevice}
 use Rattle.flat_guest.specs.Guest.{Guest}
+use Rattle.flat_guest.specs.Start.{port_at_start}
 
-abbrev pub IsBlockPort : PortState → Type 0
-IsBlockPort p = p.kind ≡ Block
+-- the kinds of ports, by their numbers
+abbrev pub port_kinds : List PortState → List DeviceKind
+port_kinds ports = map (λ (p : PortState). p.kind) ports
 
--- of so many pages and harts; each hart is such a one where its steps lead
-pub record IsShaped (pages harts : ℕ) (g : Guest) : Type 0 where
+-- and those that a guest starts with
+abbrev pub kinds_at_start : List NewDevice → List DeviceKind
+kinds_at_start devices = port_kinds (map port_at_start devices)
+
+-- of so many pages and harts, with ports of these kinds; each hart is such a one where its steps lead
+pub record IsShaped (pages harts : ℕ) (kinds : List DeviceKind) (g : Guest) : Type 0 where
   pub few : harts ≤ hart_limit
   pub memory : IsWhole pages harts g.memory
   pub board : IsLong harts g.board
-  pub ports : All IsBlockPort g.ports
+  pub ports : port_kinds g.ports ≡ kinds
   pub many : length g.starts ≡ harts
   pub each : (k : ℕ) (start : Regs) (h : Hart) → slice_get g.starts k ≡ Some start
       → LeadsTo start (g.steps (HartId k)) h → hart.IsShaped (page_size * pages) h

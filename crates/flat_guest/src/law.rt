@@ -7,6 +7,7 @@ ghost use Rattle.vm_types.specs.declared.op.Op.{Op};
 ghost use Rattle.vm_types.specs.declared.reply.Reply.{Reply};
 ghost use Rattle.guest_memory.specs.Boot.{Loads, boot_memory, bytes_of_mib};
 ghost use Rattle.guest_memory.specs.Reserved.{hart_limit};
+ghost use Rattle.port_table.specs.declared.kind.DeviceKind.{DeviceKind};
 ghost use Rattle.guest_devices.specs.declared.new_device.NewDevice.{NewDevice};
 ghost use Rattle.guest_devices.specs.Devices.{FitsNew};
 ghost use Rattle.flat_guest.specs.Given.{Event, Given};
@@ -14,7 +15,7 @@ ghost use Rattle.flat_guest.specs.Given.Given.{Nothing};
 ghost use Rattle.flat_guest.specs.Changes.{resized};
 ghost use Rattle.flat_guest.specs.Guest.{Guest, Wants, is_actor};
 ghost use Rattle.flat_guest.specs.Same.{AreAlike};
-ghost use Rattle.flat_guest.specs.Shaped.{IsShaped};
+ghost use Rattle.flat_guest.specs.Shaped.{IsShaped, kinds_at_start};
 ghost use Rattle.flat_guest.specs.Sound.{IsSound};
 ghost use Rattle.flat_guest.specs.Start.{started, timer_restarted};
 ghost use Rattle.flat_guest.specs.Steps.{FlatStep, IsUnstamped, StepsBy, guest_after, is_given};
@@ -58,13 +59,13 @@ pub fn some_step()
 pub fn same_shape()
     ensures start { (harts mib : ℕ) (loads : Loads) (devices : List NewDevice) → harts ≤ hart_limit →
         length (boot_memory mib loads).bytes ≡ bytes_of_mib mib →
-        IsShaped (256 * mib) harts (started harts mib loads devices) }
-    ensures restart { (pages harts : ℕ) (g : Guest) → IsShaped pages harts g →
-        IsShaped pages harts (timer_restarted g) }
-    ensures resize { (pages harts : ℕ) (g : Guest) (k sectors : ℕ) → IsShaped pages harts g →
-        IsShaped pages harts (resized k sectors g) }
-    ensures stays { (pages harts : ℕ) (g : Guest) (event : Event) (e : Entry) (h : Guest) → IsSound g →
-        IsShaped pages harts g → FlatStep g event e h → IsShaped pages harts h }
+        IsShaped (256 * mib) harts (kinds_at_start devices) (started harts mib loads devices) }
+    ensures restart { (pages harts : ℕ) (kinds : List DeviceKind) (g : Guest) → IsShaped pages harts kinds g →
+        IsShaped pages harts kinds (timer_restarted g) }
+    ensures resize { (pages harts : ℕ) (kinds : List DeviceKind) (g : Guest) (k sectors : ℕ) →
+        IsShaped pages harts kinds g → IsShaped pages harts kinds (resized k sectors g) }
+    ensures stays { (pages harts : ℕ) (kinds : List DeviceKind) (g : Guest) (event : Event) (e : Entry) (h : Guest) →
+        IsSound g → IsShaped pages harts kinds g → FlatStep g event e h → IsShaped pages harts kinds h }
 {}
 
 /// Guests that are one body's take the same events, each with the same entry, and stay so.

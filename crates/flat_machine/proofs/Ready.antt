@@ -1,5 +1,5 @@
 -- A machine that is ready stays so, whatever it is asked and whatever its guest does, and its guest can be copied.
-use Rattle.std.proofs.Common.{◌≡◌, ◌<◌, ◌≤◌, ◌+◌, ◌*◌, ◌^◌, ℕ, Bool, true, false, not, refl, sym, subst, ◌∙◌, List, [], ◌∷◌, length, map, Option, Some, None, Result, Ok, Err, slice_get, arith, length-append}
+use Rattle.std.proofs.Common.{◌≡◌, ◌<◌, ◌≤◌, ◌+◌, ◌*◌, ◌^◌, ℕ, Bool, true, false, not, refl, sym, ap, subst, ◌∙◌, List, [], ◌∷◌, length, map, Option, Some, None, Result, Ok, Err, slice_get, arith, length-append}
 use Rattle.std.specs.FinMap.{get}
 use Rattle.std.specs.List.{filter}
 use Rattle.std.proofs.lemmas.List.{length-map}
@@ -15,6 +15,8 @@ use Rattle.refusals.specs.declared.refusal.Refusal.{Refusal}
 use Rattle.serde_json.specs.Data.{Data}
 use Rattle.metadata_store.specs.Store.{patched, put}
 use Rattle.guest_memory.specs.Ram.{is_ram}
+use Rattle.port_table.specs.declared.kind.DeviceKind.{DeviceKind}
+use Rattle.port_table.specs.declared.kind.DeviceKind.TheVariants.{Block}
 use Rattle.flat_guest.specs.Given.{Event, Given}
 use Rattle.flat_guest.specs.Given.Given.{Nothing}
 use Rattle.hart_trace.specs.Asks.{is_host_op}
@@ -41,13 +43,15 @@ use Rattle.guest_devices.specs.declared.device.Device.{Device}
 use Rattle.guest_devices.specs.declared.new_device.NewDevice.{NewDevice}
 use Rattle.flat_guest.specs.Changes.{resized}
 use Rattle.flat_guest.specs.Guest.{Guest, is_actor, unwritten}
-use Rattle.flat_guest.specs.Shaped.{IsShaped}
+use Rattle.flat_guest.specs.Shaped.{IsShaped, kinds_at_start}
 use Rattle.flat_guest.specs.Sound.{IsSound}
 use Rattle.flat_guest.specs.Start.{port_at_start, started as started_guest, timer_restarted}
 use Rattle.flat_guest.specs.Steps.{FlatStep, Makes, is_given}
 use Rattle.flat_guest.proofs.Devices.{told_many}
 use Rattle.flat_guest.proofs.Shaped.{shaped_drained, shaped_makes, shaped_next, shaped_resize, shaped_restart, shaped_start, shaped_unwritten}
 use Rattle.flat_guest.proofs.Soundness.{sound_next, sound_resize, sound_restart, sound_start}
+use Rattle.snap_state.specs.Valid.{kinds_of}
+use Rattle.flat_snapshot.specs.Copies.{configuration_of}
 use Rattle.flat_snapshot.specs.Found.{Snapshot, found}
 use Rattle.flat_snapshot.specs.Ready.{IsConfigured}
 use Rattle.flat_snapshot.proofs.CarriedReady.{carried_ready}
@@ -88,7 +92,7 @@ restarted_ready config paused g is = record {
   sound = sound_restart g is.sound;
   ready = record {
     configured = is.ready.configured;
-    shaped = shaped_restart _ _ g is.ready.shaped;
+    shaped = shaped_restart _ _ _ g is.ready.shaped;
     devices = is.ready.devices;
   };
   rests = λ stands. refl;
@@ -108,7 +112,7 @@ unwritten_ready config paused g is = record {
   sound = record { timer_on = is.sound.timer_on; harts_on = is.sound.harts_on; devices_on = is.sound.devices_on };
   ready = record {
     configured = is.ready.configured;
-    shaped = shaped_unwritten _ _ g is.ready.shaped;
+    shaped = shaped_unwritten _ _ _ g is.ready.shaped;
     devices = is.ready.devices;
   };
   rests = is.rests;
@@ -120,7 +124,7 @@ drained_ready config paused (Some g) is = record {
   sound = record { timer_on = is.sound.timer_on; harts_on = is.sound.harts_on; devices_on = is.sound.devices_on };
   ready = record {
     configured = is.ready.configured;
-    shaped = shaped_drained _ _ g is.ready.shaped;
+    shaped = shaped_drained _ _ _ g is.ready.shaped;
     devices = is.ready.devices;
   };
   rests = is.rests;
@@ -132,13 +136,22 @@ resized_ready config paused g k sectors small is = record {
   sound = sound_resize g k sectors small is.sound;
   ready = record {
     configured = is.ready.configured;
-    shaped = shaped_resize _ _ g k sectors is.ready.shaped;
+    shaped = shaped_resize _ _ _ g k sectors is.ready.shaped;
     devices = told_many (slice_get g.devices k) g.devices k sectors ∙ is.ready.devices;
   };
   rests = is.rests;
 }
 
 -- ---- a drive has another file
+
+-- as many drives have the same kinds of devices
+same_kinds : (drives others : List Drive) → length drives ≡ length others
+    → map (λ (d : Drive). Block) drives ≡ map (λ (d : Drive). Block) others
+same_kinds [] [] many = refl
+same_kinds [] (d ∷ others) many = absurd (omega (arith, many))
+same_kinds (d ∷ drives) [] many = absurd (omega (arith, many))
+same_kinds (d ∷ drives) (other ∷ others) many =
+    ap (λ (l : List DeviceKind). Block ∷ l) (same_kinds drives others (omega (arith, many)))
 
 module _ (config : Config) (patch : DrivePatch) (paused : Bool) (taken : IsTaken (changed config (change.PatchDrive patch))) where
   abbrev pub after : Config
@@ -154,7 +167,10 @@ module _ (config : Config) (patch : DrivePatch) (paused : Bool) (taken : IsTaken
         drives = taken.drives;
         machine = is.ready.configured.machine;
       };
-      shaped = is.ready.shaped;
+      shaped =
+          subst
+          (λ (kinds : List DeviceKind). IsShaped (256 * config.machine.mem_size_mib) config.machine.vcpu_count kinds g)
+          (same_kinds config.drives after.drives (sym (length-path config.drives patch.drive_id patch.path_on_host))) is.ready.shaped;
       devices = is.ready.devices ∙ sym (length-path config.drives patch.drive_id patch.path_on_host);
     };
     rests = is.rests;
@@ -188,6 +204,17 @@ many_drives drives saved =
     ∙ length-append (filter is_root drives) (filter (λ d. not (is_root d)) drives)
     ∙ length-filter_both is_root (λ d. not (is_root d)) (λ d. refl) drives
 
+-- of the kind of a block device
+drive_kinds : (drives : List Drive) (saved : Saved) → kinds_at_start (map (drive_from saved) drives) ≡ map (λ (d : Drive). Block) drives
+drive_kinds [] saved = refl
+drive_kinds (d ∷ drives) saved = ap (λ (l : List DeviceKind). Block ∷ l) (drive_kinds drives saved)
+
+start_kinds : (config : Config) (saved : Saved) → kinds_at_start (devices_from config saved) ≡ kinds_of (configuration_of config)
+start_kinds config saved =
+    drive_kinds (in_order config.drives) saved
+    ∙ same_kinds (in_order config.drives) config.drives
+    (sym (length-map (in_order config.drives) (drive_from saved)) ∙ many_drives config.drives saved)
+
 module _ (m : Machine) (image : List ℕ) (ready : Ready m) (there : image_of m ≡ Some image) (none : start_refusal m.config m.saved ≡ None) where
   abbrev new_guest : Guest
   new_guest =
@@ -212,8 +239,12 @@ module _ (m : Machine) (image : List ℕ) (ready : Ready m) (there : image_of m 
         ready = record {
           configured = record { source = source_there.source; drives = source_there.drives; machine = source_there.machine };
           shaped =
-              shaped_start m.config.machine.vcpu_count m.config.machine.mem_size_mib (loads_from m.config image (disk_of m)) devices
-              within.harts (booted_size m.config image (disk_of m) within (start_fits m image none there));
+              subst
+              (λ (kinds : List DeviceKind).
+              IsShaped (256 * m.config.machine.mem_size_mib) m.config.machine.vcpu_count kinds new_guest)
+              (start_kinds m.config m.saved)
+              (shaped_start m.config.machine.vcpu_count m.config.machine.mem_size_mib (loads_from m.config image (disk_of m)) devices
+              within.harts (booted_size m.config image (disk_of m) within (start_fits m image none there)));
           devices = sym new_sound.devices_on.as_many ∙ length-map devices port_at_start ∙ many_drives m.config.drives m.saved;
         };
         rests = λ stands. refl;
@@ -374,7 +405,7 @@ made_sound (e ∷ es) g h actor (unstamped, mid, step, more) sound =
 
 -- the guest that runs is another one after events
 runs_ready : (m : Machine) (g h : Guest) → Ready m → IsReadyGuest m.config false g → m.paused ≡ false → IsSound h
-    → IsShaped (256 * m.config.machine.mem_size_mib) m.config.machine.vcpu_count h → length h.devices ≡ length g.devices
+    → IsShaped (256 * m.config.machine.mem_size_mib) m.config.machine.vcpu_count (kinds_of (configuration_of m.config)) h → length h.devices ≡ length g.devices
     → Ready (record m { guest = Some h })
 runs_ready m g h ready own runs sound shaped many = record {
   taken = ready.taken;
@@ -393,13 +424,13 @@ pub makes_ready : (m : Machine) (g h : Guest) (actor : ActorId) (es : List Entry
     → m.paused ≡ false → Makes g actor es h → Ready (record m { guest = Some h })
 makes_ready m g h actor es ready own runs made =
     runs_ready m g h ready own runs (made_sound es g h actor made own.sound)
-    (shaped_makes _ _ es g h actor own.sound own.ready.shaped made) (several_many g h actor es made)
+    (shaped_makes _ _ _ es g h actor own.sound own.ready.shaped made) (several_many g h actor es made)
 
 pub event_ready : (m : Machine) (g h : Guest) (event : Event) (e : Entry) → Ready m → IsReadyGuest m.config false g → m.paused ≡ false
     → FlatStep g event e h → Ready (record m { guest = Some h })
 event_ready m g h event e ready own runs step =
     runs_ready m g h ready own runs (sound_next g event e h own.sound step)
-    (shaped_next _ _ g event e h own.sound own.ready.shaped step) (one_many g h event e step)
+    (shaped_next _ _ _ g event e h own.sound own.ready.shaped step) (one_many g h event e step)
 
 -- ---- lines that bring no request
 

@@ -1,10 +1,9 @@
 -- The guest that goes on from a snapshot whose copy passes the tests is ready again.
 use Rattle.std.proofs.Common.{◌≡◌, ◌≤◌, ◌<◌, ℕ, zero, suc, ◌+◌, ◌*◌, ◌%◌, ◌==◌, ◌&&◌, not, nat_le, nat_lt, Bool, true, false, if◌then◌else◌, refl, sym, ap, subst, ◌∙◌, List, [], ◌∷◌, ◌++◌, length, map, Option, Some, None, slice_get, slice_set, arith}
 use Rattle.std.specs.Prelude.{IsTrue, bit_and}
-use Rattle.std.specs.List.{All, list_all}
+use Rattle.std.specs.List.{list_all}
 use Rattle.std.proofs.lemmas.Bool.{and_parts, eqb-true, leb-true, ltb-true}
 use Rattle.std.proofs.lemmas.List.{length-map, length-replicate, length-set}
-use Rattle.std.proofs.lemmas.List.Elements.{All-cons, All-nil}
 use Rattle.vm_types.specs.declared.op.Op.{Op}
 use Rattle.vm_types.specs.declared.reply.Reply.{Reply}
 use Rattle.vm_types.specs.declared.entry.Step.{Step}
@@ -16,9 +15,6 @@ use Rattle.guest_memory.specs.Kept.{AreSlots, IsWhole}
 use Rattle.guest_memory.specs.Ram.{is_ram, page_size}
 use Rattle.guest_memory.specs.Reserved.{hart_limit, unreserved}
 use Rattle.guest_memory.proofs.Keeping.{none_reserved, slots_set}
-use Rattle.port_table.specs.declared.kind.DeviceKind.{DeviceKind}
-use Rattle.port_table.specs.declared.kind.DeviceKind.TheVariants as kind
-use Rattle.port_table.specs.declared.state.PortState.{PortState}
 use Rattle.rv_supervisor.specs.declared.regs.Regs.{Regs}
 use Rattle.rv_supervisor.specs.declared.regs.Turn.{Turn}
 use Rattle.rv_supervisor.specs.declared.regs.Turn.TheVariants as turn
@@ -40,8 +36,8 @@ use Rattle.snap_state.specs.declared.board.SavedBoard.{SavedBoard}
 use Rattle.snap_state.specs.declared.copy.Reservation.{Reservation}
 use Rattle.snap_state.specs.declared.copy.StateCopy.{StateCopy}
 use Rattle.snap_state.specs.Copy.{board_of}
-use Rattle.snap_state.specs.Valid.{asks, has_bits, is_aligned, is_board, is_counted, is_granule, is_hart, is_kind, is_machine, is_placed, is_reserved, is_valid}
-use Rattle.snap_state.proofs.HasDevices.{is_block_port}
+use Rattle.snap_state.specs.Valid.{asks, has_bits, is_aligned, is_board, is_counted, is_granule, is_hart, is_machine, is_placed, is_reserved, is_valid, kinds_of}
+use Rattle.snap_state.proofs.HasDevices.{has_parts, kinds_there}
 use Rattle.snap_state.proofs.Rules.{attached, few_harts, rules_of}
 use Rattle.flat_snapshot.specs.Carried.{carried_config, carried_guest, hart_steps, resumed, slots_with, steps_at}
 use Rattle.flat_snapshot.specs.Ready.{IsConfigured, IsReady}
@@ -150,18 +146,6 @@ slots_are pages harts (r ∷ others) slots few each are =
 
 -- ---- the rest
 
-block_is : (k : DeviceKind) → is_kind kind.Block k ≡ true → k ≡ kind.Block
-block_is kind.Block is = refl
-block_is kind.Net is = cc
-block_is kind.Balloon is = cc
-block_is kind.Vsock is = cc
-
-blocks_are : (ports : List PortState) → list_all is_block_port ports ≡ true → All guest.IsBlockPort ports
-blocks_are [] each = All-nil guest.IsBlockPort
-blocks_are (p ∷ ports) each =
-    let parts = and_parts (is_block_port p) (list_all is_block_port ports) each in
-    All-cons guest.IsBlockPort p ports (block_is p.kind parts.0) (blocks_are ports parts.1)
-
 board_long : (harts : ℕ) (copy : StateCopy) → is_board harts copy.board ≡ true → IsLong harts (board_of copy)
 board_long harts copy is =
     let b = copy.board in
@@ -204,14 +188,13 @@ module _ (copy : StateCopy) (bytes : List ℕ) (tracking : Bool) (valid : IsTrue
             (none_reserved harts 0 (hart_limit * copy.pages));
       }
 
-  shaped : guest.IsShaped copy.pages harts (carried_guest copy bytes)
+  shaped : guest.IsShaped copy.pages harts (kinds_of copy.configuration) (carried_guest copy bytes)
   shaped =
-      let rules = rules_of copy valid in
-      let on = attached copy rules in record {
+      let rules = rules_of copy valid in record {
         few = few_harts copy rules;
         memory = memory_whole;
         board = board_long harts copy rules.board;
-        ports = blocks_are copy.ports on.blocks;
+        ports = kinds_there copy (has_parts copy rules.devices);
         many = length-map copy.harts regs_of ∙ eqb-true (length copy.harts) harts rules.many;
         each = λ k start now there leads. harts_shaped copy.pages copy.harts k start now rules.harts there leads;
       }
@@ -221,6 +204,6 @@ module _ (copy : StateCopy) (bytes : List ℕ) (tracking : Bool) (valid : IsTrue
       let rules = rules_of copy valid in
       let on = attached copy rules in record {
         configured = record { source = rules.source; drives = rules.drives; machine = machine_parts.0 };
-        shaped = subst (λ (n : ℕ). guest.IsShaped n harts (carried_guest copy bytes)) machine_parts.1 shaped;
+        shaped = subst (λ (n : ℕ). guest.IsShaped n harts (kinds_of copy.configuration) (carried_guest copy bytes)) machine_parts.1 shaped;
         devices = length-map copy.devices resumed ∙ on.devices;
       }

@@ -1,10 +1,9 @@
 -- Each copy of a guest that is ready passes the tests of a state file.
 use Rattle.std.proofs.Common.{◌≡◌, ◌≤◌, ◌<◌, ◌^◌, ℕ, zero, suc, ◌+◌, ◌*◌, ◌/◌, ◌%◌, ◌==◌, ◌&&◌, ◌||◌, not, nat_le, nat_lt, Bool, true, false, if◌then◌else◌, refl, sym, ap, subst, ◌∙◌, List, [], ◌∷◌, length, map, Option, Some, None, slice_get, arith}
 use Rattle.std.specs.Prelude.{is_some, bit_and}
-use Rattle.std.specs.List.{All, list_all}
+use Rattle.std.specs.List.{list_all}
 use Rattle.std.proofs.lemmas.Bool.{eq-eqb, le-leb, lt-ltb, ltb-false}
 use Rattle.std.proofs.lemmas.List.{length-map}
-use Rattle.std.proofs.lemmas.List.Elements.{All-head, All-tail}
 use Rattle.vm_types.specs.declared.ids.ActorId.{ActorId}
 use Rattle.vm_types.specs.declared.ids.ActorId.TheVariants.{Hart as HartId}
 use Rattle.vm_types.specs.declared.entry.Step.{Step}
@@ -15,9 +14,6 @@ use Rattle.board_table.specs.Kept.{IsLong}
 use Rattle.guest_memory.specs.Kept.{AreSlots}
 use Rattle.guest_memory.specs.Ram.{is_ram, page_size}
 use Rattle.guest_memory.specs.Reserved.{hart_limit}
-use Rattle.port_table.specs.declared.state.PortState.{PortState}
-use Rattle.port_table.specs.declared.kind.DeviceKind.{DeviceKind}
-use Rattle.port_table.specs.declared.kind.DeviceKind.TheVariants.{Block}
 use Rattle.rv_supervisor.specs.declared.regs.Regs.{Regs}
 use Rattle.rv_supervisor.specs.declared.regs.Turn.{Turn}
 use Rattle.rv_supervisor.specs.declared.regs.Turn.TheVariants as turn
@@ -34,7 +30,6 @@ use Rattle.guest_devices.proofs.Follows.{one_left}
 use Rattle.guest_devices.proofs.Placed.{bounded_kept, placed_alike}
 use Rattle.guest_devices.proofs.Soundness.{copied}
 use Rattle.flat_guest.specs.Guest.{Guest}
-use Rattle.flat_guest.specs.Shaped.{IsBlockPort}
 use Rattle.flat_guest.specs.Sound.{IsSound}
 use Rattle.snap_harts.specs.declared.hart.SavedHart.{SavedHart}
 use Rattle.snap_harts.specs.Copy.{is_due, place_of, regs_of, saved_hart}
@@ -42,8 +37,8 @@ use Rattle.snap_harts.proofs.Harts.{hart_back}
 use Rattle.snap_state.specs.declared.copy.Reservation.{Reservation}
 use Rattle.snap_state.specs.declared.copy.StateCopy.{StateCopy}
 use Rattle.snap_state.specs.Copy.{saved_board}
-use Rattle.snap_state.proofs.HasDevices.{has_all, is_block_port}
-use Rattle.snap_state.specs.Valid.{are_devices, asks, has_bits, has_devices, has_machine, is_aligned, is_before, is_board, is_counted, is_device, is_granule, is_hart, is_kind, is_machine, is_placed, is_reserved, is_rising, is_valid, rises_from}
+use Rattle.snap_state.proofs.HasDevices.{has_kinds}
+use Rattle.snap_state.specs.Valid.{are_devices, asks, has_bits, has_devices, has_machine, is_aligned, is_before, is_board, is_counted, is_device, is_granule, is_hart, is_machine, is_placed, is_reserved, is_rising, is_valid, rises_from}
 use Rattle.snap_state.proofs.Rules.{Rules, rules_hold}
 use Rattle.flat_snapshot.specs.Copies.{AreHarts, AreKept, IsCopyOf, copy_of, reservations_from}
 use Rattle.flat_snapshot.specs.Ready.{IsConfigured, IsReady}
@@ -214,12 +209,6 @@ many_kept [] (d ∷ devices) are = absurd are
 many_kept (it ∷ kept) [] are = absurd are
 many_kept (it ∷ kept) (d ∷ devices) are = ap suc (many_kept kept devices are.2)
 
-ports_valid : (ports : List PortState) → All IsBlockPort ports → list_all is_block_port ports ≡ true
-ports_valid [] blocks = refl
-ports_valid (p ∷ ports) blocks =
-    all (is_block_port p) (list_all is_block_port ports) (ap (is_kind Block) (All-head IsBlockPort p ports blocks))
-    (ports_valid ports (All-tail IsBlockPort p ports blocks))
-
 -- ---- the board, and the machine
 
 board_valid : (harts : ℕ) (b : Board) → IsLong harts b → is_board harts (saved_board b) ≡ true
@@ -267,16 +256,11 @@ module _ (config : Config) (g : Guest) (sound : IsSound g) (is : IsReady config 
   devices_are : has_devices copy ≡ true
   devices_are =
       let count = is.devices in
-      has_all copy (record {
-        ports = sound.devices_on.as_many ∙ count;
-        devices = many_kept kept g.devices tell ∙ count;
-        blocks = ports_valid g.ports is.shaped.ports;
-        each =
-            devices_valid copy.pages 0 kept g.devices few_pages tell
-            (λ i d there.
-            let here : i ≡ 0 + i = omega arith in
-            subst (λ (n : ℕ). IsSoundDevice n copy.pages d) here (sound.devices_on.each i d there));
-      })
+      has_kinds copy is.shaped.ports (many_kept kept g.devices tell ∙ count)
+      (devices_valid copy.pages 0 kept g.devices few_pages tell
+      (λ i d there.
+      let here : i ≡ 0 + i = omega arith in
+      subst (λ (n : ℕ). IsSoundDevice n copy.pages d) here (sound.devices_on.each i d there)))
 
   machine_is : has_machine copy config.machine ≡ true
   machine_is =

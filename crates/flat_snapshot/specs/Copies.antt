@@ -14,6 +14,7 @@ use Rattle.guest_devices.specs.Devices.{DeviceLeads, FlatDevice}
 use Rattle.guest_devices.specs.Kept.{device_left, is_kept}
 use Rattle.flat_guest.specs.Guest.{Guest}
 use Rattle.snap_state.specs.declared.configuration.BootSource.{BootSource}
+use Rattle.snap_state.specs.declared.configuration.Configuration.{Configuration}
 use Rattle.snap_state.specs.declared.copy.Reservation.{Reservation}
 use Rattle.snap_state.specs.declared.copy.StateCopy.{StateCopy}
 use Rattle.snap_harts.specs.Copy.{saved_hart}
@@ -49,14 +50,18 @@ source_of (Some source) =
       boot_args = source.boot_args;
     }
 
+-- what is kept of a configuration
+abbrev pub configuration_of : Config → Configuration
+configuration_of config = record {
+  boot_source = source_of config.boot_source;
+  drives = config.drives;
+  machine = config.machine;
+}
+
 -- the copy of a guest whose harts are where these are, with this kept of its devices
 abbrev pub copy_of : Config → Guest → List Hart → List Device → StateCopy
 copy_of config g harts kept = record {
-  configuration = record {
-    boot_source = source_of config.boot_source;
-    drives = config.drives;
-    machine = config.machine;
-  };
+  configuration = configuration_of config;
   pages = length g.memory.bytes / page_size;
   track_dirty_pages = config.machine.track_dirty_pages;
   guest_time = g.board.now;

@@ -3,8 +3,8 @@ use Rattle.std.specs.Prelude.{◌≡◌, ◌*◌, true, length}
 use Rattle.vm_config.specs.declared.config.Config.{Config}
 use Rattle.flat_guest.specs.Guest.{Guest}
 use Rattle.flat_guest.specs.Shaped.{IsShaped}
-use Rattle.snap_state.specs.Valid.{are_drives, is_machine, is_source}
-use Rattle.flat_snapshot.specs.Copies.{source_of}
+use Rattle.snap_state.specs.Valid.{are_drives, is_machine, is_source, kinds_of}
+use Rattle.flat_snapshot.specs.Copies.{configuration_of, source_of}
 
 -- as the API takes it, with what is booted
 pub record IsConfigured (config : Config) : Type 0 where
@@ -12,8 +12,9 @@ pub record IsConfigured (config : Config) : Type 0 where
   pub drives : are_drives config.drives ≡ true
   pub machine : is_machine config.machine ≡ true
 
--- the guest has its harts and its pages, 256 for each MiB, and a device for each drive
+-- the guest has its harts and its pages, 256 for each MiB, a port of each kind that is configured, and a device for each drive
 pub record IsReady (config : Config) (g : Guest) : Type 0 where
   pub configured : IsConfigured config
-  pub shaped : IsShaped (256 * config.machine.mem_size_mib) config.machine.vcpu_count g
+  pub shaped :
+      IsShaped (256 * config.machine.mem_size_mib) config.machine.vcpu_count (kinds_of (configuration_of config)) g
   pub devices : length g.devices ≡ length config.drives

@@ -4,18 +4,47 @@ use Rattle.std.specs.List.{list_all}
 use Rattle.std.proofs.lemmas.Bool.{and_parts, eq-eqb, eqb-true}
 use Rattle.api_calls.specs.declared.call.Drive.{Drive}
 use Rattle.port_table.specs.declared.kind.DeviceKind.{DeviceKind}
-use Rattle.port_table.specs.declared.kind.DeviceKind.TheVariants.{Block}
+use Rattle.port_table.specs.declared.kind.DeviceKind.TheVariants.{Net, Block, Balloon, Vsock}
 use Rattle.port_table.specs.declared.state.PortState.{PortState}
 use Rattle.guest_devices.specs.declared.device.Device.{Device}
 use Rattle.guest_devices.specs.declared.device.Device.TheVariants as device
 use Rattle.snap_state.specs.declared.copy.StateCopy.{StateCopy}
-use Rattle.snap_state.specs.Valid.{are_devices, are_kinds, has_devices, is_kind, kind_of, port_kind}
+use Rattle.snap_state.specs.Valid.{are_devices, are_kinds, has_devices, is_kind, kind_of, kinds_of, port_kind}
 
 abbrev pub is_block_port : PortState → Bool
 is_block_port p = is_kind Block (port_kind p)
 
 abbrev block_kinds : List Drive → List DeviceKind
 block_kinds drives = map (λ (d : Drive). Block) drives
+
+-- ---- kinds
+
+block_is : (kind : DeviceKind) → is_kind Block kind ≡ true → kind ≡ Block
+block_is Block is = refl
+block_is Net is = cc
+block_is Balloon is = cc
+block_is Vsock is = cc
+
+kind_same : (kind : DeviceKind) → is_kind kind kind ≡ true
+kind_same Net = refl
+kind_same Block = refl
+kind_same Balloon = refl
+kind_same Vsock = refl
+
+kinds_same : (kinds : List DeviceKind) → are_kinds kinds kinds ≡ true
+kinds_same [] = refl
+kinds_same (kind ∷ kinds) = rw (kind_same kind, kinds_same kinds) refl
+
+-- ports of block devices are of the kinds that as many drives have
+block_ports : (drives : List Drive) (ports : List PortState) → length ports ≡ length drives → list_all is_block_port ports ≡ true
+    → map port_kind ports ≡ block_kinds drives
+block_ports [] [] many each = refl
+block_ports [] (p ∷ ports) many each = absurd (omega (arith, many))
+block_ports (d ∷ drives) [] many each = absurd (omega (arith, many))
+block_ports (d ∷ drives) (p ∷ ports) many each =
+    let first = and_parts (is_block_port p) (list_all is_block_port ports) each in
+    ap (λ (kind : DeviceKind). kind ∷ map port_kind ports) (block_is p.kind first.0)
+    ∙ ap (λ (l : List DeviceKind). Block ∷ l) (block_ports drives ports (omega (arith, many)) first.1)
 
 -- ---- ports
 
@@ -83,6 +112,17 @@ has_all c has =
       devices_hold c.configuration.drives c.devices has.devices,
       has.each,
     ) refl
+
+-- by the kinds of its ports
+pub kinds_there : (c : StateCopy) → HasDevices c → map port_kind c.ports ≡ kinds_of c.configuration
+kinds_there c has = block_ports c.configuration.drives c.ports has.ports has.blocks
+
+pub has_kinds : (c : StateCopy) → map port_kind c.ports ≡ kinds_of c.configuration → length c.devices ≡ length c.configuration.drives
+    → are_devices c.pages 0 c.devices ≡ true → has_devices c ≡ true
+has_kinds c kinds many each =
+    let ports : are_kinds (kinds_of c.configuration) (map port_kind c.ports) ≡ true =
+    ap (are_kinds (kinds_of c.configuration)) kinds ∙ kinds_same (kinds_of c.configuration) in
+    rw (ports, devices_hold c.configuration.drives c.devices many, each) refl
 
 -- ---- as the code tests it
 
