@@ -1,19 +1,19 @@
--- A change from the API leads a body and its guest on alike.
-use Rattle.std.proofs.Common.{◌≡◌, ℕ, ◌==◌, ◌<◌, ◌^◌, Bool, true, false, refl, sym, ap, subst, ◌∙◌, List, length, Option, Some, None, slice_get, slice_set}
+-- A change from the API, and a Reset, lead a body and its guest on alike.
+use Rattle.std.proofs.Common.{◌≡◌, ℕ, ◌==◌, ◌<◌, ◌^◌, Bool, true, false, refl, sym, ap, subst, ◌∙◌, List, length, Option, Some, None, slice_get, slice_set, map}
 use Rattle.std.proofs.lemmas.Bool.{eqb-true, eqb-false}
-use Rattle.std.proofs.lemmas.List.{length-set}
+use Rattle.std.proofs.lemmas.List.{length-map, length-set}
 use Rattle.vm_types.specs.declared.ids.ActorId.{ActorId}
 use Rattle.board_table.specs.Acts.{raise_line}
 use Rattle.board_table.specs.Board.{Board}
 use Rattle.port_table.specs.declared.state.PortState.{PortState}
 use Rattle.block_device.specs.Block.Change.{Sectors}
-use Rattle.guest_devices.specs.Devices.{BlockChanged, DeviceChange, DeviceLeads, DeviceLeft, FlatDevice, device_changed, device_told}
-use Rattle.guest_devices.proofs.Follows.{told_leads}
+use Rattle.guest_devices.specs.Devices.{BlockChanged, DeviceChange, DeviceLeads, DeviceLeft, FlatDevice, device_changed, device_reset, device_told, left_reset}
+use Rattle.guest_devices.proofs.Follows.{reset_leads, told_leads}
 use Rattle.flat_guest.specs.Body.{Body, IsGuest, lefts_resized}
-use Rattle.flat_guest.specs.Changes.{resized, sectors_shown, sectors_told}
+use Rattle.flat_guest.specs.Changes.{reset_guest, resized, sectors_shown, sectors_told}
 use Rattle.flat_guest.specs.Guest.{Guest, whole_pages}
-use Rattle.flat_guest.proofs.Devices.{sound_resized}
-use Rattle.flat_guest.proofs.Lists.{get_set_other, get_set_same, some_is, there_too}
+use Rattle.flat_guest.proofs.Devices.{sound_devices_reset, sound_resized}
+use Rattle.flat_guest.proofs.Lists.{get_set_other, get_set_same, mapped_from, some_is, there_too}
 
 module _ (lefts : List DeviceLeft) (devices : List FlatDevice) (many : length lefts ≡ length devices)
     (leads : (k : ℕ) (d : FlatDevice) (left : DeviceLeft) → slice_get devices k ≡ Some d → slice_get lefts k ≡ Some left
@@ -91,3 +91,34 @@ resized_is b g k sectors size is =
         sound = sound_resized (whole_pages g.memory) g.ports g.devices is.devices_are.sound k sectors size;
       };
     }
+
+-- ---- a Reset
+
+abbrev pub body_reset : Body → Body
+body_reset b = record b { devices = map left_reset b.devices }
+
+reset_each : (lefts : List DeviceLeft) (devices : List FlatDevice)
+    → ((k : ℕ) (d : FlatDevice) (left : DeviceLeft) → slice_get devices k ≡ Some d → slice_get lefts k ≡ Some left
+    → DeviceLeads d left)
+    → (k : ℕ) (d : FlatDevice) (left : DeviceLeft) → slice_get (map device_reset devices) k ≡ Some d
+    → slice_get (map left_reset lefts) k ≡ Some left → DeviceLeads d left
+reset_each lefts devices leads k d left d_is left_is =
+    let x = mapped_from device_reset devices k d d_is in
+    let l = mapped_from left_reset lefts k left left_is in
+    subst (λ (e : FlatDevice). DeviceLeads e left) x.2
+    (subst (λ (m : DeviceLeft). DeviceLeads (device_reset x.0) m) l.2 (reset_leads x.0 l.0 (leads k x.0 l.0 x.1 l.1)))
+
+pub reset_is : (b : Body) (g : Guest) → IsGuest b g → IsGuest (body_reset b) (reset_guest g)
+reset_is b g is = record {
+  memory_is = is.memory_is;
+  marks_are = is.marks_are;
+  board_is = is.board_is;
+  ports_are = is.ports_are;
+  timer_is = is.timer_is;
+  harts_are = record { count = is.harts_are.count; each = is.harts_are.each };
+  devices_are = record {
+    count = length-map b.devices left_reset ∙ is.devices_are.count ∙ sym (length-map g.devices device_reset);
+    each = reset_each b.devices g.devices is.devices_are.each;
+    sound = sound_devices_reset (whole_pages g.memory) g.ports g.devices is.devices_are.sound;
+  };
+}

@@ -2,7 +2,7 @@
 use Rattle.std.proofs.Common.{◌≡◌, ℕ, zero, suc, ◌+◌, ◌==◌, ◌<◌, ◌^◌, Bool, true, false, refl, sym, ap, subst, ◌∙◌, List, [], ◌∷◌, arith}
 use Rattle.std.proofs.Common.{length, map, Option, Some, None, slice_get, slice_set}
 use Rattle.std.specs.List.{All}
-use Rattle.std.proofs.lemmas.List.{length-set}
+use Rattle.std.proofs.lemmas.List.{length-map, length-set}
 use Rattle.std.proofs.lemmas.List.Elements.{All-head, All-tail}
 use Rattle.std.proofs.lemmas.Bool.{eqb-true, eqb-false}
 use Rattle.vm_types.specs.declared.ids.ActorId.{ActorId}
@@ -16,16 +16,16 @@ use Rattle.port_table.specs.Acts as port
 use Rattle.port_table.specs.declared.state.PortState.{PortState}
 use Rattle.block_device.specs.Block.Change.{Sectors}
 use Rattle.guest_devices.specs.declared.new_device.NewDevice.{NewDevice}
-use Rattle.guest_devices.specs.Devices.{BlockChanged, DeviceChange, FitsNew, FlatDevice, device_did, device_told, new_device}
+use Rattle.guest_devices.specs.Devices.{BlockChanged, DeviceChange, FitsNew, FlatDevice, device_did, device_reset, device_told, new_device}
 use Rattle.guest_devices.specs.Sound.{IsSoundDevice}
-use Rattle.guest_devices.proofs.Soundness.{did_sound, new_sound, told_sound}
+use Rattle.guest_devices.proofs.Soundness.{did_sound, new_sound, reset_sound, told_sound}
 use Rattle.flat_guest.specs.Changes.{sectors_shown, sectors_told}
 use Rattle.flat_guest.specs.Guest.{Guest, Wants, WantsOf, whole_pages}
 use Rattle.flat_guest.specs.Sound.{AreSoundDevices}
 use Rattle.flat_guest.specs.Start.{devices_at_start, port_at_start}
 use Rattle.flat_guest.specs.Steps.{device_after, devices_after, memory_after, port_after, ports_after}
 use Rattle.flat_guest.proofs.Lengths.{pages_kept}
-use Rattle.flat_guest.proofs.Lists.{get_set_other, get_set_same, some_is}
+use Rattle.flat_guest.proofs.Lists.{get_set_other, get_set_same, mapped_from, some_is}
 
 port_many : (o : Option PortState) (ports : List PortState) (k : ℕ) (actor : ActorId) (op : Op)
     → length (port_after o ports k actor op) ≡ length ports
@@ -122,6 +122,22 @@ sound_resized pages ports devices sound k sectors size = record {
   as_many = shown_many (slice_get ports k) ports k sectors ∙ sound.as_many
       ∙ sym (told_many (slice_get devices k) devices k sectors);
   each = each_told pages devices sound.each k sectors (slice_get devices k) size refl;
+}
+
+-- by a Reset
+pub reset_many : (devices : List FlatDevice) → length (map device_reset devices) ≡ length devices
+reset_many devices = length-map devices device_reset
+
+each_reset : (pages : ℕ) (devices : List FlatDevice) → Each pages devices → Each pages (map device_reset devices)
+each_reset pages devices each k d is =
+    let from = mapped_from device_reset devices k d is in
+    subst (λ (e : FlatDevice). IsSoundDevice k pages e) from.2 (reset_sound k pages from.0 (each k from.0 from.1))
+
+pub sound_devices_reset : (pages : ℕ) (ports : List PortState) (devices : List FlatDevice) → AreSoundDevices pages ports devices
+    → AreSoundDevices pages ports (map device_reset devices)
+sound_devices_reset pages ports devices sound = record {
+  as_many = sound.as_many ∙ sym (reset_many devices);
+  each = each_reset pages devices sound.each;
 }
 
 -- and at the start

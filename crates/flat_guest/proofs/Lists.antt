@@ -1,5 +1,5 @@
 -- Lists, one of whose members is another.
-use Rattle.std.proofs.Common.{◌≡◌, ℕ, zero, suc, ◌<◌, nat_lt, true, refl, ap, List, [], ◌∷◌, length, Some, slice_get, slice_set, arith}
+use Rattle.std.proofs.Common.{◌≡◌, ℕ, zero, suc, ◌<◌, nat_lt, true, refl, ap, List, [], ◌∷◌, length, map, Some, slice_get, slice_set, arith}
 use Rattle.std.proofs.lemmas.Bool.{lt-ltb, ltb-true}
 
 pub there_too : {A B : Type 0} (xs : List A) (ys : List B) (k : ℕ) (x : A) → length xs ≡ length ys
@@ -25,6 +25,13 @@ get_set_other (z ∷ xs) (suc j) (suc k) y other = get_set_other xs j k y (λ is
 
 pub some_is : {A : Type 0} (x y : A) → Some x ≡ Some y → x ≡ y
 some_is x y is = cc
+
+-- what a list has by a function comes of what it has
+pub mapped_from : {A B : Type 0} (f : A → B) (xs : List A) (k : ℕ) (y : B) → slice_get (map f xs) k ≡ Some y
+    → (x : A) × (slice_get xs k ≡ Some x) × (f x ≡ y)
+mapped_from f [] k y is = cc
+mapped_from f (x ∷ xs) zero y is = (x, refl, some_is (f x) y is)
+mapped_from f (x ∷ xs) (suc k) y is = mapped_from f xs k y is
 
 sooner : (k n : ℕ) → nat_lt k n ≡ true → nat_lt (suc k) (suc n) ≡ true
 sooner k n is =

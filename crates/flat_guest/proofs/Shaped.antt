@@ -36,7 +36,7 @@ use Rattle.hart_trace.proofs.OneHart.{one_hart}
 use Rattle.hart_trace.proofs.Traces.{leads_start, some_hart, wants_only}
 use Rattle.guest_devices.specs.declared.new_device.NewDevice.{NewDevice}
 use Rattle.flat_guest.specs.Body.{out_reply, reply_at}
-use Rattle.flat_guest.specs.Changes.{resized, sectors_shown}
+use Rattle.flat_guest.specs.Changes.{reset_guest, resized, sectors_shown}
 use Rattle.flat_guest.specs.Guest.{Guest, Wants, WantsFrom, unwritten}
 use Rattle.flat_guest.specs.Sound.{IsSound}
 use Rattle.flat_guest.specs.Start.{start_of_harts, started, timer_restarted}
@@ -230,6 +230,16 @@ shaped_restart pages harts kinds g is = record {
 
 pub shaped_unwritten : (pages harts : ℕ) (kinds : List DeviceKind) (g : Guest) → IsShaped pages harts kinds g → IsShaped pages harts kinds (unwritten g)
 shaped_unwritten pages harts kinds g is = record {
+  few = is.few;
+  memory = is.memory;
+  board = is.board;
+  ports = is.ports;
+  many = is.many;
+  each = λ k start now there leads. is.each k start now there leads;
+}
+
+pub shaped_reset : (pages harts : ℕ) (kinds : List DeviceKind) (g : Guest) → IsShaped pages harts kinds g → IsShaped pages harts kinds (reset_guest g)
+shaped_reset pages harts kinds g is = record {
   few = is.few;
   memory = is.memory;
   board = is.board;

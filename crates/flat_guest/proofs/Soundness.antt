@@ -27,7 +27,7 @@ use Rattle.guest_memory.specs.Boot.{Loads, boot_memory}
 use Rattle.guest_devices.specs.declared.new_device.NewDevice.{NewDevice}
 use Rattle.guest_devices.specs.Devices.{FitsNew, FlatDevice, device_calls, device_times}
 use Rattle.guest_devices.proofs.Soundness.{some_want as device_want, want_own}
-use Rattle.flat_guest.specs.Changes.{resized}
+use Rattle.flat_guest.specs.Changes.{reset_guest, resized}
 use Rattle.flat_guest.specs.Guest.{Guest, Wants, WantsFrom, WantsOf, is_actor, layout_of, whole_pages}
 use Rattle.flat_guest.specs.Places.{place_of}
 use Rattle.flat_guest.specs.declared.places.Layout.{Layout}
@@ -62,6 +62,13 @@ sound_resize g k sectors size sound = record {
   timer_on = sound.timer_on;
   harts_on = λ j start is. sound.harts_on j start is;
   devices_on = devices.sound_resized (whole_pages g.memory) g.ports g.devices sound.devices_on k sectors size;
+}
+
+pub sound_reset : (g : Guest) → IsSound g → IsSound (reset_guest g)
+sound_reset g sound = record {
+  timer_on = sound.timer_on;
+  harts_on = λ k start is. sound.harts_on k start is;
+  devices_on = devices.sound_devices_reset (whole_pages g.memory) g.ports g.devices sound.devices_on;
 }
 
 -- what an actor wants on a port is on one that is there, and a hart wants nothing of a host object

@@ -1,5 +1,5 @@
--- What the API changes of a guest. A change is no event.
-use Rattle.std.specs.Prelude.{ℕ, List, Option, Some, None, slice_get, slice_set}
+-- What the API changes of a guest, and the Reset that comes before a create. Neither is an event.
+use Rattle.std.specs.Prelude.{ℕ, List, Option, Some, None, map, slice_get, slice_set}
 use Rattle.vm_types.specs.declared.ids.ActorId.TheVariants.{Device}
 use Rattle.board_table.specs.Acts.{raise_line}
 use Rattle.board_table.specs.Board.{Board}
@@ -7,7 +7,7 @@ use Rattle.le_fields.specs.Fields.{bytes_of}
 use Rattle.port_table.specs.declared.state.PortState.{PortState}
 use Rattle.port_table.specs.Acts.{configured}
 use Rattle.block_device.specs.Block.Change.{Sectors}
-use Rattle.guest_devices.specs.Devices.{BlockChanged, DeviceChange, FlatDevice, device_told}
+use Rattle.guest_devices.specs.Devices.{BlockChanged, DeviceChange, FlatDevice, device_reset, device_told}
 use Rattle.flat_guest.specs.Guest.{Guest}
 
 -- the device of this number, if it is there, is told of a change
@@ -54,3 +54,7 @@ sectors_shown p ports k sectors = ports_shown p ports k (bytes_of 8 sectors)
 -- the disk of block device k has another size, in sectors of 512 bytes
 abbrev pub resized : ℕ → ℕ → Guest → Guest
 resized k sectors g = told k (sectors_change sectors) (capacity_shown sectors) g
+
+-- a guest behind the Reset that comes before a create: each device is told of it, and all else stays
+abbrev pub reset_guest : Guest → Guest
+reset_guest g = record g { devices = map device_reset g.devices }

@@ -12,7 +12,7 @@ ghost use Rattle.guest_devices.specs.declared.new_device.NewDevice.{NewDevice};
 ghost use Rattle.guest_devices.specs.Devices.{FitsNew};
 ghost use Rattle.flat_guest.specs.Given.{Event, Given};
 ghost use Rattle.flat_guest.specs.Given.Given.{Nothing};
-ghost use Rattle.flat_guest.specs.Changes.{resized};
+ghost use Rattle.flat_guest.specs.Changes.{reset_guest, resized};
 ghost use Rattle.flat_guest.specs.Guest.{Guest, Wants, is_actor};
 ghost use Rattle.flat_guest.specs.Same.{AreAlike};
 ghost use Rattle.flat_guest.specs.Shaped.{IsShaped, kinds_at_start};
@@ -43,6 +43,7 @@ pub fn some_step()
         All FitsNew devices → IsSound (started harts mib loads devices) }
     ensures restart { (g : Guest) → IsSound g → IsSound (timer_restarted g) }
     ensures resize { (g : Guest) (k sectors : ℕ) → sectors < 2 ^ 64 → IsSound g → IsSound (resized k sectors g) }
+    ensures reset { (g : Guest) → IsSound g → IsSound (reset_guest g) }
     ensures step { (g : Guest) (actor : ActorId) → IsSound g → is_actor g actor ≡ true →
         (op : Op) × Wants g actor op × ((given : Given) → is_given op given ≡ true →
         (e : Entry) × (h : Guest) × IsUnstamped e
@@ -64,6 +65,8 @@ pub fn same_shape()
         IsShaped pages harts kinds (timer_restarted g) }
     ensures resize { (pages harts : ℕ) (kinds : List DeviceKind) (g : Guest) (k sectors : ℕ) →
         IsShaped pages harts kinds g → IsShaped pages harts kinds (resized k sectors g) }
+    ensures reset { (pages harts : ℕ) (kinds : List DeviceKind) (g : Guest) → IsShaped pages harts kinds g →
+        IsShaped pages harts kinds (reset_guest g) }
     ensures stays { (pages harts : ℕ) (kinds : List DeviceKind) (g : Guest) (event : Event) (e : Entry) (h : Guest) →
         IsSound g → IsShaped pages harts kinds g → FlatStep g event e h → IsShaped pages harts kinds h }
 {}

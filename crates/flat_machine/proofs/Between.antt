@@ -31,11 +31,11 @@ use Rattle.script_text.specs.declared.item.Item.TheVariants as item
 use Rattle.serde_json.specs.Data.{Data}
 use Rattle.metadata_store.specs.Store.{patched, put}
 use Rattle.guest_devices.specs.declared.device.Device.{Device}
-use Rattle.flat_guest.specs.Changes.{resized}
+use Rattle.flat_guest.specs.Changes.{reset_guest, resized}
 use Rattle.flat_guest.specs.Guest.{Guest, is_actor, unwritten}
 use Rattle.flat_guest.specs.Start.{timer_restarted}
 use Rattle.flat_guest.specs.Steps.{FlatStep, Makes, is_given}
-use Rattle.flat_guest.proofs.Devices.{devices_many, told_many}
+use Rattle.flat_guest.proofs.Devices.{devices_many, reset_many, told_many}
 use Rattle.flat_snapshot.specs.Unwritten.{KeepsUnwritten}
 use Rattle.flat_snapshot.proofs.Unwritten.{keeps_joined, keeps_same, one_keeps, several_keep}
 use Rattle.flat_machine.specs.Between.{GoesOn, NoCreate, SomeCreate}
@@ -187,9 +187,9 @@ create_on : (g : Guest) (guest : Option Guest) (m : Machine) (it : SnapshotCreat
     → Creates guest m it kept n → GoesOn g m n
 create_on g None m it kept n there x = absurd cc
 create_on g (Some q) m it kept n there (copy, of, tells, is) = record {
-  guest = unwritten q;
+  guest = unwritten (reset_guest q);
   there = ap (λ (k : Machine). k.guest) is;
-  devices = ap (λ (x : Guest). length x.devices) (same_guest q g there);
+  devices = reset_many q.devices ∙ ap (λ (x : Guest). length x.devices) (same_guest q g there);
   numbers = (let number : n.ids.next ≡ m.ids.next + 1 = ap (λ (k : Machine). k.ids.next) is in omega (arith, number));
   since = inr (record { base = next_identity m; base_is = ap (λ (k : Machine). k.ids.base) is; new = omega arith });
 }

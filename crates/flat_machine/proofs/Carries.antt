@@ -10,6 +10,7 @@ use Rattle.vm_types.specs.declared.identity.Identity.{Identity}
 use Rattle.api_calls.specs.declared.call.SnapshotLoad.{SnapshotLoad}
 use Rattle.vm_config.specs.declared.change.Change.TheVariants as change
 use Rattle.guest_memory.specs.Ram.{page_size}
+use Rattle.flat_guest.specs.Changes.{reset_guest}
 use Rattle.flat_guest.specs.Guest.{Guest}
 use Rattle.snap_memory.specs.Headers.{header, new_header}
 use Rattle.snap_state.specs.declared.copy.StateCopy.{StateCopy}
@@ -23,14 +24,15 @@ use Rattle.flat_machine.specs.Requests.{Creates, Leaves, Restores, carried, crea
 use Rattle.flat_machine.proofs.Determined.{creates_one}
 
 -- a create of this copy leaves what it makes of it, as no other copy of the guest has these devices
-pub created_is : (m n : Machine) (g : Guest) (it : SnapshotCreate) (copy : StateCopy) → m.guest ≡ Some g → IsCopyOf m.config g copy
-    → Creates m.guest m it copy.devices n → n ≡ created m g it.files (parent_in m it) copy
+pub created_is : (m n : Machine) (g : Guest) (it : SnapshotCreate) (copy : StateCopy) → m.guest ≡ Some g
+    → IsCopyOf m.config (reset_guest g) copy → Creates m.guest m it copy.devices n
+    → n ≡ created m (reset_guest g) it.files (parent_in m it) copy
 created_is m n g it copy there of creates =
-    creates_one (Some g) m it copy.devices n (created m g it.files (parent_in m it) copy)
+    creates_one (Some g) m it copy.devices n (created m (reset_guest g) it.files (parent_in m it) copy)
     (subst (λ (o : Option Guest). Creates o m it copy.devices n) there creates) (copy, of, refl, refl)
 
 module _ (m n k : Machine) (g : Guest) (it : SnapshotCreate) (load : SnapshotLoad) (copy : StateCopy) (full : it.snapshot_type ≡ snapshot.Full)
-    (there : m.guest ≡ Some g) (differ : it.files.mem_file_path ≢ it.files.snapshot_path) (of : IsCopyOf m.config g copy)
+    (there : m.guest ≡ Some g) (differ : it.files.mem_file_path ≢ it.files.snapshot_path) (of : IsCopyOf m.config (reset_guest g) copy)
     (saved : IsSaved current_version (record { identity = next_identity m; copy = copy })) (fits : header.Fits (new_header copy.pages (next_identity m)))
     (whole : length g.memory.bytes ≡ page_size * copy.pages) (creates : Creates m.guest m it copy.devices n) (names : load.files ≡ it.files)
     (same : k.saved ≡ n.saved) where
@@ -40,10 +42,10 @@ module _ (m n k : Machine) (g : Guest) (it : SnapshotCreate) (load : SnapshotLoa
   since : parent_in m it ≡ None
   since = ap (λ (t : SnapshotType). parent_of t m.ids.base) full
 
-  left : n ≡ created m g it.files None copy
+  left : n ≡ created m (reset_guest g) it.files None copy
   left =
       created_is m n g it copy there of creates
-      ∙ ap (λ (parent : Option Identity). created m g it.files parent copy) since
+      ∙ ap (λ (parent : Option Identity). created m (reset_guest g) it.files parent copy) since
 
   pub finds_of : found k.saved load.files ≡ Ok snapshot_of
   finds_of =

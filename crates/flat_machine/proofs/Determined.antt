@@ -29,6 +29,7 @@ use Rattle.script_text.specs.declared.output.Misfit.TheVariants as misfit
 use Rattle.script_text.specs.Output.{register_line}
 use Rattle.response_form.specs.Responses.{Response}
 use Rattle.guest_devices.specs.declared.device.Device.{Device}
+use Rattle.flat_guest.specs.Changes.{reset_guest}
 use Rattle.flat_guest.specs.Guest.{Guest, is_actor}
 use Rattle.flat_guest.specs.Steps.{is_given}
 use Rattle.flat_guest.proofs.Determined.{same_after, several_made, several_one, wants_one}
@@ -66,7 +67,9 @@ pub creates_one : (guest : Option Guest) (m : Machine) (it : SnapshotCreate) (ke
     → Creates guest m it kept n → Creates guest m it kept k → n ≡ k
 creates_one None m it kept n k x y = x.1 ∙ sym y.1
 creates_one (Some g) m it kept n k (copy, of, tells, is) (other, same, says, be) =
-    is ∙ ap (λ (c : StateCopy). created m g it.files (parent_in m it) c) (same_copy m.config g copy other (tells ∙ sym says) of same)
+    is
+    ∙ ap (λ (c : StateCopy). created m (reset_guest g) it.files (parent_in m it) c)
+    (same_copy m.config (reset_guest g) copy other (tells ∙ sym says) of same)
     ∙ sym be
 
 loads_one : (it : Result Snapshot Refusal) (m : Machine) (load : SnapshotLoad) (n k : Machine) → Restores it m load n → Restores it m load k → n ≡ k
@@ -104,9 +107,9 @@ create_fails_one : (guest : Option Guest) (m : Machine) (it : SnapshotCreate) (l
     → CreateFails guest m it left k → n ≡ k
 create_fails_one None m it left n k x y = absurd x
 create_fails_one (Some g) m it left n k x y =
-    let one = same_copy m.config g x.copy y.copy (x.tells ∙ sym y.tells) x.is_copy y.is_copy in
+    let one = same_copy m.config (reset_guest g) x.copy y.copy (x.tells ∙ sym y.tells) x.is_copy y.is_copy in
     let calls : n.calls ≡ k.calls =
-    x.begun ∙ ap (λ (c : StateCopy). m.calls ++ take left.begun (calls_in m g it c)) one ∙ sym y.begun in
+    x.begun ∙ ap (λ (c : StateCopy). m.calls ++ take left.begun (calls_in m (reset_guest g) it c)) one ∙ sym y.begun in
     let saved : n.saved ≡ k.saved =
     same_saved n.saved k.saved
     (one_text it.files m.saved n.saved k.saved (x.memory ∙ sym y.memory) (x.state ∙ sym y.state) x.others y.others) in

@@ -1,5 +1,5 @@
 -- A machine without devices keeps nothing of them.
-use Rattle.std.proofs.Common.{◌≡◌, ℕ, refl, sym, ap, subst, ◌∙◌, List, [], ◌∷◌, length, arith, Option, Some, None, Result, Ok, Err}
+use Rattle.std.proofs.Common.{◌≡◌, ℕ, refl, sym, ap, subst, ◌∙◌, List, [], ◌∷◌, length, map, arith, Option, Some, None, Result, Ok, Err}
 use Rattle.refusals.specs.declared.refusal.Refusal.{Refusal}
 use Rattle.http_stream.specs.Stream.{Connection}
 use Rattle.http_stream.specs.declared.request.Next.{Next}
@@ -12,7 +12,7 @@ use Rattle.vm_config.specs.declared.change.Change.{Change}
 use Rattle.vm_config.specs.declared.change.Change.TheVariants as change
 use Rattle.response_form.specs.Responses.{Response}
 use Rattle.guest_devices.specs.declared.device.Device.{Device}
-use Rattle.guest_devices.specs.Devices.{FlatDevice}
+use Rattle.guest_devices.specs.Devices.{FlatDevice, device_reset}
 use Rattle.flat_guest.specs.Guest.{Guest}
 use Rattle.flat_snapshot.specs.Copies.{AreKept}
 use Rattle.flat_machine.specs.Between.{GoesOn}
@@ -32,7 +32,7 @@ create_keeps : (guest : Option Guest) (m : Machine) (it : SnapshotCreate) (kept 
     → Creates guest m it kept n → kept ≡ []
 create_keeps None m it kept n none x = x.0
 create_keeps (Some g) m it kept n none (copy, of, tells, is) =
-    sym tells ∙ of_none copy.devices (subst (λ (l : List FlatDevice). AreKept copy.devices l) none of.2)
+    sym tells ∙ of_none copy.devices (subst (λ (l : List FlatDevice). AreKept copy.devices (map device_reset l)) none of.2)
 
 result_keeps : (r : Result Change Refusal) (m : Machine) (kept : List Device) (n : Machine) → devices_of m.guest ≡ [] → LeavesBy m r kept n
     → kept ≡ []

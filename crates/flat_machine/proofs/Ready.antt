@@ -41,7 +41,7 @@ use Rattle.script_text.specs.declared.item.Item.TheVariants as item
 use Rattle.response_form.specs.Responses.{Response}
 use Rattle.guest_devices.specs.declared.device.Device.{Device}
 use Rattle.guest_devices.specs.declared.new_device.NewDevice.{NewDevice}
-use Rattle.flat_guest.specs.Changes.{resized}
+use Rattle.flat_guest.specs.Changes.{reset_guest, resized}
 use Rattle.flat_guest.specs.Guest.{Guest, is_actor, unwritten}
 use Rattle.flat_guest.specs.Shaped.{IsShaped, kinds_at_start}
 use Rattle.flat_guest.specs.Sound.{IsSound}
@@ -49,7 +49,7 @@ use Rattle.flat_guest.specs.Start.{port_at_start, started as started_guest, time
 use Rattle.flat_guest.specs.Steps.{FlatStep, Makes, is_given}
 use Rattle.flat_guest.proofs.Devices.{told_many}
 use Rattle.flat_guest.proofs.Shaped.{shaped_drained, shaped_makes, shaped_next, shaped_resize, shaped_restart, shaped_start, shaped_unwritten}
-use Rattle.flat_guest.proofs.Soundness.{sound_next, sound_resize, sound_restart, sound_start}
+use Rattle.flat_guest.proofs.Soundness.{sound_next, sound_reset, sound_resize, sound_restart, sound_start}
 use Rattle.snap_state.specs.Valid.{kinds_of}
 use Rattle.flat_snapshot.specs.Copies.{configuration_of}
 use Rattle.flat_snapshot.specs.Found.{Snapshot, found}
@@ -57,7 +57,7 @@ use Rattle.flat_snapshot.specs.Ready.{IsConfigured}
 use Rattle.flat_snapshot.proofs.CarriedReady.{carried_ready}
 use Rattle.flat_snapshot.proofs.Finds.{finds}
 use Rattle.flat_snapshot.proofs.GoesOn.{carried_sound}
-use Rattle.flat_snapshot.proofs.Ready.{valid_copy, whole_copy}
+use Rattle.flat_snapshot.proofs.Ready.{ready_reset, valid_copy, whole_copy}
 use Rattle.flat_machine.specs.Given.{reply_given}
 use Rattle.flat_machine.specs.Outcome.{Left, Outcome}
 use Rattle.flat_machine.specs.Outcome.Outcome.{Answered, Failed, NoMemory}
@@ -115,6 +115,13 @@ unwritten_ready config paused g is = record {
     shaped = shaped_unwritten _ _ _ g is.ready.shaped;
     devices = is.ready.devices;
   };
+  rests = is.rests;
+}
+
+pub reset_ready : (config : Config) (paused : Bool) (g : Guest) → IsReadyGuest config paused g → IsReadyGuest config paused (reset_guest g)
+reset_ready config paused g is = record {
+  sound = sound_reset g is.sound;
+  ready = ready_reset config g is.ready;
   rests = is.rests;
 }
 
@@ -271,10 +278,10 @@ create_ready : (guest : Option Guest) (m : Machine) (it : SnapshotCreate) (kept 
     → ReadyBy m.config m.paused guest → Creates guest m it kept n → Ready n
 create_ready None m it kept n ready own x = ready_is m n x.1 ready
 create_ready (Some g) m it kept n ready own (copy, of, tells, is) =
-    ready_is (created m g it.files (parent_in m it) copy) n is
+    ready_is (created m (reset_guest g) it.files (parent_in m it) copy) n is
     (record {
       taken = ready.taken;
-      guest = unwritten_ready m.config m.paused g own;
+      guest = unwritten_ready m.config m.paused (reset_guest g) (reset_ready m.config m.paused g own);
       next = omega arith;
       base = (ready.next, omega arith);
     })
@@ -525,6 +532,6 @@ every_run acts id saved calls text n ran = run_ready acts (new_machine id saved 
 
 pub can_be_copied : (m : Machine) → Ready m → CanBeCopied m
 can_be_copied m ready g copy there of =
-    let own = guest_ready m g ready there in
+    let own = reset_ready m.config m.paused g (guest_ready m g ready there) in
     let within = bounded m.config ready.taken in
-    (valid_copy m.config g copy own.sound own.ready within.mib of, whole_copy m.config g copy own.ready of)
+    (valid_copy m.config (reset_guest g) copy own.sound own.ready within.mib of, whole_copy m.config (reset_guest g) copy own.ready of)

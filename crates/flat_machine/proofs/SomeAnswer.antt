@@ -17,7 +17,9 @@ use Rattle.api_rules.specs.declared.answer.Answer.{Answer}
 use Rattle.api_rules.specs.Answers.{refused}
 use Rattle.response_form.specs.Responses.{Response}
 use Rattle.guest_devices.specs.declared.device.Device.{Device}
+use Rattle.flat_guest.specs.Changes.{reset_guest}
 use Rattle.flat_guest.specs.Guest.{Guest, whole_pages}
+use Rattle.flat_guest.proofs.Soundness.{sound_reset}
 use Rattle.flat_snapshot.specs.Found.{Snapshot, found}
 use Rattle.flat_snapshot.proofs.Copied.{some_copy}
 use Rattle.flat_machine.specs.Outcome.{AreAnswered, Outcome}
@@ -49,8 +51,9 @@ few_pages config paused g taken own =
 some_create : (guest : Option Guest) (m : Machine) (it : SnapshotCreate) → ReadyBy m.config m.paused guest → Ready m → Left (Creates guest m it)
 some_create None m it own ready = ([], m, (refl, refl))
 some_create (Some g) m it own ready =
-    let copy = some_copy m.config g own.sound (few_pages m.config m.paused g ready.taken own) in
-    (copy.0.devices, created m g it.files (parent_in m it) copy.0, (copy.0, copy.1, refl, refl))
+    let h : Guest = reset_guest g in
+    let copy = some_copy m.config h (sound_reset g own.sound) (few_pages m.config m.paused g ready.taken own) in
+    (copy.0.devices, created m h it.files (parent_in m it) copy.0, (copy.0, copy.1, refl, refl))
 
 some_load : (it : Result Snapshot Refusal) (m : Machine) (load : SnapshotLoad) → (n : Machine) × Restores it m load n
 some_load (Ok it) m load = (carried m load it, refl)

@@ -9,6 +9,7 @@ use Rattle.vm_config.specs.declared.change.Change.{Change}
 use Rattle.vm_config.specs.declared.change.Change.TheVariants as change
 use Rattle.vm_config.specs.Drives.{put_drive}
 use Rattle.guest_memory.specs.Ram.{page_size}
+use Rattle.flat_guest.specs.Changes.{reset_guest}
 use Rattle.flat_guest.specs.Guest.{Guest}
 use Rattle.flat_guest.specs.Sound.{IsSound}
 use Rattle.snap_state.specs.Valid.{are_drives, is_machine, is_source, is_valid}
@@ -59,8 +60,8 @@ pub record Ready (m : Machine) : Type 0 where
   pub next : 1 ≤ m.ids.next
   pub base : IsBaseBefore m.ids.next m.ids.base
 
--- each copy of its guest passes each test of a state file, and its pages are all of the guest's memory
+-- each copy of its guest, as it is behind a Reset, passes each test of a state file, and its pages are all of the guest's memory
 abbrev pub CanBeCopied : Machine → Type 0
 CanBeCopied m =
-    (g : Guest) (copy : StateCopy) → m.guest ≡ Some g → IsCopyOf m.config g copy
+    (g : Guest) (copy : StateCopy) → m.guest ≡ Some g → IsCopyOf m.config (reset_guest g) copy
     → IsTrue (is_valid copy) × (length g.memory.bytes ≡ page_size * copy.pages)

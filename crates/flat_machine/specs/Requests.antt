@@ -43,7 +43,7 @@ use Rattle.response_form.specs.Responses.{Response}
 use Rattle.guest_devices.specs.declared.device.Device.{Device}
 use Rattle.guest_devices.specs.declared.new_device.NewDevice.{NewDevice}
 use Rattle.guest_devices.specs.declared.new_device.NewDevice.TheVariants as kinds
-use Rattle.flat_guest.specs.Changes.{resized}
+use Rattle.flat_guest.specs.Changes.{reset_guest, resized}
 use Rattle.flat_guest.specs.Guest.{Guest, unwritten}
 use Rattle.flat_guest.specs.Start.{started, timer_restarted}
 use Rattle.snap_state.specs.declared.copy.StateCopy.{StateCopy}
@@ -250,11 +250,15 @@ created m g files parent copy = record m {
 }
 
 -- of a copy of the guest, which has these devices
-abbrev pub Creates : Option Guest → Machine → SnapshotCreate → List Device → Machine → Type 0
-Creates None m it kept n = (kept ≡ []) × (n ≡ m)
-Creates (Some g) m it kept n =
+abbrev pub CreatesOf : Guest → Machine → SnapshotCreate → List Device → Machine → Type 0
+CreatesOf g m it kept n =
     (copy : StateCopy) × IsCopyOf m.config g copy × (copy.devices ≡ kept)
     × (n ≡ created m g it.files (parent_in m it) copy)
+
+-- The machine's guest is reset first, and so it is copied, and goes on.
+abbrev pub Creates : Option Guest → Machine → SnapshotCreate → List Device → Machine → Type 0
+Creates None m it kept n = (kept ≡ []) × (n ≡ m)
+Creates (Some g) m it kept n = CreatesOf (reset_guest g) m it kept n
 
 -- A load of this snapshot: its guest goes on, or stands still; the machine keeps its id, its lineage, its connection and
 -- its files. Whether dirty pages are tracked is said by the load. A snapshot has no metadata.
@@ -304,14 +308,15 @@ abbrev pub calls_in : Machine → Guest → SnapshotCreate → StateCopy → Lis
 calls_in m g it copy =
     calls_of it.files.mem_file_path it.files.snapshot_path (parent_in m it) (next_identity m) copy g
 
--- A create of a copy of the guest, which has these devices: so many of its calls were begun, and not all. Its two names hold
--- what is left under them, and each other name what it held. Its number is spent, and the pages that were written stay so.
+-- A create of a copy of the guest as it is behind a Reset, which has these devices: so many of its calls were begun, and not all.
+-- Its two names hold what is left under them, and each other name what it held. Its number is spent, the pages that were written
+-- stay so, and the guest was not reset.
 pub record IsCutShort (g : Guest) (m : Machine) (it : SnapshotCreate) (left : Left) (n : Machine) : Type 0 where
   pub copy : StateCopy
-  pub is_copy : IsCopyOf m.config g copy
+  pub is_copy : IsCopyOf m.config (reset_guest g) copy
   pub tells : copy.devices ≡ left.kept
-  pub lacks : left.begun < length (calls_in m g it copy)
-  pub begun : n.calls ≡ m.calls ++ take left.begun (calls_in m g it copy)
+  pub lacks : left.begun < length (calls_in m (reset_guest g) it copy)
+  pub begun : n.calls ≡ m.calls ++ take left.begun (calls_in m (reset_guest g) it copy)
   pub memory : get n.saved it.files.mem_file_path ≡ left.memory
   pub state : get n.saved it.files.snapshot_path ≡ left.state
   pub others : (name : List ℕ) → name ≢ it.files.mem_file_path → name ≢ it.files.snapshot_path

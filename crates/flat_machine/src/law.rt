@@ -20,6 +20,7 @@ ghost use Rattle.api_calls.specs.declared.call.SnapshotLoad.{SnapshotLoad};
 ghost use Rattle.vm_config.specs.declared.change.Change.TheVariants as change;
 ghost use Rattle.guest_memory.specs.Ram.{page_size};
 ghost use Rattle.guest_devices.specs.declared.device.Device.{Device};
+ghost use Rattle.flat_guest.specs.Changes.{reset_guest};
 ghost use Rattle.flat_guest.specs.Guest.{Guest};
 ghost use Rattle.response_form.specs.Responses.{Response};
 ghost use Rattle.snap_memory.specs.Headers.{header, new_header};
@@ -81,21 +82,20 @@ pub fn whole_lines()
         IsStopped script (new_machine id saved calls) acts part (Exit.Fault name) text end → part ≡ [] }
 {}
 
-/// The two files that a full create wrote of a copy of the guest are loaded as the machine of that copy, by any machine whose
-/// files hold what they held then: the load finds this snapshot, so that the files don't refuse it, and the machine's guest, its
-/// configuration and its identity are the copy's, and the rest is its own. The
-/// copy is one that the files can have, and its memory is all of its pages; of other copies, which keep their devices by other
-/// data, nothing is asked.
+/// The two files that a full create wrote of a copy of the guest, as it is behind a Reset, are loaded as the machine of that copy,
+/// by any machine whose files hold what they held then: the load finds this snapshot, so that the files don't refuse it, and the
+/// machine's guest, its configuration and its identity are the copy's, and the rest is its own. The copy is one that the files can
+/// have, and its memory is all of its pages; of other copies, which keep their devices by other data, nothing is asked.
 pub fn create_then_load()
     ensures finds { (m n k : Machine) (g : Guest) (it : SnapshotCreate) (load : SnapshotLoad) (copy : StateCopy) →
         it.snapshot_type ≡ snapshot.Full → m.guest ≡ Some g → it.files.mem_file_path ≢ it.files.snapshot_path →
-        IsCopyOf m.config g copy → IsSaved current_version (record { identity = next_identity m; copy = copy }) →
+        IsCopyOf m.config (reset_guest g) copy → IsSaved current_version (record { identity = next_identity m; copy = copy }) →
         header.Fits (new_header copy.pages (next_identity m)) → length g.memory.bytes ≡ page_size * copy.pages →
         Creates m.guest m it copy.devices n → load.files ≡ it.files → k.saved ≡ n.saved →
         found k.saved load.files ≡ Ok (record { identity = next_identity m; copy = copy; bytes = g.memory.bytes }) }
     ensures loads { (m n k p : Machine) (g : Guest) (it : SnapshotCreate) (load : SnapshotLoad) (copy : StateCopy) →
         it.snapshot_type ≡ snapshot.Full → m.guest ≡ Some g → it.files.mem_file_path ≢ it.files.snapshot_path →
-        IsCopyOf m.config g copy → IsSaved current_version (record { identity = next_identity m; copy = copy }) →
+        IsCopyOf m.config (reset_guest g) copy → IsSaved current_version (record { identity = next_identity m; copy = copy }) →
         header.Fits (new_header copy.pages (next_identity m)) → length g.memory.bytes ≡ page_size * copy.pages →
         Creates m.guest m it copy.devices n → load.files ≡ it.files → k.saved ≡ n.saved →
         Leaves k (change.LoadSnapshot load) p →
@@ -110,7 +110,7 @@ pub fn between_creates()
 {}
 
 /// A machine that a run leads to from one that has not started is ready, and stays so. Each copy of the guest of a ready
-/// machine passes every test of a state file, and its pages are all of the guest's memory.
+/// machine, as it is behind a Reset, passes every test of a state file, and its pages are all of the guest's memory.
 pub fn every_run_ready()
     ensures ready { (acts : List Act) (id : List ℕ) (saved : Saved) (calls : List FileCall) (text : List ℕ) (n : Machine) →
         Run acts (new_machine id saved calls) text n → Ready n }

@@ -29,8 +29,11 @@ use Rattle.guest_devices.specs.Sound.{IsSoundDevice}
 use Rattle.guest_devices.proofs.Follows.{one_left}
 use Rattle.guest_devices.proofs.Placed.{bounded_kept, placed_alike}
 use Rattle.guest_devices.proofs.Soundness.{copied}
+use Rattle.flat_guest.specs.Changes.{reset_guest}
 use Rattle.flat_guest.specs.Guest.{Guest}
 use Rattle.flat_guest.specs.Sound.{IsSound}
+use Rattle.flat_guest.proofs.Devices.{reset_many}
+use Rattle.flat_guest.proofs.Shaped.{shaped_reset}
 use Rattle.snap_harts.specs.declared.hart.SavedHart.{SavedHart}
 use Rattle.snap_harts.specs.Copy.{is_due, place_of, regs_of, saved_hart}
 use Rattle.snap_harts.proofs.Harts.{hart_back}
@@ -292,7 +295,15 @@ pub valid_copy : (config : Config) (g : Guest) (copy : StateCopy) → IsSound g 
 valid_copy config g copy sound is small (harts, are, kept, same) =
     subst (λ (c : StateCopy). is_valid c ≡ true) (sym same) (copy_valid config g sound is small harts are copy.devices kept)
 
--- and has all pages of the guest's memory
+-- it is ready behind a Reset too
+pub ready_reset : (config : Config) (g : Guest) → IsReady config g → IsReady config (reset_guest g)
+ready_reset config g is = record {
+  configured = is.configured;
+  shaped = shaped_reset _ _ _ g is.shaped;
+  devices = reset_many g.devices ∙ is.devices;
+}
+
+-- and a copy has all pages of the guest's memory
 pub whole_copy : (config : Config) (g : Guest) (copy : StateCopy) → IsReady config g → IsCopyOf config g copy
     → length g.memory.bytes ≡ page_size * copy.pages
 whole_copy config g copy is (harts, are, kept, same) =

@@ -10,7 +10,7 @@ use Rattle.device_trace.proofs.Laws.{leads_one, leads_append}
 use Rattle.device_trace.proofs.Traces.{continued, only, wanted}
 use Rattle.block_device.specs.declared.data.BlockData.{BlockData}
 use Rattle.block_device.specs.Block.{Change, block_rules}
-use Rattle.guest_devices.specs.Devices.{DeviceLeft, BlockLeft, DeviceChange, BlockChanged, FlatDevice, BlockIs, DeviceLeads, DeviceWants, device_at, device_did, device_told, device_wants, device_next, device_changed}
+use Rattle.guest_devices.specs.Devices.{DeviceLeft, BlockLeft, DeviceChange, BlockChanged, FlatDevice, BlockIs, DeviceLeads, DeviceWants, device_at, device_did, device_told, device_wants, device_next, device_changed, device_reset, left_reset}
 
 pub at_start : (left : DeviceLeft) → DeviceLeads (device_at left) left
 at_start (BlockLeft t) = refl
@@ -49,6 +49,9 @@ pub told_leads : (d : FlatDevice) (left : DeviceLeft) (c : DeviceChange) → Dev
     → DeviceLeads (device_told d c) (device_changed c left)
 told_leads (BlockIs start items) (BlockLeft t) (BlockChanged c) l =
     leads_append block_rules start items t (Changed c ∷ []) (changed_at block_rules c t) l refl
+
+pub reset_leads : (d : FlatDevice) (left : DeviceLeft) → DeviceLeads d left → DeviceLeads (device_reset d) (left_reset left)
+reset_leads (BlockIs start items) (BlockLeft t) l = l
 
 -- what is behind the items that lead to a place leads on from there
 leads_behind : (t : Script BlockData) (before items : List (Item Change)) (start u : Script BlockData)

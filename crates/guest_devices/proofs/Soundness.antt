@@ -28,10 +28,10 @@ use Rattle.guest_devices.specs.declared.new_device.NewDevice.{NewDevice}
 use Rattle.guest_devices.specs.declared.new_device.NewDevice.TheVariants as kinds
 use Rattle.guest_devices.specs.Devices.{DeviceLeft, BlockLeft, DeviceChange, BlockChanged, FlatDevice, BlockIs}
 use Rattle.guest_devices.specs.Devices.{DeviceLeads, DeviceWants, FitsChange, FitsNew, device_at, device_calls, device_changed, device_did}
-use Rattle.guest_devices.specs.Devices.{device_next, device_times, device_told, device_wants, new_device}
-use Rattle.guest_devices.specs.Kept.{IsBoundedDevice, device_left, device_pages, device_port, is_device_state}
+use Rattle.guest_devices.specs.Devices.{device_next, device_reset, device_times, device_told, device_wants, left_reset, new_device}
+use Rattle.guest_devices.specs.Kept.{IsBoundedDevice, device_left, device_pages, device_port, is_device_state, is_kept, kept_reset}
 use Rattle.guest_devices.specs.Sound.{BlockHasKept, HasKept, IsSoundDevice, KeepsToItsOwn}
-use Rattle.guest_devices.proofs.Follows.{at_start, did_leads, left_wants, one_left, told_leads, wants_only}
+use Rattle.guest_devices.proofs.Follows.{at_start, did_leads, left_wants, one_left, reset_leads, told_leads, wants_only}
 
 module _ (port pages : ℕ) where
   -- ---- kept data
@@ -112,6 +112,9 @@ module _ (port pages : ℕ) where
     kept = λ small. change_kept t sectors size (own.kept small);
   }
 
+  reset_keeps : (left : DeviceLeft) → KeepsToItsOwn port pages left → KeepsToItsOwn port pages (left_reset left)
+  reset_keeps (BlockLeft t) own = own
+
   own_keeps : (d : FlatDevice) (left : DeviceLeft) → DeviceLeads d left → KeepsToItsOwn port pages left
       → IsAskedBy (device_times d) (device_calls d) port (device_wants left)
   own_keeps (BlockIs start items) (BlockLeft t) l own = inr (wants_own port t own.asks)
@@ -169,6 +172,17 @@ pub told_sound : (port pages : ℕ) (d : FlatDevice) (c : DeviceChange) → Fits
     → IsSoundDevice port pages d → IsSoundDevice port pages (device_told d c)
 told_sound port pages d c fits sound =
     (device_changed c sound.0, told_leads d sound.0 c sound.1, change_keeps port pages sound.0 c fits sound.2)
+
+pub reset_sound : (port pages : ℕ) (d : FlatDevice) → IsSoundDevice port pages d → IsSoundDevice port pages (device_reset d)
+reset_sound port pages d sound =
+    (left_reset sound.0, reset_leads d sound.0 sound.1, reset_keeps port pages sound.0 sound.2)
+
+-- what is kept of a device behind a Reset may be kept, and tells what it has still to do then
+pub reset_kept : (it : Device) → is_kept it ≡ true → is_kept (kept_reset it) ≡ true
+reset_kept (device.Block b) is = is
+
+pub reset_left : (it : Device) → device_left (kept_reset it) ≡ left_reset (device_left it)
+reset_left (device.Block b) = refl
 
 pub at_sound : (port pages : ℕ) (d : FlatDevice) (left : DeviceLeft) → IsSoundDevice port pages d
     → DeviceLeads d left → IsSoundDevice port pages (device_at left)

@@ -57,6 +57,13 @@ device_did (BlockIs start items) s = BlockIs start (items ++ Did s ∷ [])
 abbrev pub device_told : FlatDevice → DeviceChange → FlatDevice
 device_told (BlockIs start items) (BlockChanged c) = BlockIs start (items ++ Changed c ∷ [])
 
+-- A device behind the Reset that comes before a create, and what it has still to do then. A block device is told nothing.
+abbrev pub device_reset : FlatDevice → FlatDevice
+device_reset (BlockIs start items) = BlockIs start items
+
+abbrev pub left_reset : DeviceLeft → DeviceLeft
+left_reset (BlockLeft t) = BlockLeft t
+
 -- a device wants the act that continues its items to a trace
 abbrev pub DeviceWants : FlatDevice → Op → Type 0
 DeviceWants (BlockIs start items) op = Continues block_rules start items op

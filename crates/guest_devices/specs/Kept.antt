@@ -13,6 +13,10 @@ use Rattle.guest_devices.specs.Devices.{DeviceLeft, BlockLeft, device_wants, dev
 abbrev pub device_left : Device → DeviceLeft
 device_left (device.Block b) = BlockLeft (block_left b)
 
+-- what is kept of a device behind a Reset
+abbrev pub kept_reset : Device → Device
+kept_reset (device.Block b) = device.Block b
+
 -- by their numbers
 abbrev pub devices_left : List Device → List DeviceLeft
 devices_left devices = map device_left devices

@@ -2,7 +2,7 @@
 ghost use Rattle.std.specs.Prelude.{◌≡◌, true};
 ghost use Rattle.block_device.specs.Block.Change.{Sectors};
 ghost use Rattle.guest_devices.specs.Devices.{BlockChanged, device_changed, new_left};
-ghost use Rattle.guest_devices.specs.Kept.{device_left, device_pages, device_port, is_kept};
+ghost use Rattle.guest_devices.specs.Kept.{device_left, device_pages, device_port, is_kept, kept_reset};
 
 use crate::again::{block_again, block_port};
 use crate::new_device::NewDevice;
@@ -66,6 +66,15 @@ impl Device {
     {
         match self {
             Device::Block(block) => block.set_sectors(sectors),
+        }
+    }
+
+    /// The Reset that comes before a create. A block device is told nothing.
+    pub fn reset(&mut self)
+        ensures { self.new ≡ kept_reset self.old }
+    {
+        match self {
+            Device::Block(_) => {}
         }
     }
 }

@@ -17,14 +17,14 @@ ghost use Rattle.block_device.specs.States.{block_left};
 ghost use Rattle.guest_devices.specs.declared.device.Device.{Device};
 ghost use Rattle.guest_devices.specs.declared.new_device.NewDevice.{NewDevice};
 ghost use Rattle.guest_devices.specs.Devices.{BlockIs, BlockLeft, DeviceChange, DeviceLeads, DeviceLeft, DeviceWants, FitsChange, FitsNew};
-ghost use Rattle.guest_devices.specs.Devices.{FlatDevice, device_at, device_calls, device_changed, device_did, device_next};
-ghost use Rattle.guest_devices.specs.Devices.{device_times, device_told, device_wants, new_device};
-ghost use Rattle.guest_devices.specs.Kept.{IsBoundedDevice, device_left, device_pages, device_port, is_device_state};
+ghost use Rattle.guest_devices.specs.Devices.{FlatDevice, device_at, device_calls, device_changed, device_did, device_next, device_reset};
+ghost use Rattle.guest_devices.specs.Devices.{device_times, device_told, device_wants, left_reset, new_device};
+ghost use Rattle.guest_devices.specs.Kept.{IsBoundedDevice, device_left, device_pages, device_port, is_device_state, is_kept, kept_reset};
 ghost use Rattle.guest_devices.specs.Sound.{IsSoundDevice};
 
 /// The items of a device lead to one thing that is still to be done, and the act that this wants is the one that the
-/// device wants. With a step of it, or with a change, they lead to what comes next. Where a block device begins where a
-/// trace led, it wants the one act that continues this trace with its items.
+/// device wants. With a step of it, with a change, or behind a Reset, they lead to what comes next, and so do the data that
+/// are kept of it. Where a block device begins where a trace led, it wants the one act that continues this trace with its items.
 pub fn devices_follow()
     ensures begins { (left : DeviceLeft) → DeviceLeads (device_at left) left }
     ensures one { (d : FlatDevice) (left other : DeviceLeft) →
@@ -40,6 +40,10 @@ pub fn devices_follow()
         DeviceLeads (device_did d s) (device_next left s.reply) }
     ensures change { (d : FlatDevice) (left : DeviceLeft) (c : DeviceChange) →
         DeviceLeads d left → DeviceLeads (device_told d c) (device_changed c left) }
+    ensures reset { (d : FlatDevice) (left : DeviceLeft) →
+        DeviceLeads d left → DeviceLeads (device_reset d) (left_reset left) }
+    ensures reset_kept { (it : Device) → is_kept it ≡ true →
+        (is_kept (kept_reset it) ≡ true) × (device_left (kept_reset it) ≡ left_reset (device_left it)) }
     ensures continues { (first : BlockData) (before items : List (Item Change)) (start : Script BlockData) (op : Op) →
         LeadsTo block_rules first before start → DeviceWants (BlockIs start items) op →
         Continues block_rules (Ends first) (before ++ items) op }
@@ -49,9 +53,9 @@ pub fn devices_follow()
 {}
 
 /// A sound device always wants something: an act of its own, and of host objects a call of its own, or guest time where it
-/// has limits; inside RAM, where there are less than 2^32 pages. It is sound from its start on, with each fitting reply and each change that fits, where
-/// it goes on from what was left of another, and with whatever bounded data a device may keep. In a guest of at most 2^20
-/// pages some device keeps what its items lead to.
+/// has limits; inside RAM, where there are less than 2^32 pages. It is sound from its start on, with each fitting reply and each
+/// change that fits, behind a Reset, where it goes on from what was left of another, and with whatever bounded data a device may
+/// keep. In a guest of at most 2^20 pages some device keeps what its items lead to.
 pub fn sound_devices()
     ensures begins { (port pages : ℕ) (what : NewDevice) → FitsNew what →
         IsSoundDevice port pages (new_device port pages what) }
@@ -60,6 +64,8 @@ pub fn sound_devices()
         IsSoundDevice port pages (device_did d s) }
     ensures told { (port pages : ℕ) (d : FlatDevice) (c : DeviceChange) → FitsChange c →
         IsSoundDevice port pages d → IsSoundDevice port pages (device_told d c) }
+    ensures reset { (port pages : ℕ) (d : FlatDevice) →
+        IsSoundDevice port pages d → IsSoundDevice port pages (device_reset d) }
     ensures again { (port pages : ℕ) (d : FlatDevice) (left : DeviceLeft) →
         IsSoundDevice port pages d → DeviceLeads d left → IsSoundDevice port pages (device_at left) }
     ensures kept { (b : BlockState) → is_state b ≡ true → IsBounded b →

@@ -27,7 +27,9 @@ use Rattle.file_format.specs.Versions.{current_version}
 use Rattle.snap_state.specs.Files.{contents, contents_of}
 use Rattle.snap_state.proofs.Rules.{few_pages, rules_of}
 use Rattle.guest_devices.specs.declared.device.Device.{Device}
+use Rattle.flat_guest.specs.Changes.{reset_guest}
 use Rattle.flat_guest.specs.Guest.{Guest, unwritten}
+use Rattle.flat_guest.proofs.Soundness.{sound_reset}
 use Rattle.flat_guest.specs.Same.{AreAlike}
 use Rattle.flat_snapshot.specs.Carried.{carried_guest}
 use Rattle.flat_snapshot.specs.Copies.{IsCopyOf}
@@ -132,15 +134,21 @@ module _ (m n : Machine) (g : Guest) (given : Next) (it : SnapshotCreate) (kept 
   of_guest : Creates (Some g) m it kept n
   of_guest = subst (λ (o : Option Guest). Creates o m it kept n) there creates
 
-  by_copy : (copy : StateCopy) → IsCopyOf m.config g copy → copy.devices ≡ kept
+  -- the guest that is saved
+  abbrev reset : Guest
+  reset = reset_guest g
+
+  by_copy : (copy : StateCopy) → IsCopyOf m.config reset copy → copy.devices ≡ kept
       → (contents current_version).Fits (contents_of current_version (record { identity = next_identity m; copy = copy }))
-      → IsSaving it.snapshot_type (record { asked = it; before = m; after = n; guest = g; copy = copy })
+      → IsSaving it.snapshot_type (record { asked = it; before = m; after = n; guest = reset; copy = copy })
   by_copy copy of tells fits =
       let copied = can_be_copied m ready g copy there of in
       let few = few_pages copy (rules_of copy copied.0) in
       record {
         type_is = refl;
+        had = g;
         there = there;
+        guest_is = refl;
         names = differ;
         is_copy = of;
         saved = record { fits = fits; valid = copied.0; numbered = numbered m it known.asked asks ready.next known.own };
@@ -150,18 +158,18 @@ module _ (m n : Machine) (g : Guest) (given : Next) (it : SnapshotCreate) (kept 
       }
 
   -- the guest that goes on from the snapshot is alike with the one that was saved, as it went on
-  is_alike : (copy : StateCopy) → IsSaving it.snapshot_type (record { asked = it; before = m; after = n; guest = g; copy = copy })
-      → g.board.off ≡ false → AreAlike (unwritten g) (carried_guest copy g.memory.bytes)
+  is_alike : (copy : StateCopy) → IsSaving it.snapshot_type (record { asked = it; before = m; after = n; guest = reset; copy = copy })
+      → g.board.off ≡ false → AreAlike (unwritten reset) (carried_guest copy g.memory.bytes)
   is_alike copy is on =
       let own = guest_ready m g ready there in
       let bytes = own.ready.shaped.memory.many_bytes in
       let slots = own.ready.shaped.memory.many_slots in
       let whole = is.whole in
-      carried_alike m.config g copy current_version (next_identity m) own.sound is.is_copy is.saved is.whole on
+      carried_alike m.config reset copy current_version (next_identity m) (sound_reset g own.sound) is.is_copy is.saved is.whole on
       (own.rests (paused_is m g it known.asked there asks known.own)) (omega (arith, bytes, slots, whole))
 
-  pub some_saving : (copy : StateCopy) × IsCopyOf m.config g copy × (copy.devices ≡ kept)
+  pub some_saving : (copy : StateCopy) × IsCopyOf m.config reset copy × (copy.devices ≡ kept)
       × ((contents current_version).Fits (contents_of current_version (record { identity = next_identity m; copy = copy }))
-      → IsSaving it.snapshot_type (record { asked = it; before = m; after = n; guest = g; copy = copy })
-      × (g.board.off ≡ false → AreAlike (unwritten g) (carried_guest copy g.memory.bytes)))
+      → IsSaving it.snapshot_type (record { asked = it; before = m; after = n; guest = reset; copy = copy })
+      × (g.board.off ≡ false → AreAlike (unwritten reset) (carried_guest copy g.memory.bytes)))
   some_saving = let x = of_guest in (x.0, x.1, x.2, λ fits. let is = by_copy x.0 x.1 x.2 fits in (is, is_alike x.0 is))

@@ -15,8 +15,10 @@ use Rattle.snap_diff.specs.Copies.{IsDiffOf, LeadBy}
 use Rattle.snap_diff.specs.Diffs.{IsDiffFile}
 use Rattle.snap_diff.specs.Headers as diffs
 use Rattle.snapshot_merge.specs.Memories.{IsMemoryFile}
+use Rattle.flat_guest.specs.Changes.{reset_guest}
 use Rattle.flat_guest.specs.Guest.{Guest, unwritten}
 use Rattle.flat_snapshot.specs.Carried.{carried_guest}
+use Rattle.flat_snapshot.specs.Copies.{IsCopyOf}
 use Rattle.flat_snapshot.specs.Files.{diff_file, head_of, memory_file, saved_pages, state_file}
 use Rattle.flat_snapshot.specs.Unwritten.{KeepsUnwritten}
 use Rattle.flat_snapshot.proofs.Diffs.{diff_of_both, is_file, written_few}
@@ -33,7 +35,10 @@ use Rattle.snapshot_chain.specs.Chains.{DiffsLead, Follows, IsInside, IsLeft, Is
 
 module _ (type : SnapshotType) (s : Saving) (is : IsSaving type s) where
   pub after_is : s.after ≡ created s.before s.guest s.asked.files (parent_in s.before s.asked) s.copy
-  after_is = created_is s.before s.after s.guest s.asked s.copy is.there is.is_copy is.leaves
+  after_is =
+      created_is s.before s.after is.had s.asked s.copy is.there
+      (subst (λ (g : Guest). IsCopyOf s.before.config g s.copy) is.guest_is is.is_copy) is.leaves
+      ∙ ap (λ (g : Guest). created s.before g s.asked.files (parent_in s.before s.asked) s.copy) (sym is.guest_is)
 
   pub state_is : state_text s ≡ Some (state_file (identity_of s) s.copy)
   state_is =
@@ -141,6 +146,9 @@ goes_from type first start of (inr loaded) = loaded_goes first start loaded
 some_same : {A : Type 0} (a b : A) → Some a ≡ Some b → a ≡ b
 some_same a b is = cc
 
+keeps_reset : (g h : Guest) → KeepsUnwritten g h → KeepsUnwritten g (reset_guest h)
+keeps_reset g h is = record { size = is.size; unwritten = is.unwritten; pages = is.pages }
+
 module _ (type : SnapshotType) (first s : Saving) (of : IsSaving type first) (is : IsSaving snapshot.Diff s) (follows : Follows first s) where
   start : GoesFrom first follows.start
   start = goes_from type first follows.start of follows.from
@@ -177,7 +185,10 @@ module _ (type : SnapshotType) (first s : Saving) (of : IsSaving type first) (is
       absurd (omega (arith, number, new, next))
 
   keeps : KeepsUnwritten (unwritten first.guest) s.guest
-  keeps = subst (λ (h : Guest). KeepsUnwritten (unwritten first.guest) h) (some_same on.guest s.guest (sym on.there ∙ is.there)) (by_since on.since)
+  keeps =
+      subst (λ (h : Guest). KeepsUnwritten (unwritten first.guest) h) (sym is.guest_is)
+      (keeps_reset (unwritten first.guest) is.had
+      (subst (λ (h : Guest). KeepsUnwritten (unwritten first.guest) h) (some_same on.guest is.had (sym on.there ∙ is.there)) (by_since on.since)))
 
   as_many : s.copy.pages ≡ first.copy.pages
   as_many =

@@ -9,6 +9,7 @@ use Rattle.api_calls.specs.declared.call.SnapshotLoad.{SnapshotLoad}
 use Rattle.api_calls.specs.declared.call.SnapshotType.{SnapshotType}
 use Rattle.api_calls.specs.declared.call.SnapshotType.TheVariants as snapshot
 use Rattle.guest_memory.specs.Ram.{page_size}
+use Rattle.flat_guest.specs.Changes.{reset_guest}
 use Rattle.flat_guest.specs.Guest.{Guest}
 use Rattle.snap_memory.specs.Headers.{header, new_header}
 use Rattle.snap_diff.specs.Copies.{DiffCopy, DiffStep, MemoryCopy}
@@ -26,7 +27,7 @@ use Rattle.response_form.specs.Responses.{Response}
 
 -- ---- a create that was answered
 
--- what was asked, the machine before it and after, its guest, and the guest's copy
+-- what was asked, the machine before it and after, its guest behind the Reset, and the copy of that
 pub record Saving : Type 0 where
   pub asked : SnapshotCreate
   pub before : Machine
@@ -38,11 +39,13 @@ pub record Saving : Type 0 where
 abbrev pub identity_of : Saving → Identity
 identity_of s = next_identity s.before
 
--- It is of this type, it put the guest's copy under two names, and it left the machine after it. The copy is one that the
--- files can have, and the memory is all of its pages.
+-- It is of this type, it reset the guest that the machine had, it put the copy of that under two names, and it left the machine
+-- after it. The copy is one that the files can have, and the memory is all of its pages.
 pub record IsSaving (type : SnapshotType) (s : Saving) : Type 0 where
   pub type_is : s.asked.snapshot_type ≡ type
-  pub there : s.before.guest ≡ Some s.guest
+  pub had : Guest
+  pub there : s.before.guest ≡ Some had
+  pub guest_is : s.guest ≡ reset_guest had
   pub names : s.asked.files.mem_file_path ≢ s.asked.files.snapshot_path
   pub is_copy : IsCopyOf s.before.config s.guest s.copy
   pub saved : IsSaved current_version (record { identity = identity_of s; copy = s.copy })

@@ -23,6 +23,7 @@ ghost use Rattle.snapshot_merge.specs.Memories.{IsMemoryFile};
 ghost use Rattle.flat_snapshot.specs.Files.{state_file};
 ghost use Rattle.flat_snapshot.specs.Found.{found};
 ghost use Rattle.flat_snapshot.specs.Copies.{IsCopyOf};
+ghost use Rattle.flat_guest.specs.Changes.{reset_guest};
 ghost use Rattle.flat_guest.specs.Guest.{Guest, unwritten};
 ghost use Rattle.flat_guest.specs.Same.{AreAlike};
 ghost use Rattle.flat_snapshot.specs.Carried.{carried_guest};
@@ -59,16 +60,16 @@ pub fn created_files()
 
 /// A create that a ready machine answers is one of a chain, where each number of its copy fits its field of a state file: the
 /// copy, with the devices as they were kept, passes every test of a load, its memory is all of its pages, its number is one that
-/// files can have, and its two names differ. If its guest is on, the guest that goes on from the snapshot is alike with the one
-/// that was saved, as it went on.
+/// files can have, and its two names differ. The guest is reset first, and so it is saved. If it is on, the guest that goes on from
+/// the snapshot is alike with the one that was saved, as it went on.
 pub fn answered_creates()
     ensures { (m n : Machine) (g : Guest) (given : Next) (it : SnapshotCreate) (kept : List Device) (said : List Response) →
         Ready m → m.guest ≡ Some g → allowed m given ≡ Ok (change.CreateSnapshot it) →
         RequestStep (Answered kept) given m said n →
-        (copy : StateCopy) × IsCopyOf m.config g copy × (copy.devices ≡ kept)
+        (copy : StateCopy) × IsCopyOf m.config (reset_guest g) copy × (copy.devices ≡ kept)
         × ((contents current_version).Fits (contents_of current_version (record { identity = next_identity m; copy = copy })) →
-        IsSaving it.snapshot_type (record { asked = it; before = m; after = n; guest = g; copy = copy })
-        × (g.board.off ≡ false → AreAlike (unwritten g) (carried_guest copy g.memory.bytes))) }
+        IsSaving it.snapshot_type (record { asked = it; before = m; after = n; guest = reset_guest g; copy = copy })
+        × (g.board.off ≡ false → AreAlike (unwritten (reset_guest g)) (carried_guest copy g.memory.bytes))) }
 {}
 
 /// A machine that is ready before an item is ready inside it, and so at each create of it. No request turns a guest off: where

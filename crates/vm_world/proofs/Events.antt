@@ -1,5 +1,5 @@
 -- A world's events are the flat machine's.
-use Rattle.std.proofs.Common.{◌≡◌, ℕ, zero, suc, ◌+◌, ◌<◌, ◌^◌, true, false, Bool, nat_lt, refl, sym, ap, subst, ◌∙◌, List, [], ◌∷◌, length, replicate, slice_get, if◌then◌else◌, MatchOption, is_some, Option, Some, None, ◌⊎◌, arith}
+use Rattle.std.proofs.Common.{◌≡◌, ℕ, zero, suc, ◌+◌, ◌<◌, ◌^◌, true, false, Bool, nat_lt, refl, sym, ap, subst, ◌∙◌, List, [], ◌∷◌, length, replicate, slice_get, map, if◌then◌else◌, MatchOption, is_some, Option, Some, None, ◌⊎◌, arith}
 use Rattle.std.proofs.lemmas.Bool.{lt-ltb, ltb-false, ltb-true}
 use Rattle.vm_types.specs.declared.ids.ActorId.{ActorId}
 use Rattle.vm_types.specs.Fits.{out_fits}
@@ -20,26 +20,27 @@ use Rattle.board_table.specs.Acts.{raise_line}
 use Rattle.board_table.specs.Board.{Board}
 use Rattle.port_table.specs.declared.state.PortState.{PortState}
 use Rattle.guest_devices.specs.declared.device.Device.{Device}
-use Rattle.guest_devices.specs.Devices.{DeviceLeft, FlatDevice, device_next, device_wants}
-use Rattle.guest_devices.specs.Kept.{device_want, devices_given, devices_left}
+use Rattle.guest_devices.specs.Devices.{DeviceLeft, FlatDevice, device_next, device_wants, left_reset}
+use Rattle.guest_devices.specs.Kept.{device_want, devices_given, devices_left, kept_reset}
+use Rattle.guest_devices.proofs.Soundness.{reset_left}
 use Rattle.flat_guest.specs.declared.places.Layout.{Layout}
 use Rattle.flat_guest.specs.Places.{is_register_access, place_by, place_of, port_accessed}
 use Rattle.flat_guest.specs.Body.{Body, IsGuest, body_after, harts_after, lefts_after, lefts_resized, reply_at, timer_after, want_of, wants, with_reply}
-use Rattle.flat_guest.specs.Changes.{resized, sectors_shown}
+use Rattle.flat_guest.specs.Changes.{reset_guest, resized, sectors_shown}
 use Rattle.flat_guest.specs.Given.{Given, as_given}
 use Rattle.flat_guest.specs.Given.Given.{Nothing}
 use Rattle.flat_guest.specs.Start.{timer_restarted}
 use Rattle.flat_guest.specs.Steps.{board_after, is_given, memory_after, ports_after}
 use Rattle.flat_guest.proofs.Acting as acting
 use Rattle.flat_guest.proofs.Changing as changing
-use Rattle.flat_guest.proofs.Changing.{body_resized}
+use Rattle.flat_guest.proofs.Changing.{body_reset, body_resized}
 use Rattle.flat_guest.proofs.Lists as lists
 use Rattle.flat_guest.proofs.Determined.{wants_one}
 use Rattle.flat_guest.proofs.Marked.{none_marked}
 use Rattle.flat_guest.proofs.Stepping.{HasMade, HasStopped, entry_of, has_made_more, ran, step_is, stays}
 use Rattle.vm_world.specs.declared.step_error.StepError.{StepError}
 use Rattle.vm_world.specs.Refusing.{refusal_of}
-use Rattle.vm_world.specs.Worlds.{IsWorld, MakesEvent, Runs, WorldValue, body_of, place_in, want_in}
+use Rattle.vm_world.specs.Worlds.{IsWorld, MakesEvent, Runs, WorldValue, body_of, place_in, want_in, world_reset}
 
 -- an op that acts on a page is an access
 port_page : (b : Bool) (port i : ℕ) → (let place : PlaceId = if b then PlaceId.Port port else PlaceId.Out in place) ≡ PlaceId.Page i → ⊥
@@ -270,6 +271,17 @@ resized_is w b ports devices k sectors g size is board_is ports_are devices_are 
     let after : body_of (record w { board = b; ports = ports; devices = devices }) ≡ body_resized k sectors (body_of w) =
     λ i. record (body_of w) { board = board_is i; ports = ports_are i; devices = devices_are i } in
     subst (λ (n : Body). IsGuest n (resized k sectors g)) (sym after) (changing.resized_is (body_of w) g k sectors size is)
+
+-- and behind a Reset
+lefts_reset : (devices : List Device) → devices_left (map kept_reset devices) ≡ map left_reset (devices_left devices)
+lefts_reset [] = refl
+lefts_reset (d ∷ devices) = λ i. reset_left d i ∷ lefts_reset devices i
+
+pub reset_is : (w : WorldValue) (g : Guest) → IsWorld w g → IsWorld (world_reset w) (reset_guest g)
+reset_is w g is =
+    let after : body_of (world_reset w) ≡ body_reset (body_of w) =
+    λ i. record (body_of w) { devices = lefts_reset w.devices i } in
+    subst (λ (n : Body). IsGuest n (reset_guest g)) (sym after) (changing.reset_is (body_of w) g is)
 
 -- events of an actor, one after another
 abbrev pub HasRun : ActorId → WorldValue → ℕ → WorldValue → Type 0

@@ -1,5 +1,5 @@
 -- A world, the guests that it is, and the events that it makes.
-use Rattle.std.specs.Prelude.{ℕ, ◌≡◌, List, Option, length}
+use Rattle.std.specs.Prelude.{ℕ, ◌≡◌, List, Option, length, map}
 use Rattle.vm_types.specs.declared.entry.Entry.{Entry}
 use Rattle.vm_types.specs.declared.op.Op.{Op}
 use Rattle.vm_types.specs.declared.ids.ActorId.{ActorId}
@@ -10,7 +10,7 @@ use Rattle.guest_pages.specs.Pages.{PageValue, flat_of, marks_of}
 use Rattle.hart_trace.specs.States.{Hart}
 use Rattle.timer_trace.specs.declared.timer.Timer.{Timer}
 use Rattle.guest_devices.specs.declared.device.Device.{Device}
-use Rattle.guest_devices.specs.Kept.{devices_left}
+use Rattle.guest_devices.specs.Kept.{devices_left, kept_reset}
 use Rattle.flat_guest.specs.Given.{Event}
 use Rattle.flat_guest.specs.Guest.{Guest}
 use Rattle.flat_guest.specs.Body.{Body, IsGuest, body_layout, wants}
@@ -46,6 +46,10 @@ body_of w = record {
 -- and its steps lead to the timer, the harts and the devices
 abbrev pub IsWorld : WorldValue → Guest → Type 0
 IsWorld w g = IsGuest (body_of w) g
+
+-- a world behind the Reset that comes before a create
+abbrev pub world_reset : WorldValue → WorldValue
+world_reset w = record w { devices = map kept_reset w.devices }
 
 -- what an actor wants, if it is there
 abbrev pub want_in : WorldValue → ActorId → Option Op

@@ -1,11 +1,11 @@
-// What the API changes of a world.
-ghost use Rattle.std.specs.Prelude.{◌≡◌, ◌≤◌, length, slice_get};
+// What the API changes of a world, and the Reset that comes before a create.
+ghost use Rattle.std.specs.Prelude.{◌≡◌, ◌≤◌, length, map, slice_get};
 ghost use Rattle.board_table.specs.Acts.{raise_line};
-ghost use Rattle.guest_devices.specs.Kept.{devices_left};
+ghost use Rattle.guest_devices.specs.Kept.{devices_left, kept_reset};
 ghost use Rattle.flat_guest.specs.Body.{lefts_resized};
-ghost use Rattle.flat_guest.specs.Changes.{resized, sectors_shown};
+ghost use Rattle.flat_guest.specs.Changes.{reset_guest, resized, sectors_shown};
 ghost use Rattle.flat_guest.specs.Guest.{Guest};
-ghost use Rattle.vm_world.specs.Worlds.{IsWorld};
+ghost use Rattle.vm_world.specs.Worlds.{IsWorld, world_reset};
 
 use super::World;
 use crate::starting::capacity_bytes;
@@ -35,7 +35,24 @@ fn show_sectors(ports: &mut Vec<Port>, number: u8, sectors: u64)
     }
 }
 
+// Each device is reset.
+fn reset_all(devices: &mut [Device])
+    ensures { devices.new ≡ map kept_reset devices.old }
+{
+    for device in devices.iter_mut() {
+        device.reset();
+    }
+}
+
 impl World {
+    /// Each device is told of the Reset that comes before a create. It is no event, and leaves the marks of pages.
+    pub fn reset(&mut self)
+        ensures value { self.new ≡ world_reset self.old }
+        ensures guest { (g : Guest) → IsWorld self.old g → IsWorld self.new (reset_guest g) }
+    {
+        reset_all(&mut self.devices);
+    }
+
     /// The disk of the block device of this number has another size, in sectors of 512 bytes: the device judges by it
     /// from its next request on, its port shows it, and the driver is told by the device's line. It is no event.
     /// Where there is no such device, only the line of that number is raised, if the board has it.

@@ -1,4 +1,4 @@
-use Rattle.guest_devices.proofs.Soundness.{at_sound, copied, did_sound, kept_sound, new_sound, resumed_sound, some_want, told_sound, want_host, want_inside, want_own}
+use Rattle.guest_devices.proofs.Soundness.{at_sound, copied, did_sound, kept_sound, new_sound, reset_sound, resumed_sound, some_want, told_sound, want_host, want_inside, want_own}
 use Rattle.guest_devices.proofs.law.sound_devices.Goals as goal
 
 pub returns-clause-begins : goal.returns-clause-begins
@@ -9,6 +9,9 @@ returns-clause-stays c = did_sound
 
 pub returns-clause-told : goal.returns-clause-told
 returns-clause-told c = told_sound
+
+pub returns-clause-reset : goal.returns-clause-reset
+returns-clause-reset c = reset_sound
 
 pub returns-clause-again : goal.returns-clause-again
 returns-clause-again c = at_sound
