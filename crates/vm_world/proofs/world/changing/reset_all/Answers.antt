@@ -9,5 +9,5 @@ pub loop-device-preserved : goal.loop-device-preserved
 loop-device-preserved c =
     let devices = c.loop-device.devices in
     let k = c.loop-device.device-index in
-    ap (λ (d : Device). set devices k d) c.reset.ensures
+    ap (λ (d : Device). set devices k d) (c.reset.ensures ∙ ap kept_reset (sym c.device-item.is))
     ∙ map_over_more kept_reset c.args.devices.now devices k c.device-item.result (omega arith) c.loop-device.invariant c.device-item.is
