@@ -1,7 +1,7 @@
 // The end of a create.
 ghost use Rattle.std.specs.Prelude.{◌≡◌, IfErr, IfOk};
 ghost use Rattle.api_rules.specs.Ids.{based, spent};
-ghost use Rattle.create_end.specs.Marks.{unmarked_world};
+ghost use Rattle.create_end.specs.Saved.{saved_world};
 
 use api_rules::Ids;
 use vm_outside::Failed;
@@ -18,22 +18,25 @@ pub fn end_create(
     guest: &mut Option<World>,
 )
     ensures done { IfOk written (λ _. (ids.new ≡ based identity next ids.old)
-        × (guest.new ≡ unmarked_world guest.old)) }
+        × (guest.new ≡ saved_world guest.old)) }
     ensures failed { IfErr written (λ _. (ids.new ≡ spent next ids.old) × (guest.new ≡ guest.old)) }
 {
     ids.next = next;
     if written.is_ok() {
         ids.base = Some(identity);
-        clear_marks(guest);
+        go_on_saved(guest);
     }
 }
 
-// No page of the guest is marked any more.
-fn clear_marks(guest: &mut Option<World>)
-    ensures { guest.new ≡ unmarked_world guest.old }
+// The guest goes on as it was saved: it is reset, as its copy was, and no page of it is marked any more.
+fn go_on_saved(guest: &mut Option<World>)
+    ensures { guest.new ≡ saved_world guest.old }
 {
     match guest {
         None => {}
-        Some(guest) => guest.clear_marks(),
+        Some(guest) => {
+            guest.reset();
+            guest.clear_marks();
+        }
     }
 }

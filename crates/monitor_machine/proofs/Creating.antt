@@ -29,6 +29,7 @@ use Rattle.guest_memory.specs.Memory.{Memory}
 use Rattle.guest_pages.specs.Pages.{cleared, flat_of}
 use Rattle.guest_pages.proofs.Marking.{flat_cleared, marks_cleared}
 use Rattle.guest_devices.specs.declared.device.Device.{Device}
+use Rattle.flat_guest.specs.Changes.{reset_guest}
 use Rattle.flat_guest.specs.Guest.{Guest, unwritten}
 use Rattle.flat_snapshot.specs.Copies.{IsCopyOf}
 use Rattle.flat_snapshot.specs.Files.{calls_of, head_of, saved_pages, state_body}
@@ -39,14 +40,14 @@ use Rattle.monitor_plans.specs.Headings.{numbers_in}
 use Rattle.flat_machine.specs.Machine.{Machine}
 use Rattle.flat_machine.specs.Outcome as flat
 use Rattle.flat_machine.specs.Requests.{CreateFails, Creates, RequestStep, by_contents, calls_in, created, decided, next_identity, parent_in, parent_of, respond}
-use Rattle.vm_world.specs.Worlds.{IsWorld, WorldValue}
-use Rattle.vm_world.proofs.Events.{unwritten_is}
+use Rattle.vm_world.specs.Worlds.{IsWorld, WorldValue, world_reset}
+use Rattle.vm_world.proofs.Events.{reset_is, unwritten_is}
 use Rattle.monitor_plans.specs.Creating.{CreateGives}
 use Rattle.monitor_plans.specs.declared.creating.Creation.{Creation}
 use Rattle.monitor_plans.specs.declared.plan.Plan.TheVariants as plan
 use Rattle.monitor_plans.specs.declared.plan.Task.{Task}
 use Rattle.monitor_plans.specs.declared.plan.Task.TheVariants as task
-use Rattle.create_end.specs.Marks.{unmarked_world}
+use Rattle.create_end.specs.Saved.{saved_world}
 use Rattle.monitor_machine.specs.declared.machine.LiveMachine.{LiveMachine}
 use Rattle.monitor_machine.specs.declared.outcome.Outcome.{Outcome}
 use Rattle.monitor_machine.specs.Plans.{IsCreate, IsTask, TaskKeepsReady, created_after, failed_after}
@@ -94,7 +95,7 @@ create_task (task.Create c) live w it parent identity there since own gives = (
         guest = guest.0;
         there = guest.1;
         copy = gives.copy;
-        copied = subst (λ (k : Config). IsCopyOf k guest.0 gives.copy) is.own.config_is (gives.copied guest.0 guest.2);
+        copied = subst (λ (k : Config). IsCopyOf k (reset_guest guest.0) gives.copy) is.own.config_is (gives.copied guest.0 guest.2);
         kept_is = refl;
         identity_is = gives.identity_is ∙ own_is;
         next_is = gives.next_is ∙ ap (λ (k : Identity). k.number + 1) own_is;
@@ -181,12 +182,13 @@ module _ (c : Creation) (live : LiveMachine) (w : WorldValue) (known left : File
       create_calls (due.names_is i).mem_file_path (due.head_is i) (pages_are i) (due.names_is i).snapshot_path (due.body_is i)
 
   abbrev end : Machine
-  end = created m due.guest files parent due.copy
+  end = created m (reset_guest due.guest) files parent due.copy
 
-  unmarked_is : IsGuestBy (unmarked_world live.guest) (Some (unwritten due.guest))
-  unmarked_is =
-      subst (λ (o : Option WorldValue). IsGuestBy (unmarked_world o) (Some (unwritten due.guest))) (sym there)
-      (unwritten_is w (cleared w.pages) due.guest here (flat_cleared w.pages) (marks_cleared w.pages))
+  saved_is : IsGuestBy (saved_world live.guest) (Some (unwritten (reset_guest due.guest)))
+  saved_is =
+      subst (λ (o : Option WorldValue). IsGuestBy (saved_world o) (Some (unwritten (reset_guest due.guest)))) (sym there)
+      (unwritten_is (world_reset w) (cleared w.pages) (reset_guest due.guest) (reset_is w due.guest here) (flat_cleared w.pages)
+      (marks_cleared w.pages))
 
   pub create_does : writes.Creates c.names.mem_file_path c.head (written_of c w) c.names.snapshot_path c.body known left
       → RequestStep (flat.Outcome.Answered kept) given m (respond given no_content) end × IsMachine (created_after c live) left end
@@ -204,7 +206,7 @@ module _ (c : Creation) (live : LiveMachine) (w : WorldValue) (known left : File
         };
         config_is = is.own.config_is;
         metadata_is = is.own.metadata_is;
-        guest_is = unmarked_is;
+        guest_is = saved_is;
         paused_is = is.own.paused_is;
       };
       files = record {
@@ -217,7 +219,7 @@ module _ (c : Creation) (live : LiveMachine) (w : WorldValue) (known left : File
 
   -- so many of its calls were begun, and not all
   front : writes.CreatesPart c.names.mem_file_path c.head (written_of c w) c.names.snapshot_path c.body known left
-      → MakesFront (calls_in m due.guest due.it due.copy) known.calls left.calls
+      → MakesFront (calls_in m (reset_guest due.guest) due.it due.copy) known.calls left.calls
   front part = subst (λ (script : List FileCall). MakesFront script known.calls left.calls) calls_are part.calls
 
   abbrev stopped : Machine
@@ -235,10 +237,10 @@ module _ (c : Creation) (live : LiveMachine) (w : WorldValue) (known left : File
             copy = due.copy;
             is_copy = due.copied;
             tells = due.kept_is;
-            lacks = front_lacks (calls_in m due.guest due.it due.copy) known.calls left.calls (front part);
+            lacks = front_lacks (calls_in m (reset_guest due.guest) due.it due.copy) known.calls left.calls (front part);
             begun =
-                front_begun (calls_in m due.guest due.it due.copy) known.calls left.calls (front part)
-                ∙ ap (λ (l : List FileCall). l ++ take (length left.calls - length known.calls) (calls_in m due.guest due.it due.copy))
+                front_begun (calls_in m (reset_guest due.guest) due.it due.copy) known.calls left.calls (front part)
+                ∙ ap (λ (l : List FileCall). l ++ take (length left.calls - length known.calls) (calls_in m (reset_guest due.guest) due.it due.copy))
                 is.files.calls_is;
             memory = ap (λ (f : SnapshotFiles). get left.saved f.mem_file_path) (sym due.names_is);
             state = ap (λ (f : SnapshotFiles). get left.saved f.snapshot_path) (sym due.names_is);
@@ -288,10 +290,10 @@ same_part memory head state body m h s b pages g known left em eh eg es eb part 
 
 -- the end of a create leaves this of the machine
 pub ended_done : (c : Creation) (live : LiveMachine) (written : Result (Unit {0}) Failed) (ids : Ids) (guest : Option WorldValue) (v : Unit {0})
-    → written ≡ Ok v → IfOk written (λ _. (ids ≡ based c.identity c.next live.ids) × (guest ≡ unmarked_world live.guest))
+    → written ≡ Ok v → IfOk written (λ _. (ids ≡ based c.identity c.next live.ids) × (guest ≡ saved_world live.guest))
     → record live { ids = ids; guest = guest } ≡ created_after c live
 ended_done c live written ids guest v is ends =
-    let left = subst (λ (r : Result (Unit {0}) Failed). IfOk r (λ _. (ids ≡ based c.identity c.next live.ids) × (guest ≡ unmarked_world live.guest))) is ends in
+    let left = subst (λ (r : Result (Unit {0}) Failed). IfOk r (λ _. (ids ≡ based c.identity c.next live.ids) × (guest ≡ saved_world live.guest))) is ends in
     λ i. record live { ids = left.0 i; guest = left.1 i }
 
 pub ended_failed : (c : Creation) (live : LiveMachine) (written : Result (Unit {0}) Failed) (ids : Ids) (guest : Option WorldValue) (why : Failed)

@@ -22,20 +22,20 @@ use Rattle.api_rules.specs.declared.ids.Ids.{Ids}
 use Rattle.api_rules.specs.Ids.{based, spent}
 use Rattle.guest_pages.specs.Pages.{cleared}
 use Rattle.guest_pages.proofs.Marking.{flat_cleared, marks_cleared}
-use Rattle.flat_guest.specs.Changes.{resized}
+use Rattle.flat_guest.specs.Changes.{reset_guest, resized}
 use Rattle.flat_guest.specs.Given.{Given}
 use Rattle.flat_guest.specs.Guest.{Guest, unwritten}
 use Rattle.flat_machine.specs.Machine.{Machine, drained_guest, first_ids, new_machine}
 use Rattle.flat_machine.specs.Requests.{halted, parent_of}
 use Rattle.flat_machine.specs.Ready.{IsBaseBefore, IsFitting, IsReadyGuest, IsTaken, Ready, ReadyBy}
-use Rattle.flat_machine.proofs.Ready.{base_later, drained_ready, event_ready, guest_ready, halted_ready, makes_ready, new_ready, patched_ready, resized_ready, resumed_ready, unwritten_ready}
+use Rattle.flat_machine.proofs.Ready.{base_later, drained_ready, event_ready, guest_ready, halted_ready, makes_ready, new_ready, patched_ready, reset_ready, resized_ready, resumed_ready, unwritten_ready}
 use Rattle.flat_machine.proofs.Taken.{changed_taken, configured_taken}
 use Rattle.snap_state.specs.Valid.{are_drives}
 use Rattle.timer_trace.specs.States.{new_timer}
-use Rattle.vm_world.specs.Worlds.{IsWorld, Runs, WorldValue}
-use Rattle.vm_world.proofs.Events.{restarted, unwritten_is}
+use Rattle.vm_world.specs.Worlds.{IsWorld, Runs, WorldValue, world_reset}
+use Rattle.vm_world.proofs.Events.{reset_is, restarted, unwritten_is}
 use Rattle.world_copy.specs.Ready.{IsReadyWorld}
-use Rattle.create_end.specs.Marks.{unmarked_world}
+use Rattle.create_end.specs.Saved.{saved_world}
 use Rattle.monitor_plans.specs.Headings.{HasParent}
 use Rattle.monitor_plans.specs.Plans.{HasReadyGuest, IsEarly}
 use Rattle.monitor_machine.specs.Answering.{TakesReply}
@@ -422,21 +422,21 @@ load_stays live config w identity next paused (g, is, stands) first behind (m, o
 
 -- ---- a create
 
-unmarked : (config : Config) (paused : Bool) (w : Option WorldValue) (guest : Option Guest) → IsGuestBy w guest → ReadyBy config paused guest
-    → (after : Option Guest) × IsGuestBy (unmarked_world w) after × ReadyBy config paused after
-unmarked config paused None None is ready = (None, tt, tt)
-unmarked config paused None (Some g) is ready = absurd is
-unmarked config paused (Some w) None is ready = absurd is
-unmarked config paused (Some w) (Some g) is ready = (
-  Some (unwritten g),
-  unwritten_is w (cleared w.pages) g is (flat_cleared w.pages) (marks_cleared w.pages),
-  unwritten_ready config paused g ready,
+saved : (config : Config) (paused : Bool) (w : Option WorldValue) (guest : Option Guest) → IsGuestBy w guest → ReadyBy config paused guest
+    → (after : Option Guest) × IsGuestBy (saved_world w) after × ReadyBy config paused after
+saved config paused None None is ready = (None, tt, tt)
+saved config paused None (Some g) is ready = absurd is
+saved config paused (Some w) None is ready = absurd is
+saved config paused (Some w) (Some g) is ready = (
+  Some (unwritten (reset_guest g)),
+  unwritten_is (world_reset w) (cleared w.pages) (reset_guest g) (reset_is w g is) (flat_cleared w.pages) (marks_cleared w.pages),
+  unwritten_ready config paused (reset_guest g) (reset_ready config paused g ready),
 )
 
 pub create_stays : (live : Live) (identity : Identity) (next : ℕ) → identity.number ≡ live.ids.next → next ≡ identity.number + 1
-    → IsReadyLive live → IsReadyLive (record live { ids = based identity next live.ids; guest = unmarked_world live.guest })
+    → IsReadyLive live → IsReadyLive (record live { ids = based identity next live.ids; guest = saved_world live.guest })
 create_stays live identity next own_is behind (m, own, ready) =
-    let after = unmarked m.config m.paused live.guest m.guest own.guest_is ready.guest in
+    let after = saved m.config m.paused live.guest m.guest own.guest_is ready.guest in
     let first : live.ids.next ≡ m.ids.next = ap (λ (i : Ids). i.next) own.ids_is in
     let some = ready.next in (
       record m { ids = based identity next m.ids; guest = after.0 },
@@ -480,7 +480,7 @@ failure_stays live identity next own_is behind (m, own, ready) =
 -- by how it ended
 pub ended_stays : (live : Live) (written : Result (Unit {0}) Failed) (identity : Identity) (next : ℕ) (ids : Ids) (guest : Option WorldValue)
     → identity.number ≡ live.ids.next → next ≡ identity.number + 1
-    → IfOk written (λ _. (ids ≡ based identity next live.ids) × (guest ≡ unmarked_world live.guest))
+    → IfOk written (λ _. (ids ≡ based identity next live.ids) × (guest ≡ saved_world live.guest))
     → IfErr written (λ _. (ids ≡ spent next live.ids) × (guest ≡ live.guest)) → IsReadyLive live
     → IsReadyLive (record live { ids = ids; guest = guest })
 ended_stays live (Ok v) identity next ids guest own behind done failed it =

@@ -23,7 +23,7 @@ use Rattle.api_rules.specs.declared.ids.Ids.{Ids}
 use Rattle.timer_trace.specs.States.{new_timer}
 use Rattle.guest_devices.specs.declared.device.Device.{Device}
 use Rattle.guest_devices.specs.Devices.{DeviceChange}
-use Rattle.flat_guest.specs.Changes.{capacity_shown, sectors_change, told}
+use Rattle.flat_guest.specs.Changes.{capacity_shown, reset_guest, sectors_change, told}
 use Rattle.flat_guest.specs.Guest.{Guest}
 use Rattle.flat_guest.specs.Start.{started}
 use Rattle.snap_state.specs.declared.copy.StateCopy.{StateCopy}
@@ -37,7 +37,7 @@ use Rattle.flat_machine.specs.Machine.{Machine}
 use Rattle.flat_machine.specs.Ready.{IsFitting}
 use Rattle.flat_machine.specs.Requests.{allowed, decided, devices_from, disk_of, image_of, loads_from, next_identity, parent_in, sectors_of}
 use Rattle.vm_world.specs.Worlds.{IsWorld, WorldValue}
-use Rattle.create_end.specs.Marks.{unmarked_world}
+use Rattle.create_end.specs.Saved.{saved_world}
 use Rattle.monitor_plans.specs.declared.creating.Creation.{Creation}
 use Rattle.monitor_plans.specs.declared.drive_changes.Resize.{Resize}
 use Rattle.monitor_plans.specs.declared.restoring.Restored.{Restored}
@@ -94,7 +94,7 @@ pub record IsCreate (c : Creation) (m : Machine) (given : Next) (kept : List Dev
   pub guest : Guest
   pub there : m.guest ≡ Some guest
   pub copy : StateCopy
-  pub copied : IsCopyOf m.config guest copy
+  pub copied : IsCopyOf m.config (reset_guest guest) copy
   pub kept_is : copy.devices ≡ kept
   pub identity_is : c.identity ≡ next_identity m
   pub next_is : c.next ≡ m.ids.next + 1
@@ -282,7 +282,7 @@ PlanLeaves it live after = after ≡ plan_after it live
 abbrev pub created_after : Creation → LiveMachine → LiveMachine
 created_after c live = record live {
   ids = based c.identity c.next live.ids;
-  guest = unmarked_world live.guest;
+  guest = saved_world live.guest;
 }
 
 abbrev pub failed_after : Creation → LiveMachine → LiveMachine

@@ -11,10 +11,12 @@ use Rattle.hart_trace.specs.States.{Hart, LeadsTo}
 use Rattle.guest_devices.specs.declared.device.Device.{Device}
 use Rattle.guest_devices.specs.Devices.{DeviceLeads, DeviceLeft, FlatDevice}
 use Rattle.guest_devices.specs.Kept.{device_left, devices_left, is_kept}
+use Rattle.flat_guest.specs.Changes.{reset_guest}
 use Rattle.flat_guest.specs.Guest.{Guest, none_written}
 use Rattle.snap_state.specs.declared.copy.StateCopy.{StateCopy}
 use Rattle.flat_snapshot.specs.Copies.{AreHarts, AreKept, IsCopyOf, copy_of}
-use Rattle.vm_world.specs.Worlds.{IsWorld, WorldValue}
+use Rattle.vm_world.specs.Worlds.{IsWorld, WorldValue, world_reset}
+use Rattle.vm_world.proofs.Events.{reset_is}
 use Rattle.world_copy.specs.Copying.{copy_in}
 
 are_listed : (starts : List Regs) (k : ℕ) (steps : ActorId → List Step) (harts : List Hart) → length harts ≡ length starts
@@ -59,7 +61,7 @@ kept_are (it ∷ kept) (d ∷ devices) long each known =
 in_world : (w : WorldValue) (g : Guest) → list_all is_kept w.devices ≡ true → IsWorld w g → AreKept w.devices g.devices
 in_world w g known is = kept_are w.devices g.devices is.devices_are.count is.devices_are.each known
 
-guest_is : (config : Config) (w : WorldValue) (g : Guest) → IsWorld w g → copy_in config w ≡ copy_of config g w.harts w.devices
+guest_is : (config : Config) (w : WorldValue) (g : Guest) → IsWorld w g → copy_in config w ≡ copy_of config (reset_guest g) w.harts (world_reset w).devices
 guest_is config w g is = λ i. copy_of config (record {
   memory = is.memory_is i;
   board = is.board_is i;
@@ -68,11 +70,13 @@ guest_is config w g is = λ i. copy_of config (record {
   steps = λ actor. [];
   devices = [];
   written = none_written;
-}) w.harts w.devices
+}) w.harts (world_reset w).devices
 
 pub copied : (config : Config) (w : WorldValue) (g : Guest) (copy : StateCopy) → copy ≡ copy_in config w
-    → list_all is_kept copy.devices ≡ true → IsWorld w g → IsCopyOf config g copy
+    → list_all is_kept copy.devices ≡ true → IsWorld w g → IsCopyOf config (reset_guest g) copy
 copied config w g copy made known is =
-    let small : list_all is_kept w.devices ≡ true = subst (λ (c : StateCopy). list_all is_kept c.devices ≡ true) made known in
-    subst (λ (c : StateCopy). IsCopyOf config g c) (sym made)
-    (w.harts, harts_are w g is, in_world w g small is, guest_is config w g is)
+    let v : WorldValue = world_reset w in
+    let h : Guest = reset_guest g in
+    let small : list_all is_kept v.devices ≡ true = subst (λ (c : StateCopy). list_all is_kept c.devices ≡ true) made known in
+    subst (λ (c : StateCopy). IsCopyOf config h c) (sym made)
+    (w.harts, harts_are w g is, in_world v h small (reset_is w g is), guest_is config w g is)

@@ -6,11 +6,13 @@ use Rattle.api_calls.specs.declared.call.MachineConfig.{MachineConfig}
 use Rattle.vm_config.specs.declared.config.Config.{Config}
 use Rattle.rv_supervisor.specs.declared.regs.Regs.{Regs}
 use Rattle.hart_trace.specs.States.{Hart}
+use Rattle.flat_guest.specs.Changes.{reset_guest}
 use Rattle.flat_guest.specs.Guest.{Guest}
+use Rattle.flat_guest.proofs.Soundness.{sound_reset}
 use Rattle.snap_state.specs.declared.copy.StateCopy.{StateCopy}
 use Rattle.snap_state.specs.Valid.{is_machine, is_valid}
 use Rattle.flat_snapshot.specs.Copies.{IsCopyOf}
-use Rattle.flat_snapshot.proofs.Ready.{valid_copy}
+use Rattle.flat_snapshot.proofs.Ready.{ready_reset, valid_copy}
 use Rattle.vm_world.specs.Worlds.{IsWorld, WorldValue}
 use Rattle.world_copy.specs.Copying.{AreCounted}
 use Rattle.world_copy.specs.Ready.{IsReadyWorld}
@@ -41,6 +43,7 @@ few_mib : (m : MachineConfig) → is_machine m ≡ true → m.mem_size_mib ≤ 1
 few_mib m is = leb-true m.mem_size_mib 1024 (and_parts _ (nat_le m.mem_size_mib 1024) is).1
 
 pub ready_valid : (config : Config) (w : WorldValue) (copy : StateCopy) → IsReadyWorld config w
-    → ((g : Guest) → IsWorld w g → IsCopyOf config g copy) → IsTrue (is_valid copy)
+    → ((g : Guest) → IsWorld w g → IsCopyOf config (reset_guest g) copy) → IsTrue (is_valid copy)
 ready_valid config w copy it of =
-    valid_copy config it.guest copy it.sound it.ready (few_mib config.machine it.ready.configured.machine) (of it.guest it.is)
+    valid_copy config (reset_guest it.guest) copy (sound_reset it.guest it.sound) (ready_reset config it.guest it.ready)
+    (few_mib config.machine it.ready.configured.machine) (of it.guest it.is)

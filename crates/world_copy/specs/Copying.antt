@@ -1,6 +1,7 @@
 -- The copy of a world.
-use Rattle.std.specs.Prelude.{ℕ, ◌≡◌, ◌≤◌, List, [], Some, slice_get}
+use Rattle.std.specs.Prelude.{ℕ, ◌≡◌, ◌≤◌, List, [], map, Some, slice_get}
 use Rattle.vm_config.specs.declared.config.Config.{Config}
+use Rattle.guest_devices.specs.Kept.{kept_reset}
 use Rattle.guest_pages.specs.Pages.{flat_of}
 use Rattle.hart_trace.specs.States.{Hart}
 use Rattle.flat_guest.specs.Guest.{Guest, none_written}
@@ -20,8 +21,9 @@ guest_of w = record {
   written = none_written;
 }
 
+-- the copy of a world as it is behind a Reset
 abbrev pub copy_in : Config → WorldValue → StateCopy
-copy_in config w = copy_of config (guest_of w) w.harts w.devices
+copy_in config w = copy_of config (guest_of w) w.harts (map kept_reset w.devices)
 
 -- the next look of each hart is within 32 instructions
 abbrev pub AreCounted : List Hart → Type 0

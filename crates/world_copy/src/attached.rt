@@ -1,7 +1,7 @@
 // Ports and devices, as a copy has them, and back.
-ghost use Rattle.std.specs.Prelude.{◌≡◌, true, IfOk};
+ghost use Rattle.std.specs.Prelude.{◌≡◌, true, IfOk, map};
 ghost use Rattle.std.specs.List.{list_all};
-ghost use Rattle.guest_devices.specs.Kept.{is_kept};
+ghost use Rattle.guest_devices.specs.Kept.{is_kept, kept_reset};
 
 use file_format::{Counted, Items};
 use guest_devices::Device;
@@ -30,23 +30,24 @@ pub fn ports_kept(alloc: Global, ports: &[Port]) -> Result<Items<Counted<Saved<P
     Ok(kept)
 }
 
+// The copy is reset, and the device isn't.
 fn device_kept(device: &Device) -> Counted<Saved<Device>>
-    ensures kept { result ≡ device.now }
-    ensures known { is_kept device.now ≡ true }
+    ensures kept { result ≡ kept_reset device.now }
+    ensures known { is_kept (kept_reset device.now) ≡ true }
 {
+    let mut kept = device.again();
+    kept.reset();
     Counted {
-        value: Saved {
-            value: device.again(),
-        },
+        value: Saved { value: kept },
     }
 }
 
-/// The devices of a copy.
+/// The devices of a copy: each as it is behind a Reset.
 pub fn devices_kept(
     alloc: Global,
     devices: &[Device],
 ) -> Result<Items<Counted<Saved<Device>>>, AllocError>
-    ensures kept { IfOk result (λ kept. kept ≡ devices.now) }
+    ensures kept { IfOk result (λ kept. kept ≡ map kept_reset devices.now) }
     ensures known { IfOk result (λ kept. list_all is_kept kept ≡ true) }
 {
     let mut kept = Items::new(alloc);

@@ -2,6 +2,7 @@
 ghost use Rattle.std.specs.Prelude.{◌≡◌, ◌≤◌, true, IsTrue, IfOk, length, map};
 ghost use Rattle.std.specs.List.{list_all};
 ghost use Rattle.guest_devices.specs.Kept.{is_kept};
+ghost use Rattle.flat_guest.specs.Changes.{reset_guest};
 ghost use Rattle.flat_guest.specs.Guest.{Guest};
 ghost use Rattle.snap_harts.specs.Copy.{saved_hart};
 ghost use Rattle.snap_state.specs.Copy.{saved_board};
@@ -112,11 +113,11 @@ fn copy_with(
     })
 }
 
-/// The copy of a world of a machine that is configured so. It is one that a state file can have, as each copy of a ready
-/// world is.
+/// The copy of a world of a machine that is configured so, as it is behind the Reset that comes before a create; the world
+/// itself isn't reset. It is one that a state file can have, as each copy of a ready world is.
 pub fn copy_world(alloc: Global, config: &Config, world: &World) -> Result<StateCopy, AllocError>
     requires { IsReadyWorld config.now world.now }
-    ensures copied { IfOk result (λ copy. (g : Guest) → IsWorld world.now g → IsCopyOf config.now g copy) }
+    ensures copied { IfOk result (λ copy. (g : Guest) → IsWorld world.now g → IsCopyOf config.now (reset_guest g) copy) }
     ensures valid { IfOk result (λ copy. IsTrue (is_valid copy)) }
     ensures pages { IfOk result (λ copy. copy.pages ≡ length world.now.pages) }
 {
