@@ -1,19 +1,25 @@
 -- The guest of a start and of a load is ready.
-use Rattle.std.proofs.Common.{◌≡◌, ◌≤◌, ◌*◌, nat_lt, ℕ, Bool, true, false, refl, sym, subst, ◌∙◌, List, length, option_map, Option, Some, None, arith}
+use Rattle.std.proofs.Common.{◌≡◌, ◌≤◌, ◌*◌, nat_lt, ℕ, Bool, true, false, refl, sym, ap, subst, ◌∙◌, List, [], ◌∷◌, length, map, option_map, Option, Some, None, arith}
 use Rattle.std.specs.Prelude.{All, IsTrue, is_some}
 use Rattle.std.proofs.lemmas.Bool.{and_parts, ltb-true}
 use Rattle.std.proofs.lemmas.List.{length-map}
 use Rattle.vm_types.specs.declared.identity.Identity.{Identity}
 use Rattle.api_calls.specs.declared.call.BootSource.{BootSource}
+use Rattle.api_calls.specs.declared.call.Drive.{Drive}
 use Rattle.file_format.specs.Identities.{is_numbered}
 use Rattle.vm_config.specs.declared.config.Config.{Config}
 use Rattle.vm_config.specs.declared.change.Change.TheVariants as change
 use Rattle.vm_config.specs.Changes.{changed}
 use Rattle.guest_memory.specs.Boot.{loads_fit}
 use Rattle.guest_memory.specs.Ram.{page_size}
+use Rattle.port_table.specs.declared.kind.DeviceKind.{DeviceKind}
+use Rattle.port_table.specs.declared.kind.DeviceKind.TheVariants as kind
 use Rattle.guest_devices.specs.declared.new_device.NewDevice.{NewDevice}
+use Rattle.guest_devices.specs.declared.new_device.NewDevice.TheVariants as new
 use Rattle.guest_devices.specs.Devices.{FitsNew}
 use Rattle.guest_pages.specs.Pages.{PageValue, flat_of}
+use Rattle.flat_guest.specs.Guest.{Guest}
+use Rattle.flat_guest.specs.Shaped.{IsShaped, kinds_at_start}
 use Rattle.flat_guest.specs.Start.{port_at_start, started}
 use Rattle.flat_guest.proofs.Shaped.{shaped_start}
 use Rattle.flat_guest.proofs.Soundness.{sound_start}
@@ -33,6 +39,15 @@ some_source : (source : Option BootSource) → is_some source ≡ true → (own 
 some_source None there = absurd cc
 some_source (Some own) there = (own, refl)
 
+-- new devices, as many as there are drives, are of the kinds that are configured
+device_kinds : (devices : List NewDevice) (drives : List Drive) → length devices ≡ length drives
+    → kinds_at_start devices ≡ map (λ (d : Drive). kind.Block) drives
+device_kinds [] [] many = refl
+device_kinds [] (d ∷ drives) many = absurd (omega (arith, many))
+device_kinds (device ∷ devices) [] many = absurd (omega (arith, many))
+device_kinds (new.Block made ∷ devices) (d ∷ drives) many =
+    ap (λ (l : List DeviceKind). kind.Block ∷ l) (device_kinds devices drives (omega (arith, many)))
+
 pub start_ready : (config : Config) (image : List ℕ) (disk : Option (List ℕ)) (drives : List NewDevice) (w : WorldValue) → IsTaken config
     → is_some config.boot_source ≡ true → length drives ≡ length config.drives → All FitsNew drives
     → loads_fit config.machine.mem_size_mib (length image) (option_map length disk) ≡ true
@@ -42,16 +57,21 @@ start_ready config image disk drives w taken there many fit fits is =
     let source = some_source config.boot_source there in
     let own = taken_configured config source.0 source.1 taken in
     let within = bounded config taken in
-    let sound = sound_start config.machine.vcpu_count config.machine.mem_size_mib (loads_from config image disk) drives fit in (
-      started config.machine.vcpu_count config.machine.mem_size_mib (loads_from config image disk) drives,
+    let sound = sound_start config.machine.vcpu_count config.machine.mem_size_mib (loads_from config image disk) drives fit in
+    let guest : Guest =
+    started config.machine.vcpu_count config.machine.mem_size_mib (loads_from config image disk) drives in (
+      guest,
       is,
       record {
         sound = sound;
         ready = record {
           configured = record { source = own.source; drives = own.drives; machine = own.machine };
           shaped =
-              shaped_start config.machine.vcpu_count config.machine.mem_size_mib (loads_from config image disk) drives within.harts
-              (booted_size config image disk within fits);
+              subst
+              (λ (kinds : List DeviceKind).
+              IsShaped (256 * config.machine.mem_size_mib) config.machine.vcpu_count kinds guest) (device_kinds drives config.drives many)
+              (shaped_start config.machine.vcpu_count config.machine.mem_size_mib (loads_from config image disk) drives within.harts
+              (booted_size config image disk within fits));
           devices = sym sound.devices_on.as_many ∙ length-map drives port_at_start ∙ many;
         };
         rests = λ stands. refl;
