@@ -1,0 +1,4 @@
+pub mod Balloon
+pub mod Entries
+pub mod Pieces
+pub mod Working

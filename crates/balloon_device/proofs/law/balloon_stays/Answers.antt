@@ -1,0 +1,10 @@
+use Rattle.device_trace.specs.Script.{Ends}
+use Rattle.balloon_device.specs.Balloon.{new_balloon}
+use Rattle.balloon_device.proofs.Balloon.{owes}
+use Rattle.balloon_device.proofs.law.balloon_stays.Goals as goal
+
+pub returns : goal.returns
+returns c port pages interval items left few leads =
+    c.queue_stays.ensures.acts port pages left few owes
+    (c.queue_stays.ensures.leads port pages (Ends (new_balloon port pages interval)) left items few owes
+    (c.queue_stays.ensures.begins port pages) leads)

@@ -1,0 +1,7 @@
+pub mod Balloon
+pub mod Pages
+pub mod Pieces
+pub mod Port
+pub mod Sequences
+pub mod Statistics
+pub mod Work

@@ -1,0 +1,107 @@
+-- What a balloon has to do still, by what its code keeps.
+use Rattle.std.specs.Prelude.{ℕ, ◌+◌, ◌*◌, ◌^◌, ◌<◌, ◌≤◌, ◌==◌, nat_le, nat_lt, Bool, true, false, ◌&&◌, if◌then◌else◌, Option, Some, None, List, ◌++◌, length, replicate}
+use Rattle.vm_types.specs.declared.op.Op.{Op}
+use Rattle.vm_types.specs.declared.op.Op.TheVariants.{Read, Write}
+use Rattle.vm_types.specs.declared.reply.Reply.{Reply}
+use Rattle.device_trace.specs.Doing.{Doing, Gives, and_then, led}
+use Rattle.vq_split.specs.declared.queue.Part.{Part}
+use Rattle.vq_split.specs.Chain.{is_inside}
+use Rattle.vq_split.specs.Kept.{are_inside}
+use Rattle.dev_core.specs.declared.collect.Collect.{Collect}
+use Rattle.dev_core.specs.Pieces.{place, room}
+use Rattle.queue_device.specs.declared.kind.Begin.{Begin}
+use Rattle.queue_device.specs.declared.kind.Begin.TheVariants as begin
+use Rattle.queue_device.specs.declared.lanes.Which.{Which}
+use Rattle.queue_device.specs.declared.lanes.Which.TheVariants.{First, Third}
+use Rattle.queue_device.specs.declared.phase.Work.{Work}
+use Rattle.queue_device.specs.declared.phase.Work.TheVariants as work
+use Rattle.queue_device.specs.Acting.{Acting, Comes, performing}
+use Rattle.queue_device.specs.Left.{Hand}
+use Rattle.balloon_device.specs.declared.kind.Stage.{Stage}
+use Rattle.balloon_device.specs.declared.kind.Stage.TheVariants as stage
+use Rattle.balloon_device.specs.declared.statistics.Statistics.{Statistics}
+use Rattle.balloon_device.specs.Balloon.{Balloon, pages_done, tags_done}
+use Rattle.balloon_device.specs.Pages.{all_zeroed, zeros}
+use Rattle.balloon_device.specs.Pieces.{read_all}
+use Rattle.balloon_device.specs.Statistics.{Telling, all_told}
+
+-- its data, and its work
+pub record Kept : Type 0 where
+  pub own : Balloon
+  pub stage : Stage
+
+-- the pages whose numbers are held are zeroed, and then the parts that are left are read
+abbrev pub list_left : ℕ → Collect → Doing (List ℕ)
+list_left pages list =
+    and_then (all_zeroed pages list.held)
+    (λ begun. read_all (λ begun piece. all_zeroed pages (begun ++ piece)) begun list.from)
+
+-- so many writes of a page come before that
+abbrev pub zeros_left : ℕ → Collect → ℕ → ℕ → Doing (List ℕ)
+zeros_left pages list count at = and_then (zeros count at) (λ done. list_left pages list)
+
+-- what is held is told too, and the parts that are left
+abbrev pub tags_left : Collect → Statistics → Doing Statistics
+tags_left from s =
+    and_then
+    (read_all (λ (t : Telling) piece. Gives (all_told (t.begun ++ piece) t.so_far)) (all_told from.held s) from.from)
+    (λ t. Gives t.so_far)
+
+-- a stage has something to want
+abbrev pub IsStage : Stage → Type 0
+IsStage stage.Rest = Unit {0}
+IsStage (stage.List list pages) = (length list.held < 4) × (0 < room list.from)
+IsStage (stage.Zeros list pages left at) = (0 < left) × (at + 64 * left ≤ 2 ^ 45)
+IsStage (stage.Tags from s) = (length from.held < 10) × (0 < room from.from)
+
+abbrev pub op_of : Stage → Op
+op_of stage.Rest = Op.Idle
+op_of (stage.List list pages) = Read (place list.from) (room list.from)
+op_of (stage.Zeros list pages left at) = Write at (replicate 64 0)
+op_of (stage.Tags from s) = Read (place from.from) (room from.from)
+
+abbrev pub serving_of : Stage → Balloon → Reply → Acting Balloon (Option ℕ)
+serving_of (stage.List list pages) e reply = performing (led (list_left pages list) reply) e pages_done
+serving_of (stage.Zeros list pages left at) e reply = performing (led (zeros_left pages list left at) reply) e pages_done
+serving_of (stage.Tags from s) e reply = performing (led (tags_left from s) reply) e tags_done
+serving_of stage.Rest e reply = Comes e None
+
+abbrev pub hand_of : Stage → Hand Balloon
+hand_of s = record {
+  op = op_of s;
+  answering = λ e reply. Comes e false;
+  taking = λ e reply. Comes e None;
+  serving = serving_of s;
+}
+
+-- bytes are left to read, inside RAM, with fewer than so many that are held
+abbrev pub is_reading : ℕ → ℕ → Collect → Bool
+is_reading pages most from =
+    nat_lt (length from.held) most && nat_lt 0 (room from.from) && are_inside pages from.from && nat_le (length from.from) 256
+
+-- writes of one page are left, inside RAM, and so are the parts that are read after them
+abbrev pub is_zeroing : ℕ → Collect → ℕ → ℕ → Bool
+is_zeroing pages list left at =
+    nat_lt 0 left && nat_le left 64 && is_inside pages at (64 * left) && nat_lt (length list.held) 64 && are_inside pages list.from
+    && nat_le (length list.from) 256
+
+-- the stages that a balloon may be in while it serves a chain, by the chain's queue
+abbrev pub is_serving : Which → ℕ → Stage → Bool
+is_serving First pages (stage.List list n) = (n == pages) && is_reading pages 4 list
+is_serving First pages (stage.Zeros list n left at) = (n == pages) && is_zeroing pages list left at
+is_serving Third pages (stage.Tags from s) = is_reading pages 10 from
+is_serving k pages s = false
+
+-- the stages that it may be in, by what its device is at
+abbrev pub is_work : Work → ℕ → Stage → Bool
+is_work work.Rest pages stage.Rest = true
+is_work (work.Serve k) pages s = is_serving k pages s
+is_work w pages s = false
+
+-- whatever data it has
+abbrev pub AnyBalloon : Balloon → Type 0
+AnyBalloon e = Unit {0}
+
+-- how the reading of parts begins
+abbrev pub first_of : List Part → Begin
+first_of parts = if room parts == 0 then begin.Comes (Some 0) else begin.Wants (Read (place parts) (room parts))

@@ -1,0 +1,412 @@
+// What a balloon does, beside its rounds.
+ghost use Rattle.std.specs.Prelude.{◌≡◌, ◌≤◌, ◌+◌, ◌*◌, ◌^◌, []};
+ghost use Rattle.queue_device.specs.Acting.{Works, performing};
+ghost use Rattle.dev_core.specs.Pieces.{readable};
+ghost use Rattle.balloon_device.specs.Balloon.{pages_done, tags_done};
+ghost use Rattle.balloon_device.specs.Statistics.{no_statistics};
+ghost use Rattle.balloon_device.specs.Work.{first_of, hand_of, is_reading, is_serving, is_zeroing, list_left, tags_left, zeros_left};
+
+use crate::pages::{NUMBER, next_page};
+use crate::statistics::Statistics;
+use crate::telling::{ENTRY, tell};
+use dev_core::{Collect, Gather, Held, readable, total};
+use queue_device::{Begin, Kind, TakenChain, TakenParts, Which, Work};
+use std::marker::Model;
+use std::mem::replace;
+use vm_types::{Op, Piece, Reply};
+use vq_split::{PartList, are_inside, is_inside};
+
+/// How many writes of 64 bytes a page takes.
+const WRITES: u32 = 64;
+
+/// What the API may change.
+#[derive(Drop)]
+pub enum BalloonChange {
+    /// How many seconds there are between two chains of statistics.
+    Interval(u16),
+}
+
+/// What a balloon is at.
+#[derive(Drop)]
+pub enum Stage {
+    Rest,
+    /// A list of pages is read on, in a guest of so many pages.
+    List {
+        list: Collect,
+        pages: u32,
+    },
+    /// A page is zeroed by so many more writes, from an address on, and then the list is read on.
+    Zeros {
+        list: Collect,
+        pages: u32,
+        left: u32,
+        at: u64,
+    },
+    /// A chain of statistics is read on, which told this so far.
+    Tags {
+        from: Collect,
+        so_far: Statistics,
+    },
+}
+
+/// A balloon: its interval of statistics in seconds, the guest time in nanoseconds at which a chain of them was let go on last, and
+/// what that told.
+#[derive(Drop)]
+pub struct BalloonKind {
+    interval: u16,
+    last: u64,
+    statistics: Statistics,
+    stage: Stage,
+}
+
+impl Model for BalloonKind {
+    ghost use Rattle.balloon_device.specs.Balloon.{Balloon};
+    ghost use Rattle.balloon_device.specs.Work.{IsStage, Kept};
+
+    ghost Value = { Kept };
+
+    ghost view = { λ b. record {
+      own = record { interval = b.interval; last = b.last; statistics = b.statistics };
+      stage = b.stage;
+    } };
+
+    ghost invariant = { λ b. IsStage b.stage };
+}
+
+// All readable bytes of a chain, of which none is read yet.
+fn unread(parts: &PartList) -> Collect
+    ensures { result ≡ record { from = readable parts.now; held = [] } }
+{
+    Collect {
+        from: Gather::new(readable(parts)),
+        held: Held::new(),
+    }
+}
+
+// How the reading of a chain begins.
+fn first_read(parts: &PartList) -> Begin
+    ensures { result ≡ first_of (readable parts.now) }
+{
+    match unread(parts).from.want() {
+        Some(op) => Begin::Wants(op),
+        None => Begin::Comes(Some(0)),
+    }
+}
+
+// Whether bytes are left to read, inside RAM of so many pages, with fewer than so many that are held.
+fn is_reading(from: &Collect, most: usize, pages: u32) -> bool
+    ensures { result ≡ is_reading pages most from.now }
+{
+    from.held.as_slice().len() < most
+        && 0 < from.from.room()
+        && are_inside(pages, from.from.parts())
+        && from.from.parts().len() <= 256
+}
+
+// Whether writes of one page are left, inside RAM, and the parts that are read after them are inside it too.
+fn is_zeroing(list: &Collect, left: u32, at: u64, pages: u32) -> bool
+    ensures { result ≡ is_zeroing pages list.now left at }
+{
+    0 < left
+        && left <= WRITES
+        && is_inside(pages, at, 64 * left as u64)
+        && list.held.as_slice().len() < 64
+        && are_inside(pages, list.from.parts())
+        && list.from.parts().len() <= 256
+}
+
+impl BalloonKind {
+    /// A balloon whose statistics have this interval, in seconds; 0 where they are off. Nothing was told yet.
+    pub fn new(interval: u16) -> BalloonKind
+        ensures own { result.own ≡ record { interval = interval; last = 0; statistics = no_statistics } }
+    {
+        BalloonKind {
+            interval,
+            last: 0,
+            statistics: Statistics::new(),
+            stage: Stage::Rest,
+        }
+    }
+
+    /// What the driver told last of its memory.
+    pub fn statistics(&self) -> Statistics
+        ensures { result ≡ self.now.own.statistics }
+    {
+        self.statistics
+    }
+
+    // Whether it may be where it is while a chain of this queue is served.
+    fn is_serving(&self, which: Which, pages: u32) -> bool
+        ensures { result ≡ is_serving which pages self.now.stage }
+    {
+        match which {
+            Which::First => match &self.stage {
+                Stage::List { list, pages: of } => *of == pages && is_reading(list, NUMBER, pages),
+                Stage::Zeros {
+                    list,
+                    pages: of,
+                    left,
+                    at,
+                } => *of == pages && is_zeroing(list, *left, *at, pages),
+                _ => false,
+            },
+            Which::Second => false,
+            Which::Third => match &self.stage {
+                Stage::Tags { from, .. } => is_reading(from, ENTRY, pages),
+                _ => false,
+            },
+        }
+    }
+
+    // The pages whose numbers are held are zeroed, and then the next piece of the list is read.
+    fn list_on(&mut self, list: Collect, pages: u32) -> Option<Option<u32>>
+        ensures { Works (performing (list_left pages list) self.old.own pages_done)
+            result self.new.own (hand_of self.new.stage).op (hand_of self.new.stage).serving }
+    {
+        let mut list = list;
+        if let Some(at) = next_page(&mut list, pages) {
+            self.stage = Stage::Zeros {
+                list,
+                pages,
+                left: WRITES,
+                at,
+            };
+            return None;
+        }
+        if list.from.room() == 0 {
+            return Some(Some(0));
+        }
+        self.stage = Stage::List { list, pages };
+        None
+    }
+
+    // The page is written on, and then the list goes on.
+    fn zeros_on(&mut self, list: Collect, pages: u32, left: u32, at: u64) -> Option<Option<u32>>
+        requires { at + 64 * left ≤ 2 ^ 45 }
+        ensures { Works (performing (zeros_left pages list left at) self.old.own pages_done)
+            result self.new.own (hand_of self.new.stage).op (hand_of self.new.stage).serving }
+    {
+        if left == 0 {
+            return self.list_on(list, pages);
+        }
+        self.stage = Stage::Zeros {
+            list,
+            pages,
+            left,
+            at,
+        };
+        None
+    }
+
+    // The entries that are held are told, and then the next piece is read. The last byte replaces all that was told before.
+    fn tags_on(&mut self, from: Collect, so_far: Statistics) -> Option<Option<u32>>
+        ensures { Works (performing (tags_left from so_far) self.old.own tags_done)
+            result self.new.own (hand_of self.new.stage).op (hand_of self.new.stage).serving }
+    {
+        let mut from = from;
+        let mut so_far = so_far;
+        tell(&mut from.held, &mut so_far);
+        if from.from.room() == 0 {
+            self.statistics = so_far;
+            return Some(Some(0));
+        }
+        self.stage = Stage::Tags { from, so_far };
+        None
+    }
+}
+
+impl Kind for BalloonKind {
+    ghost use Rattle.device_trace.specs.Traces.{setting};
+    ghost use Rattle.balloon_device.specs.Balloon.{Balloon, balloon, changed, no_call};
+    ghost use Rattle.balloon_device.specs.Work.{AnyBalloon, hand_of, is_work};
+    ghost use Rattle.balloon_device.specs.declared.kind.Stage.{Stage};
+    ghost use Rattle.std.specs.Prelude.{true};
+
+    type Change = BalloonChange;
+
+    ghost Own = { Balloon };
+
+    ghost service = { balloon };
+
+    ghost changing = { setting changed };
+
+    ghost times = { true };
+
+    ghost calls = { no_call };
+
+    ghost Stage = { Stage };
+
+    ghost own = { λ k. k.own };
+
+    ghost stage = { λ k. k.stage };
+
+    ghost hand = { hand_of };
+
+    ghost is_work = { is_work };
+
+    ghost IsFine = { AnyBalloon };
+
+    fn last(&self) -> Which {
+        Which::Third
+    }
+
+    fn may_ask(&self) -> bool {
+        false
+    }
+
+    fn may_wait(&self) -> bool {
+        true
+    }
+
+    fn is_taken(&self, which: Which, chain: &TakenChain) -> bool {
+        let _ = which;
+        let _ = chain;
+        true
+    }
+
+    fn is_work(&self, work: Work, pages: u32) -> bool {
+        match work {
+            Work::Rest => matches!(self.stage, Stage::Rest),
+            Work::Answer => false,
+            Work::Take(_) => false,
+            Work::Serve(which) => self.is_serving(which, pages),
+        }
+    }
+
+    fn want(&self) -> Op {
+        match &self.stage {
+            Stage::Rest => Op::Idle,
+            Stage::List { list, .. } => list.op(),
+            Stage::Zeros { at, .. } => Op::Write {
+                at: *at,
+                piece: Piece::from_slice(&[0; 64]),
+            },
+            Stage::Tags { from, .. } => from.op(),
+        }
+    }
+
+    fn asks(&self) -> bool {
+        false
+    }
+
+    fn question(&self) -> Op {
+        Op::Idle
+    }
+
+    fn answer(&mut self, reply: &Reply) -> Option<bool> {
+        let _ = reply;
+        Some(false)
+    }
+
+    fn answer_on(&mut self, reply: &Reply) -> Option<bool> {
+        let _ = reply;
+        Some(false)
+    }
+
+    fn wants_chain(&self, which: Which, is_kicked: bool) -> bool {
+        let _ = which;
+        is_kicked
+    }
+
+    fn begun(&mut self, which: Which) {
+        let _ = which;
+    }
+
+    fn take(&mut self, which: Which, parts: PartList) -> Option<Option<TakenParts>> {
+        match which {
+            Which::First | Which::Second => {
+                if total(readable(&parts).as_slice()) % 4 == 0 {
+                    Some(Some(TakenParts::new(parts, Collect::new())))
+                } else {
+                    Some(None)
+                }
+            }
+            Which::Third => Some(Some(TakenParts::new(parts, Collect::new()))),
+        }
+    }
+
+    fn take_on(&mut self, reply: &Reply) -> Option<Option<TakenParts>> {
+        let _ = reply;
+        Some(None)
+    }
+
+    fn is_timed(&self, which: Which, chain: &TakenChain) -> bool {
+        let _ = chain;
+        match which {
+            Which::First | Which::Second => false,
+            Which::Third => self.interval != 0,
+        }
+    }
+
+    fn passes(&mut self, which: Which, chain: &TakenChain, now: u64) -> bool {
+        let _ = which;
+        let _ = chain;
+        let interval = self.interval as u64 * 1_000_000_000;
+        if now < interval || now - interval < self.last {
+            return false;
+        }
+        self.last = now;
+        true
+    }
+
+    fn serves(&self, which: Which, chain: &TakenChain) -> Begin {
+        match which {
+            Which::First => first_read(chain.parts()),
+            Which::Second => Begin::Comes(Some(0)),
+            Which::Third => first_read(chain.parts()),
+        }
+    }
+
+    fn serve(&mut self, which: Which, chain: &TakenChain) -> Option<Option<u32>> {
+        match which {
+            Which::First => self.list_on(unread(chain.parts()), chain.queue().fields().pages),
+            Which::Second => Some(Some(0)),
+            Which::Third => self.tags_on(unread(chain.parts()), Statistics::new()),
+        }
+    }
+
+    fn serve_on(&mut self, reply: &Reply) -> Option<Option<u32>> {
+        match replace(&mut self.stage, Stage::Rest) {
+            Stage::Rest => Some(None),
+            Stage::List { list, pages } => {
+                let mut list = list;
+                let piece = list.from.give(reply);
+                list.held.append(&piece);
+                self.list_on(list, pages)
+            }
+            Stage::Zeros {
+                list,
+                pages,
+                left,
+                at,
+            } => self.zeros_on(list, pages, left - 1, at + 64),
+            Stage::Tags { from, so_far } => {
+                let mut from = from;
+                let piece = from.from.give(reply);
+                from.held.append(&piece);
+                self.tags_on(from, so_far)
+            }
+        }
+    }
+
+    fn over(&mut self, which: Which) {
+        let _ = which;
+    }
+
+    fn reset(&mut self) {
+        self.last = 0;
+        self.statistics = Statistics::new();
+    }
+
+    fn change(&mut self, change: BalloonChange) {
+        let BalloonChange::Interval(seconds) = change;
+        self.interval = seconds;
+    }
+
+    fn change_inside(&mut self, change: BalloonChange, op: &Op) -> Option<Reply> {
+        let _ = op;
+        let BalloonChange::Interval(seconds) = change;
+        self.interval = seconds;
+        None
+    }
+}

@@ -1,0 +1,47 @@
+// What holds of a balloon, by what holds of every kind of device with queues.
+ghost use Rattle.std.specs.Prelude.{◌≡◌, ◌<◌, ◌^◌, ℕ, true, List};
+ghost use Rattle.device_trace.specs.States.{LeadsTo, wants};
+ghost use Rattle.device_trace.specs.Traces.{Item};
+ghost use Rattle.device_trace.specs.Script.{Ends, Script};
+ghost use Rattle.queue_device.specs.Confined.{IsDeviceAct};
+ghost use Rattle.queue_device.specs.Lanes.{new_lane};
+ghost use Rattle.queue_device.specs.Service.{Queued};
+ghost use Rattle.balloon_device.specs.declared.kind.BalloonChange.{BalloonChange};
+ghost use Rattle.balloon_device.specs.Balloon.{Balloon, balloon_rules, new_balloon, no_call};
+ghost use Rattle.balloon_device.specs.Statistics.{no_statistics};
+ghost use Rattle.balloon_device.specs.Sequences.{broken_lane, broken_list, finish, none_inflated, one_deflated, one_inflated};
+ghost use Rattle.balloon_device.specs.Sequences.{own_of, split_inflated, start, total_memory, until_its_time, until_sooner};
+ghost use Rattle.balloon_device.specs.Sequences.{used_lane};
+
+use crate::kind::BalloonKind;
+use queue_device::queue_stays;
+
+/// Wherever the items of a balloon lead, it wants an act of its own, or guest time, and no byte outside RAM: the pages that it
+/// zeroes lie in RAM too, whatever numbers a driver lists.
+pub fn balloon_stays()
+    ensures { (port pages interval : ℕ) (items : List (Item BalloonChange)) (left : Script (Queued Balloon)) →
+        pages < 2 ^ 32 → LeadsTo balloon_rules (new_balloon port pages interval) items left →
+        IsDeviceAct true no_call port pages (wants balloon_rules left) }
+{
+    queue_stays::<BalloonKind>();
+}
+
+/// A page that is listed is zeroed, by 64 writes; one whose number ends in a later piece is zeroed behind that piece; one outside
+/// RAM is skipped; and a list that ends inside a number is broken, and not read. Deflating gives the chain back. A chain of
+/// statistics is kept until its interval is over, or one that the API sets meanwhile, and then it is read and given back.
+pub fn balloon_does()
+    ensures one { LeadsTo balloon_rules start one_inflated
+        (Ends (finish used_lane new_lane new_lane (own_of 2 0 no_statistics))) }
+    ensures split { LeadsTo balloon_rules start split_inflated
+        (Ends (finish used_lane new_lane new_lane (own_of 2 0 no_statistics))) }
+    ensures outside { LeadsTo balloon_rules start none_inflated
+        (Ends (finish used_lane new_lane new_lane (own_of 2 0 no_statistics))) }
+    ensures broken { LeadsTo balloon_rules start broken_list
+        (Ends (finish broken_lane new_lane new_lane (own_of 2 0 no_statistics))) }
+    ensures deflated { LeadsTo balloon_rules start one_deflated
+        (Ends (finish new_lane used_lane new_lane (own_of 2 0 no_statistics))) }
+    ensures time { LeadsTo balloon_rules start until_its_time
+        (Ends (finish new_lane new_lane used_lane (own_of 2 2000000000 total_memory))) }
+    ensures sooner { LeadsTo balloon_rules start until_sooner
+        (Ends (finish new_lane new_lane used_lane (own_of 1 1000000000 total_memory))) }
+{}

@@ -1,0 +1,14 @@
+//! A balloon (VIRTIO 1.2, 5.5) as a kind of device on the rounds of `queue_device`. No machine has one yet.
+#![tactic(auto)]
+
+mod kind;
+mod law;
+mod new_balloon;
+mod pages;
+mod statistics;
+mod telling;
+
+pub use kind::{BalloonChange, BalloonKind};
+pub use law::{balloon_does, balloon_stays};
+pub use new_balloon::{NewBalloon, configuration};
+pub use statistics::Statistics;
