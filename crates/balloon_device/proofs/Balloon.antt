@@ -28,7 +28,7 @@ use Rattle.balloon_device.proofs.Pieces.{read_keeps}
 
 module _ (port pages : ℕ) where
   -- a page in RAM is written inside RAM
-  zeros_keep : (count at : ℕ) → 0x80000000 ≤ at → at + 64 * count ≤ 0x80000000 + 4096 * pages
+  pub zeros_keep : (count at : ℕ) → 0x80000000 ≤ at → at + 64 * count ≤ 0x80000000 + 4096 * pages
       → Keeps (IsDeviceAct true no_call port pages) (Any {A = Unit {0}}) (zeros count at)
   zeros_keep zero at low high = tt
   zeros_keep (suc count) at low high = (
@@ -44,7 +44,7 @@ module _ (port pages : ℕ) where
       zeros_keep 64 (page_size * number) r.0 (omega (arith, r)))
       (λ outside. tt)
 
-  numbers_keep : (count : ℕ) (bytes : List ℕ)
+  pub numbers_keep : (count : ℕ) (bytes : List ℕ)
       → Keeps (IsDeviceAct true no_call port pages) (Any {A = List ℕ}) (numbers_zeroed pages count bytes)
   numbers_keep zero bytes = tt
   numbers_keep (suc count) bytes =

@@ -12,6 +12,10 @@ none_whole n few = omega (arith, few)
 pub told_all : (bytes : List ℕ) (s : Statistics) → length bytes < 10 → all_told bytes s ≡ record { begun = bytes; so_far = s }
 told_all bytes s few = rw (none_whole (length bytes) few) refl
 
+-- and no more are behind all entries
+pub begun_few : (bytes : List ℕ) (s : Statistics) → length (all_told bytes s).begun < 10
+begun_few bytes s = omega (arith, length-drop (10 * (length bytes / 10)) bytes)
+
 suc_whole : (n : ℕ) → 10 ≤ n → n / 10 ≡ suc ((n - 10) / 10)
 suc_whole n some = omega (arith, some)
 

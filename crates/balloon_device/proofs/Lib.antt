@@ -1,4 +1,5 @@
 pub mod Balloon
 pub mod Entries
 pub mod Pieces
+pub mod Resuming
 pub mod Working

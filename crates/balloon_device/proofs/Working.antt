@@ -1,6 +1,5 @@
 -- What is left of a chain, step by step.
-use Rattle.std.proofs.Common.{◌≡◌, ℕ, zero, suc, ◌+◌, ◌-◌, ◌*◌, ◌/◌, ◌==◌, ◌<◌, ◌≤◌, refl, sym, ap, ◌∙◌, true, false, Option, Some, List, [], ◌++◌, length, drop, replicate, arith, length-drop}
-use Rattle.vm_types.specs.declared.op.Op.{Op}
+use Rattle.std.proofs.Common.{◌≡◌, ℕ, zero, suc, ◌+◌, ◌-◌, ◌*◌, ◌/◌, ◌==◌, ◌<◌, ◌≤◌, refl, sym, ap, ◌∙◌, true, false, Some, List, [], ◌++◌, length, drop, replicate, arith, length-drop}
 use Rattle.vm_types.specs.declared.op.Op.TheVariants.{Read, Write}
 use Rattle.vm_types.specs.declared.reply.Reply.{Reply}
 use Rattle.device_trace.specs.Doing.{Doing, Gives, Wants, and_then, asked, led}
@@ -10,7 +9,7 @@ use Rattle.vq_split.specs.declared.queue.Part.{Part}
 use Rattle.vq_split.specs.Chain.{is_inside, read_bytes}
 use Rattle.dev_core.specs.declared.collect.Collect.{Collect}
 use Rattle.dev_core.specs.Pieces.{past, place, room}
-use Rattle.queue_device.specs.Acting.{Acting, Acts, performing}
+use Rattle.queue_device.specs.Acting.{performing}
 use Rattle.queue_device.specs.Left.{begin_of}
 use Rattle.balloon_device.specs.declared.statistics.Statistics.{Statistics}
 use Rattle.balloon_device.specs.Balloon.{Balloon, pages_done, tags_done}
@@ -20,24 +19,15 @@ use Rattle.balloon_device.specs.Statistics.{Telling, all_told, no_statistics, to
 use Rattle.balloon_device.specs.Work.{first_of, list_left, tags_left, zeros_left}
 use Rattle.balloon_device.proofs.Pieces.{none_of, read_done, read_more}
 
--- ---- what is wanted, and where a reply leads
-
--- what wants an act begins with it
-pub begun_by : {A : Type 0} (t : Doing A) (e : Balloon) (done : Balloon → A → Acting Balloon (Option ℕ)) (op : Op)
-    → asked t ≡ Some op → performing t e done ≡ Acts e op (λ f reply. performing (led t reply) f done)
-begun_by (Gives a) e done op is = cc
-begun_by (Wants o on) e done op is =
-    let same : o ≡ op = cc in ap (λ (p : Op). Acts e p (λ f reply. performing (on reply) f done)) same
-
 assoc : {A B C : Type 0} (t : Doing A) (f : A → Doing B) (g : B → Doing C)
     → and_then (and_then t f) g ≡ and_then t (λ a. and_then (f a) g)
 assoc (Gives a) f g = refl
 assoc (Wants op on) f g = λ i. Wants op (λ reply. assoc (on reply) f g i)
 
-abbrev listing : ℕ → List ℕ → List ℕ → Doing (List ℕ)
+abbrev pub listing : ℕ → List ℕ → List ℕ → Doing (List ℕ)
 listing pages begun piece = all_zeroed pages (begun ++ piece)
 
-abbrev telling : Telling → List ℕ → Doing Telling
+abbrev pub telling : Telling → List ℕ → Doing Telling
 telling t piece = Gives (all_told (t.begun ++ piece) t.so_far)
 
 abbrev pub collected : List Part → List ℕ → Collect
@@ -48,7 +38,7 @@ collected from held = record { from = from; held = held }
 none_whole : (n : ℕ) → n < 4 → n / 4 ≡ 0
 none_whole n few = omega (arith, few)
 
-list_read : (pages : ℕ) (from : List Part) (held : List ℕ) → length held < 4
+pub list_read : (pages : ℕ) (from : List Part) (held : List ℕ) → length held < 4
     → list_left pages (collected from held) ≡ read_all (listing pages) held from
 list_read pages from held few = rw (none_whole (length held) few) refl
 
@@ -141,7 +131,7 @@ pub tags_same : (from : List Part) (held begun : List ℕ) (s so_far : Statistic
 tags_same from held begun s so_far is still =
     ap (λ (t : Telling). and_then (read_all telling t from) (λ t. Gives t.so_far)) (sym is ∙ sym still)
 
-tags_read : (from : List Part) (held : List ℕ) (s : Statistics) → all_told held s ≡ record { begun = held; so_far = s }
+pub tags_read : (from : List Part) (held : List ℕ) (s : Statistics) → all_told held s ≡ record { begun = held; so_far = s }
     → tags_left (collected from held) s ≡ and_then (read_all telling (record { begun = held; so_far = s }) from) (λ t. Gives t.so_far)
 tags_read from held s still = ap (λ (t : Telling). and_then (read_all telling t from) (λ t. Gives t.so_far)) still
 

@@ -15,12 +15,15 @@ use Rattle.queue_device.specs.declared.lanes.Which.{Which}
 use Rattle.queue_device.specs.declared.lanes.Which.TheVariants.{First, Third}
 use Rattle.queue_device.specs.declared.phase.Work.{Work}
 use Rattle.queue_device.specs.declared.phase.Work.TheVariants as work
+use Rattle.device_trace.specs.Script.{Script}
 use Rattle.queue_device.specs.Acting.{Acting, Comes, performing}
 use Rattle.queue_device.specs.Left.{Hand}
+use Rattle.queue_device.specs.Resuming.{HasKept}
+use Rattle.queue_device.specs.Service.{Queued}
 use Rattle.balloon_device.specs.declared.kind.Stage.{Stage}
 use Rattle.balloon_device.specs.declared.kind.Stage.TheVariants as stage
 use Rattle.balloon_device.specs.declared.statistics.Statistics.{Statistics}
-use Rattle.balloon_device.specs.Balloon.{Balloon, pages_done, tags_done}
+use Rattle.balloon_device.specs.Balloon.{Balloon, balloon, pages_done, tags_done}
 use Rattle.balloon_device.specs.Pages.{all_zeroed, zeros}
 use Rattle.balloon_device.specs.Pieces.{read_all}
 use Rattle.balloon_device.specs.Statistics.{Telling, all_told}
@@ -101,6 +104,10 @@ is_work w pages s = false
 -- whatever data it has
 abbrev pub AnyBalloon : Balloon → Type 0
 AnyBalloon e = Unit {0}
+
+-- what is kept where this is left
+abbrev pub BalloonKept : ℕ → ℕ → Script (Queued Balloon) → Type 0
+BalloonKept port pages t = HasKept balloon hand_of is_work AnyBalloon true port pages t
 
 -- how the reading of parts begins
 abbrev pub first_of : List Part → Begin

@@ -9,6 +9,6 @@ mod statistics;
 mod telling;
 
 pub use kind::{BalloonChange, BalloonKind};
-pub use law::{balloon_does, balloon_stays};
+pub use law::{balloon_does, balloon_goes_on, balloon_kept, balloon_stays};
 pub use new_balloon::{NewBalloon, configuration};
 pub use statistics::Statistics;
