@@ -1,5 +1,7 @@
 -- What a line that brings moving request makes of the machine is what it makes of each flat machine that it is.
-use Rattle.std.proofs.Common.{◌≡◌, ℕ, Bool, true, false, if◌then◌else◌, MatchBool, refl, sym, subst, ◌∙◌, List, [], length, Option, Some, None}
+use Rattle.std.proofs.Common.{◌≡◌, ◌<◌, ℕ, suc, zero, Bool, true, false, if◌then◌else◌, MatchBool, refl, sym, ap, subst, ◌∙◌, List, [], ◌∷◌, length, slice_get, Option, Some, None, arith}
+use Rattle.std.specs.Option.{option_map}
+use Rattle.std.proofs.lemmas.Bool.{lt-ltb}
 use Rattle.vm_outside.specs.Known.{FilesKnown}
 use Rattle.vm_types.specs.declared.ids.ActorId.{ActorId}
 use Rattle.vm_types.specs.declared.entry.Entry.{Entry}
@@ -8,13 +10,17 @@ use Rattle.vm_types.specs.declared.reply.Reply.{Reply}
 use Rattle.vm_types.specs.Fits.{out_fits}
 use Rattle.script_text.specs.declared.output.Misfit.{Misfit}
 use Rattle.script_text.specs.declared.output.Misfit.TheVariants as misfit
-use Rattle.script_text.specs.Output.{misfit_line}
+use Rattle.script_text.specs.Output.{misfit_line, register_line}
+use Rattle.rv_supervisor.specs.declared.regs.Regs.{Regs}
+use Rattle.hart_trace.specs.Shown.{register_of}
+use Rattle.hart_trace.specs.States.{Hart}
 use Rattle.hart_trace.specs.Asks.{is_host_op}
+use Rattle.flat_guest.specs.Body.{want_of}
 use Rattle.flat_guest.specs.Given.{Given, as_given}
 use Rattle.flat_guest.specs.Guest.{Guest, Wants, is_actor}
 use Rattle.flat_guest.specs.Steps.{guest_after, is_given}
 use Rattle.flat_machine.specs.Machine.{Machine, running, running_by}
-use Rattle.flat_machine.specs.Items.{Answers, Misfits, Moves, Replies, RepliesLine, StepsLine, steps_text}
+use Rattle.flat_machine.specs.Items.{Answers, Misfits, Moves, RegisterLine, Replies, RepliesLine, Shows, ShowsFrom, StepsLine, steps_text}
 use Rattle.vm_world.specs.declared.step_error.StepError.{StepError}
 use Rattle.vm_world.specs.Refusing.{refusal_of}
 use Rattle.vm_world.specs.Worlds.{IsWorld, MakesEvent, Runs, WorldValue, want_in}
@@ -201,6 +207,53 @@ module _ (live : LiveMachine) (known : FilesKnown) (m : Machine) (world left : W
   pub reply_misfits : (why : Misfit) → text ≡ misfit_line why → TakesReply (Some why) world actor given left
       → Replied actor given m text (record live { guest = Some left }) known
   reply_misfits why writes takes = taken_by why writes takes
+
+-- ---- registers
+
+value_at : (o : Option Hart) (number value : ℕ) → Some value ≡ option_map (λ h. register_of h number) o
+    → (h : Hart) × (o ≡ Some h) × (value ≡ register_of h number)
+value_at None number value is = cc
+value_at (Some h) number value is = (h, refl, cc)
+
+none_at : (o : Option Hart) (number : ℕ) → None ≡ option_map (λ h. register_of h number) o → o ≡ None
+none_at None number is = refl
+none_at (Some h) number is = cc
+
+start_at : (starts : List Regs) (harts : List Hart) (k : ℕ) (h : Hart) → length harts ≡ length starts → slice_get harts k ≡ Some h
+    → (k < length starts) × (s : Regs) × (slice_get starts k ≡ Some s)
+start_at starts [] k h same is = cc
+start_at [] (x ∷ harts) k h same is = absurd (omega (arith, same))
+start_at (s ∷ starts) (x ∷ harts) zero h same is = (omega arith, s, refl)
+start_at (s ∷ starts) (x ∷ harts) (suc k) h same is =
+    let rest = start_at starts harts k h (omega (arith, same)) is in
+    (omega (arith, rest.0), rest.1, rest.2)
+
+-- of a hart that is there
+pub register_shown : (live : LiveMachine) (known : FilesKnown) (m : Machine) (w : WorldValue) (k number value : ℕ) (text : List ℕ)
+    → IsMachine live known m → live.guest ≡ Some w → Some value ≡ option_map (λ h. register_of h number) (slice_get w.harts k)
+    → text ≡ register_line value → RegisterLine m.guest k number m text m
+register_shown live known m w k number value text is some shows writes =
+    let g = some_guest live.guest w m.guest is.own.guest_is some in
+    let at = value_at (slice_get w.harts k) number value shows in
+    let start = start_at g.0.starts w.harts k at.0 g.2.harts_are.count at.1 in
+    let shown : Shows g.0 k number text =
+    subst (λ (o : Option Regs). ShowsFrom o (g.0.steps (ActorId.Hart k)) number text) (sym start.2)
+    (at.0, g.2.harts_are.each k start.1 at.0 start.2 at.1, writes ∙ ap register_line at.2) in
+    subst (λ (o : Option Guest). RegisterLine o k number m text m) (sym g.1)
+    (subst (λ (b : Bool). MatchBool b (Shows g.0 k number text × (m ≡ m)) (Misfits misfit.NoActor m text m))
+    (sym (lt-ltb k (length g.0.starts) start.0)) (shown, refl))
+
+-- and of one that isn't
+pub register_lacks : (live : LiveMachine) (known : FilesKnown) (m : Machine) (w : WorldValue) (k number : ℕ) (text : List ℕ)
+    → IsMachine live known m → live.guest ≡ Some w → None ≡ option_map (λ h. register_of h number) (slice_get w.harts k)
+    → text ≡ misfit_line misfit.NoActor → RegisterLine m.guest k number m text m
+register_lacks live known m w k number text is some lacks writes =
+    let g = some_guest live.guest w m.guest is.own.guest_is some in
+    let want : want_in w (ActorId.Hart k) ≡ None =
+    subst (λ (o : Option Hart). want_of o ≡ None) (sym (none_at (slice_get w.harts k) number lacks)) refl in
+    subst (λ (o : Option Guest). RegisterLine o k number m text m) (sym g.1)
+    (subst (λ (b : Bool). MatchBool b (Shows g.0 k number text × (m ≡ m)) (Misfits misfit.NoActor m text m))
+    (sym (not_there w g.0 (ActorId.Hart k) g.2 want)) (writes, refl))
 
 -- ---- what is given to a world
 
