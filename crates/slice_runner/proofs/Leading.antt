@@ -18,7 +18,10 @@ use Rattle.stamp_merge.specs.declared.layout.Layout.{Layout}
 use Rattle.flat_guest.specs.Steps.{guest_after, written_after}
 use Rattle.vm_world.specs.Worlds.{WorldValue}
 use Rattle.slice_runner.specs.Slices.{IsSerial, IsThere, MarksFollow}
-use Rattle.slice_runner.specs.Values.{ActorState, BoardHolds, HartIs, PageHolds, PlaceValue, PortHolds, TimerIs, actor_next, actor_wants, actors_of, layout_in, no_port, place_touch, places_of, route_among}
+use Rattle.machine_places.specs.declared.place.MachinePlace.{MachinePlace}
+use Rattle.machine_places.specs.declared.place.MachinePlace.TheVariants as holds
+use Rattle.machine_places.specs.Acts.{touch as place_touch}
+use Rattle.slice_runner.specs.Values.{ActorState, HartIs, TimerIs, actor_next, actor_wants, actors_of, layout_in, no_port, places_of, route_among}
 use Rattle.slice_runner.proofs.Stepping.{StepsOn, steps_on, world_after}
 
 -- the entries lead from the world to one that has these values and states
@@ -42,7 +45,7 @@ reach_more w e es s r = record {
   layout = r.layout ∙ s.layout;
   devices = r.devices ∙ s.devices;
   harts = r.harts ∙ s.harts;
-  places = ap (λ (f : PlaceId → PlaceValue). vals_end place_touch f es) s.places ∙ r.places;
+  places = ap (λ (f : PlaceId → MachinePlace). vals_end place_touch f es) s.places ∙ r.places;
   actors = ap (λ (f : ActorId → ActorState). states_end actor_next f es) s.actors ∙ r.actors;
 }
 
@@ -66,7 +69,7 @@ reaches (e ∷ es) w layout m layout_is harts_are are there fresh_is =
     (fresh_is.1 ∙ ap (λ (l : Layout). route_among l e.op) layout_is) fresh_is.2 in
     let rest : IsFresh place_touch actor_wants actor_next (route_among layout) OutFits (places_of (world_after w e)) (actors_of (world_after w e)) es =
     subst (λ (f : ActorId → ActorState). IsFresh place_touch actor_wants actor_next (route_among layout) OutFits (places_of (world_after w e)) f es) s.actors
-    (subst (λ (f : PlaceId → PlaceValue). IsFresh place_touch actor_wants actor_next (route_among layout) OutFits f (put_actor (actors_of w) e.actor (actor_next (actors_of w e.actor) e.reply)) es) s.places fresh_is.3) in
+    (subst (λ (f : PlaceId → MachinePlace). IsFresh place_touch actor_wants actor_next (route_among layout) OutFits f (put_actor (actors_of w) e.actor (actor_next (actors_of w e.actor) e.reply)) es) s.places fresh_is.3) in
     reach_more w e es s
     (reaches es (world_after w e) layout m (layout_is ∙ sym s.layout) (harts_are ∙ sym s.harts) s.pages there.1 rest)
 
@@ -78,20 +81,20 @@ same_lists (x ∷ xs) [] d long same = absurd (omega (arith, long))
 same_lists (x ∷ xs) (y ∷ ys) d long same =
     λ j. same 0 j ∷ same_lists xs ys d (omega (arith, long)) (λ i. same (suc i)) j
 
-abbrev page_in : PlaceValue → PageValue → PageValue
-page_in (PageHolds p) d = p
-page_in (PortHolds p) d = d
-page_in (BoardHolds b) d = d
+abbrev page_in : MachinePlace → PageValue → PageValue
+page_in (holds.Page p) d = p
+page_in (holds.Port p) d = d
+page_in (holds.Board b) d = d
 
-abbrev port_in : PlaceValue → PortState → PortState
-port_in (PageHolds p) d = d
-port_in (PortHolds p) d = p
-port_in (BoardHolds b) d = d
+abbrev port_in : MachinePlace → PortState → PortState
+port_in (holds.Page p) d = d
+port_in (holds.Port p) d = p
+port_in (holds.Board b) d = d
 
-abbrev board_in : PlaceValue → Board → Board
-board_in (PageHolds p) d = d
-board_in (PortHolds p) d = d
-board_in (BoardHolds b) d = b
+abbrev board_in : MachinePlace → Board → Board
+board_in (holds.Page p) d = d
+board_in (holds.Port p) d = d
+board_in (holds.Board b) d = b
 
 abbrev timer_in : ActorState → Timer → Timer
 timer_in (TimerIs t) d = t
@@ -106,10 +109,10 @@ pub same_world : (w v : WorldValue) → layout_in w ≡ layout_in v → length w
     → ((p : PlaceId) → is_out p ≡ false → places_of w p ≡ places_of v p) → ((a : ActorId) → actors_of w a ≡ actors_of v a) → w ≡ v
 same_world w v layout harts devices places actors =
     let pages_are : w.pages ≡ v.pages =
-    same_lists w.pages v.pages (new_page 0) (ap (λ (l : Layout). l.pages) layout) (λ i. ap (λ (x : PlaceValue). page_in x (new_page 0)) (places (PlaceId.Page i) refl)) in
+    same_lists w.pages v.pages (new_page 0) (ap (λ (l : Layout). l.pages) layout) (λ i. ap (λ (x : MachinePlace). page_in x (new_page 0)) (places (PlaceId.Page i) refl)) in
     let ports_are : w.ports ≡ v.ports =
-    same_lists w.ports v.ports no_port (ap (λ (l : Layout). l.ports) layout) (λ k. ap (λ (x : PlaceValue). port_in x no_port) (places (PlaceId.Port k) refl)) in
-    let board_is : w.board ≡ v.board = ap (λ (x : PlaceValue). board_in x w.board) (places PlaceId.Board refl) in
+    same_lists w.ports v.ports no_port (ap (λ (l : Layout). l.ports) layout) (λ k. ap (λ (x : MachinePlace). port_in x no_port) (places (PlaceId.Port k) refl)) in
+    let board_is : w.board ≡ v.board = ap (λ (x : MachinePlace). board_in x w.board) (places PlaceId.Board refl) in
     let timer_is : w.timer ≡ v.timer = ap (λ (x : ActorState). timer_in x w.timer) (actors ActorId.Timer) in
     let harts_are : w.harts ≡ v.harts =
     same_lists w.harts v.harts (fresh stopped_regs) harts (λ k. ap (λ (x : ActorState). hart_in x (fresh stopped_regs)) (actors (ActorId.Hart k))) in

@@ -1,12 +1,13 @@
 pub mod Answers
 pub mod Crew
-pub mod Home
-pub mod Homes
 pub mod Joined
 pub mod Leading
-pub mod Returned
+pub mod Opening
 pub mod Routes
+pub mod Seats
+pub mod Shared
 pub mod Staff
 pub mod Stepping
+pub mod Valued
 pub mod Whole
 pub mod Working

@@ -1,8 +1,7 @@
 -- Where ops act, among so many pages and ports.
-use Rattle.std.proofs.Common.{◌≡◌, ℕ, ◌+◌, ◌*◌, ◌-◌, ◌/◌, ◌%◌, ◌<◌, nat_le, nat_lt, max, Bool, true, false, cond, ◌&&◌, refl, sym, ap, ◌∙◌, subst, arith, length}
-use Rattle.std.proofs.lemmas.Bool.{ltb-true}
-use Rattle.std.proofs.Common.{Option, Some, None, IfOk, OnErr, Result, Ok, Err}
-use Rattle.std.specs.declared.alloc.AllocError.{AllocError}
+use Rattle.std.proofs.Common.{◌≡◌, ℕ, ◌+◌, ◌*◌, ◌-◌, ◌/◌, ◌%◌, ◌<◌, ◌==◌, nat_le, nat_lt, max, Bool, true, false, cond, ◌&&◌, refl, sym, ap, ◌∙◌, subst, arith, length}
+use Rattle.std.proofs.lemmas.Bool.{eq-eqb, lt-ltb, ltb-true}
+use Rattle.std.proofs.Common.{Option, Some, None}
 use Rattle.vm_types.specs.declared.entry.Entry.{Entry}
 use Rattle.vm_types.specs.declared.ids.ActorId.{ActorId}
 use Rattle.vm_types.specs.declared.reply.Reply.{Reply}
@@ -16,14 +15,20 @@ use Rattle.guest_memory.specs.Ram.{is_ram, page_size, ram_start}
 use Rattle.slice_runner.specs.Runs.{IsActOf}
 use Rattle.vm_types.specs.declared.op.Op.{Op}
 use Rattle.vm_types.specs.declared.ids.PlaceId.{PlaceId}
-use Rattle.vm_types.specs.Ids.{is_out}
+use Rattle.vm_types.specs.Ids.{is_out, same_place}
 use Rattle.guest_memory.specs.Route.{access_place, page_of}
 use Rattle.guest_memory.specs.Words.{width_of}
 use Rattle.guest_pages.proofs.Here.{here}
 use Rattle.hart_trace.specs.Asks.{is_port_op}
 use Rattle.flat_guest.specs.Places.{is_register_access, place_by, port_accessed, port_place}
 use Rattle.stamp_merge.specs.declared.layout.Layout.{Layout}
-use Rattle.slice_runner.specs.Locks.{IsLaidOut}
+use Rattle.stamp_merge.proofs.Serial.{same_place-eq}
+use Rattle.machine_places.specs.declared.place.MachinePlace.{MachinePlace}
+use Rattle.machine_places.specs.Laid.{index_among, is_laid}
+use Rattle.machine_places.proofs.Indexing.{are_apart}
+use Rattle.turn_table.specs.declared.view.View.{View}
+use Rattle.turn_table.specs.Acts.{IsEntryAt}
+use Rattle.turn_work.specs.Work.{AreNamed, IsOutEntry}
 use Rattle.flat_guest.proofs.Answering.{short_not}
 use Rattle.vm_world.proofs.Events.{place_access}
 use Rattle.slice_runner.specs.Values.{route_among}
@@ -106,10 +111,10 @@ port_there layout k (Op.Out act) is = cc
 port_there layout k Op.Idle is = cc
 
 -- the place of an op is there, if it has one
-pub laid_out : (layout : Layout) (op : Op) (place : PlaceId) → place ≡ route_among layout op → is_out place ≡ false → IsLaidOut layout place
-laid_out layout op (PlaceId.Page i) is inner = page_there layout i op (sym is)
-laid_out layout op (PlaceId.Port k) is inner = port_there layout k op (sym is)
-laid_out layout op PlaceId.Board is inner = tt
+pub laid_out : (layout : Layout) (op : Op) (place : PlaceId) → place ≡ route_among layout op → is_out place ≡ false → is_laid layout place ≡ true
+laid_out layout op (PlaceId.Page i) is inner = lt-ltb i layout.pages (page_there layout i op (sym is))
+laid_out layout op (PlaceId.Port k) is inner = lt-ltb k layout.ports (port_there layout k op (sym is))
+laid_out layout op PlaceId.Board is inner = refl
 laid_out layout op PlaceId.Out is inner = cc
 
 -- with no place the reply is what the machine allows
@@ -136,7 +141,7 @@ out_fits_by layout op (Host reply) is own fit = some_fits op reply fit
 out_fits_by layout op Short is own fit = absurd (short_not op fit)
 
 module _ (layout : Layout) (clock : ℕ) (actor : ActorId) (op : Op) (given : Given) where
-  -- an act under the lock of its place
+  -- an act in a turn at its place
   at_one : (place : PlaceId) (e : Entry) → is_out place ≡ false → place ≡ route_among layout op
       → IsEntryOf e actor place op clock → IsActOf e actor op given layout clock
   at_one place e inner placed is =
@@ -152,39 +157,36 @@ module _ (layout : Layout) (clock : ℕ) (actor : ActorId) (op : Op) (given : Gi
       clash : (p : PlaceId) → is_out p ≡ false → is_out p ≡ true → ⊥
       clash p inside outside = let both = sym inside ∙ outside in cc
 
-  pub at_place : (place : PlaceId) (r : Result Entry AllocError) → is_out place ≡ false → place ≡ route_among layout op
-      → IfOk r (λ (e : Entry). IsEntryOf e actor place op clock) → IfOk r (λ (e : Entry). IsActOf e actor op given layout clock)
-  at_place place (Ok e) inner here made = at_one place e inner here made
-  at_place place (Err why) inner here made = tt
+  pub at_place : (v : View MachinePlace) (place : PlaceId) (i : ℕ) (e : Entry) → AreNamed (index_among layout) v.round → is_out place ≡ false
+      → place ≡ route_among layout op → i ≡ index_among layout place → i < layout.pages + (layout.ports + 1)
+      → IsEntryAt v i e actor op clock → IsActOf e actor op given layout clock
+  at_place v place i e named inner placed is below at =
+      let name = named i at.0 at.1 in
+      let less : index_among layout at.0.id < layout.pages + (layout.ports + 1) = subst (λ (n : ℕ). n < layout.pages + (layout.ports + 1)) (sym name.0) below in
+      let test : same_place at.0.id place ≡ true =
+      sym (are_apart layout at.0.id place less) ∙ eq-eqb (index_among layout at.0.id) (index_among layout place) (name.0 ∙ is) in
+      at_one place e inner placed (subst (λ (p : PlaceId). IsEntryOf e actor p op clock) (same_place-eq at.0.id place test) at.2)
 
   -- an act with no place
   pub at_none : (e : Entry) → is_port_op op ≡ false → is_given op given ≡ true → route_among layout op ≡ PlaceId.Out
-      → e.actor ≡ actor → e.place ≡ PlaceId.Out → e.op ≡ op → e.reply ≡ out_reply op given → e.stamp ≡ clock + 1
-      → e.before ≡ 0 → IsActOf e actor op given layout clock
-  at_none e own fit nowhere actor_is place_is op_is reply_is stamp_is before_is = record {
-    actor_is = actor_is;
-    op_is = op_is;
+      → IsOutEntry e actor op (out_reply op given) clock → IsActOf e actor op given layout clock
+  at_none e own fit nowhere is = record {
+    actor_is = is.actor_is;
+    op_is = is.op_is;
     placed = (
-      place_is ∙ sym nowhere ∙ ap (route_among layout) (sym op_is),
-      λ is. rw (reply_is, op_is) (out_fits_by layout op given nowhere own fit),
+      is.place_is ∙ sym nowhere ∙ ap (route_among layout) (sym is.op_is),
+      λ out. rw (is.reply_is, is.op_is) (out_fits_by layout op given nowhere own fit),
     );
-    stamp_is = rw before_is (stamp_is ∙ add_one clock);
-    out = λ is. before_is;
-    given_is = λ is. reply_is;
+    stamp_is = rw is.before_is (is.stamp_is ∙ add_one clock);
+    out = λ out. is.before_is;
+    given_is = λ out. is.reply_is;
   }
     where
       add_one : (k : ℕ) → k + 1 ≡ 1 + max k 0
       add_one k = omega arith
-
-  pub not_out : (place : PlaceId) → place ≡ route_among layout op → is_out place ≡ false → is_out (route_among layout op) ≡ false
-  not_out place here inner = ap is_out (sym here) ∙ inner
 
 pub inside_of : (place : PlaceId) → (place ≡ PlaceId.Out → ⊥) → is_out place ≡ false
 inside_of (PlaceId.Page i) not = refl
 inside_of (PlaceId.Port k) not = refl
 inside_of PlaceId.Board not = refl
 inside_of PlaceId.Out not = absurd (not refl)
-
-pub also : (A B : Type 0) (r : Result Entry AllocError) → OnErr r A → B → OnErr r (A × B)
-also A B (Ok e) a b = tt
-also A B (Err why) a b = (a, b)

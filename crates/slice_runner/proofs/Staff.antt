@@ -35,14 +35,14 @@ all_over [] = refl
 all_over (x ∷ xs) = ap (λ l. x ∷ l) (all_over xs)
 
 numbered_by : {Q : Type 0} (k : ℕ) (ws : List (HartWorker Q)) (w : HartWorker Q) → AreNumbered k ws
-    → w.track.id ≡ ActorId.Hart (k + length ws) → AreNumbered k (ws ++ w ∷ [])
+    → w.track.work.actor ≡ ActorId.Hart (k + length ws) → AreNumbered k (ws ++ w ∷ [])
 numbered_by k [] w so_far is = let e : k + 0 ≡ k = omega arith in (is ∙ ap (λ (n : ℕ). ActorId.Hart n) e, tt)
 numbered_by k (v ∷ ws) w so_far is =
     let e : k + length (v ∷ ws) ≡ suc k + length ws = omega arith in
     (so_far.0, numbered_by (suc k) ws w so_far.1 (is ∙ ap (λ (n : ℕ). ActorId.Hart n) e))
 
 pub numbered_more : {Q : Type 0} (ws now : List (HartWorker Q)) (w : HartWorker Q) (n : ℕ) → AreNumbered 0 ws → n ≡ length ws
-    → w.track.id ≡ ActorId.Hart n → now ≡ ws ++ w ∷ [] → AreNumbered 0 now
+    → w.track.work.actor ≡ ActorId.Hart n → now ≡ ws ++ w ∷ [] → AreNumbered 0 now
 numbered_more ws now w n so_far long is items =
     let e : n ≡ 0 + length ws = omega (arith, long) in
     subst (λ l. AreNumbered 0 l) (sym items) (numbered_by 0 ws w so_far (is ∙ ap (λ (k : ℕ). ActorId.Hart k) e))
@@ -74,3 +74,8 @@ all_but_last P all xs x is h = All-from_recursion P xs (taken P all xs x is h).1
 
 pub fewer_by_one : {A : Type 0} (all xs : List A) (x : A) → all ≡ xs ++ x ∷ [] → length all ≡ length xs + 1
 fewer_by_one all xs x is = omega (arith, ap length is, length-append xs (x ∷ []))
+
+-- the first of a list is taken
+pub first_of : {A : Type 0} (P : A → Type 0) (all rest : List A) (x : A) → all ≡ x ∷ rest → All P all → P x × All P rest
+first_of P all rest x is h =
+    let r = recursion_from_All P (x ∷ rest) (subst (All P) is h) in (r.0, All-from_recursion P rest r.1)

@@ -34,7 +34,9 @@ use Rattle.flat_guest.proofs.Stepping.{entry_of}
 use Rattle.vm_world.specs.Worlds.{IsWorld, MakesEvent, WorldValue, place_in, want_in}
 use Rattle.vm_world.proofs.Events.{event_made, place_access}
 use Rattle.slice_runner.specs.Slices.{IsThere, event_of, given_of}
-use Rattle.slice_runner.specs.Values.{HartIs, PageHolds, PortHolds, actor_next, actor_wants, actors_of, hart_or_none, layout_in, no_port, page_or_none, place_touch, places_of, port_or_none, route_among}
+use Rattle.machine_places.specs.declared.place.MachinePlace.TheVariants as holds
+use Rattle.machine_places.specs.Acts.{touch as place_touch}
+use Rattle.slice_runner.specs.Values.{HartIs, actor_next, actor_wants, actors_of, hart_or_none, layout_in, no_port, page_or_none, places_of, port_or_none, route_among}
 use Rattle.slice_runner.proofs.Routes.{page_there, port_there}
 
 -- the pages after an act at a place
@@ -194,7 +196,7 @@ module _ (w : WorldValue) (are : ArePages 0 w.pages) (actor : ActorId) (op : Op)
       at_page : i < length w.pages → (p : PlaceId)
           → vals_after place_touch (places_of w) (at (PlaceId.Page i)) p ≡ places_of (world_after w (at (PlaceId.Page i))) p
       at_page there (PlaceId.Page j) =
-          changed (λ (q : PageValue). PageHolds q) w.pages j i (page_touch (page_or_none w.pages i) actor op).1 (new_page 0) there
+          changed (λ (q : PageValue). holds.Page q) w.pages j i (page_touch (page_or_none w.pages i) actor op).1 (new_page 0) there
       at_page there (PlaceId.Port k) = refl
       at_page there PlaceId.Board = refl
       at_page there PlaceId.Out = refl
@@ -240,8 +242,8 @@ module _ (w : WorldValue) (are : ArePages 0 w.pages) (actor : ActorId) (op : Op)
           → vals_after place_touch (places_of w) (at (PlaceId.Port k)) p ≡ places_of (world_after w (at (PlaceId.Port k))) p
       at_port there some (PlaceId.Page j) = refl
       at_port there some (PlaceId.Port j) =
-          changed (λ (q : PortState). PortHolds q) w.ports j k (port.touch (port_or_none w.ports k) actor op).1 no_port there
-          ∙ ap (λ (o : Option PortState). PortHolds (port_or_none (port_after o w.ports k actor op) j)) (sym some)
+          changed (λ (q : PortState). holds.Port q) w.ports j k (port.touch (port_or_none w.ports k) actor op).1 no_port there
+          ∙ ap (λ (o : Option PortState). holds.Port (port_or_none (port_after o w.ports k actor op) j)) (sym some)
       at_port there some PlaceId.Board = refl
       at_port there some PlaceId.Out = refl
 

@@ -16,10 +16,12 @@ use Rattle.flat_guest.specs.Steps.{is_given}
 use Rattle.pause_gate.specs.Tally.{Tally}
 use Rattle.stamp_merge.specs.declared.layout.Layout.{Layout}
 use Rattle.stamp_merge.specs.Stamps.{OutIsZero, Stamped}
+use Rattle.turn_work.specs.declared.worker.Worker.{Worker}
+use Rattle.machine_places.specs.declared.place.MachinePlace.{MachinePlace}
 use Rattle.slice_runner.specs.declared.stop.Stop.{Stop}
 use Rattle.slice_runner.specs.declared.worker.Track.{Track}
 use Rattle.slice_runner.specs.Runs.{GoesOn, HasEnded, HasRun, IsActOf, IsSameBut, IsUnderWay, StopsFor, WritesDown}
-use Rattle.slice_runner.specs.Stops.{IsUnfull, closings, is_last_full, last_asks}
+use Rattle.slice_runner.specs.Stops.{IsUnfull, closings, is_last_full}
 use Rattle.slice_runner.specs.Values.{route_among}
 
 follows_more : {S : Type 0} (want : S → Op) (next : S → Reply → S) (s : S) (es : List Entry) (t u : S) (e : Entry)
@@ -51,61 +53,61 @@ unfull_more b (d ∷ es) e h last = (h.0, unfull_more (is_full d.reply) es e h.1
 module _ {S Q : Type 0} (want : S → Op) (next : S → Reply → S) (tally : Q → Tally) (layout : Layout) (id : ActorId) (s : S)
     (c : Tally) (t : S) (old mid : Track Q) (op : Op) (way : IsUnderWay want next tally layout id s c t old)
     (same : IsSameBut old mid) (is_want : op ≡ want t) where
-  mid_id : mid.id ≡ id
-  mid_id = same.id ∙ way.same
+  mid_actor : mid.work.actor ≡ id
+  mid_actor = ap (λ (w : Worker MachinePlace). w.actor) same.work ∙ way.same
 
-  mid_items : mid.journal.items ≡ old.journal.items
-  mid_items = ap (λ j. j.items) same.journal
+  mid_items : mid.work.journal.items ≡ old.work.journal.items
+  mid_items = ap (λ (w : Worker MachinePlace). w.journal.items) same.work
 
-  mid_unfull : IsUnfull false mid.journal.items
+  mid_clock : mid.work.clock ≡ old.work.clock
+  mid_clock = ap (λ (w : Worker MachinePlace). w.clock) same.work
+
+  mid_unfull : IsUnfull false mid.work.journal.items
   mid_unfull = rw mid_items way.unfull
 
-  mid_run : HasRun want next layout id s mid.journal.items t mid.clock
-  mid_run = rw (mid_items, same.clock) way.ran
+  mid_run : HasRun want next layout id s mid.work.journal.items t mid.work.clock
+  mid_run = rw (mid_items, mid_clock) way.ran
 
   -- one more entry
-  pub went : (now new : Track Q) (e : Entry) (given : Given) (u : S) → GoesOn tally op old mid
-      → now.id ≡ mid.id → now.pass ≡ mid.pass → now.journal.items ≡ mid.journal.items → now.clock ≡ e.stamp
-      → IsActOf e mid.id op given layout mid.clock → WritesDown e now new → u ≡ next t e.reply
+  pub went : (new : Track Q) (e : Entry) (given : Given) (u : S) → GoesOn tally op old mid
+      → IsActOf e mid.work.actor op given layout mid.work.clock → WritesDown e mid new → u ≡ next t e.reply
       → IsUnderWay want next tally layout id s c u new
-  went now new e given u on now_id now_pass now_items now_clock act down is =
+  went new e given u on act down is =
       let run = mid_run in
-      let items : new.journal.items ≡ mid.journal.items ++ e ∷ [] =
-      down.items ∙ ap (λ (xs : List Entry). xs ++ e ∷ []) now_items in
-      let more : length new.journal.items ≡ length mid.journal.items + 1 =
-      ap (λ (xs : List Entry). length xs) items ∙ length-append mid.journal.items (e ∷ []) in
-      let stamp : e.stamp ≡ 1 + max (last_stamp 0 mid.journal.items) e.before =
+      let more : length new.work.journal.items ≡ length mid.work.journal.items + 1 =
+      ap (λ (xs : List Entry). length xs) down.items ∙ length-append mid.work.journal.items (e ∷ []) in
+      let stamp : e.stamp ≡ 1 + max (last_stamp 0 mid.work.journal.items) e.before =
       act.stamp_is ∙ ap (λ (n : ℕ). 1 + max n e.before) run.last in
       record {
-        same = down.id ∙ now_id ∙ mid_id;
-        ran = rw items (record {
-          follows = follows_more want next s mid.journal.items t u e run.follows (act.op_is ∙ is_want) is;
-          stamped = stamped_more 0 mid.journal.items e run.stamped stamp;
-          last = down.clock ∙ now_clock ∙ sym (last_more 0 mid.journal.items e);
-          own = all_more (λ (x : Entry). x.actor ≡ id) mid.journal.items e run.own (act.actor_is ∙ mid_id);
-          placed = all_more (IsPlaced (route_among layout) OutFits) mid.journal.items e run.placed act.placed;
-          out = all_more OutIsZero mid.journal.items e run.out act.out;
+        same = down.actor ∙ mid_actor;
+        ran = rw down.items (record {
+          follows = follows_more want next s mid.work.journal.items t u e run.follows (act.op_is ∙ is_want) is;
+          stamped = stamped_more 0 mid.work.journal.items e run.stamped stamp;
+          last = down.clock ∙ sym (last_more 0 mid.work.journal.items e);
+          own = all_more (λ (x : Entry). x.actor ≡ id) mid.work.journal.items e run.own (act.actor_is ∙ mid_actor);
+          placed = all_more (IsPlaced (route_among layout) OutFits) mid.work.journal.items e run.placed act.placed;
+          out = all_more OutIsZero mid.work.journal.items e run.out act.out;
         });
-        full_is = down.full ∙ sym (full_more false mid.journal.items e) ∙ ap (is_last_full false) (sym items);
-        unfull = rw items (unfull_more false mid.journal.items e mid_unfull
+        full_is = down.full ∙ sym (full_more false mid.work.journal.items e) ∙ ap (is_last_full false) (sym down.items);
+        unfull = rw down.items (unfull_more false mid.work.journal.items e mid_unfull
             (ap (is_last_full false) mid_items ∙ sym way.full_is ∙ on.unfull));
-        asked = ap (λ (q : Q). (tally q).asks) (down.pass ∙ now_pass) ∙ on.asked ∙ ap (λ (k : ℕ). k + 1) way.asked
+        asked = ap (λ (q : Q). (tally q).asks) down.pass ∙ on.asked ∙ ap (λ (k : ℕ). k + 1) way.asked
             ∙ omega (arith, more, ap (λ (xs : List Entry). length xs) mid_items);
-        unclosed = ap (λ (q : Q). (tally q).closed) (down.pass ∙ now_pass) ∙ on.unclosed ∙ way.unclosed;
+        unclosed = ap (λ (q : Q). (tally q).closed) down.pass ∙ on.unclosed ∙ way.unclosed;
       }
 
   -- a stop
-  pub ended : (n : ℕ) (stop : Stop) → StopsFor tally op old mid stop → length old.journal.items < n
+  pub ended : (n : ℕ) (stop : Stop) → StopsFor tally op old mid stop → length old.work.journal.items < n
       → HasEnded want next tally layout id s c n t mid stop
   ended n stop why less =
-      let few : length mid.journal.items < n = subst (λ (xs : List Entry). length xs < n) (sym mid_items) less in
+      let few : length mid.work.journal.items < n = subst (λ (xs : List Entry). length xs < n) (sym mid_items) less in
       record {
-        same = mid_id;
+        same = mid_actor;
         ran = mid_run;
         cause = record {
           most = omega (arith, few);
           steps = (λ is. absurd (why.not_steps is), λ is. absurd (omega (arith, few, is)));
-          asked = why.asked ∙ ap (λ (k : ℕ). k + last_asks stop) way.asked
+          asked = why.asked ∙ ap (λ (k : ℕ). k + closings stop) way.asked
               ∙ omega (arith, ap (λ (xs : List Entry). length xs) mid_items);
           gate = why.gate ∙ ap (λ (k : ℕ). k + closings stop) way.unclosed;
           idle = (
@@ -119,33 +121,7 @@ module _ {S Q : Type 0} (want : S → Op) (next : S → Reply → S) (tally : Q 
           );
           full = λ is. ap (is_last_full false) mid_items ∙ sym way.full_is ∙ why.full is;
           unfull = mid_unfull;
-          stamp = λ is. subst (λ (k : ℕ). 2 ^ 63 ≤ k) (sym same.clock ∙ mid_run.last) (why.stamp is);
-        };
-      }
-
-  -- no memory
-  pub wanting : (n : ℕ) (now : Track Q) → GoesOn tally op old mid → length old.journal.items < n → now.id ≡ mid.id
-      → now.pass ≡ mid.pass → now.journal.items ≡ mid.journal.items → now.clock ≡ mid.clock
-      → HasEnded want next tally layout id s c n t now Stop.Memory
-  wanting n now on less now_id now_pass now_items now_clock =
-      let items : now.journal.items ≡ old.journal.items = now_items ∙ mid_items in
-      let few : length now.journal.items < n = subst (λ (xs : List Entry). length xs < n) (sym items) less in
-      record {
-        same = now_id ∙ mid_id;
-        ran = rw (now_items, now_clock) mid_run;
-        cause = record {
-          most = omega (arith, few);
-          steps = (λ is. cc, λ is. absurd (omega (arith, few, is)));
-          asked = ap (λ (q : Q). (tally q).asks) now_pass ∙ on.asked ∙ ap (λ (k : ℕ). k + 1) way.asked
-              ∙ omega (arith, ap (λ (xs : List Entry). length xs) items);
-          gate = ap (λ (q : Q). (tally q).closed) now_pass ∙ on.unclosed ∙ way.unclosed ∙ omega arith;
-          idle = (
-            λ is. cc,
-            λ waits. absurd (on.awake (subst (λ (xs : List Entry). 1 ≤ length xs) items waits.0) (is_want ∙ waits.2)),
-          );
-          full = λ is. cc;
-          unfull = rw items way.unfull;
-          stamp = λ is. cc;
+          stamp = λ is. subst (λ (k : ℕ). 2 ^ 63 ≤ k) (sym mid_clock ∙ mid_run.last) (why.stamp is);
         };
       }
 

@@ -1,9 +1,8 @@
-pub mod Ended
-pub mod Locks
+pub mod Opened
 pub mod Room
 pub mod Runs
+pub mod Seats
 pub mod Slices
 pub mod Staff
 pub mod Stops
-pub mod Unshared
 pub mod Values

@@ -19,12 +19,14 @@ use Rattle.pause_gate.specs.Tally.{Tally}
 use Rattle.stamp_merge.specs.declared.layout.Layout.{Layout}
 use Rattle.stamp_merge.specs.Stamps.{OutIsZero, Stamped}
 use Rattle.vm_host.specs.Telling.{AreNext, ClockKnown, Gives, Tells}
+use Rattle.slice_runner.specs.declared.places.Places.{Places}
 use Rattle.slice_runner.specs.declared.stop.Stop.{Stop}
 use Rattle.slice_runner.specs.declared.worker.HartWorker.{HartWorker}
 use Rattle.slice_runner.specs.declared.worker.TimerWorker.{TimerWorker}
 use Rattle.slice_runner.specs.declared.worker.Track.{Track}
+use Rattle.slice_runner.specs.Seats.{IsSeated, StaysSeated}
 use Rattle.slice_runner.specs.Slices.{answers_of}
-use Rattle.slice_runner.specs.Stops.{HasCause, IsUnfull, closings, is_last_full, last_asks}
+use Rattle.slice_runner.specs.Stops.{HasCause, IsUnfull, closings, is_last_full}
 use Rattle.slice_runner.specs.Values.{route_among}
 
 -- the entry is of this actor and op, at the op's place among so many pages and ports, with the next stamp after the actor's
@@ -49,33 +51,33 @@ pub record HasRun {S : Type 0} (want : S → Op) (next : S → Reply → S) (lay
 
 -- nothing was done yet, and there is room for so many entries
 pub record Begins {Q : Type 0} (n : ℕ) (track : Track Q) : Type 0 where
-  pub empty : track.journal.items ≡ []
-  pub clock : track.clock ≡ 0
+  pub empty : track.work.journal.items ≡ []
+  pub clock : track.work.clock ≡ 0
   pub full : track.full ≡ false
-  pub room : n ≤ vec_capacity track.journal
+  pub room : n ≤ vec_capacity track.work.journal
 
 -- the actor came from the state s to the state t; since it had the tally c, its pass asked once for each entry, and was
 -- never answered "closed"
 pub record IsUnderWay {S Q : Type 0} (want : S → Op) (next : S → Reply → S) (tally : Q → Tally) (layout : Layout)
     (id : ActorId) (s : S) (c : Tally) (t : S) (track : Track Q) : Type 0 where
-  pub same : track.id ≡ id
-  pub ran : HasRun want next layout id s track.journal.items t track.clock
-  pub full_is : track.full ≡ is_last_full false track.journal.items
-  pub unfull : IsUnfull false track.journal.items
-  pub asked : (tally track.pass).asks ≡ c.asks + length track.journal.items
+  pub same : track.work.actor ≡ id
+  pub ran : HasRun want next layout id s track.work.journal.items t track.work.clock
+  pub full_is : track.full ≡ is_last_full false track.work.journal.items
+  pub unfull : IsUnfull false track.work.journal.items
+  pub asked : (tally track.pass).asks ≡ c.asks + length track.work.journal.items
   pub unclosed : (tally track.pass).closed ≡ c.closed
 
 -- the actor came from the state s to the state t, and stopped for a cause
 pub record HasEnded {S Q : Type 0} (want : S → Op) (next : S → Reply → S) (tally : Q → Tally) (layout : Layout) (id : ActorId)
     (s : S) (c : Tally) (n : ℕ) (t : S) (track : Track Q) (stop : Stop) : Type 0 where
-  pub same : track.id ≡ id
-  pub ran : HasRun want next layout id s track.journal.items t track.clock
-  pub cause : HasCause n stop track.journal.items (want t) c (tally track.pass)
+  pub same : track.work.actor ≡ id
+  pub ran : HasRun want next layout id s track.work.journal.items t track.work.clock
+  pub cause : HasCause n stop track.work.journal.items (want t) c (tally track.pass)
 
 abbrev pub HasWorked : {S Q : Type 0} → (S → Op) → (S → Reply → S) → (Q → Tally) → Layout → ℕ → S → S → Track Q → Track Q
     → Type 0
 HasWorked want next tally layout n s t before after =
-    HasEnded want next tally layout before.id s (tally before.pass) n t after after.stop
+    HasEnded want next tally layout before.work.actor s (tally before.pass) n t after after.stop
 
 abbrev pub HartWorked : {Q : Type 0} → (Q → Tally) → Layout → ℕ → HartWorker Q → HartWorker Q → Type 0
 HartWorked tally layout n before after =
@@ -87,36 +89,34 @@ TimerWorked tally layout n before after =
 
 -- nothing but the pass may have changed
 pub record IsSameBut {Q : Type 0} (old new : Track Q) : Type 0 where
-  pub id : new.id ≡ old.id
-  pub clock : new.clock ≡ old.clock
   pub full : new.full ≡ old.full
-  pub journal : new.journal ≡ old.journal
+  pub work : new.work ≡ old.work
 
 -- why it makes no further step, with this want
 pub record StopsFor {Q : Type 0} (tally : Q → Tally) (want : Op) (old new : Track Q) (stop : Stop) : Type 0 where
   pub not_steps : stop ≡ Stop.Steps → ⊥
-  pub asked : (tally new.pass).asks ≡ (tally old.pass).asks + last_asks stop
+  pub asked : (tally new.pass).asks ≡ (tally old.pass).asks + closings stop
   pub gate : (tally new.pass).closed ≡ (tally old.pass).closed + closings stop
-  pub idle : (stop ≡ Stop.Idle) ↔ ((1 ≤ length old.journal.items) × (want ≡ Op.Idle))
+  pub idle : (stop ≡ Stop.Idle) ↔ ((1 ≤ length old.work.journal.items) × (want ≡ Op.Idle))
   pub full : stop ≡ Stop.Full → old.full ≡ true
-  pub stamp : stop ≡ Stop.Stamp → 2 ^ 63 ≤ old.clock
+  pub stamp : stop ≡ Stop.Stamp → 2 ^ 63 ≤ old.work.clock
 
 -- or it makes one
 pub record GoesOn {Q : Type 0} (tally : Q → Tally) (want : Op) (old new : Track Q) : Type 0 where
   pub asked : (tally new.pass).asks ≡ (tally old.pass).asks + 1
   pub unclosed : (tally new.pass).closed ≡ (tally old.pass).closed
-  pub awake : 1 ≤ length old.journal.items → want ≡ Op.Idle → ⊥
+  pub awake : 1 ≤ length old.work.journal.items → want ≡ Op.Idle → ⊥
   pub unfull : old.full ≡ false
-  pub low : old.clock < 2 ^ 63
+  pub low : old.work.clock < 2 ^ 63
 
--- the entry is written down
+-- the entry is written down, and is the actor's last
 pub record WritesDown {Q : Type 0} (e : Entry) (old new : Track Q) : Type 0 where
-  pub id : new.id ≡ old.id
+  pub actor : new.work.actor ≡ old.work.actor
   pub pass : new.pass ≡ old.pass
-  pub clock : new.clock ≡ old.clock
+  pub clock : new.work.clock ≡ e.stamp
   pub full : new.full ≡ is_full e.reply
-  pub items : new.journal.items ≡ old.journal.items ++ e ∷ []
-  pub room : vec_capacity new.journal ≡ vec_capacity old.journal
+  pub items : new.work.journal.items ≡ old.work.journal.items ++ e ∷ []
+  pub room : vec_capacity new.work.journal ≡ vec_capacity old.work.journal
 
 -- a clock answered an op that asks it; nothing else asks it
 abbrev pub IsAsked : Op → ClockKnown → Option Reply → ClockKnown → Type 0
@@ -128,26 +128,29 @@ pub record HasAnswered (start : ClockKnown) (answers : List ℕ) (now : ClockKno
   pub still : Tells start → Tells now
   pub are : Tells start → AreNext start.left answers now.left
 
--- an actor that begins a slice with a pass of its gate
-pub record IsReady {Q : Type 0} (serves : Q → Type 0) (n : ℕ) (track : Track Q) : Type 0 where
+-- an actor that begins a slice at its places with a pass of its gate
+pub record IsReady {Q : Type 0} (serves : Q → Type 0) (places : Places) (n : ℕ) (track : Track Q) : Type 0 where
   pub pass : serves track.pass
+  pub seat : IsSeated places track.work
   pub begins : Begins n track
 
 -- and ends it
-pub record HartEnds {Q : Type 0} (serves : Q → Type 0) (tally : Q → Tally) (layout : Layout) (n : ℕ) (before after : HartWorker Q) :
+pub record HartEnds {Q : Type 0} (serves : Q → Type 0) (tally : Q → Tally) (places : Places) (n : ℕ) (before after : HartWorker Q) :
     Type 0 where
   pub pass : serves after.track.pass
-  pub worked : HartWorked tally layout n before after
+  pub seat : StaysSeated places before.track.work after.track.work
+  pub worked : HartWorked tally places.layout n before after
 
-pub record TimerEnds {Q : Type 0} (serves : Q → Type 0) (tally : Q → Tally) (layout : Layout) (n : ℕ) (asked now : ClockKnown)
+pub record TimerEnds {Q : Type 0} (serves : Q → Type 0) (tally : Q → Tally) (places : Places) (n : ℕ) (asked now : ClockKnown)
     (before after : TimerWorker Q) : Type 0 where
   pub pass : serves after.track.pass
-  pub worked : TimerWorked tally layout n before after
-  pub answers : HasAnswered asked (answers_of after.track.journal.items) now
+  pub seat : StaysSeated places before.track.work after.track.work
+  pub worked : TimerWorked tally places.layout n before after
+  pub answers : HasAnswered asked (answers_of after.track.work.journal.items) now
 
 -- each hart of the list does
-pub record HartsWorked {Q : Type 0} (serves : Q → Type 0) (tally : Q → Tally) (layout : Layout) (n : ℕ)
+pub record HartsWorked {Q : Type 0} (serves : Q → Type 0) (tally : Q → Tally) (places : Places) (n : ℕ)
     (before after : List (HartWorker Q)) : Type 0 where
   pub same : length after ≡ length before
   pub each : (i : ℕ) (d : HartWorker Q) → i < length before
-      → HartEnds serves tally layout n (slice_index_or before i d) (slice_index_or after i d)
+      → HartEnds serves tally places n (slice_index_or before i d) (slice_index_or after i d)

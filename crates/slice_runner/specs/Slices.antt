@@ -1,41 +1,24 @@
 -- What a slice is to the flat machine.
 use Rattle.std.specs.Prelude.{ℕ, ◌≡◌, ◌<◌, All, Bool, List, [], ◌∷◌, length}
-use Rattle.std.specs.List.{AllByRecursion}
 use Rattle.vm_types.specs.declared.entry.Entry.{Entry}
 use Rattle.vm_types.specs.declared.ids.ActorId.{ActorId}
-use Rattle.vm_types.specs.declared.ids.PlaceId.{PlaceId}
 use Rattle.vm_types.specs.declared.op.Op.{Op}
 use Rattle.vm_types.specs.declared.op.OutOp.TheVariants.{Clock}
 use Rattle.vm_types.specs.declared.reply.Reply.{Reply}
-use Rattle.vm_types.specs.declared.torn.Torn.{Torn}
 use Rattle.vm_types.specs.Ids.{of_actor}
-use Rattle.vm_types.specs.Serial.{OutFits}
-use Rattle.board_table.specs.Acts as board
-use Rattle.board_table.specs.Board.{Board}
 use Rattle.flat_guest.specs.Given.{Event, Given}
 use Rattle.flat_guest.specs.Given.Given.{Host, Nothing}
 use Rattle.flat_guest.specs.Guest.{Guest}
 use Rattle.flat_guest.specs.Steps.{FlatStep, written_after}
 use Rattle.guest_pages.specs.Marks.{AreMarks}
 use Rattle.guest_pages.specs.Flat.{ArePages}
-use Rattle.guest_pages.specs.Pages.{PageValue, marks_of, page_touch}
+use Rattle.guest_pages.specs.Pages.{PageValue, marks_of}
 use Rattle.pause_gate.specs.Tally.{Tally}
-use Rattle.port_table.specs.Acts as port
-use Rattle.port_table.specs.declared.state.PortState.{PortState}
-use Rattle.place_locks.specs.Held.{IsHistory}
-use Rattle.stamp_merge.specs.declared.history.History.{History}
-use Rattle.stamp_merge.specs.declared.journal.Journal.{Journal}
-use Rattle.stamp_merge.specs.Journals.{all_of}
-use Rattle.stamp_merge.specs.Legal.{AreFollowed}
-use Rattle.stamp_merge.specs.Merged.{journals_of}
-use Rattle.stamp_merge.specs.Order.{IsOrder}
-use Rattle.stamp_merge.specs.Parts.{IsTorn}
 use Rattle.stamp_merge.specs.Stamps.{StampsRun}
 use Rattle.vm_host.specs.Telling.{AreNext, ClockKnown, Tells}
 use Rattle.vm_world.specs.Worlds.{IsWorld, WorldValue}
 use Rattle.slice_runner.specs.declared.stop.Stopped.{Stopped}
 use Rattle.slice_runner.specs.Stops.{AreStopped}
-use Rattle.slice_runner.specs.Values.{ActorState, actor_next, actor_wants, actors_of, layout_in, page_at, port_at, route_among}
 
 -- the event that an entry tells: who acted, and what a host object answered
 abbrev pub given_of : Op → Reply → Given
@@ -87,22 +70,6 @@ answers_of (e ∷ es) = answer_in e.op e.reply (answers_of es)
 abbrev pub ClockWasAsked : ClockKnown → List Entry → ClockKnown → Type 0
 ClockWasAsked old events new =
     Tells old → Tells new × AreNext old.left (answers_of (of_actor ActorId.Timer events)) new.left
-
--- a history replays from how its place stood before
-abbrev pub ReplaysFrom : WorldValue → PlaceId → History → Type 0
-ReplaysFrom old PlaceId.Board h = (end : Board) × IsHistory board.touch h.kept old.board h.entries.items end
-ReplaysFrom old (PlaceId.Port k) h =
-    (end : PortState) × IsHistory port.touch h.kept (port_at old.ports h.kept) h.entries.items end
-ReplaysFrom old lock h = (end : PageValue) × IsHistory page_touch h.kept (page_at old.pages h.kept) h.entries.items end
-
--- journals that follow their actors' wants, and histories that replay from how the places stood, which don't agree
-pub record IsTornSlice (old : WorldValue) (torn : Torn) (journals : List Journal) (histories : List History) : Type 0 where
-  pub lasts : ActorId → ActorState
-  pub follow : AreFollowed actor_wants actor_next (route_among (layout_in old)) OutFits (actors_of old) lasts (journals_of journals)
-  pub replay : AllByRecursion (λ (h : History). ReplaysFrom old h.lock h) histories
-  pub order : List Entry
-  pub in_order : IsOrder (all_of (journals_of journals)) order
-  pub differ : IsTorn order histories torn
 
 -- the events of a slice lead from the world before to the world after, which has its pages and its ports still, and its
 -- devices as they were

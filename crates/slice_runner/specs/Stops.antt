@@ -10,7 +10,7 @@ use Rattle.hart_trace.specs.Traces.{is_full}
 use Rattle.pause_gate.specs.Tally.{Tally}
 use Rattle.vm_world.specs.Worlds.{WorldValue, want_in}
 use Rattle.slice_runner.specs.declared.stop.Stop.{Stop}
-use Rattle.slice_runner.specs.declared.stop.Stop.TheVariants.{Steps, Gate, Idle, Full, Stamp, Memory}
+use Rattle.slice_runner.specs.declared.stop.Stop.TheVariants.{Steps, Gate, Idle, Full, Stamp}
 use Rattle.slice_runner.specs.declared.stop.Stopped.{Stopped}
 
 -- the last reply is that the console ring was full
@@ -23,27 +23,21 @@ abbrev pub IsUnfull : Bool → List Entry → Type 0
 IsUnfull full [] = Unit {0}
 IsUnfull full (e ∷ es) = (full ≡ false) × IsUnfull (is_full e.reply) es
 
--- how often the gate was found closed: once by an actor that stops for it, and by no other
+-- how often the gate was found closed, and no step made: once by an actor that stops for it, and by no other
 abbrev pub closings : Stop → ℕ
 closings Gate = 1
 closings stop = 0
-
--- how often it was asked and no step made: once by an actor that stops for it or finds no memory, and by no other
-abbrev pub last_asks : Stop → ℕ
-last_asks Gate = 1
-last_asks Memory = 1
-last_asks stop = 0
 
 -- after 1 to n - 1 steps the actor wants to wait
 abbrev pub Waits : ℕ → List Entry → Op → Type 0
 Waits n entries want = (1 ≤ length entries) × (length entries < n) × (want ≡ Op.Idle)
 
 -- the cause of a stop, after these entries of at most n, with this want, and with the tally of its pass before and now: it
--- asked once for each entry; want of memory is free
+-- asked once for each entry, and once where the gate was closed
 pub record HasCause (n : ℕ) (stop : Stop) (entries : List Entry) (want : Op) (before now : Tally) : Type 0 where
   pub most : length entries ≤ n
   pub steps : (stop ≡ Steps) ↔ (length entries ≡ n)
-  pub asked : now.asks ≡ before.asks + (length entries + last_asks stop)
+  pub asked : now.asks ≡ before.asks + (length entries + closings stop)
   pub gate : now.closed ≡ before.closed + closings stop
   pub idle : (stop ≡ Idle) ↔ Waits n entries want
   pub full : stop ≡ Full → is_last_full false entries ≡ true

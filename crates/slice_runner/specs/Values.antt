@@ -1,44 +1,24 @@
--- Pages, ports and the board as places of one kind, the timer and the harts as actors of one kind; and those of a world.
+-- The timer and the harts as actors of one kind; and the places and the actors of a world.
 use Rattle.std.specs.Prelude.{ℕ, ◌*◌, List, [], length, slice_index_or}
 use Rattle.vm_types.specs.declared.ids.ActorId.{ActorId}
 use Rattle.vm_types.specs.declared.ids.PlaceId.{PlaceId}
 use Rattle.vm_types.specs.declared.op.Op.{Op}
 use Rattle.vm_types.specs.declared.reply.Reply.{Reply}
-use Rattle.board_table.specs.Acts as board
 use Rattle.board_table.specs.Board.{Board}
 use Rattle.guest_memory.specs.Ram.{page_size}
-use Rattle.guest_pages.specs.Pages.{PageValue, new_page, page_touch}
+use Rattle.guest_pages.specs.Pages.{PageValue, new_page}
 use Rattle.hart_trace.specs.States.{Hart, fresh, hart_next, hart_wants}
 use Rattle.hart_trace.specs.Stopped.{stopped_regs}
-use Rattle.port_table.specs.Acts as port
 use Rattle.port_table.specs.Ports.{new_port}
 use Rattle.port_table.specs.declared.kind.DeviceKind.TheVariants.{Block}
 use Rattle.port_table.specs.declared.state.PortState.{PortState}
+use Rattle.machine_places.specs.declared.place.MachinePlace.{MachinePlace}
+use Rattle.machine_places.specs.declared.place.MachinePlace.TheVariants as holds
 use Rattle.stamp_merge.specs.declared.layout.Layout.{Layout}
 use Rattle.timer_trace.specs.States.{timer_next, timer_wants}
 use Rattle.timer_trace.specs.declared.timer.Timer.{Timer}
 use Rattle.flat_guest.specs.Places.{place_of}
 use Rattle.vm_world.specs.Worlds.{WorldValue}
-
--- what a place holds
-pub data PlaceValue : Type 0 where
-  PageHolds : PageValue → PlaceValue
-  PortHolds : PortState → PlaceValue
-  BoardHolds : Board → PlaceValue
-
-abbrev pub on_page : Reply × PageValue → Reply × PlaceValue
-on_page answer = (answer.0, PageHolds answer.1)
-
-abbrev pub on_port : Reply × PortState → Reply × PlaceValue
-on_port answer = (answer.0, PortHolds answer.1)
-
-abbrev pub on_board : Reply × Board → Reply × PlaceValue
-on_board answer = (answer.0, BoardHolds answer.1)
-
-abbrev pub place_touch : PlaceValue → ActorId → Op → Reply × PlaceValue
-place_touch (PageHolds p) actor op = on_page (page_touch p actor op)
-place_touch (PortHolds p) actor op = on_port (port.touch p actor op)
-place_touch (BoardHolds b) actor op = on_board (board.touch b actor op)
 
 -- where an actor stands
 pub data ActorState : Type 0 where
@@ -61,25 +41,17 @@ route_among layout op = place_of (record { memory_size = page_size * layout.page
 abbrev pub page_or_none : List PageValue → ℕ → PageValue
 page_or_none pages i = slice_index_or pages i (new_page 0)
 
-abbrev pub page_at : List PageValue → PlaceId → PageValue
-page_at pages (PlaceId.Page i) = page_or_none pages i
-page_at pages place = new_page 0
-
 abbrev pub no_port : PortState
 no_port = new_port Block 0 []
 
 abbrev pub port_or_none : List PortState → ℕ → PortState
 port_or_none ports k = slice_index_or ports k no_port
 
-abbrev pub port_at : List PortState → PlaceId → PortState
-port_at ports (PlaceId.Port k) = port_or_none ports k
-port_at ports place = no_port
-
-abbrev pub place_among : List PageValue → List PortState → Board → PlaceId → PlaceValue
-place_among pages ports b (PlaceId.Page i) = PageHolds (page_or_none pages i)
-place_among pages ports b (PlaceId.Port k) = PortHolds (port_or_none ports k)
-place_among pages ports b PlaceId.Board = BoardHolds b
-place_among pages ports b PlaceId.Out = PageHolds (new_page 0)
+abbrev pub place_among : List PageValue → List PortState → Board → PlaceId → MachinePlace
+place_among pages ports b (PlaceId.Page i) = holds.Page (page_or_none pages i)
+place_among pages ports b (PlaceId.Port k) = holds.Port (port_or_none ports k)
+place_among pages ports b PlaceId.Board = holds.Board b
+place_among pages ports b PlaceId.Out = holds.Page (new_page 0)
 
 -- where the actors stand; a hart that there isn't, and a device, are no actors
 abbrev pub hart_or_none : List Hart → ℕ → Hart
@@ -93,7 +65,7 @@ actor_among t harts (ActorId.Device k) = HartIs (fresh stopped_regs)
 abbrev pub layout_in : WorldValue → Layout
 layout_in w = record { pages = length w.pages; ports = length w.ports }
 
-abbrev pub places_of : WorldValue → PlaceId → PlaceValue
+abbrev pub places_of : WorldValue → PlaceId → MachinePlace
 places_of w = place_among w.pages w.ports w.board
 
 abbrev pub actors_of : WorldValue → ActorId → ActorState

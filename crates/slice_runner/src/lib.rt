@@ -1,17 +1,15 @@
-//! Slices: harts side by side over locked places, and one list of events.
+//! Slices: harts side by side over places that pass from one to another by turns, and one list of events.
 //!
-//! `run_slice` moves a world's pages, its ports and its board under locks of their own, lets each hart work in a thread of
-//! its own and the timer beside them, brings everything home, and puts what all of them did in one order. Devices don't act
-//! in a slice. The events are a run of the flat machine from the world before to the world after, each with the reply that
-//! it got, whoever came first; pages stay marked exactly where events wrote them; each actor has one stop, with its cause.
-//! `specs/Slices.antt` says so, and `specs/Stops.antt` why an actor stops. All room but that of the places' histories is
-//! made before the first step. Nothing is said of time: not that an actor gets on, nor that two threads ran at once.
+//! `run_slice` moves a world's pages, its ports and its board into a table of turns, lets each hart work in a thread of its own
+//! and the timer beside them, brings everything home, and puts what all of them did in one order. Devices don't act in a slice. The
+//! events are a run of the flat machine from the world before to the world after, each with the reply that it got, whoever came
+//! first: the table's rule says so, and nothing is compared. Pages stay marked exactly where events wrote them; each actor has one
+//! stop, with its cause. `specs/Slices.antt` says so, and `specs/Stops.antt` why an actor stops. All room is made before the
+//! first step. Nothing is said of time: not that an actor gets on, nor that two threads ran at once.
 #![tactic(auto)]
 
 mod acting;
-mod listed;
-mod locking;
-mod locks;
+mod places;
 mod room;
 mod running;
 mod sharing;
@@ -20,6 +18,6 @@ mod staffing;
 mod stop;
 mod worker;
 
-pub use slice::{Slice, SliceError, run_slice};
+pub use slice::{Slice, run_slice};
 pub use stop::{Stop, Stopped};
 pub use worker::ask_clock;

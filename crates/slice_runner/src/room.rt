@@ -1,50 +1,56 @@
 // Room for a slice, made before its first step.
 ghost use Rattle.std.specs.Prelude.{◌≡◌, ◌+◌, ◌<◌, ◌≤◌, ◌*◌, ◌^◌, ℕ, [], length, vec_len, vec_capacity, All, IfOk};
-ghost use Rattle.slice_runner.specs.Room.{HasRoom, ForHome, ForOrder, ForWork};
+ghost use Rattle.slice_runner.specs.Room.{HasRoom, ForCrew, ForHome, ForPlaces, ForWork};
 
 use crate::stop::Stopped;
 use crate::worker::HartWorker;
 use guest_pages::Page;
 use hart_rv64::Hart;
+use machine_places::MachinePlace;
 use mmio_port::Port;
-use stamp_merge::{History, Journal};
+use stamp_merge::Journal;
 use std::alloc::{AllocError, Global};
+use turn_table::Held;
 use vm_types::Entry;
 
-/// Empty lists for harts that go to work, for passes and for those that are left, and an empty journal for each actor.
+/// Empty lists for places that go into a table, and for pages and ports that come back.
+#[derive(Drop)]
+pub struct PlaceRoom {
+    pub places: Vec<Held<MachinePlace>>,
+    pub pages: Vec<Page>,
+    pub ports: Vec<Port>,
+}
+
+/// Empty lists for harts that go to work and for passes that are left, and an empty journal for each actor.
 #[derive(Drop)]
 pub struct WorkRoom<Q> {
     pub workers: Vec<HartWorker<Q>>,
-    pub passes: Vec<Q>,
     pub left: Vec<Q>,
     pub blank: Vec<Vec<Entry>>,
 }
 
-/// Empty lists for pages and ports that come back from under their locks with their histories, and for harts that come
-/// back with the journals and the stops of all actors.
+/// Empty lists for harts that come back with the journals and the stops of all actors.
 #[derive(Drop)]
 pub struct HomeRoom {
-    pub pages: Vec<Page>,
-    pub ports: Vec<Port>,
-    pub histories: Vec<History>,
     pub harts: Vec<Hart>,
     pub journals: Vec<Journal>,
     pub stops: Vec<Stopped>,
 }
 
-/// An empty list for the events of all journals, and a number for each history.
+/// Room for what the actors of a slice move and write down: as they go to work and come home, and for all events.
 #[derive(Drop)]
-pub struct OrderRoom {
+pub struct CrewRoom<Q> {
+    pub work: WorkRoom<Q>,
+    pub passes: Vec<Q>,
+    pub home: HomeRoom,
     pub events: Vec<Entry>,
-    pub met: Vec<usize>,
 }
 
 /// Room for all that a slice moves and writes down.
 #[derive(Drop)]
 pub struct Room<Q> {
-    pub work: WorkRoom<Q>,
-    pub home: HomeRoom,
-    pub order: OrderRoom,
+    pub places: PlaceRoom,
+    pub crew: CrewRoom<Q>,
 }
 
 // So many empty journals, each with room for so many entries.
@@ -61,6 +67,22 @@ fn blank_journals(alloc: Global, count: usize, n: usize) -> Result<Vec<Vec<Entry
     Ok(blank)
 }
 
+impl PlaceRoom {
+    fn new(alloc: Global, pages: usize, ports: usize) -> Result<PlaceRoom, AllocError>
+        requires { (pages ≤ 2 ^ 28) × (ports ≤ 255) }
+        ensures { IfOk result (λ room. ForPlaces pages ports room) }
+    {
+        let places = Vec::with_capacity(alloc, pages + (ports + 1))?;
+        let pages_home = Vec::with_capacity(alloc, pages)?;
+        let ports_home = Vec::with_capacity(alloc, ports)?;
+        Ok(PlaceRoom {
+            places,
+            pages: pages_home,
+            ports: ports_home,
+        })
+    }
+}
+
 impl<Q: Drop> WorkRoom<Q> {
     fn new(alloc: Global, harts: usize, passes: usize, n: usize) -> Result<WorkRoom<Q>, AllocError>
         requires { harts ≤ 32 }
@@ -68,12 +90,10 @@ impl<Q: Drop> WorkRoom<Q> {
         ensures entries { IfOk result (λ room. All (λ journal. n ≤ vec_capacity journal) room.blank.items) }
     {
         let workers = Vec::with_capacity(alloc, harts)?;
-        let used = Vec::with_capacity(alloc, passes)?;
         let left = Vec::with_capacity(alloc, passes)?;
         let blank = blank_journals(alloc, harts + 1, n)?;
         Ok(WorkRoom {
             workers,
-            passes: used,
             left,
             blank,
         })
@@ -81,20 +101,14 @@ impl<Q: Drop> WorkRoom<Q> {
 }
 
 impl HomeRoom {
-    fn new(alloc: Global, pages: usize, ports: usize, harts: usize) -> Result<HomeRoom, AllocError>
-        requires { (pages ≤ 2 ^ 28) × (ports ≤ 255) × (harts ≤ 32) }
-        ensures { IfOk result (λ room. ForHome pages ports harts room) }
+    fn new(alloc: Global, harts: usize) -> Result<HomeRoom, AllocError>
+        requires { harts ≤ 32 }
+        ensures { IfOk result (λ room. ForHome harts room) }
     {
-        let pages_home = Vec::with_capacity(alloc, pages)?;
-        let ports_home = Vec::with_capacity(alloc, ports)?;
-        let histories = Vec::with_capacity(alloc, pages + (ports + 1))?;
         let harts_home = Vec::with_capacity(alloc, harts)?;
         let journals = Vec::with_capacity(alloc, harts + 1)?;
         let stops = Vec::with_capacity(alloc, harts + 1)?;
         Ok(HomeRoom {
-            pages: pages_home,
-            ports: ports_home,
-            histories,
             harts: harts_home,
             journals,
             stops,
@@ -102,15 +116,20 @@ impl HomeRoom {
     }
 }
 
-impl OrderRoom {
-    fn new(alloc: Global, histories: usize, events: usize) -> Result<OrderRoom, AllocError>
-        ensures { IfOk result (λ room. ForOrder histories events room) }
+impl<Q: Drop> CrewRoom<Q> {
+    fn new(alloc: Global, harts: usize, passes: usize, n: u32) -> Result<CrewRoom<Q>, AllocError>
+        requires { harts ≤ 32 }
+        ensures { IfOk result (λ room. ForCrew harts passes n room) }
     {
-        let merged = Vec::with_capacity(alloc, events)?;
-        let met = vec![in alloc; 0; histories]?;
-        Ok(OrderRoom {
-            events: merged,
-            met,
+        let work = WorkRoom::new(alloc, harts, passes, n as usize)?;
+        let used = Vec::with_capacity(alloc, passes)?;
+        let home = HomeRoom::new(alloc, harts)?;
+        let events = Vec::with_capacity(alloc, (harts + 1) * n as usize)?;
+        Ok(CrewRoom {
+            work,
+            passes: used,
+            home,
+            events,
         })
     }
 }
@@ -130,9 +149,8 @@ impl<Q: Drop> Room<Q> {
         requires harts { harts ≤ 32 }
         ensures { IfOk result (λ room. HasRoom pages ports harts passes n room) }
     {
-        let work = WorkRoom::new(alloc, harts, passes, n as usize)?;
-        let home = HomeRoom::new(alloc, pages, ports, harts)?;
-        let order = OrderRoom::new(alloc, pages + (ports + 1), (harts + 1) * n as usize)?;
-        Ok(Room { work, home, order })
+        let places = PlaceRoom::new(alloc, pages, ports)?;
+        let crew = CrewRoom::new(alloc, harts, passes, n)?;
+        Ok(Room { places, crew })
     }
 }

@@ -4,16 +4,12 @@ ghost use Rattle.slice_runner.specs.Runs.{HartEnds, HartsWorked, TimerEnds};
 ghost use Rattle.slice_runner.specs.Runs.{IsReady};
 ghost use Rattle.slice_runner.specs.Stops.{timer_most};
 
-use crate::locks::Locks;
+use crate::places::Places;
 use crate::worker::{HartWorker, TimerWorker};
-use guest_pages::Page;
-use line_board::Board;
-use mmio_port::Port;
 use pause_gate::Gate;
 use std::sync::Wait;
 use std::thread::{Threads, for_each_mut, join_mut};
 use vm_host::Clock;
-use vm_types::Openings;
 
 /// The steps of a round of the timer: it asks the clock, and advances guest time.
 const ROUND: u32 = 2;
@@ -21,15 +17,12 @@ const ROUND: u32 = 2;
 // All harts, each in a thread of its own.
 fn run_harts<
     Q: Send + Drop,
-    K: Openings<Page> + Send + Sync,
-    M: Openings<Port> + Send + Sync,
-    L: Openings<Board> + Send + Sync,
     G: Gate<Pass = Q> + Sync,
     R: Threads + Wait + Sync,
->(rt: &R, gate: &G, locks: &Locks<K, M, L>, n: u32, harts: &mut [HartWorker<Q>])
-    requires ready { All (λ worker. IsReady (G.serves gate.now) n worker.track) harts.old }
+>(rt: &R, gate: &G, places: &Places, n: u32, harts: &mut [HartWorker<Q>])
+    requires ready { All (λ worker. IsReady (G.serves gate.now) places.now n worker.track) harts.old }
     ensures { (i : ℕ) (d : _) → i < length harts.old →
-        HartEnds (G.serves gate.now) G.tally locks.now n (slice_index_or harts.old i d) (slice_index_or harts.new i d) }
+        HartEnds (G.serves gate.now) G.tally places.now n (slice_index_or harts.old i d) (slice_index_or harts.new i d) }
 {
     let threads = harts.len().max(1);
     for_each_mut(
@@ -37,93 +30,81 @@ fn run_harts<
         harts,
         threads,
         &|_, worker: &mut HartWorker<Q>|
-            requires { IsReady (G.serves gate.now) n worker.now.track }
-            ensures { HartEnds (G.serves gate.entry.now) G.tally locks.entry.now n worker.entry.now worker.exit.now }
-        { run_hart(rt, gate, locks, n, worker) },
+            requires { IsReady (G.serves gate.now) places.now n worker.now.track }
+            ensures { HartEnds (G.serves gate.entry.now) G.tally places.entry.now n worker.entry.now worker.exit.now }
+        { run_hart(rt, gate, places, n, worker) },
     );
 }
 
 fn run_hart<
     Q,
-    K: Openings<Page>,
-    M: Openings<Port>,
-    L: Openings<Board>,
     G: Gate<Pass = Q>,
     R: Wait,
->(rt: &R, gate: &G, locks: &Locks<K, M, L>, n: u32, worker: &mut HartWorker<Q>)
-    requires ready { IsReady (G.serves gate.now) n worker.old.track }
-    ensures { HartEnds (G.serves gate.now) G.tally locks.now n worker.old worker.new }
+>(rt: &R, gate: &G, places: &Places, n: u32, worker: &mut HartWorker<Q>)
+    requires ready { IsReady (G.serves gate.now) places.now n worker.old.track }
+    ensures { HartEnds (G.serves gate.now) G.tally places.now n worker.old worker.new }
 {
-    worker.run(rt, gate, locks, n);
+    worker.run(rt, gate, places, n);
 }
 
 fn run_vec<
     Q: Send + Drop,
-    K: Openings<Page> + Send + Sync,
-    M: Openings<Port> + Send + Sync,
-    L: Openings<Board> + Send + Sync,
     G: Gate<Pass = Q> + Sync,
     R: Threads + Wait + Sync,
->(rt: &R, gate: &G, locks: &Locks<K, M, L>, n: u32, harts: &mut Vec<HartWorker<Q>>)
-    requires ready { All (λ worker. IsReady (G.serves gate.now) n worker.track) harts.old.items }
-    ensures { HartsWorked (G.serves gate.now) G.tally locks.now n harts.old.items harts.new.items }
+>(rt: &R, gate: &G, places: &Places, n: u32, harts: &mut Vec<HartWorker<Q>>)
+    requires ready { All (λ worker. IsReady (G.serves gate.now) places.now n worker.track) harts.old.items }
+    ensures { HartsWorked (G.serves gate.now) G.tally places.now n harts.old.items harts.new.items }
 {
-    run_harts(rt, gate, locks, n, harts.as_mut_slice());
+    run_harts(rt, gate, places, n, harts.as_mut_slice());
 }
 
 fn run_timer<
     Q,
-    K: Openings<Page>,
-    M: Openings<Port>,
-    L: Openings<Board>,
     C: Clock,
     G: Gate<Pass = Q>,
     R: Wait,
->(rt: &R, gate: &G, locks: &Locks<K, M, L>, n: u32, clock: &mut C, timer: &mut TimerWorker<Q>)
-    requires ready { IsReady (G.serves gate.now) n timer.old.track }
-    ensures { TimerEnds (G.serves gate.now) G.tally locks.now (timer_most n)
+>(rt: &R, gate: &G, places: &Places, n: u32, clock: &mut C, timer: &mut TimerWorker<Q>)
+    requires ready { IsReady (G.serves gate.now) places.now n timer.old.track }
+    ensures { TimerEnds (G.serves gate.now) G.tally places.now (timer_most n)
         (C.known clock.old) (C.known clock.new) timer.old timer.new }
 {
-    timer.run(rt, gate, locks, n.min(ROUND), clock);
+    timer.run(rt, gate, places, n.min(ROUND), clock);
 }
 
 /// All actors at once, each until it stops: the harts in threads of their own, the timer, which makes one round at most, in
 /// this one.
 pub fn run_all<
     Q: Send + Drop,
-    K: Openings<Page> + Send + Sync,
-    M: Openings<Port> + Send + Sync,
-    L: Openings<Board> + Send + Sync,
     C: Clock,
     G: Gate<Pass = Q> + Sync,
     R: Threads + Wait + Sync,
 >(
     rt: &R,
     gate: &G,
-    locks: &Locks<K, M, L>,
+    places: &Places,
     n: u32,
     clock: &mut C,
     timer: &mut TimerWorker<Q>,
     harts: &mut Vec<HartWorker<Q>>,
 )
-    requires timer { IsReady (G.serves gate.now) n timer.old.track }
-    requires harts { All (λ worker. IsReady (G.serves gate.now) n worker.track) harts.old.items }
-    ensures timer { TimerEnds (G.serves gate.now) G.tally locks.now (timer_most n)
+    requires timer { IsReady (G.serves gate.now) places.now n timer.old.track }
+    requires harts { All (λ worker. IsReady (G.serves gate.now) places.now n worker.track) harts.old.items }
+    ensures timer { TimerEnds (G.serves gate.now) G.tally places.now (timer_most n)
         (C.known clock.old) (C.known clock.new) timer.old timer.new }
-    ensures harts { HartsWorked (G.serves gate.now) G.tally locks.now n harts.old.items harts.new.items }
+    ensures harts { HartsWorked (G.serves gate.now) G.tally places.now n harts.old.items harts.new.items }
 {
     let mut beside = ||
-        requires { All (λ worker. IsReady (G.serves gate.now) n worker.track) harts.now.items }
-        ensures { HartsWorked (G.serves gate.entry.now) G.tally locks.entry.now n
+        requires { All (λ worker. IsReady (G.serves gate.now) places.now n worker.track) harts.now.items }
+        ensures { HartsWorked (G.serves gate.entry.now) G.tally places.entry.now n
             harts.entry.now.items harts.exit.now.items }
-    { run_vec(rt, gate, locks, n, harts) };
+    { run_vec(rt, gate, places, n, harts) };
     let also_rt = rt;
     let also_gate = gate;
-    let also_locks = locks;
+    let also_places = places;
     let mut here = ||
-        requires { IsReady (G.serves also_gate.now) n timer.now.track }
-        ensures { TimerEnds (G.serves also_gate.entry.now) G.tally also_locks.entry.now (timer_most n)
+        requires { IsReady (G.serves also_gate.now) also_places.now n timer.now.track }
+        ensures { TimerEnds (G.serves also_gate.entry.now) G.tally also_places.entry.now (timer_most n)
             (C.known clock.entry.now) (C.known clock.exit.now) timer.entry.now timer.exit.now }
-    { run_timer(also_rt, also_gate, also_locks, n, clock, timer) };
+    { run_timer(also_rt, also_gate, also_places, n, clock, timer) };
     join_mut(rt, &mut beside, &mut here);
 }

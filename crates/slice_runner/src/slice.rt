@@ -1,23 +1,18 @@
 // A slice of a world.
-ghost use Rattle.std.specs.Prelude.{◌≡◌, ◌+◌, ◌≤◌, [], length, All, IfErr, IfOk, OnOk};
-ghost use Rattle.vm_world.specs.Worlds.{world_with};
+ghost use Rattle.std.specs.Prelude.{◌≡◌, ◌+◌, ◌≤◌, length, All, IfOk, OnErr, OnOk};
 ghost use Rattle.slice_runner.specs.Slices.{AreStamps, ClockWasAsked, IsSerial, IsThere, MarksFollow};
-ghost use Rattle.slice_runner.specs.Ended.{HasFailed};
 ghost use Rattle.slice_runner.specs.Stops.{AreStopped};
-ghost use Rattle.slice_runner.specs.Unshared.{AreParts, GaveUp};
 
 use crate::room::Room;
-use crate::sharing::{Parted, Shared, Unshared, share};
+use crate::sharing::{Shared, share};
 use crate::stop::Stopped;
 use line_board::Board;
 use pause_gate::Gate;
-use stamp_merge::{History, Journal};
-use std::alloc::Global;
-use std::marker::Brand;
+use std::alloc::{AllocError, Global};
 use std::sync::Wait;
 use std::thread::Threads;
 use vm_host::Clock;
-use vm_types::{Entry, Torn};
+use vm_types::Entry;
 use vm_world::World;
 
 /// What a slice hands out: the events of all actors in one order, and the stop of each, the timer's first and then the
@@ -26,43 +21,6 @@ use vm_world::World;
 pub struct Slice {
     pub events: Vec<Entry>,
     pub stops: Vec<Stopped>,
-}
-
-/// Why a slice hands out no events.
-#[derive(Drop)]
-pub enum SliceError {
-    /// The journals and the histories part, here. They are handed out, and the world is empty.
-    Torn {
-        torn: Torn,
-        journals: Vec<Journal>,
-        histories: Vec<History>,
-    },
-    /// There was no memory for a slice, and no step was made.
-    OutOfMemory,
-}
-
-// Why a slice hands out no events. Without memory the world has its parts again.
-fn give_up(world: &mut World, unshared: Unshared) -> SliceError
-    requires { AreParts unshared }
-    ensures { GaveUp unshared world.old world.new result }
-{
-    match unshared {
-        Unshared::Parted(
-            Parted {
-                torn,
-                journals,
-                histories,
-            },
-        ) => SliceError::Torn {
-            torn,
-            journals,
-            histories,
-        },
-        Unshared::OutOfMemory(parts) => {
-            *world = World::with_parts(parts);
-            SliceError::OutOfMemory
-        }
-    }
 }
 
 /// So many steps at most of each hart, all of them side by side, each in a thread of its own; and of the timer in this
@@ -75,8 +33,8 @@ fn give_up(world: &mut World, unshared: Unshared) -> SliceError
 /// `Clock` answers are the clock's next ones. Nothing is said of waiting, nor of which
 /// actor gets on.
 ///
-/// Errors: `OutOfMemory` where the lists of events and journals, or what moves places, found no room before the first
-/// step, and then the world and the clock are as they were; `Torn` where journals and histories don't agree.
+/// The only error is want of memory, for the lists of events and journals or for what moves places. It comes before the first step, and
+/// then the world, the clock and the passes are as they were.
 pub fn run_slice<Q: Send + Drop, C: Clock, G: Gate<Pass = Q> + Sync, R: Threads + Wait + Sync>(
     rt: &R,
     alloc: Global,
@@ -85,7 +43,7 @@ pub fn run_slice<Q: Send + Drop, C: Clock, G: Gate<Pass = Q> + Sync, R: Threads 
     gate: &G,
     passes: &mut Vec<Q>,
     steps: u32,
-) -> Result<Slice, SliceError>
+) -> Result<Slice, AllocError>
     requires harts { length world.old.harts ≤ 32 }
     requires passes { length world.old.harts + 1 ≤ length passes.old.items }
     requires serve { All (G.serves gate.now) passes.old.items }
@@ -98,24 +56,18 @@ pub fn run_slice<Q: Send + Drop, C: Clock, G: Gate<Pass = Q> + Sync, R: Threads 
     ensures clock { IfOk result (λ slice.
         ClockWasAsked (C.known clock.old) slice.events.items (C.known clock.new)) }
     ensures devices { OnOk result (world.new.devices ≡ world.old.devices) }
-    ensures failed { IfErr result (λ why. HasFailed world.old world.new
-        (C.known clock.old) (C.known clock.new) passes.old.items passes.new.items why) }
+    ensures failed { OnErr result ((world.new ≡ world.old)
+        × (C.known clock.new ≡ C.known clock.old) × (passes.new.items ≡ passes.old.items)) }
     ensures serve { All (G.serves gate.now) passes.new.items }
     ensures same { length passes.new.items ≡ length passes.old.items }
 {
     let pages = world.pages().len();
     let ports = world.ports().len();
     let harts = world.hart_count();
-    let Ok(room) = Room::<Q>::new(alloc, pages, ports, harts, passes.len(), steps) else {
-        return Err(SliceError::OutOfMemory);
-    };
-    let Ok(board) = Board::new(alloc, 0) else {
-        return Err(SliceError::OutOfMemory);
-    };
+    let room = Room::<Q>::new(alloc, pages, ports, harts, passes.len(), steps)?;
+    let board = Board::new(alloc, 0)?;
     let parts = world.take(alloc, board);
-    match share::<Q, Brand, Brand, Brand, C, G, R>(
-        rt, alloc, gate, clock, passes, parts, room, steps,
-    ) {
+    match share(rt, alloc, gate, clock, passes, parts, room, steps) {
         Ok(shared) => {
             let Shared {
                 parts,
@@ -125,6 +77,9 @@ pub fn run_slice<Q: Send + Drop, C: Clock, G: Gate<Pass = Q> + Sync, R: Threads 
             *world = World::with_parts(parts);
             Ok(Slice { events, stops })
         }
-        Err(unshared) => Err(give_up(world, unshared)),
+        Err(parts) => {
+            *world = World::with_parts(parts);
+            Err(AllocError)
+        }
     }
 }

@@ -1,30 +1,34 @@
 // Actors go to work, and come back.
 ghost use Rattle.std.specs.Prelude.{◌≡◌, ◌+◌, ◌≤◌, ◌<◌, ◌++◌, ◌∷◌, ℕ, [], length, vec_len, vec_capacity, All};
+ghost use Rattle.stamp_merge.specs.Journals.{all_of};
+ghost use Rattle.stamp_merge.specs.Merged.{journals_of};
+ghost use Rattle.turn_table.specs.Views.{fewer};
+ghost use Rattle.turn_table.specs.Steps.{IsReady};
+ghost use Rattle.turn_work.specs.Work.{HasNoted};
+ghost use Rattle.machine_places.specs.Laid.{index_among};
+ghost use Rattle.slice_runner.specs.Room.{ForWork};
 ghost use Rattle.slice_runner.specs.Runs.{Begins};
-ghost use Rattle.slice_runner.specs.Staff.{AreBack, AreStaffed, journal_of, stop_of};
+ghost use Rattle.slice_runner.specs.Seats.{IsBare, IsSeated, IsSeatedIn};
+ghost use Rattle.slice_runner.specs.Staff.{AreBack, AreSeated, AreStaffed, journal_of, stop_of};
 
+use crate::places::Places;
+use crate::room::WorkRoom;
 use crate::stop::{Stop, Stopped};
 use crate::worker::{HartWorker, TimerWorker, Track};
 use hart_rv64::Hart;
+use machine_places::MachinePlace;
 use stamp_merge::Journal;
 use timer_trace::Timer;
+use turn_table::TurnSeat;
+use turn_work::Worker;
 use vm_types::{ActorId, Entry};
 
-// An actor that did nothing yet.
-fn track_of<Q>(id: ActorId, pass: Q, journal: Vec<Entry>) -> Track<Q>
-    requires { journal.items ≡ [] }
-    ensures id { result.id ≡ id }
-    ensures pass { result.pass ≡ pass }
-    ensures begins { (n : ℕ) → n ≤ vec_capacity journal → Begins n result }
-{
-    Track {
-        id,
-        pass,
-        clock: 0,
-        full: false,
-        journal,
-        stop: Stop::Memory,
-    }
+/// Actors at work, and the passes that none of them has.
+#[derive(Drop)]
+pub struct AtWork<Q> {
+    pub timer: TimerWorker<Q>,
+    pub workers: Vec<HartWorker<Q>>,
+    pub left: Vec<Q>,
 }
 
 // The last of these journals.
@@ -38,107 +42,167 @@ fn take_journal(journals: &mut Vec<Vec<Entry>>) -> Vec<Entry>
     journal
 }
 
-/// The timer and the harts go to work, each with the pass at its place and with a journal; passes that are left go to
-/// `left`. It takes no memory.
-pub fn staff<Q: Drop>(
-    timer: Timer,
-    harts: Vec<Hart>,
-    passes: Vec<Q>,
-    mut journals: Vec<Vec<Entry>>,
-    workers: &mut Vec<HartWorker<Q>>,
-    left: &mut Vec<Q>,
-) -> TimerWorker<Q>
-    requires harts { length harts.items ≤ 32 }
-    requires passes { length harts.items + 1 ≤ length passes.items }
-    requires journals { length journals.items ≡ length harts.items + 1 }
-    requires blank { All (λ journal. journal.items ≡ []) journals.items }
-    requires empty { (workers.old.items ≡ []) × (left.old.items ≡ []) }
-    requires room { (length harts.items ≤ vec_capacity workers.old) × (length passes.items ≤ vec_capacity left.old) }
-    ensures { (n : ℕ) → All (λ journal. n ≤ vec_capacity journal) journals.items →
-        AreStaffed n timer harts.items passes.items result workers.new.items left.new.items }
-{
-    let mut passes = passes.into_iter();
-    let Some(pass) = passes.next() else {
-        unreachable!()
-    };
-    let track = track_of(ActorId::Timer, pass, take_journal(&mut journals));
-    let first = TimerWorker { timer, track };
-    let mut number = 0;
-    let mut rest = harts.into_iter();
-    while let Some(hart) = rest.next() {
+impl Places {
+    // An actor that did nothing yet, with one part of those that the seat has.
+    fn track_of<Q>(
+        &self,
+        seat: &mut TurnSeat<MachinePlace>,
+        id: ActorId,
+        pass: Q,
+        journal: Vec<Entry>,
+    ) -> Track<Q>
+        requires seat { IsBare self.now seat.old }
+        requires parts { 1 < seat.old.me.0.parts }
+        requires journal { journal.items ≡ [] }
+        ensures seat { IsBare self.now seat.new }
+        ensures fewer { seat.new.me.0 ≡ fewer seat.old.me.0 }
+        ensures seated { IsSeatedIn self.now seat.old.me.0.round result.work }
+        ensures id { result.work.actor ≡ id }
+        ensures pass { result.pass ≡ pass }
+        ensures begins { (n : ℕ) → n ≤ vec_capacity journal → Begins n result }
+    {
+        Track {
+            pass,
+            full: false,
+            stop: Stop::Steps,
+            work: Worker::new(&self.turns, seat, id, journal),
+        }
+    }
+
+    /// The timer and the harts go to work, each with one part of the right to act, with the pass at its place and with a journal;
+    /// the other passes are left. It takes no memory.
+    pub fn staff<Q: Drop>(
+        &self,
+        seat: &mut TurnSeat<MachinePlace>,
+        timer: Timer,
+        harts: Vec<Hart>,
+        passes: Vec<Q>,
+        room: WorkRoom<Q>,
+    ) -> AtWork<Q>
+        requires seat { IsBare self.now seat.old }
+        requires parts { length harts.items + 1 < seat.old.me.0.parts }
+        requires harts { length harts.items ≤ 32 }
+        requires passes { length harts.items + 1 ≤ length passes.items }
+        requires room { ForWork (length harts.items) (length passes.items) room }
+        ensures seat { IsBare self.now seat.new }
+        ensures parts { seat.new.me.0.parts + (length harts.items + 1) ≡ seat.old.me.0.parts }
+        ensures round { seat.new.me.0.round ≡ seat.old.me.0.round }
+        ensures seated { AreSeated self.now seat.old.me.0.round result.timer result.workers.items }
+        ensures staffed { (n : ℕ) → All (λ journal. n ≤ vec_capacity journal) room.blank.items →
+            AreStaffed n timer harts.items passes.items result.timer result.workers.items result.left.items }
+    {
+        let WorkRoom {
+            mut workers,
+            mut left,
+            blank: mut journals,
+        } = room;
+        let mut passes = passes.into_iter();
         let Some(pass) = passes.next() else {
             unreachable!()
         };
-        let track = track_of(ActorId::Hart(number), pass, take_journal(&mut journals));
-        workers.push_reserved(HartWorker { hart, track });
-        number += 1;
+        let journal = take_journal(&mut journals);
+        let track = self.track_of(seat, ActorId::Timer, pass, journal);
+        let first = TimerWorker { timer, track };
+        let mut number = 0;
+        let mut rest = harts.into_iter();
+        while let Some(hart) = rest.next() {
+            let Some(pass) = passes.next() else {
+                unreachable!()
+            };
+            let journal = take_journal(&mut journals);
+            let track = self.track_of(seat, ActorId::Hart(number), pass, journal);
+            workers.push_reserved(HartWorker { hart, track });
+            number += 1;
+        }
+        while let Some(pass) = passes.next() {
+            left.push_reserved(pass);
+        }
+        AtWork {
+            timer: first,
+            workers,
+            left,
+        }
     }
-    while let Some(pass) = passes.next() {
-        left.push_reserved(pass);
-    }
-    first
-}
 
-/// They come back, with their passes, their journals and their stops, into room that was made before. It takes no memory.
-pub fn dismiss<Q: Drop>(
-    timer: TimerWorker<Q>,
-    workers: Vec<HartWorker<Q>>,
-    left: Vec<Q>,
-    harts: &mut Vec<Hart>,
-    passes: &mut Vec<Q>,
-    journals: &mut Vec<Journal>,
-    stops: &mut Vec<Stopped>,
-) -> Timer
-    requires empty { (harts.old.items ≡ []) × (passes.old.items ≡ []) × (journals.old.items ≡ []) × (stops.old.items ≡ []) }
-    requires harts { length workers.items ≤ vec_capacity harts.old }
-    requires passes { length workers.items + 1 + length left.items ≤ vec_capacity passes.old }
-    requires journals { length workers.items + 1 ≤ vec_capacity journals.old }
-    requires stops { length workers.items + 1 ≤ vec_capacity stops.old }
-    ensures timer { result ≡ timer.timer }
-    ensures back { AreBack timer workers.items left.items harts.new.items passes.new.items journals.new.items stops.new.items }
-{
-    let TimerWorker { timer, track } = timer;
-    stand_down(track, passes, journals, stops);
-    let mut rest = workers.into_iter();
-    while let Some(worker) = rest.next() {
-        let HartWorker { hart, track } = worker;
-        harts.push_reserved(hart);
-        stand_down(track, passes, journals, stops);
-    }
-    let mut rest = left.into_iter();
-    while let Some(pass) = rest.next() {
+    // An actor leaves: its part of the right to act and what it noted go to the seat.
+    fn stand_down<Q>(
+        &self,
+        seat: &mut TurnSeat<MachinePlace>,
+        track: Track<Q>,
+        passes: &mut Vec<Q>,
+        journals: &mut Vec<Journal>,
+        stops: &mut Vec<Stopped>,
+    )
+        requires seat { IsReady self.now.turns.table.shared.table_id self.now.turns.round seat.old }
+        requires seated { IsSeated self.now track.work }
+        requires noted { HasNoted track.work.seat.me.0.round (index_among self.now.layout) seat.old.me.0 (all_of (journals_of journals.old.items)) }
+        requires passes { vec_len passes.old < vec_capacity passes.old }
+        requires journals { vec_len journals.old < vec_capacity journals.old }
+        requires stops { vec_len stops.old < vec_capacity stops.old }
+        ensures seat { IsReady self.now.turns.table.shared.table_id self.now.turns.round seat.new }
+        ensures parts { seat.new.me.0.parts ≡ seat.old.me.0.parts + 1 }
+        ensures noted { HasNoted track.work.seat.me.0.round (index_among self.now.layout) seat.new.me.0 (all_of (journals_of journals.new.items)) }
+        ensures passes { passes.new.items ≡ passes.old.items ++ track.pass ∷ [] }
+        ensures journals { journals.new.items ≡ journals.old.items ++ journal_of track ∷ [] }
+        ensures stops { stops.new.items ≡ stops.old.items ++ stop_of track ∷ [] }
+        ensures room { (vec_capacity passes.new ≡ vec_capacity passes.old)
+            × (vec_capacity journals.new ≡ vec_capacity journals.old) × (vec_capacity stops.new ≡ vec_capacity stops.old) }
+    {
+        let Track {
+            pass,
+            full: _,
+            stop,
+            work,
+        } = track;
+        let actor = work.actor;
+        let journal = work.leave(&self.turns, seat);
         passes.push_reserved(pass);
+        journals.push_reserved(journal);
+        stops.push_reserved(Stopped { actor, stop });
     }
-    timer
-}
 
-fn stand_down<Q>(
-    track: Track<Q>,
-    passes: &mut Vec<Q>,
-    journals: &mut Vec<Journal>,
-    stops: &mut Vec<Stopped>,
-)
-    requires passes { vec_len passes.old < vec_capacity passes.old }
-    requires journals { vec_len journals.old < vec_capacity journals.old }
-    requires stops { vec_len stops.old < vec_capacity stops.old }
-    ensures passes { passes.new.items ≡ passes.old.items ++ track.pass ∷ [] }
-    ensures journals { journals.new.items ≡ journals.old.items ++ journal_of track ∷ [] }
-    ensures stops { stops.new.items ≡ stops.old.items ++ stop_of track ∷ [] }
-    ensures room { (vec_capacity passes.new ≡ vec_capacity passes.old)
-        × (vec_capacity journals.new ≡ vec_capacity journals.old) × (vec_capacity stops.new ≡ vec_capacity stops.old) }
-{
-    let Track {
-        id,
-        pass,
-        clock: _,
-        full: _,
-        journal,
-        stop,
-    } = track;
-    passes.push_reserved(pass);
-    journals.push_reserved(Journal {
-        actor: id,
-        entries: journal,
-    });
-    stops.push_reserved(Stopped { actor: id, stop });
+    /// They come back, with their passes, their journals and their stops, into room that was made before, and the seat gets their parts
+    /// of the right to act and what they noted. It takes no memory.
+    pub fn dismiss<Q: Drop>(
+        &self,
+        seat: &mut TurnSeat<MachinePlace>,
+        crew: AtWork<Q>,
+        passes: &mut Vec<Q>,
+        harts: &mut Vec<Hart>,
+        journals: &mut Vec<Journal>,
+        stops: &mut Vec<Stopped>,
+    ) -> Timer
+        requires seat { IsBare self.now seat.old }
+        requires seated { AreSeated self.now seat.old.me.0.round crew.timer crew.workers.items }
+        requires empty { (harts.old.items ≡ []) × (passes.old.items ≡ []) × (journals.old.items ≡ []) × (stops.old.items ≡ []) }
+        requires harts { length crew.workers.items ≤ vec_capacity harts.old }
+        requires passes { length crew.workers.items + 1 + length crew.left.items ≤ vec_capacity passes.old }
+        requires journals { length crew.workers.items + 1 ≤ vec_capacity journals.old }
+        requires stops { length crew.workers.items + 1 ≤ vec_capacity stops.old }
+        ensures timer { result ≡ crew.timer.timer }
+        ensures back { AreBack crew.timer crew.workers.items crew.left.items
+            harts.new.items passes.new.items journals.new.items stops.new.items }
+        ensures seat { IsReady self.now.turns.table.shared.table_id self.now.turns.round seat.new }
+        ensures parts { seat.new.me.0.parts ≡ seat.old.me.0.parts + (length crew.workers.items + 1) }
+        ensures noted { HasNoted seat.old.me.0.round (index_among self.now.layout) seat.new.me.0 (all_of (journals_of journals.new.items)) }
+    {
+        let AtWork {
+            timer,
+            workers,
+            left,
+        } = crew;
+        let TimerWorker { timer, track } = timer;
+        self.stand_down(seat, track, passes, journals, stops);
+        let mut rest = workers.into_iter();
+        while let Some(worker) = rest.next() {
+            let HartWorker { hart, track } = worker;
+            harts.push_reserved(hart);
+            self.stand_down(seat, track, passes, journals, stops);
+        }
+        let mut rest = left.into_iter();
+        while let Some(pass) = rest.next() {
+            passes.push_reserved(pass);
+        }
+        timer
+    }
 }

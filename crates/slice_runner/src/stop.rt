@@ -14,8 +14,6 @@ pub enum Stop {
     Full,
     /// Its last stamp is 2^63 or more.
     Stamp,
-    /// There was no memory for its next step.
-    Memory,
 }
 
 /// An actor's stop.

@@ -1,2 +1,2 @@
 mod Filtered
-mod Histories
+pub mod Histories

@@ -1,27 +1,39 @@
-use Rattle.std.proofs.Common.{sym, ap, ◌∙◌}
+use Rattle.std.proofs.Common.{sym, ◌∙◌, subst, arith, inr}
+use Rattle.vm_types.specs.declared.reply.Reply.{Reply}
 use Rattle.flat_guest.specs.Given.{as_given}
-use Rattle.stamp_merge.specs.declared.layout.Layout.{Layout}
-use Rattle.slice_runner.specs.Values.{route_among}
-use Rattle.slice_runner.proofs.Routes.{also, at_none, at_place, inside_of, laid_out, not_out}
+use Rattle.turn_work.specs.Work.{IsOutEntry}
+use Rattle.machine_places.specs.Laid.{index_among}
+use Rattle.slice_runner.proofs.Routes.{at_none, at_place, inside_of, laid_out}
+use Rattle.slice_runner.proofs.Seats.{seated_on}
 use Rattle.slice_runner.proofs.acting.act_once.Goals as goal
 
-pub act_as-requires : goal.act_as-requires
-act_as-requires g c =
-    let here = c.place.ensures ∙ ap (λ (l : Layout). route_among l c.args.op.now) c.layout-layout.ensures.layout in
-    record { clock = c.requires.clock; place = laid_out c.args.locks.now c.args.op.now c.place.result here (inside_of c.place.result c.in_default.not-Out) }
+pub index_of-requires-clause-place : goal.index_of-requires-clause-place
+index_of-requires-clause-place g c =
+    laid_out c.args.places.now.layout c.args.op.now c.place.result c.place.ensures (inside_of c.place.result c.in_default.not-Out)
 
-pub returns-in_default : goal.returns-in_default
-returns-in_default g c =
-    let here = c.place.ensures ∙ ap (λ (l : Layout). route_among l c.args.op.now) c.layout-layout.ensures.layout in
-    let inner = inside_of c.place.result c.in_default.not-Out in
-    record {
-      entry = at_place c.args.locks.now c.args.clock.now c.args.actor c.args.op.now (as_given c.args.given) c.place.result c.act_as.result inner here c.act_as.ensures.entry;
-      clock = c.act_as.ensures.clock;
-      err = also _ _ c.act_as.result c.act_as.ensures.err (not_out c.args.locks.now c.args.clock.now c.args.actor c.args.op.now (as_given c.args.given) c.place.result here inner);
-    }
+pub act-requires-clause-fed : goal.act-requires-clause-fed
+act-requires-clause-fed g c = inr (omega arith)
+
+pub returns-in_default-clause-seat : goal.returns-in_default-clause-seat
+returns-in_default-clause-seat g c =
+    let h = c.requires.seat in
+    let w = c.args.worker.now in
+    seated_on c.args.places.now w c.act.new.self h c.act.ensures.work (c.act.ensures.noted w.seat.me.0.round (index_among c.args.places.now.layout) h.named h.noted)
+
+pub returns-in_default-clause-entry : goal.returns-in_default-clause-entry
+returns-in_default-clause-entry g c =
+    let w = c.args.worker.now in
+    at_place c.args.places.now.layout w.clock w.actor c.args.op.now (as_given c.args.given) w.seat.me.0 c.place.result c.index_of.result c.act.result c.requires.seat.named (inside_of c.place.result c.in_default.not-Out) c.place.ensures c.index_of.ensures.index c.index_of.ensures.below c.act.ensures.entry
+
+pub returns-in-Out-clause-seat : goal.returns-in-Out-clause-seat
+returns-in-Out-clause-seat g c =
+    let h = c.requires.seat in
+    let w = c.args.worker.now in
+    let p = c.args.places.now in
+    seated_on p w c.act_out.new.self h (c.act_out.ensures.work p.turns.table.shared.table_id p.turns.round h.work) (c.act_out.ensures.noted w.seat.me.0.round (index_among p.layout) h.noted)
 
 pub returns-in-Out-clause-entry : goal.returns-in-Out-clause-entry
 returns-in-Out-clause-entry g c =
-    let here = c.place.ensures ∙ ap (λ (l : Layout). route_among l c.args.op.now) c.layout-layout.ensures.layout in
-    let made = c.entry_out.ensures in
-    at_none c.args.locks.now c.args.clock.now c.args.actor c.args.op.now (as_given c.args.given) c.entry_out.result c.requires.port c.requires.given (sym here ∙ c.in-Out.is) made.actor made.place made.op made.reply made.stamp.0 made.stamp.1
+    let w = c.args.worker.now in
+    at_none c.args.places.now.layout w.clock w.actor c.args.op.now (as_given c.args.given) c.act_out.result c.requires.port c.requires.given (sym c.place.ensures ∙ c.in-Out.is)
+    (subst (λ (r : Reply). IsOutEntry c.act_out.result w.actor c.args.op.now r w.clock) c.answer_out.ensures c.act_out.ensures.entry)

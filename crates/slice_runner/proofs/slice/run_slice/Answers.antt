@@ -1,8 +1,8 @@
 use Rattle.std.proofs.Common.{All, length, sym, subst}
 use Rattle.vm_types.specs.declared.entry.Entry.{Entry}
 use Rattle.vm_world.specs.Worlds.{WorldValue}
+use Rattle.slice_runner.specs.Opened.{world_of}
 use Rattle.slice_runner.specs.Slices.{IsSerial, IsThere, MarksFollow}
-use Rattle.slice_runner.specs.Unshared.{world_of}
 use Rattle.slice_runner.proofs.slice.run_slice.Goals as goal
 
 pub returns-in-Ok-share-clause-serial : goal.returns-in-Ok-share-clause-serial

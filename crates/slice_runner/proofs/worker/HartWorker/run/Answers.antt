@@ -1,17 +1,24 @@
 use Rattle.std.proofs.Common.{sym, ◌∙◌, ◌≤◌, ◌<◌, subst, ap, ℕ, ◌+◌}
+use Rattle.slice_runner.proofs.Seats.{seated_still}
 use Rattle.slice_runner.proofs.worker.HartWorker.run.Goals as goal
 
-pub returns-in-Err-clause-worked : goal.returns-in-Err-clause-worked
-returns-in-Err-clause-worked g c =
+pub returns-in-Some-clause-worked : goal.returns-in-Some-clause-worked
+returns-in-Some-clause-worked g c =
     let before = c.args.self.now in
     let less = subst (λ (k : ℕ). k < c.args.n) (sym c.loop-step.invariant.made) c.loop-step-test.true in
-    let ended = c.in-Err.ensures.ended before.track.id before.hart (g.G.Gate.tally before.track.pass) c.args.n c.loop-step.invariant.way less in
+    let ended = c.in-Some.ensures.ended before.track.work.actor before.hart (g.G.Gate.tally before.track.pass) c.args.n c.loop-step.invariant.way less in
     record { same = ended.same; ran = ended.ran; cause = ended.cause }
+
+pub returns-in-Some-clause-seat : goal.returns-in-Some-clause-seat
+returns-in-Some-clause-seat g c =
+    let before = c.loop-step.self.track.work in
+    seated_still c.args.places.now c.args.self.now.track.work.seat.me.0.round before c.step.new.self.track.work c.loop-step.invariant.seat.round_is c.in-Some.ensures.seat
 
 pub loop-step-preserved : goal.loop-step-preserved
 loop-step-preserved g c = record {
   serves = c.in_default.ensures.pass;
+  seat = seated_still c.args.places.now c.args.self.now.track.work.seat.me.0.round c.loop-step.self.track.work c.step.new.self.track.work c.loop-step.invariant.seat.round_is c.in_default.ensures.seat;
   made = c.in_default.ensures.one ∙ ap (λ (k : ℕ). k + 1) c.loop-step.invariant.made;
   room = subst (λ (k : ℕ). c.args.n ≤ k) (sym c.in_default.ensures.room) c.loop-step.invariant.room;
-  way = c.in_default.ensures.went c.args.self.now.track.id c.args.self.now.hart (g.G.Gate.tally c.args.self.now.track.pass) c.loop-step.invariant.way;
+  way = c.in_default.ensures.went c.args.self.now.track.work.actor c.args.self.now.hart (g.G.Gate.tally c.args.self.now.track.pass) c.loop-step.invariant.way;
 }

@@ -1,15 +1,32 @@
-use Rattle.std.proofs.Common.{refl, ap, ◌∙◌, ◌++◌, ◌∷◌, []}
+use Rattle.std.proofs.Common.{ap, ◌∙◌, ◌++◌, ◌∷◌, [], sym, subst}
 use Rattle.timer_trace.specs.States.{timer_next, timer_wants}
+use Rattle.turn_work.specs.declared.worker.Worker.{Worker}
+use Rattle.machine_places.specs.declared.place.MachinePlace.{MachinePlace}
+use Rattle.slice_runner.specs.Seats.{IsSeated}
 use Rattle.slice_runner.proofs.Answers.{answered}
+use Rattle.slice_runner.proofs.Seats.{seated_after, seated_same}
 use Rattle.slice_runner.proofs.Working.{went}
 use Rattle.slice_runner.proofs.worker.TimerWorker.step.Goals as goal
 
+pub act-entry-requires-clause-seat : goal.act-entry-requires-clause-seat
+act-entry-requires-clause-seat g c =
+    subst (λ (w : Worker MachinePlace). IsSeated c.args.places.now w) (sym c.in_default.ensures.same.work) c.requires.seat
+
+pub returns-clause-seat : goal.returns-clause-seat
+returns-clause-seat g c =
+    seated_after c.args.places.now c.args.self.now.track.work c.stops.new.self.work c.act-entry.new.self.work c.in_default.ensures.same.work c.act-entry.ensures.seat
+
+pub returns-in-Some-clause-seat : goal.returns-in-Some-clause-seat
+returns-in-Some-clause-seat g c =
+    seated_same c.args.places.now c.args.self.now.track.work c.stops.new.self.work c.requires.seat c.in-Some.ensures.same.work
+
 pub returns-clause-went : goal.returns-clause-went
 returns-clause-went g c = λ id s found way.
-    went timer_wants timer_next g.G.Gate.tally c.args.locks.now id s found c.args.self.now.timer c.args.self.now.track c.stops.new.self c.want-op.result way c.in_default.ensures.same c.want-op.ensures _ c.write_down.new.self c.in-Ok.entry _ c.give.new.self c.in_default.ensures.why refl refl refl c.in-Ok.ensures.clock c.in-Ok.ensures.entry c.write_down.ensures c.give.ensures
+    went timer_wants timer_next g.G.Gate.tally c.args.places.now.layout id s found c.args.self.now.timer c.args.self.now.track c.stops.new.self c.want-op.result way c.in_default.ensures.same c.want-op.ensures c.act-entry.new.self c.act-entry.result _ c.give.new.self c.in_default.ensures.why c.act-entry.ensures.entry c.act-entry.ensures.wrote c.give.ensures
 
 pub returns-clause-answers : goal.returns-clause-answers
 returns-clause-answers g c = λ start had.
-    let act = c.in-Ok.ensures.entry in
-    let old = c.args.self.now.track.journal.items in
-    answered start (g.C.Clock.known c.args.clock.now) (g.C.Clock.known c.ask_clock-given.new.clock) old c.write_down.new.self.journal.items c.in-Ok.entry c.want-op.result c.ask_clock-given.result c.args.locks.now had (c.write_down.ensures.items ∙ ap (λ j. j.items ++ c.in-Ok.entry ∷ []) c.in_default.ensures.same.journal) act.op_is act.placed.0 act.given_is c.args.self.now.timer c.want-op.ensures c.ask_clock-given.ensures
+    let e = c.act-entry.result in
+    let act = c.act-entry.ensures.entry in
+    let old = c.args.self.now.track.work.journal.items in
+    answered start (g.C.Clock.known c.args.clock.now) (g.C.Clock.known c.ask_clock-given.new.clock) old c.act-entry.new.self.work.journal.items e c.want-op.result c.ask_clock-given.result c.args.places.now.layout had (c.act-entry.ensures.wrote.items ∙ ap (λ w. w.journal.items ++ e ∷ []) c.in_default.ensures.same.work) act.op_is act.placed.0 act.given_is c.args.self.now.timer c.want-op.ensures c.ask_clock-given.ensures
