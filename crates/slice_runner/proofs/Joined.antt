@@ -18,7 +18,8 @@ use Rattle.slice_runner.specs.declared.places.Places.{Places}
 use Rattle.slice_runner.specs.declared.stop.Stopped.{Stopped}
 use Rattle.slice_runner.specs.declared.worker.HartWorker.{HartWorker}
 use Rattle.slice_runner.specs.declared.worker.TimerWorker.{TimerWorker}
-use Rattle.slice_runner.specs.Runs.{Begins, HartEnds, HartsWorked, IsReady, TimerEnds}
+use Rattle.slice_runner.specs.Ends.{HartEnds, HartsWorked, IsReady, TimerEnds}
+use Rattle.slice_runner.specs.Runs.{Begins}
 use Rattle.slice_runner.specs.Seats.{IsSeatedIn}
 use Rattle.slice_runner.specs.Staff.{AreBack, AreSeated, AreStaffed, passes_of}
 use Rattle.slice_runner.specs.Stops.{timer_most}

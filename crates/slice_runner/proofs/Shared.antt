@@ -26,7 +26,7 @@ use Rattle.slice_runner.specs.declared.places.Places.{Places}
 use Rattle.slice_runner.specs.declared.stop.Stopped.{Stopped}
 use Rattle.slice_runner.specs.declared.worker.HartWorker.{HartWorker}
 use Rattle.slice_runner.specs.declared.worker.TimerWorker.{TimerWorker}
-use Rattle.slice_runner.specs.Runs.{HartsWorked, TimerEnds}
+use Rattle.slice_runner.specs.Ends.{HartsWorked, TimerEnds}
 use Rattle.slice_runner.specs.Slices.{IsSlice}
 use Rattle.slice_runner.specs.Staff.{AreBack, AreStaffed}
 use Rattle.slice_runner.specs.Stops.{timer_most}

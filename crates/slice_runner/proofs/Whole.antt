@@ -42,7 +42,8 @@ use Rattle.slice_runner.specs.declared.places.Places.{Places}
 use Rattle.slice_runner.specs.declared.stop.Stopped.{Stopped}
 use Rattle.slice_runner.specs.declared.worker.HartWorker.{HartWorker}
 use Rattle.slice_runner.specs.declared.worker.TimerWorker.{TimerWorker}
-use Rattle.slice_runner.specs.Runs.{HartEnds, HartsWorked, HasRun, TimerEnds}
+use Rattle.slice_runner.specs.Ends.{HartEnds, HartsWorked, TimerEnds}
+use Rattle.slice_runner.specs.Runs.{HasRun}
 use Rattle.slice_runner.specs.Slices.{IsSerial, IsSlice, IsThere, MarksFollow, answers_of}
 use Rattle.slice_runner.specs.Staff.{AreBack, AreNumbered, AreStaffed, harts_of, passes_of, stop_of, stops_from}
 use Rattle.slice_runner.specs.Stops.{HasCause, IsStopped, timer_most}

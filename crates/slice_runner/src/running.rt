@@ -1,7 +1,6 @@
 // All actors at once: each hart in a thread of its own, and the timer beside them.
 ghost use Rattle.std.specs.Prelude.{◌<◌, ℕ, length, All, slice_index_or};
-ghost use Rattle.slice_runner.specs.Runs.{HartEnds, HartsWorked, TimerEnds};
-ghost use Rattle.slice_runner.specs.Runs.{IsReady};
+ghost use Rattle.slice_runner.specs.Ends.{HartEnds, HartsWorked, IsReady, TimerEnds};
 ghost use Rattle.slice_runner.specs.Stops.{timer_most};
 
 use crate::places::Places;
@@ -15,11 +14,13 @@ use vm_host::Clock;
 const ROUND: u32 = 2;
 
 // All harts, each in a thread of its own.
-fn run_harts<
-    Q: Send + Drop,
-    G: Gate<Pass = Q> + Sync,
-    R: Threads + Wait + Sync,
->(rt: &R, gate: &G, places: &Places, n: u32, harts: &mut [HartWorker<Q>])
+fn run_harts<Q: Send + Drop, G: Gate<Pass = Q> + Sync, R: Threads + Wait + Sync>(
+    rt: &R,
+    gate: &G,
+    places: &Places,
+    n: u32,
+    harts: &mut [HartWorker<Q>],
+)
     requires ready { All (λ worker. IsReady (G.serves gate.now) places.now n worker.track) harts.old }
     ensures { (i : ℕ) (d : _) → i < length harts.old →
         HartEnds (G.serves gate.now) G.tally places.now n (slice_index_or harts.old i d) (slice_index_or harts.new i d) }
@@ -36,34 +37,40 @@ fn run_harts<
     );
 }
 
-fn run_hart<
-    Q,
-    G: Gate<Pass = Q>,
-    R: Wait,
->(rt: &R, gate: &G, places: &Places, n: u32, worker: &mut HartWorker<Q>)
+fn run_hart<Q, G: Gate<Pass = Q>, R: Wait>(
+    rt: &R,
+    gate: &G,
+    places: &Places,
+    n: u32,
+    worker: &mut HartWorker<Q>,
+)
     requires ready { IsReady (G.serves gate.now) places.now n worker.old.track }
     ensures { HartEnds (G.serves gate.now) G.tally places.now n worker.old worker.new }
 {
     worker.run(rt, gate, places, n);
 }
 
-fn run_vec<
-    Q: Send + Drop,
-    G: Gate<Pass = Q> + Sync,
-    R: Threads + Wait + Sync,
->(rt: &R, gate: &G, places: &Places, n: u32, harts: &mut Vec<HartWorker<Q>>)
+fn run_vec<Q: Send + Drop, G: Gate<Pass = Q> + Sync, R: Threads + Wait + Sync>(
+    rt: &R,
+    gate: &G,
+    places: &Places,
+    n: u32,
+    harts: &mut Vec<HartWorker<Q>>,
+)
     requires ready { All (λ worker. IsReady (G.serves gate.now) places.now n worker.track) harts.old.items }
     ensures { HartsWorked (G.serves gate.now) G.tally places.now n harts.old.items harts.new.items }
 {
     run_harts(rt, gate, places, n, harts.as_mut_slice());
 }
 
-fn run_timer<
-    Q,
-    C: Clock,
-    G: Gate<Pass = Q>,
-    R: Wait,
->(rt: &R, gate: &G, places: &Places, n: u32, clock: &mut C, timer: &mut TimerWorker<Q>)
+fn run_timer<Q, C: Clock, G: Gate<Pass = Q>, R: Wait>(
+    rt: &R,
+    gate: &G,
+    places: &Places,
+    n: u32,
+    clock: &mut C,
+    timer: &mut TimerWorker<Q>,
+)
     requires ready { IsReady (G.serves gate.now) places.now n timer.old.track }
     ensures { TimerEnds (G.serves gate.now) G.tally places.now (timer_most n)
         (C.known clock.old) (C.known clock.new) timer.old timer.new }
@@ -73,12 +80,7 @@ fn run_timer<
 
 /// All actors at once, each until it stops: the harts in threads of their own, the timer, which makes one round at most, in
 /// this one.
-pub fn run_all<
-    Q: Send + Drop,
-    C: Clock,
-    G: Gate<Pass = Q> + Sync,
-    R: Threads + Wait + Sync,
->(
+pub fn run_all<Q: Send + Drop, C: Clock, G: Gate<Pass = Q> + Sync, R: Threads + Wait + Sync>(
     rt: &R,
     gate: &G,
     places: &Places,

@@ -102,12 +102,7 @@ fn open(alloc: Global, parts: WorldParts, room: PlaceRoom) -> Result<Opened, Wor
 
 impl Opened {
     // All actors at work until each of them stops, and everything home again. It takes no memory.
-    fn run<
-        Q: Send + Drop,
-        C: Clock,
-        G: Gate<Pass = Q> + Sync,
-        R: Threads + Wait + Sync,
-    >(
+    fn run<Q: Send + Drop, C: Clock, G: Gate<Pass = Q> + Sync, R: Threads + Wait + Sync>(
         self,
         rt: &R,
         gate: &G,
@@ -185,12 +180,7 @@ impl Opened {
 }
 
 /// One slice. Without memory for it the parts come back as they were, and nothing was done.
-pub fn share<
-    Q: Send + Drop,
-    C: Clock,
-    G: Gate<Pass = Q> + Sync,
-    R: Threads + Wait + Sync,
->(
+pub fn share<Q: Send + Drop, C: Clock, G: Gate<Pass = Q> + Sync, R: Threads + Wait + Sync>(
     rt: &R,
     alloc: Global,
     gate: &G,
