@@ -1,5 +1,5 @@
 -- A world whose places have just gone into a table, and what comes back.
-use Rattle.std.proofs.Common.{◌≡◌, ℕ, List, length, refl, sym, ap, ◌∙◌, subst}
+use Rattle.std.proofs.Common.{◌≡◌, ℕ, List, length, sym, ap, subst}
 use Rattle.atomic_table.specs.declared.shared.Seat.{Seat}
 use Rattle.stamp_merge.specs.declared.layout.Layout.{Layout}
 use Rattle.turn_table.specs.declared.held.Held.{Held}

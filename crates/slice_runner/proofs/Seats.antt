@@ -1,5 +1,5 @@
 -- An actor's seat, as it begins, acts and leaves.
-use Rattle.std.proofs.Common.{◌≡◌, ℕ, ◌+◌, ◌-◌, ◌<◌, List, [], ◌∷◌, ◌++◌, map, length, refl, sym, ap, ◌∙◌, subst, arith, append-nil}
+use Rattle.std.proofs.Common.{◌≡◌, ℕ, ◌<◌, List, [], ◌∷◌, ◌++◌, map, length, refl, sym, ap, ◌∙◌, subst, append-nil}
 use Rattle.std.specs.List.{AllByRecursion}
 use Rattle.atomic_table.specs.declared.shared.Seat.{Seat}
 use Rattle.vm_types.specs.declared.entry.Entry.{Entry}
@@ -9,7 +9,7 @@ use Rattle.turn_table.specs.declared.view.Noted.{Noted}
 use Rattle.turn_table.specs.declared.view.Round.{Round}
 use Rattle.turn_table.specs.declared.view.View.{View}
 use Rattle.turn_table.specs.Steps.{IsReady}
-use Rattle.turn_table.specs.Views.{fewer, newcomer}
+use Rattle.turn_table.specs.Views.{fewer}
 use Rattle.turn_law.specs.Rounds.{AreIndexed, entry_of}
 use Rattle.turn_work.specs.declared.worker.Worker.{Worker}
 use Rattle.turn_work.specs.Work.{AreNamed, HasNoted, IsAtWork}

@@ -1,5 +1,5 @@
 -- What the actors of a slice leave, from a world in a table to the world that its places are then.
-use Rattle.std.proofs.Common.{◌≡◌, ℕ, ◌+◌, ◌*◌, ◌≤◌, List, length, map, All, refl, sym, ap, ◌∙◌, subst, arith, le_trans}
+use Rattle.std.proofs.Common.{◌≡◌, ℕ, List, length, map, sym, ap, ◌∙◌, subst}
 use Rattle.vm_types.specs.declared.entry.Entry.{Entry}
 use Rattle.board_table.specs.Board.{Board}
 use Rattle.guest_pages.specs.Flat.{ArePages}
@@ -8,7 +8,6 @@ use Rattle.hart_trace.specs.States.{Hart}
 use Rattle.pause_gate.specs.Tally.{Tally}
 use Rattle.port_table.specs.declared.state.PortState.{PortState}
 use Rattle.stamp_merge.specs.declared.journal.Journal.{Journal}
-use Rattle.stamp_merge.specs.declared.layout.Layout.{Layout}
 use Rattle.stamp_merge.specs.Journals.{all_of}
 use Rattle.stamp_merge.specs.Merged.{journals_of}
 use Rattle.stamp_merge.specs.Order.{IsOrder}

@@ -23,7 +23,6 @@ use Rattle.slice_runner.specs.declared.stop.Stop.{Stop}
 use Rattle.slice_runner.specs.declared.worker.HartWorker.{HartWorker}
 use Rattle.slice_runner.specs.declared.worker.TimerWorker.{TimerWorker}
 use Rattle.slice_runner.specs.declared.worker.Track.{Track}
-use Rattle.slice_runner.specs.Slices.{answers_of}
 use Rattle.slice_runner.specs.Stops.{HasCause, IsUnfull, closings, is_last_full}
 use Rattle.slice_runner.specs.Values.{route_among}
 

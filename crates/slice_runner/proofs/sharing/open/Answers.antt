@@ -1,4 +1,4 @@
-use Rattle.std.proofs.Common.{◌+◌, ◌≤◌, map, length, refl, sym, ap, ◌∙◌, subst, arith}
+use Rattle.std.proofs.Common.{map, length, refl, sym, ap, ◌∙◌, subst, arith}
 use Rattle.machine_places.specs.Laid.{AreLaid, place_of}
 use Rattle.machine_places.proofs.Named.{as_many}
 use Rattle.vm_world.specs.Worlds.{world_with}
@@ -25,12 +25,12 @@ returns-in-Err-clause-back c =
 pub invariant_of-result-clause-counted : goal.invariant_of-result-clause-counted
 invariant_of-result-clause-counted c =
     let p = c.args.parts in
-    let size = c.size_of.ensures.layout in
+    let size = c.size_of-actors.ensures.layout in
     let many = as_many (length p.pages.items) (length p.ports.items) c.place_all.new.places.items c.place_all.ensures.laid.ids_are in
     omega (arith, c.in-Ok.ensures.count, many, ap (λ l. l.pages) size, ap (λ l. l.ports) size)
 
 pub invariant_of-result-clause-few : goal.invariant_of-result-clause-few
-invariant_of-result-clause-few c = omega (arith, ap (λ l. l.pages) c.size_of.ensures.layout, c.requires.few.0)
+invariant_of-result-clause-few c = omega (arith, ap (λ l. l.pages) c.size_of-actors.ensures.layout, c.requires.few.0)
 
 pub returns-in-Ok-clause-opened : goal.returns-in-Ok-clause-opened
 returns-in-Ok-clause-opened c =
@@ -38,10 +38,10 @@ returns-in-Ok-clause-opened c =
     let w = world_of c.args.parts in
     let view = made.view in
     record {
-      seat = bare_first _ _ _ _ w made.seat view c.size_of.ensures.layout c.place_all.ensures.laid;
+      seat = bare_first _ _ _ _ w made.seat view c.size_of-actors.ensures.layout c.place_all.ensures.laid;
       all = ap (λ v. v.parts) view ∙ sym made.whole;
-      parts = ap (λ v. v.parts) view ∙ c.size_of.ensures.parts;
-      layout = c.size_of.ensures.layout;
+      parts = ap (λ v. v.parts) view ∙ c.size_of-actors.ensures.parts;
+      layout = c.size_of-actors.ensures.layout;
       laid = subst (λ r. AreLaid w.pages w.ports w.board r.opens) (sym (ap (λ v. v.round) view)) c.place_all.ensures.laid;
       timer = refl;
       harts = refl;

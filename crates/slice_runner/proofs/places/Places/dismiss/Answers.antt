@@ -1,4 +1,4 @@
-use Rattle.std.proofs.Common.{◌≡◌, ◌++◌, ◌∷◌, [], ap, ◌∙◌, sym, subst, arith, length, map, All}
+use Rattle.std.proofs.Common.{◌++◌, ◌∷◌, [], ap, ◌∙◌, sym, subst, arith, length, map, All}
 use Rattle.std.specs.Vec.Iter.{into_iter_items}
 use Rattle.stamp_merge.specs.Journals.{all_of}
 use Rattle.stamp_merge.specs.Merged.{journals_of}
@@ -7,7 +7,7 @@ use Rattle.machine_places.specs.Laid.{index_among}
 use Rattle.slice_runner.specs.Seats.{IsSeatedIn}
 use Rattle.slice_runner.specs.Staff.{harts_of, journal_of, passes_of, stop_of}
 use Rattle.slice_runner.proofs.Seats.{bare_noted}
-use Rattle.slice_runner.proofs.Staff.{fewer_by_one, first_of, none_left, poured}
+use Rattle.slice_runner.proofs.Staff.{fewer_by_one, first_of, poured}
 use Rattle.slice_runner.proofs.places.Places.dismiss.Goals as goal
 
 pub stand_down-requires-clause-noted : goal.stand_down-requires-clause-noted

@@ -1,4 +1,4 @@
-use Rattle.std.proofs.Common.{◌≡◌, ◌≤◌, ◌+◌, [], refl, sym, ap, ◌∙◌, ◌++◌, ◌∷◌, length, subst, vec_capacity, All, arith}
+use Rattle.std.proofs.Common.{◌≡◌, ◌≤◌, [], refl, sym, ap, ◌∙◌, ◌++◌, ◌∷◌, length, subst, vec_capacity, All, arith}
 use Rattle.std.specs.Vec.Iter.{into_iter_items}
 use Rattle.std.proofs.lemmas.List.Elements.{All-nil, All-push, All-same}
 use Rattle.slice_runner.specs.declared.worker.HartWorker.{HartWorker}

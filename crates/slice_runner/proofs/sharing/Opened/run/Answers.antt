@@ -1,11 +1,10 @@
-use Rattle.std.proofs.Common.{◌≡◌, ℕ, ◌+◌, ◌*◌, ◌≤◌, All, length, map, vec_capacity, sym, ap, ◌∙◌, subst, arith, le_trans}
+use Rattle.std.proofs.Common.{◌≡◌, ℕ, ◌+◌, ◌*◌, ◌≤◌, All, length, vec_capacity, sym, ap, ◌∙◌, subst, arith, le_trans}
 use Rattle.stamp_merge.specs.Journals.{all_of}
 use Rattle.stamp_merge.specs.Merged.{journals_of}
 use Rattle.stamp_merge.specs.Order.{IsOrder}
 use Rattle.turn_work.specs.Work.{HasNoted}
 use Rattle.machine_places.specs.Laid.{index_among}
-use Rattle.vm_world.specs.Worlds.{WorldValue, world_with}
-use Rattle.slice_runner.specs.Opened.{world_of}
+use Rattle.vm_world.specs.Worlds.{world_with}
 use Rattle.slice_runner.specs.Room.{ForWork}
 use Rattle.slice_runner.specs.Slices.{IsSlice}
 use Rattle.slice_runner.specs.Staff.{AreSeated, AreStaffed}
