@@ -1,4 +1,5 @@
-//! Prints what threads come to: slices of a world, locks that keep histories, and the gates that both ask.
+//! Prints what threads come to: slices of a world, locks that keep histories, places that are acted on by turns, and the gates that
+//! all of them ask.
 //!
 //! What a slice leaves and what an act does is proved. That the threads run, that steps and acts are made, why they end, and
 //! that two of them are held at once, is shown here. No line depends on the schedule.
@@ -10,6 +11,7 @@ mod gates;
 mod locks;
 mod meeting;
 mod stops;
+mod turns;
 mod worlds;
 
 use std::io;
@@ -19,5 +21,6 @@ fn main(rt: HostRuntime) -> io::Result<()> {
     meeting::print(&rt)?;
     stops::print(&rt)?;
     locks::print(&rt)?;
+    turns::print(&rt)?;
     gates::print(&rt)
 }
