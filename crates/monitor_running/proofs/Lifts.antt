@@ -73,15 +73,6 @@ module _ {B : Type 0} (Is : B → Machine → Type 0) (old mid now : Seen) (b c 
       let k = keeps s m talk is f r in
       let n = on s k.flat talk k.is k.files k.reached in
       (n.0, kept_after s m talk k (record now { taken = now.taken ++ n.0 }) d n.1)
-  ran_on (Some (ran.Torn torn journals histories)) on = record {
-    world = on.world;
-    slice = on.slice;
-    host = on.host;
-    kept = λ s m talk is f r.
-        let k = keeps s m talk is f r in
-        let n = on.kept s k.flat talk k.is k.files k.reached in
-        record { flat = n.flat; is = n.is; beside = joined m k.flat n.flat k.beside n.beside; files = n.files; reached = n.reached };
-  }
   ran_on (Some ran.OutOfMemory) on = keeps_on on
 
 -- nothing happened
@@ -185,12 +176,6 @@ module _ (live after : LiveMachine) (old now : Seen) (w v : WorldValue) (some : 
   lift (Some ran.SinkFailed) on = λ s m talk is f r.
       let n = on s m talk (runs_as live m w some moving is) f r in
       (n.0, lifted s m talk (record now { taken = now.taken ++ n.0 }) is n.1)
-  lift (Some (ran.Torn torn journals histories)) on = record {
-    world = on.world;
-    slice = on.slice;
-    host = on.host;
-    kept = λ s m talk is f r. on.kept s m talk (runs_as live m w some moving is) f r;
-  }
   lift (Some ran.OutOfMemory) on = lift_keeps on
 
 -- ---- the guest is on, or off
@@ -278,7 +263,6 @@ fault_on (Some ran.TraceFailed) old mid now trace sink fault =
     rose_later old.trace.health.faults mid.trace.health.faults now.trace.health.faults trace.later fault
 fault_on (Some ran.SinkFailed) old mid now trace sink fault =
     rose_later old.sink.health.faults mid.sink.health.faults now.sink.health.faults sink.later fault
-fault_on (Some (ran.Torn torn journals histories)) old mid now trace sink fault = tt
 fault_on (Some ran.OutOfMemory) old mid now trace sink fault = tt
 
 pub went_on : {B : Type 0} (Is : B → Machine → Type 0) (end : Option Ran) (old mid now : Known) (b c d : B)

@@ -45,7 +45,6 @@ passed_end {Q} serves tally end before after other serve same =
     unseen ran.Off not = tt
     unseen ran.TraceFailed not = tt
     unseen ran.SinkFailed not = tt
-    unseen (ran.Torn torn journals histories) not = tt
     unseen ran.OutOfMemory not = tt
 
 -- a closed gate was found, and that is the end or the guest was off
@@ -59,7 +58,6 @@ passed_closed serves tally end before after are =
     saw ran.Off = tt
     saw ran.TraceFailed = tt
     saw ran.SinkFailed = tt
-    saw (ran.Torn torn journals histories) = tt
     saw ran.OutOfMemory = tt
 
 -- a closed gate was found, and whoever asks next finds it so
@@ -113,5 +111,4 @@ passed_on {Q} serves tally end before mid after some first last =
     saw (Some ran.Off) then = tt
     saw (Some ran.TraceFailed) then = tt
     saw (Some ran.SinkFailed) then = tt
-    saw (Some (ran.Torn torn journals histories)) then = tt
     saw (Some ran.OutOfMemory) then = tt

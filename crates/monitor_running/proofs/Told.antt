@@ -2,7 +2,6 @@
 use Rattle.std.proofs.Common.{inl, inr, ◌≡◌, ◌<◌, ℕ, refl, sym, ap, ◌∙◌, subst, List, [], ◌∷◌, ◌++◌, take, drop, All, append_assoc, append-nil, take-append-drop, length, Option, Some, None, arith}
 use Rattle.std.specs.Prelude.{Result, Ok, Err}
 use Rattle.vm_types.specs.declared.entry.Entry.{Entry}
-use Rattle.vm_types.specs.declared.torn.Torn.{Torn}
 use Rattle.vm_types.specs.Causes.{Rose}
 use Rattle.vm_outside.specs.Known.{Health, SinkKnown, Tells}
 use Rattle.vm_outside.specs.Known as objects
@@ -16,12 +15,7 @@ use Rattle.flat_guest.specs.Guest.{Guest}
 use Rattle.flat_machine.specs.Machine.{Machine, running}
 use Rattle.vm_world.specs.Worlds.{IsWorld, WorldValue}
 use Rattle.slice_runner.specs.Runs.{HasAnswered}
-use Rattle.stamp_merge.specs.declared.history.History.{History}
-use Rattle.stamp_merge.specs.declared.journal.Journal.{Journal}
-use Rattle.slice_runner.specs.declared.slice.SliceError.{SliceError}
-use Rattle.slice_runner.specs.declared.slice.SliceError.TheVariants as error
-use Rattle.slice_runner.specs.Ended.{HasFailed}
-use Rattle.slice_runner.specs.Slices.{ClockWasAsked, IsSerial, IsThere, IsTornSlice, Leads}
+use Rattle.slice_runner.specs.Slices.{ClockWasAsked, IsSerial, IsThere, Leads}
 use Rattle.monitor_running.specs.declared.ran.Ran.{Ran}
 use Rattle.monitor_running.specs.declared.ran.Ran.TheVariants as ran
 use Rattle.monitor_running.specs.declared.telling.Untold.{Untold}
@@ -30,7 +24,7 @@ use Rattle.serve_host.specs.Events.{event_items}
 use Rattle.serve_host.proofs.Items.{items_take}
 use Rattle.flat_trace.specs.Events.{answers_in, drain_items, event_acts}
 use Rattle.monitor_running.specs.Items.{DrainStops, HasDrained, HasGoneOn, HasKept, MayDrain, TellStops, TellsItems, TellsPart, drained_world}
-use Rattle.monitor_running.specs.Ran.{HasFault, IsRunning, IsTornOff, RanOn, Went, end_by, slice_end}
+use Rattle.monitor_running.specs.Ran.{HasFault, IsRunning, RanOn, Went, end_by}
 use Rattle.monitor_running.specs.Waiting.{HasGone, makers, turns}
 use Rattle.monitor_running.specs.Asked.{HostKnown}
 use Rattle.monitor_running.specs.Devices.{DiskWasAsked, IsDevices}
@@ -337,16 +331,6 @@ items_stop untold.Trace took took' taken taken' asked now w v u its gone stops =
 items_stop untold.Sink took took' taken taken' asked now w v u its gone stops =
     items_cut took took' taken taken' asked now w v u its gone stops.0 stops.1
 
-pub slice_torn : (took : List Item) (taken : List ℕ) (asked now : HostKnown) (w : WorldValue) (torn : Torn)
-    (journals : List Journal) (histories : List History) → IsTornSlice w torn journals histories
-    → IsTornOff IsRunning (seen_by took taken asked) w (seen_by took taken now) torn journals histories
-slice_torn took taken asked now w torn journals histories is_torn = record {
-  world = w;
-  slice = is_torn;
-  host = asked;
-  kept = λ s m talk is f r. record { flat = m; is = is; beside = refl; files = f; reached = r };
-}
-
 pub slice_none : (took : List Item) (taken : List ℕ) (asked now : HostKnown) (w v : WorldValue) → v ≡ w → now ≡ asked
     → Keeps IsRunning (seen_by took taken asked) w (seen_by took taken now) v
 slice_none took taken asked now w v same unasked s m talk is f r = record {
@@ -424,36 +408,15 @@ went_untold end why trace traced sink sunk asked now w v u es told is same gone 
     went_items_untold end why trace traced sink sunk asked now w v u (event_items told) is (events_host told w v asked now own)
 
 -- no slice, and no disk was asked
-failed_by : {Q : Type 0} (why : SliceError) (trace : TraceKnown) (sink : SinkKnown) (asked now : HostKnown) (w v : WorldValue)
-    (begun ended : List Q) → now.disk ≡ asked.disk → HasFailed w v asked.clock now.clock begun ended why
-    → Went IsRunning (Some (slice_end why)) (known trace sink asked) w (known trace sink now) v
-failed_by (error.Torn torn journals histories) trace sink asked now w v begun ended same failed = record {
-  ran = λ t k. slice_torn trace.took sink.taken asked now w torn journals.items histories.items failed.0;
+pub went_failed : (trace : TraceKnown) (sink : SinkKnown) (asked now : HostKnown) (w v : WorldValue) → now.disk ≡ asked.disk → v ≡ w → now.clock ≡ asked.clock
+    → Went IsRunning (Some ran.OutOfMemory) (known trace sink asked) w (known trace sink now) v
+went_failed trace sink asked now w v disk world clock = record {
+  ran = λ t k. slice_none trace.took sink.taken asked now w v world (λ j. record { clock = clock j; disk = disk j });
   fault = tt;
   trace_lasts = lasts_same trace.health;
   trace_stays = λ tells. refl;
   sink_lasts = lasts_same sink.health;
 }
-failed_by error.OutOfMemory trace sink asked now w v begun ended same failed = record {
-  ran = λ t k. slice_none trace.took sink.taken asked now w v failed.0 (λ j. record { clock = failed.1 j; disk = same j });
-  fault = tt;
-  trace_lasts = lasts_same trace.health;
-  trace_stays = λ tells. refl;
-  sink_lasts = lasts_same sink.health;
-}
-
-pub went_failed : {Q : Type 0} (end : Ran) (why : SliceError) (trace : TraceKnown) (sink : SinkKnown) (asked now : HostKnown)
-    (w v : WorldValue) (begun ended : List Q) → end ≡ slice_end why → now.disk ≡ asked.disk
-    → HasFailed w v asked.clock now.clock begun ended why
-    → Went IsRunning (Some end) (known trace sink asked) w (known trace sink now) v
-went_failed end why trace sink asked now w v begun ended is same failed =
-    subst (λ (r : Ran). Went IsRunning (Some r) (known trace sink asked) w (known trace sink now) v) (sym is)
-    (failed_by why trace sink asked now w v begun ended same failed)
-
--- neither is an end by the gate
-pub unclosed_failed : (end : Ran) (why : SliceError) → end ≡ slice_end why → Some end ≡ Some ran.Closed → ⊥
-unclosed_failed end (error.Torn torn journals histories) is closed = cc
-unclosed_failed end error.OutOfMemory is closed = cc
 
 pub unclosed_untold : (end : Ran) (why : Untold) → end ≡ end_by why → Some end ≡ Some ran.Closed → ⊥
 unclosed_untold end untold.Trace is closed = cc

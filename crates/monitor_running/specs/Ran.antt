@@ -1,17 +1,11 @@
 -- How slices end, and what they leave.
 use Rattle.std.specs.Prelude.{◌≡◌, true, false, List, Option, Some, None}
 use Rattle.vm_types.specs.Causes.{Rose}
-use Rattle.vm_types.specs.declared.torn.Torn.{Torn}
 use Rattle.vm_outside.specs.Known.{Lasts, Tells}
 use Rattle.serve_host.specs.Tracing.{TraceStays}
-use Rattle.stamp_merge.specs.declared.history.History.{History}
-use Rattle.stamp_merge.specs.declared.journal.Journal.{Journal}
 use Rattle.flat_guest.specs.Guest.{Guest}
 use Rattle.flat_machine.specs.Machine.{Machine, running}
 use Rattle.vm_world.specs.Worlds.{IsWorld, WorldValue}
-use Rattle.slice_runner.specs.declared.slice.SliceError.{SliceError}
-use Rattle.slice_runner.specs.declared.slice.SliceError.TheVariants as error
-use Rattle.slice_runner.specs.Slices.{IsTornSlice}
 use Rattle.monitor_running.specs.declared.ran.Ran.{Ran}
 use Rattle.monitor_running.specs.declared.ran.Ran.TheVariants as ran
 use Rattle.monitor_running.specs.declared.telling.Untold.{Untold}
@@ -24,15 +18,6 @@ use Rattle.flat_trace.specs.Showing.{Out}
 abbrev pub IsRunning : WorldValue → Machine → Type 0
 IsRunning w m = (g : Guest) × (running m ≡ Some g) × IsWorld w g
 
--- all that happened before the slice in which journals and histories part is in the trace; that slice began at this world
-pub record IsTornOff {B : Type 0} (Is : B → Machine → Type 0) (old : Seen) (b : B) (now : Seen) (torn : Torn)
-    (journals : List Journal) (histories : List History) : Type 0 where
-  pub world : WorldValue
-  pub slice : IsTornSlice world torn journals histories
-  pub host : HostKnown
-  pub kept : (s : Start) (m : Machine) (talk : List Out) → Is b m → AreFiles s m old → Reached s old m talk
-      → Kept IsRunning s m (record now { host = host }) world talk
-
 -- by how slices ended, if they did
 abbrev pub RanOn : {B : Type 0} → (B → Machine → Type 0) → Option Ran → Seen → B → Seen → B → Type 0
 RanOn Is None old b now c = Keeps Is old b now c
@@ -40,7 +25,6 @@ RanOn Is (Some ran.Closed) old b now c = KeepsAs false Is old b now c
 RanOn Is (Some ran.Off) old b now c = KeepsAs true Is old b now c
 RanOn Is (Some ran.TraceFailed) old b now c = GetsAhead Is old b now c
 RanOn Is (Some ran.SinkFailed) old b now c = IsCut Is old b now c
-RanOn Is (Some (ran.Torn torn journals histories)) old b now c = IsTornOff Is old b now torn journals.items histories.items
 RanOn Is (Some ran.OutOfMemory) old b now c = Keeps Is old b now c
 
 -- an end that names the trace or the sink has its fault
@@ -57,11 +41,6 @@ pub record Went {B : Type 0} (Is : B → Machine → Type 0) (end : Option Ran) 
   pub trace_lasts : Lasts old.trace.health now.trace.health
   pub trace_stays : TraceStays old.trace now.trace
   pub sink_lasts : Lasts old.sink.health now.sink.health
-
--- the end for which there was no slice
-abbrev pub slice_end : SliceError → Ran
-slice_end (error.Torn torn journals histories) = ran.Torn torn journals histories
-slice_end error.OutOfMemory = ran.OutOfMemory
 
 -- the end for which something was not told
 abbrev pub end_by : Untold → Ran

@@ -1,7 +1,4 @@
 // How turns end.
-use stamp_merge::{History, Journal};
-use vm_types::Torn;
-
 /// How turns end.
 #[derive(Drop)]
 pub enum Ran {
@@ -13,12 +10,6 @@ pub enum Ran {
     TraceFailed,
     /// The sink failed, and took a front of what the console held.
     SinkFailed,
-    /// The journals and the histories of a slice part, here. They are handed out, and the guest is lost.
-    Torn {
-        torn: Torn,
-        journals: Vec<Journal>,
-        histories: Vec<History>,
-    },
     /// There was no memory for a turn.
     OutOfMemory,
 }

@@ -1,16 +1,15 @@
 // Turns of a machine until a gate is closed.
-ghost use Rattle.std.specs.Prelude.{◌≡◌, ◌≢◌, ◌⊎◌, ◌≤◌, ◌<◌, ◌+◌, true, length, All, IfErr, IfOk, MatchBool, OnErr};
+ghost use Rattle.std.specs.Prelude.{◌≡◌, ◌≢◌, ◌⊎◌, ◌≤◌, ◌<◌, ◌+◌, true, length, All, IfOk, MatchBool, OnErr};
 ghost use Rattle.vm_host.specs.Telling as clocks;
 ghost use Rattle.flat_guest.specs.Guest.{Guest};
 ghost use Rattle.vm_world.specs.Worlds.{IsWorld};
-ghost use Rattle.slice_runner.specs.Ended.{HasFailed};
 ghost use Rattle.slice_runner.specs.Slices.{ClockWasAsked, IsSerial, IsThere};
 ghost use Rattle.slice_runner.specs.Stops.{AreStopped};
 ghost use Rattle.monitor_machine.specs.State.{IsLive};
 ghost use Rattle.monitor_running.specs.Devices.{DiskWasAsked, IsDevices};
 ghost use Rattle.monitor_running.specs.declared.ran.Ran.TheVariants as ran;
 ghost use Rattle.monitor_running.specs.Passes.{ArePassed};
-ghost use Rattle.monitor_running.specs.Ran.{IsRunning, Went, slice_end};
+ghost use Rattle.monitor_running.specs.Ran.{IsRunning, Went};
 ghost use Rattle.monitor_running.specs.Objects.{known_with, with_clock, with_disk};
 ghost use Rattle.monitor_running.specs.Reached.{Known};
 ghost use Rattle.monitor_running.specs.Staying.{RanReady, StaysReady, is_torn};
@@ -25,7 +24,7 @@ use crate::waiting::{MOST_HARTS, all_wait, pass_round, time_left};
 use crate::working::device_works;
 use monitor_machine::LiveMachine;
 use pause_gate::Gate;
-use slice_runner::{Slice, SliceError, run_slice};
+use slice_runner::{Slice, run_slice};
 use std::alloc::{AllocError, Global};
 use std::sync::Wait;
 use std::thread::Threads;
@@ -52,24 +51,6 @@ fn has_passes(world: &World, passes: usize) -> bool
     harts <= MOST_HARTS && harts < passes
 }
 
-// The end for which there was no slice.
-fn slice_end(why: SliceError) -> Ran
-    ensures { result ≡ slice_end why }
-{
-    match why {
-        SliceError::Torn {
-            torn,
-            journals,
-            histories,
-        } => Ran::Torn {
-            torn,
-            journals,
-            histories,
-        },
-        SliceError::OutOfMemory => Ran::OutOfMemory,
-    }
-}
-
 // So many steps of each actor as are asked for, or as many as a slice has room for.
 fn steps_each(world: &World, steps: u32) -> u32
     requires { length world.now.harts ≤ 32 }
@@ -88,7 +69,7 @@ fn slice_by<Q: Send + Drop, W: TurnObjects, G: Gate<Pass = Q> + Sync, R: Threads
     gate: &G,
     passes: &mut Vec<Q>,
     steps: u32,
-) -> Result<Slice, SliceError>
+) -> Result<Slice, AllocError>
     requires harts { length world.old.harts ≤ 32 }
     requires passes { length world.old.harts + 1 ≤ length passes.old.items }
     requires serve { All (G.serves gate.now) passes.old.items }
@@ -98,8 +79,8 @@ fn slice_by<Q: Send + Drop, W: TurnObjects, G: Gate<Pass = Q> + Sync, R: Threads
         AreStopped G.tally steps slice.events.items world.new slice.stops.items passes.old.items passes.new.items) }
     ensures clock { IfOk result (λ slice.
         ClockWasAsked (W.known with.old).host.clock slice.events.items (W.known with.new).host.clock) }
-    ensures failed { IfErr result (λ why. HasFailed world.old world.new
-        (W.known with.old).host.clock (W.known with.new).host.clock passes.old.items passes.new.items why) }
+    ensures failed { OnErr result ((world.new ≡ world.old)
+        × ((W.known with.new).host.clock ≡ (W.known with.old).host.clock) × (passes.new.items ≡ passes.old.items)) }
     ensures serve { All (G.serves gate.now) passes.new.items }
     ensures same { length passes.new.items ≡ length passes.old.items }
     ensures beside { W.known with.new ≡ with_clock (W.known with.old) (W.known with.new).host.clock }
@@ -135,9 +116,8 @@ fn run_guest<
     ensures unclosed { result ≢ Some ran.Closed }
 {
     let each = steps_each(world, steps);
-    let slice = match slice_by(rt, alloc, world, with, gate, passes, each) {
-        Ok(slice) => slice,
-        Err(why) => return Some(slice_end(why)),
+    let Ok(slice) = slice_by(rt, alloc, world, with, gate, passes, each) else {
+        return Some(Ran::OutOfMemory);
     };
     if let Err(why) = tell_slice(slice.events.as_slice(), world, with, sink) {
         return Some(end_by(why));

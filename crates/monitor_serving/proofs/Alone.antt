@@ -108,12 +108,6 @@ module _ (monitor now_monitor : Monitor) (machine : LiveMachine) (k now : Known)
   ran_alone (Some ran.SinkFailed) on never = λ s first old.
       let it = on s old.flat old.talk old.stands.is.own.live old.stands.disks old.stands.reached in
       broke (served.Fault object.Sink) s first old it.1.flat now.host it.0 tt refl (filed_beside old.flat it.1.flat it.1.beside) it.1.reached
-  ran_alone (Some (ran.Torn torn journals histories)) on never = (
-    (on.world, on.slice),
-    λ s first old.
-        let it = on.kept s old.flat old.talk old.stands.is.own.live old.stands.disks old.stands.reached in
-        all_shown (served.Torn torn journals histories) s first old it.flat on.host refl tt (filed_beside old.flat it.flat it.beside) it.reached,
-  )
   ran_alone (Some ran.OutOfMemory) on never = λ s first old.
       let it = on s old.flat old.talk old.stands.is.own.live old.stands.disks old.stands.reached in
       all_shown served.OutOfMemory s first old it.flat now.host refl refl (filed_beside old.flat it.flat it.beside) it.reached
@@ -125,7 +119,6 @@ alone_cause (Some ran.Closed) old new listener fault = tt
 alone_cause (Some ran.Off) old new listener fault = tt
 alone_cause (Some ran.TraceFailed) old new listener fault = fault
 alone_cause (Some ran.SinkFailed) old new listener fault = fault
-alone_cause (Some (ran.Torn torn journals histories)) old new listener fault = tt
 alone_cause (Some ran.OutOfMemory) old new listener fault = tt
 
 -- the trace or the listener failed, or there was no memory, before anything happened
@@ -171,7 +164,6 @@ module _ (a b c : Place) (first : Serves served.Ended a b) where
   serves_on served.Ended more = λ s before old. more s before (first s before old)
   serves_on served.Off more = λ s before old. more s before (first s before old)
   serves_on (served.Fault name) more = λ s before old. more s before (first s before old)
-  serves_on (served.Torn torn journals histories) more = (more.0, λ s before old. more.1 s before (first s before old))
   serves_on served.OutOfMemory more = λ s before old. more s before (first s before old)
 
   pub goes_on : (it : Option End) → Goes it b c → Goes it a c
@@ -179,7 +171,6 @@ module _ (a b c : Place) (first : Serves served.Ended a b) where
   goes_on (Some served.Ended) more = (serves_on served.Ended more.0, more.1)
   goes_on (Some served.Off) more = serves_on served.Off more
   goes_on (Some (served.Fault name)) more = serves_on (served.Fault name) more
-  goes_on (Some (served.Torn torn journals histories)) more = serves_on (served.Torn torn journals histories) more
   goes_on (Some served.OutOfMemory) more = serves_on served.OutOfMemory more
 
 module _ (a b c : Hosts) (x y z : Health) (hosts : AllLast a b) (listener : Lasts x y) where
@@ -194,7 +185,6 @@ module _ (a b c : Hosts) (x y z : Health) (hosts : AllLast a b) (listener : Last
   end_cause_on (served.Fault object.Source) cause = absurd cause
   end_cause_on (served.Fault object.Files) cause = absurd cause
   end_cause_on (served.Fault object.Words) cause = absurd cause
-  end_cause_on (served.Torn torn journals histories) cause = tt
   end_cause_on served.OutOfMemory cause = tt
 
 -- ---- a listener that gave nothing
@@ -220,7 +210,6 @@ cause_unheard (Some (served.Fault object.Listener)) a b x y lasts cause = rose_s
 cause_unheard (Some (served.Fault object.Source)) a b x y lasts cause = absurd cause
 cause_unheard (Some (served.Fault object.Files)) a b x y lasts cause = absurd cause
 cause_unheard (Some (served.Fault object.Words)) a b x y lasts cause = absurd cause
-cause_unheard (Some (served.Torn torn journals histories)) a b x y lasts cause = tt
 cause_unheard (Some served.OutOfMemory) a b x y lasts cause = tt
 
 -- ---- the end of one connection
@@ -229,7 +218,6 @@ pub goes_by : (end : End) (a b : Place) → Serves end a b → Goes (going end) 
 goes_by served.Ended a b serves = serves
 goes_by served.Off a b serves = serves
 goes_by (served.Fault name) a b serves = serves
-goes_by (served.Torn torn journals histories) a b serves = serves
 goes_by served.OutOfMemory a b serves = serves
 
 -- which names what it named
@@ -237,7 +225,6 @@ pub cause_by : (end : End) (a b : Hosts) (x y : Health) → EndCause end a b x y
 cause_by served.Ended a b x y cause = tt
 cause_by served.Off a b x y cause = cause
 cause_by (served.Fault name) a b x y cause = cause
-cause_by (served.Torn torn journals histories) a b x y cause = cause
 cause_by served.OutOfMemory a b x y cause = cause
 
 -- ---- what was accepted

@@ -189,8 +189,6 @@ module _ (monitor opened : Monitor) (trace told : TraceKnown) (sink : SinkKnown)
       ended_off s first monitor opened trace told sink host files bytes listener is_told opens new old fresh conn is_fresh now_monitor now left back
       ends
   one_served (served.Fault name) ends cause = by_fault name ends
-  one_served (served.Torn torn journals histories) ends cause =
-      (ends.0, broken (served.Torn torn journals histories) ends.1)
   one_served served.OutOfMemory ends cause = broken served.OutOfMemory ends
 
 -- what was told whole was told in part

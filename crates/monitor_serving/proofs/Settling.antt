@@ -41,8 +41,6 @@ fault_cause ran.Closed end old new is fault = cc
 fault_cause ran.Off end old new is fault = cc
 fault_cause ran.TraceFailed end old new is fault = subst (λ (o : Option Served). IfSome o (λ e. ServedCause e old new)) is fault
 fault_cause ran.SinkFailed end old new is fault = subst (λ (o : Option Served). IfSome o (λ e. ServedCause e old new)) is fault
-fault_cause (ran.Torn torn journals histories) end old new is fault =
-    subst (λ (o : Option Served). IfSome o (λ e. ServedCause e old new)) is tt
 fault_cause ran.OutOfMemory end old new is fault = subst (λ (o : Option Served). IfSome o (λ e. ServedCause e old new)) is tt
 
 -- and so is that of an answer, behind slices that went on
@@ -57,7 +55,6 @@ answer_cause (served.Fault object.Files) old new mid lasts cause = absurd cause
 answer_cause (served.Fault object.Listener) old new mid lasts cause = absurd cause
 answer_cause (served.Fault object.Words) old new mid lasts cause = absurd cause
 answer_cause served.Off old new mid lasts cause = tt
-answer_cause (served.Torn torn journals histories) old new mid lasts cause = tt
 answer_cause served.OutOfMemory old new mid lasts cause = tt
 
 pub settled_cause : (end : Option Served) (old new : View) (mid : Health) → Lasts old.hosts.slices.trace.health mid

@@ -76,7 +76,6 @@ module _ (monitor : Monitor) (machine : LiveMachine) (old new : Hosts) (conn : C
       went_on s m talk stands.is k.0
   slices_on ran.TraceFailed on none = cc
   slices_on ran.SinkFailed on none = cc
-  slices_on (ran.Torn torn journals histories) on none = cc
   slices_on ran.OutOfMemory on none = cc
 
 -- ---- slices that broke off, beside which something may have come
@@ -161,13 +160,6 @@ module _ (monitor now : Monitor) (machine : LiveMachine) (old new : Hosts) (conn
       (λ s m talk stands.
       let a = on s m talk stands.is.own.live stands.disks stands.reached in
       broke_at (served.Fault object.Sink) s talk a.1.flat new.slices.host a.0 tt refl (beside m a.1.flat stands.is.files a.1.beside) a.1.reached)
-  slices_broke (ran.Torn torn journals histories) end on is =
-      subst (λ (o : Option Served). served_as o) is (
-        (on.world, on.slice),
-        (λ s m talk stands.
-            let k = on.kept s m talk stands.is.own.live stands.disks stands.reached in
-            all_shown (served.Torn torn journals histories) s talk k.flat on.host refl tt (beside m k.flat stands.is.files k.beside) k.reached),
-      )
   slices_broke ran.OutOfMemory end on is =
       subst (λ (o : Option Served). served_as o) is
       (λ s m talk stands.

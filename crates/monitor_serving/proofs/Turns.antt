@@ -121,7 +121,6 @@ module _ (a b c : View) (on : GoesOn a b) (conn_lasts : Lasts a.conn.health b.co
       let w = on s m talk stands in
       let e = more s w.flat (talk ++ w.heard) w.stands in (went_on s a b c talk w [] e.0, e.1)
   served_on (served.Fault name) more = by_fault name more
-  served_on (served.Torn torn journals histories) more = (more.0, breaks_on (served.Torn torn journals histories) more.1)
   served_on served.OutOfMemory more = breaks_on served.OutOfMemory more
 
   pub turned_on : (end : Option Served) → TurnedAs end b c → TurnedAs end a c
@@ -145,7 +144,6 @@ module _ (a b c : View) (known : AllLast a.hosts b.hosts) (conn : Lasts a.conn.h
   cause_on (served.Fault object.Files) cause = absurd cause
   cause_on (served.Fault object.Listener) cause = absurd cause
   cause_on (served.Fault object.Words) cause = absurd cause
-  cause_on (served.Torn torn journals histories) cause = tt
   cause_on served.OutOfMemory cause = tt
 
   pub turned_cause_on : (end : Option Served) → TurnedCause end b c → TurnedCause end a c

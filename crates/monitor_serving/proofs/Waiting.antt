@@ -73,7 +73,6 @@ answer_since (served.Fault object.Files) monitor trace traced old mid new lasts 
 answer_since (served.Fault object.Listener) monitor trace traced old mid new lasts cause = cause
 answer_since (served.Fault object.Words) monitor trace traced old mid new lasts cause = cause
 answer_since served.Off monitor trace traced old mid new lasts cause = tt
-answer_since (served.Torn torn journals histories) monitor trace traced old mid new lasts cause = tt
 answer_since served.OutOfMemory monitor trace traced old mid new lasts cause = tt
 
 -- by which end it is

@@ -13,7 +13,7 @@ use Rattle.monitor_running.specs.Objects.{TurnKnown}
 use Rattle.monitor_running.specs.Reached.{Reached, Start, told_at}
 use Rattle.monitor_serving.specs.declared.served.Served.{Served as End}
 use Rattle.monitor_serving.specs.declared.served.Served.TheVariants as served
-use Rattle.monitor_serving.specs.Turns.{AskedBehind, IsTorn, MayLack}
+use Rattle.monitor_serving.specs.Turns.{AskedBehind, MayLack}
 use Rattle.monitor_serving.specs.Views.{AreHeard, HasClosed, Hosts, Stands, hosts_of, seen_with}
 
 -- A connection that was given back, as the last of what was said: it gave the bytes that were heard, and behind them the unsaid
@@ -117,10 +117,6 @@ pub record BrokeOff (end : End) (s : Start) (first : ListenerKnown) (now : Place
 abbrev pub Serves : End → Place → Place → Type 0
 Serves served.Ended old new = (s : Start) (first : ListenerKnown) → HasServed s first old → HasServed s first new
 Serves served.Off old new = (s : Start) (first : ListenerKnown) → HasServed s first old → HasGone s first new
-Serves (served.Torn torn journals histories) old new =
-    IsTorn torn journals.items histories.items
-    × ((s : Start) (first : ListenerKnown) → HasServed s first old
-    → BrokeOff (served.Torn torn journals histories) s first new)
 Serves end old new = (s : Start) (first : ListenerKnown) → HasServed s first old → BrokeOff end s first new
 
 -- a fault that is named rose in this call; why serving ended otherwise is not said here

@@ -12,7 +12,6 @@ end_of ran.Closed = None
 end_of ran.Off = None
 end_of ran.TraceFailed = Some (served.Fault object.Trace)
 end_of ran.SinkFailed = Some (served.Fault object.Sink)
-end_of (ran.Torn torn journals histories) = Some (served.Torn torn journals histories)
 end_of ran.OutOfMemory = Some served.OutOfMemory
 
 -- and while nobody is connected: there the guest being off is one

@@ -3,13 +3,8 @@
 use Rattle.std.specs.Prelude.{ℕ, ◌≡◌, ◌⊎◌, true, List, [], ◌++◌, Option, Some, None}
 use Rattle.vm_types.specs.Causes.{Rose}
 use Rattle.vm_types.specs.declared.exit.Object.TheVariants as object
-use Rattle.vm_types.specs.declared.torn.Torn.{Torn}
 use Rattle.vm_outside.specs.Known.{Health}
 use Rattle.monitor_running.specs.Asked.{HostKnown}
-use Rattle.stamp_merge.specs.declared.history.History.{History}
-use Rattle.stamp_merge.specs.declared.journal.Journal.{Journal}
-use Rattle.vm_world.specs.Worlds.{WorldValue}
-use Rattle.slice_runner.specs.Slices.{IsTornSlice}
 use Rattle.flat_machine.specs.Machine.{AreFilesOf, Machine, is_off}
 use Rattle.flat_trace.specs.Showing.{Out}
 use Rattle.monitor_running.specs.Reached.{LeadsAhead, Reached, Start, told_at}
@@ -31,11 +26,10 @@ abbrev pub MayLack : Served → List ℕ → Type 0
 MayLack (served.Fault object.Sink) unshown = Unit {0}
 MayLack end unshown = unshown ≡ []
 
--- What the clock and the disks were asked since the trace's end. By a trace that failed: in events that it lacks. In a slice that is
--- torn: anything. Else nothing.
+-- What the clock and the disks were asked since the trace's end. By a trace that failed: in events that it lacks. Else
+-- nothing.
 abbrev pub AskedBehind : Served → Health → Machine → HostKnown → HostKnown → Type 0
 AskedBehind (served.Fault object.Trace) start at told now = (flat : Machine) × LeadsAhead start at told flat now
-AskedBehind (served.Torn torn journals histories) start at told now = Unit {0}
 AskedBehind end start at told now = now ≡ told
 
 -- Serving broke off. What the trace took leads to some machine, whose files are there, and the answers in it to this of the clock and
@@ -75,10 +69,6 @@ abbrev pub BreaksOff : Served → View → View → Type 0
 BreaksOff end old new =
     (s : Start) (m : Machine) (talk : List Out) → Stands s old.monitor old.hosts m talk → Broke end s old new talk
 
--- the slice whose journals and histories part
-abbrev pub IsTorn : Torn → List Journal → List History → Type 0
-IsTorn torn journals histories = (world : WorldValue) × IsTornSlice world torn journals histories
-
 -- what an end leaves; serving a connection ends by no fault of another object
 abbrev pub ServedAs : Served → View → View → Type 0
 ServedAs served.Ended old new = EndsConnection old new
@@ -86,8 +76,6 @@ ServedAs served.Off old new = GoesOff old new
 ServedAs (served.Fault object.Trace) old new = BreaksOff (served.Fault object.Trace) old new
 ServedAs (served.Fault object.Sink) old new = BreaksOff (served.Fault object.Sink) old new
 ServedAs (served.Fault other) old new = ⊥
-ServedAs (served.Torn torn journals histories) old new =
-    IsTorn torn journals.items histories.items × BreaksOff (served.Torn torn journals histories) old new
 ServedAs served.OutOfMemory old new = BreaksOff served.OutOfMemory old new
 
 -- a turn: it goes on, or has come to an end

@@ -3,8 +3,7 @@ ghost use Rattle.std.specs.Prelude.{◌≡◌};
 ghost use Rattle.monitor_serving.specs.Ends.{alone_end, end_of};
 
 use monitor_running::Ran;
-use stamp_merge::{History, Journal};
-use vm_types::{Object, Torn};
+use vm_types::Object;
 
 /// How a connection ends, or all of serving.
 #[derive(Drop)]
@@ -16,12 +15,6 @@ pub enum Served {
     Off,
     /// A call of this object failed.
     Fault(Object),
-    /// The journals and the histories of a slice part, here. They are handed out, and the guest is lost.
-    Torn {
-        torn: Torn,
-        journals: Vec<Journal>,
-        histories: Vec<History>,
-    },
     /// There was no memory.
     OutOfMemory,
 }
@@ -35,15 +28,6 @@ pub(crate) fn end_of(ran: Ran) -> Option<Served>
         Ran::Closed | Ran::Off => None,
         Ran::TraceFailed => Some(Served::Fault(Object::Trace)),
         Ran::SinkFailed => Some(Served::Fault(Object::Sink)),
-        Ran::Torn {
-            torn,
-            journals,
-            histories,
-        } => Some(Served::Torn {
-            torn,
-            journals,
-            histories,
-        }),
         Ran::OutOfMemory => Some(Served::OutOfMemory),
     }
 }

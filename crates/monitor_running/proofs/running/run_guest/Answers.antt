@@ -1,4 +1,5 @@
 use Rattle.std.proofs.Common.{refl, None, Some}
+use Rattle.monitor_running.specs.declared.ran.Ran.TheVariants as ran
 use Rattle.monitor_running.specs.Ran.{IsRunning}
 use Rattle.monitor_running.proofs.Joins.{host_same}
 use Rattle.monitor_running.proofs.Lent.{by_clock}
@@ -7,20 +8,20 @@ use Rattle.monitor_running.proofs.Told.{slice_gone, went_failed, went_told, went
 use Rattle.monitor_running.proofs.Staying.{failed_ready, stays_drained, stays_ran, stays_serial, stays_then}
 use Rattle.monitor_running.proofs.running.run_guest.Goals as goal
 
+pub returns-in_default-clause-went : goal.returns-in_default-clause-went
+returns-in_default-clause-went g c =
+    let all = g.W.TurnObjects.known in
+    let failed = c.in_default.ensures.failed in
+    by_clock IsRunning (Some ran.OutOfMemory) (all c.args.with.now) (all c.slice_by.new.with) (all c.slice_by.new.with) _ _ _ _ refl
+    c.slice_by.ensures.beside (went_failed _ _ _ _ _ _ refl failed.0 failed.1)
+
 pub returns-in-Err-clause-went : goal.returns-in-Err-clause-went
 returns-in-Err-clause-went g c =
     let all = g.W.TurnObjects.known in
-    by_clock IsRunning (Some c.slice_end.result) (all c.args.with.now) (all c.slice_by.new.with) (all c.slice_by.new.with) _ _ _ _ refl
-    c.slice_by.ensures.beside
-    (went_failed c.slice_end.result c.in-Err.why _ _ _ _ _ _ _ _ c.slice_end.ensures refl c.in-Err.ensures.failed)
-
-pub returns-in-Err-tell_slice-clause-went : goal.returns-in-Err-tell_slice-clause-went
-returns-in-Err-tell_slice-clause-went g c =
-    let all = g.W.TurnObjects.known in
-    let told = c.in-Err-tell_slice.ensures in
+    let told = c.in-Err.ensures in
     by_clock IsRunning (Some c.end_by.result) (all c.args.with.now) (all c.slice_by.new.with) (all c.tell_slice.new.with) _ _ _ _ told.beside
     c.slice_by.ensures.beside
-    (went_untold c.end_by.result c.in-Err-tell_slice.why _ _ _ _ _ _ _ _ _ c.in-Ok.slice.events.items _ c.end_by.ensures
+    (went_untold c.end_by.result c.in-Err.why _ _ _ _ _ _ _ _ _ c.in-Ok.slice.events.items _ c.end_by.ensures
     c.as_slice.ensures.value
     (slice_gone _ _ _ _ _ c.in-Ok.ensures.serial c.in-Ok.ensures.actors c.in-Ok.ensures.clock refl)
     told.told told.trace_cause told.sink_cause told.trace_lasts told.trace_stays told.sink_lasts)
@@ -28,7 +29,7 @@ returns-in-Err-tell_slice-clause-went g c =
 pub returns-clause-went : goal.returns-clause-went
 returns-clause-went g c =
     let all = g.W.TurnObjects.known in
-    let told = c.in_default.ensures in
+    let told = c.in_default-tell_slice.ensures in
     by_clock IsRunning None (all c.args.with.now) (all c.slice_by.new.with) (all c.tell_slice.new.with) _ _ _ _ told.beside
     c.slice_by.ensures.beside
     (went_told _ _ _ _ _ _ _ _ _ _ c.in-Ok.slice.events.items _ c.as_slice.ensures.value

@@ -1,5 +1,4 @@
-use Rattle.std.proofs.Common.{ℕ, refl, [], None, Some}
-use Rattle.slice_runner.specs.declared.slice.SliceError.TheVariants as error
+use Rattle.std.proofs.Common.{refl, None, Some}
 use Rattle.monitor_running.specs.declared.ran.Ran.TheVariants as ran
 use Rattle.monitor_running.specs.Ran.{IsRunning}
 use Rattle.monitor_running.proofs.Joins.{host_same}
@@ -13,8 +12,7 @@ returns-in_default-clause-went g c =
     let all = g.W.TurnObjects.known in
     by_clock IsRunning (Some ran.OutOfMemory) (all c.args.with.now) (all c.pass_by.new.with) (all c.pass_by.new.with) _ _ _ _ refl
     c.pass_by.ensures.beside
-    (went_failed {Q = ℕ} ran.OutOfMemory error.OutOfMemory _ _ _ _ _ _ [] [] refl refl
-    (c.in_default.ensures.world, c.in_default.ensures.clock, refl))
+    (went_failed _ _ _ _ _ _ refl c.in_default.ensures.world c.in_default.ensures.clock)
 
 pub returns-in-Err-clause-went : goal.returns-in-Err-clause-went
 returns-in-Err-clause-went g c =
