@@ -3,8 +3,6 @@ use Rattle.std.proofs.Common.{◌≡◌, ◌⊎◌, ℕ, inl, inr, refl, sym, ap
 use Rattle.vm_types.specs.declared.exit.Exit.{Exit}
 use Rattle.vm_types.specs.declared.exit.Object.{Object}
 use Rattle.vm_types.specs.declared.exit.Object.TheVariants as object
-use Rattle.vm_types.specs.declared.torn.Torn.{Torn}
-use Rattle.vm_types.specs.declared.torn.Torn.TheVariants as torn
 use Rattle.vm_outside.specs.Known.{FilesKnown, Health, Tells}
 use Rattle.serve_host.specs.Drawing.{IsDrawn, WordsKnown}
 use Rattle.serve_host.specs.Listening.{ListenerKnown}
@@ -12,8 +10,6 @@ use Rattle.serve_host.specs.Tracing.{TraceKnown}
 use Rattle.script_text.specs.declared.item.Item.{Item}
 use Rattle.script_text.specs.declared.item.Item.TheVariants as item
 use Rattle.command_line.specs.Commands.{ServeWords}
-use Rattle.stamp_merge.specs.declared.history.History.{History}
-use Rattle.stamp_merge.specs.declared.journal.Journal.{Journal}
 use Rattle.flat_machine.specs.Machine.{Machine, new_machine}
 use Rattle.flat_machine.specs.Run.{Act}
 use Rattle.flat_trace.specs.Showing.{Out, shown}
@@ -23,11 +19,10 @@ use Rattle.monitor_running.specs.Asked.{HostKnown}
 use Rattle.monitor_running.specs.Reached.{Start, known}
 use Rattle.monitor_running.proofs.Joins.{none_ahead, none_asked, none_given}
 use Rattle.monitor_serving.specs.Connections.{AreToldInPart, BrokeOff, EndCause, Goes, HasGone, HasServed, Place, place}
-use Rattle.monitor_serving.specs.Turns.{IsTorn}
 use Rattle.monitor_serving.specs.Views.{Hosts, hosts}
 use Rattle.monitor_serving.specs.declared.served.Served.{Served}
 use Rattle.monitor_serving.specs.declared.served.Served.TheVariants as served
-use Rattle.firecracker_cli.specs.Serving.{AskedSince, Differ, HasBegun, HasParted, OpensPart, ServeKnown, ServedPart, closing_line, serve_known, took_before}
+use Rattle.firecracker_cli.specs.Serving.{AskedSince, HasBegun, OpensPart, ServeKnown, ServedPart, closing_line, serve_known, took_before}
 use Rattle.firecracker_cli.specs.SoFar.{AtPaths, BeginCause, CameToEnd, Cut, IsFinished, LeftBy, ServedSoFar, TakesLineage, exit_of, start_at, with_lineage, with_trace}
 use Rattle.firecracker_cli.proofs.Lineages.{all_acts, all_begun, all_outs, all_ran, all_took}
 
@@ -38,15 +33,6 @@ drawn_from left rest first took new old now same drawn = subst (λ (l : List Ite
 -- a path that stays the same from call to call
 pub same_path : (first opened drawn last : Option (List ℕ)) → last ≡ drawn → drawn ≡ opened → opened ≡ first → last ≡ first
 same_path first opened drawn last third second one = third ∙ second ∙ one
-
--- what a torn slice says
-differ_by : (it : Torn) (journals : List Journal) (histories : List History) → IsTorn it journals histories → Differ it
-differ_by (torn.Entry place index kept other) journals histories is = is.1.differ.3
-differ_by (torn.Place place kept) journals histories is = is.1.differ.0
-
-has_parted : (it : Torn) (journals : List Journal) (histories : List History) → IsTorn it journals histories → HasParted it
-has_parted it journals histories is =
-    record { differ = differ_by it journals histories is; journals = journals; histories = histories; slice = is }
 
 module _ (given : ServeWords) (before : ServeKnown) where
   abbrev start : Machine
@@ -240,11 +226,6 @@ module _ (given : ServeWords) (before : ServeKnown) where
           → Goes (Some end) old at_now → LeftBy (exit_of end) monitor given before known_now
       left_by served.Ended old a b h i has cause goes = served_to_end (goes.0 s first has) goes.1
       left_by served.Off old a b h i has cause goes = gone_to_end (goes s first has)
-      left_by (served.Torn it journals histories) old a b h i has cause goes = λ trace finished.
-          let broke = goes.1 s first has in (
-            has_parted it journals.items histories.items goes.0,
-            broke_off trace finished (served.Torn it journals histories) broke broke.shown tt,
-          )
       left_by served.OutOfMemory old a b h i has cause goes = λ trace finished.
           let broke = goes s first has in broke_off trace finished served.OutOfMemory broke broke.shown broke.behind
       left_by (served.Fault object.Trace) old a b h i has cause goes = λ trace finished.

@@ -58,9 +58,9 @@ still_told (Exit.Fault object.Words) before mid now lasts cause =
 still_told (Exit.Fault object.Source) before mid now lasts cause = absurd cause
 still_told (Exit.Fault object.Files) before mid now lasts cause = absurd cause
 still_told Exit.Done before mid now lasts cause = tt
+still_told (Exit.Torn torn) before mid now lasts cause = absurd cause
 still_told Exit.Usage before mid now lasts cause = absurd cause
 still_told (Exit.Script line) before mid now lasts cause = absurd cause
-still_told (Exit.Torn at) before mid now lasts cause = tt
 still_told Exit.OutOfMemory before mid now lasts cause = tt
 
 -- a fault with which serving ended
@@ -79,7 +79,6 @@ end_told (served.Fault object.Files) before old now lasts cause = absurd cause
 end_told (served.Fault object.Words) before old now lasts cause = absurd cause
 end_told served.Ended before old now lasts cause = tt
 end_told served.Off before old now lasts cause = tt
-end_told (served.Torn torn journals histories) before old now lasts cause = tt
 end_told served.OutOfMemory before old now lasts cause = tt
 
 fault_told : (o : Object) (before mid now : ServeKnown) → ServersLast before mid
@@ -110,8 +109,8 @@ close_told end exit result before old mid now same first cause served last (inr 
 -- where no count rose
 pub ends_well : (exit : Exit) (before now : ServeKnown) → ServeCause exit before now → NoneFailed before now → EndsWell exit
 ends_well Exit.Done before now cause kept = tt
-ends_well (Exit.Torn at) before now cause kept = tt
 ends_well Exit.OutOfMemory before now cause kept = tt
+ends_well (Exit.Torn torn) before now cause kept = absurd cause
 ends_well Exit.Usage before now cause kept = absurd cause
 ends_well (Exit.Script line) before now cause kept = absurd cause
 ends_well (Exit.Fault object.Trace) before now cause kept = absurd (kept.trace cause)

@@ -4,8 +4,6 @@ use Rattle.std.specs.Prelude.{ℕ, ◌≡◌, ◌≢◌, ◌⊎◌, ◌≤◌, t
 use Rattle.vm_types.specs.Causes.{Rose}
 use Rattle.vm_types.specs.declared.exit.Exit.{Exit}
 use Rattle.vm_types.specs.declared.exit.Object.TheVariants as object
-use Rattle.vm_types.specs.declared.torn.Torn.{Torn}
-use Rattle.vm_types.specs.declared.torn.Torn.TheVariants as torn
 use Rattle.vm_outside.specs.Known.{FilesKnown, Health, Lasts, SinkKnown, Tells}
 use Rattle.vm_host.specs.Storing.{DiskKnown}
 use Rattle.vm_host.specs.Telling.{ClockKnown}
@@ -13,8 +11,6 @@ use Rattle.serve_host.specs.Drawing.{IsDrawn, WordsKnown}
 use Rattle.serve_host.specs.Listening.{Ended, ListenerKnown}
 use Rattle.command_line.specs.Commands.{ServeWords}
 use Rattle.serve_host.specs.Tracing.{TraceKnown}
-use Rattle.stamp_merge.specs.declared.history.History.{History}
-use Rattle.stamp_merge.specs.declared.journal.Journal.{Journal}
 use Rattle.script_text.specs.declared.item.Item.{Item}
 use Rattle.script_text.specs.declared.item.Item.TheVariants as item
 use Rattle.script_output.specs.Output.{last_line, off_line}
@@ -26,7 +22,6 @@ use Rattle.monitor_running.specs.Asked.{HostAnswered, HostKnown}
 use Rattle.monitor_running.specs.Reached.{LeadsAhead, NoLineage}
 use Rattle.monitor_running.specs.Traced.{traced_known}
 use Rattle.monitor_serving.specs.Connections.{AreTold, AreToldInPart, AreToldOff, HaveCome}
-use Rattle.monitor_serving.specs.Turns.{IsTorn}
 use Rattle.monitor_serving.specs.Views.{AllTell, Hosts, hosts_of}
 use Rattle.firecracker_cli.specs.declared.outside.ServeOutside.{ServeOutside}
 
@@ -169,11 +164,10 @@ pub record HasNotBegun (it : ServeWords) (before now : ServeKnown) (acts : List 
   pub none : acts ≡ []
   pub opened : OpensPart it before.listener before.hosts.slices.trace now.listener now.hosts.slices.trace
 
--- what the clock and the disks were asked since the trace's end: by a trace that failed, in events that it lacks; in a slice that is
--- torn, anything; else nothing
+-- what the clock and the disks were asked since the trace's end: by a trace that failed, in events that it lacks; else
+-- nothing
 abbrev pub AskedSince : Exit → Health → Machine → HostKnown → HostKnown → Type 0
 AskedSince (Exit.Fault object.Trace) start at told now = (flat : Machine) × LeadsAhead start at told flat now
-AskedSince (Exit.Torn torn) start at told now = Unit {0}
 AskedSince exit start at told now = now ≡ told
 
 -- Serving broke off. What the trace took leads to some machine, whose files are there; if serving came so far, all is open that
@@ -195,25 +189,13 @@ pub record ServedPart (exit : Exit) (it : ServeWords) (before now : ServeKnown) 
   pub told : AreToldInPart (said outs) since
   pub files : AreFilesOf now.hosts.files at
 
--- the two values that it names differ
-abbrev pub Differ : Torn → Type 0
-Differ (torn.Entry place index kept other) = kept ≢ other
-Differ (torn.Place place kept) = kept ≢ place
-
--- and here journals and histories of a slice part
-pub record HasParted (torn : Torn) : Type 0 where
-  pub differ : Differ torn
-  pub journals : List Journal
-  pub histories : List History
-  pub slice : IsTorn torn journals histories
-
 abbrev pub ServedBy : Exit → ServeWords → ServeKnown → ServeKnown → Type 0
 ServedBy Exit.Done it before now = ServedAll it before now
+ServedBy (Exit.Torn torn) it before now = ⊥
 ServedBy Exit.Usage it before now = ⊥
 ServedBy (Exit.Script line) it before now = ⊥
 ServedBy (Exit.Fault object.Source) it before now = ⊥
 ServedBy (Exit.Fault object.Files) it before now = ⊥
-ServedBy (Exit.Torn torn) it before now = HasParted torn × ServedPart (Exit.Torn torn) it before now
 ServedBy exit it before now = ServedPart exit it before now
 
 -- a fault that is named rose in this call
@@ -226,20 +208,20 @@ ServeCause (Exit.Fault object.Words) before now = Rose before.words.health.fault
 ServeCause (Exit.Fault object.Listener) before now = Rose before.listener.health.faults now.listener.health.faults
 ServeCause (Exit.Fault other) before now = ⊥
 ServeCause (Exit.Script line) before now = ⊥
+ServeCause (Exit.Torn torn) before now = ⊥
 ServeCause Exit.Usage before now = ⊥
 ServeCause exit before now = Unit {0}
 
 -- it ends by no fault
 abbrev pub EndsWell : Exit → Type 0
 EndsWell Exit.Done = Unit {0}
-EndsWell (Exit.Torn at) = Unit {0}
 EndsWell Exit.OutOfMemory = Unit {0}
 EndsWell exit = ⊥
 
 -- What the command owes, from what was known of the host objects to what is known now.
 -- served: trace fidelity, where the objects tell their content.
 -- told: a fault is named only where that object's count rose in this call.
--- complete: where no count rose, it ends with Done, for want of memory, or with a torn slice.
+-- complete: where no count rose, it ends with Done, or for want of memory.
 -- lasts: what told its content still does, and no count has fallen.
 pub record Serves (exit : Exit) (it : ServeWords) (before now : ServeKnown) : Type 0 where
   pub served : ServersTell before → ServedBy exit it before now

@@ -22,7 +22,7 @@ use Rattle.monitor_serving.specs.Connections.{AreToldInPart, HaveCome}
 use Rattle.monitor_serving.specs.Views.{Stands, hosts}
 use Rattle.monitor_serving.specs.declared.served.Served.{Served}
 use Rattle.monitor_serving.specs.declared.served.Served.TheVariants as served
-use Rattle.firecracker_cli.specs.Serving.{AllTold, AskedSince, HasBegun, HasNotBegun, HasParted, IsKept, ServeKnown, ServedAll, ServedPart, TraceRan, serve_known, took_before, traced_at}
+use Rattle.firecracker_cli.specs.Serving.{AllTold, AskedSince, HasBegun, HasNotBegun, IsKept, ServeKnown, ServedAll, ServedPart, TraceRan, serve_known, took_before, traced_at}
 
 -- the machine has this lineage
 abbrev pub with_lineage : ℕ → Machine → Machine
@@ -76,12 +76,12 @@ pub record Cut (exit : Exit) (it : ServeWords) (before now : ServeKnown) : Type 
 -- a sink that failed is told nothing more
 abbrev pub ServedSoFar : Exit → ServeWords → ServeKnown → ServeKnown → Type 0
 ServedSoFar Exit.Done it before now = ServedAll it before now
+ServedSoFar (Exit.Torn torn) it before now = ⊥
 ServedSoFar Exit.Usage it before now = ⊥
 ServedSoFar (Exit.Script line) it before now = ⊥
 ServedSoFar (Exit.Fault object.Source) it before now = ⊥
 ServedSoFar (Exit.Fault object.Files) it before now = ⊥
 ServedSoFar (Exit.Fault object.Sink) it before now = ServedPart (Exit.Fault object.Sink) it before now
-ServedSoFar (Exit.Torn torn) it before now = HasParted torn × Cut (Exit.Torn torn) it before now
 ServedSoFar exit it before now = Cut exit it before now
 
 -- a trace that took nothing more was finished, unless a call on it failed
@@ -120,5 +120,4 @@ abbrev pub exit_of : Served → Exit
 exit_of served.Ended = Exit.Done
 exit_of served.Off = Exit.Done
 exit_of (served.Fault object) = Exit.Fault object
-exit_of (served.Torn torn journals histories) = Exit.Torn torn
 exit_of served.OutOfMemory = Exit.OutOfMemory

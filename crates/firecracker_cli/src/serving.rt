@@ -92,7 +92,6 @@ fn exit_of(served: &Served) -> Exit
     match served {
         Served::Ended | Served::Off => Exit::Done,
         Served::Fault(object) => Exit::Fault(*object),
-        Served::Torn { torn, .. } => Exit::Torn(*torn),
         Served::OutOfMemory => Exit::OutOfMemory,
     }
 }
@@ -194,9 +193,8 @@ fn run_serve<
 /// Serves a machine over connections to a socket, one after another, until none comes any more or its guest is off. It
 /// runs in slices of `steps` steps at most of each actor.
 ///
-/// `Fault`: a call on the trace, the sink, the words or the listener failed. `Torn`: the journals and the histories of
-/// a slice part. `OutOfMemory`: there was no memory. Files that fail are answered 500, and a connection that fails ends
-/// alone.
+/// `Fault`: a call on the trace, the sink, the words or the listener failed. `OutOfMemory`: there was no memory. Files that
+/// fail are answered 500, and a connection that fails ends alone.
 pub fn serve_main<
     D: Disk + Send,
     C: Clock + Send,

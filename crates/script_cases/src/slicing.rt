@@ -241,7 +241,6 @@ fn end_of(ran: &Ran) -> &'static str {
         Ran::Off => "off",
         Ran::TraceFailed => "the trace failed",
         Ran::SinkFailed => "the sink failed",
-        Ran::Torn { .. } => "torn",
         Ran::OutOfMemory => "no memory",
     }
 }
