@@ -1,5 +1,5 @@
 -- Where harts wait, and the events that are made there.
-use Rattle.std.specs.Prelude.{ℕ, zero, suc, ◌≡◌, ◌<◌, ◌≤◌, nat_eq, nat_lt, Bool, true, false, if◌then◌else◌, List, [], ◌∷◌, ◌++◌, Option, Some, None, length, map}
+use Rattle.std.specs.Prelude.{ℕ, zero, suc, ◌≡◌, ◌<◌, ◌≤◌, ◌-◌, ◌^◌, ◌⊎◌, nat_eq, nat_lt, Bool, true, false, if◌then◌else◌, List, [], ◌∷◌, ◌++◌, Option, Some, None, All, Any, length, map}
 use Rattle.vm_types.specs.declared.entry.Entry.{Entry}
 use Rattle.vm_types.specs.declared.ids.ActorId.{ActorId}
 use Rattle.vm_types.specs.declared.op.Op.{Op}
@@ -33,6 +33,11 @@ pub record IsAlone (alone : ℕ) (w : WorldValue) : Type 0 where
   pub there : alone < length w.harts
   pub busy : want_in w (ActorId.Hart alone) ≡ Some Op.Idle → ⊥
   pub others : OthersIdle alone w
+
+-- what is left from now on until the first of these moments that is not over, or no end where there is none
+pub record IsLeft (now : ℕ) (moments : List ℕ) (left : ℕ) : Type 0 where
+  pub least : All (λ m. now < m → left ≤ m - now) moments
+  pub one : (left ≡ 2 ^ 64 - 1) ⊎ Any (λ m. (now < m) × (left ≡ m - now)) moments
 
 -- an actor that takes turns: the timer, and each hart
 abbrev pub takes_turn : Guest → ActorId → Bool

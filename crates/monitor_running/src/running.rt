@@ -1,5 +1,5 @@
 // Turns of a machine until a gate is closed.
-ghost use Rattle.std.specs.Prelude.{◌≡◌, ◌≢◌, ◌⊎◌, ◌≤◌, ◌<◌, ◌+◌, true, length, All, IfOk, MatchBool, OnErr};
+ghost use Rattle.std.specs.Prelude.{◌≡◌, ◌≢◌, ◌⊎◌, ◌↔◌, ◌≤◌, ◌<◌, ◌+◌, true, length, All, IfOk, MatchBool, OnErr};
 ghost use Rattle.vm_host.specs.Telling as clocks;
 ghost use Rattle.flat_guest.specs.Guest.{Guest};
 ghost use Rattle.vm_world.specs.Worlds.{IsWorld};
@@ -45,7 +45,7 @@ const MOST_EVENTS_OF_ALL: u32 = 16_384;
 
 // Whether each actor of the world has a pass.
 fn has_passes(world: &World, passes: usize) -> bool
-    ensures { result ≡ true → (length world.now.harts ≤ 32) × (length world.now.harts + 1 ≤ passes) }
+    ensures { (result ≡ true) ↔ ((length world.now.harts ≤ 32) × (length world.now.harts + 1 ≤ passes)) }
 {
     let harts = world.hart_count();
     harts <= MOST_HARTS && harts < passes

@@ -4,6 +4,9 @@ ghost use Rattle.std.specs.Prelude.{
   ◌≡◌,
   ◌+◌,
   ◌≤◌,
+  ◌<◌,
+  ◌-◌,
+  ◌⊎◌,
   ◌↔◌,
   ◌≢◌,
   true,
@@ -25,7 +28,7 @@ ghost use Rattle.vm_world.specs.Worlds.{IsWorld, WorldValue, want_in};
 ghost use Rattle.monitor_running.specs.declared.ran.Ran.TheVariants as ran;
 ghost use Rattle.monitor_running.specs.Objects.{known_with, with_clock};
 ghost use Rattle.monitor_running.specs.Ran.{IsRunning, Went};
-ghost use Rattle.monitor_running.specs.Waiting.{AllIdle, HasGone, HasMade, IsQuiet, hart_turn, is_left_out, makers, takes_turn, turns};
+ghost use Rattle.monitor_running.specs.Waiting.{AllIdle, HasGone, HasMade, IsLeft, IsQuiet, hart_turn, is_left_out, makers, takes_turn, turns};
 ghost use Rattle.monitor_running.specs.Staying.{StaysReady};
 
 use crate::objects::TurnObjects;
@@ -74,16 +77,35 @@ pub fn is_quiet(machine: &LiveMachine) -> bool
     }
 }
 
-/// Guest time that is left until the next timer interrupt is due, in nanoseconds: of the moments that are not over, the
-/// first. Where there is none, it is without end.
-pub(crate) fn time_left(board: &Board) -> u64 {
+/// Guest time that is left until the next timer interrupt is due, in nanoseconds: until the first of the moments that are not
+/// over. Where there is none, it is without end.
+pub(crate) fn time_left(board: &Board) -> u64
+    ensures { IsLeft board.now.now board.now.deadlines result }
+{
+    left_of(board.now(), board.deadlines())
+}
+
+fn left_of(now: u64, moments: &[u64]) -> u64
+    ensures { IsLeft now moments.now result }
+{
     let mut left = u64::MAX;
-    for moment in board.deadlines() {
-        if *moment > board.now() {
-            left = left.min(*moment - board.now());
-        }
+    for moment in moments {
+        left = left_until(left, now, *moment);
     }
     left
+}
+
+// No more than is left until this moment, if it isn't over.
+fn left_until(left: u64, now: u64, moment: u64) -> u64
+    ensures least { now < moment → result ≤ moment - now }
+    ensures less { result ≤ left }
+    ensures one { (result ≡ left) ⊎ ((now < moment) × (result ≡ moment - now)) }
+{
+    if moment > now {
+        left.min(moment - now)
+    } else {
+        left
+    }
 }
 
 // The next event of an actor, which is given the clock's answer where it asks for that.
