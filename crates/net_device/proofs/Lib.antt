@@ -1,4 +1,5 @@
 pub mod Net
 pub mod Passing
 pub mod Pieces
+pub mod Resuming
 pub mod Working

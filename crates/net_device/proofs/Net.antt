@@ -46,14 +46,14 @@ module _ (port pages : ℕ) where
   with_keeps None more each = tt
   with_keeps (Some piece) more each = each piece
 
-  taking_keeps : (left size index : ℕ) (bytes : List ℕ) → Keeps P (Any {A = Option (List ℕ)}) (taking left size index bytes)
+  pub taking_keeps : (left size index : ℕ) (bytes : List ℕ) → Keeps P (Any {A = Option (List ℕ)}) (taking left size index bytes)
   taking_keeps zero size index bytes = tt
   taking_keeps (suc left) size index bytes = (
     (tt, inr (refl, refl)),
     λ reply fit. with_keeps (piece_of reply) _ (λ piece. taking_keeps left size (suc index) _),
   )
 
-  came : (e : Net) (text : Option (List ℕ)) → ActingKeeps P (λ (something : Bool). Unit {0}) (received e text)
+  pub came : (e : Net) (text : Option (List ℕ)) → ActingKeeps P (λ (something : Bool). Unit {0}) (received e text)
   came e None = tt
   came e (Some text) = tt
 
@@ -65,7 +65,7 @@ module _ (port pages : ℕ) where
 
   -- ---- to the link
 
-  piece_keeps : (piece : List ℕ) (rest : Doing (Unit {0})) → Keeps P (Any {A = Unit {0}}) rest
+  pub piece_keeps : (piece : List ℕ) (rest : Doing (Unit {0})) → Keeps P (Any {A = Unit {0}}) rest
       → Keeps P (Any {A = Unit {0}}) (piece_sent piece rest)
   piece_keeps [] rest keeps = keeps
   piece_keeps (b ∷ bytes) rest keeps = (
@@ -76,7 +76,7 @@ module _ (port pages : ℕ) where
   some : (n : ℕ) → (n == 0) ≡ false → 0 < n
   some n off = grind arith
 
-  sending_keeps : (most skip : ℕ) (parts : List Part) → pages < 2 ^ 32 → AreInside pages parts
+  pub sending_keeps : (most skip : ℕ) (parts : List Part) → pages < 2 ^ 32 → AreInside pages parts
       → Keeps P (Any {A = Unit {0}}) (sending most skip parts)
   sending_keeps zero skip parts few inside = tt
   sending_keeps (suc most) skip parts few inside =
@@ -90,7 +90,7 @@ module _ (port pages : ℕ) where
 
   -- ---- chains
 
-  writes : (at : ℕ) (piece : List ℕ) → IsAskedBy true is_link_call port (Write at piece)
+  pub writes : (at : ℕ) (piece : List ℕ) → IsAskedBy true is_link_call port (Write at piece)
   writes at piece = inr (tt, tt)
 
   serve : (k : Which) (c : Chain) (e : Net) → pages < 2 ^ 32 → IsChain net pages k c

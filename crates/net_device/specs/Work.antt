@@ -11,12 +11,15 @@ use Rattle.rate_gate.specs.Gate.{Buckets}
 use Rattle.queue_device.specs.declared.lanes.Which.TheVariants.{First, Second}
 use Rattle.queue_device.specs.declared.phase.Work.{Work}
 use Rattle.queue_device.specs.declared.phase.Work.TheVariants as work
+use Rattle.device_trace.specs.Script.{Script}
 use Rattle.queue_device.specs.Acting.{Acting, Comes, performing}
 use Rattle.queue_device.specs.Left.{Hand}
+use Rattle.queue_device.specs.Resuming.{HasKept}
+use Rattle.queue_device.specs.Service.{Queued}
 use Rattle.net_device.specs.declared.kind.Stage.{Stage}
 use Rattle.net_device.specs.declared.kind.Stage.TheVariants as stage
 use Rattle.net_device.specs.Frames.{header_size, is_frame, piece_length, piece_sent, pieces, sending_all, taking}
-use Rattle.net_device.specs.Net.{Net, emptied, received}
+use Rattle.net_device.specs.Net.{Net, emptied, net, received}
 
 -- its bytes, its limits, and its work
 pub record Kept : Type 0 where
@@ -110,3 +113,7 @@ is_work w pages a = is_stage w pages a.stage a.bytes
 -- whatever data it has
 abbrev pub AnyNet : Net → Type 0
 AnyNet e = Unit {0}
+
+-- what is kept where this is left
+abbrev pub NetKept : ℕ → ℕ → Script (Queued Net) → Type 0
+NetKept port pages t = HasKept net hand_of is_work AnyNet true port pages t

@@ -10,4 +10,4 @@ mod law;
 mod text;
 
 pub use kind::{NetChange, NetKind};
-pub use law::{net_sequences, net_stays};
+pub use law::{net_goes_on, net_kept, net_sequences, net_stays};
