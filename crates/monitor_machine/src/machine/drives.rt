@@ -1,5 +1,5 @@
 // What a PATCH of a drive changes, and which file is whose disk.
-ghost use Rattle.std.specs.Prelude.{ℕ, ◌≡◌, ◌≢◌};
+ghost use Rattle.std.specs.Prelude.{ℕ, ◌≡◌, ◌≢◌, ◌<◌, ◌^◌};
 ghost use Rattle.vm_outside.specs.Known.{Tells};
 ghost use Rattle.vm_config.specs.declared.change.Change.TheVariants as change;
 ghost use Rattle.flat_machine.specs.Machine.{Machine};
@@ -29,9 +29,10 @@ fn attach_disk<D: Disk>(config: &TakenConfig, device: u8, disk: &mut D)
     }
 }
 
-// The device, if it is one, is told how many sectors its disk has.
+// The device, if it is one, is told how many sectors its disk has, which is a number of its width.
 fn tell_sectors(guest: &mut Option<World>, device: Option<u8>, sectors: u64)
-    ensures { Resizes device sectors guest.old guest.new }
+    ensures resizes { Resizes device sectors guest.old guest.new }
+    ensures fits { sectors < 2 ^ 64 }
 {
     let Some(device) = device else {
         return;
