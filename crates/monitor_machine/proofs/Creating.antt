@@ -157,6 +157,16 @@ module _ (script before now : List FileCall) (part : MakesFront script before no
 
 -- ---- its calls
 
+-- a Reset changes nothing of what is written of the memory
+head_reset : (parent : Option Identity) (identity : Identity) (pages : ℕ) (g : Guest)
+    → head_of parent identity pages (reset_guest g) ≡ head_of parent identity pages g
+head_reset None identity pages g = refl
+head_reset (Some parent) identity pages g = refl
+
+pages_reset : (parent : Option Identity) (pages : ℕ) (g : Guest) → saved_pages parent pages (reset_guest g) ≡ saved_pages parent pages g
+pages_reset None pages g = refl
+pages_reset (Some parent) pages g = refl
+
 -- the bytes of the pages that are written
 abbrev pub written_of : Creation → WorldValue → List ℕ
 written_of c w = selected (numbers_in c.numbers) (flat_of w.pages).bytes
@@ -172,14 +182,19 @@ module _ (c : Creation) (live : LiveMachine) (w : WorldValue) (known left : File
   abbrev parent : Option Identity
   parent = parent_in m due.it
 
-  pages_are : written_of c w ≡ saved_pages parent due.copy.pages due.guest
-  pages_are = ap (λ (k : Memory). selected (numbers_in c.numbers) k.bytes) here.memory_is ∙ due.pages_are
+  head_is : c.head ≡ head_of parent (next_identity m) due.copy.pages (reset_guest due.guest)
+  head_is = due.head_is ∙ sym (head_reset parent (next_identity m) due.copy.pages due.guest)
+
+  pages_are : written_of c w ≡ saved_pages parent due.copy.pages (reset_guest due.guest)
+  pages_are =
+      ap (λ (k : Memory). selected (numbers_in c.numbers) k.bytes) here.memory_is ∙ due.pages_are
+      ∙ sym (pages_reset parent due.copy.pages due.guest)
 
   -- what was written of the world is what is written of the guest
   calls_are : create_calls c.names.mem_file_path c.head (written_of c w) c.names.snapshot_path c.body
-      ≡ calls_of files.mem_file_path files.snapshot_path parent (next_identity m) due.copy due.guest
+      ≡ calls_of files.mem_file_path files.snapshot_path parent (next_identity m) due.copy (reset_guest due.guest)
   calls_are = λ i.
-      create_calls (due.names_is i).mem_file_path (due.head_is i) (pages_are i) (due.names_is i).snapshot_path (due.body_is i)
+      create_calls (due.names_is i).mem_file_path (head_is i) (pages_are i) (due.names_is i).snapshot_path (due.body_is i)
 
   abbrev end : Machine
   end = created m (reset_guest due.guest) files parent due.copy
@@ -211,7 +226,7 @@ module _ (c : Creation) (live : LiveMachine) (w : WorldValue) (known left : File
       };
       files = record {
         saved_is = wrote.saved ∙ (λ i. insert (insert (is.files.saved_is i) (due.names_is i).mem_file_path
-            (1 ∷ due.head_is i ++ pages_are i)) (due.names_is i).snapshot_path (1 ∷ due.body_is i));
+            (1 ∷ head_is i ++ pages_are i)) (due.names_is i).snapshot_path (1 ∷ due.body_is i));
         calls_is = wrote.calls ∙ (λ i. is.files.calls_is i ++ calls_are i);
       };
     },
