@@ -10,6 +10,7 @@ pub mod Lifts
 pub mod Lone
 pub mod Making
 pub mod Passing
+pub mod Resting
 pub mod Sound
 pub mod Staying
 pub mod Told

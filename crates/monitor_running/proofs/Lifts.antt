@@ -13,7 +13,7 @@ use Rattle.monitor_machine.specs.State.{IsGuestBy, IsLive, IsMachine}
 use Rattle.monitor_running.specs.declared.ran.Ran.{Ran}
 use Rattle.monitor_running.specs.declared.ran.Ran.TheVariants as ran
 use Rattle.monitor_running.specs.Asked.{HostKnown}
-use Rattle.monitor_running.specs.Ran.{HasFault, IsRunning, RanOn, Went}
+use Rattle.monitor_running.specs.Ran.{HasFault, IsOff, IsRunning, RanOn, Went}
 use Rattle.monitor_running.specs.Reached.{AreFiles, Keeps, KeepsAs, Kept, Known, Reached, Seen, Start, known, seen}
 use Rattle.flat_trace.specs.Showing.{Out}
 use Rattle.monitor_running.proofs.Attached.{files_rest}
@@ -223,6 +223,11 @@ pub off_is : (live : LiveMachine) (off answer : Bool) → answer ≡ off
     → (m : Machine) → IsLive live m → off ≡ is_off m
 off_is live off answer same says m is =
     sym same ∙ says (files_of m) m (record { own = is; files = record { saved_is = refl; calls_is = refl } })
+
+-- it is no machine whose guest is off
+pub never_off : {X : Type 0} (live : LiveMachine) (answer : Bool) → answer ≡ false
+    → ((known : FilesKnown) (m : Machine) → IsMachine live known m → answer ≡ is_off m) → IsOff live → X
+never_off live answer same says (m, is, off) = let on = off_is live false answer same says m is in absurd cc
 
 -- the guest is off, or on, and nothing is done
 pub went_off : (known_by : Known) (live : LiveMachine) (answer : Bool) → answer ≡ true

@@ -4,7 +4,9 @@ use Rattle.vm_types.specs.Causes.{Rose}
 use Rattle.vm_outside.specs.Known.{Lasts, Tells}
 use Rattle.serve_host.specs.Tracing.{TraceStays}
 use Rattle.flat_guest.specs.Guest.{Guest}
-use Rattle.flat_machine.specs.Machine.{Machine, running}
+use Rattle.flat_machine.specs.Machine.{Machine, is_off, running}
+use Rattle.monitor_machine.specs.declared.machine.LiveMachine.{LiveMachine}
+use Rattle.monitor_machine.specs.State.{IsLive}
 use Rattle.vm_world.specs.Worlds.{IsWorld, WorldValue}
 use Rattle.monitor_running.specs.declared.ran.Ran.{Ran}
 use Rattle.monitor_running.specs.declared.ran.Ran.TheVariants as ran
@@ -17,6 +19,10 @@ use Rattle.flat_trace.specs.Showing.{Out}
 -- the guest of the machine runs, and the world is it
 abbrev pub IsRunning : WorldValue → Machine → Type 0
 IsRunning w m = (g : Guest) × (running m ≡ Some g) × IsWorld w g
+
+-- it is a machine whose guest turned itself off
+abbrev pub IsOff : LiveMachine → Type 0
+IsOff live = (m : Machine) × IsLive live m × (is_off m ≡ true)
 
 -- by how slices ended, if they did
 abbrev pub RanOn : {B : Type 0} → (B → Machine → Type 0) → Option Ran → Seen → B → Seen → B → Type 0

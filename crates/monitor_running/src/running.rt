@@ -1,5 +1,5 @@
 // Turns of a machine until a gate is closed.
-ghost use Rattle.std.specs.Prelude.{◌≡◌, ◌≢◌, ◌⊎◌, ◌↔◌, ◌≤◌, ◌<◌, ◌+◌, true, length, All, IfOk, MatchBool, OnErr};
+ghost use Rattle.std.specs.Prelude.{◌≡◌, ◌≢◌, ◌⊎◌, ◌↔◌, ◌≤◌, ◌<◌, ◌+◌, true, length, All, IfOk, OnErr, Some};
 ghost use Rattle.vm_host.specs.Telling as clocks;
 ghost use Rattle.flat_guest.specs.Guest.{Guest};
 ghost use Rattle.vm_world.specs.Worlds.{IsWorld};
@@ -9,7 +9,7 @@ ghost use Rattle.monitor_machine.specs.State.{IsLive};
 ghost use Rattle.monitor_running.specs.Devices.{DiskWasAsked, IsDevices};
 ghost use Rattle.monitor_running.specs.declared.ran.Ran.TheVariants as ran;
 ghost use Rattle.monitor_running.specs.Passes.{ArePassed};
-ghost use Rattle.monitor_running.specs.Ran.{IsRunning, Went};
+ghost use Rattle.monitor_running.specs.Ran.{IsOff, IsRunning, Went};
 ghost use Rattle.monitor_running.specs.Objects.{known_with, with_clock, with_disk};
 ghost use Rattle.monitor_running.specs.Reached.{Known};
 ghost use Rattle.monitor_running.specs.Staying.{RanReady, StaysReady, is_torn};
@@ -327,6 +327,7 @@ pub fn run_once<
         (known_with (W.known with.old) (K.known sink.old)) machine.old
         (known_with (W.known with.new) (K.known sink.new)) machine.new }
     ensures passes { ArePassed (G.serves gate.now) G.tally result passes.old.items passes.new.items }
+    ensures off { IsOff machine.old → result ≡ Some ran.Off }
     ensures unclosed { result ≢ Some ran.Closed }
 {
     if machine.is_off() {
@@ -350,6 +351,7 @@ pub fn run_once<
 /// Why turns end at a closed gate: `Closed` where the guest is on, and `Off` where it is off.
 pub fn end_of_closed(machine: &LiveMachine) -> Ran
     ensures went { (k : Known) → Went IsLive (Some result) k machine.now k machine.now }
+    ensures off { IsOff machine.now → result ≡ ran.Off }
     ensures ends { (result ≡ ran.Closed) ⊎ (result ≡ ran.Off) }
 {
     if machine.is_off() {
@@ -382,6 +384,7 @@ pub fn run_while<
     ensures went { Went IsLive (Some result)
         (known_with (W.known with.old) (K.known sink.old)) machine.old
         (known_with (W.known with.new) (K.known sink.new)) machine.new }
+    ensures off { IsOff machine.old → result ≡ ran.Off }
     ensures passes { ArePassed (G.serves gate.now) G.tally (Some result) passes.old.items passes.new.items }
 {
     for _ in rt.forever() {

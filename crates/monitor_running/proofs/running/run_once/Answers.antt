@@ -1,7 +1,7 @@
 use Rattle.std.proofs.Common.{refl, sym, ◌∙◌, None}
 use Rattle.monitor_machine.specs.State.{IsLive}
 use Rattle.monitor_running.proofs.Disks.{rests_same}
-use Rattle.monitor_running.proofs.Lifts.{nothing_taken, slice_lifted, went_off, went_resting}
+use Rattle.monitor_running.proofs.Lifts.{never_off, nothing_taken, slice_lifted, went_off, went_resting}
 use Rattle.monitor_running.proofs.Lent.{by_clock}
 use Rattle.monitor_running.proofs.Staying.{put_back, went_torn}
 use Rattle.monitor_running.proofs.running.run_once.Goals as goal
@@ -34,3 +34,9 @@ pub returns-clause-went : goal.returns-clause-went
 returns-clause-went g c =
     slice_lifted c.args.machine.now c.take_running.new.self c.put_guest.new.self _ _ _ _ (sym c.in-Some.ensures.running)
     c.in-Some.ensures.left c.put_guest.ensures c.run_world-end.result c.run_world-end.ensures.went
+
+pub returns-in_default-clause-off : goal.returns-in_default-clause-off
+returns-in_default-clause-off g c = never_off c.args.machine.now c.is_off.result c.if-is_off.false c.is_off.ensures
+
+pub returns-clause-off : goal.returns-clause-off
+returns-clause-off g c = never_off c.args.machine.now c.is_off.result c.if-is_off.false c.is_off.ensures

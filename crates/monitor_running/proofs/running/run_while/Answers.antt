@@ -1,6 +1,7 @@
-use Rattle.std.proofs.Common.{None, Some, rules}
+use Rattle.std.proofs.Common.{None, Some, refl, rules, subst, sym}
 use Rattle.monitor_machine.specs.State.{IsLive}
 use Rattle.monitor_running.specs.declared.ran.Ran.TheVariants as ran
+use Rattle.monitor_running.specs.Ran.{IsOff}
 use Rattle.monitor_running.proofs.Lifts.{went_nowhere, went_on}
 use Rattle.monitor_running.proofs.Passing.{passed_closed, passed_none, passed_on}
 use Rattle.monitor_running.proofs.running.run_while.Goals as goal
@@ -10,6 +11,7 @@ loop-init g c = record {
   can = search rules;
   finite = search rules;
   went = went_nowhere IsLive _ _;
+  off = λ off. refl;
   passes = passed_none _ _ _ c.requires.serve;
 }
 
@@ -22,6 +24,14 @@ returns-then-not-is_open-clause-passes g c =
     passed_closed _ _ c.end_of_closed.result _ _
     (passed_on _ _ (Some ran.Closed) _ c.loop.passes.items _ c.requires.some c.loop.invariant.passes c.if-not-is_open.ensures)
 
+pub returns-then-not-is_open-clause-off : goal.returns-then-not-is_open-clause-off
+returns-then-not-is_open-clause-off g c = λ off.
+    c.end_of_closed.ensures.off (subst IsOff (sym (c.loop.invariant.off off)) off)
+
+pub returns-in-Some-run_once-clause-off : goal.returns-in-Some-run_once-clause-off
+returns-in-Some-run_once-clause-off g c = λ off.
+    let ended = c.in-Some-run_once.ensures.off (subst IsOff (sym (c.loop.invariant.off off)) off) in cc
+
 pub returns-in-Some-run_once-clause-went : goal.returns-in-Some-run_once-clause-went
 returns-in-Some-run_once-clause-went g c =
     went_on IsLive (Some c.in-Some-run_once.end) _ _ _ _ _ _ c.loop.invariant.went c.in-Some-run_once.ensures.went
@@ -31,6 +41,7 @@ loop-preserved g c = record {
   can = search rules;
   finite = search rules;
   went = went_on IsLive None _ _ _ _ _ _ c.loop.invariant.went c.in_default.ensures.went;
+  off = λ off. let ended = c.in_default.ensures.off (subst IsOff (sym (c.loop.invariant.off off)) off) in absurd cc;
   passes =
       passed_on _ _ None _ c.is_open.new.passes.items _ c.requires.some
       (passed_on _ _ None _ c.loop.passes.items _ c.requires.some c.loop.invariant.passes c.if-not-is_open.ensures)

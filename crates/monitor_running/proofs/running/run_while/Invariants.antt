@@ -1,8 +1,8 @@
-use Rattle.std.proofs.Common.{None}
+use Rattle.std.proofs.Common.{◌≡◌, None}
 use Rattle.monitor_machine.specs.State.{IsLive}
 use Rattle.monitor_running.specs.Objects.{known_with}
 use Rattle.monitor_running.specs.Passes.{ArePassed}
-use Rattle.monitor_running.specs.Ran.{Went}
+use Rattle.monitor_running.specs.Ran.{IsOff, Went}
 use Rattle.monitor_running.proofs.running.run_while.Given as goal
 
 abbrev pub invariant-loop : goal.invariant-loop
@@ -15,5 +15,6 @@ invariant-loop g l =
       finite : (goal.iterator-loop g).is_finite l.iterator';
       went : Went IsLive None (known_with (W.known l.fn.with) (K.known l.fn.sink)) l.fn.machine
           (known_with (W.known l.with) (K.known l.sink)) l.machine;
+      off : IsOff l.fn.machine → l.machine ≡ l.fn.machine;
       passes : ArePassed (G.serves l.gate) G.tally None l.fn.passes.items l.passes.items;
     }
