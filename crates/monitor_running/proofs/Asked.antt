@@ -6,7 +6,7 @@ use Rattle.vm_types.specs.declared.entry.Entry.{Entry}
 use Rattle.vm_types.specs.declared.entry.Step.{Step}
 use Rattle.vm_types.specs.declared.op.Op.{Op}
 use Rattle.vm_types.specs.declared.op.OutOp.{OutOp}
-use Rattle.vm_types.specs.declared.op.OutOp.TheVariants.{Clock, DiskFlush, DiskRead, DiskWrite}
+use Rattle.vm_types.specs.declared.op.OutOp.TheVariants.{Clock}
 use Rattle.vm_types.specs.declared.reply.Reply.{Reply}
 use Rattle.vm_types.specs.Fits.{out_fits}
 use Rattle.vm_types.specs.Ids.{of_actor, same_actor}

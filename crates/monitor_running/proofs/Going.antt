@@ -1,5 +1,5 @@
 -- One event more.
-use Rattle.std.proofs.Common.{◌≡◌, ℕ, Bool, true, false, cond, refl, sym, ap, ◌∙◌, subst, List, [], ◌∷◌, ◌++◌, Option, Some, None}
+use Rattle.std.proofs.Common.{◌≡◌, ℕ, Bool, true, false, cond, refl, sym, ap, ◌∙◌, subst, List, [], ◌∷◌, ◌++◌, Option, None}
 use Rattle.vm_types.specs.declared.ids.ActorId.{ActorId}
 use Rattle.vm_types.specs.declared.ids.PlaceId.{PlaceId}
 use Rattle.vm_types.specs.declared.entry.Entry.{Entry}

@@ -1,5 +1,5 @@
 -- One part of what turns are given is another, and then the trace is.
-use Rattle.std.proofs.Common.{◌≡◌, refl, sym, ap, subst, Option}
+use Rattle.std.proofs.Common.{◌≡◌, sym, ap, subst, Option}
 use Rattle.vm_host.specs.Storing.{DiskKnown}
 use Rattle.vm_host.specs.Telling.{ClockKnown}
 use Rattle.vm_outside.specs.Known.{SinkKnown}

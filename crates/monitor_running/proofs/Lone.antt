@@ -1,5 +1,5 @@
 -- Events of one hart alone, and how they are told.
-use Rattle.std.proofs.Common.{◌≡◌, ◌≤◌, ◌<◌, ◌+◌, ℕ, zero, suc, min, nat_eq, eqb→eq, T, Bool, true, false, Some, arith, refl, sym, ap, ◌∙◌, subst, List, [], ◌∷◌, ◌++◌, replicate, length, ◌⊎◌, inl, inr}
+use Rattle.std.proofs.Common.{◌≡◌, ◌<◌, ◌+◌, ℕ, zero, suc, min, nat_eq, eqb→eq, T, Bool, true, false, Some, arith, refl, sym, ap, ◌∙◌, subst, List, [], ◌∷◌, ◌++◌, replicate, length, ◌⊎◌, inl, inr}
 use Rattle.std.specs.List.{AllByRecursion}
 use lib.Dec.{eqb_refl}
 use lib.ListN.{replicate-append-replicate}

@@ -1,5 +1,5 @@
 -- A ready machine stays so by its events and by a drain.
-use Rattle.std.proofs.Common.{◌≡◌, ◌⊎◌, ℕ, Bool, true, false, inl, inr, refl, sym, ap, subst, ◌∙◌, List, [], ◌∷◌, Option, Some, None}
+use Rattle.std.proofs.Common.{◌≡◌, ℕ, Bool, true, false, inl, inr, refl, sym, ap, subst, ◌∙◌, List, [], ◌∷◌, Option, Some}
 use Rattle.vm_types.specs.declared.entry.Entry.{Entry}
 use Rattle.flat_guest.specs.Guest.{Guest}
 use Rattle.flat_machine.specs.Machine.{Machine}
@@ -7,25 +7,15 @@ use Rattle.flat_machine.specs.Ready.{IsReadyGuest, Ready}
 use Rattle.flat_machine.proofs.Ready.{event_ready, guest_ready}
 use Rattle.vm_world.specs.Worlds.{IsWorld, WorldValue}
 use Rattle.vm_host.specs.Telling.{ClockKnown}
-use Rattle.slice_runner.specs.Ended.{HasFailed}
 use Rattle.slice_runner.specs.Slices.{IsSerial, Leads, event_of}
-use Rattle.slice_runner.specs.declared.slice.SliceError.{SliceError}
-use Rattle.slice_runner.specs.declared.slice.SliceError.TheVariants as error
 use Rattle.monitor_machine.specs.Live.{Live}
 use Rattle.monitor_machine.specs.Running.{resting_world, running_world}
 use Rattle.monitor_machine.specs.Ready.{IsReadyLive}
-use Rattle.monitor_machine.specs.State.{IsLive}
 use Rattle.monitor_machine.proofs.Lines.{some_guest}
 use Rattle.monitor_machine.proofs.Standing.{drain_stays}
 use Rattle.monitor_running.specs.Alone.{HasRun}
-use Rattle.monitor_running.specs.Items.{drained_world}
-use Rattle.monitor_running.specs.Ran.{IsRunning, Went, slice_end}
-use Rattle.monitor_running.specs.Reached.{Known}
-use Rattle.monitor_running.specs.Staying.{MayBeDrained, RanReady, StaysReady, is_torn}
+use Rattle.monitor_running.specs.Staying.{MayBeDrained, StaysReady}
 use Rattle.monitor_running.specs.Waiting.{HasGone}
-use Rattle.monitor_running.specs.declared.ran.Ran.{Ran}
-use Rattle.monitor_running.specs.declared.ran.Ran.TheVariants as ran
-use Rattle.monitor_running.proofs.Lifts.{slice_lifted}
 
 -- ---- one after another
 
@@ -88,50 +78,6 @@ stays_gone w v es asked now gone = stays_led w v (λ g is. let to = (gone g is).
 pub stays_run : (hart made : ℕ) (w v : WorldValue) → HasRun hart made w v → StaysReady w v
 stays_run hart made w v ran = stays_led w v (λ g is. let to = ran g is in (to.0, to.1, to.2, to.3))
 
--- ---- by how it ended
-
-pub stays_ran : (end : Option Ran) (w v : WorldValue) → StaysReady w v → RanReady end w v
-stays_ran None w v stays = stays
-stays_ran (Some ran.Closed) w v stays = stays
-stays_ran (Some ran.Off) w v stays = stays
-stays_ran (Some ran.TraceFailed) w v stays = stays
-stays_ran (Some ran.SinkFailed) w v stays = stays
-stays_ran (Some (ran.Torn torn journals histories)) w v stays = tt
-stays_ran (Some ran.OutOfMemory) w v stays = stays
-
-whole_ran : (end : Option Ran) (w v : WorldValue) → is_torn end ≡ false → RanReady end w v → StaysReady w v
-whole_ran None w v whole stays = stays
-whole_ran (Some ran.Closed) w v whole stays = stays
-whole_ran (Some ran.Off) w v whole stays = stays
-whole_ran (Some ran.TraceFailed) w v whole stays = stays
-whole_ran (Some ran.SinkFailed) w v whole stays = stays
-whole_ran (Some (ran.Torn torn journals histories)) w v whole stays = absurd cc
-whole_ran (Some ran.OutOfMemory) w v whole stays = stays
-
-pub ran_then : (end : Option Ran) (u v w : WorldValue) → StaysReady u v → RanReady end v w → RanReady end u w
-ran_then end u v w first last = by_test (is_torn end) refl
-  where
-    torn_ran : (end : Option Ran) → is_torn end ≡ true → RanReady end u w
-    torn_ran None is = absurd cc
-    torn_ran (Some ran.Closed) is = absurd cc
-    torn_ran (Some ran.Off) is = absurd cc
-    torn_ran (Some ran.TraceFailed) is = absurd cc
-    torn_ran (Some ran.SinkFailed) is = absurd cc
-    torn_ran (Some (ran.Torn torn journals histories)) is = tt
-    torn_ran (Some ran.OutOfMemory) is = absurd cc
-
-    by_test : (t : Bool) → is_torn end ≡ t → RanReady end u w
-    by_test true is = torn_ran end is
-    by_test false is = stays_ran end u w (stays_then u v w first (whole_ran end v w is last))
-
--- a slice that failed left the world as it was, or was torn
-pub failed_ready : {Q : Type 0} (end : Ran) (why : SliceError) (w v : WorldValue) (asked now : ClockKnown) (before after : List Q)
-    → end ≡ slice_end why → HasFailed w v asked now before after why → RanReady (Some end) w v
-failed_ready end (error.Torn torn journals histories) w v asked now before after is failed =
-    subst (λ (r : Ran). RanReady (Some r) w v) (sym is) tt
-failed_ready end error.OutOfMemory w v asked now before after is failed =
-    subst (λ (r : Ran). RanReady (Some r) w v) (sym is) (stays_same w v failed.0)
-
 -- ---- the machine whose world ran
 
 some_taken : (guest : Option WorldValue) (paused : Bool) (w : WorldValue) → running_world guest paused ≡ Some w
@@ -140,32 +86,8 @@ some_taken guest true w some = cc
 some_taken guest false w some = (some, refl)
 
 pub put_back : (live taken : Live) (w v : WorldValue) → running_world live.guest live.paused ≡ Some w
-    → taken ≡ record live { guest = resting_world live.guest live.paused } → (end : Option Ran) → is_torn end ≡ false
-    → RanReady end w v → IsReadyLive (record taken { guest = Some w }) → IsReadyLive (record taken { guest = Some v })
-put_back live taken w v some left end whole ran ready =
+    → taken ≡ record live { guest = resting_world live.guest live.paused } → StaysReady w v
+    → IsReadyLive (record taken { guest = Some w }) → IsReadyLive (record taken { guest = Some v })
+put_back live taken w v some left stays ready =
     let moving : taken.paused ≡ false = ap (λ (l : Live). l.paused) left ∙ (some_taken live.guest live.paused w some).1 in
-    whole_ran end w v whole ran taken moving ready
-
-torn_anyhow : {B : Type 0} (Is : B → Machine → Type 0) (end : Option Ran) (old : Known) (b : B) (now : Known) (c d : B) → is_torn end ≡ true
-    → Went Is end old b now c → Went Is end old b now d
-torn_anyhow Is None old b now c d torn went = absurd cc
-torn_anyhow Is (Some ran.Closed) old b now c d torn went = absurd cc
-torn_anyhow Is (Some ran.Off) old b now c d torn went = absurd cc
-torn_anyhow Is (Some ran.TraceFailed) old b now c d torn went = absurd cc
-torn_anyhow Is (Some ran.SinkFailed) old b now c d torn went = absurd cc
-torn_anyhow Is (Some (ran.Torn it journals histories)) old b now c d torn went = record {
-  ran = went.ran;
-  fault = went.fault;
-  trace_lasts = went.trace_lasts;
-  trace_stays = went.trace_stays;
-  sink_lasts = went.sink_lasts;
-}
-torn_anyhow Is (Some ran.OutOfMemory) old b now c d torn went = absurd cc
-
--- of a torn slice no world is put back
-pub went_torn : (live taken : Live) (old now : Known) (w v : WorldValue) → running_world live.guest live.paused ≡ Some w
-    → taken ≡ record live { guest = resting_world live.guest live.paused } → (end : Option Ran) → is_torn end ≡ true
-    → Went IsRunning end old w now v → Went IsLive end old live now taken
-went_torn live taken old now w v some left end torn went =
-    torn_anyhow IsLive end old live now (record taken { guest = Some v }) taken torn
-    (slice_lifted live taken (record taken { guest = Some v }) old now w v some left refl end went)
+    stays taken moving ready

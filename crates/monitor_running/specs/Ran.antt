@@ -1,5 +1,5 @@
 -- How slices end, and what they leave.
-use Rattle.std.specs.Prelude.{◌≡◌, true, false, List, Option, Some, None}
+use Rattle.std.specs.Prelude.{◌≡◌, true, false, Option, Some, None}
 use Rattle.vm_types.specs.Causes.{Rose}
 use Rattle.vm_outside.specs.Known.{Lasts, Tells}
 use Rattle.serve_host.specs.Tracing.{TraceStays}
@@ -12,9 +12,7 @@ use Rattle.monitor_running.specs.declared.ran.Ran.{Ran}
 use Rattle.monitor_running.specs.declared.ran.Ran.TheVariants as ran
 use Rattle.monitor_running.specs.declared.telling.Untold.{Untold}
 use Rattle.monitor_running.specs.declared.telling.Untold.TheVariants as untold
-use Rattle.monitor_running.specs.Asked.{HostKnown}
-use Rattle.monitor_running.specs.Reached.{AreFiles, GetsAhead, IsCut, Keeps, KeepsAs, Kept, Known, Reached, Seen, Start, seen}
-use Rattle.flat_trace.specs.Showing.{Out}
+use Rattle.monitor_running.specs.Reached.{GetsAhead, IsCut, Keeps, KeepsAs, Known, Seen, seen}
 
 -- the guest of the machine runs, and the world is it
 abbrev pub IsRunning : WorldValue → Machine → Type 0

@@ -12,7 +12,7 @@ ghost use Rattle.monitor_running.specs.Passes.{ArePassed};
 ghost use Rattle.monitor_running.specs.Ran.{IsOff, IsRunning, Went};
 ghost use Rattle.monitor_running.specs.Objects.{known_with, with_clock, with_disk};
 ghost use Rattle.monitor_running.specs.Reached.{Known};
-ghost use Rattle.monitor_running.specs.Staying.{RanReady, StaysReady, is_torn};
+ghost use Rattle.monitor_running.specs.Staying.{StaysReady};
 
 use crate::alone::{MOST_ALONE, Turn, lone_hart, run_alone};
 use crate::devices::{MOST_DEVICES, run_devices};
@@ -112,7 +112,7 @@ fn run_guest<
         (known_with (W.known with.old) (K.known sink.old)) world.old
         (known_with (W.known with.new) (K.known sink.new)) world.new }
     ensures passes { ArePassed (G.serves gate.now) G.tally result passes.old.items passes.new.items }
-    ensures ready { RanReady result world.old world.new }
+    ensures ready { StaysReady world.old world.new }
     ensures unclosed { result ≢ Some ran.Closed }
 {
     let each = steps_each(world, steps);
@@ -236,7 +236,7 @@ fn run_or_wait<
         (known_with (W.known with.old) (K.known sink.old)) world.old
         (known_with (W.known with.new) (K.known sink.new)) world.new }
     ensures passes { ArePassed (G.serves gate.now) G.tally result passes.old.items passes.new.items }
-    ensures ready { RanReady result world.old world.new }
+    ensures ready { StaysReady world.old world.new }
     ensures unclosed { result ≢ Some ran.Closed }
 {
     if !has_passes(world, passes.len()) {
@@ -276,19 +276,13 @@ fn run_world<
         (known_with (W.known with.old) (K.known sink.old)) world.old
         (known_with (W.known with.new) (K.known sink.new)) world.new }
     ensures passes { ArePassed (G.serves gate.now) G.tally result passes.old.items passes.new.items }
-    ensures ready { RanReady result world.old world.new }
+    ensures ready { StaysReady world.old world.new }
     ensures unclosed { result ≢ Some ran.Closed }
 {
     if let Some(end) = act(alloc, world, with, sink) {
         return Some(end);
     }
     run_or_wait(rt, alloc, world, with, gate, passes, steps, sink)
-}
-
-fn is_torn(end: &Option<Ran>) -> bool
-    ensures { result ≡ is_torn end.now }
-{
-    matches!(end, Some(Ran::Torn { .. }))
 }
 
 /// One turn of a machine. Before it the devices act without the gate (`run_devices`), each of them 4,096 events at most, and all of
@@ -340,10 +334,6 @@ pub fn run_once<
         return None;
     };
     let end = run_world(rt, alloc, &mut world, with, gate, passes, steps, sink);
-    if is_torn(&end) {
-        // (no world is left of a torn slice)
-        return end;
-    }
     machine.put_guest(world);
     end
 }

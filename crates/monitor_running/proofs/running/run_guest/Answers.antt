@@ -5,7 +5,7 @@ use Rattle.monitor_running.proofs.Joins.{host_same}
 use Rattle.monitor_running.proofs.Lent.{by_clock}
 use Rattle.monitor_running.proofs.Passing.{passed_slice}
 use Rattle.monitor_running.proofs.Told.{slice_gone, went_failed, went_told, went_untold}
-use Rattle.monitor_running.proofs.Staying.{failed_ready, stays_drained, stays_ran, stays_serial, stays_then}
+use Rattle.monitor_running.proofs.Staying.{stays_drained, stays_same, stays_serial, stays_then}
 use Rattle.monitor_running.proofs.running.run_guest.Goals as goal
 
 pub returns-in_default-clause-went : goal.returns-in_default-clause-went
@@ -39,17 +39,14 @@ returns-clause-went g c =
 pub returns-clause-passes : goal.returns-clause-passes
 returns-clause-passes g c = passed_slice _ _ _ _ _ _ _ _ c.in-Ok.ensures.stops c.slice_by.ensures.serve c.slice_by.ensures.same
 
+pub returns-in_default-clause-ready : goal.returns-in_default-clause-ready
+returns-in_default-clause-ready g c = stays_same _ _ c.in_default.ensures.failed.0
+
 pub returns-in-Err-clause-ready : goal.returns-in-Err-clause-ready
 returns-in-Err-clause-ready g c =
-    failed_ready c.slice_end.result c.in-Err.why _ _ _ _ _ _ c.slice_end.ensures c.in-Err.ensures.failed
-
-pub returns-in-Err-tell_slice-clause-ready : goal.returns-in-Err-tell_slice-clause-ready
-returns-in-Err-tell_slice-clause-ready g c =
-    stays_ran (Some c.end_by.result) _ _
-    (stays_then _ _ _ (stays_serial _ _ c.in-Ok.slice.events.items c.in-Ok.ensures.serial)
-    (stays_drained _ _ c.in-Err-tell_slice.ensures.world))
+    stays_then _ _ _ (stays_serial _ _ c.in-Ok.slice.events.items c.in-Ok.ensures.serial) (stays_drained _ _ c.in-Err.ensures.world)
 
 pub returns-clause-ready : goal.returns-clause-ready
 returns-clause-ready g c =
     stays_then _ _ _ (stays_serial _ _ c.in-Ok.slice.events.items c.in-Ok.ensures.serial)
-    (stays_drained _ _ c.in_default.ensures.world)
+    (stays_drained _ _ c.in_default-tell_slice.ensures.world)

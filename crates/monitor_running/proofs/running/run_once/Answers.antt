@@ -1,9 +1,9 @@
-use Rattle.std.proofs.Common.{refl, sym, ◌∙◌, None}
+use Rattle.std.proofs.Common.{refl, sym, None}
 use Rattle.monitor_machine.specs.State.{IsLive}
 use Rattle.monitor_running.proofs.Disks.{rests_same}
 use Rattle.monitor_running.proofs.Lifts.{never_off, nothing_taken, slice_lifted, went_off, went_resting}
 use Rattle.monitor_running.proofs.Lent.{by_clock}
-use Rattle.monitor_running.proofs.Staying.{put_back, went_torn}
+use Rattle.monitor_running.proofs.Staying.{put_back}
 use Rattle.monitor_running.proofs.running.run_once.Goals as goal
 
 pub returns-then-is_off-clause-went : goal.returns-then-is_off-clause-went
@@ -20,15 +20,10 @@ returns-in_default-clause-went g c =
     (nothing_taken c.args.machine.now c.take_running.new.self (sym c.in_default.ensures.running) c.in_default.ensures.left)
     (record { clock = rested.rests; disk = rests_same _ })))
 
-pub returns-then-is_torn-clause-went : goal.returns-then-is_torn-clause-went
-returns-then-is_torn-clause-went g c =
-    went_torn c.args.machine.now c.take_running.new.self _ _ _ _ (sym c.in-Some.ensures.running) c.in-Some.ensures.left
-    c.run_world-end.result (sym c.is_torn.ensures ∙ c.if-is_torn.true) c.run_world-end.ensures.went
-
 pub put_guest-requires : goal.put_guest-requires
 put_guest-requires g c =
     put_back c.args.machine.now c.take_running.new.self _ _ (sym c.in-Some.ensures.running) c.in-Some.ensures.left
-    c.run_world-end.result (sym c.is_torn.ensures ∙ c.if-is_torn.false) c.run_world-end.ensures.ready c.in-Some.ensures.ready
+    c.run_world-end.ensures.ready c.in-Some.ensures.ready
 
 pub returns-clause-went : goal.returns-clause-went
 returns-clause-went g c =

@@ -3,7 +3,7 @@ use Rattle.monitor_running.specs.Ran.{IsRunning}
 use Rattle.monitor_running.proofs.Disks.{rests_same}
 use Rattle.monitor_running.proofs.Lifts.{went_resting}
 use Rattle.monitor_running.proofs.Lent.{by_clock}
-use Rattle.monitor_running.proofs.Staying.{stays_ran, stays_same}
+use Rattle.monitor_running.proofs.Staying.{stays_same}
 use Rattle.monitor_running.proofs.running.run_or_wait.Goals as goal
 
 pub returns-then-not-has_passes-clause-went : goal.returns-then-not-has_passes-clause-went
@@ -16,9 +16,3 @@ returns-then-not-has_passes-clause-went g c =
 
 pub returns-then-not-has_passes-clause-ready : goal.returns-then-not-has_passes-clause-ready
 returns-then-not-has_passes-clause-ready g c = stays_same _ _ refl
-
-pub returns-then-all_wait-clause-ready : goal.returns-then-all_wait-clause-ready
-returns-then-all_wait-clause-ready g c = stays_ran c.wait.result _ _ c.wait.ensures.ready
-
-pub returns-in-Some-clause-ready : goal.returns-in-Some-clause-ready
-returns-in-Some-clause-ready g c = stays_ran c.run_alone.result _ _ c.run_alone.ensures.ready
