@@ -2,10 +2,12 @@
 ghost use Rattle.std.specs.Prelude.{◌≡◌, MatchBool};
 ghost use Rattle.vm_types.specs.Causes.{IsCounted};
 
-use monitor_core::Monitor;
+use crate::sessions::files_with;
+use http_stream::{HeaderList, Request};
 use monitor_machine::LiveMachine;
 use outside_mem::{Failing, MemoryFiles};
 use pause_gate::{Gate, HoldGate};
+use response_form::ResponseForm;
 use script_text::{HostReply, Item};
 use serve_host::{Trace, event_item};
 use std::alloc::{AllocError, Global};
@@ -16,12 +18,20 @@ use vm_world::World;
 /// Who decides a meeting with itself.
 pub const NOBODY: ActorId = ActorId::Device(0);
 
+const ONE_HART: &str = "{\"vcpu_count\":1,\"mem_size_mib\":4}";
+
+const TWO_HARTS: &str = "{\"vcpu_count\":2,\"mem_size_mib\":4}";
+
+const BOOT_SOURCE: &str = "{\"kernel_image_path\":\"image\"}";
+
+const INSTANCE_START: &str = "{\"action_type\":\"InstanceStart\"}";
+
 /// Plays each item on its machine, and keeps the lines that it answers. After so many items it decides a meeting with
 /// itself, if the gate waits for one: then the gate is closed to whoever asks. It may fail to take items.
 #[derive(Drop)]
 pub struct Player<'a> {
     alloc: Global,
-    pub monitor: Monitor,
+    pub machine: LiveMachine,
     answered: ByteList,
     moments: u64,
     taken: u64,
@@ -35,7 +45,7 @@ impl<'a> Player<'a> {
     /// Of all items, or of the console's alone, those of these numbers fail.
     pub fn new(
         alloc: Global,
-        monitor: Monitor,
+        machine: LiveMachine,
         left: u64,
         gate: &'a HoldGate,
         failing: Failing,
@@ -43,7 +53,7 @@ impl<'a> Player<'a> {
     ) -> Player<'a> {
         Player {
             alloc,
-            monitor,
+            machine,
             answered: ByteList::new(alloc),
             moments: 0,
             taken: 0,
@@ -120,7 +130,7 @@ impl Trace for Player<'_> {
         if self.fails_at(item) {
             return Err(Failed);
         }
-        if play_into(self.monitor.machine(), item, &mut self.answered).is_err() {
+        if play_into(&mut self.machine, item, &mut self.answered).is_err() {
             self.failing.count();
             return Err(Failed);
         }
@@ -159,55 +169,53 @@ impl Trace for Player<'_> {
 }
 
 // A PUT of this body.
-fn put(alloc: Global, path: &str, body: &str) -> Result<Item, AllocError> {
-    Ok(Item::Api {
-        method: ByteList::copy_of(alloc, b"PUT")?,
-        path: ByteList::copy_of(alloc, path.as_bytes())?,
+fn put(alloc: Global, path: &str, body: &str) -> Result<Request, AllocError> {
+    Ok(Request {
+        method: TextList::copy_of(alloc, "PUT")?,
+        path: TextList::copy_of(alloc, path)?,
+        headers: HeaderList::new(alloc),
         body: ByteList::copy_of(alloc, body.as_bytes())?,
     })
 }
 
-fn take(monitor: &mut Monitor, item: Item, files: &mut MemoryFiles) -> Result<(), AllocError> {
-    match monitor.item(item, files) {
-        Ok(_) => Ok(()),
-        Err(_) => Err(AllocError),
-    }
+// The machine is asked for that, whatever it answers.
+fn ask(
+    alloc: Global,
+    machine: &mut LiveMachine,
+    files: &mut MemoryFiles,
+    path: &str,
+    body: &str,
+) -> Result<(), AllocError> {
+    let request = put(alloc, path, body)?;
+    let mut text = ByteList::new(alloc);
+    machine.answer_request(ResponseForm::Line, &request, files, &mut text)?;
+    Ok(())
+}
+
+fn start(
+    alloc: Global,
+    machine: &mut LiveMachine,
+    image: &[u8],
+    harts: &str,
+) -> Result<(), AllocError> {
+    let mut files = files_with(alloc, "image", image)?;
+    ask(alloc, machine, &mut files, "/machine-config", harts)?;
+    ask(alloc, machine, &mut files, "/boot-source", BOOT_SOURCE)?;
+    ask(alloc, machine, &mut files, "/actions", INSTANCE_START)
 }
 
 /// A machine of 4 MiB that begins with this image, of which hart 0 has made so many steps. It is alone, or there are two.
-pub fn monitor_of(
+pub fn machine_of(
     alloc: Global,
     is_alone: bool,
     image: &[u8],
     made: u64,
-) -> Result<Monitor, AllocError> {
-    let harts = if is_alone {
-        "{\"vcpu_count\":1,\"mem_size_mib\":4}"
-    } else {
-        "{\"vcpu_count\":2,\"mem_size_mib\":4}"
-    };
-    let mut files = MemoryFiles::new(alloc, Failing::new(Vec::new(alloc)));
-    let mut monitor = Monitor::new(alloc, TextList::copy_of(alloc, "harts")?)?;
-    let file = Item::File {
-        name: TextList::copy_of(alloc, "image")?,
-        content: ByteList::copy_of(alloc, image)?,
-    };
-    take(&mut monitor, file, &mut files)?;
-    take(
-        &mut monitor,
-        put(alloc, "/machine-config", harts)?,
-        &mut files,
-    )?;
-    let source = "{\"kernel_image_path\":\"image\"}";
-    take(
-        &mut monitor,
-        put(alloc, "/boot-source", source)?,
-        &mut files,
-    )?;
-    let start = "{\"action_type\":\"InstanceStart\"}";
-    take(&mut monitor, put(alloc, "/actions", start)?, &mut files)?;
-    monitor.machine().step(ActorId::Hart(0), made)?;
-    Ok(monitor)
+) -> Result<LiveMachine, AllocError> {
+    let harts = if is_alone { ONE_HART } else { TWO_HARTS };
+    let mut machine = LiveMachine::new(alloc, TextList::copy_of(alloc, "harts")?);
+    start(alloc, &mut machine, image, harts)?;
+    machine.step(ActorId::Hart(0), made)?;
+    Ok(machine)
 }
 
 /// Whether both have the same registers, the same memory and the same console. Where a guest is off its registers may differ:

@@ -5,11 +5,11 @@ ghost use Rattle.std.specs.Prelude.{◌≡◌, ◌<◌, All, length};
 use crate::images::{
     ADDS_AND_ENDS, ADDS_TO_ONE_WORD, ENDS, GO_THEIR_WAYS, WAITS_AND_ENDS, WRITES_AND_ENDS,
 };
-use crate::playing::{NOBODY, Player, are_alike, monitor_of, word_at};
+use crate::playing::{NOBODY, Player, are_alike, machine_of, word_at};
 use crate::showing::text_of;
 use crate::ticking::Ticks;
 use host_mem::MemoryDisk;
-use monitor_core::Monitor;
+use monitor_machine::LiveMachine;
 use monitor_running::{Ran, TracedHost, run_while};
 use outside_mem::{Failing, MemorySink};
 use pause_gate::{FlagGate, Gate, HoldGate, Party, Pass};
@@ -160,7 +160,7 @@ fn party(hart: u8, page: u32) -> Party {
 /// A machine, what it is handed while it runs, and the trace that plays it.
 #[derive(Drop)]
 struct Running<'a> {
-    monitor: Monitor,
+    machine: LiveMachine,
     turns: TracedHost<MemoryDisk, Ticks, Player<'a>>,
     sink: MemorySink,
 }
@@ -168,9 +168,9 @@ struct Running<'a> {
 fn running_of<'a>(alloc: Global, row: &Row, gate: &'a HoldGate) -> Result<Running<'a>, AllocError> {
     let sink_fails = Failing::new(row.sink_fails.to_vec(alloc)?);
     let player = player_of(alloc, row, gate)?;
-    let monitor = monitor_of(alloc, row.is_alone, row.image, row.made)?;
+    let machine = machine_of(alloc, row.is_alone, row.image, row.made)?;
     Ok(Running {
-        monitor,
+        machine,
         turns: TracedHost {
             host: host_of(alloc),
             trace: player,
@@ -181,8 +181,8 @@ fn running_of<'a>(alloc: Global, row: &Row, gate: &'a HoldGate) -> Result<Runnin
 
 fn player_of<'a>(alloc: Global, row: &Row, gate: &'a HoldGate) -> Result<Player<'a>, AllocError> {
     let fails = Failing::new(row.trace_fails.to_vec(alloc)?);
-    let monitor = monitor_of(alloc, row.is_alone, row.image, row.made)?;
-    Ok(Player::new(alloc, monitor, row.left, gate, fails, row.consoles_alone))
+    let machine = machine_of(alloc, row.is_alone, row.image, row.made)?;
+    Ok(Player::new(alloc, machine, row.left, gate, fails, row.consoles_alone))
 }
 
 // Without a disk.
@@ -225,7 +225,7 @@ fn run<R: Threads + Wait + AllocGlobal + Sync>(
     let ran = run_while(
         rt,
         rt.alloc(),
-        running.monitor.machine(),
+        &mut running.machine,
         &mut running.turns,
         gate,
         passes,
@@ -260,8 +260,8 @@ fn print_running<R: Print>(rt: &R, name: &str, running: &Running<'_>) -> io::Res
 }
 
 fn print_player<R: Print>(rt: &R, name: &str, running: &mut Running<'_>) -> io::Result<()> {
-    let world = running.monitor.machine().take_running();
-    match (world, running.turns.trace.monitor.machine().take_running()) {
+    let world = running.machine.take_running();
+    match (world, running.turns.trace.machine.take_running()) {
         (Some(world), Some(other)) => print_worlds(rt, name, &world, &other),
         _ => println!(rt; "{name}: a machine has no world"),
     }
