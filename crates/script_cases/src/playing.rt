@@ -1,4 +1,4 @@
-// A trace that plays what it takes on a machine of its own.
+// A trace that writes down what it takes, and the machine that this is played on.
 ghost use Rattle.std.specs.Prelude.{◌≡◌, MatchBool};
 ghost use Rattle.vm_types.specs.Causes.{IsCounted};
 
@@ -8,7 +8,7 @@ use monitor_machine::LiveMachine;
 use outside_mem::{Failing, MemoryFiles};
 use pause_gate::{Gate, HoldGate};
 use response_form::ResponseForm;
-use script_text::{HostReply, Item};
+use script_text::{HostReply, Item, LineReader, Next, write_item};
 use serve_host::{Trace, event_item};
 use std::alloc::{AllocError, Global};
 use vm_outside::Failed;
@@ -26,13 +26,12 @@ const BOOT_SOURCE: &str = "{\"kernel_image_path\":\"image\"}";
 
 const INSTANCE_START: &str = "{\"action_type\":\"InstanceStart\"}";
 
-/// Plays each item on its machine, and keeps the lines that it answers. After so many items it decides a meeting with
-/// itself, if the gate waits for one: then the gate is closed to whoever asks. It may fail to take items.
+/// Writes down each item. After so many items it decides a meeting with itself, if the gate waits for one: then the gate is
+/// closed to whoever asks. It may fail to take items.
 #[derive(Drop)]
 pub struct Player<'a> {
     alloc: Global,
-    pub machine: LiveMachine,
-    answered: ByteList,
+    told: ByteList,
     moments: u64,
     taken: u64,
     left: u64,
@@ -45,7 +44,6 @@ impl<'a> Player<'a> {
     /// Of all items, or of the console's alone, those of these numbers fail.
     pub fn new(
         alloc: Global,
-        machine: LiveMachine,
         left: u64,
         gate: &'a HoldGate,
         failing: Failing,
@@ -53,8 +51,7 @@ impl<'a> Player<'a> {
     ) -> Player<'a> {
         Player {
             alloc,
-            machine,
-            answered: ByteList::new(alloc),
+            told: ByteList::new(alloc),
             moments: 0,
             taken: 0,
             left,
@@ -64,9 +61,9 @@ impl<'a> Player<'a> {
         }
     }
 
-    /// The lines that its machine answered.
-    pub fn answered(&self) -> &[u8] {
-        self.answered.as_slice()
+    /// The script of the items that it took.
+    pub fn told(&self) -> &[u8] {
+        self.told.as_slice()
     }
 
     /// How many moments of the clock it took.
@@ -112,6 +109,29 @@ fn play_into(
     answered.append(line.as_slice())
 }
 
+/// Plays a script on the machine, and gives the lines that it answers.
+pub fn play_all(
+    alloc: Global,
+    machine: &mut LiveMachine,
+    script: &[u8],
+) -> Result<ByteList, AllocError> {
+    let mut answered = ByteList::new(alloc);
+    let mut reader = LineReader::new(alloc);
+    reader.feed(script)?;
+    for _line in 0..script.len() {
+        match reader.next()? {
+            Next::Line(item) => play_into(machine, &item, &mut answered)?,
+            _ => return Ok(answered),
+        }
+    }
+    Ok(answered)
+}
+
+fn write_into(alloc: Global, item: &Item, told: &mut ByteList) -> Result<(), AllocError> {
+    let line = write_item(alloc, item)?;
+    told.append(line.as_slice())
+}
+
 impl Trace for Player<'_> {
     ghost use Rattle.std.specs.Prelude.{false, [], None};
 
@@ -130,7 +150,7 @@ impl Trace for Player<'_> {
         if self.fails_at(item) {
             return Err(Failed);
         }
-        if play_into(&mut self.machine, item, &mut self.answered).is_err() {
+        if write_into(self.alloc, item, &mut self.told).is_err() {
             self.failing.count();
             return Err(Failed);
         }

@@ -5,7 +5,7 @@ ghost use Rattle.std.specs.Prelude.{◌≡◌, ◌<◌, All, length};
 use crate::images::{
     ADDS_AND_ENDS, ADDS_TO_ONE_WORD, ENDS, GO_THEIR_WAYS, WAITS_AND_ENDS, WRITES_AND_ENDS,
 };
-use crate::playing::{NOBODY, Player, are_alike, machine_of, word_at};
+use crate::playing::{NOBODY, Player, are_alike, machine_of, play_all, word_at};
 use crate::showing::text_of;
 use crate::ticking::Ticks;
 use host_mem::MemoryDisk;
@@ -157,10 +157,11 @@ fn party(hart: u8, page: u32) -> Party {
     Party::of(ActorId::Hart(hart), PlaceId::Page(page))
 }
 
-/// A machine, what it is handed while it runs, and the trace that plays it.
+/// A machine, what it is handed while it runs, and another one, on which its trace is played.
 #[derive(Drop)]
 struct Running<'a> {
     machine: LiveMachine,
+    other: LiveMachine,
     turns: TracedHost<MemoryDisk, Ticks, Player<'a>>,
     sink: MemorySink,
 }
@@ -169,8 +170,10 @@ fn running_of<'a>(alloc: Global, row: &Row, gate: &'a HoldGate) -> Result<Runnin
     let sink_fails = Failing::new(row.sink_fails.to_vec(alloc)?);
     let player = player_of(alloc, row, gate)?;
     let machine = machine_of(alloc, row.is_alone, row.image, row.made)?;
+    let other = machine_of(alloc, row.is_alone, row.image, row.made)?;
     Ok(Running {
         machine,
+        other,
         turns: TracedHost {
             host: host_of(alloc),
             trace: player,
@@ -181,8 +184,7 @@ fn running_of<'a>(alloc: Global, row: &Row, gate: &'a HoldGate) -> Result<Runnin
 
 fn player_of<'a>(alloc: Global, row: &Row, gate: &'a HoldGate) -> Result<Player<'a>, AllocError> {
     let fails = Failing::new(row.trace_fails.to_vec(alloc)?);
-    let machine = machine_of(alloc, row.is_alone, row.image, row.made)?;
-    Ok(Player::new(alloc, machine, row.left, gate, fails, row.consoles_alone))
+    Ok(Player::new(alloc, row.left, gate, fails, row.consoles_alone))
 }
 
 // Without a disk.
@@ -245,7 +247,11 @@ fn end_of(ran: &Ran) -> &'static str {
     }
 }
 
-fn print_running<R: Print>(rt: &R, name: &str, running: &Running<'_>) -> io::Result<()> {
+fn print_running<R: Print + AllocGlobal>(
+    rt: &R,
+    name: &str,
+    running: &mut Running<'_>,
+) -> io::Result<()> {
     let asked = running.turns.host.clock.asked();
     let untold = asked.wrapping_sub(running.turns.trace.moments());
     println!(rt; "{name}: moments that were not told => {untold}")?;
@@ -253,15 +259,16 @@ fn print_running<R: Print>(rt: &R, name: &str, running: &Running<'_>) -> io::Res
         "{name}: the sink took => {:?}",
         text_of(running.sink.taken())
     )?;
+    let answered = play_all(rt.alloc(), &mut running.other, running.turns.trace.told())?;
     println!(rt;
         "{name}: the player answered => {:?}",
-        text_of(running.turns.trace.answered())
+        text_of(answered.as_slice())
     )
 }
 
 fn print_player<R: Print>(rt: &R, name: &str, running: &mut Running<'_>) -> io::Result<()> {
     let world = running.machine.take_running();
-    match (world, running.turns.trace.machine.take_running()) {
+    match (world, running.other.take_running()) {
         (Some(world), Some(other)) => print_worlds(rt, name, &world, &other),
         _ => println!(rt; "{name}: a machine has no world"),
     }
