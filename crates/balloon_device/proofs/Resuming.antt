@@ -1,6 +1,6 @@
 -- What a balloon owes of what is kept of it.
-use Rattle.std.proofs.Common.{◌≡◌, ℕ, zero, suc, ◌+◌, ◌-◌, ◌*◌, ◌/◌, ◌%◌, ◌^◌, ◌<◌, ◌≤◌, ◌==◌, nat_le, nat_lt, refl, sym, ap, ◌∙◌, subst, inl, inr, Bool, true, false, if◌then◌else◌, Option, Some, None, List, [], ◌++◌, length, drop, arith, length-append, length-drop}
-use Rattle.std.proofs.lemmas.Bool.{and_from, and_parts, eqb-true, le-leb, leb-true, lt-ltb, ltb-false, ltb-true}
+use Rattle.std.proofs.Common.{◌≡◌, ℕ, zero, suc, ◌+◌, ◌-◌, ◌*◌, ◌/◌, ◌%◌, ◌^◌, ◌<◌, ◌≤◌, ◌==◌, nat_lt, refl, sym, ap, ◌∙◌, subst, inl, inr, Bool, true, false, if◌then◌else◌, Option, Some, None, List, [], ◌++◌, length, drop, arith, length-append, length-drop}
+use Rattle.std.proofs.lemmas.Bool.{ltb-false, ltb-true}
 use Rattle.vm_types.specs.declared.op.Op.TheVariants.{Read}
 use Rattle.vm_types.specs.declared.reply.Reply.{Reply}
 use Rattle.vm_types.specs.Fits.{Fits}
@@ -13,9 +13,7 @@ use Rattle.le_fields.specs.Fields.{field_at}
 use Rattle.vq_split.specs.declared.queue.Part.{Part}
 use Rattle.vq_split.specs.Chain.{is_inside, read_bytes}
 use Rattle.vq_split.specs.Inside.{AreInside}
-use Rattle.vq_split.specs.Kept.{are_inside}
-use Rattle.vq_split.proofs.Inside.{in_ram, of_ram}
-use Rattle.vq_split.proofs.Kept.{are_of, inside_of, is_eq}
+use Rattle.vq_split.proofs.Inside.{of_ram}
 use Rattle.dev_core.specs.declared.collect.Collect.{Collect}
 use Rattle.dev_core.specs.Inside.{Any}
 use Rattle.dev_core.specs.Pieces.{past, place, readable, room, total}
@@ -37,92 +35,14 @@ use Rattle.balloon_device.specs.declared.statistics.Statistics.{Statistics}
 use Rattle.balloon_device.specs.Balloon.{Balloon, balloon, changed, no_call, pages_done, served_by, tags_done, taken_by, unread}
 use Rattle.balloon_device.specs.Pages.{inflated}
 use Rattle.balloon_device.specs.Statistics.{Telling, all_told, no_statistics}
-use Rattle.balloon_device.specs.Work.{AnyBalloon, hand_of, is_reading, is_work, is_zeroing, list_left, tags_left, zeros_left}
+use Rattle.balloon_device.specs.Work.{AnyBalloon, hand_of, is_work, list_left, tags_left, zeros_left}
 use Rattle.balloon_device.proofs.Balloon.{numbers_keep, zeros_keep}
 use Rattle.balloon_device.proofs.Entries.{begun_few, told_all}
 use Rattle.balloon_device.proofs.Pieces.{read_keeps}
+use Rattle.balloon_device.proofs.Stages.{Reads, Zeroes, list_of, reads_of, test_of_list, test_of_reads, test_of_zeros, zeros_of}
 use Rattle.balloon_device.proofs.Working.{collected, list_asked, list_done, list_led, list_read, listing, number_inside, number_outside, tags_asked, tags_end, tags_led, tags_read, tags_same, telling, zeros_asked, zeros_led}
 
--- ---- the tests
-
-record Reads (pages most : ℕ) (from : Collect) : Type 0 where
-  short : length from.held < most
-  space : 0 < room from.from
-  inside : AreInside pages from.from
-  few : length from.from ≤ 256
-
-reads_of : (pages most : ℕ) (from : Collect) → is_reading pages most from ≡ true → Reads pages most from
-reads_of pages most from is =
-    let p2 = and_parts _ (nat_le (length from.from) 256) is in
-    let p1 = and_parts _ (are_inside pages from.from) p2.0 in
-    let p0 = and_parts (nat_lt (length from.held) most) (nat_lt 0 (room from.from)) p1.0 in
-    record {
-      short = ltb-true _ _ p0.0;
-      space = ltb-true _ _ p0.1;
-      inside = inside_of pages from.from p1.1;
-      few = leb-true _ _ p2.1;
-    }
-
-test_of_reads : (pages most : ℕ) (from : Collect) → Reads pages most from → is_reading pages most from ≡ true
-test_of_reads pages most from is =
-    and_from _ _
-    (and_from _ _ (and_from _ _ (lt-ltb _ _ is.short) (lt-ltb _ _ is.space)) (are_of pages from.from is.inside))
-    (le-leb _ _ is.few)
-
-record Zeroes (pages : ℕ) (list : Collect) (left at : ℕ) : Type 0 where
-  some : 0 < left
-  most : left ≤ 64
-  low : 0x80000000 ≤ at
-  high : at + 64 * left ≤ 0x80000000 + 4096 * pages
-  short : length list.held < 64
-  inside : AreInside pages list.from
-  few : length list.from ≤ 256
-
-zeroes_of : (pages : ℕ) (list : Collect) (left at : ℕ) → is_zeroing pages list left at ≡ true → Zeroes pages list left at
-zeroes_of pages list left at is =
-    let p4 = and_parts _ (nat_le (length list.from) 256) is in
-    let p3 = and_parts _ (are_inside pages list.from) p4.0 in
-    let p2 = and_parts _ (nat_lt (length list.held) 64) p3.0 in
-    let p1 = and_parts _ (is_inside pages at (64 * left)) p2.0 in
-    let p0 = and_parts (nat_lt 0 left) (nat_le left 64) p1.0 in
-    let there = of_ram pages at (64 * left) p1.1 in
-    record {
-      some = ltb-true _ _ p0.0;
-      most = leb-true _ _ p0.1;
-      low = there.0;
-      high = there.1;
-      short = ltb-true _ _ p2.1;
-      inside = inside_of pages list.from p3.1;
-      few = leb-true _ _ p4.1;
-    }
-
-test_of_zeroes : (pages : ℕ) (list : Collect) (left at : ℕ) → Zeroes pages list left at → is_zeroing pages list left at ≡ true
-test_of_zeroes pages list left at is =
-    and_from _ _
-    (and_from _ _
-    (and_from _ _
-    (and_from _ _ (and_from _ _ (lt-ltb _ _ is.some) (le-leb _ _ is.most)) (in_ram pages at (64 * left) is.low is.high))
-    (lt-ltb _ _ is.short)) (are_of pages list.from is.inside))
-    (le-leb _ _ is.few)
-
-list_of : (pages n : ℕ) (list : Collect) → is_work (work.Serve First) pages (stage.List list n) ≡ true
-    → (n ≡ pages) × Reads pages 4 list
-list_of pages n list is =
-    let p = and_parts (n == pages) (is_reading pages 4 list) is in (eqb-true n pages p.0, reads_of pages 4 list p.1)
-
-test_of_list : (pages : ℕ) (list : Collect) → Reads pages 4 list
-    → is_work (work.Serve First) pages (stage.List list pages) ≡ true
-test_of_list pages list is = and_from _ _ (is_eq pages pages refl) (test_of_reads pages 4 list is)
-
-zeros_of : (pages n left at : ℕ) (list : Collect) → is_work (work.Serve First) pages (stage.Zeros list n left at) ≡ true
-    → (n ≡ pages) × Zeroes pages list left at
-zeros_of pages n left at list is =
-    let p = and_parts (n == pages) (is_zeroing pages list left at) is in
-    (eqb-true n pages p.0, zeroes_of pages list left at p.1)
-
-test_of_zeros : (pages left at : ℕ) (list : Collect) → Zeroes pages list left at
-    → is_work (work.Serve First) pages (stage.Zeros list pages left at) ≡ true
-test_of_zeros pages left at list is = and_from _ _ (is_eq pages pages refl) (test_of_zeroes pages list left at is)
+-- ---- no work but a chain's service
 
 no_answer : (pages : ℕ) (g : Stage) → is_work work.Answer pages g ≡ true → ⊥
 no_answer pages stage.Rest is = cc
@@ -139,19 +59,20 @@ no_take pages k (stage.Tags from s) is = cc
 -- ---- what is left keeps to its own
 
 module _ (port pages : ℕ) where
-  list_keeps : (list : Collect) → pages < 2 ^ 32 → AreInside pages list.from
+  list_keeps : (list : Collect) → AreInside pages list.from
       → Keeps (IsDeviceAct true no_call port pages) (Any {A = List ℕ}) (list_left pages list)
-  list_keeps list few inside =
+  list_keeps list inside =
+      let each = numbers_keep port pages pages (λ few. refl) in
       keeps_then (IsDeviceAct true no_call port pages) (Any {A = List ℕ}) (Any {A = List ℕ}) _ _
-      (numbers_keep port pages (length list.held / 4) list.held)
-      (λ begun any. read_keeps (listing pages) port pages few
-      (λ begun piece. numbers_keep port pages (length (begun ++ piece) / 4) (begun ++ piece)) begun list.from inside)
+      (each (length list.held / 4) list.held)
+      (λ begun any. read_keeps (listing pages) port pages (λ begun piece. each (length (begun ++ piece) / 4) (begun ++ piece))
+      begun list.from (λ few. inside))
 
-  tags_keep : (from : Collect) (s : Statistics) → pages < 2 ^ 32 → AreInside pages from.from
+  tags_keep : (from : Collect) (s : Statistics) → AreInside pages from.from
       → Keeps (IsDeviceAct true no_call port pages) (Any {A = Statistics}) (tags_left from s)
-  tags_keep from s few inside =
+  tags_keep from s inside =
       keeps_then (IsDeviceAct true no_call port pages) (Any {A = Telling}) (Any {A = Statistics}) _ _
-      (read_keeps telling port pages few (λ t piece. tt) (all_told from.held s) from.from inside) (λ t any. tt)
+      (read_keeps telling port pages (λ t piece. tt) (all_told from.held s) from.from (λ few. inside)) (λ t any. tt)
 
   abbrev Stays : Stage → Type 0
   Stays g =
@@ -159,20 +80,19 @@ module _ (port pages : ℕ) where
       × ((e : Balloon) (reply : Reply) → Fits (hand_of g).op reply
       → ActingKeeps (IsDeviceAct true no_call port pages) Any ((hand_of g).serving e reply))
 
-  list_stays : (list : Collect) → pages < 2 ^ 32 → Reads pages 4 list → Stays (stage.List list pages)
-  list_stays list few v =
+  list_stays : (list : Collect) → Reads pages 4 list → Stays (stage.List list pages)
+  list_stays list v =
       let on = led_keeps (IsDeviceAct true no_call port pages) (Any {A = List ℕ}) (list_left pages list) _
-      (list_asked pages list.from list.held v.short v.space) (list_keeps list few v.inside) in (
+      (list_asked pages list.from list.held v.short v.space) (list_keeps list v.inside) in (
         on.0,
         λ e reply fit. performing_keeps (IsDeviceAct true no_call port pages) (Any {A = List ℕ}) Any
             (led (list_left pages list) reply) e pages_done (on.1 reply fit) (λ f begun held. tt),
       )
 
-  zeros_stay : (list : Collect) (left at : ℕ) → pages < 2 ^ 32 → Zeroes pages list left at
-      → Stays (stage.Zeros list pages left at)
-  zeros_stay list left at few v =
+  zeros_stay : (list : Collect) (left at : ℕ) → Zeroes pages list left at → Stays (stage.Zeros list pages left at)
+  zeros_stay list left at v =
       let keeps = keeps_then (IsDeviceAct true no_call port pages) (Any {A = Unit {0}}) (Any {A = List ℕ}) _ _
-      (zeros_keep port pages left at v.low v.high) (λ done any. list_keeps list few v.inside) in
+      (zeros_keep port pages left at v.low (λ few. v.high)) (λ done any. list_keeps list v.inside) in
       let on = led_keeps (IsDeviceAct true no_call port pages) (Any {A = List ℕ}) (zeros_left pages list left at) _
       (zeros_asked pages list left at v.some) keeps in (
         on.0,
@@ -180,29 +100,29 @@ module _ (port pages : ℕ) where
             (led (zeros_left pages list left at) reply) e pages_done (on.1 reply fit) (λ f begun held. tt),
       )
 
-  tags_stay : (from : Collect) (s : Statistics) → pages < 2 ^ 32 → Reads pages 10 from → Stays (stage.Tags from s)
-  tags_stay from s few v =
+  tags_stay : (from : Collect) (s : Statistics) → Reads pages 10 from → Stays (stage.Tags from s)
+  tags_stay from s v =
       let on = led_keeps (IsDeviceAct true no_call port pages) (Any {A = Statistics}) (tags_left from s) _
-      (tags_asked from.from from.held s (told_all from.held s v.short) v.space) (tags_keep from s few v.inside) in (
+      (tags_asked from.from from.held s (told_all from.held s v.short) v.space) (tags_keep from s v.inside) in (
         on.0,
         λ e reply fit. performing_keeps (IsDeviceAct true no_call port pages) (Any {A = Statistics}) Any
             (led (tags_left from s) reply) e tags_done (on.1 reply fit) (λ f told held. tt),
       )
 
-  serving_stays : (k : Which) (g : Stage) → pages < 2 ^ 32 → is_work (work.Serve k) pages g ≡ true → Stays g
-  serving_stays First stage.Rest few is = absurd (cc)
-  serving_stays First (stage.List list n) few is =
+  serving_stays : (k : Which) (g : Stage) → is_work (work.Serve k) pages g ≡ true → Stays g
+  serving_stays First stage.Rest is = absurd (cc)
+  serving_stays First (stage.List list n) is =
       let v = list_of pages n list is in
-      subst (λ (m : ℕ). Stays (stage.List list m)) (sym v.0) (list_stays list few v.1)
-  serving_stays First (stage.Zeros list n left at) few is =
+      subst (λ (m : ℕ). Stays (stage.List list m)) (sym v.0) (list_stays list v.1)
+  serving_stays First (stage.Zeros list n left at) is =
       let v = zeros_of pages n left at list is in
-      subst (λ (m : ℕ). Stays (stage.Zeros list m left at)) (sym v.0) (zeros_stay list left at few v.1)
-  serving_stays First (stage.Tags from s) few is = absurd (cc)
-  serving_stays Second g few is = absurd (cc)
-  serving_stays Third stage.Rest few is = absurd (cc)
-  serving_stays Third (stage.List list n) few is = absurd (cc)
-  serving_stays Third (stage.Zeros list n left at) few is = absurd (cc)
-  serving_stays Third (stage.Tags from s) few is = tags_stay from s few (reads_of pages 10 from is)
+      subst (λ (m : ℕ). Stays (stage.Zeros list m left at)) (sym v.0) (zeros_stay list left at v.1)
+  serving_stays First (stage.Tags from s) is = absurd (cc)
+  serving_stays Second g is = absurd (cc)
+  serving_stays Third stage.Rest is = absurd (cc)
+  serving_stays Third (stage.List list n) is = absurd (cc)
+  serving_stays Third (stage.Zeros list n left at) is = absurd (cc)
+  serving_stays Third (stage.Tags from s) is = tags_stay from s (reads_of pages 10 from is)
 
 -- ---- what is kept behind an act
 
@@ -459,8 +379,8 @@ pub resumes : Resumes balloon hand_of is_work AnyBalloon (setting changed) true 
 resumes = record {
   rest = stage.Rest;
   rests = λ pages. refl;
-  answering_stays = λ port pages g few is. absurd (no_answer pages g is);
-  taking_stays = λ port pages k g few is. absurd (no_take pages k g is);
+  answering_stays = λ port pages g is. absurd (no_answer pages g is);
+  taking_stays = λ port pages k g is. absurd (no_take pages k g is);
   serving_stays = serving_stays;
   answer = λ pages before e reply small fine fit.
       inr (record { own = e; result = false; fine = tt; is = tt; left = refl });

@@ -1,16 +1,21 @@
 // What a balloon does, beside its rounds.
-ghost use Rattle.std.specs.Prelude.{◌≡◌, ◌≤◌, ◌+◌, ◌*◌, ◌^◌, []};
+ghost use Rattle.std.specs.Prelude.{ℕ, ◌≡◌, ◌<◌, ◌≤◌, ◌+◌, ◌-◌, ◌*◌, ◌^◌, [], length, true};
 ghost use Rattle.queue_device.specs.Acting.{Works, performing};
+ghost use Rattle.queue_device.specs.Kept.{work_after};
+ghost use Rattle.queue_device.specs.declared.lanes.Which.TheVariants.{First, Third};
+ghost use Rattle.queue_device.specs.declared.phase.Work.TheVariants as work;
+ghost use Rattle.vq_split.specs.Kept.{are_inside};
 ghost use Rattle.dev_core.specs.Pieces.{readable};
 ghost use Rattle.balloon_device.specs.Balloon.{pages_done, tags_done};
 ghost use Rattle.balloon_device.specs.Statistics.{no_statistics};
-ghost use Rattle.balloon_device.specs.Work.{first_of, hand_of, is_reading, is_serving, is_zeroing, list_left, tags_left, zeros_left};
+ghost use Rattle.balloon_device.specs.Work.{first_of, hand_of, is_reading, is_serving, is_work, is_zeroing, list_left, tags_left};
+ghost use Rattle.balloon_device.specs.Work.{zeros_left};
 
 use crate::pages::{NUMBER, next_page};
 use crate::statistics::Statistics;
 use crate::telling::{ENTRY, tell};
 use dev_core::{Collect, Gather, Held, readable, total};
-use queue_device::{Begin, Kind, TakenChain, TakenParts, Which, Work};
+use queue_device::{Begin, Kind, TakenChain, TakenParts, Which, Work, collect_again};
 use std::marker::Model;
 use std::mem::replace;
 use vm_types::{Op, Piece, Reply};
@@ -159,12 +164,16 @@ impl BalloonKind {
     }
 
     // The pages whose numbers are held are zeroed, and then the next piece of the list is read.
+    #[tactic(auto, using(crate::proofs::Staying::list_more, crate::proofs::Staying::zeros_more))]
     fn list_on(&mut self, list: Collect, pages: u32) -> Option<Option<u32>>
-        ensures { Works (performing (list_left pages list) self.old.own pages_done)
+        ensures works { Works (performing (list_left pages list) self.old.own pages_done)
             result self.new.own (hand_of self.new.stage).op (hand_of self.new.stage).serving }
+        ensures work { is_work work.Rest pages self.old.stage ≡ true → are_inside pages list.from ≡ true → length list.held < 68 →
+            is_work (work_after result (work.Serve First)) pages self.new.stage ≡ true }
     {
         let mut list = list;
         if let Some(at) = next_page(&mut list, pages) {
+            let _parts = list.from.parts();
             self.stage = Stage::Zeros {
                 list,
                 pages,
@@ -176,32 +185,40 @@ impl BalloonKind {
         if list.from.room() == 0 {
             return Some(Some(0));
         }
+        let _parts = list.from.parts();
         self.stage = Stage::List { list, pages };
         None
     }
 
-    // The page is written on, and then the list goes on.
+    // A write of the page was made. The others follow, and then the list goes on.
+    #[tactic(auto, using(crate::proofs::Staying::zeros_less, crate::proofs::Staying::zeros_done))]
     fn zeros_on(&mut self, list: Collect, pages: u32, left: u32, at: u64) -> Option<Option<u32>>
-        requires { at + 64 * left ≤ 2 ^ 45 }
-        ensures { Works (performing (zeros_left pages list left at) self.old.own pages_done)
+        requires some { 0 < left }
+        requires low { at + 64 * left ≤ 2 ^ 45 }
+        ensures works { Works (performing (zeros_left pages list (left - 1) (at + 64)) self.old.own pages_done)
             result self.new.own (hand_of self.new.stage).op (hand_of self.new.stage).serving }
+        ensures work { is_work work.Rest pages self.old.stage ≡ true → is_zeroing pages list left at ≡ true →
+            is_work (work_after result (work.Serve First)) pages self.new.stage ≡ true }
     {
-        if left == 0 {
+        if left == 1 {
             return self.list_on(list, pages);
         }
         self.stage = Stage::Zeros {
             list,
             pages,
-            left,
-            at,
+            left: left - 1,
+            at: at + 64,
         };
         None
     }
 
     // The entries that are held are told, and then the next piece is read. The last byte replaces all that was told before.
+    #[tactic(auto, using(crate::proofs::Staying::tags_more))]
     fn tags_on(&mut self, from: Collect, so_far: Statistics) -> Option<Option<u32>>
-        ensures { Works (performing (tags_left from so_far) self.old.own tags_done)
+        ensures works { Works (performing (tags_left from so_far) self.old.own tags_done)
             result self.new.own (hand_of self.new.stage).op (hand_of self.new.stage).serving }
+        ensures work { (pages : ℕ) → is_work work.Rest pages self.old.stage ≡ true → are_inside pages from.from ≡ true →
+            is_work (work_after result (work.Serve Third)) pages self.new.stage ≡ true }
     {
         let mut from = from;
         let mut so_far = so_far;
@@ -210,8 +227,38 @@ impl BalloonKind {
             self.statistics = so_far;
             return Some(Some(0));
         }
+        let _parts = from.from.parts();
         self.stage = Stage::Tags { from, so_far };
         None
+    }
+}
+
+// ---- once more
+
+fn stage_again(stage: &Stage) -> Stage
+    ensures { result ≡ stage.now }
+{
+    match stage {
+        Stage::Rest => Stage::Rest,
+        Stage::List { list, pages } => Stage::List {
+            list: collect_again(list),
+            pages: *pages,
+        },
+        Stage::Zeros {
+            list,
+            pages,
+            left,
+            at,
+        } => Stage::Zeros {
+            list: collect_again(list),
+            pages: *pages,
+            left: *left,
+            at: *at,
+        },
+        Stage::Tags { from, so_far } => Stage::Tags {
+            from: collect_again(from),
+            so_far: *so_far,
+        },
     }
 }
 
@@ -298,6 +345,7 @@ impl Kind for BalloonKind {
         Some(false)
     }
 
+    #[tactic(auto, using(crate::proofs::Staying::answer_rests))]
     fn answer_on(&mut self, reply: &Reply) -> Option<bool> {
         let _ = reply;
         Some(false)
@@ -312,6 +360,7 @@ impl Kind for BalloonKind {
         let _ = which;
     }
 
+    #[tactic(auto, using(crate::proofs::Staying::taken))]
     fn take(&mut self, which: Which, parts: PartList) -> Option<Option<TakenParts>> {
         match which {
             Which::First | Which::Second => {
@@ -325,6 +374,7 @@ impl Kind for BalloonKind {
         }
     }
 
+    #[tactic(auto, using(crate::proofs::Staying::take_rests))]
     fn take_on(&mut self, reply: &Reply) -> Option<Option<TakenParts>> {
         let _ = reply;
         Some(None)
@@ -379,7 +429,7 @@ impl Kind for BalloonKind {
                 pages,
                 left,
                 at,
-            } => self.zeros_on(list, pages, left - 1, at + 64),
+            } => self.zeros_on(list, pages, left, at),
             Stage::Tags { from, so_far } => {
                 let mut from = from;
                 let piece = from.from.give(reply);
@@ -408,5 +458,14 @@ impl Kind for BalloonKind {
         let BalloonChange::Interval(seconds) = change;
         self.interval = seconds;
         None
+    }
+
+    fn again(&self) -> BalloonKind {
+        BalloonKind {
+            interval: self.interval,
+            last: self.last,
+            statistics: self.statistics,
+            stage: stage_again(&self.stage),
+        }
     }
 }

@@ -1,5 +1,5 @@
 // What holds of a balloon, by what holds of every kind of device with queues.
-ghost use Rattle.std.specs.Prelude.{◌≡◌, ◌<◌, ◌≤◌, ◌^◌, ℕ, true, List};
+ghost use Rattle.std.specs.Prelude.{◌≡◌, ◌≤◌, ◌^◌, ℕ, true, List};
 ghost use Rattle.vm_types.specs.declared.reply.Reply.{Reply};
 ghost use Rattle.vm_types.specs.Fits.{Fits};
 ghost use Rattle.device_trace.specs.States.{LeadsTo, changed_at, stepped, wants};
@@ -24,11 +24,11 @@ ghost use Rattle.balloon_device.specs.Sequences.{used_lane};
 use crate::kind::BalloonKind;
 use queue_device::{queue_goes_on, queue_kept, queue_one, queue_stays};
 
-/// Wherever the items of a balloon lead, it wants an act of its own, or guest time, and no byte outside RAM: the pages that it
-/// zeroes lie in RAM too, whatever numbers a driver lists.
+/// Wherever the items of a balloon lead, it wants an act of its own, or guest time, and in a guest of fewer than 2^32 pages no byte
+/// outside RAM: the pages that it zeroes lie in RAM too, whatever numbers a driver lists.
 pub fn balloon_stays()
     ensures { (port pages interval : ℕ) (items : List (Item BalloonChange)) (left : Script (Queued Balloon)) →
-        pages < 2 ^ 32 → LeadsTo balloon_rules (new_balloon port pages interval) items left →
+        LeadsTo balloon_rules (new_balloon port pages interval) items left →
         IsDeviceAct true no_call port pages (wants balloon_rules left) }
 {
     queue_stays::<BalloonKind>();
@@ -36,10 +36,10 @@ pub fn balloon_stays()
 
 /// What is left of a balloon in a state that it may be in is confined, and tells its data.
 pub fn balloon_kept()
-    ensures stays { (p : Phase) (r : Rounds) (e : Balloon) (g : Stage) → r.pages < 2 ^ 32 →
+    ensures stays { (p : Phase) (r : Rounds) (e : Balloon) (g : Stage) →
         is_state balloon true is_work p r g ≡ true →
         IsConfined balloon true no_call r.port r.pages (left_at balloon p (hand_of g) (queued r e)) }
-    ensures one { (p q : Phase) (r t : Rounds) (e f : Balloon) (g h : Stage) → r.pages < 2 ^ 32 → t.pages < 2 ^ 32 →
+    ensures one { (p q : Phase) (r t : Rounds) (e f : Balloon) (g h : Stage) →
         is_state balloon true is_work p r g ≡ true → is_state balloon true is_work q t h ≡ true →
         left_at balloon p (hand_of g) (queued r e) ≡ left_at balloon q (hand_of h) (queued t f) → queued r e ≡ queued t f }
 {

@@ -1,6 +1,5 @@
 -- What the service of a request begins with.
 use Rattle.std.proofs.Common.{◌≡◌, ℕ, ◌+◌, ◌*◌, ◌-◌, ◌/◌, ◌%◌, ◌^◌, ◌==◌, ◌<◌, ◌≤◌, ◌&&◌, not, nat_le, refl, Bool, true, false, if◌then◌else◌, List, [], ◌∷◌, length, arith}
-use Rattle.std.specs.List.{filter}
 use Rattle.le_fields.specs.Fields.{field_at}
 use Rattle.vq_split.specs.declared.queue.Part.{Part}
 use Rattle.vq_split.specs.Inside.{AreInside}
@@ -9,6 +8,7 @@ use Rattle.dev_core.specs.Collecting.{nothing}
 use Rattle.dev_core.specs.Pieces.{total}
 use Rattle.block_device.specs.declared.stage.ServiceStage.TheVariants as stage
 use Rattle.block_device.specs.Service.{Request, behind_header, io_error, is_range, kind_flush, kind_get_id, kind_in, kind_out, served_as, served_id, served_in, served_out, service, unsupported}
+use Rattle.block_device.proofs.Kept.{ArePart}
 use Rattle.block_device.proofs.GoesOnServe.{Serves, ends, gathers_on, puts_id_on, reads_on, serves_if}
 
 -- ---- how many bytes parts have
@@ -21,16 +21,6 @@ total_most pages (part ∷ parts) small inside =
     let here = of_ram pages part.at part.len inside.1 in
     let rest = total_most pages parts small inside.2 in
     omega (arith, here, rest)
-
-fewer_if : (test : Bool) (part : Part) (parts : List Part) → length (if test then part ∷ parts else parts) ≤ length parts + 1
-fewer_if true part parts = omega arith
-fewer_if false part parts = omega arith
-
--- there are no more parts of one direction
-pub filter_few : (test : Part → Bool) (parts : List Part) → length (filter test parts) ≤ length parts
-filter_few test [] = omega arith
-filter_few test (part ∷ parts) =
-    omega (arith, fewer_if (test part) part (filter test parts), filter_few test parts)
 
 -- ---- the kinds of request
 
@@ -52,7 +42,7 @@ module _ (pages : ℕ) (r : Request) where
       reads_on pages r.at (r.data_in / 64) 0 sector r.writable (omega arith) units end inside few)
       (λ off. ends pages r.at io_error 1)
 
-  out_on : (sector : ℕ) → r.sectors < 2 ^ 64 → r.data_out ≤ 2 ^ 40 → AreInside pages r.got.parts
+  out_on : (sector : ℕ) → r.sectors < 2 ^ 64 → r.data_out ≤ 2 ^ 41 → ArePart pages r.got.parts
       → Serves pages r.at (served_out sector r)
   out_on sector size most inside =
       serves_if pages r.at (not r.read_only && is_range r.data_out sector r.sectors) _ _
@@ -68,8 +58,8 @@ module _ (pages : ℕ) (r : Request) where
       serves_if pages r.at (r.data_in == 20) _ _ (λ is. puts_id_on pages r.at r.id r.writable inside few)
       (λ off. ends pages r.at io_error 1)
 
-  served_on : (kind sector : ℕ) → r.sectors < 2 ^ 64 → r.data_in ≤ 2 ^ 40 → r.data_out ≤ 2 ^ 40
-      → AreInside pages r.writable → length r.writable ≤ 256 → AreInside pages r.got.parts
+  served_on : (kind sector : ℕ) → r.sectors < 2 ^ 64 → r.data_in ≤ 2 ^ 40 → r.data_out ≤ 2 ^ 41
+      → AreInside pages r.writable → length r.writable ≤ 256 → ArePart pages r.got.parts
       → Serves pages r.at (served_as kind sector r)
   served_on kind sector size put got to few from =
       serves_if pages r.at (kind == kind_in) _ _ (λ is. in_on sector size put to few)
@@ -82,13 +72,14 @@ module _ (pages : ℕ) (r : Request) where
         is = (refl, refl);
         placed = (tt, tt);
         few = omega arith;
+        fewer = omega arith;
         left = refl;
       })
       (λ c. serves_if pages r.at (kind == kind_get_id) _ _ (λ is. id_on to few)
       (λ d. ends pages r.at unsupported 1))))
 
-  pub service_on : r.sectors < 2 ^ 64 → r.data_in ≤ 2 ^ 40 → r.data_out ≤ 2 ^ 40 → AreInside pages r.writable
-      → length r.writable ≤ 256 → AreInside pages r.got.parts → Serves pages r.at (service r)
+  pub service_on : r.sectors < 2 ^ 64 → r.data_in ≤ 2 ^ 40 → r.data_out ≤ 2 ^ 41 → AreInside pages r.writable
+      → length r.writable ≤ 256 → ArePart pages r.got.parts → Serves pages r.at (service r)
   unfolding service
   service_on size put got to few from =
       served_on (field_at r.got.bytes 0 4) (field_at r.got.bytes 8 8) size put got to few from

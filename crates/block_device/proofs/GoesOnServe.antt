@@ -12,10 +12,13 @@ use Rattle.dev_core.specs.Collecting.{nothing}
 use Rattle.dev_core.specs.Pieces.{Got, past, place, put_all, room, share}
 use Rattle.dev_core.proofs.Fuel.{bytes_fit, collect_done, collect_led, put_done}
 use Rattle.dev_core.proofs.Inside.{past_inside}
+use Rattle.queue_device.specs.Chains.{got_of}
+use Rattle.queue_device.proofs.Pieces.{is_some_of, more_of, past_few}
 use Rattle.block_device.specs.declared.stage.ServiceStage.{ServiceStage}
 use Rattle.block_device.specs.declared.stage.ServiceStage.TheVariants as stage
 use Rattle.block_device.specs.Service.{behind_unit, done_by, done_status, id_put, io_error, ok, read_by, status_written, unit_written, units_in, units_out, used_of}
-use Rattle.block_device.specs.Serving.{ArePlaced, IsStage, IsWithin, got_of, serving_left, serving_op}
+use Rattle.block_device.specs.Serving.{ArePlaced, IsStage, IsWithin, serving_left, serving_op}
+use Rattle.block_device.proofs.Kept.{ArePart}
 use Rattle.block_device.proofs.Moves.{in_wrapped, out_wrapped}
 use Rattle.block_device.proofs.Steps.{gather_next, put_next}
 
@@ -27,6 +30,7 @@ pub record Serves (pages at : ℕ) (t : Doing ℕ) : Type 0 where
   pub is : IsStage stage from to
   pub placed : ArePlaced pages from to
   pub few : length to ≤ 256
+  pub fewer : length from.from ≤ 256
   pub left : serving_left stage from to at ≡ t
 
 -- or its used length
@@ -38,28 +42,6 @@ eq_of n m is = grind arith
 
 apart_of : (n m : ℕ) → (n == m) ≡ false → n ≤ m → n < m
 apart_of n m is most = grind arith
-
-some_of : (n : ℕ) → (n == 0) ≡ false → 0 < n
-some_of n is = grind arith
-
--- what is short of so many bytes, and may read more
-pub more_of : (need n space : ℕ) → ((need - n == 0) || (space == 0)) ≡ false → (n < need) × (0 < space)
-more_of need n space is = (grind arith, grind arith)
-
-fewer_if : (test : Bool) (part : Part) (parts : List Part)
-    → length (if test then parts else part ∷ parts) ≤ length parts + 1
-fewer_if true part parts = omega arith
-fewer_if false part parts = omega arith
-
--- a piece leaves no more parts
-pub past_few : (n most : ℕ) (parts : List Part) → length parts ≤ most → length (past n parts) ≤ most
-past_few n most [] few = few
-past_few n most (part ∷ parts) few = omega (
-  arith,
-  few,
-  fewer_if (part.len == n)
-      (record { at = (part.at + n) % 2 ^ 64; len = part.len - n; writable = part.writable }) parts,
-)
 
 module _ (pages at : ℕ) where
   pub moved : (t u : Doing ℕ) → t ≡ u → Serves pages at t → Serves pages at u
@@ -79,6 +61,7 @@ module _ (pages at : ℕ) where
     is = (refl, refl);
     placed = (tt, tt);
     few = omega arith;
+    fewer = omega arith;
     left = refl;
   }
 
@@ -98,6 +81,7 @@ module _ (pages at : ℕ) where
         is = (record { units = units; inside = end }, refl, omega arith);
         placed = (tt, inside);
         few = few;
+        fewer = omega arith;
         left = in_wrapped (suc more) unit sector to at (omega arith) is;
       }
   reads_unit false more unit sector to test most within inside few = record {
@@ -107,6 +91,7 @@ module _ (pages at : ℕ) where
     is = (within, refl, apart_of unit (2 ^ 26) test most);
     placed = (tt, inside);
     few = few;
+    fewer = omega arith;
     left = refl;
   }
 
@@ -130,9 +115,10 @@ module _ (pages at : ℕ) where
     stage = stage.Put sector unit more;
     from = record { from = []; held = held };
     to = to;
-    is = (within, refl, some_of (share held to) test, below);
+    is = (within, refl, is_some_of (share held to) test, below);
     placed = (tt, inside);
     few = few;
+    fewer = omega arith;
     left = refl;
   }
 
@@ -153,9 +139,10 @@ module _ (pages at : ℕ) where
     stage = stage.PutId;
     from = record { from = []; held = held };
     to = to;
-    is = (refl, some_of (share held to) test);
+    is = (refl, is_some_of (share held to) test);
     placed = (tt, inside);
     few = few;
+    fewer = omega arith;
     left = refl;
   }
 
@@ -167,7 +154,7 @@ module _ (pages at : ℕ) where
 
   gathers_unit : (test : Bool) (more part sector : ℕ) (got : Got)
       → ((64 - length got.bytes == 0) || (room got.parts == 0)) ≡ test → part < 8 → IsWithin sector part more
-      → AreInside pages got.parts → Serves pages at (units_out (suc more) part sector at got)
+      → ArePart pages got.parts → Serves pages at (units_out (suc more) part sector at got)
   gathers_unit true more part sector got test below within inside =
       let on : Got → Doing ℕ = unit_written part sector at (units_out more (part + 1) sector at) in
       moved (on got) _ (sym (ap (λ t. and_then t on) (collect_done (64 - length got.bytes) got.bytes got.parts test)))
@@ -176,8 +163,9 @@ module _ (pages at : ℕ) where
         from = record { from = got.parts; held = got.bytes };
         to = [];
         is = (within, refl, below);
-        placed = (inside, tt);
+        placed = (inside.0, tt);
         few = omega arith;
+        fewer = inside.1;
         left = refl;
       })
   gathers_unit false more part sector got test below within inside =
@@ -187,13 +175,14 @@ module _ (pages at : ℕ) where
         from = record { from = got.parts; held = got.bytes };
         to = [];
         is = (within, refl, more_is.0, more_is.1, below);
-        placed = (inside, tt);
+        placed = (inside.0, tt);
         few = omega arith;
+        fewer = inside.1;
         left = refl;
       }
 
   pub gathers_on : (units part sector : ℕ) (got : Got) → part < 8 → part + units ≤ 2 ^ 50
-      → sector + (part + units - 1) / 8 < 2 ^ 64 → AreInside pages got.parts
+      → sector + (part + units - 1) / 8 < 2 ^ 64 → ArePart pages got.parts
       → Serves pages at (units_out units part sector at got)
   gathers_on zero part sector got below count end inside = ends ok 1
   gathers_on (suc more) part sector got below count end inside =
@@ -201,7 +190,7 @@ module _ (pages at : ℕ) where
       (record { units = omega (arith, count); inside = omega (arith, end) }) inside
 
   next_part : (test : Bool) (more part sector : ℕ) (got : Got) → (part == 7) ≡ test → part < 8
-      → IsWithin sector part (suc more) → AreInside pages got.parts
+      → IsWithin sector part (suc more) → ArePart pages got.parts
       → Serves pages at (units_out (suc more) (part + 1) sector at got)
   next_part true more part sector got test below within inside =
       let is = eq_of part 7 test in
@@ -214,7 +203,7 @@ module _ (pages at : ℕ) where
       (omega (arith, within.inside)) inside
 
   pub next_on : (units part sector : ℕ) (got : Got) → part < 8 → IsWithin sector part units
-      → AreInside pages got.parts → Serves pages at (units_out units (part + 1) sector at got)
+      → ArePart pages got.parts → Serves pages at (units_out units (part + 1) sector at got)
   next_on zero part sector got below within inside = ends ok 1
   next_on (suc more) part sector got below within inside =
       next_part (part == 7) more part sector got refl below within inside
@@ -232,7 +221,7 @@ module _ (pages at : ℕ) where
   done_came reply good bad on off = off
 
   gather_came : (sector part more : ℕ) (from : Collect) (to : List Part) (reply : Reply) → pages < 2 ^ 32
-      → IsStage (stage.Gather sector part more) from to → AreInside pages from.from
+      → IsStage (stage.Gather sector part more) from to → ArePart pages from.from
       → fits (serving_op (stage.Gather sector part more) from to at) reply ≡ true
       → Serves pages at (led (serving_left (stage.Gather sector part more) from to at) reply)
   gather_came sector part more from to reply small is inside fit =
@@ -244,31 +233,31 @@ module _ (pages at : ℕ) where
       moved (units_out (more + 1) part sector at (got_of now)) _
       (gather_next from now sector part more at reply is.2 is.3 whole)
       (gathers_on (more + 1) part sector (got_of now) is.4 (omega (arith, is.0.units)) (omega (arith, is.0.inside))
-      (past_inside pages space from.from small inside (omega arith)))
+      (past_inside pages space from.from small inside.0 (omega arith), past_few space 256 from.from inside.1))
 
   pub serves_on : (s : ServiceStage) (from : Collect) (to : List Part) (reply : Reply) → pages < 2 ^ 32
-      → IsStage s from to → ArePlaced pages from to → length to ≤ 256 → fits (serving_op s from to at) reply ≡ true
+      → IsStage s from to → ArePart pages from.from → ArePart pages to → fits (serving_op s from to at) reply ≡ true
       → ServesOn pages at (led (serving_left s from to at) reply)
-  serves_on (stage.Read sector unit more) from to reply small is placed few fit =
-      inl (read_came reply _ _ (λ piece. puts_on piece to sector unit more is.0 is.2 placed.1 few)
+  serves_on (stage.Read sector unit more) from to reply small is read put fit =
+      inl (read_came reply _ _ (λ piece. puts_on piece to sector unit more is.0 is.2 put.0 put.1)
       (ends io_error (used_of unit)))
-  serves_on (stage.Put sector unit more) from to reply small is placed few fit =
+  serves_on (stage.Put sector unit more) from to reply small is read put fit =
       let n = share from.held to in
       inl (moved _ _
       (put_next from.held (drop n from.held) to (past n to) n (λ left. units_in more (unit + 1) sector left at) reply is.2
       refl refl refl)
       (puts_on (drop n from.held) (past n to) sector unit more is.0 is.3
-      (past_inside pages n to small placed.1 (omega arith)) (past_few n 256 to few)))
-  serves_on stage.PutId from to reply small is placed few fit =
+      (past_inside pages n to small put.0 (omega arith)) (past_few n 256 to put.1)))
+  serves_on stage.PutId from to reply small is read put fit =
       let n = share from.held to in
       inl (moved _ _
       (put_next from.held (drop n from.held) to (past n to) n (λ left. status_written at ok 21) reply is.1 refl refl refl)
-      (puts_id_on (drop n from.held) (past n to) (past_inside pages n to small placed.1 (omega arith))
-      (past_few n 256 to few)))
-  serves_on (stage.Gather sector part more) from to reply small is placed few fit =
-      inl (gather_came sector part more from to reply small is placed.0 fit)
-  serves_on (stage.Disk sector part more) from to reply small is placed few fit =
-      inl (done_came reply _ _ (next_on more part sector (behind_unit (got_of from)) is.2 is.0 placed.0)
+      (puts_id_on (drop n from.held) (past n to) (past_inside pages n to small put.0 (omega arith))
+      (past_few n 256 to put.1)))
+  serves_on (stage.Gather sector part more) from to reply small is read put fit =
+      inl (gather_came sector part more from to reply small is read fit)
+  serves_on (stage.Disk sector part more) from to reply small is read put fit =
+      inl (done_came reply _ _ (next_on more part sector (behind_unit (got_of from)) is.2 is.0 read)
       (ends io_error 1))
-  serves_on stage.Flush from to reply small is placed few fit = inl (ends (done_status reply) 1)
-  serves_on (stage.Status status used) from to reply small is placed few fit = inr (used, refl)
+  serves_on stage.Flush from to reply small is read put fit = inl (ends (done_status reply) 1)
+  serves_on (stage.Status status used) from to reply small is read put fit = inr (used, refl)

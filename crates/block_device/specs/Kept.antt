@@ -1,20 +1,17 @@
--- The states that a block device may be in, as a test; `States.antt` says them as a fact.
-use Rattle.std.specs.Prelude.{ℕ, ◌+◌, ◌/◌, ◌^◌, ◌==◌, nat_le, nat_lt, Bool, true, false, ◌&&◌, Option, Some, None, List, length}
-use Rattle.vq_split.specs.declared.queue.Queue.{Queue}
+-- What a block device may keep in a chain, as a test.
+use Rattle.std.specs.Prelude.{ℕ, ◌+◌, ◌/◌, ◌^◌, ◌==◌, nat_le, nat_lt, Bool, true, false, ◌&&◌, if◌then◌else◌, Option, Some, None, List, length}
 use Rattle.vq_split.specs.declared.queue.Part.{Part}
 use Rattle.vq_split.specs.Chain.{is_inside}
-use Rattle.vq_split.specs.Kept.{are_inside, is_sound, is_walking}
-use Rattle.vq_split.specs.Walking.{Walking}
+use Rattle.vq_split.specs.Kept.{are_inside}
 use Rattle.dev_core.specs.declared.collect.Collect.{Collect}
-use Rattle.dev_core.specs.declared.returning.ReturnStage.{ReturnStage}
-use Rattle.dev_core.specs.declared.returning.ReturnStage.TheVariants as returning
 use Rattle.dev_core.specs.Pieces.{room, share}
-use Rattle.block_device.specs.declared.data.BlockData.{BlockData}
-use Rattle.block_device.specs.declared.phase.Phase.{Phase}
-use Rattle.block_device.specs.declared.phase.Phase.TheVariants as phase
-use Rattle.block_device.specs.declared.phase.BlockState.{BlockState}
+use Rattle.queue_device.specs.declared.phase.Work.{Work}
+use Rattle.queue_device.specs.declared.phase.Work.TheVariants as work
 use Rattle.block_device.specs.declared.stage.ServiceStage.{ServiceStage}
 use Rattle.block_device.specs.declared.stage.ServiceStage.TheVariants as stage
+use Rattle.block_device.specs.declared.work.BlockStage.{BlockStage}
+use Rattle.block_device.specs.declared.work.BlockStage.TheVariants as at
+use Rattle.block_device.specs.Working.{Working}
 
 -- a range of sectors that was found inside the disk, by its units
 abbrev pub is_within : ℕ → ℕ → ℕ → Bool
@@ -40,41 +37,35 @@ is_stage (stage.Disk sector part more) from to = is_within sector part more && (
 is_stage stage.Flush from to = is_clear from to
 is_stage (stage.Status status used) from to = is_clear from to
 
--- the parts that are left lie inside RAM
-abbrev pub are_placed : ℕ → Collect → List Part → Bool
-are_placed pages from to = are_inside pages from.from && are_inside pages to
+-- what it keeps fits what it is at
+abbrev pub is_at : BlockStage → Collect → List Part → Bool
+is_at at.Rest from to = is_clear from to
+is_at at.Header from to = nat_lt (length from.held) 16 && nat_lt 0 (room from.from) && nat_lt 0 (length to)
+is_at (at.Serve status stage) from to = is_stage stage from to
 
--- what is told already of a chain that is given back isn't kept
-abbrev pub is_told : ReturnStage → ℕ → ℕ → Bool
-is_told returning.Pair len head = true
-is_told returning.Half len head = head == 0
-is_told stage len head = (len == 0) && (head == 0)
+-- and so do its rounds
+abbrev pub is_of : Work → BlockStage → Bool
+is_of work.Answer stage = false
+is_of work.Rest at.Rest = true
+is_of (work.Take k) at.Header = true
+is_of (work.Serve k) (at.Serve status stage) = true
+is_of w stage = false
 
-abbrev pub is_phase : Phase → BlockData → Collect → List Part → Bool
-is_phase phase.Between d from to = is_clear from to
-is_phase (phase.Break stage) d from to = is_clear from to
-is_phase (phase.Header len head) d from to =
-    is_sound d.queue && nat_le len (2 ^ 40) && nat_lt (length from.held) 16 && nat_lt 0 (room from.from)
-    && nat_lt 0 (length to) && are_placed d.queue.pages from to
-is_phase (phase.Serve at stage head) d from to =
-    is_sound d.queue && is_stage stage from to && is_inside d.queue.pages at 1 && are_placed d.queue.pages from to
-is_phase (phase.Return len head stage) d from to = is_sound d.queue && is_clear from to && is_told stage len head
+-- the work that keeps these, if there may be such a one
+abbrev pub working_from : BlockStage → Collect → List Part → Option Working
+working_from stage from to = if is_at stage from to then Some (record { stage = stage; from = from; to = to }) else None
 
-abbrev pub is_between : Phase → Bool
-is_between phase.Between = true
-is_between phase = false
+-- the status goes to a place inside RAM
+abbrev pub has_place : ℕ → BlockStage → Bool
+has_place pages at.Rest = true
+has_place pages at.Header = true
+has_place pages (at.Serve status stage) = is_inside pages status 1
 
-abbrev pub is_same_queue : Queue → Queue → Bool
-is_same_queue a b =
-    (a.descriptors == b.descriptors) && (a.available == b.available) && (a.used == b.used) && (a.size == b.size)
-    && (a.pages == b.pages)
+-- parts inside RAM, at most 256 of them
+abbrev pub are_placed : ℕ → List Part → Bool
+are_placed pages parts = are_inside pages parts && nat_le (length parts) 256
 
--- the next chain of the queue is walked, and meanwhile nothing else is begun
-abbrev pub is_walk : Option Walking → BlockState → Bool
-is_walk (Some walk) b =
-    is_walking walk && is_same_queue walk.queue b.facts.queue && (walk.next == b.facts.next) && is_between b.phase
-    && is_clear b.from b.to
-is_walk None b = is_phase b.phase b.facts b.from b.to
-
-abbrev pub is_state : BlockState → Bool
-is_state b = is_walk b.walk b
+abbrev pub is_work : Work → ℕ → Working → Bool
+is_work w pages b =
+    is_of w b.stage && is_at b.stage b.from b.to && has_place pages b.stage && are_placed pages b.from.from
+    && are_placed pages b.to

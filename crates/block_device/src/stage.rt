@@ -3,8 +3,9 @@ ghost use Rattle.std.specs.Prelude.{ℕ, ◌≡◌, ◌≤◌, ◌<◌, ◌+◌,
 ghost use Rattle.device_trace.specs.Doing.{and_then};
 ghost use Rattle.dev_core.specs.Collecting.{nothing};
 ghost use Rattle.dev_core.specs.Pieces.{put_all, share};
+ghost use Rattle.queue_device.specs.Chains.{got_of};
 ghost use Rattle.block_device.specs.Service.{id_put, is_range, status_written, units_in, units_out, used_of};
-ghost use Rattle.block_device.specs.Serving.{IsStage, IsWithin, StayPlaced, got_of, serving_left};
+ghost use Rattle.block_device.specs.Serving.{IsStage, IsWithin, StayPlaced, serving_left};
 
 use dev_core::{Collect, Held, Scatter};
 

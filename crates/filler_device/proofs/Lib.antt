@@ -1,3 +1,4 @@
 pub mod Filler
 pub mod Passing
 pub mod Resuming
+pub mod Staying

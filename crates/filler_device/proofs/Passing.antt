@@ -1,20 +1,11 @@
 -- What a gate tells, and what passes.
 use Rattle.std.proofs.Common.{◌≡◌, ℕ, ◌≤◌, refl, Bool, true, false, if◌then◌else◌, Some, None, take, replicate}
 use Rattle.std.proofs.lemmas.List.{take-replicate}
-use Rattle.rate_gate.specs.declared.gate.Pass.TheVariants.{Go, WaitUntil}
 use Rattle.rate_gate.specs.Gate.{Buckets, gate_takes, gate_took}
 use Rattle.filler_device.specs.Filler.{Filler, passes_by}
 
 pub copies_of : (count byte : ℕ) → count ≤ 64 → take count (replicate 64 byte) ≡ replicate count byte
 copies_of count byte most = take-replicate count 64 byte most
-
-pub go_takes : (test : Bool) (wait : ℕ) → Go ≡ (if test then Go else WaitUntil wait) → true ≡ test
-go_takes true wait is = refl
-go_takes false wait is = cc
-
-pub wait_waits : (test : Bool) (wait until : ℕ) → WaitUntil until ≡ (if test then Go else WaitUntil wait) → false ≡ test
-wait_waits true wait until is = cc
-wait_waits false wait until is = refl
 
 passes_by_test : (e : Filler) (bytes now : ℕ) (test told : Bool) (limits : Buckets) → gate_takes e.limits bytes now ≡ test
     → told ≡ test → (told ≡ true → limits ≡ gate_took e.limits bytes now)

@@ -24,16 +24,16 @@ use Rattle.queue_device.specs.declared.phase.Work.TheVariants as work
 use Rattle.queue_device.specs.declared.spill.Spill.{Spill}
 use Rattle.queue_device.specs.Acting.{Acting, ActingKeeps, Comes, performing}
 use Rattle.queue_device.specs.Chains.{Chain, Taken}
-use Rattle.queue_device.specs.Confined.{IsChain, IsDeviceAct, IsTaken}
+use Rattle.queue_device.specs.Confined.{IsChain, IsDeviceAct}
 use Rattle.queue_device.specs.Resuming.{Goes, IsShortChain, IsShortTaken, Resumes, serving_of, taking_of}
 use Rattle.queue_device.specs.Spilling.{spill_left}
-use Rattle.queue_device.proofs.Acting.{led_keeps, performing_acts, performing_keeps}
+use Rattle.queue_device.proofs.Acting.{keeps_when, led_keeps, performing_acts, performing_keeps}
 use Rattle.queue_device.proofs.Pieces.{collect_asks, collect_next, filter_few, is_some_of, more_of, put_asks, put_next}
 use Rattle.filler_device.specs.declared.kind.Stage.{Stage}
 use Rattle.filler_device.specs.declared.kind.Stage.TheVariants as stage
 use Rattle.filler_device.specs.Filler.{Filler, filled, filler, limited, no_bytes, no_call, only_read, served_by, taken_by}
 use Rattle.filler_device.specs.Work.{AnyFiller, hand_of, is_work}
-use Rattle.filler_device.proofs.Filler.{reads, writes}
+use Rattle.filler_device.proofs.Filler.{Taking, reads, writes}
 
 -- ---- the tests
 
@@ -87,41 +87,45 @@ no_answer pages (stage.Fill spill len) is = cc
 
 -- ---- what is left keeps to its own
 
-taking_stays : (port pages : ℕ) (k : Which) (g : Stage) → pages < 2 ^ 32 → is_work (work.Take k) pages g ≡ true
+taking_stays : (port pages : ℕ) (k : Which) (g : Stage) → is_work (work.Take k) pages g ≡ true
     → IsDeviceAct true no_call port pages (hand_of g).op
     × ((e : Filler) (reply : Reply) → Fits (hand_of g).op reply
-    → ActingKeeps (IsDeviceAct true no_call port pages) (IsTaken filler pages k) ((hand_of g).taking e reply))
-taking_stays port pages k stage.Rest few is = absurd (cc)
-taking_stays port pages k (stage.Fill spill len) few is = absurd (cc)
-taking_stays port pages k (stage.Take from) few is =
+    → ActingKeeps (IsDeviceAct true no_call port pages) (Taking pages k) ((hand_of g).taking e reply))
+taking_stays port pages k stage.Rest is = absurd (cc)
+taking_stays port pages k (stage.Fill spill len) is = absurd (cc)
+taking_stays port pages k (stage.Take from) is =
     let v = reads_of pages k from is in
-    let keeps = keeps_both (IsInside pages) (IsAskedBy true no_call port) (λ (got : Got). AreInside pages got.parts)
-    (Any {A = Got}) (collect_left 1 from) (collect_all_keeps pages (1 - length from.held) from.held from.from few v.inside)
+    let keeps = keeps_both (λ op. pages < 2 ^ 32 → IsInside pages op) (IsAskedBy true no_call port)
+    (λ (got : Got). pages < 2 ^ 32 → AreInside pages got.parts) (Any {A = Got}) (collect_left 1 from)
+    (keeps_when (pages < 2 ^ 32) (IsInside pages) (λ (got : Got). AreInside pages got.parts) (collect_left 1 from)
+    (λ few. collect_all_keeps pages (1 - length from.held) from.held from.from few v.inside))
     (collect_all_asks (IsAskedBy true no_call port) (reads port) (1 - length from.held) from.held from.from) in
-    let on = led_keeps (IsDeviceAct true no_call port pages) (λ (got : Got). AreInside pages got.parts × Any got)
+    let on = led_keeps (IsDeviceAct true no_call port pages) (λ (got : Got). (pages < 2 ^ 32 → AreInside pages got.parts) × Any got)
     (collect_left 1 from) _ (collect_asks 1 from v.short v.space) keeps in (
       on.0,
       λ e reply fit. performing_keeps (IsDeviceAct true no_call port pages)
-          (λ (got : Got). AreInside pages got.parts × Any got) (IsTaken filler pages k) (led (collect_left 1 from) reply) e
-          _ (on.1 reply fit) (λ f got held. (tt, held.0, refl)),
+          (λ (got : Got). (pages < 2 ^ 32 → AreInside pages got.parts) × Any got) (Taking pages k) (led (collect_left 1 from) reply) e
+          _ (on.1 reply fit) (λ f got held few. (tt, held.0 few, refl)),
     )
 
-serving_stays : (port pages : ℕ) (k : Which) (g : Stage) → pages < 2 ^ 32 → is_work (work.Serve k) pages g ≡ true
+serving_stays : (port pages : ℕ) (k : Which) (g : Stage) → is_work (work.Serve k) pages g ≡ true
     → IsDeviceAct true no_call port pages (hand_of g).op
     × ((e : Filler) (reply : Reply) → Fits (hand_of g).op reply
     → ActingKeeps (IsDeviceAct true no_call port pages) Any ((hand_of g).serving e reply))
-serving_stays port pages k stage.Rest few is = absurd (cc)
-serving_stays port pages k (stage.Take from) few is = absurd (cc)
-serving_stays port pages k (stage.Fill spill len) few is =
+serving_stays port pages k stage.Rest is = absurd (cc)
+serving_stays port pages k (stage.Take from) is = absurd (cc)
+serving_stays port pages k (stage.Fill spill len) is =
     let v = fills_of pages k spill len is in
-    let keeps = keeps_both (IsInside pages) (IsAskedBy true no_call port) (λ (left : List Part). AreInside pages left)
-    (Any {A = List Part}) (spill_left spill) (put_all_keeps pages spill.held spill.to few v.inside)
+    let keeps = keeps_both (λ op. pages < 2 ^ 32 → IsInside pages op) (IsAskedBy true no_call port)
+    (λ (left : List Part). pages < 2 ^ 32 → AreInside pages left) (Any {A = List Part}) (spill_left spill)
+    (keeps_when (pages < 2 ^ 32) (IsInside pages) (λ (left : List Part). AreInside pages left) (spill_left spill)
+    (λ few. put_all_keeps pages spill.held spill.to few v.inside))
     (put_all_asks (IsAskedBy true no_call port) (writes port) spill.held spill.to) in
-    let on = led_keeps (IsDeviceAct true no_call port pages) (λ (left : List Part). AreInside pages left × Any left)
+    let on = led_keeps (IsDeviceAct true no_call port pages) (λ (left : List Part). (pages < 2 ^ 32 → AreInside pages left) × Any left)
     (spill_left spill) _ (put_asks spill.held spill.to v.some) keeps in (
       on.0,
       λ e reply fit. performing_keeps (IsDeviceAct true no_call port pages)
-          (λ (left : List Part). AreInside pages left × Any left) Any (led (spill_left spill) reply) e _ (on.1 reply fit)
+          (λ (left : List Part). (pages < 2 ^ 32 → AreInside pages left) × Any left) Any (led (spill_left spill) reply) e _ (on.1 reply fit)
           (λ f left held. tt),
     )
 
@@ -247,7 +251,7 @@ pub resumes : Resumes filler hand_of is_work AnyFiller (setting limited) true no
 resumes = record {
   rest = stage.Rest;
   rests = λ pages. refl;
-  answering_stays = λ port pages g few is. absurd (no_answer pages g is);
+  answering_stays = λ port pages g is. absurd (no_answer pages g is);
   taking_stays = taking_stays;
   serving_stays = serving_stays;
   answer = λ pages before e reply small fine fit.

@@ -1,17 +1,23 @@
 // What the filler does, beside its rounds.
-ghost use Rattle.std.specs.Prelude.{◌≡◌, ◌≤◌, min, replicate, true, false, Some, None, [], get_or};
+ghost use Rattle.std.specs.Prelude.{ℕ, ◌≡◌, ◌≤◌, min, replicate, true, false, Some, None, [], get_or};
 ghost use Rattle.device_trace.specs.Traces.{setting};
 ghost use Rattle.dev_core.specs.Pieces.{total, writable};
 ghost use Rattle.dev_core.specs.Collecting.{collect_left};
-ghost use Rattle.rate_gate.specs.Gate.{gate_takes, gate_took};
 ghost use Rattle.queue_device.specs.Acting.{Comes, Works, performing};
 ghost use Rattle.queue_device.specs.Spilling.{spill_left};
-ghost use Rattle.filler_device.specs.Filler.{only_read};
+ghost use Rattle.queue_device.specs.declared.lanes.Which.{Which};
+ghost use Rattle.queue_device.specs.declared.lanes.Which.TheVariants.{Second};
+ghost use Rattle.queue_device.specs.declared.phase.Work.TheVariants as work;
+ghost use Rattle.queue_device.specs.Kept.{is_fit_told, work_after};
+ghost use Rattle.vq_split.specs.Kept.{are_inside};
+ghost use Rattle.filler_device.specs.Filler.{filler, only_read, taken_by};
 ghost use Rattle.filler_device.specs.Work.{hand_of, is_work};
 
 use dev_core::{Collect, Gather, Held, readable, total, writable};
-use queue_device::{Begin, Kind, Spill, TakenChain, TakenParts, Which, Work};
-use rate_gate::{Pass, RateGate};
+use queue_device::{
+    Begin, Kind, Spill, TakenChain, TakenParts, Which, Work, collect_again, parts_again,
+};
+use rate_gate::RateGate;
 use std::marker::Model;
 use std::mem::replace;
 use token_bucket::Bucket;
@@ -96,40 +102,73 @@ impl FillerKind {
     }
 
     // The byte is read, as long as it isn't there.
+    #[tactic(auto, using(crate::proofs::Staying::read_done, crate::proofs::Staying::read_more))]
     fn read(&mut self, from: Collect) -> Option<Option<TakenParts>>
-        ensures { Works (performing (collect_left 1 from) self.old.own (λ e got. Comes e (Some (only_read got))))
+        ensures works { Works (performing (collect_left 1 from) self.old.own (λ e got. Comes e (Some (only_read got))))
             result self.new.own (hand_of self.new.stage).op (hand_of self.new.stage).taking }
+        ensures work { (pages : ℕ) (k : Which) → is_work work.Rest pages self.old.stage ≡ true →
+            are_inside pages from.from ≡ true → (is_work (work_after result (work.Take k)) pages self.new.stage ≡ true)
+            × (is_fit_told filler pages k result ≡ true) }
     {
         if from.is_done(1) {
             return Some(Some(TakenParts::new(PartList::new(), from)));
         }
+        let _parts = from.from.parts();
         self.stage = Stage::Take(from);
         None
     }
 
+    // The byte of a chain is taken, if there is one.
+    #[tactic(auto, using(crate::proofs::Staying::reads_inside))]
+    fn take_byte(&mut self, parts: &PartList) -> Option<Option<TakenParts>>
+        ensures works { Works (taken_by Second parts.now self.old.own)
+            result self.new.own (hand_of self.new.stage).op (hand_of self.new.stage).taking }
+        ensures work { (pages : ℕ) (k : Which) → is_work work.Rest pages self.old.stage ≡ true →
+            are_inside pages parts.now ≡ true → (is_work (work_after result (work.Take k)) pages self.new.stage ≡ true)
+            × (is_fit_told filler pages k result ≡ true) }
+    {
+        let reads = readable(parts);
+        if total(reads.as_slice()) == 0 {
+            return Some(None);
+        }
+        let from = Collect {
+            from: Gather::new(reads),
+            held: Held::new(),
+        };
+        self.read(from)
+    }
+
     // The bytes are written, as long as there are some.
+    #[tactic(auto, using(crate::proofs::Staying::fill_more))]
     fn fill(&mut self, spill: Spill, len: u32) -> Option<Option<u32>>
-        ensures { Works (performing (spill_left spill) self.old.own (λ e left. Comes e (Some len)))
+        ensures works { Works (performing (spill_left spill) self.old.own (λ e left. Comes e (Some len)))
             result self.new.own (hand_of self.new.stage).op (hand_of self.new.stage).serving }
+        ensures work { (pages : ℕ) (k : Which) → is_work work.Rest pages self.old.stage ≡ true →
+            are_inside pages spill.to ≡ true → is_work (work_after result (work.Serve k)) pages self.new.stage ≡ true }
     {
         if spill.is_done() {
             return Some(Some(len));
         }
+        let _parts = spill.to.parts();
         self.stage = Stage::Fill(spill, len);
         None
     }
 }
 
-// Whether so many bytes and an operation pass at this moment, and what the limits are then.
-#[tactic(auto, using(crate::proofs::Passing::go_takes, crate::proofs::Passing::wait_waits))]
-fn took(limits: &mut RateGate, bytes: u64, now: u64) -> bool
-    ensures takes { result ≡ gate_takes limits.old bytes now }
-    ensures took { result ≡ true → limits.new ≡ gate_took limits.old bytes now }
-    ensures stays { result ≡ false → limits.new ≡ limits.old }
+fn spill_again(spill: &Spill) -> Spill
+    ensures { result ≡ spill.now }
 {
-    match limits.take(bytes, now) {
-        Pass::Go => true,
-        Pass::WaitUntil(_) => false,
+    let held = Held::copy_of(spill.held.as_slice()).unwrap();
+    Spill::new(held, parts_again(spill.to.parts()))
+}
+
+fn stage_again(stage: &Stage) -> Stage
+    ensures { result ≡ stage.now }
+{
+    match stage {
+        Stage::Rest => Stage::Rest,
+        Stage::Take(from) => Stage::Take(collect_again(from)),
+        Stage::Fill(spill, len) => Stage::Fill(spill_again(spill), *len),
     }
 }
 
@@ -253,20 +292,12 @@ impl Kind for FillerKind {
     fn take(&mut self, which: Which, parts: PartList) -> Option<Option<TakenParts>> {
         match which {
             Which::First => Some(Some(TakenParts::new(parts, Collect::new()))),
-            Which::Second | Which::Third => {
-                let reads = readable(&parts);
-                if total(reads.as_slice()) == 0 {
-                    return Some(None);
-                }
-                let from = Collect {
-                    from: Gather::new(reads),
-                    held: Held::new(),
-                };
-                self.read(from)
-            }
+            Which::Second => self.take_byte(&parts),
+            Which::Third => self.take_byte(&parts),
         }
     }
 
+    #[tactic(auto, using(crate::proofs::Staying::take_next))]
     fn take_on(&mut self, reply: &Reply) -> Option<Option<TakenParts>> {
         match replace(&mut self.stage, Stage::Rest) {
             Stage::Take(from) => {
@@ -289,7 +320,7 @@ impl Kind for FillerKind {
     #[tactic(auto, using(crate::proofs::Passing::passes_told))]
     fn passes(&mut self, which: Which, chain: &TakenChain, now: u64) -> bool {
         let _ = which;
-        took(&mut self.limits, filled(chain.parts()) as u64, now)
+        self.limits.passes(filled(chain.parts()) as u64, now)
     }
 
     fn serves(&self, which: Which, chain: &TakenChain) -> Begin {
@@ -319,6 +350,7 @@ impl Kind for FillerKind {
         }
     }
 
+    #[tactic(auto, using(crate::proofs::Staying::fill_next))]
     fn serve_on(&mut self, reply: &Reply) -> Option<Option<u32>> {
         let _ = reply;
         match replace(&mut self.stage, Stage::Rest) {
@@ -347,5 +379,13 @@ impl Kind for FillerKind {
         let FillerChange::Limits(bandwidth, ops) = change;
         self.limits.set_buckets(bandwidth, ops);
         None
+    }
+
+    fn again(&self) -> FillerKind {
+        FillerKind {
+            byte: self.byte,
+            limits: self.limits.again(),
+            stage: stage_again(&self.stage),
+        }
     }
 }

@@ -1,5 +1,5 @@
 // What holds of the filler, by what holds of every kind of device with queues.
-ghost use Rattle.std.specs.Prelude.{◌≡◌, ◌<◌, ◌≤◌, ◌^◌, ℕ, true, List};
+ghost use Rattle.std.specs.Prelude.{◌≡◌, ◌≤◌, ◌^◌, ℕ, true, List};
 ghost use Rattle.vm_types.specs.declared.reply.Reply.{Reply};
 ghost use Rattle.vm_types.specs.Fits.{Fits};
 ghost use Rattle.device_trace.specs.States.{LeadsTo, changed_at, stepped, wants};
@@ -23,10 +23,11 @@ ghost use Rattle.filler_device.specs.Sequences.{until_unlimited, used_lane, wait
 use crate::kind::FillerKind;
 use queue_device::{queue_goes_on, queue_kept, queue_one, queue_stays};
 
-/// Wherever the items of a filler lead, it wants an act of its own, or guest time, and no byte outside RAM.
+/// Wherever the items of a filler lead, it wants an act of its own, or guest time, and in a guest of fewer than 2^32 pages no
+/// byte outside RAM.
 pub fn filler_stays()
     ensures { (port pages : ℕ) (limits : Buckets) (items : List (Item FillerChange)) (left : Script (Queued Filler)) →
-        pages < 2 ^ 32 → LeadsTo filler_rules (new_filler port pages limits) items left →
+        LeadsTo filler_rules (new_filler port pages limits) items left →
         IsDeviceAct true no_call port pages (wants filler_rules left) }
 {
     queue_stays::<FillerKind>();
@@ -34,10 +35,10 @@ pub fn filler_stays()
 
 /// What is left of a filler in a state that it may be in is confined, and tells its data.
 pub fn filler_kept()
-    ensures stays { (p : Phase) (r : Rounds) (e : Filler) (g : Stage) → r.pages < 2 ^ 32 →
+    ensures stays { (p : Phase) (r : Rounds) (e : Filler) (g : Stage) →
         is_state filler true is_work p r g ≡ true →
         IsConfined filler true no_call r.port r.pages (left_at filler p (hand_of g) (queued r e)) }
-    ensures one { (p q : Phase) (r t : Rounds) (e f : Filler) (g h : Stage) → r.pages < 2 ^ 32 → t.pages < 2 ^ 32 →
+    ensures one { (p q : Phase) (r t : Rounds) (e f : Filler) (g h : Stage) →
         is_state filler true is_work p r g ≡ true → is_state filler true is_work q t h ≡ true →
         left_at filler p (hand_of g) (queued r e) ≡ left_at filler q (hand_of h) (queued t f) → queued r e ≡ queued t f }
 {

@@ -6,7 +6,7 @@ use Rattle.vm_types.specs.declared.ids.ActorId.{ActorId}
 use Rattle.board_table.specs.Acts.{raise_line}
 use Rattle.board_table.specs.Board.{Board}
 use Rattle.port_table.specs.declared.state.PortState.{PortState}
-use Rattle.block_device.specs.Block.Change.{Sectors}
+use Rattle.block_device.specs.declared.kind.BlockChange.TheVariants.{Sectors}
 use Rattle.guest_devices.specs.Devices.{BlockChanged, DeviceChange, DeviceLeads, DeviceLeft, FlatDevice, device_changed, device_reset, device_told, left_reset}
 use Rattle.guest_devices.proofs.Follows.{reset_leads, told_leads}
 use Rattle.flat_guest.specs.Body.{Body, IsGuest, lefts_resized}

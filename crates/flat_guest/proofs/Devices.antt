@@ -14,7 +14,7 @@ use Rattle.vm_types.specs.Fits.{fits}
 use Rattle.le_fields.specs.Fields.{bytes_of}
 use Rattle.port_table.specs.Acts as port
 use Rattle.port_table.specs.declared.state.PortState.{PortState}
-use Rattle.block_device.specs.Block.Change.{Sectors}
+use Rattle.block_device.specs.declared.kind.BlockChange.TheVariants.{Sectors}
 use Rattle.guest_devices.specs.declared.new_device.NewDevice.{NewDevice}
 use Rattle.guest_devices.specs.Devices.{BlockChanged, DeviceChange, FitsNew, FlatDevice, device_did, device_reset, device_told, new_device}
 use Rattle.guest_devices.specs.Sound.{IsSoundDevice}

@@ -17,7 +17,7 @@ use Rattle.flat_guest.specs.Given.Given.{Host, Nothing, Short}
 use Rattle.hart_trace.specs.States.{Hart, LeadsTo, hart_next, hart_wants}
 use Rattle.timer_trace.specs.declared.timer.Timer.{Timer}
 use Rattle.timer_trace.specs.States as timer
-use Rattle.block_device.specs.Block.Change.{Sectors}
+use Rattle.block_device.specs.declared.kind.BlockChange.TheVariants.{Sectors}
 use Rattle.guest_devices.specs.Devices.{BlockChanged, DeviceChange, DeviceLeads, DeviceLeft, FlatDevice, device_changed}
 use Rattle.guest_devices.specs.Kept.{device_want, devices_given}
 use Rattle.flat_guest.specs.declared.places.Layout.{Layout}

@@ -6,7 +6,7 @@ use Rattle.board_table.specs.Board.{Board}
 use Rattle.le_fields.specs.Fields.{bytes_of}
 use Rattle.port_table.specs.declared.state.PortState.{PortState}
 use Rattle.port_table.specs.Acts.{configured}
-use Rattle.block_device.specs.Block.Change.{Sectors}
+use Rattle.block_device.specs.declared.kind.BlockChange.TheVariants.{Sectors}
 use Rattle.guest_devices.specs.Devices.{BlockChanged, DeviceChange, FlatDevice, device_reset, device_told}
 use Rattle.flat_guest.specs.Guest.{Guest}
 

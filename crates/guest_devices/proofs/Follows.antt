@@ -8,8 +8,10 @@ use Rattle.device_trace.specs.Traces.{Item, Did, Changed, Continues}
 use Rattle.device_trace.specs.States.{wants, next, stepped, changed_at, Leads, LeadsTo}
 use Rattle.device_trace.proofs.Laws.{leads_one, leads_append}
 use Rattle.device_trace.proofs.Traces.{continued, only, wanted}
+use Rattle.queue_device.specs.Service.{Queued}
 use Rattle.block_device.specs.declared.data.BlockData.{BlockData}
-use Rattle.block_device.specs.Block.{Change, block_rules}
+use Rattle.block_device.specs.declared.kind.BlockChange.{BlockChange}
+use Rattle.block_device.specs.Block.{block_rules}
 use Rattle.guest_devices.specs.Devices.{DeviceLeft, BlockLeft, DeviceChange, BlockChanged, FlatDevice, BlockIs, DeviceLeads, DeviceWants, device_at, device_did, device_told, device_wants, device_next, device_changed, device_reset, left_reset}
 
 pub at_start : (left : DeviceLeft) → DeviceLeads (device_at left) left
@@ -34,7 +36,7 @@ wants_left (BlockIs start items) op w =
     let q = wanted block_rules start items op w in (BlockLeft q.0, q.1, q.2)
 
 -- a fitting reply leads on
-fit_leads : (t : Script BlockData) (s : Step) → s.op ≡ wants block_rules t → Fits s.op s.reply
+fit_leads : (t : Script (Queued BlockData)) (s : Step) → s.op ≡ wants block_rules t → Fits s.op s.reply
     → Leads block_rules t (Did s ∷ []) (next block_rules t s.reply)
 fit_leads t s is fit =
     let here : Fits (wants block_rules t) s.reply = subst (λ (op : Op). Fits op s.reply) is fit in
@@ -54,16 +56,16 @@ pub reset_leads : (d : FlatDevice) (left : DeviceLeft) → DeviceLeads d left �
 reset_leads (BlockIs start items) (BlockLeft t) l = l
 
 -- what is behind the items that lead to a place leads on from there
-leads_behind : (t : Script BlockData) (before items : List (Item Change)) (start u : Script BlockData)
+leads_behind : (t : Script (Queued BlockData)) (before items : List (Item BlockChange)) (start u : Script (Queued BlockData))
     → Leads block_rules t before start → Leads block_rules t (before ++ items) u → Leads block_rules start items u
-leads_behind t [] items start u l m = subst (λ (x : Script BlockData). Leads block_rules x items u) l m
+leads_behind t [] items start u l m = subst (λ (x : Script (Queued BlockData)). Leads block_rules x items u) l m
 leads_behind t (Did s ∷ before) items start u l m =
     leads_behind (stepped block_rules t s.reply) before items start u l.2 m.2
 leads_behind t (Changed c ∷ before) items start u l m =
     leads_behind (changed_at block_rules c t) before items start u l m
 
 -- a device that begins where a trace led continues that trace
-module _ (first : BlockData) (before items : List (Item Change)) (start : Script BlockData) (op : Op)
+module _ (first : Queued BlockData) (before items : List (Item BlockChange)) (start : Script (Queued BlockData)) (op : Op)
     (begun : LeadsTo block_rules first before start) where
   pub wants_continues : DeviceWants (BlockIs start items) op → Continues block_rules (Ends first) (before ++ items) op
   wants_continues w =

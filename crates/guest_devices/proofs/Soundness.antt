@@ -1,27 +1,29 @@
 -- A sound device keeps to its own, and stays sound.
-use Rattle.std.proofs.Common.{◌≡◌, ℕ, ◌<◌, ◌≤◌, ◌^◌, refl, sym, subst, ap, ◌∙◌, Bool, true, if◌then◌else◌, inr, List}
+use Rattle.std.proofs.Common.{◌≡◌, ℕ, ◌<◌, ◌≤◌, ◌^◌, refl, sym, subst, ap, ◌∙◌, Bool, true, false, if◌then◌else◌, inl, inr, List, ◌⊎◌}
 use Rattle.vm_types.specs.declared.op.Op.{Op}
 use Rattle.vm_types.specs.declared.entry.Step.{Step}
 use Rattle.vm_types.specs.declared.reply.Reply.{Reply}
 use Rattle.vm_types.specs.Fits.{Fits}
-use Rattle.device_trace.specs.Acts.{AsksOnly, IsAskedBy}
+use Rattle.device_trace.specs.Acts.{AsksOnly, IsAskedBy, IsOwnAct, is_disk_call}
 use Rattle.device_trace.specs.Script.{Script, Ends}
 use Rattle.device_trace.specs.States.{changed_at, stepped, wants}
+use Rattle.device_trace.specs.Traces.{setting}
 use Rattle.vq_split.specs.Inside.{IsInside}
+use Rattle.queue_device.specs.declared.device.QueueRounds.{QueueRounds}
+use Rattle.queue_device.specs.Service.{Queued}
+use Rattle.queue_device.proofs.Confined.{act_confined, change_confined, step_confined}
+use Rattle.queue_device.proofs.GoesOn.{change_on, new_on, reply_on}
+use Rattle.queue_device.proofs.Keeping.{new_are}
+use Rattle.queue_device.proofs.KeptStays.{state_stays}
 use Rattle.block_device.specs.declared.data.BlockData.{BlockData}
-use Rattle.block_device.specs.declared.phase.BlockState.{BlockState}
-use Rattle.block_device.specs.Block.{block_rules, new_block}
-use Rattle.block_device.specs.Block.Change.{Sectors}
-use Rattle.block_device.specs.GoesOn.{IsBounded}
-use Rattle.block_device.specs.Kept.{is_state}
-use Rattle.block_device.specs.States.{block_left}
-use Rattle.block_device.specs.Asks.{BlockAsks}
-use Rattle.block_device.specs.Stays.{BlockStays}
-use Rattle.block_device.proofs.Asking.{wants_own, step_asks, change_asks}
-use Rattle.block_device.proofs.AskingLeft.{kept_asks}
-use Rattle.block_device.proofs.GoesOn.{begin_on, change_on, reply_on}
-use Rattle.block_device.proofs.KeptStays.{kept_stays}
-use Rattle.block_device.proofs.Staying.{wants_inside, step_stays, change_stays}
+use Rattle.block_device.specs.declared.kind.BlockChange.TheVariants.{Sectors}
+use Rattle.block_device.specs.declared.kind.BlockKind.{BlockKind}
+use Rattle.block_device.specs.Block.{block, block_rules, changed}
+use Rattle.block_device.specs.Kept.{is_work}
+use Rattle.block_device.specs.States.{BlockKept, BlockStays, IsBounded, block_left, is_state}
+use Rattle.block_device.specs.Working.{IsFine, hand_of}
+use Rattle.block_device.proofs.Owes.{owes}
+use Rattle.block_device.proofs.Resuming.{resumes, short_state}
 use Rattle.guest_devices.specs.declared.device.Device.{Device}
 use Rattle.guest_devices.specs.declared.device.Device.TheVariants as device
 use Rattle.guest_devices.specs.declared.new_device.NewDevice.{NewDevice}
@@ -30,61 +32,23 @@ use Rattle.guest_devices.specs.Devices.{DeviceLeft, BlockLeft, DeviceChange, Blo
 use Rattle.guest_devices.specs.Devices.{DeviceLeads, DeviceWants, FitsChange, FitsNew, device_at, device_calls, device_changed, device_did}
 use Rattle.guest_devices.specs.Devices.{device_next, device_reset, device_times, device_told, device_wants, left_reset, new_device}
 use Rattle.guest_devices.specs.Kept.{IsBoundedDevice, device_left, device_pages, device_port, is_device_state, is_kept, kept_reset}
-use Rattle.guest_devices.specs.Sound.{BlockHasKept, HasKept, IsSoundDevice, KeepsToItsOwn}
+use Rattle.guest_devices.specs.Sound.{HasKept, IsSoundDevice, KeepsToItsOwn}
 use Rattle.guest_devices.proofs.Follows.{at_start, did_leads, left_wants, one_left, reset_leads, told_leads, wants_only}
 
+-- what is kept, as a block device
+abbrev kept_block : (port pages : ℕ) (t : Script (Queued BlockData)) → BlockKept port pages t → QueueRounds BlockKind
+kept_block port pages t k =
+    record { rounds = k.rounds; kind = record { facts = k.own; work = k.stage }; phase = k.phase }
+
 module _ (port pages : ℕ) where
-  -- ---- kept data
-
-  new_kept : (id : List ℕ) (sectors : ℕ) (read_only : Bool) → sectors < 2 ^ 64 → pages ≤ 2 ^ 20
-      → BlockHasKept port pages (Ends (new_block port pages id sectors read_only))
-  new_kept id sectors read_only size small =
-      let k = begin_on (new_block port pages id sectors read_only) in
-      record {
-        kept = k.0;
-        is = k.1;
-        bounded = k.3 small size;
-        at_port = ap (λ (d : BlockData). d.port) k.2;
-        of_pages = ap (λ (d : BlockData). d.queue.pages) k.2;
-        left = k.4;
-      }
-
-  step_kept : (t : Script BlockData) (reply : Reply) → BlockHasKept port pages t → Fits (wants block_rules t) reply
-      → BlockHasKept port pages (stepped block_rules t reply)
-  step_kept t reply was fit =
-      let here : Fits (wants block_rules (block_left was.kept)) reply =
-      subst (λ (x : Script BlockData). Fits (wants block_rules x) reply) (sym was.left) fit in
-      let k = reply_on was.kept reply was.bounded was.is here in
-      record {
-        kept = k.0;
-        is = k.1;
-        bounded = k.4;
-        at_port = k.3 ∙ was.at_port;
-        of_pages = k.2 ∙ was.of_pages;
-        left = k.5 ∙ ap (λ (x : Script BlockData). stepped block_rules x reply) was.left;
-      }
-
-  change_kept : (t : Script BlockData) (sectors : ℕ) → sectors < 2 ^ 64 → BlockHasKept port pages t
-      → BlockHasKept port pages (changed_at block_rules (Sectors sectors) t)
-  change_kept t sectors size was =
-      let k = change_on was.kept (Sectors sectors) was.is in
-      record {
-        kept = k.0;
-        is = k.1;
-        bounded = k.4 was.bounded size;
-        at_port = k.3 ∙ was.at_port;
-        of_pages = k.2 ∙ was.of_pages;
-        left = k.5 ∙ ap (λ (x : Script BlockData). changed_at block_rules (Sectors sectors) x) was.left;
-      }
-
-  copy_of : (d : FlatDevice) (left : DeviceLeft) → DeviceLeads d left → HasKept port pages left
+  copy_of : (d : FlatDevice) (left : DeviceLeft) → pages ≤ 2 ^ 20 → DeviceLeads d left → HasKept port pages left
       → (it : Device) × DeviceLeads d (device_left it) × (is_device_state it ≡ true) × IsBoundedDevice it
       × (device_port it ≡ port) × (device_pages it ≡ pages)
-  copy_of d (BlockLeft t) l has = (
-    device.Block has.kept,
-    subst (λ (x : Script BlockData). DeviceLeads d (BlockLeft x)) (sym has.left) l,
+  copy_of d (BlockLeft t) small l has = (
+    device.Block (kept_block port pages t has),
+    subst (λ (x : Script (Queued BlockData)). DeviceLeads d (BlockLeft x)) (sym has.left) l,
     has.is,
-    has.bounded,
+    record { pages = subst (λ (n : ℕ). n ≤ 2 ^ 20) (sym has.of_pages) small; sectors = has.fine },
     has.at_port,
     has.of_pages,
   )
@@ -94,22 +58,25 @@ module _ (port pages : ℕ) where
   step_keeps : (left : DeviceLeft) (reply : Reply) → KeepsToItsOwn port pages left → Fits (device_wants left) reply
       → KeepsToItsOwn port pages (device_next left reply)
   step_keeps (BlockLeft t) reply own fit =
-      let on : (x : Script BlockData) → stepped block_rules t reply ≡ x → KeepsToItsOwn port pages (BlockLeft x) =
+      let on : (x : Script (Queued BlockData)) → stepped block_rules t reply ≡ x → KeepsToItsOwn port pages (BlockLeft x) =
       λ x is. record {
-        asks = subst (λ (z : Script BlockData). BlockAsks port z) is (step_asks port t reply own.asks fit);
-        stays = λ few.
-            subst (λ (z : Script BlockData). BlockStays pages z) is (step_stays pages t reply few (own.stays few) fit);
+        stays =
+            subst (λ (z : Script (Queued BlockData)). BlockStays port pages z) is
+            (step_confined block (setting changed) false is_disk_call port pages owes t reply own.stays fit);
         kept = λ small.
-            subst (λ (z : Script BlockData). BlockHasKept port pages z) is (step_kept t reply (own.kept small) fit);
+            subst (λ (z : Script (Queued BlockData)). BlockKept port pages z) is
+            (reply_on block (setting changed) hand_of is_work IsFine false is_disk_call port pages small owes resumes t reply
+            (own.kept small) fit);
       } in
       on _ (ap (λ (b : Bool). if b then stepped block_rules t reply else t) (sym fit))
 
   change_keeps : (left : DeviceLeft) (c : DeviceChange) → FitsChange c → KeepsToItsOwn port pages left
       → KeepsToItsOwn port pages (device_changed c left)
   change_keeps (BlockLeft t) (BlockChanged (Sectors sectors)) size own = record {
-    asks = change_asks port t (Sectors sectors) own.asks;
-    stays = λ few. change_stays pages t (Sectors sectors) (own.stays few);
-    kept = λ small. change_kept t sectors size (own.kept small);
+    stays = change_confined block (setting changed) false is_disk_call port pages owes t (Sectors sectors) own.stays;
+    kept = λ small.
+        change_on block (setting changed) hand_of is_work IsFine false is_disk_call port pages small owes resumes t
+        (Sectors sectors) (own.kept small) (λ e was. (size, size));
   }
 
   reset_keeps : (left : DeviceLeft) → KeepsToItsOwn port pages left → KeepsToItsOwn port pages (left_reset left)
@@ -117,35 +84,56 @@ module _ (port pages : ℕ) where
 
   own_keeps : (d : FlatDevice) (left : DeviceLeft) → DeviceLeads d left → KeepsToItsOwn port pages left
       → IsAskedBy (device_times d) (device_calls d) port (device_wants left)
-  own_keeps (BlockIs start items) (BlockLeft t) l own = inr (wants_own port t own.asks)
+  own_keeps (BlockIs start items) (BlockLeft t) l own =
+      (act_confined block (setting changed) false is_disk_call port pages owes t own.stays).1
 
   inside_keeps : (left : DeviceLeft) → pages < 2 ^ 32 → KeepsToItsOwn port pages left → IsInside pages (device_wants left)
-  inside_keeps (BlockLeft t) few own = wants_inside pages t few (own.stays few)
+  inside_keeps (BlockLeft t) few own =
+      (act_confined block (setting changed) false is_disk_call port pages owes t own.stays).0 few
+
+  -- without limits it asks no guest time
+  asks_only : (op : Op) → IsAskedBy false is_disk_call port op → AsksOnly is_disk_call op
+  asks_only op (inl timed) = let wrong : false ≡ true = timed.0 in absurd (cc)
+  asks_only op (inr own) = own.1
 
   host_keeps : (d : FlatDevice) (left : DeviceLeft) → DeviceLeads d left → KeepsToItsOwn port pages left
       → AsksOnly (device_calls d) (device_wants left)
-  host_keeps (BlockIs start items) (BlockLeft t) l own = (wants_own port t own.asks).1
+  host_keeps (BlockIs start items) (BlockLeft t) l own =
+      asks_only (wants block_rules t) (own_keeps (BlockIs start items) (BlockLeft t) l own)
 
 pub new_sound : (port pages : ℕ) (what : NewDevice) → FitsNew what → IsSoundDevice port pages (new_device port pages what)
 new_sound port pages (kinds.Block d) size = (
   BlockLeft _,
   refl,
   record {
-    asks = refl;
-    stays = λ few. refl;
-    kept = new_kept port pages d.drive_id d.sectors d.is_read_only size;
+    stays = (refl, λ few. new_are block port pages);
+    kept = λ small.
+        new_on block (setting changed) hand_of is_work IsFine false is_disk_call port pages small owes resumes
+        (record { sectors = d.sectors; drive_id = d.drive_id; is_read_only = d.is_read_only }) size;
   },
 )
 
-pub kept_sound : (b : BlockState) → is_state b ≡ true → IsBounded b
-    → IsSoundDevice b.facts.port b.facts.queue.pages (device_at (BlockLeft (block_left b)))
+pub kept_sound : (b : QueueRounds BlockKind) → is_state b ≡ true → IsBounded b
+    → IsSoundDevice b.rounds.port b.rounds.pages (device_at (BlockLeft (block_left b)))
 kept_sound b is bounded = (
   BlockLeft (block_left b),
   refl,
   record {
-    asks = kept_asks b;
-    stays = λ few. kept_stays b few is;
-    kept = λ small. record { kept = b; is = is; bounded = bounded; at_port = refl; of_pages = refl; left = refl };
+    stays =
+        state_stays block (setting changed) hand_of is_work IsFine false is_disk_call b.phase b.rounds b.kind.facts b.kind.work
+        owes resumes is;
+    kept = λ small. record {
+      phase = b.phase;
+      rounds = b.rounds;
+      own = b.kind.facts;
+      stage = b.kind.work;
+      is = is;
+      fine = bounded.sectors;
+      short = short_state b is;
+      at_port = refl;
+      of_pages = refl;
+      left = refl;
+    };
   },
 )
 
@@ -156,7 +144,7 @@ resumed_sound (device.Block b) is bounded = kept_sound b is bounded
 pub copied : (port pages : ℕ) (d : FlatDevice) → pages ≤ 2 ^ 20 → IsSoundDevice port pages d
     → (it : Device) × DeviceLeads d (device_left it) × (is_device_state it ≡ true) × IsBoundedDevice it
     × (device_port it ≡ port) × (device_pages it ≡ pages)
-copied port pages d small sound = copy_of port pages d sound.0 sound.1 (sound.2.kept small)
+copied port pages d small sound = copy_of port pages d sound.0 small sound.1 (sound.2.kept small)
 
 pub did_sound : (port pages : ℕ) (d : FlatDevice) (s : Step) → IsSoundDevice port pages d → DeviceWants d s.op
     → Fits s.op s.reply → IsSoundDevice port pages (device_did d s)

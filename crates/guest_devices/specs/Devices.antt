@@ -10,19 +10,21 @@ use Rattle.device_trace.specs.Acts.{is_disk_call}
 use Rattle.device_trace.specs.Script.{Script, Ends}
 use Rattle.device_trace.specs.Traces.{Item, Did, Changed, Continues}
 use Rattle.device_trace.specs.States.{wants, next, leaves, changed_at, Leads}
+use Rattle.queue_device.specs.Service.{Queued}
 use Rattle.block_device.specs.declared.data.BlockData.{BlockData}
-use Rattle.block_device.specs.Block.{Change, block_rules, new_block}
-use Rattle.block_device.specs.Block.Change.{Sectors}
+use Rattle.block_device.specs.declared.kind.BlockChange.{BlockChange}
+use Rattle.block_device.specs.Block.{block_rules, new_block}
+use Rattle.block_device.specs.declared.kind.BlockChange.TheVariants.{Sectors}
 use Rattle.guest_devices.specs.declared.new_device.NewDevice.{NewDevice}
 use Rattle.guest_devices.specs.declared.new_device.NewDevice.TheVariants as kinds
 
 -- what a device has still to do
 pub data DeviceLeft : Type 0 where
-  BlockLeft : Script BlockData → DeviceLeft
+  BlockLeft : Script (Queued BlockData) → DeviceLeft
 
 -- what the API changes of a device
 pub data DeviceChange : Type 0 where
-  BlockChanged : Change → DeviceChange
+  BlockChanged : BlockChange → DeviceChange
 
 -- it gives a disk less than 2^64 sectors
 abbrev pub FitsChange : DeviceChange → Type 0
@@ -44,7 +46,7 @@ device_changed (BlockChanged c) (BlockLeft t) = BlockLeft (changed_at block_rule
 
 -- a device in the flat machine: what it had still to do where its items begin, and its items since
 pub data FlatDevice : Type 0 where
-  BlockIs : Script BlockData → List (Item Change) → FlatDevice
+  BlockIs : Script (Queued BlockData) → List (Item BlockChange) → FlatDevice
 
 -- its items lead to this
 abbrev pub DeviceLeads : FlatDevice → DeviceLeft → Type 0

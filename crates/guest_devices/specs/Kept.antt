@@ -1,11 +1,10 @@
 -- What devices have still to do, by what the code keeps of them.
-use Rattle.std.specs.Prelude.{ℕ, ◌^◌, ◌&&◌, nat_le, nat_lt, Bool, Option, Some, None, List, length, map, slice_set}
+use Rattle.std.specs.Prelude.{ℕ, ◌^◌, ◌&&◌, nat_lt, Bool, Option, Some, None, List, map, slice_set}
 use Rattle.vm_types.specs.declared.op.Op.{Op}
 use Rattle.vm_types.specs.declared.reply.Reply.{Reply}
-use Rattle.block_device.specs.declared.phase.BlockState.{BlockState}
-use Rattle.block_device.specs.GoesOn.{IsBounded}
-use Rattle.block_device.specs.Kept.{is_state}
-use Rattle.block_device.specs.States.{block_left}
+use Rattle.queue_device.specs.declared.device.QueueRounds.{QueueRounds}
+use Rattle.block_device.specs.declared.kind.BlockKind.{BlockKind}
+use Rattle.block_device.specs.States.{IsBounded, block_left, is_state}
 use Rattle.guest_devices.specs.declared.device.Device.{Device}
 use Rattle.guest_devices.specs.declared.device.Device.TheVariants as device
 use Rattle.guest_devices.specs.Devices.{DeviceLeft, BlockLeft, device_wants, device_next}
@@ -29,10 +28,9 @@ is_device_state (device.Block b) = is_state b
 abbrev pub IsBoundedDevice : Device → Type 0
 IsBoundedDevice (device.Block b) = IsBounded b
 
--- it has these sizes: a disk of less than 2^64 sectors, a guest of less than 2^32 pages, and at most 256 parts that are
--- still written
-abbrev pub is_sized : BlockState → Bool
-is_sized b = nat_lt b.facts.sectors (2 ^ 64) && nat_lt b.facts.queue.pages (2 ^ 32) && nat_le (length b.to) 256
+-- it has these sizes: a disk of less than 2^64 sectors, and a guest of less than 2^32 pages
+abbrev pub is_sized : QueueRounds BlockKind → Bool
+is_sized b = nat_lt b.kind.facts.sectors (2 ^ 64) && nat_lt b.rounds.pages (2 ^ 32)
 
 -- such data may be kept of a device: it may be in this state, and each size is one that its field holds
 abbrev pub is_kept : Device → Bool
@@ -40,10 +38,10 @@ is_kept (device.Block b) = is_state b && is_sized b
 
 -- the number of its port, and how many pages its guest has
 abbrev pub device_port : Device → ℕ
-device_port (device.Block b) = b.facts.port
+device_port (device.Block b) = b.rounds.port
 
 abbrev pub device_pages : Device → ℕ
-device_pages (device.Block b) = b.facts.queue.pages
+device_pages (device.Block b) = b.rounds.pages
 
 -- what a device wants, if it is there
 abbrev pub device_want : Option DeviceLeft → Option Op

@@ -1,6 +1,6 @@
 // A device of any kind as an actor.
 ghost use Rattle.std.specs.Prelude.{◌≡◌, true};
-ghost use Rattle.block_device.specs.Block.Change.{Sectors};
+ghost use Rattle.block_device.specs.declared.kind.BlockChange.TheVariants.{Sectors};
 ghost use Rattle.guest_devices.specs.Devices.{BlockChanged, device_changed, new_left};
 ghost use Rattle.guest_devices.specs.Kept.{device_left, device_pages, device_port, is_kept, kept_reset};
 
@@ -46,7 +46,7 @@ impl Device {
         ensures { result ≡ device_pages self.now }
     {
         match self {
-            Device::Block(block) => block.state().facts.queue.pages,
+            Device::Block(block) => block.state().rounds.pages,
         }
     }
 

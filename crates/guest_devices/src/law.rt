@@ -8,12 +8,13 @@ ghost use Rattle.device_trace.specs.Script.{Script, Ends};
 ghost use Rattle.device_trace.specs.States.{LeadsTo};
 ghost use Rattle.device_trace.specs.Traces.{Continues, Item};
 ghost use Rattle.vq_split.specs.Inside.{IsInside};
+ghost use Rattle.queue_device.specs.declared.device.QueueRounds.{QueueRounds};
+ghost use Rattle.queue_device.specs.Service.{Queued};
 ghost use Rattle.block_device.specs.declared.data.BlockData.{BlockData};
-ghost use Rattle.block_device.specs.declared.phase.BlockState.{BlockState};
-ghost use Rattle.block_device.specs.Block.{Change, block_rules};
-ghost use Rattle.block_device.specs.GoesOn.{IsBounded};
-ghost use Rattle.block_device.specs.Kept.{is_state};
-ghost use Rattle.block_device.specs.States.{block_left};
+ghost use Rattle.block_device.specs.declared.kind.BlockChange.{BlockChange};
+ghost use Rattle.block_device.specs.declared.kind.BlockKind.{BlockKind};
+ghost use Rattle.block_device.specs.Block.{block_rules};
+ghost use Rattle.block_device.specs.States.{IsBounded, block_left, is_state};
 ghost use Rattle.guest_devices.specs.declared.device.Device.{Device};
 ghost use Rattle.guest_devices.specs.declared.new_device.NewDevice.{NewDevice};
 ghost use Rattle.guest_devices.specs.Devices.{BlockIs, BlockLeft, DeviceChange, DeviceLeads, DeviceLeft, DeviceWants, FitsChange, FitsNew};
@@ -44,10 +45,10 @@ pub fn devices_follow()
         DeviceLeads d left → DeviceLeads (device_reset d) (left_reset left) }
     ensures reset_kept { (it : Device) → is_kept it ≡ true →
         (is_kept (kept_reset it) ≡ true) × (device_left (kept_reset it) ≡ left_reset (device_left it)) }
-    ensures continues { (first : BlockData) (before items : List (Item Change)) (start : Script BlockData) (op : Op) →
+    ensures continues { (first : Queued BlockData) (before items : List (Item BlockChange)) (start : Script (Queued BlockData)) (op : Op) →
         LeadsTo block_rules first before start → DeviceWants (BlockIs start items) op →
         Continues block_rules (Ends first) (before ++ items) op }
-    ensures wanted { (first : BlockData) (before items : List (Item Change)) (start : Script BlockData) (op : Op) →
+    ensures wanted { (first : Queued BlockData) (before items : List (Item BlockChange)) (start : Script (Queued BlockData)) (op : Op) →
         LeadsTo block_rules first before start → Continues block_rules (Ends first) (before ++ items) op →
         DeviceWants (BlockIs start items) op }
 {}
@@ -68,8 +69,8 @@ pub fn sound_devices()
         IsSoundDevice port pages d → IsSoundDevice port pages (device_reset d) }
     ensures again { (port pages : ℕ) (d : FlatDevice) (left : DeviceLeft) →
         IsSoundDevice port pages d → DeviceLeads d left → IsSoundDevice port pages (device_at left) }
-    ensures kept { (b : BlockState) → is_state b ≡ true → IsBounded b →
-        IsSoundDevice b.facts.port b.facts.queue.pages (device_at (BlockLeft (block_left b))) }
+    ensures kept { (b : QueueRounds BlockKind) → is_state b ≡ true → IsBounded b →
+        IsSoundDevice b.rounds.port b.rounds.pages (device_at (BlockLeft (block_left b))) }
     ensures resumed { (k : Device) → is_device_state k ≡ true → IsBoundedDevice k →
         IsSoundDevice (device_port k) (device_pages k) (device_at (device_left k)) }
     ensures copied { (port pages : ℕ) (d : FlatDevice) → pages ≤ 2 ^ 20 → IsSoundDevice port pages d →

@@ -1,19 +1,10 @@
 -- What a gate tells, and what passes.
 use Rattle.std.proofs.Common.{◌≡◌, ℕ, ◌-◌, refl, Bool, true, false, if◌then◌else◌, Some, None, length}
-use Rattle.rate_gate.specs.declared.gate.Pass.TheVariants.{Go, WaitUntil}
 use Rattle.rate_gate.specs.Gate.{Buckets, gate_takes, gate_took}
 use Rattle.queue_device.specs.declared.lanes.Which.TheVariants.{First, Second}
 use Rattle.queue_device.specs.Chains.{Chain}
 use Rattle.net_device.specs.Frames.{header_size, sent_length}
 use Rattle.net_device.specs.Net.{Net, passes_by}
-
-pub go_takes : (test : Bool) (wait : ℕ) → Go ≡ (if test then Go else WaitUntil wait) → true ≡ test
-go_takes true wait is = refl
-go_takes false wait is = cc
-
-pub wait_waits : (test : Bool) (wait until : ℕ) → WaitUntil until ≡ (if test then Go else WaitUntil wait) → false ≡ test
-wait_waits true wait until is = cc
-wait_waits false wait until is = refl
 
 first_by_test : (c : Chain) (e : Net) (now : ℕ) (test told : Bool) (limits : Buckets)
     → gate_takes e.rx (length e.text - header_size) now ≡ test → told ≡ test

@@ -27,7 +27,7 @@ use Rattle.queue_device.specs.Acting.{Acting, ActingKeeps, Comes, performing}
 use Rattle.queue_device.specs.Chains.{Chain}
 use Rattle.queue_device.specs.Confined.{IsChain, IsDeviceAct}
 use Rattle.queue_device.specs.Resuming.{Goes, IsShortChain, IsShortTaken, Resumes, answering_of, serving_of, taking_of}
-use Rattle.queue_device.proofs.Acting.{led_keeps, performing_acts, performing_keeps}
+use Rattle.queue_device.proofs.Acting.{keeps_when, led_keeps, performing_acts, performing_keeps}
 use Rattle.queue_device.proofs.Pieces.{filter_few, past_few, put_asks}
 use Rattle.net_device.specs.declared.kind.Stage.{Stage}
 use Rattle.net_device.specs.declared.kind.Stage.TheVariants as stage
@@ -141,60 +141,63 @@ module _ (port pages : ℕ) where
       × ((e : Net) (reply : Reply) → Fits (hand_of g).op reply
       → ActingKeeps (IsDeviceAct true is_link_call port pages) Any ((hand_of g).serving e reply))
 
-  receive_stays : (at : ℕ) (to : List Part) (bytes : List ℕ) → pages < 2 ^ 32 → Has pages (share (drop at bytes) to) to
+  receive_stays : (at : ℕ) (to : List Part) (bytes : List ℕ) → Has pages (share (drop at bytes) to) to
       → ServiceStays (at_stage (stage.Receive at to) bytes)
-  receive_stays at to bytes few v =
-      let keeps = keeps_both (IsInside pages) (IsAskedBy true is_link_call port) (λ (left : List Part). AreInside pages left)
-      (Any {A = List Part}) (put_all (drop at bytes) to) (put_all_keeps pages (drop at bytes) to few v.inside)
+  receive_stays at to bytes v =
+      let keeps = keeps_both (λ op. pages < 2 ^ 32 → IsInside pages op) (IsAskedBy true is_link_call port)
+      (λ (left : List Part). pages < 2 ^ 32 → AreInside pages left) (Any {A = List Part}) (put_all (drop at bytes) to)
+      (keeps_when (pages < 2 ^ 32) (IsInside pages) (λ (left : List Part). AreInside pages left) (put_all (drop at bytes) to)
+      (λ few. put_all_keeps pages (drop at bytes) to few v.inside))
       (put_all_asks (IsAskedBy true is_link_call port) (writes port pages) (drop at bytes) to) in
-      let on = led_keeps (IsDeviceAct true is_link_call port pages) (λ (left : List Part). AreInside pages left × Any left)
-      (put_all (drop at bytes) to) _ (put_asks (drop at bytes) to v.some) keeps in (
+      let on = led_keeps (IsDeviceAct true is_link_call port pages)
+      (λ (left : List Part). (pages < 2 ^ 32 → AreInside pages left) × Any left) (put_all (drop at bytes) to) _
+      (put_asks (drop at bytes) to v.some) keeps in (
         on.0,
         λ e reply fit. performing_keeps (IsDeviceAct true is_link_call port pages)
-            (λ (left : List Part). AreInside pages left × Any left) Any (led (put_all (drop at bytes) to) reply) e _
-            (on.1 reply fit) (λ f left held. tt),
+            (λ (left : List Part). (pages < 2 ^ 32 → AreInside pages left) × Any left) Any
+            (led (put_all (drop at bytes) to) reply) e _ (on.1 reply fit) (λ f left held. tt),
       )
 
-  read_stays : (skip : ℕ) (from : List Part) (bytes : List ℕ) → pages < 2 ^ 32 → Has pages (room from) from
+  read_stays : (skip : ℕ) (from : List Part) (bytes : List ℕ) → Has pages (room from) from
       → ServiceStays (at_stage (stage.Read skip from) bytes)
-  read_stays skip from bytes few v =
+  read_stays skip from bytes v =
       let on = led_keeps (IsDeviceAct true is_link_call port pages) (Any {A = Unit {0}}) (sending_all skip from) _
-      (ap asked (sent_more skip from v.some)) (sending_keeps port pages (suc (total from)) skip from few v.inside) in (
+      (ap asked (sent_more skip from v.some)) (sending_keeps port pages (suc (total from)) skip from (λ few. v.inside)) in (
         on.0,
         λ e reply fit. performing_keeps (IsDeviceAct true is_link_call port pages) (Any {A = Unit {0}}) Any
             (led (sending_all skip from) reply) e _ (on.1 reply fit) (λ f done any. tt),
       )
 
-  send_stays : (piece : List ℕ) (skip : ℕ) (from : List Part) (bytes : List ℕ) → pages < 2 ^ 32
+  send_stays : (piece : List ℕ) (skip : ℕ) (from : List Part) (bytes : List ℕ)
       → Has pages (length piece) from → ServiceStays (at_stage (stage.Send piece skip from) bytes)
-  send_stays piece skip from bytes few v =
+  send_stays piece skip from bytes v =
       let on = led_keeps (IsDeviceAct true is_link_call port pages) (Any {A = Unit {0}})
       (piece_sent piece (sending_all skip from)) _ (sends_asked piece (sending_all skip from) v.some)
       (piece_keeps port pages piece (sending_all skip from)
-      (sending_keeps port pages (suc (total from)) skip from few v.inside)) in (
+      (sending_keeps port pages (suc (total from)) skip from (λ few. v.inside))) in (
         on.0,
         λ e reply fit. performing_keeps (IsDeviceAct true is_link_call port pages) (Any {A = Unit {0}}) Any
             (led (piece_sent piece (sending_all skip from)) reply) e _ (on.1 reply fit) (λ f done any. tt),
       )
 
-  serving_stays : (k : Which) (s : Stage) (bytes : List ℕ) → pages < 2 ^ 32
+  serving_stays : (k : Which) (s : Stage) (bytes : List ℕ)
       → is_work (work.Serve k) pages (at_stage s bytes) ≡ true → ServiceStays (at_stage s bytes)
-  serving_stays First stage.Rest bytes few is = absurd (cc)
-  serving_stays First (stage.Take size index) bytes few is = absurd (cc)
-  serving_stays First (stage.Receive at to) bytes few is =
-      receive_stays at to bytes few (has_of pages (share (drop at bytes) to) to is)
-  serving_stays First (stage.Read skip from) bytes few is = absurd (cc)
-  serving_stays First (stage.Send piece skip from) bytes few is = absurd (cc)
-  serving_stays First stage.End bytes few is = absurd (cc)
-  serving_stays Second stage.Rest bytes few is = absurd (cc)
-  serving_stays Second (stage.Take size index) bytes few is = absurd (cc)
-  serving_stays Second (stage.Receive at to) bytes few is = absurd (cc)
-  serving_stays Second (stage.Read skip from) bytes few is =
-      read_stays skip from bytes few (has_of pages (room from) from is)
-  serving_stays Second (stage.Send piece skip from) bytes few is =
-      send_stays piece skip from bytes few (has_of pages (length piece) from is)
-  serving_stays Second stage.End bytes few is = ((tt, inr (refl, refl)), λ e reply fit. tt)
-  serving_stays Third s bytes few is = absurd (no_third pages s bytes is)
+  serving_stays First stage.Rest bytes is = absurd (cc)
+  serving_stays First (stage.Take size index) bytes is = absurd (cc)
+  serving_stays First (stage.Receive at to) bytes is =
+      receive_stays at to bytes (has_of pages (share (drop at bytes) to) to is)
+  serving_stays First (stage.Read skip from) bytes is = absurd (cc)
+  serving_stays First (stage.Send piece skip from) bytes is = absurd (cc)
+  serving_stays First stage.End bytes is = absurd (cc)
+  serving_stays Second stage.Rest bytes is = absurd (cc)
+  serving_stays Second (stage.Take size index) bytes is = absurd (cc)
+  serving_stays Second (stage.Receive at to) bytes is = absurd (cc)
+  serving_stays Second (stage.Read skip from) bytes is =
+      read_stays skip from bytes (has_of pages (room from) from is)
+  serving_stays Second (stage.Send piece skip from) bytes is =
+      send_stays piece skip from bytes (has_of pages (length piece) from is)
+  serving_stays Second stage.End bytes is = ((λ few. tt, inr (refl, refl)), λ e reply fit. tt)
+  serving_stays Third s bytes is = absurd (no_third pages s bytes is)
 
 -- ---- what is kept behind an act
 
@@ -450,9 +453,9 @@ pub resumes : Resumes net hand_of is_work AnyNet (setting limited) true is_link_
 resumes = record {
   rest = at_stage stage.Rest [];
   rests = λ pages. refl;
-  answering_stays = λ port pages g few is. answering_stays port pages g.stage g.bytes is;
-  taking_stays = λ port pages k g few is. absurd (no_take pages k g.stage g.bytes is);
-  serving_stays = λ port pages k g few is. serving_stays port pages k g.stage g.bytes few is;
+  answering_stays = λ port pages g is. answering_stays port pages g.stage g.bytes is;
+  taking_stays = λ port pages k g is. absurd (no_take pages k g.stage g.bytes is);
+  serving_stays = λ port pages k g is. serving_stays port pages k g.stage g.bytes is;
   answer = λ pages before e reply small fine fit. answer pages e reply fit;
   answering = λ pages g e reply small fine is fit. answering pages g.stage g.bytes e reply is fit;
   take = λ pages k parts e small fine inside few. take pages k parts e inside few;

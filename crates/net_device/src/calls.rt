@@ -4,7 +4,7 @@ ghost use Rattle.vq_split.specs.Kept.{are_inside};
 
 use crate::kind::{
     HEADER_SIZE, NetChange, NetKind, Stage, has_room, is_frame, limit, piece_length, pieces,
-    read_piece, sent_length, took,
+    read_piece, sent_length, stage_again,
 };
 use dev_core::{Collect, Gather, Scatter, readable, writable};
 use queue_device::{Begin, Kind, TakenChain, TakenParts, Which, Work};
@@ -117,6 +117,7 @@ impl Kind for NetKind {
         Op::Out(OutOp::LinkTake)
     }
 
+    #[tactic(auto, using(crate::proofs::Staying::at_rest))]
     fn answer(&mut self, reply: &Reply) -> Option<bool> {
         match reply {
             Reply::Frame { length } => {
@@ -128,7 +129,7 @@ impl Kind for NetKind {
         }
     }
 
-    #[tactic(auto, using(crate::proofs::Working::piece_led))]
+    #[tactic(auto, using(crate::proofs::Working::piece_led, crate::proofs::Staying::take_frame))]
     fn answer_on(&mut self, reply: &Reply) -> Option<bool> {
         match replace(&mut self.stage, Stage::Rest) {
             Stage::Take(length, index) => match reply {
@@ -157,11 +158,13 @@ impl Kind for NetKind {
         let _ = which;
     }
 
+    #[tactic(auto, using(crate::proofs::Staying::taken))]
     fn take(&mut self, which: Which, parts: PartList) -> Option<Option<TakenParts>> {
         let _ = which;
         Some(Some(TakenParts::new(parts, Collect::new())))
     }
 
+    #[tactic(auto, using(crate::proofs::Staying::at_rest))]
     fn take_on(&mut self, reply: &Reply) -> Option<Option<TakenParts>> {
         let _ = reply;
         self.rest();
@@ -181,9 +184,9 @@ impl Kind for NetKind {
         match which {
             Which::First => {
                 let bytes = self.text_len().saturating_sub(HEADER_SIZE) as u64;
-                took(&mut self.rx, bytes, now)
+                self.rx.passes(bytes, now)
             }
-            Which::Second => took(&mut self.tx, sent_length(chain.parts()), now),
+            Which::Second => self.tx.passes(sent_length(chain.parts()), now),
             Which::Third => true,
         }
     }
@@ -211,6 +214,7 @@ impl Kind for NetKind {
         }
     }
 
+    #[tactic(auto, using(crate::proofs::Staying::at_rest))]
     fn serve(&mut self, which: Which, chain: &TakenChain) -> Option<Option<u32>> {
         self.rest();
         match which {
@@ -233,6 +237,7 @@ impl Kind for NetKind {
         }
     }
 
+    #[tactic(auto, using(crate::proofs::Staying::receive_next, crate::proofs::Staying::read_next, crate::proofs::Staying::send_inside,))]
     fn serve_on(&mut self, reply: &Reply) -> Option<Option<u32>> {
         match replace(&mut self.stage, Stage::Rest) {
             Stage::Receive(at, to) => {
@@ -275,5 +280,14 @@ impl Kind for NetKind {
         let _ = op;
         limit(self, change);
         None
+    }
+
+    fn again(&self) -> NetKind {
+        NetKind {
+            text: self.text.again(),
+            rx: self.rx.again(),
+            tx: self.tx.again(),
+            stage: stage_again(&self.stage),
+        }
     }
 }

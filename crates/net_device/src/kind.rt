@@ -1,23 +1,26 @@
 // What a network device does, beside its rounds.
-ghost use Rattle.std.specs.Prelude.{◌≡◌, ◌≤◌, ◌<◌, ◌+◌, ◌-◌, ◌*◌, ◌&&◌, true, false, Some, None, [], drop, length, nat_le};
+ghost use Rattle.std.specs.Prelude.{ℕ, ◌≡◌, ◌≤◌, ◌<◌, ◌+◌, ◌-◌, ◌*◌, ◌&&◌, true, false, Some, None, [], drop, length, nat_le};
 ghost use Rattle.vm_types.specs.declared.op.Op.TheVariants.{Out, Read};
 ghost use Rattle.vm_types.specs.declared.reply.Reply.{Reply as Replied};
 ghost use Rattle.device_trace.specs.Doing.{led};
 ghost use Rattle.vm_types.specs.declared.op.OutOp.TheVariants.{LinkPart};
 ghost use Rattle.vm_types.specs.Fits.{fits};
-ghost use Rattle.dev_core.specs.Pieces.{place, put_all, readable, room, share, total, writable};
-ghost use Rattle.rate_gate.specs.Gate.{gate_takes, gate_took};
+ghost use Rattle.vq_split.specs.Kept.{are_inside};
+ghost use Rattle.dev_core.specs.Pieces.{past, place, put_all, readable, room, share, total, writable};
 ghost use Rattle.queue_device.specs.Acting.{Works, performing};
 ghost use Rattle.queue_device.specs.Left.{begin_of};
+ghost use Rattle.queue_device.specs.Kept.{work_after};
+ghost use Rattle.queue_device.specs.declared.lanes.Which.TheVariants.{First, Second};
+ghost use Rattle.queue_device.specs.declared.phase.Work.TheVariants as work;
 ghost use Rattle.net_device.specs.Frames.{header_size, is_frame, piece_length, piece_sent, pieces, sending_all, sent_length, taking};
 ghost use Rattle.net_device.specs.Net.{limited, received};
 ghost use Rattle.net_device.specs.declared.kind.Stage.TheVariants as stages;
-ghost use Rattle.net_device.specs.Work.{at_work, hand_of, own_of, sent, written};
+ghost use Rattle.net_device.specs.Work.{at_work, hand_of, is_work, own_of, sent, written};
 
 use crate::text::Text;
 use dev_core::{Gather, Scatter, readable, total, writable};
-use queue_device::Begin;
-use rate_gate::{Pass, RateGate};
+use queue_device::{Begin, parts_again};
+use rate_gate::RateGate;
 use std::marker::Model;
 use token_bucket::Bucket;
 use vm_types::{Piece, Reply};
@@ -117,19 +120,6 @@ pub(crate) fn limit(kind: &mut NetKind, change: NetChange)
     }
 }
 
-// Whether so many bytes and an operation pass at this moment, and what the limits are then.
-#[tactic(auto, using(crate::proofs::Passing::go_takes, crate::proofs::Passing::wait_waits))]
-pub(crate) fn took(limits: &mut RateGate, bytes: u64, now: u64) -> bool
-    ensures takes { result ≡ gate_takes limits.old bytes now }
-    ensures took { result ≡ true → limits.new ≡ gate_took limits.old bytes now }
-    ensures stays { result ≡ false → limits.new ≡ limits.old }
-{
-    match limits.take(bytes, now) {
-        Pass::Go => true,
-        Pass::WaitUntil(_) => false,
-    }
-}
-
 // The bytes of a piece behind its first ones.
 fn behind(piece: &Piece, skip: usize) -> Piece
     ensures { result ≡ drop skip piece.now }
@@ -143,7 +133,8 @@ fn behind(piece: &Piece, skip: usize) -> Piece
 pub(crate) fn read_piece(skip: usize, from: &mut Gather, reply: &Reply) -> (Piece, usize)
     requires room { 0 < room from.old }
     requires fit { fits (Read (place from.old) (room from.old)) reply.now ≡ true }
-    ensures { piece_sent result.0 (sending_all result.1 from.new) ≡ led (sending_all skip from.old) reply.now }
+    ensures sent { piece_sent result.0 (sending_all result.1 from.new) ≡ led (sending_all skip from.old) reply.now }
+    ensures from { from.new ≡ past (room from.old) from.old }
 {
     let piece = from.give(reply);
     (
@@ -188,14 +179,17 @@ impl NetKind {
     }
 
     // The piece of this number is taken, as long as there is one.
+    #[tactic(auto, using(crate::proofs::Staying::at_rest, crate::proofs::Staying::take_more))]
     pub(crate) fn take_piece(&mut self, size: u64, index: u64) -> Option<bool>
         requires rest { self.old.stage ≡ stages.Rest }
         requires most { size ≤ 1514 }
         requires index { index ≤ pieces size }
         requires bytes { index < pieces size → length self.old.bytes ≡ header_size + 64 * index }
-        ensures { Works (performing (taking (pieces size - index) size index self.old.bytes)
+        ensures works { Works (performing (taking (pieces size - index) size index self.old.bytes)
             (record { text = []; rx = self.old.rx; tx = self.old.tx }) received)
             result (own_of self.new) (hand_of (at_work self.new)).op (hand_of (at_work self.new)).answering }
+        ensures work { (pages : ℕ) → is_frame size ≡ true →
+            is_work (work_after result work.Answer) pages (at_work self.new) ≡ true }
     {
         if index == pieces(size) {
             return Some(true);
@@ -205,19 +199,22 @@ impl NetKind {
     }
 
     // The frame is written from this byte on, as long as there are some.
-    #[tactic(auto, using(crate::proofs::Working::fills, crate::proofs::Working::filled))]
+    #[tactic(auto, using(crate::proofs::Working::fills, crate::proofs::Working::filled, crate::proofs::Staying::at_rest, crate::proofs::Staying::receive_more,))]
     pub(crate) fn fill(&mut self, at: usize, to: Scatter) -> Option<Option<u32>>
         requires rest { self.old.stage ≡ stages.Rest }
         requires at { at ≤ length self.old.bytes }
-        ensures { Works (performing (put_all (drop at self.old.bytes) to) (own_of self.old)
+        ensures works { Works (performing (put_all (drop at self.old.bytes) to) (own_of self.old)
             (λ e left. written (length self.old.bytes) e))
             result (own_of self.new) (hand_of (at_work self.new)).op (hand_of (at_work self.new)).serving }
+        ensures work { (pages : ℕ) → are_inside pages to ≡ true →
+            is_work (work_after result (work.Serve First)) pages (at_work self.new) ≡ true }
     {
         let len = self.text.len();
         if (len - at).min(to.room()) == 0 {
             self.text.clear();
             return Some(Some(len as u32));
         }
+        let _parts = to.parts();
         self.stage = Stage::Receive(at, to);
         None
     }
@@ -255,6 +252,7 @@ impl NetKind {
         ensures led { (reply : Replied) →
             put_all (drop result self.now.bytes) to.new ≡ led (put_all (drop at self.now.bytes) to.old) reply }
         ensures at { result ≤ length self.now.bytes }
+        ensures to { (n : ℕ) × (n ≤ room to.old) × (to.new ≡ past n to.old) }
     {
         let n = (self.text.len() - at).min(to.room());
         to.pass(n);
@@ -262,11 +260,15 @@ impl NetKind {
     }
 
     // The next piece is read, or the frame is ended.
+    #[tactic(auto, using(crate::proofs::Staying::read_more))]
     pub(crate) fn send_next(&mut self, skip: usize, from: Gather) -> Option<Option<u32>>
         requires rest { self.old.stage ≡ stages.Rest }
-        ensures { Works (performing (sending_all skip from) (own_of self.old) (λ e done. sent e))
+        ensures works { Works (performing (sending_all skip from) (own_of self.old) (λ e done. sent e))
             result (own_of self.new) (hand_of (at_work self.new)).op (hand_of (at_work self.new)).serving }
+        ensures work { (pages : ℕ) → are_inside pages from ≡ true →
+            is_work (work_after result (work.Serve Second)) pages (at_work self.new) ≡ true }
     {
+        let _parts = from.parts();
         if from.room() == 0 {
             self.stage = Stage::End;
         } else {
@@ -276,6 +278,7 @@ impl NetKind {
     }
 
     // A piece is sent, if there is one.
+    #[tactic(auto, using(crate::proofs::Staying::send_more))]
     pub(crate) fn send_piece(
         &mut self,
         piece: Piece,
@@ -283,13 +286,37 @@ impl NetKind {
         from: Gather,
     ) -> Option<Option<u32>>
         requires rest { self.old.stage ≡ stages.Rest }
-        ensures { Works (performing (piece_sent piece (sending_all skip from)) (own_of self.old) (λ e done. sent e))
+        ensures works { Works (performing (piece_sent piece (sending_all skip from)) (own_of self.old) (λ e done. sent e))
             result (own_of self.new) (hand_of (at_work self.new)).op (hand_of (at_work self.new)).serving }
+        ensures work { (pages : ℕ) → are_inside pages from ≡ true →
+            is_work (work_after result (work.Serve Second)) pages (at_work self.new) ≡ true }
     {
         if piece.as_slice().len() == 0 {
             return self.send_next(skip, from);
         }
+        let _parts = from.parts();
         self.stage = Stage::Send(piece, skip, from);
         None
+    }
+}
+
+// ---- once more
+
+fn gather_again(from: &Gather) -> Gather
+    ensures { result ≡ from.now }
+{
+    Gather::new(parts_again(from.parts()))
+}
+
+pub(crate) fn stage_again(stage: &Stage) -> Stage
+    ensures { result ≡ stage.now }
+{
+    match stage {
+        Stage::Rest => Stage::Rest,
+        Stage::Take(size, index) => Stage::Take(*size, *index),
+        Stage::Receive(at, to) => Stage::Receive(*at, Scatter::new(parts_again(to.parts()))),
+        Stage::Read(skip, from) => Stage::Read(*skip, gather_again(from)),
+        Stage::Send(piece, skip, from) => Stage::Send(*piece, *skip, gather_again(from)),
+        Stage::End => Stage::End,
     }
 }

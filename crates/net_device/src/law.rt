@@ -1,5 +1,5 @@
 // What holds of a network device, by what holds of every kind of device with queues.
-ghost use Rattle.std.specs.Prelude.{◌≡◌, ◌<◌, ◌≤◌, ◌^◌, ℕ, true, List};
+ghost use Rattle.std.specs.Prelude.{◌≡◌, ◌≤◌, ◌^◌, ℕ, true, List};
 ghost use Rattle.vm_types.specs.declared.reply.Reply.{Reply};
 ghost use Rattle.vm_types.specs.Fits.{Fits};
 ghost use Rattle.device_trace.specs.Script.{Ends, Script};
@@ -23,10 +23,10 @@ use crate::kind::NetKind;
 use queue_device::{queue_goes_on, queue_kept, queue_one, queue_stays};
 
 /// Wherever the items of a network device lead, it wants an act of its own, on the link alone of host objects, or guest time, and
-/// no byte outside RAM.
+/// in a guest of fewer than 2^32 pages no byte outside RAM.
 pub fn net_stays()
     ensures { (port pages : ℕ) (rx tx : Buckets) (items : List (Item NetChange)) (left : Script (Queued Net)) →
-        pages < 2 ^ 32 → LeadsTo net_rules (new_net port pages rx tx) items left →
+        LeadsTo net_rules (new_net port pages rx tx) items left →
         IsDeviceAct true is_link_call port pages (wants net_rules left) }
 {
     queue_stays::<NetKind>();
@@ -34,10 +34,10 @@ pub fn net_stays()
 
 /// What is left of a network device in a state that it may be in is confined, and tells its data.
 pub fn net_kept()
-    ensures stays { (p : Phase) (r : Rounds) (e : Net) (g : AtWork) → r.pages < 2 ^ 32 →
+    ensures stays { (p : Phase) (r : Rounds) (e : Net) (g : AtWork) →
         is_state net true is_work p r g ≡ true →
         IsConfined net true is_link_call r.port r.pages (left_at net p (hand_of g) (queued r e)) }
-    ensures one { (p q : Phase) (r t : Rounds) (e f : Net) (g h : AtWork) → r.pages < 2 ^ 32 → t.pages < 2 ^ 32 →
+    ensures one { (p q : Phase) (r t : Rounds) (e f : Net) (g h : AtWork) →
         is_state net true is_work p r g ≡ true → is_state net true is_work q t h ≡ true →
         left_at net p (hand_of g) (queued r e) ≡ left_at net q (hand_of h) (queued t f) → queued r e ≡ queued t f }
 {

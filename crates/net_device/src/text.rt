@@ -33,6 +33,16 @@ impl Text {
         }
     }
 
+    /// The same bytes.
+    pub(crate) fn again(&self) -> Text
+        ensures { result ≡ self.now }
+    {
+        Text {
+            bytes: self.bytes,
+            len: self.len,
+        }
+    }
+
     /// No byte any more.
     pub(crate) fn clear(&mut self)
         ensures { self.new ≡ [] }

@@ -41,6 +41,13 @@ module _ {E : Type 0} (P : Op → Type 0) where
 
 -- ---- what is performed, where it wants an act
 
+-- what is kept on a condition
+pub keeps_when : {A : Type 0} (C : Type 0) (P : Op → Type 0) (Q : A → Type 0) (t : Doing A) → (C → trees.Keeps P Q t)
+    → trees.Keeps (λ op. C → P op) (λ a. C → Q a) t
+keeps_when C P Q (Gives a) keeps = keeps
+keeps_when C P Q (Wants op on) keeps =
+    (λ c. (keeps c).0, λ reply fit. keeps_when C P Q (on reply) (λ c. (keeps c).1 reply fit))
+
 pub led_keeps : {A : Type 0} (P : Op → Type 0) (Q : A → Type 0) (t : Doing A) (op : Op) → asked t ≡ Some op
     → trees.Keeps P Q t → P op × ((reply : Reply) → Fits op reply → trees.Keeps P Q (led t reply))
 led_keeps P Q (Gives a) op is keeps = absurd (cc)

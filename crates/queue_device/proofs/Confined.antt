@@ -5,15 +5,17 @@ use Rattle.vm_types.specs.declared.op.Op.{Op}
 use Rattle.vm_types.specs.declared.op.Op.TheVariants.{Board}
 use Rattle.vm_types.specs.declared.op.BoardOp.TheVariants.{RaiseLine}
 use Rattle.vm_types.specs.declared.op.OutOp.{OutOp}
+use Rattle.vm_types.specs.Fits.{Fits}
+use Rattle.vm_types.specs.declared.port_look.PortLook.{PortLook}
 use Rattle.vm_types.specs.declared.reply.Reply.{Reply}
 use Rattle.device_trace.specs.Acts.{IsAskedBy}
 use Rattle.device_trace.specs.Doing.{Doing, Gives, Wants}
 use Rattle.device_trace.specs.Keeps as trees
-use Rattle.device_trace.specs.Script.{Script, Ends}
-use Rattle.device_trace.specs.States.{wants, Leads}
+use Rattle.device_trace.specs.Script.{Script, Ends, perform}
+use Rattle.device_trace.specs.States.{Leads, changed_at, stepped, wants}
 use Rattle.device_trace.specs.Traces.{Changing, Item}
 use Rattle.device_trace.proofs.Keeping.{keeps_both, stays_if, stays_perform}
-use Rattle.device_trace.proofs.Leading.{leads_keep, wants_keeps}
+use Rattle.device_trace.proofs.Leading.{change_keeps, leads_keep, step_keeps, wants_keeps}
 use Rattle.le_fields.specs.Fields.{field_at}
 use Rattle.vq_split.specs.declared.queue.Queue.{Queue}
 use Rattle.vq_split.specs.declared.queue.Part.{Part}
@@ -30,24 +32,25 @@ use Rattle.dev_core.proofs.Asking.{broken_asks, returned_asks, walk_asks}
 use Rattle.dev_core.proofs.Inside.{returned_keeps, broken_keeps}
 use Rattle.queue_device.specs.declared.lanes.Due.{Due}
 use Rattle.queue_device.specs.declared.lanes.Due.TheVariants as due
+use Rattle.queue_device.specs.declared.lanes.Lane.{Lane}
 use Rattle.queue_device.specs.declared.lanes.Rounds.{Rounds}
 use Rattle.queue_device.specs.declared.lanes.Which.{Which}
-use Rattle.queue_device.specs.declared.lanes.Which.TheVariants.{First}
+use Rattle.queue_device.specs.declared.lanes.Which.TheVariants.{First, Second, Third}
 use Rattle.queue_device.specs.Chains.{Chain, Taken}
-use Rattle.queue_device.specs.Confined.{Confines, HasRounds, IsChain, IsConfined, IsDeviceAct, IsTaken, LeavesRounds}
-use Rattle.queue_device.specs.Confined.{are_rounds, is_queue, is_waiting}
+use Rattle.queue_device.specs.Confined.{AreItsRounds, Confines, HasRounds, IsChain, IsConfined, IsDeviceAct, IsTaken, LeavesRounds}
+use Rattle.queue_device.specs.Confined.{is_lane, is_queue, is_waiting}
 use Rattle.queue_device.specs.Lanes.{busy, in_lane, is_running, lane_counted, lane_emptied, lane_freed, lane_given, lane_of}
-use Rattle.queue_device.specs.Lanes.{lane_waiting, round_begun, round_over, with_due}
+use Rattle.queue_device.specs.Lanes.{lane_waiting, next_rounds, round_begun, round_over, with_due}
 use Rattle.queue_device.specs.Rounds.{answered, at_own, at_rounds, begins, begins_at, broken_off, due_behind, due_from, given_back}
 use Rattle.queue_device.specs.Rounds.{goes_on, index_shown, lane, lane_begins, look_begins, looked, next_begins, on_behind, on_from}
 use Rattle.queue_device.specs.Rounds.{over_begins, own_changing, question_begins, queue_rules, round_broken, round_from, served}
 use Rattle.queue_device.specs.Rounds.{serving, taken, taking, time_of, timed, took, wait_begins, walk_begun, walk_from, walked}
 use Rattle.queue_device.specs.Service.{Queued, Service}
-use Rattle.queue_device.proofs.Acting.{stays_during}
-use Rattle.queue_device.proofs.Keeping.{begun_are, chain_of, lane_held, lane_in, lane_is, next_are, over_are, rounds_of, test_of_chain}
+use Rattle.queue_device.proofs.Acting.{keeps_when, stays_during}
+use Rattle.queue_device.proofs.Keeping.{begun_are, chain_of, lane_held, lane_in, lane_is, next_are, over_are, test_of_chain}
 
 module _ {E C : Type 0} (s : Service E) (changing : Changing E C) (times : Bool) (calls : OutOp → Bool) (port pages : ℕ)
-    (few : pages < 2 ^ 32) (kind : Confines s changing times calls) where
+    (kind : Confines s changing times calls) where
   abbrev D : Type 0
   D = Queued E
 
@@ -72,38 +75,64 @@ module _ {E C : Type 0} (s : Service E) (changing : Changing E C) (times : Bool)
   again d e f before after = after ∙ before
 
   pub kept : (d e : D) → R d → S d e → R e
-  kept d e is left = subst (λ (r : Rounds). are_rounds s port pages r ≡ true) (sym left) is
+  kept d e is left = subst (λ (r : Rounds). AreItsRounds s port pages r) (sym left) is
+
+  next_port : (o : Option Which) (r : Rounds) → (next_rounds o r).port ≡ r.port
+  next_port (Some k) r = refl
+  next_port None r = refl
+
+  in_port : (k : Which) (change : Lane → Lane) (r : Rounds) → (in_lane k change r).port ≡ r.port
+  in_port First change r = refl
+  in_port Second change r = refl
+  in_port Third change r = refl
+
+  -- rounds that go on, or of which a lane changes
+  nexts : (o : Option Which) (r : Rounds) → AreItsRounds s port pages r → AreItsRounds s port pages (next_rounds o r)
+  nexts o r is = (next_port o r ∙ is.0, λ few. next_are s port pages o r (is.1 few))
+
+  in_rounds : (k : Which) (change : Lane → Lane) (r : Rounds) → AreItsRounds s port pages r
+      → (pages < 2 ^ 32 → is_lane s pages k (lane_of k r) ≡ true → is_lane s pages k (change (lane_of k r)) ≡ true)
+      → AreItsRounds s port pages (in_lane k change r)
+  in_rounds k change r is keeps =
+      (in_port k change r ∙ is.0, λ few. lane_in s port pages k change r (is.1 few) (keeps few))
+
+  pub overs : (r : Rounds) → AreItsRounds s port pages r → AreItsRounds s port pages (round_over r)
+  overs r is = (is.0, λ few. over_are s port pages r (is.1 few))
 
   pub on : (k : Which) (d : D) → R d → R (on_from s k d)
-  on k d is = next_are s port pages (due_from s k d) d.rounds is
+  on k d is = nexts (due_from s k d) d.rounds is
 
   behind : (k : Which) (d : D) → R d → R (on_behind s k d)
-  behind k d is = next_are s port pages (due_behind s k d) d.rounds is
+  behind k d is = nexts (due_behind s k d) d.rounds is
 
   counted : (k : Which) (d : D) → R d → R (at_rounds (in_lane k lane_counted) d)
-  counted k d is = lane_in s port pages k lane_counted d.rounds is (λ fine. fine)
+  counted k d is = in_rounds k lane_counted d.rounds is (λ few fine. fine)
 
   emptied : (k : Which) (d : D) → R d → R (at_rounds (in_lane k lane_emptied) d)
-  emptied k d is = lane_in s port pages k lane_emptied d.rounds is (λ fine. fine)
+  emptied k d is = in_rounds k lane_emptied d.rounds is (λ few fine. fine)
 
-  freed : (k : Which) (r : Rounds) → are_rounds s port pages r ≡ true → are_rounds s port pages (in_lane k lane_freed r) ≡ true
-  freed k r is = lane_in s port pages k lane_freed r is (λ fine. lane_held s port pages k None (lane_of k r) refl fine)
+  freed : (k : Which) (r : Rounds) → AreItsRounds s port pages r → AreItsRounds s port pages (in_lane k lane_freed r)
+  freed k r is = in_rounds k lane_freed r is (λ few fine. lane_held s port pages k None (lane_of k r) refl fine)
 
   pub given : (k : Which) (d : D) → R d → R (given_back s k d)
   given k d is =
       on k (at_own (s.over k) (at_rounds busy (at_rounds (in_lane k lane_given) d)))
-      (lane_in s port pages k lane_given d.rounds is (λ fine. fine))
+      (in_rounds k lane_given d.rounds is (λ few fine. fine))
 
-  waits_on : (k : Which) (c : Chain) (d : D) → R d → IsChain s pages k c
+  waits_on : (k : Which) (c : Chain) (d : D) → R d → (pages < 2 ^ 32 → IsChain s pages k c)
       → R (at_rounds (with_due (due.Lane k)) (at_rounds (in_lane k (lane_waiting c)) d))
   waits_on k c d is chain =
-      lane_in s port pages k (lane_waiting c) d.rounds is
-      (λ fine. lane_held s port pages k (Some c) (lane_of k d.rounds) (test_of_chain s pages k c chain) fine)
+      in_rounds k (lane_waiting c) d.rounds is
+      (λ few fine. lane_held s port pages k (Some c) (lane_of k d.rounds) (test_of_chain s pages k c (chain few)) fine)
+
+  -- a queue that may be worked on
+  abbrev pub Stands : Queue → Type 0
+  Stands q = pages < 2 ^ 32 → IsSound q × (q.pages ≡ pages)
 
   -- ---- acts
 
   pub at_port : (d : D) → R d → d.rounds.port ≡ port
-  at_port d is = (rounds_of s port pages d.rounds is).port_is
+  at_port d is = is.0
 
   pub line : IsAskedBy times calls port (Board RaiseLine)
   line = inr (refl, tt)
@@ -114,42 +143,49 @@ module _ {E C : Type 0} (s : Service E) (changing : Changing E C) (times : Bool)
   pub writes : (at : ℕ) (piece : List ℕ) → IsAskedBy times calls port (Op.Write at piece)
   writes at piece = inr (tt, tt)
 
+  -- the acts of what is performed, and what it comes to
+  pub performs : {A : Type 0} (Q : A → Type 0) (t : Doing A) (d : D) (more : D → A → Script D)
+      → (pages < 2 ^ 32 → trees.Keeps (IsInside pages) Q t) → trees.Keeps (IsAskedBy times calls port) (Any {A = A}) t
+      → ((e : D) (a : A) → S d e → (pages < 2 ^ 32 → Q a) → Confined (more e a)) → Confined (perform t d more)
+  performs Q t d more inside asks next =
+      stays_perform P R S same again (λ a. (pages < 2 ^ 32 → Q a) × Any a) t d more
+      (keeps_both (λ op. pages < 2 ^ 32 → IsInside pages op) (IsAskedBy times calls port) (λ a. pages < 2 ^ 32 → Q a) Any t
+      (keeps_when (pages < 2 ^ 32) (IsInside pages) Q t inside) asks)
+      (λ e a left is. next e a left is.0)
+
   broken_stay : (k : Which) (d : D) → R d → Confined (round_broken s k d)
   broken_stay k d is =
       let p = d.rounds.port in
-      stays_perform P R S same again (λ (a : Unit {0}). Any {A = Unit {0}} a × Any {A = Unit {0}} a) (broken p) d
-      (λ e done. Ends (broken_off s k e))
-      (keeps_both (IsInside pages) (IsAskedBy times calls port) (Any {A = Unit {0}}) (Any {A = Unit {0}}) (broken p)
-      (broken_keeps pages p) (broken_asks (IsAskedBy times calls port) line p (inr (at_port d is, tt))))
-      (λ e done left any. over_are s port pages e.rounds (kept d e is left))
+      performs (Any {A = Unit {0}}) (broken p) d (λ e done. Ends (broken_off s k e)) (λ few. broken_keeps pages p)
+      (broken_asks (IsAskedBy times calls port) line p (inr (at_port d is, tt)))
+      (λ e done left any. overs e.rounds (kept d e is left))
 
-  returned_stays : (k : Which) (q : Queue) (head : ℕ) (d : D) (len : ℕ) → R d → IsSound q → q.pages ≡ pages
+  returned_stays : (k : Which) (q : Queue) (head : ℕ) (d : D) (len : ℕ) → R d → Stands q
       → Confined (served s k q head d (Some len))
-  returned_stays k q head d len is fine of_pages =
+  returned_stays k q head d len is fine =
       let p = d.rounds.port in
       let used = (lane s k d).used in
       let t = returned p q used head len in
-      stays_perform P R S same again (λ (a : Unit {0}). Any {A = Unit {0}} a × Any {A = Unit {0}} a) t d
-      (λ e done. Ends (given_back s k e))
-      (keeps_both (IsInside pages) (IsAskedBy times calls port) (Any {A = Unit {0}}) (Any {A = Unit {0}}) t
-      (subst (λ (n : ℕ). trees.Keeps (IsInside n) (Any {A = Unit {0}}) t) of_pages (returned_keeps p q used head len fine))
-      (returned_asks (IsAskedBy times calls port) line writes p (inr (at_port d is, tt)) q used head len))
+      performs (Any {A = Unit {0}}) t d (λ e done. Ends (given_back s k e))
+      (λ few. subst (λ (n : ℕ). trees.Keeps (IsInside n) (Any {A = Unit {0}}) t) (fine few).1
+      (returned_keeps p q used head len (fine few).0))
+      (returned_asks (IsAskedBy times calls port) line writes p (inr (at_port d is, tt)) q used head len)
       (λ e done left any. given k e (kept d e is left))
 
   -- ---- a chain
 
-  pub served_stays : (k : Which) (q : Queue) (head : ℕ) (d : D) (len : Option ℕ) → R d → IsSound q → q.pages ≡ pages
+  pub served_stays : (k : Which) (q : Queue) (head : ℕ) (d : D) (len : Option ℕ) → R d → Stands q
       → Confined (served s k q head d len)
-  served_stays k q head d None is fine of_pages = broken_stay k d is
-  served_stays k q head d (Some len) is fine of_pages = returned_stays k q head d len is fine of_pages
+  served_stays k q head d None is fine = broken_stay k d is
+  served_stays k q head d (Some len) is fine = returned_stays k q head d len is fine
 
-  serving_stays : (k : Which) (c : Chain) (d : D) → R d → IsChain s pages k c → Confined (serving s k c d)
+  serving_stays : (k : Which) (c : Chain) (d : D) → R d → (pages < 2 ^ 32 → IsChain s pages k c) → Confined (serving s k c d)
   serving_stays k c d is chain =
       stays_during P R (λ (len : Option ℕ). Unit {0}) (s.serve k c d.own) d.rounds (served s k c.queue c.head) kept
-      (λ e. is) (kind.serve port pages k c d.own few chain)
-      (λ e len has any. served_stays k c.queue c.head e len has chain.sound chain.pages_are)
+      (λ e. is) (kind.serve port pages k c d.own chain)
+      (λ e len has any. served_stays k c.queue c.head e len has (λ few. ((chain few).sound, (chain few).pages_are)))
 
-  timed_stays : (k : Which) (c : Chain) (d : D) (o : Option E) → R d → IsChain s pages k c → Confined (timed s k c d o)
+  timed_stays : (k : Which) (c : Chain) (d : D) (o : Option E) → R d → (pages < 2 ^ 32 → IsChain s pages k c) → Confined (timed s k c d o)
   timed_stays k c d None is chain = behind k d is
   timed_stays k c d (Some own) is chain =
       serving_stays k c (record { rounds = in_lane k lane_freed d.rounds; own = own }) (freed k d.rounds is) chain
@@ -159,77 +195,88 @@ module _ {E C : Type 0} (s : Service E) (changing : Changing E C) (times : Bool)
   time_asked_for false k c e may is =
       let no : true ≡ false = sym is ∙ kind.untimed may k c e in cc
 
-  taken_stays : (k : Which) (c : Chain) (d : D) → R d → IsChain s pages k c → Confined (taken s k c d)
+  taken_stays : (k : Which) (c : Chain) (d : D) → R d → (pages < 2 ^ 32 → IsChain s pages k c) → Confined (taken s k c d)
   taken_stays k c d is chain =
       stays_if P R S (s.is_timed k c d.own) (s.is_timed k c d.own) _ _ refl (λ asks. waits_on k c d is chain)
       (λ free. serving_stays k c d is chain)
 
-  goes_on_stays : (k : Which) (c : Chain) (d : D) → R d → IsChain s pages k c → Confined (goes_on s k c d)
+  goes_on_stays : (k : Which) (c : Chain) (d : D) → R d → (pages < 2 ^ 32 → IsChain s pages k c) → Confined (goes_on s k c d)
   goes_on_stays k c d is chain =
       stays_if P R S (s.is_timed k c d.own) (s.is_timed k c d.own) _ _ refl
       (λ asks. (
-        (tt, inl (time_asked_for times k c d.own refl asks, refl)),
+        (λ few. tt, inl (time_asked_for times k c d.own refl asks, refl)),
         λ e reply left fit. timed_stays k c e (s.passes k c (time_of reply) e.own) (kept d e is left) chain,
       ))
       (λ free. serving_stays k c (at_rounds (in_lane k lane_freed) d) (freed k d.rounds is) chain)
 
-  pub took_stays : (k : Which) (q : Queue) (head : ℕ) (d : D) (o : Option Taken) → R d → IsSound q → q.pages ≡ pages
-      → IsTaken s pages k o → Confined (took s k q head d o)
-  took_stays k q head d None is fine of_pages held = broken_stay k d is
-  took_stays k q head d (Some t) is fine of_pages held =
+  pub took_stays : (k : Which) (q : Queue) (head : ℕ) (d : D) (o : Option Taken) → R d → Stands q
+      → (pages < 2 ^ 32 → IsTaken s pages k o) → Confined (took s k q head d o)
+  took_stays k q head d None is fine held = broken_stay k d is
+  took_stays k q head d (Some t) is fine held =
       taken_stays k (record { queue = q; head = head; parts = t.parts; got = t.got }) d is
-      (record { pages_are = of_pages; sound = fine; parts = held.0; got = held.1; taken = held.2 })
+      (λ few. record {
+        pages_are = (fine few).1;
+        sound = (fine few).0;
+        parts = (held few).0;
+        got = (held few).1;
+        taken = (held few).2;
+      })
 
-  taking_stays : (k : Which) (q : Queue) (head : ℕ) (parts : List Part) (d : D) → R d → IsSound q
-      → q.pages ≡ pages → AreInside pages parts → Confined (taking s k q head parts d)
-  taking_stays k q head parts d is fine of_pages inside =
-      stays_during P R (IsTaken s pages k) (s.take k parts d.own) d.rounds (took s k q head) kept (λ e. is)
-      (kind.take port pages k parts d.own few inside)
-      (λ e t has held. took_stays k q head e t has fine of_pages held)
+  taking_stays : (k : Which) (q : Queue) (head : ℕ) (parts : List Part) (d : D) → R d → Stands q
+      → (pages < 2 ^ 32 → AreInside pages parts) → Confined (taking s k q head parts d)
+  taking_stays k q head parts d is fine inside =
+      stays_during P R (λ (t : Option Taken). pages < 2 ^ 32 → IsTaken s pages k t) (s.take k parts d.own) d.rounds
+      (took s k q head) kept (λ e. is) (kind.take port pages k parts d.own inside)
+      (λ e t has held. took_stays k q head e t has fine held)
 
-  pub walked_stays : (k : Which) (q : Queue) (d : D) (came : Walk) → R d → IsSound q → q.pages ≡ pages
-      → WalkInside pages came → Confined (walked s k q d came)
-  walked_stays k q d (walk.Chain head parts) is fine of_pages inside =
-      taking_stays k q head parts (at_rounds (in_lane k lane_counted) d) (counted k d is) fine of_pages inside
-  walked_stays k q d walk.Empty is fine of_pages inside = behind k (at_rounds (in_lane k lane_emptied) d) (emptied k d is)
-  walked_stays k q d (walk.Broken why) is fine of_pages inside = broken_stay k d is
-  walked_stays k q d walk.More is fine of_pages inside = is
+  pub walked_stays : (k : Which) (q : Queue) (d : D) (came : Walk) → R d → Stands q
+      → (pages < 2 ^ 32 → WalkInside pages came) → Confined (walked s k q d came)
+  walked_stays k q d (walk.Chain head parts) is fine inside =
+      taking_stays k q head parts (at_rounds (in_lane k lane_counted) d) (counted k d is) fine inside
+  walked_stays k q d walk.Empty is fine inside = behind k (at_rounds (in_lane k lane_emptied) d) (emptied k d is)
+  walked_stays k q d (walk.Broken why) is fine inside = broken_stay k d is
+  walked_stays k q d walk.More is fine inside = is
 
   shown_by : (k : Which) (test : Bool) (d : D) → R d → R (if test then d else at_own (s.begun k) d)
   shown_by k true d is = is
   shown_by k false d is = is
 
-  from_stays : (k : Which) (next : ℕ) (q : Queue) (t : Doing Walk) (d : D) → R d → IsSound q → q.pages ≡ pages
-      → trees.Keeps P (λ (w : Walk). WalkInside pages w × Any {A = Walk} w) t → Confined (walk_from s k next q t d)
-  from_stays k next q (Gives came) d is fine of_pages keeps = walked_stays k q d came is fine of_pages keeps.0
-  from_stays k next q (Wants op more) d is fine of_pages keeps = (
+  from_stays : (k : Which) (next : ℕ) (q : Queue) (t : Doing Walk) (d : D) → R d → Stands q
+      → trees.Keeps P (λ (w : Walk). (pages < 2 ^ 32 → WalkInside pages w) × Any {A = Walk} w) t
+      → Confined (walk_from s k next q t d)
+  from_stays k next q (Gives came) d is fine keeps = walked_stays k q d came is fine keeps.0
+  from_stays k next q (Wants op more) d is fine keeps = (
     keeps.0,
     λ e reply left fit.
         let now : D = index_shown s k next reply e in
         let has = shown_by k (field_at (read_bytes 2 reply) 0 2 == next) e (kept d e is left) in
-        stays_perform P R S same again (λ (w : Walk). WalkInside pages w × Any {A = Walk} w) (more reply) now
+        stays_perform P R S same again (λ (w : Walk). (pages < 2 ^ 32 → WalkInside pages w) × Any {A = Walk} w) (more reply) now
         (walked s k q) (keeps.1 reply fit)
-        (λ f came after inside. walked_stays k q f came (kept now f has after) fine of_pages inside.0),
+        (λ f came after inside. walked_stays k q f came (kept now f has after) fine inside.0),
   )
 
-  begun_stays : (k : Which) (q : Queue) (flaw : Option Why) (d : D) → queue_flaw q ≡ flaw → R d → q.pages ≡ pages
-      → Confined (walk_begun s k q flaw d)
+  begun_stays : (k : Which) (q : Queue) (flaw : Option Why) (d : D) → queue_flaw q ≡ flaw → R d
+      → (pages < 2 ^ 32 → q.pages ≡ pages) → Confined (walk_begun s k q flaw d)
   begun_stays k q (Some why) d it is of_pages = broken_stay k d is
   begun_stays k q None d it is of_pages =
       let next = (lane s k d).next in
-      let fine = sound q (subst (λ (n : ℕ). n < 2 ^ 32) (sym of_pages) few) it in
-      from_stays k next q (chain_walk q next) d is fine of_pages
-      (keeps_both (IsInside pages) (IsAskedBy times calls port) (WalkInside pages) (Any {A = Walk}) (chain_walk q next)
-      (subst (λ (n : ℕ). trees.Keeps (IsInside n) (WalkInside n) (chain_walk q next)) of_pages (walk_keeps q next fine))
+      let fine : Stands q =
+      λ few. (sound q (subst (λ (n : ℕ). n < 2 ^ 32) (sym (of_pages few)) few) it, of_pages few) in
+      from_stays k next q (chain_walk q next) d is fine
+      (keeps_both (λ op. pages < 2 ^ 32 → IsInside pages op) (IsAskedBy times calls port)
+      (λ w. pages < 2 ^ 32 → WalkInside pages w) (Any {A = Walk}) (chain_walk q next)
+      (keeps_when (pages < 2 ^ 32) (IsInside pages) (WalkInside pages) (chain_walk q next)
+      (λ few. subst (λ (n : ℕ). trees.Keeps (IsInside n) (WalkInside n) (chain_walk q next)) (of_pages few)
+      (walk_keeps q next (fine few).0)))
       (walk_asks (IsAskedBy times calls port) reads q next))
 
   -- ---- groups
 
-  lane_stays : (k : Which) (o : Option Queue) (w : Option Chain) (d : D) → R d → is_queue s pages o ≡ true
-      → is_waiting s pages k w ≡ true → Confined (lane_begins s k o w d)
+  lane_stays : (k : Which) (o : Option Queue) (w : Option Chain) (d : D) → R d
+      → (pages < 2 ^ 32 → is_queue s pages o ≡ true) → (pages < 2 ^ 32 → is_waiting s pages k w ≡ true) → Confined (lane_begins s k o w d)
   lane_stays k None w d is queue waiting = is
-  lane_stays k (Some q) (Some c) d is queue waiting = goes_on_stays k c d is (chain_of s pages few k c waiting)
-  lane_stays k (Some q) None d is queue waiting = begun_stays k q (queue_flaw q) d refl is (eqb-true _ _ queue)
+  lane_stays k (Some q) (Some c) d is queue waiting = goes_on_stays k c d is (λ few. chain_of s pages few k c (waiting few))
+  lane_stays k (Some q) None d is queue waiting = begun_stays k q (queue_flaw q) d refl is (λ few. eqb-true _ _ (queue few))
 
   from_on : (asks : Bool) (d : D) → R d → R (round_from s asks d)
   from_on asks d is = from_by (asks && s.may_ask && s.asks d.own)
@@ -242,18 +289,22 @@ module _ {E C : Type 0} (s : Service E) (changing : Changing E C) (times : Bool)
   reset_on true d is = is
   reset_on false d is = is
 
+  begins_rounds : (look : PortLook) (r : Rounds) → AreItsRounds s port pages r
+      → AreItsRounds s port pages (round_begun s.last look r)
+  begins_rounds look r is = (is.0, λ few. begun_are s port pages s.last look r (is.1 few))
+
   looked_on : (reply : Reply) (d : D) → R d → R (looked s reply d)
   looked_on (Reply.Port look) d is =
       let e : D = if look.was_reset then at_own s.reset d else d in
       from_on (is_running look.status) (at_rounds (round_begun s.last look) e)
-      (begun_are s port pages s.last look e.rounds (reset_on look.was_reset d is))
+      (begins_rounds look e.rounds (reset_on look.was_reset d is))
   looked_on reply d is = is
 
   look_stays : (d : D) → R d → Confined (look_begins s d)
-  look_stays d is = ((tt, inr (at_port d is, tt)), λ e reply left fit. looked_on reply e (kept d e is left))
+  look_stays d is = ((λ few. tt, inr (at_port d is, tt)), λ e reply left fit. looked_on reply e (kept d e is left))
 
   wait_stays : (d : D) → R d → Confined (wait_begins s d)
-  wait_stays d is = ((tt, inr (tt, tt)), λ e reply left fit. kept d e is left)
+  wait_stays d is = ((λ few. tt, inr (tt, tt)), λ e reply left fit. kept d e is left)
 
   pub busy_by : (received : Bool) (d : D) → R d → R (if received then at_rounds busy d else d)
   busy_by true d is = is
@@ -275,9 +326,10 @@ module _ {E C : Type 0} (s : Service E) (changing : Changing E C) (times : Bool)
   next_stays : (o : Option Which) (d : D) → R d → Confined (next_begins s o d)
   next_stays (Some k) d is =
       let l = lane s k d in
-      let fine = and_parts (is_queue s pages l.queue) (is_waiting s pages k l.waiting) (lane_is s port pages k d.rounds is) in
-      lane_stays k l.queue l.waiting d is fine.0 fine.1
-  next_stays None d is = over_stays d.rounds.is_busy (at_rounds round_over d) (over_are s port pages d.rounds is)
+      let fine = λ (few : pages < 2 ^ 32). and_parts (is_queue s pages l.queue) (is_waiting s pages k l.waiting)
+      (lane_is s port pages k d.rounds (is.1 few)) in
+      lane_stays k l.queue l.waiting d is (λ few. (fine few).0) (λ few. (fine few).1)
+  next_stays None d is = over_stays d.rounds.is_busy (at_rounds round_over d) (overs d.rounds is)
 
   begins_stay : (due : Due) (d : D) → R d → Confined (begins_at s due d)
   begins_stay due.Look d is = look_stays d is
@@ -295,10 +347,19 @@ module _ {E C : Type 0} (s : Service E) (changing : Changing E C) (times : Bool)
   leaves c d = refl
 
   pub act_confined : (t : Script D) → Confined t → P (wants (queue_rules s changing) t)
-  act_confined = wants_keeps (begins s) (own_changing changing) P R S same again (tt, inr (tt, tt)) opens still leaves
+  act_confined = wants_keeps (begins s) (own_changing changing) P R S same again (λ few. tt, inr (tt, tt)) opens still leaves
+      (λ c d op reply is. kind.cut c d.own op reply is)
+
+  pub step_confined : (t : Script D) (reply : Reply) → Confined t → Fits (wants (queue_rules s changing) t) reply
+      → Confined (stepped (queue_rules s changing) t reply)
+  step_confined = step_keeps (begins s) (own_changing changing) P R S same again (λ few. tt, inr (tt, tt)) opens still leaves
+      (λ c d op reply is. kind.cut c d.own op reply is)
+
+  pub change_confined : (t : Script D) (c : C) → Confined t → Confined (changed_at (queue_rules s changing) c t)
+  change_confined = change_keeps (begins s) (own_changing changing) P R S same again (λ few. tt, inr (tt, tt)) opens still leaves
       (λ c d op reply is. kind.cut c d.own op reply is)
 
   pub leads_confined : (t : Script D) (items : List (Item C)) (left : Script D) → Confined t
       → Leads (queue_rules s changing) t items left → Confined left
-  leads_confined = leads_keep (begins s) (own_changing changing) P R S same again (tt, inr (tt, tt)) opens still leaves
+  leads_confined = leads_keep (begins s) (own_changing changing) P R S same again (λ few. tt, inr (tt, tt)) opens still leaves
       (λ c d op reply is. kind.cut c d.own op reply is)

@@ -119,7 +119,7 @@ module _ {E : Type 0} (s : Service E) (times : Bool) where
   own_with Second l r are is = own_of (with_lane Second l r) (own_lane First r are) is (own_lane Third r are)
   own_with Third l r are is = own_of (with_lane Third l r) (own_lane First r are) (own_lane Second r are) is
 
-  own_in : (k : Which) (change : Lane → Lane) (r : Rounds) (has : Bool) → is_up_to s.last k ≡ has
+  pub own_in : (k : Which) (change : Lane → Lane) (r : Rounds) (has : Bool) → is_up_to s.last k ≡ has
       → are_own_lanes s times r ≡ true → is_some (lane_of k r).queue ≡ true
       → (is_own_lane times true (lane_of k r) ≡ true → is_own_lane times true (change (lane_of k r)) ≡ true)
       → are_own_lanes s times (in_lane k change r) ≡ true
@@ -131,12 +131,12 @@ module _ {E : Type 0} (s : Service E) (times : Bool) where
       (subst (λ (b : Bool). is_own_lane times b (change (lane_of k r)) ≡ true) (sym (is ∙ yes))
       (on (subst (λ (b : Bool). is_own_lane times b (lane_of k r) ≡ true) yes here)))
 
-  own_over : (r : Rounds) → are_own_lanes s times r ≡ true → are_own_lanes s times (round_over r) ≡ true
+  pub own_over : (r : Rounds) → are_own_lanes s times r ≡ true → are_own_lanes s times (round_over r) ≡ true
   own_over r are =
       own_of (round_over r) (own_closed times _ r.first (own_lane First r are))
       (own_closed times _ r.second (own_lane Second r are)) (own_closed times _ r.third (own_lane Third r are))
 
-  own_begun : (look : PortLook) (r : Rounds) → are_own_lanes s times r ≡ true
+  pub own_begun : (look : PortLook) (r : Rounds) → are_own_lanes s times r ≡ true
       → are_own_lanes s times (round_begun s.last look r) ≡ true
   own_begun look r are =
       own_of (round_begun s.last look r) (own_seen times _ r.pages look look.first r.first (own_lane First r are))

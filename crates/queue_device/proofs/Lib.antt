@@ -1,4 +1,6 @@
 pub mod Acting
+pub mod CodeGoes
+pub mod CodeKept
 pub mod Confined
 pub mod GoesOn
 pub mod Keeping

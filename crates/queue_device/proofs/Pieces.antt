@@ -8,11 +8,13 @@ use Rattle.device_trace.specs.Doing.{Doing, asked, led}
 use Rattle.vq_split.specs.declared.queue.Part.{Part}
 use Rattle.vq_split.specs.Chain.{read_bytes}
 use Rattle.vq_split.specs.Inside.{AreInside}
+use Rattle.vq_split.specs.Kept.{are_inside}
+use Rattle.vq_split.proofs.Kept.{are_of, inside_of}
 use Rattle.dev_core.specs.declared.collect.Collect.{Collect}
 use Rattle.dev_core.specs.Collecting.{collect_left}
 use Rattle.dev_core.specs.Pieces.{Got, past, place, put_all, room, share}
 use Rattle.dev_core.proofs.Fuel.{bytes_fit, collect_led, collect_more, put_more}
-use Rattle.dev_core.proofs.Inside.{past_inside}
+use Rattle.dev_core.proofs.Inside.{filter_inside, past_inside}
 use Rattle.queue_device.proofs.Spilling.{spill_on}
 
 pub is_some_of : (n : ℕ) → (n == 0) ≡ false → 0 < n
@@ -111,3 +113,14 @@ put_next pages held to reply small some inside few =
       few = past_few n 256 to few;
       left = spill_on held (drop n held) to (past n to) n reply some refl refl refl;
     }
+
+-- ---- as tests
+
+pub past_test : (pages n : ℕ) (parts : List Part) → pages < 2 ^ 32 → n ≤ room parts → are_inside pages parts ≡ true
+    → are_inside pages (past n parts) ≡ true
+past_test pages n parts small some is =
+    are_of pages (past n parts) (past_inside pages n parts small (inside_of pages parts is) some)
+
+pub filter_test : (pages : ℕ) (test : Part → Bool) (parts : List Part) → are_inside pages parts ≡ true
+    → are_inside pages (filter test parts) ≡ true
+filter_test pages test parts is = are_of pages (filter test parts) (filter_inside pages test parts (inside_of pages parts is))

@@ -90,6 +90,23 @@ return_next s h d p op c len stage used reply x is same asks made =
     (λ (e : Queued _) done. Ends (given_back s c.which e)) op reply told in
     subst (λ (y : Phase). x ≡ root_next (left_at s y h d) reply) (sym is) (made ∙ sym on)
 
+-- one to a walk, and to what is told of a broken queue
+pub walk_next : {E : Type 0} (s : Service E) (h : Hand E) (d : Queued E) (p : Phase) (op : Op) (k : Which) (walk : Walking)
+    (reply : Reply) (x : Script (Queued E)) → p ≡ phase.Walk k walk → asked (walk_left walk) ≡ Some op
+    → x ≡ perform (led (walk_left walk) reply) d (walked s k walk.queue) → x ≡ root_next (left_at s p h d) reply
+walk_next s h d p op k walk reply x is asks made =
+    let on = perform_next (walk_left walk) d (walked s k walk.queue) op reply asks in
+    subst (λ (y : Phase). x ≡ root_next (left_at s y h d) reply) (sym is) (made ∙ sym on)
+
+pub break_next : {E : Type 0} (s : Service E) (h : Hand E) (d : Queued E) (p : Phase) (op : Op) (k : Which)
+    (stage : BreakStage) (reply : Reply) (x : Script (Queued E)) → p ≡ phase.Break k stage
+    → asked (break_left stage d.rounds.port) ≡ Some op
+    → x ≡ perform (led (break_left stage d.rounds.port) reply) d (λ e done. Ends (broken_off s k e))
+    → x ≡ root_next (left_at s p h d) reply
+break_next s h d p op k stage reply x is asks made =
+    let on = perform_next (break_left stage d.rounds.port) d (λ (e : Queued _) done. Ends (broken_off s k e)) op reply asks in
+    subst (λ (y : Phase). x ≡ root_next (left_at s y h d) reply) (sym is) (made ∙ sym on)
+
 -- a chain that waited and asks no guest time is served at once
 pub goes_untimed : {E : Type 0} (s : Service E) (k : Which) (c : Chain) (d : Queued E) (reply : Reply)
     (left : Script (Queued E)) → s.is_timed k c d.own ≡ false → fits (root_op (goes_on s k c d)) reply ≡ true

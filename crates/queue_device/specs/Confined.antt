@@ -22,9 +22,9 @@ use Rattle.queue_device.specs.Chains.{Chain, Taken}
 use Rattle.queue_device.specs.Service.{Queued, Service}
 
 -- An act of the device at this port, which asks its host object for these calls alone, or the question for guest time, where
--- it may ask it; and it touches no byte outside RAM of so many pages.
+-- it may ask it; and in a guest of fewer than 2^32 pages it touches no byte outside RAM.
 abbrev pub IsDeviceAct : Bool → (OutOp → Bool) → ℕ → ℕ → Op → Type 0
-IsDeviceAct times calls port pages op = IsInside pages op × IsAskedBy times calls port op
+IsDeviceAct times calls port pages op = (pages < 2 ^ 32 → IsInside pages op) × IsAskedBy times calls port op
 
 -- the rounds are as they were
 abbrev pub LeavesRounds : {E : Type 0} → Queued E → Queued E → Type 0
@@ -57,10 +57,13 @@ module _ {E : Type 0} (s : Service E) where
   abbrev pub are_rounds : ℕ → ℕ → Rounds → Bool
   are_rounds port pages r = (r.port == port) && (r.pages == pages) && are_lanes pages r
 
-  abbrev pub HasRounds : ℕ → ℕ → Queued E → Type 0
-  HasRounds port pages d = are_rounds port pages d.rounds ≡ true
+  abbrev pub AreItsRounds : ℕ → ℕ → Rounds → Type 0
+  AreItsRounds port pages r = (r.port ≡ port) × (pages < 2 ^ 32 → are_rounds port pages r ≡ true)
 
-  -- what is still to be done asks for no act but the device's own, or guest time, inside RAM, whatever is replied and changed
+  abbrev pub HasRounds : ℕ → ℕ → Queued E → Type 0
+  HasRounds port pages d = AreItsRounds port pages d.rounds
+
+  -- what is still to be done asks for no act but the device's own, or guest time, whatever is replied and changed
   abbrev pub IsConfined : Bool → (OutOp → Bool) → ℕ → ℕ → Script (Queued E) → Type 0
   IsConfined times calls port pages t =
       Stays (IsDeviceAct times calls port pages) (HasRounds port pages) (LeavesRounds {E = E}) t
@@ -87,9 +90,10 @@ module _ {E : Type 0} (s : Service E) where
     pub question : (port pages : ℕ) (e : E) → IsDeviceAct times calls port pages (s.question e)
     pub answer : (port pages : ℕ) (before e : E) (reply : Reply) → Fits (s.question before) reply →
         ActingKeeps (IsDeviceAct times calls port pages) (λ (received : Bool). Unit {0}) (s.answer e reply)
-    pub take : (port pages : ℕ) (k : Which) (parts : List Part) (e : E) → pages < 2 ^ 32 → AreInside pages parts →
-        ActingKeeps (IsDeviceAct times calls port pages) (IsTaken pages k) (s.take k parts e)
-    pub serve : (port pages : ℕ) (k : Which) (c : Chain) (e : E) → pages < 2 ^ 32 → IsChain pages k c →
+    pub take : (port pages : ℕ) (k : Which) (parts : List Part) (e : E) → (pages < 2 ^ 32 → AreInside pages parts) →
+        ActingKeeps (IsDeviceAct times calls port pages) (λ (t : Option Taken). pages < 2 ^ 32 → IsTaken pages k t)
+        (s.take k parts e)
+    pub serve : (port pages : ℕ) (k : Which) (c : Chain) (e : E) → (pages < 2 ^ 32 → IsChain pages k c) →
         ActingKeeps (IsDeviceAct times calls port pages) (λ (len : Option ℕ). Unit {0}) (s.serve k c e)
     pub untimed : times ≡ false → (k : Which) (c : Chain) (e : E) → s.is_timed k c e ≡ false
     pub cut : (c : C) (e : E) (op : Op) (reply : Reply) → changing.cut c e op ≡ Some reply → Fits op reply

@@ -1,7 +1,7 @@
 -- What may be kept of a device with queues, as a test: what a state file may have of it.
-use Rattle.std.specs.Prelude.{ℕ, ◌==◌, Bool, true, false, ◌&&◌, ◌||◌, not, Option, Some, None, is_some}
+use Rattle.std.specs.Prelude.{◌≡◌, ℕ, ◌==◌, Bool, true, false, ◌&&◌, ◌||◌, not, Option, Some, None, is_some}
 use Rattle.vq_split.specs.declared.queue.Queue.{Queue}
-use Rattle.vq_split.specs.Kept.{is_sound, is_walking}
+use Rattle.vq_split.specs.Kept.{are_inside, is_sound, is_walking}
 use Rattle.vq_split.specs.Walking.{Walking}
 use Rattle.dev_core.specs.declared.returning.ReturnStage.{ReturnStage}
 use Rattle.dev_core.specs.declared.returning.ReturnStage.TheVariants as returning
@@ -9,12 +9,14 @@ use Rattle.queue_device.specs.declared.lanes.Due.{Due}
 use Rattle.queue_device.specs.declared.lanes.Due.TheVariants as due
 use Rattle.queue_device.specs.declared.lanes.Lane.{Lane}
 use Rattle.queue_device.specs.declared.lanes.Rounds.{Rounds}
+use Rattle.queue_device.specs.declared.lanes.Which.{Which}
 use Rattle.queue_device.specs.declared.lanes.Which.TheVariants.{First, Second, Third}
 use Rattle.queue_device.specs.declared.phase.InHand.{InHand}
 use Rattle.queue_device.specs.declared.phase.Phase.{Phase}
 use Rattle.queue_device.specs.declared.phase.Phase.TheVariants as phase
 use Rattle.queue_device.specs.declared.phase.Work.{Work}
 use Rattle.queue_device.specs.declared.phase.Work.TheVariants as work
+use Rattle.queue_device.specs.Chains.{Taken}
 use Rattle.queue_device.specs.Confined.{are_lanes}
 use Rattle.queue_device.specs.Lanes.{is_up_to, lane_of}
 use Rattle.queue_device.specs.Service.{Service}
@@ -96,7 +98,26 @@ work_of (phase.Take c) = work.Take c.which
 work_of (phase.Serve c) = work.Serve c.which
 work_of phase = work.Rest
 
+-- and where it is once this was told of its work: there still, or at rest
+abbrev pub work_after : {A : Type 0} → Option A → Work → Work
+work_after None w = w
+work_after (Some a) w = work.Rest
+
+-- a kind at rest is at rest still
+abbrev pub RestsOn : {G : Type 0} → (Work → ℕ → G → Bool) → G → G → Type 0
+RestsOn is_work g h = (pages : ℕ) → is_work work.Rest pages g ≡ true → is_work work.Rest pages h ≡ true
+
 -- ---- the device
+
+module _ {E : Type 0} (s : Service E) where
+  -- what is kept of a chain that was taken lies inside RAM, and the chain may be served
+  abbrev pub is_fit : ℕ → Which → Option Taken → Bool
+  is_fit pages k None = true
+  is_fit pages k (Some t) = are_inside pages t.parts && are_inside pages t.got.parts && s.is_taken k t.parts t.got
+
+  abbrev pub is_fit_told : ℕ → Which → Option (Option Taken) → Bool
+  is_fit_told pages k None = true
+  is_fit_told pages k (Some t) = is_fit pages k t
 
 module _ {E : Type 0} (s : Service E) (times : Bool) where
   abbrev pub are_own_lanes : Rounds → Bool
@@ -106,6 +127,14 @@ module _ {E : Type 0} (s : Service E) (times : Bool) where
 
   abbrev pub are_kept : Rounds → Bool
   are_kept r = are_lanes s r.pages r && are_own_lanes r && is_next s.may_ask r.due r
+
+  -- a group works on a queue
+  abbrev pub is_working : Rounds → Bool
+  is_working r = are_kept r && is_at_lane r.due
+
+  -- and has a chain in hand
+  abbrev pub is_holding : InHand → Rounds → Bool
+  is_holding c r = is_working r && is_in_hand times c r
 
   -- its rounds, what it is at, and where its kind is
   abbrev pub is_state : {G : Type 0} → (Work → ℕ → G → Bool) → Phase → Rounds → G → Bool

@@ -73,15 +73,16 @@ module _ {E G : Type 0} (s : Service E) (hand : G → Hand E) (is_work : Work �
   pub record Resumes {C : Type 0} (changing : Changing E C) (times : Bool) (calls : OutOp → Bool) : Type 0 where
     pub rest : G
     pub rests : (pages : ℕ) → is_work work.Rest pages rest ≡ true
-    pub answering_stays : (port pages : ℕ) (g : G) → pages < 2 ^ 32 → is_work work.Answer pages g ≡ true →
+    pub answering_stays : (port pages : ℕ) (g : G) → is_work work.Answer pages g ≡ true →
         IsDeviceAct times calls port pages (hand g).op
         × ((e : E) (reply : Reply) → Fits (hand g).op reply →
         ActingKeeps (IsDeviceAct times calls port pages) Any ((hand g).answering e reply))
-    pub taking_stays : (port pages : ℕ) (k : Which) (g : G) → pages < 2 ^ 32 → is_work (work.Take k) pages g ≡ true →
+    pub taking_stays : (port pages : ℕ) (k : Which) (g : G) → is_work (work.Take k) pages g ≡ true →
         IsDeviceAct times calls port pages (hand g).op
         × ((e : E) (reply : Reply) → Fits (hand g).op reply →
-        ActingKeeps (IsDeviceAct times calls port pages) (IsTaken s pages k) ((hand g).taking e reply))
-    pub serving_stays : (port pages : ℕ) (k : Which) (g : G) → pages < 2 ^ 32 → is_work (work.Serve k) pages g ≡ true →
+        ActingKeeps (IsDeviceAct times calls port pages) (λ (t : Option Taken). pages < 2 ^ 32 → IsTaken s pages k t)
+        ((hand g).taking e reply))
+    pub serving_stays : (port pages : ℕ) (k : Which) (g : G) → is_work (work.Serve k) pages g ≡ true →
         IsDeviceAct times calls port pages (hand g).op
         × ((e : E) (reply : Reply) → Fits (hand g).op reply →
         ActingKeeps (IsDeviceAct times calls port pages) Any ((hand g).serving e reply))

@@ -1,10 +1,12 @@
 // Between two groups: where the first reply of the next one leads.
-ghost use Rattle.std.specs.Prelude.{◌≡◌, length, true, false, Some, None, if◌then◌else◌};
+ghost use Rattle.std.specs.Prelude.{◌≡◌, length, true, false, Some, None, is_some, if◌then◌else◌};
 ghost use Rattle.vm_types.specs.declared.reply.Reply.{Reply};
 ghost use Rattle.vm_types.specs.Fits.{fits};
 ghost use Rattle.device_trace.specs.Traces.{root_next, root_op};
 ghost use Rattle.vq_split.specs.Chain.{queue_flaw, read_bytes};
+ghost use Rattle.queue_device.specs.declared.phase.Work.TheVariants as work;
 ghost use Rattle.queue_device.specs.Chains.{Chain};
+ghost use Rattle.queue_device.specs.Kept.{RestsOn, are_kept, is_at_lane, is_state};
 ghost use Rattle.queue_device.specs.Lanes.{in_lane, lane_freed, lane_of};
 ghost use Rattle.queue_device.specs.Left.{left_at, queued};
 ghost use Rattle.queue_device.specs.Rounds.{begins, goes_on, index_shown, looked, next_begins, over_begins, serving};
@@ -31,8 +33,11 @@ fn time_of(reply: &Reply) -> u64
 
 // What a look makes of the data.
 fn look<K: Kind>(rounds: &mut Rounds, kind: &mut K, reply: &Reply)
-    ensures { queued rounds.new (K.own kind.new) ≡
+    ensures left { queued rounds.new (K.own kind.new) ≡
         looked K.service reply.now (queued rounds.old (K.own kind.old)) }
+    ensures kept { are_kept K.service K.times rounds.old ≡ true → are_kept K.service K.times rounds.new ≡ true }
+    ensures pages { rounds.new.pages ≡ rounds.old.pages }
+    ensures rests { RestsOn K.is_work (K.stage kind.old) (K.stage kind.new) }
 {
     if let Reply::Port(look) = reply {
         if look.was_reset {
@@ -50,9 +55,12 @@ fn look<K: Kind>(rounds: &mut Rounds, kind: &mut K, reply: &Reply)
 
 // The chain that waited is served.
 fn serve_freed<K: Kind>(rounds: &mut Rounds, kind: &mut K, which: Which) -> Phase
-    ensures { (c : Chain) → (lane_of which rounds.old).waiting ≡ Some c →
+    ensures left { (c : Chain) → (lane_of which rounds.old).waiting ≡ Some c →
         left_at K.service result (K.hand (K.stage kind.new)) (queued rounds.new (K.own kind.new)) ≡
         serving K.service which c (queued (in_lane which lane_freed rounds.old) (K.own kind.old)) }
+    ensures kept { are_kept K.service K.times rounds.old ≡ true → is_at_lane rounds.old.due ≡ true →
+        is_some (lane_of which rounds.old).queue ≡ true → K.is_work work.Rest rounds.old.pages (K.stage kind.old) ≡ true →
+        is_state K.service K.times K.is_work result rounds.new (K.stage kind.new) ≡ true }
 {
     match rounds.free(which) {
         Some(chain) => serve(rounds, kind, which, &chain),
@@ -76,6 +84,7 @@ fn passes<K: Kind>(rounds: &Rounds, kind: &mut K, which: Which, now: u64) -> boo
     ensures passes { (c : Chain) → (lane_of which rounds.now).waiting ≡ Some c →
         K.service.passes which c now (K.own kind.old) ≡ (if result then Some (K.own kind.new) else None) }
     ensures waits { result ≡ false → K.own kind.new ≡ K.own kind.old }
+    ensures rests { RestsOn K.is_work (K.stage kind.old) (K.stage kind.new) }
 {
     match &rounds.lane(which).waiting {
         Some(chain) => kind.passes(which, chain, now),
@@ -88,9 +97,12 @@ fn goes_on<K: Kind>(rounds: &mut Rounds, kind: &mut K, which: Which, reply: Repl
     requires fit { (c : Chain) → (lane_of which rounds.old).waiting ≡ Some c →
         fits (root_op (goes_on K.service which c (queued rounds.old (K.own kind.old)))) reply ≡ true }
     requires some { (c : Chain) × ((lane_of which rounds.old).waiting ≡ Some c) }
-    ensures { (c : Chain) → (lane_of which rounds.old).waiting ≡ Some c →
+    ensures left { (c : Chain) → (lane_of which rounds.old).waiting ≡ Some c →
         left_at K.service result (K.hand (K.stage kind.new)) (queued rounds.new (K.own kind.new)) ≡
         root_next (goes_on K.service which c (queued rounds.old (K.own kind.old))) reply }
+    ensures kept { are_kept K.service K.times rounds.old ≡ true → is_at_lane rounds.old.due ≡ true →
+        is_some (lane_of which rounds.old).queue ≡ true → K.is_work work.Rest rounds.old.pages (K.stage kind.old) ≡ true →
+        is_state K.service K.times K.is_work result rounds.new (K.stage kind.new) ≡ true }
 {
     if is_timed(rounds, kind, which) {
         if passes(rounds, kind, which, time_of(&reply)) {
@@ -109,8 +121,9 @@ fn goes_on<K: Kind>(rounds: &mut Rounds, kind: &mut K, which: Which, reply: Repl
 // A walk's first read shows whether there is a chain.
 fn show<K: Kind>(kind: &mut K, which: Which, next: u16, reply: &Reply)
     requires { length (read_bytes 2 reply.now) ≡ 2 }
-    ensures { (r : Rounds) → queued r (K.own kind.new) ≡
+    ensures shown { (r : Rounds) → queued r (K.own kind.new) ≡
         index_shown K.service which next reply.now (queued r (K.own kind.old)) }
+    ensures rests { RestsOn K.is_work (K.stage kind.old) (K.stage kind.new) }
 {
     if value16(read_bytes(2, reply).as_slice(), 0) != next {
         kind.begun(which);
@@ -127,8 +140,11 @@ fn walk_begun<K: Kind>(
 ) -> Phase
     requires { fits (root_op (walk_begun K.service which queue (queue_flaw queue)
         (queued rounds.old (K.own kind.old)))) reply ≡ true }
-    ensures { left_at K.service result (K.hand (K.stage kind.new)) (queued rounds.new (K.own kind.new)) ≡
+    ensures left { left_at K.service result (K.hand (K.stage kind.new)) (queued rounds.new (K.own kind.new)) ≡
         root_next (walk_begun K.service which queue (queue_flaw queue) (queued rounds.old (K.own kind.old))) reply }
+    ensures kept { are_kept K.service K.times rounds.old ≡ true → is_at_lane rounds.old.due ≡ true →
+        (lane_of which rounds.old).queue ≡ Some queue → K.is_work work.Rest rounds.old.pages (K.stage kind.old) ≡ true →
+        is_state K.service K.times K.is_work result rounds.new (K.stage kind.new) ≡ true }
 {
     let next = rounds.lane(which).next;
     match ChainWalk::new(queue, next) {
@@ -143,8 +159,11 @@ fn walk_begun<K: Kind>(
 
 fn lane_begun<K: Kind>(rounds: &mut Rounds, kind: &mut K, which: Which, reply: Reply) -> Phase
     requires { fits (root_op (next_begins K.service (Some which) (queued rounds.old (K.own kind.old)))) reply ≡ true }
-    ensures { left_at K.service result (K.hand (K.stage kind.new)) (queued rounds.new (K.own kind.new)) ≡
+    ensures left { left_at K.service result (K.hand (K.stage kind.new)) (queued rounds.new (K.own kind.new)) ≡
         root_next (next_begins K.service (Some which) (queued rounds.old (K.own kind.old))) reply }
+    ensures kept { are_kept K.service K.times rounds.old ≡ true → is_at_lane rounds.old.due ≡ true →
+        K.is_work work.Rest rounds.old.pages (K.stage kind.old) ≡ true →
+        is_state K.service K.times K.is_work result rounds.new (K.stage kind.new) ≡ true }
 {
     let lane = rounds.lane(which);
     match lane.queue {
@@ -161,24 +180,30 @@ fn lane_begun<K: Kind>(rounds: &mut Rounds, kind: &mut K, which: Which, reply: R
 
 // The first reply where no queue has anything to do.
 fn over_begun<K: Kind>(rounds: &mut Rounds, kind: &mut K, reply: &Reply) -> Phase
-    ensures { left_at K.service result (K.hand (K.stage kind.new)) (queued rounds.new (K.own kind.new)) ≡
+    ensures left { left_at K.service result (K.hand (K.stage kind.new)) (queued rounds.new (K.own kind.new)) ≡
         root_next (next_begins K.service None (queued rounds.old (K.own kind.old))) reply.now }
+    ensures kept { are_kept K.service K.times rounds.old ≡ true → is_at_lane rounds.old.due ≡ true →
+        K.is_work work.Rest rounds.old.pages (K.stage kind.old) ≡ true →
+        is_state K.service K.times K.is_work result rounds.new (K.stage kind.new) ≡ true }
 {
     let is_busy = rounds.is_busy;
     rounds.end();
     if is_busy {
         look(rounds, kind, reply);
-    } else {
-        rounds.due = Due::Look;
+        return Phase::Between;
     }
+    rounds.due = Due::Look;
     Phase::Between
 }
 
 /// The first reply of a group.
 pub fn begun<K: Kind>(rounds: &mut Rounds, kind: &mut K, reply: Reply) -> Phase
     requires { fits (root_op (begins K.service (queued rounds.old (K.own kind.old)))) reply ≡ true }
-    ensures { left_at K.service result (K.hand (K.stage kind.new)) (queued rounds.new (K.own kind.new)) ≡
+    ensures left { left_at K.service result (K.hand (K.stage kind.new)) (queued rounds.new (K.own kind.new)) ≡
         root_next (begins K.service (queued rounds.old (K.own kind.old))) reply }
+    ensures kept { are_kept K.service K.times rounds.old ≡ true →
+        K.is_work work.Rest rounds.old.pages (K.stage kind.old) ≡ true →
+        is_state K.service K.times K.is_work result rounds.new (K.stage kind.new) ≡ true }
 {
     match rounds.due {
         Due::Look => {

@@ -1,11 +1,12 @@
 // A chain that was taken of a queue.
-ghost use Rattle.std.specs.Prelude.{◌≡◌};
+ghost use Rattle.std.specs.Prelude.{◌≡◌, if◌then◌else◌, Some, None};
+ghost use Rattle.vq_split.specs.Kept.{is_sound};
 ghost use Rattle.vq_split.specs.Walking.{IsSound};
 ghost use Rattle.queue_device.specs.Chains.{got_of};
 
 use dev_core::Collect;
 use std::marker::Model;
-use vq_split::{ChainWalk, Part, PartList, Queue};
+use vq_split::{ChainWalk, Part, PartList, Queue, is_sound};
 
 /// A queue whose own fields have no flaw, as its registers were at a look.
 #[derive(Clone, Copy, Drop)]
@@ -27,6 +28,17 @@ impl Model for SoundQueue {
 }
 
 impl SoundQueue {
+    /// The queue of these fields, where they have no flaw.
+    pub fn from_fields(queue: Queue) -> Option<SoundQueue>
+        ensures { result ≡ (if is_sound queue then Some queue else None) }
+    {
+        if is_sound(&queue) {
+            Some(SoundQueue { inner: queue })
+        } else {
+            None
+        }
+    }
+
     /// The queue that a walk is made on.
     pub fn of(walk: &ChainWalk) -> SoundQueue
         ensures { result ≡ walk.now.queue }

@@ -3,6 +3,8 @@ ghost use Rattle.std.specs.Prelude.{◌≡◌, true};
 ghost use Rattle.vm_types.specs.Fits.{fits};
 ghost use Rattle.device_trace.specs.Script.{Ends};
 ghost use Rattle.device_trace.specs.States.{changed_at, stepped, wants};
+ghost use Rattle.queue_device.specs.declared.phase.Phase.TheVariants.{Between};
+ghost use Rattle.queue_device.specs.Kept.{is_state};
 ghost use Rattle.queue_device.specs.Lanes.{new_rounds};
 ghost use Rattle.queue_device.specs.Left.{left_at, queued};
 ghost use Rattle.queue_device.specs.Rounds.{queue_rules};
@@ -27,8 +29,9 @@ pub struct QueueRounds<K> {
 impl<K: Kind> QueueRounds<K> {
     /// The device of this port that has done nothing, in a guest of so many pages.
     pub fn new(port: u8, pages: u32, kind: K) -> QueueRounds<K>
-        ensures { left_at K.service result.phase (K.hand (K.stage result.kind)) (queued result.rounds (K.own result.kind)) ≡
+        ensures left { left_at K.service result.phase (K.hand (K.stage result.kind)) (queued result.rounds (K.own result.kind)) ≡
             Ends (queued (new_rounds port pages) (K.own kind)) }
+        ensures kept { result ≡ record { rounds = new_rounds port pages; kind = kind; phase = Between } }
     {
         QueueRounds {
             rounds: Rounds::new(port, pages),
@@ -37,13 +40,15 @@ impl<K: Kind> QueueRounds<K> {
         }
     }
 
-    // Leads on by a reply that fits.
-    fn step(&mut self, reply: Reply)
+    /// Leads on by a reply that fits.
+    pub fn step(&mut self, reply: Reply)
         requires { fits (wants (queue_rules K.service K.changing)
             (left_at K.service self.old.phase (K.hand (K.stage self.old.kind)) (queued self.old.rounds (K.own self.old.kind)))) reply ≡ true }
-        ensures { left_at K.service self.new.phase (K.hand (K.stage self.new.kind)) (queued self.new.rounds (K.own self.new.kind)) ≡
+        ensures left { left_at K.service self.new.phase (K.hand (K.stage self.new.kind)) (queued self.new.rounds (K.own self.new.kind)) ≡
             stepped (queue_rules K.service K.changing)
             (left_at K.service self.old.phase (K.hand (K.stage self.old.kind)) (queued self.old.rounds (K.own self.old.kind))) reply }
+        ensures kept { is_state K.service K.times K.is_work self.old.phase self.old.rounds (K.stage self.old.kind) ≡ true →
+            is_state K.service K.times K.is_work self.new.phase self.new.rounds (K.stage self.new.kind) ≡ true }
     {
         match replace(&mut self.phase, Phase::Between) {
             Phase::Between => self.phase = begun(&mut self.rounds, &mut self.kind, reply),
@@ -56,9 +61,11 @@ impl<K: Kind> QueueRounds<K> {
 
     /// A change from outside.
     pub fn change(&mut self, change: K::Change)
-        ensures { left_at K.service self.new.phase (K.hand (K.stage self.new.kind)) (queued self.new.rounds (K.own self.new.kind)) ≡
+        ensures left { left_at K.service self.new.phase (K.hand (K.stage self.new.kind)) (queued self.new.rounds (K.own self.new.kind)) ≡
             changed_at (queue_rules K.service K.changing) change
             (left_at K.service self.old.phase (K.hand (K.stage self.old.kind)) (queued self.old.rounds (K.own self.old.kind))) }
+        ensures kept { is_state K.service K.times K.is_work self.old.phase self.old.rounds (K.stage self.old.kind) ≡ true →
+            is_state K.service K.times K.is_work self.new.phase self.new.rounds (K.stage self.new.kind) ≡ true }
     {
         if let Phase::Between = &self.phase {
             self.kind.change(change);

@@ -1,12 +1,16 @@
 // Which queue is next, and what a chain comes to.
-ghost use Rattle.std.specs.Prelude.{◌≡◌, ℕ, Bool, true, Option};
+ghost use Rattle.std.specs.Prelude.{◌≡◌, ◌<◌, ◌^◌, ℕ, Bool, true, Option, is_some};
+ghost use Rattle.vq_split.specs.Inside.{WalkInside};
 ghost use Rattle.vm_types.specs.Fits.{fits};
 ghost use Rattle.device_trace.specs.Doing.{Doing, led};
 ghost use Rattle.device_trace.specs.Script.{Ends, perform};
 ghost use Rattle.vq_split.specs.Walking.{walk_left, walk_wants};
 ghost use Rattle.dev_core.specs.Returning.{break_left, return_left};
 ghost use Rattle.queue_device.specs.Acting.{Acting, Works};
+ghost use Rattle.queue_device.specs.declared.phase.Work.TheVariants as work;
 ghost use Rattle.queue_device.specs.Chains.{Taken};
+ghost use Rattle.queue_device.specs.Confined.{is_chain};
+ghost use Rattle.queue_device.specs.Kept.{are_kept, is_asking, is_fit, is_fit_told, is_holding, is_state, is_walked, is_working, work_after};
 ghost use Rattle.queue_device.specs.Left.{Hand, left_at, queued, used_chain};
 ghost use Rattle.queue_device.specs.Lanes.{lane_of};
 ghost use Rattle.queue_device.specs.Rounds.{answered, broken_off, due_behind, due_from, during, given_back, is_due, second_due};
@@ -94,8 +98,10 @@ pub fn used_chain(rounds: &Rounds, chain: InHand, len: u32) -> UsedChain
 
 /// A chain was served, with so many bytes written, or its queue is broken.
 pub fn served<K: Kind>(chain: InHand, len: Option<u32>) -> Phase
-    ensures { (h : Hand K.Own) (d : Queued K.Own) →
+    ensures left { (h : Hand K.Own) (d : Queued K.Own) →
         left_at K.service result h d ≡ served K.service chain.which chain.queue chain.head d len }
+    ensures kept { (r : Rounds) (g : K.Stage) → is_holding K.service K.times chain r ≡ true →
+        K.is_work work.Rest r.pages g ≡ true → is_state K.service K.times K.is_work result r g ≡ true }
 {
     match len {
         None => Phase::Break {
@@ -111,16 +117,20 @@ pub fn served<K: Kind>(chain: InHand, len: Option<u32>) -> Phase
 }
 
 /// What a kind tells of the service of a chain.
+#[tactic(auto, using(crate::proofs::CodeKept::serve_kept))]
 pub fn serve_told<K: Kind>(
     rounds: &Rounds,
     kind: &K,
     chain: InHand,
     told: Option<Option<u32>>,
 ) -> Phase
-    ensures { (t : Acting K.Own (Option ℕ)) →
+    ensures left { (t : Acting K.Own (Option ℕ)) →
         Works t told (K.own kind.now) (K.hand (K.stage kind.now)).op (K.hand (K.stage kind.now)).serving →
         left_at K.service result (K.hand (K.stage kind.now)) (queued rounds.now (K.own kind.now)) ≡
         during t rounds.now (served K.service chain.which chain.queue chain.head) }
+    ensures kept { is_holding K.service K.times chain rounds.now ≡ true →
+        K.is_work (work_after told (work.Serve chain.which)) rounds.now.pages (K.stage kind.now) ≡ true →
+        is_state K.service K.times K.is_work result rounds.now (K.stage kind.now) ≡ true }
 {
     let _ = rounds;
     let _ = kind;
@@ -132,8 +142,13 @@ pub fn serve_told<K: Kind>(
 
 /// A chain is served.
 pub fn serve<K: Kind>(rounds: &Rounds, kind: &mut K, which: Which, chain: &TakenChain) -> Phase
-    ensures { left_at K.service result (K.hand (K.stage kind.new)) (queued rounds.now (K.own kind.new)) ≡
+    ensures left { left_at K.service result (K.hand (K.stage kind.new)) (queued rounds.now (K.own kind.new)) ≡
         serving K.service which chain.now (queued rounds.now (K.own kind.old)) }
+    ensures kept { is_holding K.service K.times
+        (record { which = which; queue = chain.now.queue; head = chain.now.head }) rounds.now ≡ true →
+        is_chain K.service rounds.now.pages which chain.now ≡ true →
+        K.is_work work.Rest rounds.now.pages (K.stage kind.old) ≡ true →
+        is_state K.service K.times K.is_work result rounds.now (K.stage kind.new) ≡ true }
 {
     let told = kind.serve(which, chain);
     let chain = InHand {
@@ -151,8 +166,12 @@ fn took<K: Kind>(
     chain: InHand,
     taken: Option<TakenParts>,
 ) -> Phase
-    ensures { left_at K.service result (K.hand (K.stage kind.new)) (queued rounds.new (K.own kind.new)) ≡
+    ensures left { left_at K.service result (K.hand (K.stage kind.new)) (queued rounds.new (K.own kind.new)) ≡
         took K.service chain.which chain.queue chain.head (queued rounds.old (K.own kind.old)) taken }
+    ensures kept { is_holding K.service K.times chain rounds.old ≡ true →
+        is_fit K.service rounds.old.pages chain.which taken ≡ true →
+        K.is_work work.Rest rounds.old.pages (K.stage kind.old) ≡ true →
+        is_state K.service K.times K.is_work result rounds.new (K.stage kind.new) ≡ true }
 {
     let which = chain.which;
     match taken {
@@ -173,21 +192,33 @@ fn took<K: Kind>(
 }
 
 /// What a kind tells of a chain that is taken.
+#[tactic(auto, using(crate::proofs::CodeKept::take_kept))]
 pub fn take_told<K: Kind>(
     rounds: &mut Rounds,
     kind: &mut K,
     chain: InHand,
     told: Option<Option<TakenParts>>,
 ) -> Phase
-    ensures { (t : Acting K.Own (Option Taken)) →
+    ensures left { (t : Acting K.Own (Option Taken)) →
         Works t told (K.own kind.old) (K.hand (K.stage kind.old)).op (K.hand (K.stage kind.old)).taking →
         left_at K.service result (K.hand (K.stage kind.new)) (queued rounds.new (K.own kind.new)) ≡
         during t rounds.old (took K.service chain.which chain.queue chain.head) }
+    ensures kept { is_holding K.service K.times chain rounds.old ≡ true →
+        is_fit_told K.service rounds.old.pages chain.which told ≡ true →
+        K.is_work (work_after told (work.Take chain.which)) rounds.old.pages (K.stage kind.old) ≡ true →
+        is_state K.service K.times K.is_work result rounds.new (K.stage kind.new) ≡ true }
 {
     match told {
         None => Phase::Take { chain },
         Some(taken) => took(rounds, kind, chain, taken),
     }
+}
+
+/// A guest has fewer than 2^32 pages.
+pub fn few_pages(rounds: &Rounds)
+    ensures { rounds.now.pages < 2 ^ 32 }
+{
+    let _pages = rounds.pages;
 }
 
 /// What a walk came to.
@@ -198,8 +229,11 @@ pub fn walked<K: Kind>(
     queue: SoundQueue,
     came: Walk,
 ) -> Phase
-    ensures { left_at K.service result (K.hand (K.stage kind.new)) (queued rounds.new (K.own kind.new)) ≡
+    ensures left { left_at K.service result (K.hand (K.stage kind.new)) (queued rounds.new (K.own kind.new)) ≡
         walked K.service which queue (queued rounds.old (K.own kind.old)) came }
+    ensures kept { (head : ℕ) → is_holding K.service K.times (record { which = which; queue = queue; head = head }) rounds.old ≡ true →
+        WalkInside rounds.old.pages came → K.is_work work.Rest rounds.old.pages (K.stage kind.old) ≡ true →
+        is_state K.service K.times K.is_work result rounds.new (K.stage kind.new) ≡ true }
 {
     match came {
         Walk::More => Phase::Between,
@@ -214,6 +248,7 @@ pub fn walked<K: Kind>(
             stage: BreakStage::Port,
         },
         Walk::Chain { head, parts } => {
+            few_pages(rounds);
             rounds.count(which);
             let told = kind.take(which, parts);
             let chain = InHand { which, queue, head };
@@ -231,13 +266,20 @@ pub fn walk_given<K: Kind>(
     reply: Reply,
 ) -> Phase
     requires { fits (walk_wants walk) reply ≡ true }
-    ensures { left_at K.service result (K.hand (K.stage kind.new)) (queued rounds.new (K.own kind.new)) ≡
+    ensures left { left_at K.service result (K.hand (K.stage kind.new)) (queued rounds.new (K.own kind.new)) ≡
         perform (led (walk_left walk) reply) (queued rounds.old (K.own kind.old)) (walked K.service which walk.queue) }
+    ensures kept { is_working K.service K.times rounds.old ≡ true → is_walked (lane_of which rounds.old) walk ≡ true →
+        K.is_work work.Rest rounds.old.pages (K.stage kind.old) ≡ true →
+        is_state K.service K.times K.is_work result rounds.new (K.stage kind.new) ≡ true }
 {
+    few_pages(rounds);
     let queue = SoundQueue::of(&walk);
     let mut walk = walk;
     match walk.give(reply) {
-        Walk::More => Phase::Walk { which, walk },
+        Walk::More => {
+            walk.wanting();
+            Phase::Walk { which, walk }
+        }
         came => walked(rounds, kind, which, queue, came),
     }
 }
@@ -250,9 +292,12 @@ fn return_told<K: Kind>(
     len: u32,
     stage: ReturnStage,
 ) -> Phase
-    ensures { (t : Doing (Unit {0})) → return_left stage (used_chain chain len rounds.now) ≡ t →
+    ensures left { (t : Doing (Unit {0})) → return_left stage (used_chain chain len rounds.now) ≡ t →
         left_at K.service result (K.hand (K.stage kind.now)) (queued rounds.now (K.own kind.now)) ≡
         perform t (queued rounds.now (K.own kind.now)) (λ e done. Ends (given_back K.service chain.which e)) }
+    ensures kept { is_holding K.service K.times chain rounds.now ≡ true →
+        K.is_work work.Rest rounds.now.pages (K.stage kind.now) ≡ true →
+        is_state K.service K.times K.is_work result rounds.now (K.stage kind.now) ≡ true }
 {
     let _ = rounds;
     let _ = kind;
@@ -268,7 +313,17 @@ fn return_told<K: Kind>(
             len,
             stage,
         },
-        ReturnStage::Index | ReturnStage::Interrupt | ReturnStage::Line => Phase::Return {
+        ReturnStage::Index => Phase::Return {
+            chain: told,
+            len: 0,
+            stage,
+        },
+        ReturnStage::Interrupt => Phase::Return {
+            chain: told,
+            len: 0,
+            stage,
+        },
+        ReturnStage::Line => Phase::Return {
             chain: told,
             len: 0,
             stage,
@@ -285,9 +340,12 @@ pub fn return_given<K: Kind>(
     stage: ReturnStage,
     reply: &Reply,
 ) -> Phase
-    ensures { left_at K.service result (K.hand (K.stage kind.new)) (queued rounds.new (K.own kind.new)) ≡
+    ensures left { left_at K.service result (K.hand (K.stage kind.new)) (queued rounds.new (K.own kind.new)) ≡
         perform (led (return_left stage (used_chain chain len rounds.old)) reply.now)
         (queued rounds.old (K.own kind.old)) (λ e done. Ends (given_back K.service chain.which e)) }
+    ensures kept { is_holding K.service K.times chain rounds.old ≡ true →
+        K.is_work work.Rest rounds.old.pages (K.stage kind.old) ≡ true →
+        is_state K.service K.times K.is_work result rounds.new (K.stage kind.new) ≡ true }
 {
     let _ = reply;
     let mut stage = stage;
@@ -313,9 +371,12 @@ pub fn break_given<K: Kind>(
     stage: BreakStage,
     reply: &Reply,
 ) -> Phase
-    ensures { left_at K.service result (K.hand (K.stage kind.new)) (queued rounds.new (K.own kind.new)) ≡
+    ensures left { left_at K.service result (K.hand (K.stage kind.new)) (queued rounds.new (K.own kind.new)) ≡
         perform (led (break_left stage rounds.old.port) reply.now)
         (queued rounds.old (K.own kind.old)) (λ e done. Ends (broken_off K.service which e)) }
+    ensures kept { is_working K.service K.times rounds.old ≡ true → is_some (lane_of which rounds.old).queue ≡ true →
+        K.is_work work.Rest rounds.old.pages (K.stage kind.old) ≡ true →
+        is_state K.service K.times K.is_work result rounds.new (K.stage kind.new) ≡ true }
 {
     let mut stage = stage;
     match stage.give(rounds.port, reply) {
@@ -330,10 +391,13 @@ pub fn break_given<K: Kind>(
 
 /// What a kind tells of the answer to its question.
 pub fn answer_told<K: Kind>(rounds: &mut Rounds, kind: &K, told: Option<bool>) -> Phase
-    ensures { (t : Acting K.Own Bool) →
+    ensures left { (t : Acting K.Own Bool) →
         Works t told (K.own kind.now) (K.hand (K.stage kind.now)).op (K.hand (K.stage kind.now)).answering →
         left_at K.service result (K.hand (K.stage kind.now)) (queued rounds.new (K.own kind.now)) ≡
         during t rounds.old (answered K.service) }
+    ensures kept { are_kept K.service K.times rounds.old ≡ true → is_asking rounds.old.due ≡ true →
+        K.is_work (work_after told work.Answer) rounds.old.pages (K.stage kind.now) ≡ true →
+        is_state K.service K.times K.is_work result rounds.new (K.stage kind.now) ≡ true }
 {
     match told {
         None => Phase::Question,

@@ -2,10 +2,12 @@
 ghost use Rattle.std.specs.Prelude.{◌≡◌, true, false};
 ghost use Rattle.vm_types.specs.Fits.{fits};
 ghost use Rattle.device_trace.specs.Traces.{root_next, root_op};
+ghost use Rattle.queue_device.specs.Kept.{is_state};
 ghost use Rattle.queue_device.specs.Left.{Holds, is_between, left_at, queued};
 
 use crate::going::{
-    answer_told, break_given, return_given, serve_told, take_told, used_chain, walk_given,
+    answer_told, break_given, few_pages, return_given, serve_told, take_told, used_chain,
+    walk_given,
 };
 use crate::kind::Kind;
 use crate::lanes::Rounds;
@@ -37,9 +39,12 @@ pub fn inside_op<K: Kind>(rounds: &Rounds, kind: &K, phase: &Phase) -> Op
 pub fn inside_given<K: Kind>(rounds: &mut Rounds, kind: &mut K, phase: Phase, reply: Reply) -> Phase
     requires { fits (root_op
         (left_at K.service phase (K.hand (K.stage kind.old)) (queued rounds.old (K.own kind.old)))) reply ≡ true }
-    ensures { left_at K.service result (K.hand (K.stage kind.new)) (queued rounds.new (K.own kind.new)) ≡
+    ensures left { left_at K.service result (K.hand (K.stage kind.new)) (queued rounds.new (K.own kind.new)) ≡
         root_next (left_at K.service phase (K.hand (K.stage kind.old)) (queued rounds.old (K.own kind.old))) reply }
+    ensures kept { is_state K.service K.times K.is_work phase rounds.old (K.stage kind.old) ≡ true →
+        is_state K.service K.times K.is_work result rounds.new (K.stage kind.new) ≡ true }
 {
+    few_pages(rounds);
     match phase {
         Phase::Between => Phase::Between,
         Phase::Question => {

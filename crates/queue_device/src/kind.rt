@@ -21,9 +21,9 @@ pub enum Begin {
 /// `service` is its definition, and `changing` what changes from outside make of its data. It may ask guest time where `times`
 /// says so, and its host object for the calls of `calls` alone. `own` are its data, `stage` is where it is, and `hand` the
 /// work that was begun. `is_work` says where it may be in a guest of so many pages, by what its device is at,
-/// and `IsFine` which data it may have.
+/// and `IsFine` which data it may have. Each call leaves it where it may be, if it was so before.
 pub trait Kind: Drop {
-    ghost use Rattle.std.specs.Prelude.{ℕ, ◌≡◌, Bool, true, false, Option, Some, None, if◌then◌else◌, IfSome};
+    ghost use Rattle.std.specs.Prelude.{ℕ, ◌≡◌, ◌<◌, ◌^◌, Bool, true, false, Option, Some, None, if◌then◌else◌, IfSome};
     ghost use Rattle.vm_types.specs.declared.op.OutOp.{OutOp};
     ghost use Rattle.vm_types.specs.Fits.{fits};
     ghost use Rattle.device_trace.specs.Traces.{Changing};
@@ -31,6 +31,10 @@ pub trait Kind: Drop {
     ghost use Rattle.queue_device.specs.Left.{Hand, begin_of};
     ghost use Rattle.queue_device.specs.Service.{Service};
     ghost use Rattle.queue_device.specs.declared.phase.Work.{Work};
+    ghost use Rattle.queue_device.specs.declared.phase.Work.TheVariants as work;
+    ghost use Rattle.queue_device.specs.Confined.{is_chain};
+    ghost use Rattle.queue_device.specs.Kept.{RestsOn, is_fit_told, work_after};
+    ghost use Rattle.vq_split.specs.Kept.{are_inside};
 
     /// What may be changed from outside.
     type Change: Drop;
@@ -92,14 +96,18 @@ pub trait Kind: Drop {
     /// The host object answered. Whether something was received.
     fn answer(&mut self, reply: &Reply) -> Option<bool>
         requires { fits (service.question (own self.old)) reply.now ≡ true }
-        ensures { Works (service.answer (own self.old) reply.now) result
-            (own self.new) (hand (stage self.new)).op (hand (stage self.new)).answering };
+        ensures works { Works (service.answer (own self.old) reply.now) result
+            (own self.new) (hand (stage self.new)).op (hand (stage self.new)).answering }
+        ensures work { (pages : ℕ) → is_work work.Rest pages (stage self.old) ≡ true →
+            is_work (work_after result work.Answer) pages (stage self.new) ≡ true };
 
     /// A reply came to the work that follows the answer.
     fn answer_on(&mut self, reply: &Reply) -> Option<bool>
         requires { fits (hand (stage self.old)).op reply.now ≡ true }
-        ensures { Works ((hand (stage self.old)).answering (own self.old) reply.now) result
-            (own self.new) (hand (stage self.new)).op (hand (stage self.new)).answering };
+        ensures works { Works ((hand (stage self.old)).answering (own self.old) reply.now) result
+            (own self.new) (hand (stage self.new)).op (hand (stage self.new)).answering }
+        ensures work { (pages : ℕ) → is_work work.Answer pages (stage self.old) ≡ true →
+            is_work (work_after result work.Answer) pages (stage self.new) ≡ true };
 
     /// Whether the next chain of a queue is wanted, which was kicked or wasn't.
     fn wants_chain(&self, which: Which, is_kicked: bool) -> bool
@@ -107,28 +115,39 @@ pub trait Kind: Drop {
 
     /// The available ring of a queue shows a chain, which is so begun.
     fn begun(&mut self, which: Which)
-        ensures { own self.new ≡ service.begun which (own self.old) };
+        ensures own { own self.new ≡ service.begun which (own self.old) }
+        ensures rests { RestsOn is_work (stage self.old) (stage self.new) };
 
     /// A chain of these parts is taken. What is kept of it, or nothing where it breaks the queue.
     fn take(&mut self, which: Which, parts: PartList) -> Option<Option<TakenParts>>
-        ensures { Works (service.take which parts (own self.old)) result
-            (own self.new) (hand (stage self.new)).op (hand (stage self.new)).taking };
+        ensures works { Works (service.take which parts (own self.old)) result
+            (own self.new) (hand (stage self.new)).op (hand (stage self.new)).taking }
+        ensures work { (pages : ℕ) → pages < 2 ^ 32 → is_work work.Rest pages (stage self.old) ≡ true →
+            are_inside pages parts ≡ true →
+            (is_work (work_after result (work.Take which)) pages (stage self.new) ≡ true)
+            × (is_fit_told service pages which result ≡ true) };
 
     /// A reply came to that.
     fn take_on(&mut self, reply: &Reply) -> Option<Option<TakenParts>>
         requires { fits (hand (stage self.old)).op reply.now ≡ true }
-        ensures { Works ((hand (stage self.old)).taking (own self.old) reply.now) result
-            (own self.new) (hand (stage self.new)).op (hand (stage self.new)).taking };
+        ensures works { Works ((hand (stage self.old)).taking (own self.old) reply.now) result
+            (own self.new) (hand (stage self.new)).op (hand (stage self.new)).taking }
+        ensures work { (pages : ℕ) (which : Which) → pages < 2 ^ 32 →
+            is_work (work.Take which) pages (stage self.old) ≡ true →
+            (is_work (work_after result (work.Take which)) pages (stage self.new) ≡ true)
+            × (is_fit_told service pages which result ≡ true) };
 
     /// Whether guest time is asked for a chain.
     fn is_timed(&self, which: Which, chain: &TakenChain) -> bool
-        ensures { result ≡ service.is_timed which chain.now (own self.now) };
+        ensures timed { result ≡ service.is_timed which chain.now (own self.now) }
+        ensures may { result ≡ true → times ≡ true };
 
     /// Whether a chain passes at this guest time, in nanoseconds. Where it doesn't, nothing changes.
     fn passes(&mut self, which: Which, chain: &TakenChain, now: u64) -> bool
         ensures passes { service.passes which chain.now now (own self.old) ≡
             (if result then Some (own self.new) else None) }
-        ensures waits { result ≡ false → own self.new ≡ own self.old };
+        ensures waits { result ≡ false → own self.new ≡ own self.old }
+        ensures rests { RestsOn is_work (stage self.old) (stage self.new) };
 
     /// How the service of a chain would begin now.
     fn serves(&self, which: Which, chain: &TakenChain) -> Begin
@@ -136,26 +155,35 @@ pub trait Kind: Drop {
 
     /// A chain is served. How many bytes were written, or nothing where the queue is broken.
     fn serve(&mut self, which: Which, chain: &TakenChain) -> Option<Option<u32>>
-        ensures { Works (service.serve which chain.now (own self.old)) result
-            (own self.new) (hand (stage self.new)).op (hand (stage self.new)).serving };
+        ensures works { Works (service.serve which chain.now (own self.old)) result
+            (own self.new) (hand (stage self.new)).op (hand (stage self.new)).serving }
+        ensures work { (pages : ℕ) → pages < 2 ^ 32 → is_work work.Rest pages (stage self.old) ≡ true →
+            is_chain service pages which chain.now ≡ true →
+            is_work (work_after result (work.Serve which)) pages (stage self.new) ≡ true };
 
     /// A reply came to that.
     fn serve_on(&mut self, reply: &Reply) -> Option<Option<u32>>
         requires { fits (hand (stage self.old)).op reply.now ≡ true }
-        ensures { Works ((hand (stage self.old)).serving (own self.old) reply.now) result
-            (own self.new) (hand (stage self.new)).op (hand (stage self.new)).serving };
+        ensures works { Works ((hand (stage self.old)).serving (own self.old) reply.now) result
+            (own self.new) (hand (stage self.new)).op (hand (stage self.new)).serving }
+        ensures work { (pages : ℕ) (which : Which) → pages < 2 ^ 32 →
+            is_work (work.Serve which) pages (stage self.old) ≡ true →
+            is_work (work_after result (work.Serve which)) pages (stage self.new) ≡ true };
 
     /// The chain in hand was given back, or its queue was found broken.
     fn over(&mut self, which: Which)
-        ensures { own self.new ≡ service.over which (own self.old) };
+        ensures own { own self.new ≡ service.over which (own self.old) }
+        ensures rests { RestsOn is_work (stage self.old) (stage self.new) };
 
     /// The driver reset the device.
     fn reset(&mut self)
-        ensures { own self.new ≡ service.reset (own self.old) };
+        ensures own { own self.new ≡ service.reset (own self.old) }
+        ensures rests { RestsOn is_work (stage self.old) (stage self.new) };
 
     /// A change from outside between two groups.
     fn change(&mut self, change: Self::Change)
-        ensures { own self.new ≡ changing.between change (own self.old) };
+        ensures own { own self.new ≡ changing.between change (own self.old) }
+        ensures rests { RestsOn is_work (stage self.old) (stage self.new) };
 
     /// A change from outside while `op` is wanted. The reply by which that act is left out, if it is.
     fn change_inside(&mut self, change: Self::Change, op: &Op) -> Option<Reply>
@@ -163,4 +191,8 @@ pub trait Kind: Drop {
         ensures stage { stage self.new ≡ stage self.old }
         ensures cut { result ≡ changing.cut change (own self.old) op.now }
         ensures fits { IfSome result (λ reply. fits op.now reply ≡ true) };
+
+    /// A kind that keeps the same.
+    fn again(&self) -> Self
+        ensures { result ≡ self.now };
 }

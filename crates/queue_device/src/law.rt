@@ -5,7 +5,7 @@ ghost use Rattle.vm_types.specs.Fits.{Fits};
 ghost use Rattle.device_trace.specs.Script.{Ends, Script};
 ghost use Rattle.device_trace.specs.States.{Leads, changed_at, stepped, wants};
 ghost use Rattle.device_trace.specs.Traces.{Item};
-ghost use Rattle.queue_device.specs.Confined.{Confines, IsConfined, IsDeviceAct, are_rounds};
+ghost use Rattle.queue_device.specs.Confined.{AreItsRounds, Confines, IsConfined, IsDeviceAct};
 ghost use Rattle.queue_device.specs.declared.lanes.Rounds.{Rounds};
 ghost use Rattle.queue_device.specs.declared.phase.Phase.{Phase};
 ghost use Rattle.queue_device.specs.Kept.{is_state};
@@ -17,18 +17,18 @@ ghost use Rattle.queue_device.specs.Service.{Queued};
 
 use crate::kind::Kind;
 
-/// Where the kind keeps to its own, so does the device at this port, in a guest of fewer than 2^32 pages: whatever is
-/// replied and changed, each act that it wants is its own or, where the kind may, asks for guest time, it asks its host
-/// object for the kind's calls alone, and it touches no byte outside RAM. That holds from new rounds on, with a chain that
-/// waits, and wherever its items lead.
+/// Where the kind keeps to its own, so does the device at this port: whatever is replied and changed, each act that it wants is
+/// its own or, where the kind may, asks for guest time, it asks its host object for the kind's calls alone, and in a guest of
+/// fewer than 2^32 pages it touches no byte outside RAM. That holds from new rounds on, with a chain that waits, and wherever
+/// its items lead.
 pub fn queue_stays<T: Kind>()
-    ensures begins { (port pages : ℕ) → are_rounds T.service port pages (new_rounds port pages) ≡ true }
+    ensures begins { (port pages : ℕ) → AreItsRounds T.service port pages (new_rounds port pages) }
     ensures leads { (port pages : ℕ) (start left : Script (Queued T.Own)) (items : List (Item T.Change)) →
-        pages < 2 ^ 32 → Confines T.service T.changing T.times T.calls →
+        Confines T.service T.changing T.times T.calls →
         IsConfined T.service T.times T.calls port pages start →
         Leads (queue_rules T.service T.changing) start items left →
         IsConfined T.service T.times T.calls port pages left }
-    ensures acts { (port pages : ℕ) (left : Script (Queued T.Own)) → pages < 2 ^ 32 →
+    ensures acts { (port pages : ℕ) (left : Script (Queued T.Own)) →
         Confines T.service T.changing T.times T.calls → IsConfined T.service T.times T.calls port pages left →
         IsDeviceAct T.times T.calls port pages (wants (queue_rules T.service T.changing) left) }
 {}
@@ -36,7 +36,7 @@ pub fn queue_stays<T: Kind>()
 /// What is left of a device in a state that it may be in is confined, where the kind keeps to its own: it asks for no act but
 /// its own, or guest time where the kind may, inside RAM of so many pages, whatever is replied and changed.
 pub fn queue_kept<T: Kind>()
-    ensures { (p : Phase) (r : Rounds) (e : T.Own) (g : T.Stage) → r.pages < 2 ^ 32 →
+    ensures { (p : Phase) (r : Rounds) (e : T.Own) (g : T.Stage) →
         Confines T.service T.changing T.times T.calls →
         Resumes T.service T.hand T.is_work T.IsFine T.changing T.times T.calls →
         is_state T.service T.times T.is_work p r g ≡ true →
@@ -46,7 +46,6 @@ pub fn queue_kept<T: Kind>()
 /// Of two devices in states that they may be in of which as much is left to do the data are one.
 pub fn queue_one<T: Kind>()
     ensures { (p q : Phase) (r t : Rounds) (e f : T.Own) (g h : T.Stage) →
-        r.pages < 2 ^ 32 → t.pages < 2 ^ 32 →
         is_state T.service T.times T.is_work p r g ≡ true → is_state T.service T.times T.is_work q t h ≡ true →
         left_at T.service p (T.hand g) (queued r e) ≡ left_at T.service q (T.hand h) (queued t f) →
         queued r e ≡ queued t f }

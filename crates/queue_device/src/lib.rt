@@ -6,6 +6,7 @@
 //! `QueueRounds` is such a device in code, over what a `Kind` does.
 #![tactic(auto)]
 
+mod again;
 mod begun;
 mod chain;
 mod device;
@@ -19,6 +20,7 @@ mod phase;
 mod spill;
 mod valid;
 
+pub use again::{collect_again, parts_again};
 pub use chain::{SoundQueue, TakenChain, TakenParts};
 pub use device::QueueRounds;
 pub use kind::{Begin, Kind};

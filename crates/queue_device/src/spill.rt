@@ -3,7 +3,7 @@ ghost use Rattle.std.specs.Prelude.{ℕ, ◌≡◌, ◌≤◌, ◌<◌, true, fa
 ghost use Rattle.vm_types.specs.declared.op.Op.TheVariants.{Write};
 ghost use Rattle.vm_types.specs.declared.reply.Reply.{Reply};
 ghost use Rattle.device_trace.specs.Doing.{Gives, led};
-ghost use Rattle.dev_core.specs.Pieces.{place, share};
+ghost use Rattle.dev_core.specs.Pieces.{past, place, share};
 ghost use Rattle.queue_device.specs.Spilling.{spill_left};
 
 use dev_core::{Held, Scatter};
@@ -56,7 +56,8 @@ impl Spill {
     #[tactic(auto, using(crate::proofs::Spilling::spill_on))]
     pub fn give(&mut self)
         requires { 0 < share self.old.held self.old.to }
-        ensures { (reply : Reply) → spill_left self.new ≡ led (spill_left self.old) reply }
+        ensures left { (reply : Reply) → spill_left self.new ≡ led (spill_left self.old) reply }
+        ensures to { self.new.to ≡ past (share self.old.held self.old.to) self.old.to }
     {
         let n = self.share();
         self.held.skip(n);

@@ -1,3 +1,4 @@
 pub mod Allowed
 pub mod Loading
 pub mod Living
+pub mod Passing

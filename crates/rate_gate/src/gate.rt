@@ -1,8 +1,8 @@
 // The gate, and what a request is told.
-ghost use Rattle.std.specs.Prelude.{◌≡◌, ◌↔◌, ◌≢◌, ℕ, IsTrue, true, option_map, unwrap_or};
+ghost use Rattle.std.specs.Prelude.{◌≡◌, ◌↔◌, ◌≢◌, ℕ, IsTrue, true, false, option_map, unwrap_or};
 ghost use Rattle.token_bucket.specs.Kept.{saved_of};
 ghost use Rattle.rate_gate.specs.Gate.{Buckets, Allows, Adds, WaitsFor, WaitsForBoth, ops_need};
-ghost use Rattle.rate_gate.specs.Gate.{bucket_takes, bucket_took, bucket_wait, gate_took, is_limited, with_buckets};
+ghost use Rattle.rate_gate.specs.Gate.{bucket_takes, bucket_took, bucket_wait, gate_takes, gate_took, is_limited, with_buckets};
 ghost use Rattle.rate_gate.specs.Passing.{told};
 ghost use Rattle.rate_gate.specs.Saved.{HaveSameRates, bucket_at, gate_at, gate_saved};
 ghost use Rattle.rate_gate.specs.Lives.{LivesOn, StaysBounded};
@@ -105,6 +105,15 @@ fn restore(bucket: &mut Option<Bucket>, state: Option<State>)
     }
 }
 
+fn bucket_again(bucket: &Option<Bucket>) -> Option<Bucket>
+    ensures { result ≡ bucket.now }
+{
+    match bucket {
+        Some(bucket) => Some(bucket.again()),
+        None => None,
+    }
+}
+
 impl RateGate {
     /// A gate of these buckets.
     pub fn new(bandwidth: Option<Bucket>, ops: Option<Bucket>) -> RateGate
@@ -183,5 +192,28 @@ impl RateGate {
         let bandwidth = wait_of(&self.bandwidth, bytes);
         let ops = wait_of(&self.ops, OPS_NEED);
         Pass::WaitUntil(if bandwidth < ops { ops } else { bandwidth })
+    }
+
+    /// Whether so many bytes and one operation pass at a moment; where they don't, nothing changes.
+    #[tactic(auto, using(crate::proofs::Passing::go_takes, crate::proofs::Passing::wait_waits))]
+    pub fn passes(&mut self, bytes: u64, now: u64) -> bool
+        ensures takes { result ≡ gate_takes self.old bytes now }
+        ensures took { result ≡ true → self.new ≡ gate_took self.old bytes now }
+        ensures stays { result ≡ false → self.new ≡ self.old }
+    {
+        match self.take(bytes, now) {
+            Pass::Go => true,
+            Pass::WaitUntil(_) => false,
+        }
+    }
+
+    /// A gate whose buckets keep the same.
+    pub fn again(&self) -> RateGate
+        ensures { result ≡ self.now }
+    {
+        RateGate {
+            bandwidth: bucket_again(&self.bandwidth),
+            ops: bucket_again(&self.ops),
+        }
     }
 }

@@ -1,2 +1,4 @@
 pub mod Lengths
+pub mod Forms
+pub mod Reading
 pub mod Three

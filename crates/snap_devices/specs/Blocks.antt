@@ -4,37 +4,40 @@ use Rattle.std.proofs.Common.{sym, ap}
 use Rattle.file_format.specs.Format.{Format}
 use Rattle.file_format.specs.Kinds.{byte, number16, number64, flag, optional, times, just, nothing, chosen_by, passing}
 use Rattle.file_format.specs.Kinds.{◌&◌, made_of}
-use Rattle.block_device.specs.declared.data.Due.{Due}
-use Rattle.block_device.specs.declared.data.Due.TheVariants.{Look, Walk, Idle}
-use Rattle.block_device.specs.declared.data.BlockData.{BlockData}
-use Rattle.block_device.specs.declared.phase.BlockState.{BlockState}
-use Rattle.block_device.specs.Kept.{is_state}
-use Rattle.snap_devices.specs.Queues.{queue, parts, collect, walk}
+use Rattle.queue_device.specs.declared.device.QueueRounds.{QueueRounds}
+use Rattle.block_device.specs.declared.kind.BlockKind.{BlockKind}
+use Rattle.snap_devices.specs.declared.file.FileBlock.{FileBlock}
+use Rattle.snap_devices.specs.declared.file.FileData.{FileData}
+use Rattle.snap_devices.specs.declared.file.FileDue.{FileDue}
+use Rattle.snap_devices.specs.declared.file.FileDue.TheVariants.{Look, Walk, Idle}
+use Rattle.snap_devices.specs.Forms.{file_of, form_back, is_form, kept_of}
 use Rattle.snap_devices.specs.Phases.{phase}
+use Rattle.snap_devices.specs.Queues.{queue, parts, collect, walk}
+use Rattle.snap_devices.specs.Standing.{standing}
 
 -- ---- its data: what is due, as a byte, stands last
 
-abbrev pub due_code : Due → ℕ
+abbrev pub due_code : FileDue → ℕ
 due_code Look = 0
 due_code Walk = 1
 due_code Idle = 2
 
-abbrev pub dues : ℕ → Format Due
+abbrev pub dues : ℕ → Format FileDue
 dues zero = just Look
 dues (suc zero) = just Walk
 dues (suc (suc zero)) = just Idle
 dues (suc (suc (suc n))) = nothing
 
-pub due_code-is : (code : ℕ) (d : Due) → (dues code).Fits d → code ≡ due_code d
+pub due_code-is : (code : ℕ) (d : FileDue) → (dues code).Fits d → code ≡ due_code d
 due_code-is zero d fits = sym (ap due_code fits)
 due_code-is (suc zero) d fits = sym (ap due_code fits)
 due_code-is (suc (suc zero)) d fits = sym (ap due_code fits)
 due_code-is (suc (suc (suc n))) d fits = absurd fits
 
-unfoldable pub due : Format Due
+unfoldable pub due : Format FileDue
 due = chosen_by byte dues due_code due_code-is
 
-unfoldable pub block_data : Format BlockData
+unfoldable pub block_data : Format FileData
 block_data =
     made_of
     (λ d. (
@@ -59,7 +62,7 @@ block_data =
 
 -- ---- the device: its data, where it is, the walk that is begun, what is read, and the parts that are still written
 
-unfoldable pub block_fields : Format BlockState
+unfoldable pub block_fields : Format FileBlock
 block_fields =
     made_of (λ b. (b.facts, (b.phase, (b.walk, (b.from, b.to)))))
     (λ (facts, (phase, (walk, (from, to)))).
@@ -67,6 +70,6 @@ block_fields =
     (λ _. refl) (λ _. refl)
     (block_data & phase & optional walk & collect & parts)
 
--- in a state that it may be in
-unfoldable pub block : Format BlockState
-block = passing is_state block_fields
+-- of a state that it may be in
+unfoldable pub block : Format (QueueRounds BlockKind)
+block = standing kept_of file_of (passing is_form block_fields) (λ f fits. form_back f fits.1)

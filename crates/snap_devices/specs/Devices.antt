@@ -3,7 +3,8 @@ use Rattle.std.specs.Prelude.{◌≡◌, ℕ, zero, suc, refl}
 use Rattle.std.proofs.Common.{sym, ap}
 use Rattle.file_format.specs.Format.{Format}
 use Rattle.file_format.specs.Kinds.{byte, nothing, variant, chosen_by}
-use Rattle.block_device.specs.declared.phase.BlockState.{BlockState}
+use Rattle.queue_device.specs.declared.device.QueueRounds.{QueueRounds}
+use Rattle.block_device.specs.declared.kind.BlockKind.{BlockKind}
 use Rattle.guest_devices.specs.declared.device.Device.{Device}
 use Rattle.guest_devices.specs.declared.device.Device.TheVariants as kept
 use Rattle.snap_devices.specs.Blocks.{block}
@@ -12,7 +13,7 @@ use Rattle.snap_devices.specs.Blocks.{block}
 abbrev pub device_code : Device → ℕ
 device_code (kept.Block b) = 1
 
-abbrev pub block_of : Device → BlockState
+abbrev pub block_of : Device → QueueRounds BlockKind
 block_of (kept.Block b) = b
 
 -- and behind it what is kept of it

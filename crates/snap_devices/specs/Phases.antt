@@ -9,8 +9,8 @@ use Rattle.dev_core.specs.declared.returning.ReturnStage.{ReturnStage}
 use Rattle.dev_core.specs.declared.returning.ReturnStage.TheVariants as returning
 use Rattle.block_device.specs.declared.stage.ServiceStage.{ServiceStage}
 use Rattle.block_device.specs.declared.stage.ServiceStage.TheVariants.{Flush}
-use Rattle.block_device.specs.declared.phase.Phase.{Phase}
-use Rattle.block_device.specs.declared.phase.Phase.TheVariants.{Between, Break, Header, Serve, Return}
+use Rattle.snap_devices.specs.declared.file.FilePhase.{FilePhase}
+use Rattle.snap_devices.specs.declared.file.FilePhase.TheVariants.{Between, Break, Header, Serve, Return}
 use Rattle.snap_devices.specs.Serving.{service}
 
 -- ---- telling that the queue is broken: the port, or the line
@@ -62,33 +62,33 @@ return_stage = chosen_by byte returns return_code return_code-is
 
 -- ---- the phase: a byte, and behind it what the phase has
 
-abbrev pub phase_code : Phase → ℕ
+abbrev pub phase_code : FilePhase → ℕ
 phase_code Between = 0
 phase_code (Break stage) = 1
 phase_code (Header len head) = 2
 phase_code (Serve at stage head) = 3
 phase_code (Return len head stage) = 4
 
-abbrev pub broken_at : Phase → BreakStage
+abbrev pub broken_at : FilePhase → BreakStage
 broken_at (Break stage) = stage
 broken_at _ = breaking.Port
 
 -- how many bytes the chain has for the device to read, and its head
-abbrev pub header_of : Phase → ℕ × ℕ
+abbrev pub header_of : FilePhase → ℕ × ℕ
 header_of (Header len head) = (len, head)
 header_of _ = (0, 0)
 
 -- where the status goes, what the request is at, and the head
-abbrev pub served_of : Phase → ℕ × (ServiceStage × ℕ)
+abbrev pub served_of : FilePhase → ℕ × (ServiceStage × ℕ)
 served_of (Serve at stage head) = (at, (stage, head))
 served_of _ = (0, (Flush, 0))
 
 -- how many bytes were written, the head, and how far it is given back
-abbrev pub returned_of : Phase → ℕ × (ℕ × ReturnStage)
+abbrev pub returned_of : FilePhase → ℕ × (ℕ × ReturnStage)
 returned_of (Return len head stage) = (len, (head, stage))
 returned_of _ = (0, (0, returning.Pair))
 
-abbrev pub phases : ℕ → Format Phase
+abbrev pub phases : ℕ → Format FilePhase
 phases zero = just Between
 phases (suc zero) = variant Break broken_at (λ _. refl) break_stage
 phases (suc (suc zero)) = variant (λ h. Header h.0 h.1) header_of (λ _. refl) (number64 & number16)
@@ -98,7 +98,7 @@ phases (suc (suc (suc (suc zero)))) =
     variant (λ r. Return r.0 r.1.0 r.1.1) returned_of (λ _. refl) (number32 & number16 & return_stage)
 phases (suc (suc (suc (suc (suc n))))) = nothing
 
-pub phase_code-is : (code : ℕ) (p : Phase) → (phases code).Fits p → code ≡ phase_code p
+pub phase_code-is : (code : ℕ) (p : FilePhase) → (phases code).Fits p → code ≡ phase_code p
 phase_code-is zero p fits = sym (ap phase_code fits)
 phase_code-is (suc zero) p fits = sym (ap phase_code fits.0)
 phase_code-is (suc (suc zero)) p fits = sym (ap phase_code fits.0)
@@ -106,5 +106,5 @@ phase_code-is (suc (suc (suc zero))) p fits = sym (ap phase_code fits.0)
 phase_code-is (suc (suc (suc (suc zero)))) p fits = sym (ap phase_code fits.0)
 phase_code-is (suc (suc (suc (suc (suc n))))) p fits = absurd fits
 
-unfoldable pub phase : Format Phase
+unfoldable pub phase : Format FilePhase
 phase = chosen_by byte phases phase_code phase_code-is

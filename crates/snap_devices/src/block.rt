@@ -1,28 +1,34 @@
 // A block device.
 ghost use Rattle.std.specs.Prelude.{◌≡◌, OnOk};
+ghost use Rattle.file_format.specs.Kinds.{optional};
 ghost use Rattle.file_format.specs.Reading.{Takes};
 ghost use Rattle.snap_devices.specs.Blocks.{block, block_data, block_fields, due, due_code};
+ghost use Rattle.snap_devices.specs.Forms.{file_of, walk_filed};
+ghost use Rattle.snap_devices.specs.Queues.{walk};
 
-use crate::queue::{read_begun, read_collect, read_parts, write_begun, write_collect, write_parts};
+use crate::file::{FileBlock, FileData, FileDue, FilePhase};
+use crate::form::{block_of, data_filed, phase_filed};
+use crate::queue::{read_begun, read_collect, read_parts, write_collect, write_parts, write_walk};
 use crate::saved::Saved;
-use block_device::{Block, BlockData, BlockState, Due, Phase};
+use block_device::{Block, BlockKind};
 use dev_core::Scatter;
 use file_format::{Input, ReadError, Stored};
+use queue_device::{Phase, QueueRounds};
 use std::alloc::{AllocError, Global};
 use vq_split::Queue;
 
-fn due_code(due: Due) -> u8
+fn due_code(due: FileDue) -> u8
     ensures { result ≡ due_code due }
 {
     match due {
-        Due::Look => 0,
-        Due::Walk => 1,
-        Due::Idle => 2,
+        FileDue::Look => 0,
+        FileDue::Walk => 1,
+        FileDue::Idle => 2,
     }
 }
 
 #[tactic(auto, unfolding(crate::specs::Blocks::due, file_format::specs::Kinds::byte))]
-impl Stored for Saved<Due> {
+impl Stored for Saved<FileDue> {
     ghost format = { due };
 
     fn write(&self, out: &mut Vec<u8>) -> Result<(), AllocError> {
@@ -30,11 +36,11 @@ impl Stored for Saved<Due> {
         Ok(())
     }
 
-    fn read(alloc: Global, input: &mut Input) -> Result<Saved<Due>, ReadError> {
+    fn read(alloc: Global, input: &mut Input) -> Result<Saved<FileDue>, ReadError> {
         let value = match u8::read(alloc, input)? {
-            0 => Due::Look,
-            1 => Due::Walk,
-            2 => Due::Idle,
+            0 => FileDue::Look,
+            1 => FileDue::Walk,
+            2 => FileDue::Idle,
             _ => return Err(ReadError::Bad),
         };
         Ok(Saved { value })
@@ -42,7 +48,7 @@ impl Stored for Saved<Due> {
 }
 
 #[tactic(auto, unfolding(crate::specs::Blocks::block_data))]
-impl Stored for Saved<BlockData> {
+impl Stored for Saved<FileData> {
     ghost format = { block_data };
 
     fn write(&self, out: &mut Vec<u8>) -> Result<(), AllocError> {
@@ -65,16 +71,16 @@ impl Stored for Saved<BlockData> {
         Ok(())
     }
 
-    fn read(alloc: Global, input: &mut Input) -> Result<Saved<BlockData>, ReadError> {
+    fn read(alloc: Global, input: &mut Input) -> Result<Saved<FileData>, ReadError> {
         let (sectors, queue): (u64, Saved<Queue>) = Stored::read(alloc, input)?;
         let drive_id = Stored::read(alloc, input)?;
         let (next, used) = Stored::read(alloc, input)?;
         let (port, (is_read_only, (is_kicked, (has_finished, due)))): (
             u8,
-            (bool, (bool, (bool, Saved<Due>))),
+            (bool, (bool, (bool, Saved<FileDue>))),
         ) = Stored::read(alloc, input)?;
         Ok(Saved {
-            value: BlockData {
+            value: FileData {
                 sectors,
                 queue: queue.value,
                 drive_id,
@@ -90,28 +96,55 @@ impl Stored for Saved<BlockData> {
     }
 }
 
-#[tactic(auto, unfolding(crate::specs::Blocks::block_fields))]
-fn write_fields(b: &BlockState, out: &mut Vec<u8>) -> Result<(), AllocError>
-    ensures fits { OnOk result (block_fields.Fits b.now) }
-    ensures bytes { OnOk result (out.new.items ≡ block_fields.puts b.now out.old.items) }
+#[tactic(auto, unfolding(file_format::specs::Kinds::optional, file_format::specs::Kinds::flag))]
+fn write_begun(phase: &Phase, out: &mut Vec<u8>) -> Result<(), AllocError>
+    ensures fits { OnOk result ((optional walk).Fits (walk_filed phase.now)) }
+    ensures bytes { OnOk result (out.new.items ≡ (optional walk).puts (walk_filed phase.now) out.old.items) }
 {
-    Saved { value: b.facts }.write(out)?;
-    Saved { value: b.phase }.write(out)?;
-    write_begun(&b.walk, out)?;
-    write_collect(&b.from, out)?;
-    write_parts(b.to.parts(), out)?;
+    match phase {
+        Phase::Walk { which: _, walk } => {
+            true.write(out)?;
+            write_walk(walk, out)?;
+        }
+        Phase::Between
+        | Phase::Question
+        | Phase::Take { .. }
+        | Phase::Serve { .. }
+        | Phase::Return { .. }
+        | Phase::Break { .. } => false.write(out)?,
+    }
     Ok(())
 }
 
 #[tactic(auto, unfolding(crate::specs::Blocks::block_fields))]
-fn read_fields(alloc: Global, input: &mut Input) -> Result<BlockState, ReadError>
+fn write_fields(b: &QueueRounds<BlockKind>, out: &mut Vec<u8>) -> Result<(), AllocError>
+    ensures fits { OnOk result (block_fields.Fits (file_of b.now)) }
+    ensures bytes { OnOk result (out.new.items ≡ block_fields.puts (file_of b.now) out.old.items) }
+{
+    let work = &b.kind.work;
+    Saved {
+        value: data_filed(b),
+    }
+    .write(out)?;
+    Saved {
+        value: phase_filed(&b.phase, work),
+    }
+    .write(out)?;
+    write_begun(&b.phase, out)?;
+    write_collect(work.from(), out)?;
+    write_parts(work.to().parts(), out)?;
+    Ok(())
+}
+
+#[tactic(auto, unfolding(crate::specs::Blocks::block_fields))]
+fn read_fields(alloc: Global, input: &mut Input) -> Result<FileBlock, ReadError>
     ensures { Takes block_fields input.old input.new result }
 {
-    let (facts, phase): (Saved<BlockData>, Saved<Phase>) = Stored::read(alloc, input)?;
+    let (facts, phase): (Saved<FileData>, Saved<FilePhase>) = Stored::read(alloc, input)?;
     let walk = read_begun(alloc, input)?;
     let from = read_collect(alloc, input)?;
     let to = read_parts(alloc, input)?;
-    Ok(BlockState {
+    Ok(FileBlock {
         facts: facts.value,
         phase: phase.value,
         walk,
@@ -121,7 +154,7 @@ fn read_fields(alloc: Global, input: &mut Input) -> Result<BlockState, ReadError
 }
 
 /// Puts a block device at the end.
-#[tactic(auto, unfolding(crate::specs::Blocks::block))]
+#[tactic(auto, unfolding(crate::specs::Blocks::block), using(crate::proofs::Forms::stands))]
 pub fn write_block(b: &Block, out: &mut Vec<u8>) -> Result<(), AllocError>
     ensures fits { OnOk result (block.Fits b.now) }
     ensures bytes { OnOk result (out.new.items ≡ block.puts b.now out.old.items) }
@@ -135,8 +168,8 @@ pub fn write_block(b: &Block, out: &mut Vec<u8>) -> Result<(), AllocError>
 pub fn read_block(alloc: Global, input: &mut Input) -> Result<Block, ReadError>
     ensures { Takes block input.old input.new result }
 {
-    let state = read_fields(alloc, input)?;
-    match Block::from_state(state) {
+    let file = read_fields(alloc, input)?;
+    match block_of(file) {
         Some(b) => Ok(b),
         None => Err(ReadError::Bad),
     }

@@ -40,6 +40,8 @@
 
 mod block;
 mod device;
+mod file;
+mod form;
 mod law;
 mod phase;
 mod port;

@@ -4,8 +4,9 @@ ghost use Rattle.snap_devices.specs.Phases.{break_code, break_stage, phase, phas
 ghost use Rattle.snap_devices.specs.Phases.{return_code, return_stage};
 ghost use Rattle.snap_devices.specs.Serving.{service, service_code, units};
 
+use crate::file::FilePhase;
 use crate::saved::Saved;
-use block_device::{Phase, ServiceStage};
+use block_device::ServiceStage;
 use dev_core::{BreakStage, ReturnStage};
 use file_format::{Input, ReadError, Stored};
 use std::alloc::{AllocError, Global};
@@ -188,37 +189,37 @@ impl Stored for Saved<ServiceStage> {
     }
 }
 
-fn phase_code(phase: Phase) -> u8
+fn phase_code(phase: FilePhase) -> u8
     ensures { result ≡ phase_code phase }
 {
     match phase {
-        Phase::Between => 0,
-        Phase::Break { .. } => 1,
-        Phase::Header { .. } => 2,
-        Phase::Serve { .. } => 3,
-        Phase::Return { .. } => 4,
+        FilePhase::Between => 0,
+        FilePhase::Break { .. } => 1,
+        FilePhase::Header { .. } => 2,
+        FilePhase::Serve { .. } => 3,
+        FilePhase::Return { .. } => 4,
     }
 }
 
 #[tactic(auto, unfolding(crate::specs::Phases::phase, file_format::specs::Kinds::byte))]
-impl Stored for Saved<Phase> {
+impl Stored for Saved<FilePhase> {
     ghost format = { phase };
 
     fn write(&self, out: &mut Vec<u8>) -> Result<(), AllocError> {
         phase_code(self.value).write(out)?;
         match self.value {
-            Phase::Between => {}
-            Phase::Break { stage } => Saved { value: stage }.write(out)?,
-            Phase::Header { len, head } => {
+            FilePhase::Between => {}
+            FilePhase::Break { stage } => Saved { value: stage }.write(out)?,
+            FilePhase::Header { len, head } => {
                 len.write(out)?;
                 head.write(out)?;
             }
-            Phase::Serve { at, stage, head } => {
+            FilePhase::Serve { at, stage, head } => {
                 at.write(out)?;
                 Saved { value: stage }.write(out)?;
                 head.write(out)?;
             }
-            Phase::Return { len, head, stage } => {
+            FilePhase::Return { len, head, stage } => {
                 len.write(out)?;
                 head.write(out)?;
                 Saved { value: stage }.write(out)?;
@@ -227,22 +228,22 @@ impl Stored for Saved<Phase> {
         Ok(())
     }
 
-    fn read(alloc: Global, input: &mut Input) -> Result<Saved<Phase>, ReadError> {
+    fn read(alloc: Global, input: &mut Input) -> Result<Saved<FilePhase>, ReadError> {
         let value = match u8::read(alloc, input)? {
-            0 => Phase::Between,
+            0 => FilePhase::Between,
             1 => {
                 let stage: Saved<BreakStage> = Stored::read(alloc, input)?;
-                Phase::Break { stage: stage.value }
+                FilePhase::Break { stage: stage.value }
             }
             2 => {
                 let (len, head) = Stored::read(alloc, input)?;
-                Phase::Header { len, head }
+                FilePhase::Header { len, head }
             }
             3 => {
                 let (at, (stage, head)): (u64, (Saved<ServiceStage>, u16)) = Stored::read(
                     alloc, input,
                 )?;
-                Phase::Serve {
+                FilePhase::Serve {
                     at,
                     stage: stage.value,
                     head,
@@ -252,7 +253,7 @@ impl Stored for Saved<Phase> {
                 let (len, (head, stage)): (u32, (u16, Saved<ReturnStage>)) = Stored::read(
                     alloc, input,
                 )?;
-                Phase::Return {
+                FilePhase::Return {
                     len,
                     head,
                     stage: stage.value,

@@ -196,8 +196,9 @@ impl Stored for Saved<Stage> {
     }
 }
 
+/// Puts a walk at the end.
 #[tactic(auto, unfolding(crate::specs::Queues::walk, crate::specs::Queues::walk_fields))]
-fn write_walk(it: &ChainWalk, out: &mut Vec<u8>) -> Result<(), AllocError>
+pub fn write_walk(it: &ChainWalk, out: &mut Vec<u8>) -> Result<(), AllocError>
     ensures fits { OnOk result (walk.Fits it.now) }
     ensures bytes { OnOk result (out.new.items ≡ walk.puts it.now out.old.items) }
 {
@@ -233,22 +234,6 @@ impl Stored for Saved<ChainWalk> {
         let value = read_walk(alloc, input)?;
         Ok(Saved { value })
     }
-}
-
-/// Puts the walk that is begun, if there is one, at the end.
-#[tactic(auto, unfolding(file_format::specs::Kinds::optional, file_format::specs::Kinds::flag))]
-pub fn write_begun(begun: &Option<ChainWalk>, out: &mut Vec<u8>) -> Result<(), AllocError>
-    ensures fits { OnOk result ((optional walk).Fits begun.now) }
-    ensures bytes { OnOk result (out.new.items ≡ (optional walk).puts begun.now out.old.items) }
-{
-    match begun {
-        None => false.write(out)?,
-        Some(walk) => {
-            true.write(out)?;
-            write_walk(walk, out)?;
-        }
-    }
-    Ok(())
 }
 
 /// Takes the walk that is begun, if there is one, from the front.

@@ -130,10 +130,11 @@ data_within =
 block_within : Within blocks.block.reads (λ _. 10269)
 unfolding blocks.block blocks.block_fields
 block_within =
-    passing_within _ _ (λ v is. omega arith)
+    made_within _ _ (λ a. omega arith)
+    (passing_within _ (λ _. 10269) (λ v is. omega arith)
     (made_within _ (λ _. 10269) (λ a. omega arith)
     (pair_within data_within
-    (pair_within phase_within (pair_within (any_within 3369 queues.walk walk_within) (pair_within collect_within parts_within)))))
+    (pair_within phase_within (pair_within (any_within 3369 queues.walk walk_within) (pair_within collect_within parts_within))))))
 
 devices_within : (code : ℕ) → Within (devices.devices code).reads (λ _. 10269)
 devices_within zero = nothing_within 10269

@@ -128,6 +128,19 @@ impl Bucket {
         }
     }
 
+    /// A bucket that keeps the same.
+    pub fn again(&self) -> Bucket
+        ensures { result ≡ self.now }
+    {
+        Bucket {
+            size: self.size,
+            refill: self.refill,
+            burst: self.burst,
+            owed: self.owed,
+            moment: self.moment,
+        }
+    }
+
     /// What is owed at a moment; an earlier one than the newest need's counts as that one.
     fn owed_at(&self, now: u64) -> u128
         ensures { result ≡ owes_at self.now now }

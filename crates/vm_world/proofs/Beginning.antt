@@ -3,7 +3,7 @@ use Rattle.std.proofs.Common.{◌≡◌, ℕ, zero, suc, ◌+◌, ◌*◌, ◌<�
 use Rattle.std.proofs.lemmas.List.{length-take-le, map-set, take_more}
 use Rattle.std.proofs.lemmas.Option.{slice_get-map}
 use Rattle.guest_memory.specs.Memory.{Memory}
-use Rattle.block_device.specs.Block.Change.{Sectors}
+use Rattle.block_device.specs.declared.kind.BlockChange.TheVariants.{Sectors}
 use Rattle.guest_devices.specs.declared.device.Device.{Device}
 use Rattle.guest_devices.specs.declared.new_device.NewDevice.{NewDevice}
 use Rattle.guest_devices.specs.Devices.{BlockChanged, DeviceLeads, DeviceLeft, FlatDevice, device_at, device_changed, new_left}

@@ -1,6 +1,17 @@
--- Kept data for what comes next.
-use Rattle.block_device.proofs.GoesOn.{begin_on, change_on, reply_on}
+use Rattle.block_device.specs.Block.{changed}
+use Rattle.block_device.proofs.Owes.{owes}
+use Rattle.block_device.proofs.Resuming.{resumes}
 use Rattle.block_device.proofs.law.block_goes_on.Goals as goal
 
-pub returns : goal.returns
-returns c = record { begins = begin_on; reply = reply_on; change = change_on }
+pub returns-clause-begins : goal.returns-clause-begins
+returns-clause-begins c port pages sectors id read_only small size =
+    c.queue_goes_on.ensures.begins port pages (record { sectors = sectors; drive_id = id; is_read_only = read_only }) small
+    owes resumes size
+
+pub returns-clause-reply : goal.returns-clause-reply
+returns-clause-reply c port pages t reply small kept fit =
+    c.queue_goes_on.ensures.reply port pages t reply small owes resumes kept fit
+
+pub returns-clause-change : goal.returns-clause-change
+returns-clause-change c port pages t change small kept fine =
+    c.queue_goes_on.ensures.change port pages t change small owes resumes kept (λ e was. (fine e, fine e))

@@ -1,6 +1,6 @@
 -- The part behind the last one of a sector is the first one of the next.
 use Rattle.std.proofs.Common.{◌∙◌}
-use Rattle.block_device.specs.Serving.{got_of}
+use Rattle.queue_device.specs.Chains.{got_of}
 use Rattle.block_device.proofs.Moves.{out_wrapped}
 use Rattle.block_device.proofs.stage.next_stage.Goals as goal
 

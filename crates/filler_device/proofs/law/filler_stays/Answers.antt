@@ -4,7 +4,7 @@ use Rattle.filler_device.proofs.Filler.{owes}
 use Rattle.filler_device.proofs.law.filler_stays.Goals as goal
 
 pub returns : goal.returns
-returns c port pages limits items left few leads =
-    c.queue_stays.ensures.acts port pages left few owes
-    (c.queue_stays.ensures.leads port pages (Ends (new_filler port pages limits)) left items few owes
+returns c port pages limits items left leads =
+    c.queue_stays.ensures.acts port pages left owes
+    (c.queue_stays.ensures.leads port pages (Ends (new_filler port pages limits)) left items owes
     (c.queue_stays.ensures.begins port pages) leads)

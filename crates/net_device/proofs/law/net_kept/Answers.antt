@@ -3,7 +3,7 @@ use Rattle.net_device.proofs.Resuming.{resumes}
 use Rattle.net_device.proofs.law.net_kept.Goals as goal
 
 pub returns-clause-stays : goal.returns-clause-stays
-returns-clause-stays c p r e g few is = c.queue_kept.ensures p r e g few owes resumes is
+returns-clause-stays c p r e g is = c.queue_kept.ensures p r e g owes resumes is
 
 pub returns-clause-one : goal.returns-clause-one
 returns-clause-one c = c.queue_one.ensures

@@ -10,15 +10,15 @@ use Rattle.balloon_device.specs.Work.{Kept, list_left, serving_of}
 use Rattle.balloon_device.proofs.Working.{list_asked, list_done}
 use Rattle.balloon_device.proofs.kind.BalloonKind.list_on.Goals as goal
 
-pub returns-then-room-eq0 : goal.returns-then-room-eq0
-returns-then-room-eq0 c =
+pub returns-then-room-eq0-clause-works : goal.returns-then-room-eq0-clause-works
+returns-then-room-eq0-clause-works c =
     let list = c.next_page.new.list in
     let left = c.in_default.ensures.none refl in
     ap (λ (t : Doing (List ℕ)). performing t c.args.self.now.own pages_done)
     (sym left.0 ∙ list_done c.args.pages list.from list.held left.1 (sym c.room.ensures.room ∙ c.if-room-eq0.true))
 
-pub returns : goal.returns
-returns c =
+pub returns-clause-works : goal.returns-clause-works
+returns-clause-works c =
     let list = c.next_page.new.list in
     let left = c.in_default.ensures.none refl in
     let some : 0 < room list.from = omega (arith, c.room.ensures.room, c.if-room-eq0.false) in

@@ -12,8 +12,8 @@ use Rattle.balloon_device.proofs.Entries.{told_all}
 use Rattle.balloon_device.proofs.Working.{collected, tags_asked, tags_same}
 use Rattle.balloon_device.proofs.kind.BalloonKind.tags_on.Goals as goal
 
-pub returns : goal.returns
-returns c =
+pub returns-clause-works : goal.returns-clause-works
+returns-clause-works c =
     let from = c.args.from.from in
     let held = c.tell.new.held in
     let so_far = c.tell.new.so_far in

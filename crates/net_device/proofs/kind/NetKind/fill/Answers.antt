@@ -7,8 +7,8 @@ use Rattle.net_device.specs.Work.{Kept, op_of, own_of, serving_of, written}
 use Rattle.net_device.proofs.Working.{fills_kept}
 use Rattle.net_device.proofs.kind.NetKind.fill.Goals as goal
 
-pub returns : goal.returns
-returns c =
+pub returns-clause-works : goal.returns-clause-works
+returns-clause-works c =
     let kept : Kept = record { bytes = c.self.inside.text; rx = c.self.inside.rx; tx = c.self.inside.tx; stage = c.self.inside.stage } in
     let at = stage.Receive c.args.at c.args.to in
     subst

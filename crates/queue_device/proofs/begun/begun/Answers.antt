@@ -1,0 +1,10 @@
+use Rattle.std.proofs.Common.{◌≡◌, ℕ, sym, subst, true}
+use Rattle.queue_device.specs.declared.phase.Work.TheVariants as work
+use Rattle.queue_device.proofs.CodeKept.{between_kept}
+use Rattle.queue_device.proofs.begun.begun.Goals as goal
+
+pub returns-in-Look-clause-kept : goal.returns-in-Look-clause-kept
+returns-in-Look-clause-kept g c = λ kept works.
+    between_kept g.K.Kind.service g.K.Kind.times g.K.Kind.is_work c.look.new.rounds (g.K.Kind.stage c.look.new.kind) (c.look.ensures.kept kept)
+    (subst (λ (n : ℕ). g.K.Kind.is_work work.Rest n (g.K.Kind.stage c.look.new.kind) ≡ true) (sym c.look.ensures.pages)
+    (c.look.ensures.rests c.args.rounds.now.pages works))

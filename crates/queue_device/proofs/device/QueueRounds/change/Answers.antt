@@ -1,0 +1,16 @@
+use Rattle.std.proofs.Common.{◌≡◌, subst, sym, true}
+use Rattle.queue_device.specs.declared.phase.Phase.{Phase}
+use Rattle.queue_device.specs.declared.phase.Phase.TheVariants as phase
+use Rattle.queue_device.specs.Kept.{is_state}
+use Rattle.queue_device.proofs.CodeGoes.{state_parts}
+use Rattle.queue_device.proofs.CodeKept.{between_kept}
+use Rattle.queue_device.proofs.device.QueueRounds.change.Goals as goal
+
+pub returns-in-Between-clause-kept : goal.returns-in-Between-clause-kept
+returns-in-Between-clause-kept g c = λ state.
+    let r = c.args.self.now.rounds in
+    let stage = g.K.Kind.stage c.args.self.now.kind in
+    let p = state_parts g.K.Kind.service g.K.Kind.times g.K.Kind.is_work phase.Between r stage
+    (subst (λ (x : Phase). is_state g.K.Kind.service g.K.Kind.times g.K.Kind.is_work x r stage ≡ true) c.in-Between.is state) in
+    subst (λ (x : Phase). is_state g.K.Kind.service g.K.Kind.times g.K.Kind.is_work x r (g.K.Kind.stage c.change.new.self) ≡ true) (sym c.in-Between.is)
+    (between_kept g.K.Kind.service g.K.Kind.times g.K.Kind.is_work r (g.K.Kind.stage c.change.new.self) p.0 (c.change.ensures.rests r.pages p.2))
