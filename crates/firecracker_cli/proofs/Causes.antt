@@ -58,7 +58,6 @@ still_told (Exit.Fault object.Words) before mid now lasts cause =
 still_told (Exit.Fault object.Source) before mid now lasts cause = absurd cause
 still_told (Exit.Fault object.Files) before mid now lasts cause = absurd cause
 still_told Exit.Done before mid now lasts cause = tt
-still_told (Exit.Torn torn) before mid now lasts cause = absurd cause
 still_told Exit.Usage before mid now lasts cause = absurd cause
 still_told (Exit.Script line) before mid now lasts cause = absurd cause
 still_told Exit.OutOfMemory before mid now lasts cause = tt
@@ -110,7 +109,6 @@ close_told end exit result before old mid now same first cause served last (inr 
 pub ends_well : (exit : Exit) (before now : ServeKnown) → ServeCause exit before now → NoneFailed before now → EndsWell exit
 ends_well Exit.Done before now cause kept = tt
 ends_well Exit.OutOfMemory before now cause kept = tt
-ends_well (Exit.Torn torn) before now cause kept = absurd cause
 ends_well Exit.Usage before now cause kept = absurd cause
 ends_well (Exit.Script line) before now cause kept = absurd cause
 ends_well (Exit.Fault object.Trace) before now cause kept = absurd (kept.trace cause)

@@ -383,7 +383,6 @@ pub left_so_far : (given : ServeWords) (before left_at : ServeKnown) (trace : Tr
     (monitor : Monitor) → (exit ≡ Exit.Done → ⊥) → LeftBy exit monitor given before left_at
     → ServedSoFar exit given before (with_trace trace left_at)
 left_so_far given before left_at trace finished Exit.Done monitor other left = absurd (other refl)
-left_so_far given before left_at trace finished (Exit.Torn torn) monitor other left = left trace finished
 left_so_far given before left_at trace finished Exit.Usage monitor other left = left trace finished
 left_so_far given before left_at trace finished (Exit.Script number) monitor other left = left trace finished
 left_so_far given before left_at trace finished (Exit.Fault o) monitor other left = left trace finished

@@ -94,7 +94,6 @@ module _ (given : ServeWords) (before : ServeKnown) (mid : Hosts) (words : Words
       with_line (Exit.Fault object.Words) result (λ at. refl) (λ rest lacks. lacks) so_far took called
   ended_by Exit.OutOfMemory result so_far quiet took called =
       with_line Exit.OutOfMemory result (λ at. refl) (λ rest lacks. lacks) so_far took called
-  ended_by (Exit.Torn torn) result so_far quiet took called = absurd so_far
   ended_by Exit.Usage result so_far quiet took called = absurd so_far
   ended_by (Exit.Script line) result so_far quiet took called = absurd so_far
   ended_by (Exit.Fault object.Source) result so_far quiet took called = absurd so_far

@@ -191,7 +191,6 @@ pub record ServedPart (exit : Exit) (it : ServeWords) (before now : ServeKnown) 
 
 abbrev pub ServedBy : Exit → ServeWords → ServeKnown → ServeKnown → Type 0
 ServedBy Exit.Done it before now = ServedAll it before now
-ServedBy (Exit.Torn torn) it before now = ⊥
 ServedBy Exit.Usage it before now = ⊥
 ServedBy (Exit.Script line) it before now = ⊥
 ServedBy (Exit.Fault object.Source) it before now = ⊥
@@ -208,7 +207,6 @@ ServeCause (Exit.Fault object.Words) before now = Rose before.words.health.fault
 ServeCause (Exit.Fault object.Listener) before now = Rose before.listener.health.faults now.listener.health.faults
 ServeCause (Exit.Fault other) before now = ⊥
 ServeCause (Exit.Script line) before now = ⊥
-ServeCause (Exit.Torn torn) before now = ⊥
 ServeCause Exit.Usage before now = ⊥
 ServeCause exit before now = Unit {0}
 

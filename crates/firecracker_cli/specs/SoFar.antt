@@ -76,7 +76,6 @@ pub record Cut (exit : Exit) (it : ServeWords) (before now : ServeKnown) : Type 
 -- a sink that failed is told nothing more
 abbrev pub ServedSoFar : Exit → ServeWords → ServeKnown → ServeKnown → Type 0
 ServedSoFar Exit.Done it before now = ServedAll it before now
-ServedSoFar (Exit.Torn torn) it before now = ⊥
 ServedSoFar Exit.Usage it before now = ⊥
 ServedSoFar (Exit.Script line) it before now = ⊥
 ServedSoFar (Exit.Fault object.Source) it before now = ⊥

@@ -16,7 +16,6 @@ goes_on Exit.Done item more left number m is on (inr off) = cc
 goes_on (Exit.Script line) item more left number m is on ends = let bad = ends.3 in cc
 goes_on Exit.Usage item more left number m is on ends = absurd ends
 goes_on (Exit.Fault name) item more left number m is on ends = absurd ends
-goes_on (Exit.Torn at) item more left number m is on ends = absurd ends
 goes_on Exit.OutOfMemory item more left number m is on ends = absurd ends
 
 record Ended (judges : List (Option Item)) (m : Machine) (acts : List Act) (exit : Exit) (number : ℕ) : Type 0 where
@@ -88,15 +87,12 @@ exit_one (Exit.Script line) Exit.Done left number m x (inr off) = let on = x.1 i
 exit_one (Exit.Script line) (Exit.Script other) left number m x y = ap (λ (n : ℕ). Exit.Script n) (x.0 ∙ sym y.0)
 exit_one Exit.Usage stop left number m x y = absurd x
 exit_one (Exit.Fault name) stop left number m x y = absurd x
-exit_one (Exit.Torn at) stop left number m x y = absurd x
 exit_one Exit.OutOfMemory stop left number m x y = absurd x
 exit_one Exit.Done Exit.Usage left number m x y = absurd y
 exit_one Exit.Done (Exit.Fault name) left number m x y = absurd y
-exit_one Exit.Done (Exit.Torn at) left number m x y = absurd y
 exit_one Exit.Done Exit.OutOfMemory left number m x y = absurd y
 exit_one (Exit.Script line) Exit.Usage left number m x y = absurd y
 exit_one (Exit.Script line) (Exit.Fault name) left number m x y = absurd y
-exit_one (Exit.Script line) (Exit.Torn at) left number m x y = absurd y
 exit_one (Exit.Script line) Exit.OutOfMemory left number m x y = absurd y
 
 module _ (script : List ℕ) (m n k : Machine) (acts others : List Act) (exit stop : Exit) (t u : List ℕ) (good : AllAnswered acts) (fine : AllAnswered others) (alike : SameKept acts others) (x : IsReplay script m acts exit t n) (y : IsReplay script m others stop u k) where

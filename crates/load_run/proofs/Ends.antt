@@ -59,7 +59,6 @@ is_shortage (Exit.Fault object.Source) start before rest sink files end cause sh
 is_shortage (Exit.Fault object.Trace) start before rest sink files end cause short items are so_far = absurd end
 is_shortage (Exit.Fault object.Listener) start before rest sink files end cause short items are so_far = absurd end
 is_shortage (Exit.Fault object.Words) start before rest sink files end cause short items are so_far = absurd end
-is_shortage (Exit.Torn at) start before rest sink files end cause short items are so_far = absurd end
 is_shortage Exit.Done start before rest sink files end cause short items are so_far = absurd end
 is_shortage Exit.Usage start before rest sink files end cause short items are so_far = absurd end
 is_shortage (Exit.Script line) start before rest sink files end cause short items are so_far =

@@ -99,7 +99,6 @@ complete (Exit.Fault object.Files) start before now rest sink files command so_f
 complete (Exit.Fault object.Trace) start before now rest sink files command so_far told good none = absurd told.named
 complete (Exit.Fault object.Listener) start before now rest sink files command so_far told good none = absurd told.named
 complete (Exit.Fault object.Words) start before now rest sink files command so_far told good none = absurd told.named
-complete (Exit.Torn at) start before now rest sink files command so_far told good none = absurd told.named
 complete (Exit.Script line) start before now rest sink files command so_far told good none =
     let replay = so_far.went.replay in
     absurd (no_none so_far.acts good.0 replay.ends.2 (sym good.1 ∙ replay.plays.lines ∙ ap (λ (l : List (Option Item)). lines_done so_far.acts ++ l) replay.ends.3))
@@ -112,7 +111,6 @@ sink_still (Exit.Fault object.Files) n never = refl
 sink_still (Exit.Fault object.Trace) n never = refl
 sink_still (Exit.Fault object.Listener) n never = refl
 sink_still (Exit.Fault object.Words) n never = refl
-sink_still (Exit.Torn at) n never = refl
 sink_still Exit.Done n never = refl
 sink_still Exit.Usage n never = refl
 sink_still (Exit.Script line) n never = refl

@@ -154,6 +154,5 @@ module _ (start : Machine) (before : Known) (rest : List ℕ) (run : ScriptRun) 
   closes (Exit.Fault object.Trace) now wrote = absurd wrote
   closes (Exit.Fault object.Listener) now wrote = absurd wrote
   closes (Exit.Fault object.Words) now wrote = absurd wrote
-  closes (Exit.Torn at) now wrote = absurd wrote
   closes (Exit.Script line) now wrote = absurd wrote
   closes Exit.Usage now wrote = absurd wrote

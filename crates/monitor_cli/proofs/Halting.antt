@@ -186,7 +186,6 @@ module _ (start : Machine) (before : Known) (came rest : List ℕ) (run : Script
     past (Exit.Fault object.Trace) by = absurd by
     past (Exit.Fault object.Listener) by = absurd by
     past (Exit.Fault object.Words) by = absurd by
-    past (Exit.Torn at) by = absurd by
     past Exit.OutOfMemory by = absurd by
     past Exit.Done by = absurd by
     past Exit.Usage by = absurd by
@@ -316,7 +315,6 @@ module _ (start : Machine) (before : Known) (came rest : List ℕ) (run : Script
     item_ends (Exit.Fault object.Trace) ends = absurd ends
     item_ends (Exit.Fault object.Listener) ends = absurd ends
     item_ends (Exit.Fault object.Words) ends = absurd ends
-    item_ends (Exit.Torn at) ends = absurd ends
     item_ends Exit.OutOfMemory ends = memory_wanted ends.0 ends.1
     item_ends Exit.Done ends = absurd ends
     item_ends Exit.Usage ends = absurd ends

@@ -5,4 +5,3 @@ mod EndTexts
 pub mod Finishing
 mod Halting
 mod Parts
-mod TornLines

@@ -83,9 +83,6 @@ module _ (before mid now : SinkKnown) (answers : List ℕ) {E : Type 0} (result 
   told_text (Exit.Fault object.Words) same quiet takes called =
       let t = by_last (Exit.Fault object.Words) same takes called in
       record { part = t.part; rest = t.rest; took = t.took; parts = t.parts; short = t.short; cause = t.cause }
-  told_text (Exit.Torn at) same quiet takes called =
-      let t = by_last (Exit.Torn at) same takes called in
-      record { part = t.part; rest = t.rest; took = t.took; parts = t.parts; short = t.short; cause = t.cause }
   told_text Exit.Done same quiet takes called =
       let t = by_last Exit.Done same takes called in
       record { part = t.part; rest = t.rest; took = t.took; parts = t.parts; short = t.short; cause = t.cause }

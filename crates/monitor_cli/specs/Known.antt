@@ -57,7 +57,6 @@ abbrev pub IsReplayEnd : Exit → Type 0
 IsReplayEnd (Exit.Fault object.Trace) = ⊥
 IsReplayEnd (Exit.Fault object.Listener) = ⊥
 IsReplayEnd (Exit.Fault object.Words) = ⊥
-IsReplayEnd (Exit.Torn at) = ⊥
 IsReplayEnd exit = Unit {0}
 
 -- before the last line: each fault that is named has its cause, and those of source and sink are named

@@ -3,10 +3,6 @@ use Rattle.std.specs.Prelude.{ℕ, ◌/◌, ◌%◌, ◌==◌, nat_le, ◌&&◌,
 use Rattle.std.specs.Fmt.{decimal}
 use Rattle.vm_types.specs.declared.exit.Object.TheVariants as object
 use Rattle.vm_types.specs.declared.exit.Exit.{Exit}
-use Rattle.vm_types.specs.declared.ids.PlaceId.{PlaceId}
-use Rattle.vm_types.specs.declared.ids.PlaceId.TheVariants as place
-use Rattle.vm_types.specs.declared.torn.Torn.{Torn}
-use Rattle.vm_types.specs.declared.torn.Torn.TheVariants as torn
 use Rattle.api_rules.specs.declared.answer.Answer.{Answer}
 use Rattle.script_words.specs.Numbers.{hex_digit}
 
@@ -33,18 +29,6 @@ console_line (c ∷ bytes) = codes "! " ++ flat_map shown (c ∷ bytes) ++ codes
 abbrev pub off_line : List ℕ
 off_line = codes ". off\n"
 
--- a place, as the last line of a slice that was torn names it
-abbrev pub place_word : PlaceId → List ℕ
-place_word (place.Page number) = codes "p" ++ decimal number
-place_word (place.Port number) = codes "d" ++ decimal number
-place_word place.Board = codes "board"
-place_word place.Out = codes "out"
-
--- where journals and histories part: the place, and at which entry of it, counted from 0
-abbrev pub torn_place : Torn → List ℕ
-torn_place (torn.Entry place index kept other) = place_word place ++ codes " " ++ decimal index
-torn_place (torn.Place place kept) = place_word place ++ codes " 0"
-
 -- the last line of a run that ended otherwise; a sink that failed is told nothing
 abbrev pub last_line : Exit → List ℕ
 last_line Exit.Done = []
@@ -56,5 +40,4 @@ last_line (Exit.Fault object.Files) = codes ". fault Files\n"
 last_line (Exit.Fault object.Trace) = codes ". fault Trace\n"
 last_line (Exit.Fault object.Listener) = codes ". fault Listener\n"
 last_line (Exit.Fault object.Words) = codes ". fault Words\n"
-last_line (Exit.Torn at) = codes ". torn " ++ torn_place at ++ codes "\n"
 last_line Exit.OutOfMemory = codes ". memory\n"
