@@ -1,6 +1,6 @@
 -- A body's step is the flat step, and several are the flat machine's.
 use Rattle.std.proofs.Common.{◌≡◌, ℕ, ◌+◌, ◌<◌, true, false, refl, sym, ap, subst, ◌∙◌, List, [], ◌∷◌, ◌++◌}
-use Rattle.std.proofs.Common.{length, Option, Some, None, ◌⊎◌, inl, inr, arith, length-append}
+use Rattle.std.proofs.Common.{length, Some, ◌⊎◌, inl, inr, arith, length-append}
 use Rattle.vm_types.specs.declared.ids.ActorId.{ActorId}
 use Rattle.vm_types.specs.declared.ids.PlaceId.{PlaceId}
 use Rattle.vm_types.specs.declared.op.Op.{Op}
