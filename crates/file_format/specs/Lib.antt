@@ -5,6 +5,7 @@ pub mod Kinds
 pub mod Reading
 pub mod Whole
 pub mod Versions
+pub mod Ends
 pub mod Starts
 pub mod Identities
 pub mod Refusing
