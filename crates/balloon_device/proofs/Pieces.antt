@@ -5,12 +5,11 @@ use Rattle.device_trace.specs.Doing.{Doing, Gives, Wants, and_then}
 use Rattle.device_trace.specs.Keeps.{Keeps}
 use Rattle.device_trace.proofs.Keeping.{keeps_if, keeps_then}
 use Rattle.vq_split.specs.declared.queue.Part.{Part}
-use Rattle.vq_split.specs.Chain.{is_inside, read_bytes}
+use Rattle.vq_split.specs.Chain.{read_bytes}
 use Rattle.vq_split.specs.Inside.{AreInside}
-use Rattle.vq_split.proofs.Inside.{in_ram, of_ram}
 use Rattle.dev_core.specs.Inside.{Any}
 use Rattle.dev_core.specs.Pieces.{past, place, room, total}
-use Rattle.dev_core.proofs.Inside.{past_inside}
+use Rattle.dev_core.proofs.Inside.{past_inside, piece_inside}
 use Rattle.queue_device.specs.Confined.{IsDeviceAct}
 use Rattle.balloon_device.specs.Balloon.{no_call}
 use Rattle.balloon_device.specs.Pieces.{read_all, read_most}
@@ -97,19 +96,12 @@ module _ {S : Type 0} (on : S → List ℕ → Doing S) where
 
   module _ (port pages : ℕ)
       (ons : (s : S) (piece : List ℕ) → Keeps (IsDeviceAct true no_call port pages) (Any {A = S}) (on s piece)) where
-    piece_inside : (n : ℕ) (parts : List Part) → AreInside pages parts → 0 < n → n ≤ room parts
-        → is_inside pages (place parts) n ≡ true
-    piece_inside n [] inside some short = absurd (omega arith)
-    piece_inside n (part ∷ parts) inside some short =
-        let r = of_ram pages part.at part.len inside.1 in
-        in_ram pages part.at n r.0 (omega (arith, r))
-
     most_keeps : (most : ℕ) (s : S) (parts : List Part) → (pages < 2 ^ 32 → AreInside pages parts)
         → Keeps (IsDeviceAct true no_call port pages) (Any {A = S}) (read_most on most s parts)
     most_keeps zero s parts inside = tt
     most_keeps (suc most) s parts inside =
         keeps_if (IsDeviceAct true no_call port pages) (Any {A = S}) (room parts == 0) _ _ _ refl (λ done. tt) (λ more. (
-          (λ few. piece_inside (room parts) parts (inside few) (some_of (room parts) more) (omega arith), inr (tt, tt)),
+          (λ few. piece_inside pages (room parts) parts (inside few) (some_of (room parts) more) (omega arith), inr (tt, tt)),
           λ reply fit.
               keeps_then (IsDeviceAct true no_call port pages) (Any {A = S}) (Any {A = S}) (on s (read_bytes (room parts) reply)) _
               (ons s (read_bytes (room parts) reply))

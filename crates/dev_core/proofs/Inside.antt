@@ -17,7 +17,7 @@ use Rattle.dev_core.specs.Returns.{broke, broken, index_written, length_written,
 use Rattle.dev_core.specs.Inside.{Any}
 
 -- a piece of the first part is inside
-piece_inside : (pages n : ℕ) (parts : List Part) → AreInside pages parts → 0 < n → n ≤ room parts
+pub piece_inside : (pages n : ℕ) (parts : List Part) → AreInside pages parts → 0 < n → n ≤ room parts
     → is_inside pages (place parts) n ≡ true
 piece_inside pages n [] inside some short = absurd (omega arith)
 piece_inside pages n (part ∷ parts) inside some short =

@@ -28,8 +28,8 @@ struct Held {
 
 /// 4,096 bytes, for each hart what it has reserved of them, and a mark that a write sets.
 ///
-/// A page is moved under a lock and back for each slice, so what is large of it lies in a box. `holders` is how many harts
-/// have reserved something here, mostly none: a write tests it before it looks at harts.
+/// A page is moved into a table of turns and back for each slice, so what is large of it lies in a box. `holders` is how many
+/// harts have reserved something here, mostly none: a write tests it before it looks at harts.
 #[derive(Drop)]
 pub struct Page {
     held: Box<Held>,

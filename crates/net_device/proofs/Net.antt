@@ -11,13 +11,12 @@ use Rattle.device_trace.specs.Traces.{setting}
 use Rattle.device_trace.proofs.Keeping.{keeps_both, keeps_if}
 use Rattle.device_trace.proofs.Leading.{no_cut}
 use Rattle.vq_split.specs.declared.queue.Part.{Part}
-use Rattle.vq_split.specs.Chain.{is_inside, read_bytes}
+use Rattle.vq_split.specs.Chain.{read_bytes}
 use Rattle.vq_split.specs.Inside.{AreInside, IsInside}
-use Rattle.vq_split.proofs.Inside.{in_ram, of_ram}
 use Rattle.dev_core.specs.Inside.{Any}
 use Rattle.dev_core.specs.Pieces.{past, place, put_all, readable, room, total, writable}
 use Rattle.dev_core.proofs.Asking.{put_all_asks}
-use Rattle.dev_core.proofs.Inside.{filter_inside, past_inside, put_all_keeps}
+use Rattle.dev_core.proofs.Inside.{filter_inside, past_inside, piece_inside, put_all_keeps}
 use Rattle.queue_device.specs.declared.lanes.Which.{Which}
 use Rattle.queue_device.specs.declared.lanes.Which.TheVariants.{First, Second, Third}
 use Rattle.queue_device.specs.Acting.{ActingKeeps}
@@ -26,13 +25,6 @@ use Rattle.queue_device.specs.Confined.{Confines, IsChain, IsDeviceAct}
 use Rattle.queue_device.proofs.Acting.{keeps_either, keeps_when, performing_keeps}
 use Rattle.net_device.specs.Frames.{header_size, is_done, is_frame, piece_of, piece_sent, sending, sending_all, sent_length, taken_frame, taking, pieces, header, with_piece}
 use Rattle.net_device.specs.Net.{Net, answered_by, emptied, has_room, is_link_call, limited, net, received, served_by}
-
-piece_inside : (pages n : ℕ) (parts : List Part) → AreInside pages parts → 0 < n → n ≤ room parts
-    → is_inside pages (place parts) n ≡ true
-piece_inside pages n [] inside some short = absurd (omega arith)
-piece_inside pages n (part ∷ parts) inside some short =
-    let r = of_ram pages part.at part.len inside.1 in
-    in_ram pages part.at n r.0 (omega (arith, r))
 
 -- at this port, in a guest of so many pages
 module _ (port pages : ℕ) where
