@@ -1,13 +1,13 @@
 -- Words by the dashes that they begin with.
-use Rattle.std.proofs.Common.{◌≡◌, ◌∙◌, ◌&&◌, ◌||◌, ◌==◌, ◌⊎◌, inl, inr, ℕ, Bool, true, false, not, cond, refl, sym, ap, ap₂, subst, List, [], ◌∷◌, length, Option, Some, None, option_and_then, nat_lt, nat_eq, bytes_eq, true≢false, slice_index}
-use Rattle.std.specs.List.{before_first, after_first, list_any}
-use Rattle.std.proofs.lemmas.Bool.{and_parts, eqb-true}
+use Rattle.std.proofs.Common.{◌≡◌, ◌∙◌, ◌&&◌, ◌||◌, ◌==◌, ◌⊎◌, inl, inr, ℕ, Bool, true, false, not, cond, refl, sym, ap, ap₂, subst, List, [], ◌∷◌, length, Option, Some, None, option_and_then, nat_lt, nat_eq, bytes_eq, true≢false}
+use Rattle.std.specs.List.{list_any}
+use Rattle.std.proofs.lemmas.Bool.{and_parts, eqb-true, and_right}
 use Rattle.clap.specs.Lexer.{long_of, long_of_rest, short_of, short_of_rest, strip_byte}
 use Rattle.clap.specs.Walk.{Text}
 use Rattle.command_line.specs.Numbers.{load_number, one_number}
 use Rattle.command_line.specs.Options.{Given, apart, is_equals, is_value, joined, options_in, with_option}
 use Rattle.command_line.specs.Programs.{has_one_dash}
-use Rattle.command_line.proofs.OptionNames.{either_none, names_for, no_and, no_apart, no_joined, no_option, or_parts, two_dashes}
+use Rattle.command_line.proofs.OptionNames.{either_none, names_for, no_apart, no_joined, two_dashes}
 use Rattle.command_line.proofs.OptionRules.{Opt}
 
 abbrev pub starts_dash : Text → Bool
@@ -63,7 +63,7 @@ plain_value [] e = refl
 plain_value (y ∷ ys) e = ap (λ b. nat_lt 0 (length (y ∷ ys)) && not b) e ∙ and_yes (nat_lt 0 (length (y ∷ ys)))
 
 pub long_value : (ys : Text) → is_value (45 ∷ 45 ∷ ys) ≡ false
-long_value ys = no_and (nat_lt 0 (length (45 ∷ 45 ∷ ys)))
+long_value ys = and_right (nat_lt 0 (length (45 ∷ 45 ∷ ys))) false refl
 
 -- ---- a word that begins with one dash is part of no command
 
@@ -79,20 +79,20 @@ dash_two (y ∷ z ∷ zs) e = go (z == 45) (and_parts (y == 45) (not (z == 45)) 
   where
     go : (b : Bool) → not b ≡ true → (y == 45 && b) ≡ false
     go true f = absurd (true≢false (sym f))
-    go false f = no_and (y == 45)
+    go false f = and_right (y == 45) false refl
 
 dash_end : (x : Text) → has_one_dash x ≡ true → bytes_eq x (45 ∷ 45 ∷ []) ≡ false
 dash_end [] e = refl
-dash_end (y ∷ []) e = no_and (nat_eq y 45)
+dash_end (y ∷ []) e = and_right (nat_eq y 45) false refl
 dash_end (y ∷ z ∷ zs) e = go (z == 45) (and_parts (y == 45) (not (z == 45)) e).1
   where
     go : (b : Bool) → not b ≡ true → (nat_eq y 45 && (b && bytes_eq zs [])) ≡ false
     go true f = absurd (true≢false (sym f))
-    go false f = no_and (nat_eq y 45)
+    go false f = and_right (nat_eq y 45) false refl
 
 start_value : (x : Text) → starts_dash x ≡ true → is_value x ≡ false
 start_value [] e = absurd (true≢false (sym e))
-start_value (y ∷ ys) e = ap (λ b. nat_lt 0 (length (y ∷ ys)) && not b) e ∙ no_and (nat_lt 0 (length (y ∷ ys)))
+start_value (y ∷ ys) e = ap (λ b. nat_lt 0 (length (y ∷ ys)) && not b) e ∙ and_right (nat_lt 0 (length (y ∷ ys))) false refl
 
 pub then_none : {X Y : Type 0} (f : X → Option Y) (o : Option X) → ((x : X) → f x ≡ None) → option_and_then f o ≡ None
 then_none f None all = refl

@@ -1,16 +1,15 @@
 -- A program whose first word names a subcommand.
-use Rattle.std.proofs.Common.{◌≡◌, ◌∙◌, ◌&&◌, inl, inr, ℕ, Bool, true, false, not, cond, refl, sym, ap, ap₂, subst, append-nil, append_assoc, List, [], ◌∷◌, ◌++◌, Option, Some, None, is_some, option_map, find, bytes_eq, codes}
+use Rattle.std.proofs.Common.{◌≡◌, ◌∙◌, inl, inr, Bool, true, false, cond, refl, sym, ap, ap₂, subst, append-nil, append_assoc, List, [], ◌∷◌, ◌++◌, Option, Some, None, is_some, option_map, find, bytes_eq, codes}
 use Rattle.std.specs.List.{fold}
 use Rattle.std.specs.Option.{option_map_or}
-use Rattle.clap.specs.Faults.{built_fault, check_fault, defaults_fault, entered_fault, flag_word_fault, level_fault, other_fault, settle_fault, step_fault, turn_fault, walk_fault}
+use Rattle.std.proofs.lemmas.Bool.{and_right}
+use Rattle.clap.specs.Faults.{built_fault, check_fault, defaults_fault, entered_fault, level_fault, other_fault, settle_fault, step_fault, turn_fault, walk_fault}
 use Rattle.clap.specs.Kinds.{Kinds, or_else}
-use Rattle.clap.specs.Lexer.{long_of}
 use Rattle.clap.specs.Simple.{App, Shape, entered, label_of, names_of, new_shape, rows_at}
 use Rattle.clap.specs.Walk.{Held, Names, Row, Step, Text, Walk, after_step, answers_to, finished, idle, nothing_held, rows_after, settled, stop_after, subcommand_met, subcommand_or_other, walk, walk_from, walked}
 use Rattle.clap.specs.declared.error.ErrorKind.TheVariants as kind
 use Rattle.clap.proofs.FaultLemmas.{stopped_fault}
-use Rattle.command_line.proofs.Dashes.{Kind, starts_dash}
-use Rattle.command_line.proofs.OptionNames.{no_and}
+use Rattle.command_line.proofs.Dashes.{Kind}
 use Rattle.command_line.proofs.OptionRules.{some_kind}
 use Rattle.command_line.proofs.Turns.{or_first, plain_met, plain_passes}
 
@@ -86,7 +85,7 @@ module _ (name : Text) (subs : List Shape) where
 
     turn : turn_fault t names (walk_from nothing_held) w ≡ []
     turn = ap (λ (m : Option Text). turn_by m w) met
-        ∙ ap (λ (b : Bool). or_else (cond b (kind.DisplayHelp ∷ kind.InvalidSubcommand ∷ []) []) []) (no_and (bytes_eq n (codes "help")))
+        ∙ ap (λ (b : Bool). or_else (cond b (kind.DisplayHelp ∷ kind.InvalidSubcommand ∷ []) []) []) (and_right (bytes_eq n (codes "help")) false refl)
 
     no_fault : walk_fault t names (walk_from nothing_held) (w ∷ rest) ≡ []
     unfolding walk_fault

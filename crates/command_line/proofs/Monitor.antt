@@ -1,21 +1,22 @@
 -- What `clap` finds in the words of the program `firecracker` is the command that they say.
-use Rattle.std.proofs.Common.{◌≡◌, ◌∙◌, ◌&&◌, ◌||◌, ◌⊎◌, inl, inr, ℕ, Bool, true, false, not, cond, refl, sym, ap, subst, List, [], ◌∷◌, Option, Some, None, option_map, option_and_then, find, bytes_eq, codes, true≢false}
+use Rattle.std.proofs.Common.{◌≡◌, ◌∙◌, ◌||◌, inl, inr, Bool, true, false, not, cond, refl, sym, ap, subst, List, [], ◌∷◌, Option, Some, None, option_map, option_and_then, bytes_eq, codes, true≢false}
 use Rattle.std.specs.List.{list_any}
 use Rattle.std.proofs.lemmas.Slice.Eq.{bytes_eq-Decides}
+use Rattle.std.proofs.lemmas.Bool.{or_parts}
 use Rattle.clap.specs.Faults.{fault_of, is_simple_and_free}
 use Rattle.clap.specs.Kinds.{Kinds}
 use Rattle.clap.specs.Simple.{Shape, subcommand_of, subcommand_rows_of}
-use Rattle.clap.specs.Walk.{Row, Text, first_of, idle, rows_after, subcommand_met}
+use Rattle.clap.specs.Walk.{Row, Text, first_of}
 use Rattle.clap.specs.declared.parser.ArgMatches.{ArgMatches}
-use Rattle.command_line.specs.Commands.{Command, Generate, Replay, Run, Serve, ServeWords, command_in, command_of, replay_given, replay_names, serve_by, serve_given, serve_names}
+use Rattle.command_line.specs.Commands.{Command, Generate, Replay, Run, Serve, command_in, command_of, replay_given, replay_names, serve_by, serve_given, serve_names}
 use Rattle.command_line.specs.MachineId.{machine_id}
 use Rattle.command_line.specs.Numbers.{one_number}
 use Rattle.command_line.specs.Options.{Given, is_given, options_in, value_of}
-use Rattle.command_line.specs.Programs.{IsRead, IsUsage, command_by, command_rows, has_one_dash, monitor_app, number_rows, serve_rows}
-use Rattle.command_line.proofs.Dashes.{dash_number, dash_options, kind_of_word, or_either}
+use Rattle.command_line.specs.Programs.{IsRead, IsUsage, command_by, command_rows, has_one_dash, monitor_app, serve_rows}
+use Rattle.command_line.proofs.Dashes.{dash_number, dash_options, kind_of_word}
 use Rattle.command_line.proofs.Entering.{enters, none_met, none_named, top_entered, top_fault}
 use Rattle.command_line.proofs.NumberReads.{number_leaf, number_says}
-use Rattle.command_line.proofs.OptionNames.{flipped, given_for, not_given, or_parts, value_is}
+use Rattle.command_line.proofs.OptionNames.{flipped, given_for, not_given, value_is}
 use Rattle.command_line.proofs.OptionReads.{means}
 use Rattle.command_line.proofs.OptionRules.{Opt, Pair, rules_for, rows_for}
 use Rattle.command_line.proofs.Turns.{leaf}

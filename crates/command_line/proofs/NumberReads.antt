@@ -1,6 +1,7 @@
 -- `clap` reads the one number of a command as the definition does.
-use Rattle.std.proofs.Common.{◌≡◌, ◌∙◌, ◌||◌, inl, inr, ℕ, Bool, true, false, cond, refl, sym, ap, ap₂, subst, List, [], ◌∷◌, Option, Some, None, bytes_eq, codes}
+use Rattle.std.proofs.Common.{◌≡◌, ◌∙◌, inl, inr, ℕ, Bool, true, false, cond, refl, sym, ap, ap₂, subst, List, [], ◌∷◌, Option, Some, None, bytes_eq, codes}
 use Rattle.std.specs.List.{fold, list_any}
+use Rattle.std.proofs.lemmas.Bool.{or_parts}
 use Rattle.clap.specs.Faults.{check_fault, defaults_fault, level_fault, settle_fault, step_fault, turn_fault, walk_fault}
 use Rattle.clap.specs.Kinds.{Kinds, or_else}
 use Rattle.clap.specs.Simple.{Shape, new_rule}
@@ -13,7 +14,7 @@ use Rattle.clap.specs.declared.parser.ValueSource.TheVariants.{CommandLine}
 use Rattle.command_line.specs.Numbers.{load_number, one_number}
 use Rattle.command_line.specs.Programs.{has_one_dash, number_rows}
 use Rattle.command_line.proofs.Dashes.{Kind, kind_of_word, not_end, starts_dash}
-use Rattle.command_line.proofs.OptionNames.{either_none, or_parts}
+use Rattle.command_line.proofs.OptionNames.{either_none}
 use Rattle.command_line.proofs.OptionRules.{some_kind}
 use Rattle.command_line.proofs.Turns.{end_idle, idle_at, leaf, or_first, plain_idle, plain_met, plain_passes, trails_at}
 

@@ -1,8 +1,9 @@
 -- The options that the definition reads, beside the pairs that `clap` finds.
-use Rattle.std.proofs.Common.{◌≡◌, ◌∙◌, ◌+◌, ◌&&◌, ◌||◌, ◌==◌, ℕ, Bool, true, false, not, cond, zero, suc, refl, sym, ap, ap₂, arith, List, [], ◌∷◌, ◌++◌, map, length, take, drop, Option, Some, None, is_some, option_map, option_and_then, find, nat_lt, bytes_eq, true≢false, slice_get}
+use Rattle.std.proofs.Common.{◌≡◌, ◌∙◌, ◌+◌, ◌&&◌, ◌||◌, ◌==◌, Bool, true, false, not, cond, suc, refl, sym, ap, ap₂, arith, List, [], ◌∷◌, ◌++◌, map, length, take, drop, Option, Some, None, is_some, option_map, option_and_then, find, nat_lt, bytes_eq, true≢false, slice_get}
 use Rattle.std.specs.List.{after_first, before_first, list_any, position_or_len}
 use Rattle.std.proofs.lemmas.List.{map-append}
 use Rattle.std.proofs.lemmas.Slice.Eq.{bytes_eq-Decides}
+use Rattle.std.proofs.lemmas.Bool.{or_parts, and_right}
 use Rattle.clap.specs.Walk.{Row, Text, first_of}
 use Rattle.command_line.specs.Options.{Given, apart, is_equals, is_given, is_value, joined, value_of, with_option}
 use Rattle.command_line.proofs.OptionRules.{Opt, Pair, has, known, row, rows_for}
@@ -79,10 +80,6 @@ pub either_none : {X : Type 0} (b : Bool) (o : Option X) → o ≡ None → cond
 either_none true o none = none
 either_none false o none = refl
 
-pub no_and : (b : Bool) → (b && false) ≡ false
-no_and true = refl
-no_and false = refl
-
 -- ---- one option more
 
 module _ (os : List Opt) (ds : List Pair) (n v : Text) where
@@ -99,7 +96,7 @@ module _ (os : List Opt) (ds : List Pair) (n v : Text) where
   pub with_again : has ds n ≡ true → with_option (names_for os) (given_for ds) (45 ∷ 45 ∷ n) v ≡ None
   with_again old =
       with_is ∙ ap (by (is_some (known os n))) old
-      ∙ ap (λ b. cond b (Some (given_for ds ++ dashed (n, v) ∷ [])) None) (no_and (is_some (known os n)))
+      ∙ ap (λ b. cond b (Some (given_for ds ++ dashed (n, v) ∷ [])) None) (and_right (is_some (known os n)) false refl)
 
   pub with_unknown : known os n ≡ None → with_option (names_for os) (given_for ds) (45 ∷ 45 ∷ n) v ≡ None
   with_unknown is = with_is ∙ ap (λ (m : Option Opt). by (is_some m) (has ds n)) is
@@ -117,10 +114,6 @@ after_dashed zs =
     let k = position_or_len is_equals zs in
     let two : 1 + (1 + k) + 1 ≡ suc (suc (k + 1)) = omega arith in
     ap (λ n. drop n (45 ∷ 45 ∷ zs)) two
-
-pub or_parts : (a b : Bool) → (a || b) ≡ false → (a ≡ false) × (b ≡ false)
-or_parts true b e = absurd (true≢false e)
-or_parts false b e = (refl, e)
 
 pub before_all : (zs : Text) → list_any is_equals zs ≡ false → before_first is_equals zs ≡ zs
 before_all [] none = refl

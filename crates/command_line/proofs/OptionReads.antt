@@ -1,18 +1,19 @@
 -- `clap` reads options with one value as the definition does.
-use Rattle.std.proofs.Common.{◌≡◌, ◌∙◌, ◌&&◌, ◌||◌, ◌==◌, inl, inr, ℕ, Bool, true, false, not, cond, refl, sym, ap, ap₂, subst, List, [], ◌∷◌, ◌++◌, map, length, Option, Some, None, option_map, option_and_then, nat_lt, bytes_eq, true≢false}
+use Rattle.std.proofs.Common.{◌≡◌, ◌∙◌, ◌&&◌, ◌||◌, inl, inr, ℕ, Bool, true, false, not, cond, refl, sym, ap, ap₂, subst, List, [], ◌∷◌, ◌++◌, length, Option, Some, None, option_map, option_and_then, nat_lt}
 use Rattle.std.specs.List.{after_first, before_first, fold, list_any}
 use Rattle.std.specs.Option.{option_map_or, unwrap_or}
-use Rattle.clap.specs.Faults.{check_fault, level_fault, positional_fault, settle_fault, step_fault, turn_fault, use_fault, walk_fault}
+use Rattle.std.proofs.lemmas.Bool.{or_parts}
+use Rattle.clap.specs.Faults.{check_fault, level_fault, positional_fault, settle_fault, turn_fault, use_fault, walk_fault}
 use Rattle.clap.specs.Kinds.{Kinds, check_kinds, or_else}
 use Rattle.clap.specs.Lexer.{name_and_value}
 use Rattle.clap.specs.Simple.{Shape}
 use Rattle.clap.specs.Takes.{is_given}
-use Rattle.clap.specs.Walk.{Held, Names, Row, Rule, Step, Text, Waiting, Walk, after_step, arg_by_id, arg_by_index, arg_by_long, idle, next, nothing_held, option, option_word, plain_word, pushed, rows_after, settled, used, used_by_id, walked}
+use Rattle.clap.specs.Walk.{Held, Row, Rule, Step, Text, Waiting, after_step, arg_by_id, arg_by_index, arg_by_long, idle, next, nothing_held, option, option_word, rows_after, settled, used, used_by_id, walked}
 use Rattle.clap.specs.declared.error.ErrorKind.TheVariants as kind
 use Rattle.command_line.specs.Options.{Given, apart, is_equals, is_given as is_given_option, is_value, joined, options_in, with_option}
 use Rattle.command_line.specs.Programs.{has_one_dash}
-use Rattle.command_line.proofs.Dashes.{IsLong, Kind, after_none, kind_of_word, long_value, not_end, plain_two, plain_value, starts_dash}
-use Rattle.command_line.proofs.OptionNames.{after_dashed, before_all, before_dashed, either_none, given_for, given_has, names_for, no_apart, no_joined, or_parts, with_again, with_new, with_unknown}
+use Rattle.command_line.proofs.Dashes.{Kind, after_none, kind_of_word, long_value, not_end, plain_two, plain_value, starts_dash}
+use Rattle.command_line.proofs.OptionNames.{after_dashed, before_all, before_dashed, either_none, given_for, given_has, names_for, no_apart, no_joined, with_again, with_new, with_unknown}
 use Rattle.command_line.proofs.OptionRules.{Opt, Pair, built_option, defaults_pass, find_id, find_long, given_rows, has, known, known_name, no_position, rows_for, rows_stay, rules_for, same_text, some_kind, use_empty, use_nothing, use_passes, use_repeats, used_new}
 use Rattle.command_line.proofs.Turns.{end_idle, end_waits, fails, fate_ends, fate_fault, fate_rows, goes, idle_at, leaf, long_idle, long_step, long_turn, long_waits, or_first, plain_idle, plain_waits, trails_at, waits_at}
 

@@ -1,5 +1,5 @@
 -- Rules of options with one value, as `clap` builds them, and the rows that their uses leave.
-use Rattle.std.proofs.Common.{◌≡◌, ◌∙◌, ◌&&◌, ◌||◌, ℕ, Bool, true, false, not, cond, refl, sym, ap, ap₂, List, [], ◌∷◌, ◌++◌, map, length, append-nil, Option, Some, None, is_some, option_map, unwrap_or, find, nat_lt, bytes_eq, true≢false}
+use Rattle.std.proofs.Common.{◌≡◌, ◌∙◌, ◌&&◌, ◌||◌, ℕ, Bool, true, false, cond, refl, sym, ap, ap₂, List, [], ◌∷◌, ◌++◌, map, length, append-nil, Option, Some, None, option_map, unwrap_or, find, nat_lt, bytes_eq, true≢false}
 use Rattle.std.specs.List.{fold, list_any}
 use Rattle.std.specs.Option.{option_map_or}
 use Rattle.std.proofs.lemmas.List.{map-append}

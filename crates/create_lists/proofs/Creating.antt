@@ -23,7 +23,8 @@ use Rattle.flat_snapshot.specs.Found.{Snapshot, found, memory_found, state_found
 use Rattle.create_lists.specs.Listed.{AgreeAll, Agrees, AgreesText, AreCreates, AreFilesOf, Create, HoldBytes, IsAmong, IsMemoryOf, diff_since, memory_of, saved_of, snapshot_of}
 use Rattle.create_lists.proofs.FileKinds.{diff_kind, memory_kind, shut_agrees, state_kind, two_kinds}
 use Rattle.create_lists.proofs.Listing.{agrees_more, held_agrees}
-use Rattle.create_lists.proofs.Spelled.{both, memory_holds, state_encodes}
+use Rattle.flat_snapshot.proofs.Finds.{both}
+use Rattle.create_lists.proofs.Spelled.{memory_holds, state_encodes}
 
 -- ---- what a create writes
 

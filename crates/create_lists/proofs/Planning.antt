@@ -31,7 +31,8 @@ use Rattle.snapshot_merge.proofs.Standing.At.{at_start, at_pages, at_slot, at_en
 use Rattle.flat_snapshot.proofs.Finds.{holds, not_false, passes}
 use Rattle.create_lists.specs.Listed.{AgreesText, AreCreates, Create, IsAmong, IsMergeInto, IsPartOf, IsWholeOf, diff_since, memory_of}
 use Rattle.create_lists.proofs.Listing.{free_whole, held_agrees, part_merge}
-use Rattle.create_lists.proofs.Spelled.{base_holds, copy_in, same_when}
+use Rattle.flat_snapshot.proofs.Loaded.{same_when}
+use Rattle.create_lists.proofs.Spelled.{base_holds, copy_in}
 
 -- ---- anywhere in the merge of a listed diff into its base
 

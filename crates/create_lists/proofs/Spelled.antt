@@ -9,7 +9,6 @@ use Rattle.vm_types.specs.declared.identity.Identity.{Identity}
 use Rattle.refusals.specs.declared.refusal.Refusal.{Refusal}
 use Rattle.refusals.specs.declared.refusal.Refusal.TheVariants as refusal
 use Rattle.file_format.specs.Format.{IsBytes}
-use Rattle.file_format.specs.Identities.{is_same}
 use Rattle.file_format.specs.Starts.{is_closed, is_other}
 use Rattle.file_format.specs.Versions.{version_of}
 use Rattle.snap_memory.specs.declared.header.MemHeader.{MemHeader}
@@ -22,19 +21,9 @@ use Rattle.snap_state.specs.Files as state
 use Rattle.snap_state.proofs.Copies.{accepted}
 use Rattle.snapshot_merge.specs.Bases.{base_found, base_read, base_sized}
 use Rattle.snapshot_merge.specs.Memories.{Holds, IsMemoryFile}
-use Rattle.api_calls.specs.Call.{◌>>=◌}
 use Rattle.flat_snapshot.specs.Found.{memory_found, memory_front, memory_judged, memory_read, state_found, state_read}
-use Rattle.flat_snapshot.proofs.Finds.{holds, not_false, passes}
-
--- what came of both came of the first
-pub both : {A B : Type 0} (r : Result A Refusal) (f : A → Result B Refusal) (v : B) → (r >>= f) ≡ Ok v → (a : A) × (r ≡ Ok a) × (f a ≡ Ok v)
-both (Ok a) f v is = (a, refl, is)
-both (Err why) f v is = absurd cc
-
-pub same_when : (a b : Identity) → is_same a b ≡ true → a ≡ b
-same_when a b e =
-    let parts = and_parts (a.lineage == b.lineage) (a.number == b.number) e in
-    λ i. record { lineage = eqb-true a.lineage b.lineage parts.0 i; number = eqb-true a.number b.number parts.1 i }
+use Rattle.flat_snapshot.proofs.Finds.{holds, not_false, passes, both}
+use Rattle.flat_snapshot.proofs.Loaded.{same_when}
 
 -- the copy of a memory file with this header
 abbrev pub copy_in : MemHeader → List ℕ → MemoryCopy

@@ -12,12 +12,11 @@ use Rattle.api_calls.specs.declared.call.SnapshotFiles.{SnapshotFiles}
 use Rattle.api_calls.specs.Call.{◌>>=◌}
 use Rattle.file_format.specs.Identities.{is_same}
 use Rattle.file_format.specs.Starts.{is_other}
-use Rattle.snap_memory.specs.declared.header.MemHeader.{MemHeader}
 use Rattle.snap_memory.specs.Headers as memory
 use Rattle.snap_memory.proofs.Fronts as fronts
 use Rattle.snap_state.specs.declared.copy.StateCopy.{StateCopy}
 use Rattle.snapshot_merge.specs.Stops.{IsUnfinished}
-use Rattle.flat_snapshot.specs.Found.{Snapshot, found, memory_found, memory_front, memory_judged, memory_read, state_found}
+use Rattle.flat_snapshot.specs.Found.{found, memory_found, memory_front, memory_judged, memory_read, state_found}
 
 module _ (text : List ℕ) (u : IsUnfinished text) (i : Identity) (pages : ℕ) where
   abbrev front : List ℕ

@@ -1,5 +1,6 @@
 -- A piece is the next bytes of the parts, and what is left of them are the others.
 use Rattle.std.proofs.Common.{◌≡◌, ℕ, zero, suc, ◌+◌, ◌-◌, ◌%◌, ◌^◌, ◌==◌, ◌<◌, ◌≤◌, refl, sym, ap, ◌∙◌, Bool, true, false, if◌then◌else◌, List, [], ◌∷◌, ◌++◌, append_assoc, arith}
+use Rattle.std.proofs.lemmas.Bool.{eqb-true}
 use Rattle.vq_split.specs.declared.queue.Part.{Part}
 use Rattle.dev_core.specs.Bytes.{addresses, addresses_from, AreParts}
 use Rattle.dev_core.specs.Pieces.{past, place, room}
@@ -17,9 +18,6 @@ split at (suc n) m =
 apart : (n m : ℕ) → (n == m) ≡ false → n ≡ m → ⊥
 apart n m off = grind arith
 
-equal : (n m : ℕ) → (n == m) ≡ true → n ≡ m
-equal n m on = grind arith
-
 -- the part less its first n bytes
 abbrev rest_of : ℕ → Part → Part
 rest_of n part = record { at = (part.at + n) % 2 ^ 64; len = part.len - n; writable = part.writable }
@@ -28,7 +26,7 @@ piece_if : (n : ℕ) (part : Part) (parts : List Part) (test : Bool) → (part.l
     → n ≤ part.len
     → addresses (part ∷ parts) ≡ addresses_from part.at n ++ addresses (if test then parts else rest_of n part ∷ parts)
 piece_if n part parts true is are short =
-    ap (λ (m : ℕ). addresses_from part.at m ++ addresses parts) (equal part.len n is)
+    ap (λ (m : ℕ). addresses_from part.at m ++ addresses parts) (eqb-true part.len n is)
 piece_if n part parts false is are short =
     let whole : part.len ≡ n + (part.len - n) = omega (arith, short) in
     let some : n < part.len = omega (arith, short, apart part.len n is) in

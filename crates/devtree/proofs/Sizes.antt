@@ -5,6 +5,8 @@ use Rattle.std.specs.Prelude.{codes, ◌==◌}
 use Rattle.std.specs.List.{flat_map, list_any}
 use Rattle.std.specs.Str.{bytes_eq}
 use Rattle.std.specs.Fmt.{digits, digits_onto, digit_glyph}
+use Rattle.board_table.specs.Window.{window_size, window_start}
+use Rattle.port_table.specs.Window.{port_size, ports_start}
 use Rattle.guest_memory.specs.Boot.{bytes_of_mib}
 use Rattle.guest_memory.specs.Ram.{ram_start}
 use Rattle.vm_config.specs.declared.config.Config.{Config}
@@ -139,7 +141,7 @@ cpu_size : (k : ℕ) → size (tokens_of (cpu k)) ≤ 300
 cpu_size k = omega (arith, length-cell k, length-unit k)
 
 device_size : (k : ℕ) → size (tokens_of (device k)) ≤ 300
-device_size k = omega (arith, length-cell k, length-unit (0x10000000 + 0x1000 * k), length-region (0x10000000 + 0x1000 * k) 0x1000)
+device_size k = omega (arith, length-cell k, length-unit (ports_start + port_size * k), length-region (ports_start + port_size * k) port_size)
 
 chosen_size : (args : List ℕ) (initrd : Option InitrdPlace) → size (tokens_of (chosen args initrd)) ≤ length args + 200
 chosen_size args None = omega (arith, length-append args (0 ∷ []))
@@ -149,7 +151,7 @@ memory_size : (mib : ℕ) → size (tokens_of (memory mib)) ≤ 300
 memory_size mib = omega (arith, length-unit ram_start, length-region ram_start (bytes_of_mib mib))
 
 board_size : size (tokens_of board) ≤ 400
-board_size = omega (arith, length-unit 0x2000000, length-region 0x2000000 0x1000, length-cell)
+board_size = omega (arith, length-unit window_start, length-region window_start window_size, length-cell)
 
 cpus_size : (harts : ℕ) → size (tokens_of (cpus harts)) ≤ 300 + harts * 300
 cpus_size harts = omega (arith, node_size (codes "cpus") cpus_properties (nodes_from cpu 0 harts), nodes_size cpu 300 cpu_size 0 harts, length-cell)

@@ -3,6 +3,8 @@ use Rattle.std.specs.Prelude.{ℕ, zero, suc, ◌+◌, ◌*◌, List, [], ◌∷
 use Rattle.api_calls.specs.declared.call.BootSource.{BootSource}
 use Rattle.vm_config.specs.Devices.{device_count}
 use Rattle.vm_config.specs.declared.config.Config.{Config}
+use Rattle.board_table.specs.Window.{window_size, window_start}
+use Rattle.port_table.specs.Window.{port_size, ports_start}
 use Rattle.guest_memory.specs.Boot.{bytes_of_mib}
 use Rattle.guest_memory.specs.Ram.{ram_start}
 use Rattle.devtree.specs.declared.machine.InitrdPlace.{InitrdPlace}
@@ -66,9 +68,9 @@ cpus harts = node (codes "cpus") cpus_properties (nodes_from cpu 0 harts)
 -- the interrupt controller (2.4)
 abbrev pub board : Node
 board =
-    node (at_unit (codes "board") 0x2000000) (
+    node (at_unit (codes "board") window_start) (
     property (codes "compatible") (text (codes "firecracker,rv64-board"))
-    ∷ property (codes "reg") (region 0x2000000 0x1000)
+    ∷ property (codes "reg") (region window_start window_size)
     ∷ property (codes "#interrupt-cells") (cell 1)
     ∷ property (codes "interrupt-controller") []
     ∷ property (codes "phandle") (cell 1)
@@ -77,9 +79,9 @@ board =
 -- a port of a device: one page for each, and the line of its number (VIRTIO 1.2, 4.2.1)
 abbrev pub device : ℕ → Node
 device k =
-    node (at_unit (codes "virtio_mmio") (0x10000000 + 0x1000 * k)) (
+    node (at_unit (codes "virtio_mmio") (ports_start + port_size * k)) (
     property (codes "compatible") (text (codes "virtio,mmio"))
-    ∷ property (codes "reg") (region (0x10000000 + 0x1000 * k) 0x1000)
+    ∷ property (codes "reg") (region (ports_start + port_size * k) port_size)
     ∷ property (codes "interrupts") (cell k)
     ∷ []) no_nodes
 

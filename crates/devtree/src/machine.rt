@@ -9,7 +9,9 @@ ghost use Rattle.vm_config.specs.Devices.{device_count};
 use crate::flat::file_of;
 use crate::token::{Token, Value};
 use api_calls::BootSource;
+use board_table::{WINDOW_SIZE, WINDOW_START};
 use guest_memory::RAM_START;
+use port_table::{PORT_SIZE, PORTS_START};
 use std::alloc::{AllocError, Global};
 use vm_config::Config;
 
@@ -19,12 +21,6 @@ pub struct InitrdPlace {
     pub start: u64,
     pub end: u64,
 }
-
-const BOARD: u64 = 0x200_0000;
-
-const PORTS: u64 = 0x1000_0000;
-
-const PORT_SIZE: u64 = 0x1000;
 
 // One hart counts nanoseconds.
 const TIMEBASE: u64 = 1_000_000_000;
@@ -157,9 +153,9 @@ fn push_board(tokens: &mut Vec<Token<'_>>) -> Result<(), AllocError>
         ≡ all_of tokens.old.items ++ tokens_of machine.board) }
 {
     tokens.extend_from_slice(&[
-        Token::Begin("board", Some(BOARD)),
+        Token::Begin("board", Some(WINDOW_START)),
         Token::Property("compatible", Value::Text("firecracker,rv64-board")),
-        Token::Property("reg", Value::Region(BOARD, 0x1000)),
+        Token::Property("reg", Value::Region(WINDOW_START, WINDOW_SIZE as u128)),
         Token::Property("#interrupt-cells", Value::Cell(1)),
         Token::Property("interrupt-controller", Value::Empty),
         Token::Property("phandle", Value::Cell(1)),
@@ -172,7 +168,7 @@ fn push_device(tokens: &mut Vec<Token<'_>>, device: u32) -> Result<(), AllocErro
     ensures { OnOk result (all_of tokens.new.items
         ≡ all_of tokens.old.items ++ tokens_of (machine.device device)) }
 {
-    let port = PORTS + PORT_SIZE * device as u64;
+    let port = PORTS_START + PORT_SIZE * device as u64;
     tokens.extend_from_slice(&[
         Token::Begin("virtio_mmio", Some(port)),
         Token::Property("compatible", Value::Text("virtio,mmio")),

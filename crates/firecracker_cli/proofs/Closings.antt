@@ -29,13 +29,14 @@ use Rattle.monitor_running.specs.Reached.{Reached, Seen, Start, known, seen, tol
 use Rattle.monitor_running.proofs.Disks.{rests_same, rests_uncalled}
 use Rattle.monitor_running.proofs.Joins.{goes_by, none_ahead}
 use Rattle.monitor_running.proofs.Led.{drain_acts, drain_outs, drain_says, drain_shows, drain_told, drain_unlineaged}
-use Rattle.monitor_serving.specs.Connections.{AreTold, AreToldInPart, AreToldOff}
+use Rattle.monitor_serving.specs.Connections.{AreToldInPart, AreToldOff}
 use Rattle.monitor_serving.specs.Views.{Hosts, hosts}
 use Rattle.firecracker_cli.specs.Closing.{CloseFault, DrainStops, Drained, last_shown}
 use Rattle.firecracker_cli.specs.Serving.{AllTold, HasLineage, IsKept, IsOpen, ServeKnown, ServedAll, ServedPart, TraceRan, closing_line, serve_known}
 use Rattle.firecracker_cli.specs.SoFar.{CameToEnd, Cut, IsFinished, LeftBy, ServedSoFar, start_at, with_trace}
 use Rattle.firecracker_cli.proofs.Rising.{later_rose, rose_later}
 use Rattle.firecracker_cli.proofs.Lineages.{all_acts, all_begun, all_outs, all_ran, all_took}
+use Rattle.monitor_serving.proofs.Connections.{in_part}
 
 -- ---- what the console holds goes, if it is anything
 
@@ -161,10 +162,6 @@ off_drained None = refl
 off_drained (Some g) = refl
 
 -- ---- what was told whole was told in part
-
-in_part : (talk : List Out) (since : List Ended) → AreTold talk since → AreToldInPart talk since
-in_part talk [] told = told
-in_part talk (ended ∷ others) (before, unsent, said, cut, over, told) = inl (before, unsent, [], said, told)
 
 off_in_part : (talk : List Out) (since : List Ended) → AreToldOff talk since → AreToldInPart talk since
 off_in_part talk [] told = told

@@ -1,29 +1,18 @@
 -- No act makes memory longer or shorter.
-use Rattle.std.proofs.Common.{◌≡◌, ℕ, ◌+◌, ◌-◌, ◌/◌, ◌≤◌, nat_le, Bool, true, false, cond, ◌&&◌, refl, ap, ◌∙◌, List, ◌++◌, None, length, take, drop, arith, length-append, length-drop}
-use Rattle.std.proofs.lemmas.Bool.{leb-true}
-use Rattle.std.proofs.lemmas.List.{length-take-le}
+use Rattle.std.proofs.Common.{◌≡◌, ℕ, ◌+◌, ◌-◌, ◌/◌, ◌≤◌, nat_le, Bool, true, false, cond, ◌&&◌, refl, ap, List, None, length, arith}
+use Rattle.std.proofs.lemmas.Bool.{leb-true, and_parts}
 use Rattle.vm_types.specs.declared.ids.ActorId.{ActorId}
 use Rattle.vm_types.specs.declared.ids.PlaceId.{PlaceId}
 use Rattle.vm_types.specs.declared.op.Op.{Op}
 use Rattle.vm_types.specs.declared.reply.Reply.{Reply}
-use Rattle.guest_memory.specs.Memory.{Memory, put_at, read_from, reserving, touch, word_at, written}
+use Rattle.guest_memory.specs.Memory.{Memory, read_from, reserving, touch, word_at, written}
 use Rattle.guest_memory.specs.Ram.{is_ram, page_size, ram_start}
 use Rattle.guest_memory.specs.Reserved.{first_slot, granule_of, held_by, is_granule}
 use Rattle.guest_memory.specs.Words.{width_of, word_bytes}
 use Rattle.guest_pages.proofs.Staying.{length-word_bytes}
 use Rattle.flat_guest.specs.Guest.{whole_pages}
 use Rattle.flat_guest.specs.Steps.{memory_after}
-
-put_long : (bytes piece : List ℕ) (o : ℕ) → o + length piece ≤ length bytes → length (put_at bytes o piece) ≡ length bytes
-put_long bytes piece o inside =
-    let front = length-append (take o bytes) piece in
-    let kept = length-take-le o bytes (omega arith) in
-    let rest = length-drop (o + length piece) bytes in
-    length-append (take o bytes ++ piece) (drop (o + length piece) bytes) ∙ omega (arith, front, kept, rest)
-
-second : (a b : Bool) → (a && b) ≡ true → b ≡ true
-second true b both = both
-second false b both = cc
+use Rattle.guest_memory.proofs.Keeping.{put_long}
 
 module _ (m : Memory) (actor : ActorId) where
   abbrev IsAsLong : Reply × Memory → Type 0
@@ -33,7 +22,7 @@ module _ (m : Memory) (actor : ActorId) where
       → length (written m actor at piece).bytes ≡ length m.bytes
   written_long at n piece long ram =
       let inside : at - ram_start + n ≤ length m.bytes =
-      leb-true (at - ram_start + n) (length m.bytes) (second (nat_le ram_start at) (nat_le (at - ram_start + n) (length m.bytes)) ram) in
+      leb-true (at - ram_start + n) (length m.bytes) (and_parts (nat_le ram_start at) (nat_le (at - ram_start + n) (length m.bytes)) ram).1 in
       put_long m.bytes piece (at - ram_start) (omega (arith, long, inside))
 
   kept_long : (ram : Bool) (reply : Reply) → IsAsLong (cond ram (reply, m) (Reply.AccessFault, m))

@@ -28,7 +28,6 @@ use Rattle.rv_supervisor.specs.declared.regs.Regs.{Regs}
 use Rattle.rv_supervisor.specs.Start.{start_regs}
 use Rattle.flat_guest.specs.Given.{Event}
 use Rattle.flat_guest.specs.Given.Given.{Nothing}
-use Rattle.hart_trace.specs.Kept.{IsKept, IsReply, IsSmallOp}
 use Rattle.hart_trace.specs.States.{Hart, LeadsTo, fresh, hart_next, hart_wants}
 use Rattle.hart_trace.specs.Stopped.{stopped_regs}
 use Rattle.hart_trace.proofs.Leads.{leads_next}

@@ -1,12 +1,12 @@
 -- What is known of a change that a machine allows.
-use Rattle.std.proofs.Common.{◌≡◌, refl, subst, ◌∙◌, Option, Some, None, Result, Ok, Err}
+use Rattle.std.proofs.Common.{◌≡◌, refl, subst, ◌∙◌, Option, Some, None, Result, Ok}
 use Rattle.refusals.specs.declared.refusal.Refusal.{Refusal}
 use Rattle.serde_json.specs.Data.{Data}
 use Rattle.metadata_store.specs.Store.{patched, put}
 use Rattle.http_stream.specs.declared.request.Next.{Next}
 use Rattle.http_stream.specs.declared.request.Next.TheVariants as next
 use Rattle.http_stream.specs.declared.request.Request.{Request}
-use Rattle.api_calls.specs.Call.{call_of, ◌>>=◌}
+use Rattle.api_calls.specs.Call.{call_of}
 use Rattle.api_calls.specs.declared.call.ApiCall.{ApiCall}
 use Rattle.vm_config.specs.declared.change.Change.{Change}
 use Rattle.vm_config.specs.declared.change.Change.TheVariants as change
@@ -14,6 +14,7 @@ use Rattle.api_rules.specs.Table.{change_of, decision, misplaced, own_refusal, u
 use Rattle.flat_snapshot.specs.Found.{Snapshot, found}
 use Rattle.flat_machine.specs.Machine.{Machine, phase_of}
 use Rattle.flat_machine.specs.Requests.{allowed, by_contents, decided, file_refusal, start_refusal}
+use Rattle.flat_snapshot.proofs.Finds.{both}
 
 -- a call of this change, read from a request, which comes at its time and isn't refused, nor is the change by what it asks of
 -- the files or the metadata
@@ -25,11 +26,6 @@ pub record IsAllowed (m : Machine) (it : Change) : Type 0 where
   pub own : own_refusal (phase_of m) m.config m.ids asked ≡ None
   pub change_is : change_of m.config asked ≡ it
   pub contents : by_contents m it ≡ Ok it
-
--- what came of both came of the first
-pub both : {A B : Type 0} (r : Result A Refusal) (f : A → Result B Refusal) (b : B) → (r >>= f) ≡ Ok b → (a : A) × (r ≡ Ok a) × (f a ≡ Ok b)
-both (Ok a) f b is = (a, refl, is)
-both (Err why) f b is = absurd cc
 
 pub same_change : (a b : Change) → ◌≡◌ {A = Result Change Refusal} (Ok a) (Ok b) → a ≡ b
 same_change a b is = cc

@@ -52,6 +52,7 @@ use Rattle.api_rules.specs.declared.answer.Answer.{Answer}
 use Rattle.api_calls.specs.declared.call.VmState.TheVariants.{Paused, Resumed}
 use Rattle.refusals.specs.declared.refusal.Refusal.{Refusal}
 use Rattle.flat_machine.specs.Run.{Act, Run}
+use Rattle.flat_machine.proofs.Allowed.{same_change}
 
 -- one text and one machine
 abbrev Same : List ℕ → List ℕ → Machine → Machine → Type 0
@@ -130,9 +131,6 @@ result_one (Ok (change.CreateSnapshot it)) m kept n k x y = creates_one m.guest 
 result_one (Ok (change.LoadSnapshot load)) m kept n k x y = loads_one (found m.saved load.files) m load n k x.1 y.1
 result_one (Ok (change.Tell part)) m kept n k x y = x.1 ∙ sym y.1
 result_one (Err why) m kept n k x y = x.1 ∙ sym y.1
-
-same_change : (a b : Change) → ◌≡◌ {A = Result Change Refusal} (Ok a) (Ok b) → a ≡ b
-same_change a b is = cc
 
 fails_one : (it : Change) (m : Machine) (left : Left) (n k : Machine) → Fails m it left n → Fails m it left k → n ≡ k
 fails_one (change.BootSource source) m left n k x y = absurd x

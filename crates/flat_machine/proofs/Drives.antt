@@ -3,7 +3,7 @@ use Rattle.std.proofs.Common.{◌≡◌, ◌≤◌, ℕ, ◌+◌, Bool, true, fa
 use Rattle.std.specs.Prelude.{count_by}
 use Rattle.std.specs.List.{list_all, list_any}
 use Rattle.std.specs.Str.{bytes_eq}
-use Rattle.std.proofs.lemmas.Bool.{and_from, and_parts, le-leb, leb-false, leb-true, not-true}
+use Rattle.std.proofs.lemmas.Bool.{and_from, and_parts, le-leb, leb-false, leb-true, not-true, or_from, or_parts}
 use Rattle.std.proofs.lemmas.List.Folds.{list_all-append, list_any-append}
 use Rattle.std.proofs.lemmas.List.Sums.{sum_by-cons}
 use Rattle.std.proofs.lemmas.Slice.Eq.{bytes_eq-Decides}
@@ -143,13 +143,6 @@ other_way a b nay = by_test (bytes_eq b a) refl
     by_test true same = absurd (let e : true ≡ false = sym ((bytes_eq-Decides a b).1 (sym ((bytes_eq-Decides b a).0 same))) ∙ nay in cc)
     by_test false is = is
 
-or_parts : (a b : Bool) → (a || b) ≡ false → (a ≡ false) × (b ≡ false)
-or_parts true b is = absurd cc
-or_parts false b is = (refl, is)
-
-or_none : (a b : Bool) → a ≡ false → b ≡ false → (a || b) ≡ false
-or_none a b none nor = ap (λ (t : Bool). t || b) none ∙ nor
-
 -- behind drives none of which has its id
 apart_push : (drive : Drive) (drives : List Drive) → list_any (is_named drive.drive_id) drives ≡ false → are_told_apart drives ≡ true
     → are_told_apart (drives ++ drive ∷ []) ≡ true
@@ -159,8 +152,8 @@ apart_push drive (d ∷ drives) none apart =
     let parts = and_parts (not (list_any (is_named d.drive_id) drives)) (are_told_apart drives) apart in
     let own : list_any (is_named d.drive_id) (drives ++ drive ∷ []) ≡ false =
     list_any-append (is_named d.drive_id) drives (drive ∷ [])
-    ∙ or_none (list_any (is_named d.drive_id) drives) (is_named d.drive_id drive || false) (not-true (list_any (is_named d.drive_id) drives) parts.0)
-    (or_none (is_named d.drive_id drive) false (other_way d.drive_id drive.drive_id other.0) refl) in
+    ∙ or_from (list_any (is_named d.drive_id) drives) (is_named d.drive_id drive || false) (not-true (list_any (is_named d.drive_id) drives) parts.0)
+    (or_from (is_named d.drive_id drive) false (other_way d.drive_id drive.drive_id other.0) refl) in
     and_from (not (list_any (is_named d.drive_id) (drives ++ drive ∷ []))) (are_told_apart (drives ++ drive ∷ [])) (ap not own)
     (apart_push drive drives other.1 parts.1)
 

@@ -1,5 +1,5 @@
 -- What a load finds has a number that files can have.
-use Rattle.std.proofs.Common.{◌≡◌, ◌≤◌, ℕ, ◌+◌, ◌==◌, ◌&&◌, Bool, true, nat_lt, if◌then◌else◌, List, length, drop, Option, Some, None, Result, Ok, Err, subst, arith}
+use Rattle.std.proofs.Common.{◌≡◌, ◌≤◌, ℕ, nat_lt, if◌then◌else◌, List, length, drop, Option, Some, None, Result, Ok, Err, subst, arith}
 use Rattle.std.specs.Prelude.{IsTrue}
 use Rattle.std.specs.FinMap.{get}
 use Rattle.std.proofs.lemmas.Bool.{and_parts, ltb-true}
@@ -16,7 +16,7 @@ use Rattle.snap_state.specs.Files as state
 use Rattle.snap_state.specs.Valid.{is_valid}
 use Rattle.flat_snapshot.specs.Found.{Snapshot, found, memory_found, state_found, state_read}
 use Rattle.flat_snapshot.proofs.Finds.{holds, passes}
-use Rattle.flat_machine.proofs.Allowed.{both}
+use Rattle.flat_snapshot.proofs.Finds.{both}
 
 read_numbered : (size : ℕ) (o : Option ((ℕ × (Identity × StateCopy)) × List ℕ)) (s : Identity × StateCopy) → state_read size o ≡ Ok s
     → IsTrue (is_numbered s.0)

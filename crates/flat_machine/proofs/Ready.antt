@@ -75,7 +75,7 @@ use Rattle.flat_machine.proofs.Taken.{allowed_fits, bounded, changed_taken, conf
 
 -- ---- one that is this one
 
-ready_is : (m n : Machine) → n ≡ m → Ready m → Ready n
+pub ready_is : (m n : Machine) → n ≡ m → Ready m → Ready n
 ready_is m n is ready = subst (λ (q : Machine). Ready q) (sym is) ready
 
 pub guest_ready : (m : Machine) (g : Guest) → Ready m → m.guest ≡ Some g → IsReadyGuest m.config m.paused g

@@ -19,7 +19,7 @@ use Rattle.guest_memory.specs.Boot.{Loads, boot_memory, bytes_of_mib, image_fits
 use Rattle.guest_devices.specs.Devices.{FitsNew}
 use Rattle.devtree.proofs.Sizes.{tree_fits}
 use Rattle.flat_machine.specs.Machine.{Machine}
-use Rattle.flat_machine.specs.Requests.{disk_by, disk_of, devices_from, drive_from, file_by, file_with, have_files, image_of, initrd_name, loads_from, place_of, sectors_of, start_refusal}
+use Rattle.flat_machine.specs.Requests.{disk_by, disk_of, devices_from, drive_from, file_by, file_with, have_files, image_of, initrd_name, loads_from, initrd_place, sectors_of, start_refusal}
 use Rattle.flat_machine.proofs.Taken.{IsBounded}
 
 -- ---- memory
@@ -80,7 +80,7 @@ pub booted_size : (config : Config) (image : List ℕ) (disk : Option (List ℕ)
     → length (boot_memory config.machine.mem_size_mib (loads_from config image disk)).bytes ≡ bytes_of_mib config.machine.mem_size_mib
 booted_size config image disk within fit =
     length-booted config.machine.mem_size_mib (loads_from config image disk) fit
-    (tree_fits config (place_of config.machine.mem_size_mib disk) within.args within.harts within.drives)
+    (tree_fits config (initrd_place config.machine.mem_size_mib disk) within.args within.harts within.drives)
 
 -- ---- disks
 

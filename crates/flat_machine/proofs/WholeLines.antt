@@ -1,5 +1,5 @@
 -- Between two lines nothing is due, so that where a host object failed no request of the next line was answered.
-use Rattle.std.proofs.Common.{◌≡◌, Bool, true, false, MatchBool, sym, subst, List, [], ◌∷◌, Option, Some, None, ℕ, inl, inr, refl, length}
+use Rattle.std.proofs.Common.{◌≡◌, sym, subst, List, [], ◌∷◌, Option, Some, None, ℕ, inl, inr, refl, length}
 use Rattle.vm_types.specs.Saved.{Saved}
 use Rattle.vm_outside.specs.Calls.{FileCall}
 use Rattle.vm_types.specs.declared.ids.ActorId.{ActorId}
@@ -25,16 +25,13 @@ use Rattle.flat_machine.specs.Requests.{RequestStep}
 use Rattle.response_form.specs.Responses.{Response}
 use Rattle.flat_machine.specs.Run.{Act, Run}
 use Rattle.flat_machine.specs.Stops.{IsStopped, StopsBy, StopsInside}
+use Rattle.flat_machine.proofs.Between.{by_either}
 
 abbrev Quiet : Machine → Type 0
 Quiet m = IsQuiet m.connection
 
 keeps : {n q : Machine} → n ≡ q → Quiet q → Quiet n
 keeps is quiet = subst (λ (x : Machine). Quiet x) (sym is) quiet
-
-by_either : {A B C : Type 0} (there : Bool) → (A → C) → (B → C) → MatchBool there A B → C
-by_either true some none x = some x
-by_either false some none x = none x
 
 steps_quiet : (guest : Option Guest) (actor : ActorId) (count : ℕ) (m n : Machine) (t : List ℕ)
     → StepsLine guest actor count m t n → Quiet m → Quiet n

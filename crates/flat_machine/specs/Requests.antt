@@ -157,19 +157,20 @@ AnswersBy m (Err why) answer = answer ≡ refused why
 abbrev pub configured : Machine → Change → Machine
 configured m it = record m { config = changed m.config it }
 
--- what it loads: the image, the disk, and the device tree that says where the disk is
-abbrev pub place_of : ℕ → Option (List ℕ) → Option InitrdPlace
-place_of mib None = None
-place_of mib (Some disk) = Some (record {
+-- where the initial RAM disk stands, if there is one
+abbrev pub initrd_place : ℕ → Option (List ℕ) → Option InitrdPlace
+initrd_place mib None = None
+initrd_place mib (Some disk) = Some (record {
   start = initrd_start mib (length disk);
   end = initrd_start mib (length disk) + length disk;
 })
 
+-- what it loads: the image, the disk, and the device tree that says where the disk is
 abbrev pub loads_from : Config → List ℕ → Option (List ℕ) → Loads
 loads_from config image disk = record {
   image = image;
   initrd = disk;
-  tree = tree_bytes config (place_of config.machine.mem_size_mib disk);
+  tree = tree_bytes config (initrd_place config.machine.mem_size_mib disk);
 }
 
 -- how many whole sectors of 512 bytes a file has: the capacity has 64 bits (VIRTIO 1.2, 5.2.4)

@@ -1,12 +1,11 @@
 -- The guest that goes on from a snapshot whose copy passes the tests is ready again.
-use Rattle.std.proofs.Common.{◌≡◌, ◌≤◌, ◌<◌, ℕ, zero, suc, ◌+◌, ◌*◌, ◌%◌, ◌==◌, ◌&&◌, not, nat_le, nat_lt, Bool, true, false, if◌then◌else◌, refl, sym, ap, subst, ◌∙◌, List, [], ◌∷◌, ◌++◌, length, map, Option, Some, None, slice_get, slice_set, arith}
+use Rattle.std.proofs.Common.{◌≡◌, ◌≤◌, ◌<◌, ℕ, zero, suc, ◌+◌, ◌*◌, ◌%◌, ◌==◌, not, nat_le, nat_lt, Bool, true, if◌then◌else◌, refl, sym, ap, subst, ◌∙◌, List, [], ◌∷◌, length, map, Option, Some, None, slice_get, slice_set, arith}
 use Rattle.std.specs.Prelude.{IsTrue, bit_and}
 use Rattle.std.specs.List.{list_all}
 use Rattle.std.proofs.lemmas.Bool.{and_parts, eqb-true, leb-true, ltb-true}
 use Rattle.std.proofs.lemmas.List.{length-map, length-replicate, length-set}
 use Rattle.vm_types.specs.declared.op.Op.{Op}
 use Rattle.vm_types.specs.declared.reply.Reply.{Reply}
-use Rattle.vm_types.specs.declared.entry.Step.{Step}
 use Rattle.vm_types.specs.Fits.{fits}
 use Rattle.le_fields.specs.Fields.{bytes_of}
 use Rattle.board_table.specs.Board.{ring_size}
@@ -32,7 +31,6 @@ use Rattle.snap_harts.specs.declared.hart.SavedHart.{SavedHart}
 use Rattle.snap_harts.specs.declared.hart.HartPlace.{HartPlace}
 use Rattle.snap_harts.specs.declared.hart.HartPlace.TheVariants.{Begin, BeginWaiting, Idle, IdleWaiting, Access}
 use Rattle.snap_harts.specs.Copy.{regs_of, turn_of}
-use Rattle.snap_state.specs.declared.board.SavedBoard.{SavedBoard}
 use Rattle.snap_state.specs.declared.copy.Reservation.{Reservation}
 use Rattle.snap_state.specs.declared.copy.StateCopy.{StateCopy}
 use Rattle.snap_state.specs.Copy.{board_of}
@@ -40,7 +38,7 @@ use Rattle.snap_state.specs.Valid.{asks, has_bits, is_aligned, is_board, is_coun
 use Rattle.snap_state.proofs.HasDevices.{has_parts, kinds_there}
 use Rattle.snap_state.proofs.Rules.{attached, few_harts, rules_of}
 use Rattle.flat_snapshot.specs.Carried.{carried_config, carried_guest, hart_steps, resumed, slots_with, steps_at}
-use Rattle.flat_snapshot.specs.Ready.{IsConfigured, IsReady}
+use Rattle.flat_snapshot.specs.Ready.{IsReady}
 use Rattle.flat_snapshot.proofs.GoesOn.{access_fetches}
 
 -- ---- harts

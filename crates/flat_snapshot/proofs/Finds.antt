@@ -1,8 +1,8 @@
 -- What a load finds: a copy that a state file can have, and all of its pages.
-use Rattle.std.proofs.Common.{◌≡◌, ℕ, ◌+◌, ◌*◌, Bool, true, false, not, ◌&&◌, if◌then◌else◌, List, length, take, drop, length-drop, Option, Some, None, Result, Ok, Err, refl, ap, subst, arith}
+use Rattle.std.proofs.Common.{◌≡◌, ℕ, ◌+◌, ◌*◌, Bool, true, false, not, if◌then◌else◌, List, length, take, drop, length-drop, Option, Some, None, Result, Ok, Err, refl, ap, subst, arith}
 use Rattle.std.specs.Prelude.{IsTrue}
 use Rattle.std.specs.FinMap.{get}
-use Rattle.std.proofs.lemmas.Bool.{eqb-true}
+use Rattle.std.proofs.lemmas.Bool.{eqb-true, and_parts}
 use Rattle.vm_types.specs.Saved.{Saved}
 use Rattle.vm_types.specs.declared.identity.Identity.{Identity}
 use Rattle.refusals.specs.declared.refusal.Refusal.{Refusal}
@@ -32,12 +32,8 @@ pub holds : {A : Type 0} (b : Bool) (why : Refusal) (r : Result A Refusal) (v : 
 holds true why r v is = (refl, is)
 holds false why r v is = absurd cc
 
-and_right : (a b : Bool) → (a && b) ≡ true → b ≡ true
-and_right true b is = is
-and_right false b is = absurd cc
-
 -- what came of both came of the first
-both : {A B : Type 0} (r : Result A Refusal) (f : A → Result B Refusal) (v : B) → (r >>= f) ≡ Ok v → (a : A) × (r ≡ Ok a) × (f a ≡ Ok v)
+pub both : {A B : Type 0} (r : Result A Refusal) (f : A → Result B Refusal) (v : B) → (r >>= f) ≡ Ok v → (a : A) × (r ≡ Ok a) × (f a ≡ Ok v)
 both (Ok a) f v is = (a, refl, is)
 both (Err why) f v is = absurd cc
 
@@ -48,7 +44,7 @@ read_valid size None s is = absurd cc
 read_valid size (Some read) s is =
     let one = holds (state.is_accepted size (length read.1) read.0.0 read.0.1.0 read.0.1.1) refusal.BadField (Ok read.0.1) s is in
     let same : read.0.1 ≡ s = let e = one.1 in cc in
-    subst (λ (x : Identity × StateCopy). IsTrue (is_valid x.1)) same (and_right _ (is_valid read.0.1.1) one.0)
+    subst (λ (x : Identity × StateCopy). IsTrue (is_valid x.1)) same (and_parts _ (is_valid read.0.1.1) one.0).1
 
 state_valid : (o : Option (List ℕ)) (s : Identity × StateCopy) → state_found o ≡ Ok s → IsTrue (is_valid s.1)
 state_valid None s is = absurd cc
@@ -64,7 +60,7 @@ judged_size : (i : Identity) (pages size : ℕ) (h : MemHeader) → memory_judge
 judged_size i pages size h is =
     let one = passes _ _ _ tt is in
     let two = passes _ _ _ tt one.1 in
-    eqb-true size (4096 + page_size * pages) (and_right _ _ (not_false _ two.0))
+    eqb-true size (4096 + page_size * pages) (and_parts _ _ (not_false _ two.0)).1
 
 read_size : (i : Identity) (pages size : ℕ) (o : Option (MemHeader × List ℕ)) → memory_read i pages size o ≡ Ok tt → size ≡ 4096 + page_size * pages
 read_size i pages size None is = absurd cc

@@ -26,7 +26,7 @@ use Rattle.snap_state.specs.Copies.{state_copy}
 use Rattle.snap_state.specs.Files as state
 use Rattle.snap_state.proofs.Copies as copies
 use Rattle.flat_snapshot.specs.Files.{memory_file, memory_head, state_body, state_file}
-use Rattle.flat_snapshot.specs.Found.{found, memory_found, memory_front, memory_in, memory_judged, memory_read, state_found, state_in, state_read}
+use Rattle.flat_snapshot.specs.Found.{found, memory_found, memory_front, pages_in, memory_judged, memory_read, state_found, state_in, state_read}
 
 all_true : (a b c : Bool) → a ≡ true → b ≡ true → c ≡ true → (a && b && c) ≡ true
 all_true a b c p q r = rw (p, q, r) refl
@@ -87,7 +87,7 @@ module _ (i : Identity) (pages size : ℕ) (front : List ℕ) (h : MemHeader) (b
       ∙ ap (λ r. memory_read i pages size r) reads_header
       ∙ ap (λ (t : Bool). if t then memory_judged i pages size h else Err refusal.BadField) b.valid
 
-same_when : (a b : Identity) → is_same a b ≡ true → a ≡ b
+pub same_when : (a b : Identity) → is_same a b ≡ true → a ≡ b
 same_when a b e =
     let parts = and_parts (eqb a.lineage b.lineage) (eqb a.number b.number) e in
     λ i. record { lineage = eqb-true a.lineage b.lineage parts.0 i; number = eqb-true a.number b.number parts.1 i }
@@ -129,7 +129,7 @@ module _ (pages : ℕ) (bytes given : List ℕ) (h : MemHeader) (fits : memory.h
         else (if not (is_same (memory.identity_of h) asked) then Err refusal.ParentDiffers else Ok tt)) (eq-eqb _ _ size_is)
 
     found_by : (same : Bool) → is_same (memory.identity_of h) asked ≡ same
-        → memory_in asked pages given ≡ (if not same then Err refusal.ParentDiffers else Ok bytes)
+        → pages_in asked pages given ≡ (if not same then Err refusal.ParentDiffers else Ok bytes)
     found_by true is =
         ap (λ (r : Result (Unit {0}) Refusal). r >>= λ _. Ok (drop 4096 given))
         (front_of_header asked pages (length given) (take 4096 given) h begins ∙ judged
@@ -140,10 +140,10 @@ module _ (pages : ℕ) (bytes given : List ℕ) (h : MemHeader) (fits : memory.h
         (front_of_header asked pages (length given) (take 4096 given) h begins ∙ judged
         ∙ ap (λ (t : Bool). if not t then Err refusal.ParentDiffers else Ok tt) is)
 
-    memory_again : memory.identity_of h ≡ asked → memory_in asked pages given ≡ Ok bytes
+    memory_again : memory.identity_of h ≡ asked → pages_in asked pages given ≡ Ok bytes
     memory_again is = found_by true (ap (λ (i : Identity). is_same i asked) is ∙ same_identity asked)
 
-    memory_other : memory.identity_of h ≢ asked → memory_in asked pages given ≡ Err refusal.ParentDiffers
+    memory_other : memory.identity_of h ≢ asked → pages_in asked pages given ≡ Err refusal.ParentDiffers
     memory_other differ = found_by false (false_from_ne_true (is_same (memory.identity_of h) asked) (λ e. differ (same_when (memory.identity_of h) asked e)))
 
 -- ---- both
@@ -154,7 +154,7 @@ module _ (saved : Saved) (files : SnapshotFiles) (i : Identity) (c : StateCopy) 
     (settled : h.merging ≡ 0) (count : h.pages ≡ c.pages) (whole : length bytes ≡ page_size * c.pages)
     (given_is : given ≡ memory.header.bytes h ++ bytes)
     (state_there : get saved files.snapshot_path ≡ Some text) (memory_there : get saved files.mem_file_path ≡ Some given) where
-  found_as : found saved files ≡ (memory_in i c.pages given >>= λ b. Ok (record { identity = i; copy = c; bytes = b }))
+  found_as : found saved files ≡ (pages_in i c.pages given >>= λ b. Ok (record { identity = i; copy = c; bytes = b }))
   unfolding found
   found_as =
       ap (λ (o : Option (List ℕ)). state_found o >>= λ s. memory_found s.0 s.1.pages (get saved files.mem_file_path) >>= λ b. Ok (record { identity = s.0; copy = s.1; bytes = b })) state_there

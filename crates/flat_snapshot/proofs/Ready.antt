@@ -1,13 +1,12 @@
 -- Each copy of a guest that is ready passes the tests of a state file.
-use Rattle.std.proofs.Common.{◌≡◌, ◌≤◌, ◌<◌, ◌^◌, ℕ, zero, suc, ◌+◌, ◌*◌, ◌/◌, ◌%◌, ◌==◌, ◌&&◌, ◌||◌, not, nat_le, nat_lt, Bool, true, false, if◌then◌else◌, refl, sym, ap, subst, ◌∙◌, List, [], ◌∷◌, length, map, Option, Some, None, slice_get, arith}
+use Rattle.std.proofs.Common.{◌≡◌, ◌≤◌, ◌<◌, ◌^◌, ℕ, suc, ◌+◌, ◌*◌, ◌/◌, ◌%◌, ◌==◌, ◌&&◌, ◌||◌, not, nat_le, nat_lt, Bool, true, false, if◌then◌else◌, refl, sym, ap, subst, ◌∙◌, List, [], ◌∷◌, length, map, Option, Some, None, slice_get, arith}
 use Rattle.std.specs.Prelude.{is_some, bit_and}
 use Rattle.std.specs.List.{list_all}
-use Rattle.std.proofs.lemmas.Bool.{eq-eqb, le-leb, lt-ltb, ltb-false}
+use Rattle.std.proofs.lemmas.Bool.{eq-eqb, le-leb, lt-ltb, ltb-false, and_from}
 use Rattle.std.proofs.lemmas.List.{length-map}
 use Rattle.vm_types.specs.declared.ids.ActorId.{ActorId}
 use Rattle.vm_types.specs.declared.ids.ActorId.TheVariants.{Hart as HartId}
 use Rattle.vm_types.specs.declared.entry.Step.{Step}
-use Rattle.api_calls.specs.declared.call.MachineConfig.{MachineConfig}
 use Rattle.vm_config.specs.declared.config.Config.{Config}
 use Rattle.board_table.specs.Board.{Board, ring_size}
 use Rattle.board_table.specs.Kept.{IsLong}
@@ -23,7 +22,7 @@ use Rattle.hart_trace.specs.Kept.{IsAsking, IsHeld, IsShaped}
 use Rattle.hart_trace.specs.States.{Hart, LeadsTo}
 use Rattle.hart_trace.specs.Traces.{executes}
 use Rattle.guest_devices.specs.declared.device.Device.{Device}
-use Rattle.guest_devices.specs.Devices.{DeviceLeads, DeviceLeft, FlatDevice}
+use Rattle.guest_devices.specs.Devices.{DeviceLeads, FlatDevice}
 use Rattle.guest_devices.specs.Kept.{device_left, device_pages, device_port, is_kept}
 use Rattle.guest_devices.specs.Sound.{IsSoundDevice}
 use Rattle.guest_devices.proofs.Follows.{one_left}
@@ -37,18 +36,13 @@ use Rattle.flat_guest.proofs.Shaped.{shaped_reset}
 use Rattle.snap_harts.specs.declared.hart.SavedHart.{SavedHart}
 use Rattle.snap_harts.specs.Copy.{is_due, place_of, regs_of, saved_hart}
 use Rattle.snap_harts.proofs.Harts.{hart_back}
-use Rattle.snap_state.specs.declared.copy.Reservation.{Reservation}
 use Rattle.snap_state.specs.declared.copy.StateCopy.{StateCopy}
 use Rattle.snap_state.specs.Copy.{saved_board}
 use Rattle.snap_state.proofs.HasDevices.{has_kinds}
 use Rattle.snap_state.specs.Valid.{are_devices, asks, has_bits, has_devices, has_machine, is_aligned, is_before, is_board, is_counted, is_device, is_granule, is_hart, is_machine, is_placed, is_reserved, is_rising, is_valid, rises_from}
-use Rattle.snap_state.proofs.Rules.{Rules, rules_hold}
+use Rattle.snap_state.proofs.Rules.{rules_hold}
 use Rattle.flat_snapshot.specs.Copies.{AreHarts, AreKept, IsCopyOf, copy_of, reservations_from}
-use Rattle.flat_snapshot.specs.Ready.{IsConfigured, IsReady}
-
-all : (a b : Bool) → a ≡ true → b ≡ true → (a && b) ≡ true
-all true b first second = second
-all false b first second = cc
+use Rattle.flat_snapshot.specs.Ready.{IsReady}
 
 -- ---- a hart
 
@@ -60,7 +54,7 @@ status_again true true = refl
 
 held_is : (pages : ℕ) (held : Option ℕ) → IsHeld (page_size * pages) held → is_granule pages held ≡ true
 held_is pages None is = refl
-held_is pages (Some at) is = all (at % 8 == 0) (is_ram (page_size * pages) at 8) (eq-eqb (at % 8) 0 is.0) is.1
+held_is pages (Some at) is = and_from (at % 8 == 0) (is_ram (page_size * pages) at 8) (eq-eqb (at % 8) 0 is.0) is.1
 
 fetch_placed : (t : Turn) → t ≡ turn.Fetch → not (is_due t) ≡ true
 fetch_placed t fetches = ap (λ (u : Turn). not (is_due u)) fetches
@@ -92,17 +86,17 @@ hart_valid pages h is =
     let fetches = by_fetch h.begun h.regs is.begun in
     let same : regs_of s ≡ h.regs = ap (λ (q : Hart). q.regs) (hart_back h fetches) in
     let counted : is_counted s ≡ true =
-    all (nat_le 1 h.regs.count) (nat_le h.regs.count 32) (le-leb 1 h.regs.count is.regs.0) (le-leb h.regs.count 32 is.regs.1) in
+    and_from (nat_le 1 h.regs.count) (nat_le h.regs.count 32) (le-leb 1 h.regs.count is.regs.0) (le-leb h.regs.count 32 is.regs.1) in
     let aligned : is_aligned s ≡ true =
-    all _ (h.regs.stvec % 4 == 0)
-    (all (h.regs.pc % 4 == 0) (h.regs.sepc % 4 == 0) (eq-eqb (h.regs.pc % 4) 0 is.aligned.0) (eq-eqb (h.regs.sepc % 4) 0 is.aligned.2))
+    and_from _ (h.regs.stvec % 4 == 0)
+    (and_from (h.regs.pc % 4 == 0) (h.regs.sepc % 4 == 0) (eq-eqb (h.regs.pc % 4) 0 is.aligned.0) (eq-eqb (h.regs.sepc % 4) 0 is.aligned.2))
     (eq-eqb (h.regs.stvec % 4) 0 is.aligned.1) in
     let bits : has_bits s ≡ true =
-    all (bit_and h.regs.sie interrupts == h.regs.sie) _ (eq-eqb (bit_and h.regs.sie interrupts) h.regs.sie is.regs.2)
+    and_from (bit_and h.regs.sie interrupts == h.regs.sie) _ (eq-eqb (bit_and h.regs.sie interrupts) h.regs.sie is.regs.2)
     (status_again h.regs.status_sie h.regs.status_spie) in
-    all _ (asks s.place (regs_of s))
-    (all _ (is_placed s.is_look_due s.place)
-    (all _ (is_granule pages s.held) (all _ (has_bits s) (all (is_counted s) (is_aligned s) counted aligned) bits)
+    and_from _ (asks s.place (regs_of s))
+    (and_from _ (is_placed s.is_look_due s.place)
+    (and_from _ (is_granule pages s.held) (and_from _ (has_bits s) (and_from (is_counted s) (is_aligned s) counted aligned) bits)
     (held_is pages h.regs.held is.regs.3)) (placed h.begun h.regs.turn fetches))
     (asking h.begun h.regs.turn h.regs (regs_of s) same is.begun)
 
@@ -119,7 +113,7 @@ harts_valid pages (start ∷ starts) k steps harts (h, rest, is, leads, more) ea
     let on : suc k + i ≡ k + suc i = omega arith in
     each (suc i) next q there (subst (λ (n : ℕ). LeadsTo next (steps (HartId n)) q) on to)) in
     ap (λ (l : List Hart). list_all (is_hart pages) (map saved_hart l)) is
-    ∙ all (is_hart pages (saved_hart h)) (list_all (is_hart pages) (map saved_hart rest)) (hart_valid pages h first) others
+    ∙ and_from (is_hart pages (saved_hart h)) (list_all (is_hart pages) (map saved_hart rest)) (hart_valid pages h first) others
 
 many_harts : (starts : List Regs) (k : ℕ) (steps : ActorId → List Step) (harts : List Hart) → AreHarts k starts steps harts
     → length harts ≡ length starts
@@ -132,9 +126,9 @@ many_harts (start ∷ starts) k steps harts (h, rest, is, leads, more) =
 slot_valid : (pages harts slot offset : ℕ) → slot < hart_limit * pages → slot % hart_limit < harts → offset < page_size → offset % 8 ≡ 0
     → is_reserved pages harts (record { page = slot / hart_limit; hart = slot % hart_limit; offset = offset }) ≡ true
 slot_valid pages harts slot offset below there small whole =
-    all _ (offset % 8 == 0)
-    (all _ (nat_lt offset page_size)
-    (all (nat_lt (slot / hart_limit) pages) (nat_lt (slot % hart_limit) harts) (lt-ltb (slot / hart_limit) pages (omega (arith, below)))
+    and_from _ (offset % 8 == 0)
+    (and_from _ (nat_lt offset page_size)
+    (and_from (nat_lt (slot / hart_limit) pages) (nat_lt (slot % hart_limit) harts) (lt-ltb (slot / hart_limit) pages (omega (arith, below)))
     (lt-ltb (slot % hart_limit) harts there)) (lt-ltb offset page_size small)) (eq-eqb (offset % 8) 0 whole)
 
 reserved_valid : (pages harts slot : ℕ) (slots : List (Option ℕ)) → AreSlots harts slot slots → slot + length slots ≤ hart_limit * pages
@@ -143,14 +137,14 @@ reserved_valid pages harts slot [] are inside = refl
 reserved_valid pages harts slot (None ∷ slots) are inside =
     reserved_valid pages harts (suc slot) slots are.1 (omega (arith, inside))
 reserved_valid pages harts slot (Some offset ∷ slots) are inside =
-    all (is_reserved pages harts (record { page = slot / hart_limit; hart = slot % hart_limit; offset = offset }))
+    and_from (is_reserved pages harts (record { page = slot / hart_limit; hart = slot % hart_limit; offset = offset }))
     (list_all (is_reserved pages harts) (reservations_from (suc slot) slots))
     (slot_valid pages harts slot offset (omega (arith, inside)) are.0.0 are.0.1 are.0.2)
     (reserved_valid pages harts (suc slot) slots are.1 (omega (arith, inside)))
 
 before_by : (first second third : Bool) → (first ≡ false → (second ≡ true) × (third ≡ true)) → (first || (second && third)) ≡ true
 before_by true second third other = refl
-before_by false second third other = let both = other refl in all second third both.0 both.1
+before_by false second third other = let both = other refl in and_from second third both.0 both.1
 
 before_slot : (page hart slot offset other : ℕ) → hart_limit * page + hart < slot → hart < hart_limit
     → is_before (record { page = page; hart = hart; offset = offset })
@@ -168,7 +162,7 @@ rises page hart slot offset [] lower few = refl
 rises page hart slot offset (None ∷ slots) lower few = rises page hart (suc slot) offset slots (omega (arith, lower)) few
 rises page hart slot offset (Some other ∷ slots) lower few =
     let next : hart_limit * (slot / hart_limit) + slot % hart_limit < suc slot = omega arith in
-    all (is_before (record { page = page; hart = hart; offset = offset }) (record { page = slot / hart_limit; hart = slot % hart_limit; offset = other }))
+    and_from (is_before (record { page = page; hart = hart; offset = offset }) (record { page = slot / hart_limit; hart = slot % hart_limit; offset = other }))
     (rises_from (record { page = slot / hart_limit; hart = slot % hart_limit; offset = other }) (reservations_from (suc slot) slots))
     (before_slot page hart slot offset other lower few)
     (rises (slot / hart_limit) (slot % hart_limit) (suc slot) other slots next (omega arith))
@@ -187,8 +181,8 @@ device_valid : (pages port : ℕ) (it : Device) (d : FlatDevice) → pages ≤ 2
 device_valid pages port it d few sound leads kept =
     let own = copied port pages d few sound in
     let same = placed_alike it own.0 kept (bounded_kept own.0 own.2 own.3) (one_left d (device_left it) (device_left own.0) leads own.1) in
-    all _ (is_kept it)
-    (all (device_port it == port) (device_pages it == pages) (eq-eqb (device_port it) port (same.0 ∙ own.4))
+    and_from _ (is_kept it)
+    (and_from (device_port it == port) (device_pages it == pages) (eq-eqb (device_port it) port (same.0 ∙ own.4))
     (eq-eqb (device_pages it) pages (same.1 ∙ own.5))) kept
 
 devices_valid : (pages port : ℕ) (kept : List Device) (devices : List FlatDevice) → pages ≤ 2 ^ 20 → AreKept kept devices
@@ -199,7 +193,7 @@ devices_valid pages port [] (d ∷ devices) few are each = refl
 devices_valid pages port (it ∷ kept) [] few are each = absurd are
 devices_valid pages port (it ∷ kept) (d ∷ devices) few are each =
     let here : port + 0 ≡ port = omega arith in
-    all (is_device pages port it) (are_devices pages (suc port) kept)
+    and_from (is_device pages port it) (are_devices pages (suc port) kept)
     (device_valid pages port it d few (subst (λ (n : ℕ). IsSoundDevice n pages d) here (each 0 d refl)) are.0 are.1)
     (devices_valid pages (suc port) kept devices few are.2
     (λ i next there.
@@ -216,10 +210,10 @@ many_kept (it ∷ kept) (d ∷ devices) are = ap suc (many_kept kept devices are
 
 board_valid : (harts : ℕ) (b : Board) → IsLong harts b → is_board harts (saved_board b) ≡ true
 board_valid harts b is =
-    all _ (nat_le (length b.console) ring_size)
-    (all _ (length b.states == harts)
-    (all _ (length b.deadlines == harts)
-    (all (length b.enables == harts) (length b.software == harts) (eq-eqb (length b.enables) harts is.many_enables)
+    and_from _ (nat_le (length b.console) ring_size)
+    (and_from _ (length b.states == harts)
+    (and_from _ (length b.deadlines == harts)
+    (and_from (length b.enables == harts) (length b.software == harts) (eq-eqb (length b.enables) harts is.many_enables)
     (eq-eqb (length b.software) harts is.many_software)) (eq-eqb (length b.deadlines) harts is.many_deadlines))
     (eq-eqb (length b.states) harts is.many_states)) (le-leb (length b.console) ring_size is.console)
 
@@ -267,8 +261,8 @@ module _ (config : Config) (g : Guest) (sound : IsSound g) (is : IsReady config 
 
   machine_is : has_machine copy config.machine ≡ true
   machine_is =
-      all _ (if config.machine.track_dirty_pages then config.machine.track_dirty_pages else not config.machine.track_dirty_pages)
-      (all (is_machine config.machine) (copy.pages == wanted) is.configured.machine (eq-eqb copy.pages wanted pages_are))
+      and_from _ (if config.machine.track_dirty_pages then config.machine.track_dirty_pages else not config.machine.track_dirty_pages)
+      (and_from (is_machine config.machine) (copy.pages == wanted) is.configured.machine (eq-eqb copy.pages wanted pages_are))
       (tracks config.machine.track_dirty_pages)
 
   many_are : (length (map saved_hart harts) == config.machine.vcpu_count) ≡ true

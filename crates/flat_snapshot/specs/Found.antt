@@ -64,14 +64,15 @@ memory_front identity pages size front =
     else (if is_other memory.magic front then Err refusal.WrongMagic
     else memory_read identity pages size (memory.header.reads front))
 
-abbrev pub memory_in : Identity → ℕ → List ℕ → Result (List ℕ) Refusal
-memory_in identity pages given = do
+-- what stands behind the header of a file that is this memory's
+abbrev pub pages_in : Identity → ℕ → List ℕ → Result (List ℕ) Refusal
+pages_in identity pages given = do
   _ ← memory_front identity pages (length given) (take 4096 given)
   Ok (drop 4096 given)
 
 abbrev pub memory_found : Identity → ℕ → Option (List ℕ) → Result (List ℕ) Refusal
 memory_found identity pages None = Err refusal.NoSuchFile
-memory_found identity pages (Some given) = memory_in identity pages given
+memory_found identity pages (Some given) = pages_in identity pages given
 
 -- ---- both: the state file is looked at first
 

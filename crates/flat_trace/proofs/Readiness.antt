@@ -1,5 +1,5 @@
 -- A machine that is ready stays so over a trace.
-use Rattle.std.proofs.Common.{◌≡◌, ℕ, Bool, true, false, refl, sym, subst, List, [], ◌∷◌, Option, Some, None}
+use Rattle.std.proofs.Common.{◌≡◌, ℕ, Bool, true, false, refl, sym, List, [], ◌∷◌, Option, Some, None}
 use Rattle.vm_types.specs.declared.ids.ActorId.{ActorId}
 use Rattle.vm_types.specs.declared.reply.Reply.{Reply}
 use Rattle.flat_guest.specs.Given.{Given}
@@ -13,11 +13,8 @@ use Rattle.flat_machine.specs.Machine.{Machine, console_of, is_off, running_by}
 use Rattle.flat_machine.specs.Outcome.{Outcome}
 use Rattle.flat_machine.specs.Ready.{Ready, ReadyBy}
 use Rattle.flat_machine.specs.Run.{Act}
-use Rattle.flat_machine.proofs.Ready.{event_ready, item_ready}
+use Rattle.flat_machine.proofs.Ready.{event_ready, item_ready, ready_is}
 use Rattle.flat_trace.specs.Showing.{HasEvent, Hears, Out, Run, TraceStep}
-
-ready_is : (m n : Machine) → n ≡ m → Ready m → Ready n
-ready_is m n is ready = subst (λ (q : Machine). Ready q) (sym is) ready
 
 event_kept : (guest : Option Guest) (paused : Bool) (actor : ActorId) (given : Given) (m n : Machine) → Ready m
     → ReadyBy m.config paused guest → m.paused ≡ paused → HasEvent (running_by guest paused) actor given m n → Ready n

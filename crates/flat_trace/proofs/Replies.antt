@@ -1,5 +1,5 @@
 -- What a host object answered is what a script's line of it gives.
-use Rattle.std.proofs.Common.{◌≡◌, ◌≤◌, ℕ, Bool, true, false, refl, sym, ◌∙◌, List, length, Option, Some, None, if◌then◌else◌, arith}
+use Rattle.std.proofs.Common.{◌≡◌, ◌≤◌, ℕ, Bool, true, false, refl, sym, ◌∙◌, List, length, if◌then◌else◌, arith}
 use Rattle.std.specs.Prelude.{nat_le}
 use Rattle.std.proofs.lemmas.Bool.{and_parts}
 use Rattle.vm_types.specs.Fits.{out_fits}
@@ -8,7 +8,6 @@ use Rattle.vm_types.specs.declared.op.OutOp.TheVariants as out
 use Rattle.vm_types.specs.declared.port_look.PortLook.{PortLook}
 use Rattle.vm_types.specs.declared.reply.Reply.{Reply}
 use Rattle.vm_types.specs.declared.reply.Shown.{Shown}
-use Rattle.script_text.specs.declared.item.HostReply.{HostReply}
 use Rattle.script_text.specs.declared.item.HostReply.TheVariants as given
 use Rattle.flat_guest.specs.Given.Given.{Host, Nothing}
 use Rattle.flat_machine.specs.Given.{reply_given}

@@ -3,40 +3,20 @@ use Rattle.std.proofs.Common.{◌≡◌, ◌≢◌, ℕ, Bool, true, false, cond
 use Rattle.std.proofs.lemmas.Slice.Eq.{bytes_eq-Decides}
 use Rattle.std.specs.Ordering.{nat_cmp, eq_by_cmp}
 use Rattle.std.specs.Cmp.Lexicographic.{slice_cmp, nat_list_cmp_total}
-use Rattle.std.specs.FinMap.{get, insert, same_map, get-insert, slice_cmp-IsAntisymmetric, nat_cmp-IsAntisymmetric}
+use Rattle.std.specs.FinMap.{get, insert, same_map, slice_cmp-IsAntisymmetric, nat_cmp-IsAntisymmetric}
 use Rattle.std.proofs.lemmas.Map.Text.{is_eq-slice_cmp}
-use Rattle.std.specs.Str.{bytes_eq}
 use Rattle.vm_types.specs.Saved.{Saved, SameOthers}
-
-not_so : (b : Bool) → (b ≡ true → ⊥) → b ≡ false
-not_so true never = absurd (never refl)
-not_so false never = refl
+use Rattle.vm_outside.proofs.Imaging.{got}
+pub use Rattle.vm_outside.proofs.Imaging.{got_other, got_there}
 
 abbrev is_name : List ℕ → List ℕ → Bool
 is_name a b = eq_by_cmp (slice_cmp nat_cmp) a b
-
-same_name : (name : List ℕ) → is_name name name ≡ true
-same_name name = is_eq-slice_cmp name name ∙ (bytes_eq-Decides name name).1 refl
-
-other_name : (name other : List ℕ) → other ≢ name → is_name other name ≡ false
-other_name name other differs =
-    is_eq-slice_cmp other name ∙ not_so (bytes_eq other name) (λ same. differs ((bytes_eq-Decides other name).0 same))
 
 name_is : (a b : List ℕ) → is_name a b ≡ true → a ≡ b
 name_is a b is = (bytes_eq-Decides a b).0 (sym (is_eq-slice_cmp a b) ∙ is)
 
 pub same_saved : (m n : Saved) → ((q : List ℕ) → get m q ≡ get n q) → m ≡ n
 same_saved m n same = same_map nat_list_cmp_total (slice_cmp-IsAntisymmetric nat_cmp-IsAntisymmetric) m n same
-
-got : (m : Saved) (name text q : List ℕ) → get (insert m name text) q ≡ cond (is_name q name) (Some text) (get m q)
-got m name text q = get-insert nat_list_cmp_total m name text q
-
-pub got_there : (m : Saved) (name text : List ℕ) → get (insert m name text) name ≡ Some text
-got_there m name text = got m name text name ∙ ap (λ (b : Bool). cond b (Some text) (get m name)) (same_name name)
-
-pub got_other : (m : Saved) (name text other : List ℕ) → other ≢ name → get (insert m name text) other ≡ get m other
-got_other m name text other differs =
-    got m name text other ∙ ap (λ (b : Bool). cond b (Some text) (get m other)) (other_name name other differs)
 
 pub inserted_others : (old new : Saved) (name text : List ℕ) → new ≡ insert old name text → SameOthers old name new
 inserted_others old new name text is other differs = ap (λ (m : Saved). get m other) is ∙ got_other old name text other differs

@@ -6,6 +6,7 @@ use Rattle.vm_outside.specs.Crashes.{Disk, Images, IsBytes, Left, LeftBy, NoFile
 use Rattle.vm_types.specs.Saved.{written}
 use Rattle.gate_file.specs.Gate.{write_calls}
 use Rattle.gate_file.specs.Stages.{AllInside, AreInside, AreOfBytes, IsLeft, calls_of, stage_calls, text_after, written_all, Moment}
+pub use Rattle.vm_outside.proofs.Imaging.{left_both}
 use Rattle.gate_file.proofs.Tearing.{Keeps, Misses, kept_is_torn, length-put, torn_more, Write, written_put}
 
 abbrev pub Step : FileCall → (Disk → Type 0) → Disk → Type 0
@@ -14,10 +15,6 @@ Step call before d = (old : Disk) × before old × LeftBy call old d
 pub left_then : (before : Disk → Type 0) (a b : List FileCall) (d : Disk) → Left before (a ++ b) d → Left (Left before a) b d
 left_then before [] b d left = left
 left_then before (c ∷ a) b d left = left_then (Step c before) a b d left
-
-pub left_both : (before : Disk → Type 0) (a b : List FileCall) (d : Disk) → Left (Left before a) b d → Left before (a ++ b) d
-left_both before [] b d left = left
-left_both before (c ∷ a) b d left = left_both (Step c before) a b d left
 
 length-written : (writes : List Write) (text : List ℕ) → AreInside (length text) writes → length (written_all writes text) ≡ length text
 length-written [] text inside = refl

@@ -1,6 +1,5 @@
 // Bytes of a file.
 ghost use Rattle.std.specs.Prelude.{◌≡◌, length, replicate, IfOk};
-ghost use Rattle.std.specs.Option.{option_map};
 ghost use Rattle.std.specs.FinMap.{get};
 ghost use Rattle.gate_file.specs.Reading.{FileCause};
 ghost use Rattle.vm_outside.specs.Filing.{IsReadAt, SameFiles};
@@ -34,30 +33,6 @@ pub fn read_front<F: Files>(
         return Err(FileError::Fault);
     };
     Ok(bytes)
-}
-
-/// All of the file of this name, where there is one.
-pub fn read_file<F: Files>(
-    alloc: Global,
-    files: &mut F,
-    name: &str,
-) -> Result<Option<Vec<u8>>, FileError>
-    ensures found { IfOk result (λ found. Tells (F.known files.old).health →
-        option_map (λ bytes. bytes.items) found ≡ get (F.known files.old).saved name.now) }
-    ensures same { Tells (F.known files.old).health → SameFiles (F.known files.old) (F.known files.new) }
-    ensures cause { FileCause result (F.known files.old).health.faults (F.known files.new).health.faults }
-    ensures lasts { Lasts (F.known files.old).health (F.known files.new).health }
-{
-    let Ok(size) = files.size(name) else {
-        return Err(FileError::Fault);
-    };
-    let Some(len) = size else {
-        return Ok(None);
-    };
-    match read_front(alloc, files, name, len) {
-        Ok(bytes) => Ok(Some(bytes)),
-        Err(why) => Err(why),
-    }
 }
 
 /// So many zeros.

@@ -196,16 +196,6 @@ impl Hart {
     {
         self.step(reply);
     }
-
-    /// The hart goes on by a reply in few bytes; one that doesn't fit what it wants leaves it.
-    #[inline]
-    pub fn takes(&mut self, reply: HartReply)
-        ensures { self.new ≡ hart_next self.old (reply_of reply) }
-    {
-        if self.asks().is_fit(&reply) {
-            self.step(reply);
-        }
-    }
 }
 
 impl Actor for Hart {

@@ -1,5 +1,5 @@
 -- What a machine shows, and that showing it changes nothing.
-use Rattle.std.proofs.Common.{◌≡◌, ℕ, Bool, true, false, MatchBool, subst, List, ◌++◌, codes, Option, Some, None, length}
+use Rattle.std.proofs.Common.{◌≡◌, ℕ, subst, List, ◌++◌, codes, Option, Some, None, length}
 use Rattle.vm_types.specs.declared.ids.ActorId.TheVariants.{Hart}
 use Rattle.guest_memory.specs.Ram.{is_ram}
 use Rattle.script_text.specs.declared.item.Item.TheVariants as item
@@ -11,10 +11,7 @@ use Rattle.monitor_core.specs.declared.monitor.Monitor.{Monitor}
 use Rattle.monitor_core.specs.Going.{ItemGoes}
 use Rattle.monitor_core.specs.State.{IsMonitor}
 use Rattle.load_run.specs.Line.{Shows, number_said, said, word_address}
-
-by_either : {A B C : Type 0} (there : Bool) → (A → C) → (B → C) → MatchBool there A B → C
-by_either true some none x = some x
-by_either false some none x = none x
+use Rattle.flat_machine.proofs.Between.{by_either}
 
 register_same : (guest : Option Guest) (hart number : ℕ) (m n : Machine) (text : List ℕ) → RegisterLine guest hart number m text n → n ≡ m
 register_same None hart number m n text x = x.1

@@ -1,8 +1,9 @@
 -- The keys of a text by its first `/`.
-use Rattle.std.proofs.Common.{◌≡◌, ℕ, suc, ◌+◌, ◌<◌, Bool, true, false, cond, not, ◌==◌, List, [], ◌∷◌, length, take, drop, Option, Some, None, option_and_then, option_map, IfSome, Ordering, Less, Equal, Greater, nat_cmp, refl, sym, ap, ◌∙◌, arith, true≢false, ◌||◌, length-take, eqb-true, Bor}
+use Rattle.std.proofs.Common.{◌≡◌, ℕ, suc, ◌+◌, ◌<◌, Bool, true, false, cond, not, ◌==◌, List, [], ◌∷◌, length, take, drop, Option, Some, None, option_and_then, option_map, IfSome, Ordering, Less, Equal, Greater, nat_cmp, refl, sym, ap, ◌∙◌, arith, true≢false, length-take, eqb-true, Bor}
 use Rattle.std.specs.Cmp.Lexicographic.{slice_cmp}
 use Rattle.std.specs.List.{before_first, after_first, position_or_len}
 use Rattle.std.specs.Ordering.{match_ordering}
+use Rattle.std.proofs.lemmas.Bool.{or_parts}
 use Rattle.serde_json.specs.Data.{Data, null, boolean, number, string, array, object, Members, no_members, member}
 use Rattle.serde_json.specs.Find.{get, get_member}
 use Rattle.serde_json.specs.View.{view}
@@ -117,14 +118,10 @@ found_by Less e d p q = q
 found_by Equal e d p q = p
 found_by Greater e d p q = q
 
-neither : (a b : Bool) → (a || b) ≡ false → (a ≡ false) × (b ≡ false)
-neither true b h = absurd (true≢false h)
-neither false b h = (refl, h)
-
 member_whole : (key : List ℕ) (ms : Members) → members_have_float ms ≡ false → IfSome (get_member key ms) (λ x. has_float x ≡ false)
 member_whole key no_members h = tt
 member_whole key (member k d ms) h =
-    let parts = neither (has_float d) (members_have_float ms) h in
+    let parts = or_parts (has_float d) (members_have_float ms) h in
     found_by (slice_cmp nat_cmp key k) d (get_member key ms) parts.0 (member_whole key ms parts.1)
 
 pub get_whole : (key : List ℕ) (d : Data) → has_float d ≡ false → IfSome (get key d) (λ x. has_float x ≡ false)

@@ -1,42 +1,36 @@
 -- A merge of trees without floats has none.
-use Rattle.std.proofs.Common.{◌≡◌, ℕ, List, Bool, true, false, ◌||◌, ◌&&◌, not, is_some, cond, Option, Some, unwrap_or, Ordering, Less, Equal, Greater, nat_cmp, true≢false, refl, sym}
+use Rattle.std.proofs.Common.{◌≡◌, ℕ, List, Bool, true, false, ◌&&◌, not, is_some, cond, Option, Some, unwrap_or, Ordering, Less, Equal, Greater, nat_cmp, refl, sym}
 use Rattle.std.specs.Cmp.Lexicographic.{slice_cmp}
 use Rattle.std.specs.Ordering.{match_ordering}
 use Rattle.std.specs.Str.{bytes_eq}
+use Rattle.std.proofs.lemmas.Bool.{or_parts, or_from}
 use Rattle.serde_json.specs.Data.{Data, null, boolean, number, string, array, object, Members, no_members, member, put}
 use Rattle.serde_json.specs.Find.{as_object, get_member}
 use Rattle.serde_json.specs.Written.{has_float, members_have_float}
 use Rattle.metadata_store.specs.Store.{is_metadata}
 use Rattle.metadata_store.specs.MergePatch.{is_null, members_of, merge_members, merge_patch, remove, value_at}
 
-neither : (a b : Bool) → (a || b) ≡ false → (a ≡ false) × (b ≡ false)
-neither true b h = absurd (true≢false h)
-neither false b h = (refl, h)
-
-none_of : (a b : Bool) → a ≡ false → b ≡ false → (a || b) ≡ false
-none_of a b p q = rw (p, q) refl
-
 put_by : (o : Ordering) (k l : List ℕ) (d e : Data) (ms : Members) → has_float d ≡ false → members_have_float (member l e ms) ≡ false
     → members_have_float (put k d ms) ≡ false
     → members_have_float (match_ordering o (member k d (member l e ms)) (member l d ms) (member l e (put k d ms))) ≡ false
-put_by Less k l d e ms p q r = none_of _ _ p q
-put_by Equal k l d e ms p q r = none_of _ _ p (neither (has_float e) (members_have_float ms) q).1
-put_by Greater k l d e ms p q r = none_of _ _ (neither (has_float e) (members_have_float ms) q).0 r
+put_by Less k l d e ms p q r = or_from _ _ p q
+put_by Equal k l d e ms p q r = or_from _ _ p (or_parts (has_float e) (members_have_float ms) q).1
+put_by Greater k l d e ms p q r = or_from _ _ (or_parts (has_float e) (members_have_float ms) q).0 r
 
 put_whole : (k : List ℕ) (d : Data) (ms : Members) → has_float d ≡ false → members_have_float ms ≡ false → members_have_float (put k d ms) ≡ false
-put_whole k d no_members p q = none_of _ _ p refl
+put_whole k d no_members p q = or_from _ _ p refl
 put_whole k d (member l e ms) p q =
-    put_by (slice_cmp nat_cmp k l) k l d e ms p q (put_whole k d ms p (neither (has_float e) (members_have_float ms) q).1)
+    put_by (slice_cmp nat_cmp k l) k l d e ms p q (put_whole k d ms p (or_parts (has_float e) (members_have_float ms) q).1)
 
 remove_by : (b : Bool) (l : List ℕ) (e : Data) (ms rest : Members) → has_float e ≡ false → members_have_float ms ≡ false → members_have_float rest ≡ false
     → members_have_float (cond b ms (member l e rest)) ≡ false
 remove_by true l e ms rest p q r = q
-remove_by false l e ms rest p q r = none_of _ _ p r
+remove_by false l e ms rest p q r = or_from _ _ p r
 
 remove_whole : (k : List ℕ) (ms : Members) → members_have_float ms ≡ false → members_have_float (remove k ms) ≡ false
 remove_whole k no_members q = refl
 remove_whole k (member l e ms) q =
-    let parts = neither (has_float e) (members_have_float ms) q in
+    let parts = or_parts (has_float e) (members_have_float ms) q in
     remove_by (bytes_eq k l) l e ms (remove k ms) parts.0 parts.1 (remove_whole k ms parts.1)
 
 found_by : (o : Ordering) (e : Data) (d : Option Data) → has_float e ≡ false → has_float (unwrap_or d null) ≡ false
@@ -48,7 +42,7 @@ found_by Greater e d p q = q
 value_whole : (k : List ℕ) (ms : Members) → members_have_float ms ≡ false → has_float (value_at k ms) ≡ false
 value_whole k no_members q = refl
 value_whole k (member l e ms) q =
-    let parts = neither (has_float e) (members_have_float ms) q in
+    let parts = or_parts (has_float e) (members_have_float ms) q in
     found_by (slice_cmp nat_cmp k l) e (get_member k ms) parts.0 (value_whole k ms parts.1)
 
 members_whole : (d : Data) → has_float d ≡ false → members_have_float (members_of d) ≡ false
@@ -71,7 +65,7 @@ mutual
   merge_members_whole : (ms changes : Members) → members_have_float ms ≡ false → members_have_float changes ≡ false → members_have_float (merge_members ms changes) ≡ false
   merge_members_whole ms no_members p q = p
   merge_members_whole ms (member name change changes) p q =
-      let parts = neither (has_float change) (members_have_float changes) q in
+      let parts = or_parts (has_float change) (members_have_float changes) q in
       merge_members_whole _ changes (changed_whole name change ms p parts.0) parts.1
 
   changed_whole : (name : List ℕ) (change : Data) (ms : Members) → members_have_float ms ≡ false → has_float change ≡ false

@@ -8,7 +8,7 @@ use vm_types::Piece;
 
 /// Writes a piece over these bytes from a place on. What doesn't fit is lost.
 fn overlay(bytes: &mut [u8], at: usize, piece: &[u8])
-    ensures { bytes.new ≡ ports.overlaid bytes.old at piece.now }
+    ensures { bytes.new ≡ ports.put_over bytes.old at piece.now }
 {
     if at < bytes.len() {
         let count = piece.len().min(bytes.len() - at);

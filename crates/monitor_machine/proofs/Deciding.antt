@@ -18,7 +18,7 @@ use Rattle.api_rules.specs.declared.ids.Ids.{Ids}
 use Rattle.api_rules.specs.Table.{change_of, decision, is_diff, is_paused, misplaced, own_refusal, unless, when_allowed}
 use Rattle.api_rules.specs.declared.deciding.When.TheVariants.{BeforeBoot}
 use Rattle.flat_guest.specs.Guest.{Guest}
-use Rattle.flat_machine.specs.Machine.{AreFilesOf, Machine}
+use Rattle.flat_machine.specs.Machine.{Machine}
 use Rattle.flat_machine.specs.Machine as machine
 use Rattle.flat_machine.specs.Requests.{decided}
 use Rattle.vm_world.specs.Worlds.{WorldValue}
@@ -27,6 +27,7 @@ use Rattle.monitor_machine.specs.declared.machine.LiveMachine.{LiveMachine}
 use Rattle.monitor_machine.specs.Plans.{HasGuest, HasNumber, HasTwoFiles, needs_files, phase_by, phase_of}
 use Rattle.monitor_machine.specs.Replying.{calls_files}
 use Rattle.monitor_machine.specs.State.{IsGuestBy, IsLive}
+use Rattle.flat_machine.proofs.Allowed.{same_change}
 
 phase_one : (w : Option WorldValue) (g : Option Guest) (paused : Bool) → IsGuestBy w g → phase_by w paused ≡ machine.phase_by g paused
 phase_one None None paused is = refl
@@ -53,9 +54,6 @@ decided_is live m request it own asks =
 unless_ok : (o : Option Refusal) (due : Result Change Refusal) (c : Change) → unless o due ≡ Ok c → due ≡ Ok c
 unless_ok None due c is = is
 unless_ok (Some why) due c is = cc
-
-same_change : (a b : Change) → ◌≡◌ {A = Result Change Refusal} (Ok a) (Ok b) → a ≡ b
-same_change a b is = cc
 
 change_is : (p : Phase) (config : Config) (ids : Ids) (it : ApiCall) (c : Change) → decision p config ids it ≡ Ok c → change_of config it ≡ c
 change_is p config ids it c is =

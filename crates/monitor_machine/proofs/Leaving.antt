@@ -1,5 +1,5 @@
 -- What a plan answers and leaves is what the machine does.
-use Rattle.std.proofs.Common.{◌≡◌, ℕ, Bool, true, false, not, refl, sym, ap, subst, ◌∙◌, List, [], Option, Some, None, Ok, Err, Result}
+use Rattle.std.proofs.Common.{◌≡◌, ℕ, Bool, true, false, not, refl, sym, ap, subst, List, [], Option, Some, None, Ok, Err, Result}
 use Rattle.std.specs.Prelude.{is_none, is_some}
 use Rattle.std.specs.FinMap.{get}
 use Rattle.vm_types.specs.Saved.{Saved}

@@ -25,7 +25,7 @@ use Rattle.guest_pages.proofs.Marking.{flat_cleared, marks_cleared}
 use Rattle.flat_guest.specs.Changes.{reset_guest, resized}
 use Rattle.flat_guest.specs.Given.{Given}
 use Rattle.flat_guest.specs.Guest.{Guest, unwritten}
-use Rattle.flat_machine.specs.Machine.{Machine, drained_guest, first_ids, new_machine}
+use Rattle.flat_machine.specs.Machine.{Machine, first_ids, new_machine}
 use Rattle.flat_machine.specs.Requests.{halted, parent_of}
 use Rattle.flat_machine.specs.Ready.{IsBaseBefore, IsFitting, IsReadyGuest, IsTaken, Ready, ReadyBy}
 use Rattle.flat_machine.proofs.Ready.{base_later, drained_ready, event_ready, guest_ready, halted_ready, makes_ready, new_ready, patched_ready, reset_ready, resized_ready, resumed_ready, unwritten_ready}

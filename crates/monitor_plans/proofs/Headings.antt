@@ -99,13 +99,13 @@ is_diff parent identity own (other, differ) =
     (ap not differ)
 
 -- the header and the table
-pub diff_head_is : (parent identity : Identity) (pages count : ℕ) (numbers file lent head : List ℕ) (g : Guest)
+pub diff_head_is : (parent identity : Identity) (pages count : ℕ) (numbers start head : List ℕ) (g : Guest)
     → numbers ≡ numbers_written g.written 0 pages → count ≡ length numbers
-    → file ≡ header.bytes (record { pages = pages; parent = parent; identity = identity; count = count }) ++ table_bytes numbers
-    → lent ≡ file → head ≡ drop 1 lent → head ≡ diff_head (diff_in parent identity pages g)
+    → 1 ∷ start ≡ header.bytes (record { pages = pages; parent = parent; identity = identity; count = count }) ++ table_bytes numbers
+    → head ≡ start → head ≡ diff_head (diff_in parent identity pages g)
 unfolding diff_head
-diff_head_is parent identity pages count numbers file lent head g are long written same behind =
-    behind ∙ ap (drop 1) (same ∙ written)
+diff_head_is parent identity pages count numbers start head g are long written same =
+    same ∙ ap (drop 1) written
     ∙ (λ i. drop 1 (header.bytes (record {
       pages = pages;
       parent = parent;

@@ -22,17 +22,17 @@ use Rattle.flat_guest.specs.Start.{started}
 use Rattle.flat_machine.specs.Ready.{IsTaken}
 use Rattle.flat_machine.proofs.Sizes.{fits_last}
 use Rattle.flat_machine.proofs.Taken.{bounded}
-use Rattle.flat_machine.specs.Requests.{devices_from, disk_by, file_by, have_files, image_by, initrd_name, loads_from, place_of, start_refusal}
+use Rattle.flat_machine.specs.Requests.{devices_from, disk_by, file_by, have_files, image_by, initrd_name, loads_from, initrd_place, start_refusal}
 use Rattle.vm_world.specs.Worlds.{IsWorld, WorldValue}
 use Rattle.monitor_plans.specs.declared.plan.Plan.TheVariants as plan
 use Rattle.monitor_plans.specs.Starting.{StartGives, disk_in, image_in}
 
 pub loads_are : (config : Config) (image : List ℕ) (disk initrd : Option (List ℕ)) (place : Option InitrdPlace) (tree lent : List ℕ)
-    (drives : List NewDevice) (w : WorldValue) → initrd ≡ disk → place ≡ place_of config.machine.mem_size_mib disk → tree ≡ tree_bytes config place → lent ≡ tree
+    (drives : List NewDevice) (w : WorldValue) → initrd ≡ disk → place ≡ initrd_place config.machine.mem_size_mib disk → tree ≡ tree_bytes config place → lent ≡ tree
     → IsWorld w (started config.machine.vcpu_count config.machine.mem_size_mib (record { image = image; initrd = initrd; tree = lent }) drives)
     → IsWorld w (started config.machine.vcpu_count config.machine.mem_size_mib (loads_from config image disk) drives)
 loads_are config image disk initrd place tree lent drives w e p t l world =
-    let tree_is : lent ≡ tree_bytes config (place_of config.machine.mem_size_mib disk) = l ∙ t ∙ ap (tree_bytes config) p in
+    let tree_is : lent ≡ tree_bytes config (initrd_place config.machine.mem_size_mib disk) = l ∙ t ∙ ap (tree_bytes config) p in
     let same : ◌≡◌ {A = Loads} (record { image = image; initrd = initrd; tree = lent }) (loads_from config image disk) =
     (λ i. record { image = image; initrd = e i; tree = tree_is i }) in
     subst (λ (ls : Loads). IsWorld w (started config.machine.vcpu_count config.machine.mem_size_mib ls drives)) same world

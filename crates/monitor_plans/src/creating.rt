@@ -9,11 +9,11 @@ ghost use Rattle.monitor_plans.specs.Creating.{CreateGives, IsCreation};
 ghost use Rattle.monitor_plans.specs.Headings.{HasParent, numbers_in};
 ghost use Rattle.world_copy.specs.Ready.{IsReadyWorld};
 
-use crate::heading::{behind_gate, heading_of};
+use crate::heading::heading_of;
 use crate::plan::{Plan, Task};
 use api_calls::SnapshotFiles;
 use api_rules::Config;
-use snap_state::{StateCopy, encode};
+use snap_state::{StateCopy, encode_behind_gate};
 use snap_writer::{Room, SavedPages};
 use std::alloc::{AllocError, Global};
 use vm_types::{ByteList, Identity};
@@ -104,9 +104,8 @@ fn body_of(alloc: Global, identity: Identity, copy: &StateCopy) -> Result<ByteLi
     requires valid { IsTrue (is_valid copy.now) }
     ensures { IfOk result (λ body. body ≡ state_body identity copy.now) }
 {
-    let file = encode(alloc, identity, copy)?;
-    let body = behind_gate(alloc, &file)?;
-    Ok(body)
+    let body = encode_behind_gate(alloc, identity, copy)?;
+    Ok(ByteList::from_vec(body))
 }
 
 /// The pages of these numbers, or all. `None` where a number is no page's, or there are more of them than pages.

@@ -1,5 +1,5 @@
 // What stands before the pages of a memory file, and which pages follow.
-ghost use Rattle.std.specs.Prelude.{◌≡◌, drop, length, IfOk, IfSome, IsTrue, Some};
+ghost use Rattle.std.specs.Prelude.{◌≡◌, length, IfOk, IfSome, IsTrue, Some};
 ghost use Rattle.file_format.specs.Identities.{is_numbered};
 ghost use Rattle.flat_snapshot.specs.Files.{memory_head};
 ghost use Rattle.monitor_plans.specs.Headings.{HasParent, IsHeading};
@@ -72,33 +72,19 @@ fn diff_heading(
         identity,
         count: numbers.len() as u32,
     };
-    let Ok(file) = header.encode(alloc, &numbers) else {
-        return None;
-    };
-    let Ok(head) = behind_gate(alloc, &file) else {
+    let Ok(start) = header.encode_behind_gate(alloc, &numbers) else {
         return None;
     };
     Some(Heading {
-        head,
+        head: ByteList::from_vec(start),
         numbers: Some(numbers),
     })
-}
-
-// The bytes behind the gate, which is the first.
-pub(crate) fn behind_gate(alloc: Global, file: &[u8]) -> Result<ByteList, AllocError>
-    ensures { IfOk result (λ bytes. bytes ≡ drop 1 file.now) }
-{
-    match file.split_first() {
-        None => Ok(ByteList::new(alloc)),
-        Some((_, rest)) => ByteList::copy_of(alloc, rest),
-    }
 }
 
 fn head_of(alloc: Global, pages: u32, identity: Identity) -> Result<ByteList, AllocError>
     requires { IsTrue (is_numbered identity) }
     ensures { IfOk result (λ head. head ≡ memory_head identity pages) }
 {
-    let file = MemHeader::new(pages, identity).encode(alloc)?;
-    let head = behind_gate(alloc, &file)?;
-    Ok(head)
+    let head = MemHeader::new(pages, identity).encode_behind_gate(alloc)?;
+    Ok(ByteList::from_vec(head))
 }

@@ -8,7 +8,7 @@ ghost use Rattle.flat_machine.specs.Ready.{IsTaken};
 ghost use Rattle.guest_devices.specs.Devices.{FitsNew};
 ghost use Rattle.vm_config.specs.Changes.{changed};
 ghost use Rattle.vm_config.specs.declared.change.Change.TheVariants as change;
-ghost use Rattle.flat_machine.specs.Requests.{loads_from, place_of};
+ghost use Rattle.flat_machine.specs.Requests.{loads_from, initrd_place};
 ghost use Rattle.vm_outside.specs.Filing.{SameFiles};
 ghost use Rattle.vm_outside.specs.Known.{Lasts, Tells};
 ghost use Rattle.vm_world.specs.Worlds.{IsWorld, WorldValue};
@@ -88,9 +88,9 @@ fn start_by<F: Files>(alloc: Global, config: &Config, files: &mut F) -> Plan
 }
 
 // Where the disk stands.
-fn place_of(mem_size_mib: u64, disk: &Option<ByteList>) -> Option<InitrdPlace>
+fn initrd_place(mem_size_mib: u64, disk: &Option<ByteList>) -> Option<InitrdPlace>
     requires { mem_size_mib ≤ 2 ^ 20 }
-    ensures { result ≡ place_of mem_size_mib disk.now }
+    ensures { result ≡ initrd_place mem_size_mib disk.now }
 {
     match disk {
         Some(disk) => Some(place_by(mem_size_mib, disk.len())),
@@ -162,7 +162,7 @@ fn guest_of(
     ensures ready { IfOk result (λ guest. HasReadyGuest (changed config.now change.Start) false guest) }
 {
     let machine = config.machine;
-    let tree = write_tree(alloc, config, place_of(machine.mem_size_mib, disk))?;
+    let tree = write_tree(alloc, config, initrd_place(machine.mem_size_mib, disk))?;
     let loads = Loads {
         image,
         initrd: initrd_of(disk),

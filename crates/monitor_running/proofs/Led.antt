@@ -41,6 +41,7 @@ use Rattle.monitor_running.proofs.Disks.{rests_same, rests_uncalled}
 use Rattle.monitor_running.proofs.Joins.{none_given, one_given}
 use Rattle.flat_trace.specs.Showing.{HasEvent, Out, Run, TraceStep, items_of, said, shown}
 use Rattle.flat_trace.specs.Showing.Out.{Quiet, Shown}
+use Rattle.flat_trace.proofs.Lines.{guest_is}
 
 abbrev pub with_guest : Machine → Guest → Machine
 with_guest m g = record m { guest = Some g }
@@ -52,13 +53,6 @@ some_runs guest false g h is = refl
 
 pub still_runs : (m : Machine) (g h : Guest) → running m ≡ Some g → running (with_guest m h) ≡ Some h
 still_runs m g h is = some_runs m.guest m.paused g h is
-
-own_guest : (guest : Option Guest) (paused : Bool) (g : Guest) → running_by guest paused ≡ Some g → guest ≡ Some g
-own_guest guest true g is = cc
-own_guest guest false g is = is
-
-pub guest_is : (m : Machine) (g : Guest) → running m ≡ Some g → m.guest ≡ Some g
-guest_is m g is = own_guest m.guest m.paused g is
 
 -- the disks of its devices are the files of its drives
 pub guest_files : (start : Health) (m : Machine) (g : Guest) (disk : DiskKnown) → running m ≡ Some g → HasFiles start m disk

@@ -18,7 +18,7 @@ use Rattle.monitor_running.specs.Reached.{AreFiles, Keeps, KeepsAs, Kept, Known,
 use Rattle.flat_trace.specs.Showing.{Out}
 use Rattle.monitor_running.proofs.Attached.{files_rest}
 use Rattle.monitor_running.proofs.Joins.{HostRests, rests, still_files}
-use Rattle.monitor_running.proofs.Led.{guest_is}
+use Rattle.flat_trace.proofs.Lines.{guest_is}
 
 -- ---- what an object told, call after call
 

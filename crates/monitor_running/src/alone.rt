@@ -15,7 +15,7 @@ use crate::gating::looks_open;
 use crate::objects::TurnObjects;
 use crate::ran::Ran;
 use crate::telling::{end_by, tell_steps};
-use crate::waiting::{MOST_HARTS, pass_round, waits};
+use crate::waiting::{pass_round, waits};
 use crate::working::device_works;
 use pause_gate::Gate;
 use std::alloc::Global;
@@ -153,7 +153,7 @@ pub fn run_alone<Q, W: TurnObjects, G: Gate<Pass = Q>, K: Sink>(
     if let Some(end) = pass_round(alloc, world, with, Some(turn.hart), sink) {
         return Some(end);
     }
-    if world.hart_count() > MOST_HARTS || !others_wait(world, turn.hart) {
+    if world.hart_count() > HART_LIMIT || !others_wait(world, turn.hart) {
         return None;
     }
     let made = run_hart(world, turn, gate, passes);

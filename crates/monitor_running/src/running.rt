@@ -20,7 +20,7 @@ use crate::gating::is_open;
 use crate::objects::TurnObjects;
 use crate::ran::Ran;
 use crate::telling::{end_by, tell_slice};
-use crate::waiting::{MOST_HARTS, all_wait, pass_round, time_left};
+use crate::waiting::{all_wait, pass_round, time_left};
 use crate::working::device_works;
 use monitor_machine::LiveMachine;
 use pause_gate::Gate;
@@ -48,7 +48,7 @@ fn has_passes(world: &World, passes: usize) -> bool
     ensures { (result ≡ true) ↔ ((length world.now.harts ≤ 32) × (length world.now.harts + 1 ≤ passes)) }
 {
     let harts = world.hart_count();
-    harts <= MOST_HARTS && harts < passes
+    harts <= HART_LIMIT && harts < passes
 }
 
 // So many steps of each actor as are asked for, or as many as a slice has room for.
@@ -179,7 +179,7 @@ fn rest_where_all_wait<W: TurnObjects>(world: &World, with: &mut W)
     ensures rests { clocks.Lasts (W.known with.old).host.clock (W.known with.new).host.clock }
     ensures beside { W.known with.new ≡ with_clock (W.known with.old) (W.known with.new).host.clock }
 {
-    if world.hart_count() <= MOST_HARTS && all_wait(world) && !device_works(world) {
+    if world.hart_count() <= HART_LIMIT && all_wait(world) && !device_works(world) {
         with.clock().rest(time_left(world.board()));
     }
 }

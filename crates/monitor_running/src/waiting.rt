@@ -34,6 +34,7 @@ ghost use Rattle.monitor_running.specs.Staying.{StaysReady};
 use crate::objects::TurnObjects;
 use crate::ran::Ran;
 use crate::telling::{end_by, tell_slice};
+use guest_memory::HART_LIMIT;
 use line_board::Board;
 use monitor_machine::LiveMachine;
 use slice_runner::ask_clock;
@@ -42,9 +43,6 @@ use vm_host::Clock;
 use vm_outside::Sink;
 use vm_types::{ActorId, Entry, Op};
 use vm_world::World;
-
-/// A slice has at most so many harts, and so has every guest that a start or a load makes.
-pub const MOST_HARTS: usize = 32;
 
 /// Whether the hart of this number is there and waits.
 pub fn waits(world: &World, hart: u8) -> bool
@@ -72,7 +70,7 @@ pub fn is_quiet(machine: &LiveMachine) -> bool
     ensures { (result ≡ true) ↔ IsQuiet machine.now }
 {
     match machine.running() {
-        Some(world) => world.hart_count() > MOST_HARTS || all_wait(world),
+        Some(world) => world.hart_count() > HART_LIMIT || all_wait(world),
         None => true,
     }
 }

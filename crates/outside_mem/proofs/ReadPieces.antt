@@ -1,10 +1,7 @@
 -- A read of some bytes, and what it leaves.
 use Rattle.std.proofs.Common.{◌≡◌, ℕ, ◌+◌, List, [], ◌++◌, length, take, drop, sym, ◌∙◌, ap, arith, length-drop, length-append, take-append-drop, ◌-◌, ◌≤◌, ◌<◌, min, max}
-use Rattle.std.proofs.lemmas.List.{take_all, take_at, drop_all, drop-drop, length-take-le}
-
--- what `&xs[s..]` is
-tail_slice : (s : ℕ) (xs : List ℕ) → take (length xs - s) (drop s xs) ≡ drop s xs
-tail_slice s xs = take_all _ _ (omega (arith, length-drop s xs))
+use Rattle.std.proofs.lemmas.List.{take_at, drop_all, drop-drop, length-take-le}
+use Rattle.vm_outside.proofs.Takes.{tail_slice}
 
 -- a read of n bytes into the front of a buffer
 pub read_piece : (bs held piece buf : List ℕ) (at n most inner outer : ℕ) → at ≤ length bs → held ≡ bs → piece ≡ take n (take (length held - at) (drop at held))

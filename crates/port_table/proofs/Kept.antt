@@ -5,6 +5,7 @@ use Rattle.std.proofs.lemmas.List.{drop-set-lt}
 use Rattle.std.proofs.lemmas.Slice.{drop-append-drop}
 use Rattle.std.proofs.lemmas.Nat.{and_or_self, le_or_r}
 use Rattle.std.proofs.lemmas.Grind.{common_steps}
+use Rattle.std.proofs.lemmas.Bool.{and_from, and_parts}
 use Rattle.vm_types.specs.declared.ids.ActorId.{ActorId}
 use Rattle.vm_types.specs.declared.op.Op.{Op}
 use Rattle.vm_types.specs.declared.op.PortOp.{PortOp}
@@ -22,17 +23,9 @@ use Rattle.port_table.specs.Access.{after_bytes, after_write, bytes_read, config
 use Rattle.port_table.specs.Acts.{configuration_change, configured, interrupted, port_act, port_shown, touch, without_kick, without_kicks}
 use Rattle.port_table.specs.Kept.{has_config, has_queues, is_new, is_state, is_zero}
 use Rattle.port_table.specs.Kinds.{config_length, feature_mask, queue_count}
-use Rattle.port_table.specs.Ports.{as_new, is_queue, new_port, new_queue, overlaid, port_of, queue, reset_config, with_config, with_queue}
+use Rattle.port_table.specs.Ports.{as_new, is_queue, new_port, new_queue, put_over, port_of, queue, reset_config, with_config, with_queue}
 use Rattle.port_table.specs.Registers.{driver_ok, has_bits, needs_reset, notified, register_after, register_at, status_taken, status_written, to_queue, with_high_half, with_low_half}
 use Rattle.port_table.specs.Window.{is_in_one, port_offset}
-
-both : (a b : Bool) → (a && b) ≡ true → (a ≡ true) × (b ≡ true)
-both true b on = (refl, on)
-both false b on = cc
-
-all : (a b : Bool) → a ≡ true → b ≡ true → (a && b) ≡ true
-all true b one two = two
-all false b one two = cc
 
 -- a state, by its facts
 record Is (p : PortState) : Type 0 where
@@ -56,9 +49,9 @@ is_of p is =
     let versioned : Bool = has_bits p.offered (feature_mask Version1) in
     let queues : Bool = has_queues p.kind p.queues in
     let config : Bool = has_config p.kind p.config in
-    let h = both (versioned && queues && config) (not p.is_reset_asked || not (p.status == 0)) is in
-    let g = both (versioned && queues) config h.0 in
-    let f = both versioned queues g.0 in
+    let h = and_parts (versioned && queues && config) (not p.is_reset_asked || not (p.status == 0)) is in
+    let g = and_parts (versioned && queues) config h.0 in
+    let f = and_parts versioned queues g.0 in
     record {
       versioned = f.0;
       queues = f.1;
@@ -68,7 +61,7 @@ is_of p is =
 
 test_of : (p : PortState) → Is p → is_state p ≡ true
 test_of p is =
-    all _ _ (all _ _ (all _ _ is.versioned is.queues) is.config)
+    and_from _ _ (and_from _ _ (and_from _ _ is.versioned is.queues) is.config)
     (test_of_asked p.is_reset_asked (p.status == 0) is.asked)
 
 -- ---- as new
@@ -114,8 +107,8 @@ as_new_is p is = is_port p.kind p.offered (reset_config p.kind p.config) (reset_
 three : (xs ys zs : List ℕ) → length (xs ++ ys ++ zs) ≡ length xs + length ys + length zs
 three xs ys zs = omega (arith, length-append (xs ++ ys) zs, length-append xs ys)
 
-pub overlaid_long : (bytes : List ℕ) (at : ℕ) (piece : List ℕ) → length (overlaid bytes at piece) ≡ length bytes
-overlaid_long bytes at piece =
+pub put_over_long : (bytes : List ℕ) (at : ℕ) (piece : List ℕ) → length (put_over bytes at piece) ≡ length bytes
+put_over_long bytes at piece =
     let a = length-take at bytes in
     let b = length-take (length bytes - at) piece in
     let d = length-drop (at + length piece) bytes in
@@ -124,15 +117,15 @@ overlaid_long bytes at piece =
 written_has : (kind : DeviceKind) (config : List ℕ) (at : ℕ) (piece : List ℕ) → length config ≡ 8
     → has_config kind config ≡ true → has_config kind (config_after kind config at piece) ≡ true
 written_has Balloon config at piece long is =
-    let whole = overlaid_long config at piece in
-    nothing_past (take 4 config ++ drop 4 (overlaid config at piece))
+    let whole = put_over_long config at piece in
+    nothing_past (take 4 config ++ drop 4 (put_over config at piece))
     (omega (
       arith,
       long,
       whole,
       length-take 4 config,
-      length-drop 4 (overlaid config at piece),
-      length-append (take 4 config) (drop 4 (overlaid config at piece)),
+      length-drop 4 (put_over config at piece),
+      length-append (take 4 config) (drop 4 (put_over config at piece)),
     ))
 written_has Net config at piece long is = is
 written_has Block config at piece long is = is
@@ -140,7 +133,7 @@ written_has Vsock config at piece long is = is
 
 -- where a front of at most n bytes is written over, the bytes from n on stay
 front_over : (n : ℕ) (config piece : List ℕ) → length piece ≤ n → length piece ≤ length config
-    → drop n (overlaid config 0 piece) ≡ drop n config
+    → drop n (put_over config 0 piece) ≡ drop n config
 front_over n config piece short fits =
     let whole : take (length config - 0) piece ≡ piece = grind (arith, common_steps) in
     let rest : 0 + length piece ≡ length piece = omega arith in
@@ -178,16 +171,16 @@ set_has kind queues k q below is =
 
 unkicked : (q : PortQueue) → is_new q ≡ true → is_new (without_kick q) ≡ true
 unkicked q is =
-    let h = both ((q.descriptors == 0) && (q.available == 0) && (q.used == 0) && (q.size == 0) && (q.ready == 0))
+    let h = and_parts ((q.descriptors == 0) && (q.available == 0) && (q.used == 0) && (q.size == 0) && (q.ready == 0))
     (not q.is_kicked) is in
-    all _ _ h.0 refl
+    and_from _ _ h.0 refl
 
 unkicked_all : (queues : List PortQueue) → list_all is_new queues ≡ true
     → list_all is_new (map without_kick queues) ≡ true
 unkicked_all [] is = refl
 unkicked_all (q ∷ queues) is =
-    let h = both (is_new q) (list_all is_new queues) is in
-    all _ _ (unkicked q h.0) (unkicked_all queues h.1)
+    let h = and_parts (is_new q) (list_all is_new queues) is in
+    and_from _ _ (unkicked q h.0) (unkicked_all queues h.1)
 
 unkicked_from : (n : ℕ) (queues : List PortQueue) → list_all is_new (drop n queues) ≡ true
     → list_all is_new (drop n (map without_kick queues)) ≡ true

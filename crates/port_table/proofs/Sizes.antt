@@ -23,11 +23,11 @@ use Rattle.port_table.specs.declared.state.PortState.{PortState}
 use Rattle.port_table.specs.Access.{after_bytes, after_write, bytes_read, config_after, config_bytes, config_start, is_config_width, is_word, value_of}
 use Rattle.port_table.specs.Acts.{configuration_change, configured, interrupted, port_act, port_shown, touch, without_kick, without_kicks}
 use Rattle.port_table.specs.Kinds.{config_length, feature_mask}
-use Rattle.port_table.specs.Ports.{as_new, is_queue, new_port, new_queue, overlaid, port_of, queue, reset_config, with_config, with_queue}
+use Rattle.port_table.specs.Ports.{as_new, is_queue, new_port, new_queue, put_over, port_of, queue, reset_config, with_config, with_queue}
 use Rattle.port_table.specs.Registers.{are_good, driver_ok, features_ok, features_written, has_bits, needs_reset, register_after, register_at, status_taken, status_written, to_queue, with_high_half, with_low_half}
 use Rattle.port_table.specs.Sizes.{IsDouble, IsKept, IsSized, IsSizedQueue, IsSmallOp, IsSmallReply, IsWord}
 use Rattle.port_table.specs.Window.{is_in_one, port_offset}
-use Rattle.port_table.proofs.Kept.{configured_kept, new_kept, overlaid_long, touch_kept}
+use Rattle.port_table.proofs.Kept.{configured_kept, new_kept, put_over_long, touch_kept}
 
 -- ---- a port of this kind, by its parts
 
@@ -42,9 +42,9 @@ either P false x y first second = second refl
 
 -- ---- bytes
 
-overlaid_bytes : (bytes : List ℕ) (at : ℕ) (piece : List ℕ) → All IsByte bytes → All IsByte piece
-    → All IsByte (overlaid bytes at piece)
-overlaid_bytes bytes at piece old new =
+put_over_bytes : (bytes : List ℕ) (at : ℕ) (piece : List ℕ) → All IsByte bytes → All IsByte piece
+    → All IsByte (put_over bytes at piece)
+put_over_bytes bytes at piece old new =
     All-append IsByte (take at bytes ++ take (length bytes - at) piece) (drop (at + length piece) bytes)
     (All-append IsByte (take at bytes) (take (length bytes - at) piece) (All-take IsByte at bytes old)
     (All-take IsByte (length bytes - at) piece new)) (All-drop IsByte (at + length piece) bytes old)
@@ -72,8 +72,8 @@ reset_bytes Vsock config bytes = bytes
 config_long : (kind : DeviceKind) (config : List ℕ) (at : ℕ) (piece : List ℕ) → length config ≡ 8
     → length (config_after kind config at piece) ≡ 8
 config_long Balloon config at piece long =
-    halves config (drop 4 (overlaid config at piece)) long
-    (omega (arith, long, overlaid_long config at piece, length-drop 4 (overlaid config at piece)))
+    halves config (drop 4 (put_over config at piece)) long
+    (omega (arith, long, put_over_long config at piece, length-drop 4 (put_over config at piece)))
 config_long Net config at piece long = long
 config_long Block config at piece long = long
 config_long Vsock config at piece long = long
@@ -81,8 +81,8 @@ config_long Vsock config at piece long = long
 config_small : (kind : DeviceKind) (config : List ℕ) (at : ℕ) (piece : List ℕ) → All IsByte config → All IsByte piece
     → All IsByte (config_after kind config at piece)
 config_small Balloon config at piece old new =
-    All-append IsByte (take 4 config) (drop 4 (overlaid config at piece)) (All-take IsByte 4 config old)
-    (All-drop IsByte 4 (overlaid config at piece) (overlaid_bytes config at piece old new))
+    All-append IsByte (take 4 config) (drop 4 (put_over config at piece)) (All-take IsByte 4 config old)
+    (All-drop IsByte 4 (put_over config at piece) (put_over_bytes config at piece old new))
 config_small Net config at piece old new = old
 config_small Block config at piece old new = old
 config_small Vsock config at piece old new = old
@@ -470,8 +470,8 @@ module _ (kind : DeviceKind) (p : PortState) (is : Is kind p) where
           config_generation = next;
           many_queues = sized.many_queues;
           queues = sized.queues;
-          many_bytes = overlaid_long p.config 0 front ∙ sized.many_bytes;
-          bytes = overlaid_bytes p.config 0 front sized.bytes (All-take IsByte (config_length p.kind) bytes small);
+          many_bytes = put_over_long p.config 0 front ∙ sized.many_bytes;
+          bytes = put_over_bytes p.config 0 front sized.bytes (All-take IsByte (config_length p.kind) bytes small);
         };
       }
 
@@ -508,6 +508,6 @@ new_stays kind offered bytes small all =
       kind_is = refl;
       state = new_kept kind offered bytes;
       sized =
-          port_sized kind offered (with_config kind (replicate 8 0) bytes) small (overlaid_long (replicate 8 0) 0 front)
-          (overlaid_bytes (replicate 8 0) 0 front (zeros 8) (All-take IsByte (config_length kind) bytes all));
+          port_sized kind offered (with_config kind (replicate 8 0) bytes) small (put_over_long (replicate 8 0) 0 front)
+          (put_over_bytes (replicate 8 0) 0 front (zeros 8) (All-take IsByte (config_length kind) bytes all));
     }

@@ -7,7 +7,7 @@ use Rattle.port_table.specs.declared.kind.DeviceKind.TheVariants.{Balloon}
 use Rattle.port_table.specs.declared.register.Register.{Register}
 use Rattle.port_table.specs.declared.state.PortState.{PortState}
 use Rattle.port_table.specs.Kinds.{config_length}
-use Rattle.port_table.specs.Ports.{overlaid}
+use Rattle.port_table.specs.Ports.{put_over}
 use Rattle.port_table.specs.Registers.{register_after, register_at, register_value}
 
 -- where the configuration begins
@@ -32,7 +32,7 @@ config_bytes p at len = take len (drop at (take (config_length p.kind) p.config)
 
 -- The driver may write the balloon's `actual` alone, bytes 4 to 7 (VIRTIO 1.2, 5.5.4): of a piece the bytes that lie there.
 abbrev pub config_after : DeviceKind → List ℕ → ℕ → List ℕ → List ℕ
-config_after Balloon config at piece = take 4 config ++ drop 4 (overlaid config at piece)
+config_after Balloon config at piece = take 4 config ++ drop 4 (put_over config at piece)
 config_after kind config at piece = config
 
 abbrev pub is_config_width : ℕ → Bool

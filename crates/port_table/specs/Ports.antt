@@ -30,12 +30,12 @@ port_of kind offered config = record {
 }
 
 -- these bytes with a piece written over them from a place on, of which what doesn't fit is lost
-abbrev pub overlaid : List ℕ → ℕ → List ℕ → List ℕ
-overlaid bytes at piece = take at bytes ++ take (length bytes - at) piece ++ drop (at + length piece) bytes
+abbrev pub put_over : List ℕ → ℕ → List ℕ → List ℕ
+put_over bytes at piece = take at bytes ++ take (length bytes - at) piece ++ drop (at + length piece) bytes
 
 -- these bytes in place of the first ones of the configuration, of which what the device doesn't have is lost
 abbrev pub with_config : DeviceKind → List ℕ → List ℕ → List ℕ
-with_config kind config bytes = overlaid config 0 (take (config_length kind) bytes)
+with_config kind config bytes = put_over config 0 (take (config_length kind) bytes)
 
 abbrev pub new_port : DeviceKind → ℕ → List ℕ → PortState
 new_port kind offered bytes = port_of kind offered (with_config kind (replicate 8 0) bytes)

@@ -1,7 +1,8 @@
 -- What `clap` finds in the words behind the tool's name are the two names that they say.
-use Rattle.std.proofs.Common.{◌≡◌, ◌∙◌, ◌||◌, ◌⊎◌, inl, inr, Bool, true, false, not, cond, refl, sym, ap, subst, List, [], ◌∷◌, Option, Some, None, option_map, option_and_then, bytes_eq, codes, true≢false}
+use Rattle.std.proofs.Common.{◌≡◌, ◌∙◌, ◌||◌, inl, inr, Bool, true, false, not, cond, refl, sym, ap, subst, List, [], ◌∷◌, Option, Some, None, option_map, option_and_then, bytes_eq, codes, true≢false}
 use Rattle.std.specs.List.{list_any}
 use Rattle.std.proofs.lemmas.Slice.Eq.{bytes_eq-Decides}
+use Rattle.std.proofs.lemmas.Bool.{or_parts}
 use Rattle.clap.specs.Faults.{fault_of, is_simple_and_free}
 use Rattle.clap.specs.Kinds.{Kinds}
 use Rattle.clap.specs.Simple.{Shape, subcommand_of, subcommand_rows_of}
@@ -11,7 +12,7 @@ use Rattle.command_line.specs.Options.{Given, is_given, options_in, value_of}
 use Rattle.command_line.specs.Programs.{IsRead, IsUsage, has_one_dash}
 use Rattle.command_line.proofs.Dashes.{dash_options, kind_of_word, or_either}
 use Rattle.command_line.proofs.Entering.{enters, none_met, none_named, top_entered, top_fault}
-use Rattle.command_line.proofs.OptionNames.{flipped, given_for, not_given, or_parts, value_is}
+use Rattle.command_line.proofs.OptionNames.{flipped, given_for, not_given, value_is}
 use Rattle.command_line.proofs.OptionReads.{means}
 use Rattle.command_line.proofs.OptionRules.{Opt, Pair, rows_for, rules_for}
 use Rattle.command_line.proofs.Turns.{leaf}

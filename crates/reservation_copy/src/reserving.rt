@@ -7,24 +7,22 @@ ghost use Rattle.flat_snapshot.specs.Carried.{slots_with};
 ghost use Rattle.flat_snapshot.specs.Copies.{reservations_from};
 
 use file_format::Items;
+use guest_memory::HART_LIMIT;
 use guest_pages::PageSet;
 use snap_state::Reservation;
 use std::alloc::{AllocError, Global};
 
-/// A page has a slot for each hart that there can be.
-const HARTS: usize = 32;
-
-/// What is reserved in the pages, by page and then by hart.
+/// What is reserved in the pages, by page and then by hart: a page has a slot for each hart that there can be.
 pub fn reservations_of(alloc: Global, pages: &PageSet) -> Result<Items<Reservation>, AllocError>
     requires { length pages.now ≤ 2 ^ 28 }
     ensures { IfOk result (λ items. items ≡ reservations_from 0 (flat_of pages.now).reserved) }
 {
     let mut items = Items::new(alloc);
-    for slot in 0..HARTS * pages.len() {
+    for slot in 0..HART_LIMIT * pages.len() {
         if let Some(offset) = pages.reserved(slot) {
             items.push(Reservation {
-                page: (slot / HARTS) as u32,
-                hart: (slot % HARTS) as u32,
+                page: (slot / HART_LIMIT) as u32,
+                hart: (slot % HART_LIMIT) as u32,
                 offset: offset as u32,
             })?;
         }

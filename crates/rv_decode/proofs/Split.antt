@@ -1,6 +1,6 @@
 -- A word fits a row where each of its fields does.
 use Rattle.std.proofs.Common.{◌≡◌, ℕ, ◌+◌, ◌*◌, ◌^◌, ◌%◌, ◌/◌, ◌&&◌, refl, sym, ap, ◌∙◌, Bool, true, false, bit_and}
-use Rattle.std.proofs.lemmas.Bool.{eqb-true, eq-eqb, and_parts}
+use Rattle.std.proofs.lemmas.Bool.{eqb-true, eq-eqb, and_parts, and_from}
 use Rattle.std.proofs.lemmas.Nat.{and_mod, and_shr, shr_split, shr-shr}
 use Rattle.std.proofs.Math.Dec.{eqb}
 
@@ -10,15 +10,12 @@ same_test true y to from = sym (to refl)
 same_test false true to from = from refl
 same_test false false to from = refl
 
-both : (x y : Bool) → x ≡ true → y ≡ true → (x && y) ≡ true
-both x y e f = rw e f
-
 -- numbers are equal where their low bits and the others are
 eqb_split : (k a b : ℕ) → eqb a b ≡ (eqb (a % 2 ^ k) (b % 2 ^ k) && eqb (a / 2 ^ k) (b / 2 ^ k))
 eqb_split k a b =
     same_test (eqb a b) _
     (λ e.
-    both (eqb (a % 2 ^ k) (b % 2 ^ k)) (eqb (a / 2 ^ k) (b / 2 ^ k))
+    and_from (eqb (a % 2 ^ k) (b % 2 ^ k)) (eqb (a / 2 ^ k) (b / 2 ^ k))
     (eq-eqb _ _ (ap (λ n. n % 2 ^ k) (eqb-true a b e)))
     (eq-eqb _ _ (ap (λ n. n / 2 ^ k) (eqb-true a b e))))
     (λ e.

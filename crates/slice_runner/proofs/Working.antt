@@ -15,7 +15,7 @@ use Rattle.flat_guest.specs.Given.Given.{Nothing}
 use Rattle.flat_guest.specs.Steps.{is_given}
 use Rattle.pause_gate.specs.Tally.{Tally}
 use Rattle.stamp_merge.specs.declared.layout.Layout.{Layout}
-use Rattle.stamp_merge.specs.Stamps.{OutIsZero, Stamped}
+use Rattle.stamp_merge.specs.Stamps.{OutIsZero}
 use Rattle.turn_work.specs.declared.worker.Worker.{Worker}
 use Rattle.machine_places.specs.declared.place.MachinePlace.{MachinePlace}
 use Rattle.slice_runner.specs.declared.stop.Stop.{Stop}
@@ -23,16 +23,12 @@ use Rattle.slice_runner.specs.declared.worker.Track.{Track}
 use Rattle.slice_runner.specs.Runs.{GoesOn, HasEnded, HasRun, IsActOf, IsSameBut, IsUnderWay, StopsFor, WritesDown}
 use Rattle.slice_runner.specs.Stops.{IsUnfull, closings, is_last_full}
 use Rattle.slice_runner.specs.Values.{route_among}
+use Rattle.stamp_merge.proofs.Stamps.{Stamped-more}
 
 follows_more : {S : Type 0} (want : S → Op) (next : S → Reply → S) (s : S) (es : List Entry) (t u : S) (e : Entry)
     → Follows want next s es t → e.op ≡ want t → u ≡ next t e.reply → Follows want next s (es ++ e ∷ []) u
 follows_more want next s [] t u e h op is = (op ∙ ap want (sym h), ap (λ x. next x e.reply) h ∙ sym is)
 follows_more want next s (d ∷ es) t u e h op is = (h.0, follows_more want next (next s d.reply) es t u e h.1 op is)
-
-stamped_more : (b : ℕ) (es : List Entry) (e : Entry) → Stamped b es → e.stamp ≡ 1 + max (last_stamp b es) e.before
-    → Stamped b (es ++ e ∷ [])
-stamped_more b [] e h is = (is, tt)
-stamped_more b (d ∷ es) e h is = (h.0, stamped_more d.stamp es e h.1 is)
 
 last_more : (b : ℕ) (es : List Entry) (e : Entry) → last_stamp b (es ++ e ∷ []) ≡ e.stamp
 last_more b [] e = refl
@@ -82,7 +78,7 @@ module _ {S Q : Type 0} (want : S → Op) (next : S → Reply → S) (tally : Q 
         same = down.actor ∙ mid_actor;
         ran = rw down.items (record {
           follows = follows_more want next s mid.work.journal.items t u e run.follows (act.op_is ∙ is_want) is;
-          stamped = stamped_more 0 mid.work.journal.items e run.stamped stamp;
+          stamped = Stamped-more 0 mid.work.journal.items e run.stamped stamp;
           last = down.clock ∙ sym (last_more 0 mid.work.journal.items e);
           own = all_more (λ (x : Entry). x.actor ≡ id) mid.work.journal.items e run.own (act.actor_is ∙ mid_actor);
           placed = all_more (IsPlaced (route_among layout) OutFits) mid.work.journal.items e run.placed act.placed;

@@ -1,10 +1,9 @@
 -- What a block device keeps in a state that it may be in is what its form in a file stands for.
-use Rattle.std.proofs.Common.{◌≡◌, ℕ, ◌==◌, ◌+◌, refl, sym, ap, subst, ◌∙◌, Bool, true, false, ◌&&◌, not, if◌then◌else◌, Option, Some, None, is_some, List, length, arith}
+use Rattle.std.proofs.Common.{◌≡◌, ℕ, ◌==◌, ◌+◌, refl, sym, ap, subst, Bool, true, false, ◌&&◌, not, if◌then◌else◌, Option, Some, None, is_some, List, length}
 use Rattle.std.proofs.lemmas.Bool.{and_from, and_parts, eqb-true}
 use Rattle.vq_split.specs.declared.queue.Part.{Part}
 use Rattle.vq_split.specs.declared.queue.Queue.{Queue}
 use Rattle.vq_split.specs.Kept.{is_sound}
-use Rattle.vq_split.specs.Walking.{Walking}
 use Rattle.vq_split.proofs.Kept.{is_eq}
 use Rattle.dev_core.specs.declared.collect.Collect.{Collect}
 use Rattle.dev_core.specs.Pieces.{total}
@@ -19,8 +18,8 @@ use Rattle.queue_device.specs.declared.phase.InHand.{InHand}
 use Rattle.queue_device.specs.declared.phase.Phase.{Phase}
 use Rattle.queue_device.specs.declared.phase.Phase.TheVariants as phase
 use Rattle.queue_device.specs.Confined.{are_lanes, is_lane, is_queue}
-use Rattle.queue_device.specs.Kept.{are_kept, are_own_lanes, is_at_lane, is_in_hand, is_new, is_next, is_of_round, is_over, is_own_lane}
-use Rattle.queue_device.specs.Kept.{is_place, is_same_queue, is_told, is_walked, work_of}
+use Rattle.queue_device.specs.Kept.{are_kept, are_own_lanes, is_at_lane, is_in_hand, is_new, is_next, is_of_round, is_over}
+use Rattle.queue_device.specs.Kept.{is_place, is_same_queue, is_told, work_of}
 use Rattle.queue_device.specs.Lanes.{lane_of, new_lane}
 use Rattle.block_device.specs.declared.kind.BlockKind.{BlockKind}
 use Rattle.block_device.specs.declared.work.BlockStage.{BlockStage}
@@ -31,7 +30,6 @@ use Rattle.block_device.specs.States.{is_state}
 use Rattle.block_device.specs.Working.{Working}
 use Rattle.block_device.proofs.Kept.{work_of as work_parts}
 use Rattle.snap_devices.specs.declared.file.FileBlock.{FileBlock}
-use Rattle.snap_devices.specs.declared.file.FilePhase.{FilePhase}
 use Rattle.snap_devices.specs.declared.file.FilePhase.TheVariants.{Between, Break, Header, Serve, Return}
 use Rattle.snap_devices.specs.Forms.{due_filed, due_kept, file_of, in_hand, is_form, is_header_long, is_plain, is_queue_due, is_walk_alone}
 use Rattle.snap_devices.specs.Forms.{kept_of, phase_filed, phase_kept, queue_filed, queue_kept, rounds_kept, served_filed, stage_kept, walk_filed}

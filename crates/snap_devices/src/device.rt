@@ -1,11 +1,10 @@
 // A device.
-ghost use Rattle.std.specs.Prelude.{◌≡◌, IfOk, OnOk};
-ghost use Rattle.file_format.specs.Whole.{IsDecoded, IsEncoding};
+ghost use Rattle.std.specs.Prelude.{◌≡◌, OnOk};
 ghost use Rattle.snap_devices.specs.Devices.{device};
 
 use crate::block::{read_block, write_block};
 use crate::saved::Saved;
-use file_format::{Input, ReadError, Stored, decode};
+use file_format::{Input, ReadError, Stored};
 use guest_devices::Device;
 use std::alloc::{AllocError, Global};
 
@@ -43,22 +42,4 @@ impl Stored for Saved<Device> {
             _ => Err(ReadError::Bad),
         }
     }
-}
-
-/// The bytes of this device.
-#[tactic(auto, using(file_format::proofs::Wholes::wholes))]
-pub fn encode_device(alloc: Global, it: &Device) -> Result<Vec<u8>, AllocError>
-    ensures { IfOk result (λ bytes. IsEncoding device bytes.items it.now) }
-{
-    let mut bytes = Vec::new(alloc);
-    write_device(it, &mut bytes)?;
-    Ok(bytes)
-}
-
-/// The one device that these bytes are, if they are one.
-pub fn decode_device(alloc: Global, bytes: &[u8]) -> Result<Device, ReadError>
-    ensures { IsDecoded device bytes.now result }
-{
-    let it: Saved<Device> = decode(alloc, bytes)?;
-    Ok(it.value)
 }

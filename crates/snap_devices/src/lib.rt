@@ -1,9 +1,9 @@
 //! Ports and devices as bytes: how a state file has each of them, one encoding for each state.
 //!
 //! `specs/` has the formats: `Ports` of a port, `Devices` of a device by its kind, and under it `Blocks`, `Phases`,
-//! `Serving` and `Queues` of a block device. `encode_port` and `encode_device` give the bytes of one; `decode_port` and
-//! `decode_device` answer the one that bytes are, exactly where they are the encoding of a state that it may be in.
-//! What they take of memory is no more than a few times the bytes that are there.
+//! `Serving` and `Queues` of a block device. `Saved<Port>` and `Saved<Device>` are written and read so (`Stored`): what is
+//! read is the one port or device that bytes at a front are, exactly where they are the encoding of a state that it may be
+//! in. What this takes of memory is no more than a few times the bytes that are there.
 //!
 //! Numbers are little-endian; a flag is a byte 0 or 1; an option is a flag, and behind a 1 the value; a list is a count
 //! of 4 bytes, and its items.
@@ -48,7 +48,5 @@ mod port;
 mod queue;
 mod saved;
 
-pub use device::{decode_device, encode_device};
 pub use law::port_size;
-pub use port::{decode_port, encode_port};
 pub use saved::Saved;

@@ -1,12 +1,11 @@
 // A port.
-ghost use Rattle.std.specs.Prelude.{◌≡◌, OnOk, IfOk};
+ghost use Rattle.std.specs.Prelude.{◌≡◌, OnOk};
 ghost use Rattle.file_format.specs.Kinds.{times};
 ghost use Rattle.file_format.specs.Reading.{Takes};
-ghost use Rattle.file_format.specs.Whole.{IsDecoded, IsEncoding};
 ghost use Rattle.snap_devices.specs.Ports.{kind, kind_code, port, port_fields, port_queue};
 
 use crate::saved::Saved;
-use file_format::{Input, ReadError, Stored, decode, read_into, write_items};
+use file_format::{Input, ReadError, Stored, read_into, write_items};
 use mmio_port::Port;
 use port_table::{DeviceKind, PortQueue, PortState};
 use std::alloc::{AllocError, Global};
@@ -184,22 +183,4 @@ impl Stored for Saved<Port> {
             None => Err(ReadError::Bad),
         }
     }
-}
-
-/// The bytes of this port.
-#[tactic(auto, using(file_format::proofs::Wholes::wholes))]
-pub fn encode_port(alloc: Global, it: &Port) -> Result<Vec<u8>, AllocError>
-    ensures { IfOk result (λ bytes. IsEncoding port bytes.items it.now) }
-{
-    let mut bytes = Vec::new(alloc);
-    write_port(it, &mut bytes)?;
-    Ok(bytes)
-}
-
-/// The one port that these bytes are, if they are one.
-pub fn decode_port(alloc: Global, bytes: &[u8]) -> Result<Port, ReadError>
-    ensures { IsDecoded port bytes.now result }
-{
-    let it: Saved<Port> = decode(alloc, bytes)?;
-    Ok(it.value)
 }

@@ -8,14 +8,14 @@ use Rattle.std.proofs.lemmas.List.{append-nil, drop_at, length-drop, length-take
 use Rattle.refusals.specs.declared.refusal.Refusal.{Refusal}
 use Rattle.refusals.specs.declared.refusal.Refusal.TheVariants as refusal
 use Rattle.file_format.specs.Format.{IsBytes}
-use Rattle.file_format.specs.Kinds.{number32, raw, times}
+use Rattle.file_format.specs.Kinds.{fixed, number32, raw, times}
 use Rattle.file_format.specs.Laws.{all_same}
 use Rattle.file_format.specs.Readers.{put_all}
 use Rattle.file_format.specs.Starts.{is_closed, is_other}
 use Rattle.file_format.specs.Versions.{Version, version_of}
 use Rattle.snap_diff.specs.declared.header.DiffHeader.{DiffHeader}
 use Rattle.snap_diff.specs.Copies.{DiffCopy, IsDiff, rises}
-use Rattle.snap_diff.specs.Headers.{copy_with, header, header_of, is_header, magic}
+use Rattle.snap_diff.specs.Headers.{behind_gate, copy_with, header, header_of, is_header, magic}
 use Rattle.snap_diff.specs.Diffs.{Begins, IsDiffFile, IsTable, diff, diff_in, table_bytes}
 use Rattle.snap_diff.specs.Found.{diff_found, header_read, rest_read, table_read}
 use Rattle.snap_diff.proofs.Fronts as fronts
@@ -185,13 +185,23 @@ found_good given d bytes is =
 
 -- ---- the start of a file
 
-pub start_is : (h : DiffHeader) (numbers middle file : List ℕ) → middle ≡ header.puts h [] → file ≡ put_all number32.puts numbers middle
-    → file ≡ header.bytes h ++ table_bytes numbers
-start_is h numbers middle file first second =
-    second ∙ all_same number32 numbers middle ∙ ap (λ (l : List ℕ). l ++ table_bytes numbers) (first ∙ header.same h [])
+-- what was written behind an open gate is the header
+pub gated : (h : DiffHeader) → behind_gate.Fits h → header.Fits h
+unfolding header behind_gate fixed
+gated h fits = (refl, fits)
 
-pub start_size : (h : DiffHeader) (numbers file : List ℕ) → length numbers ≡ h.count → file ≡ header.bytes h ++ table_bytes numbers → length file ≡ 64 + 4 * h.count
-start_size h numbers file count is =
+written_is : (h : DiffHeader) (behind : List ℕ) → behind ≡ behind_gate.puts h [] → 1 ∷ behind ≡ header.bytes h
+unfolding header behind_gate fixed
+written_is h behind written = ap (λ (l : List ℕ). 1 ∷ l) (written ∙ behind_gate.same h [])
+
+pub start_is : (h : DiffHeader) (numbers middle start : List ℕ) → middle ≡ behind_gate.puts h [] → start ≡ put_all number32.puts numbers middle
+    → 1 ∷ start ≡ header.bytes h ++ table_bytes numbers
+start_is h numbers middle start first second =
+    ap (λ (l : List ℕ). 1 ∷ l) (second ∙ all_same number32 numbers middle)
+    ∙ ap (λ (l : List ℕ). l ++ table_bytes numbers) (written_is h middle first)
+
+pub start_size : (h : DiffHeader) (numbers start : List ℕ) → length numbers ≡ h.count → 1 ∷ start ≡ header.bytes h ++ table_bytes numbers → length start ≡ 63 + 4 * h.count
+start_size h numbers start count is =
     omega (arith, ap length is, length-append (header.bytes h) (table_bytes numbers), fronts.length-header h, size_of_table numbers, count)
 
 pub start_then : (h : DiffHeader) (numbers file pages : List ℕ) → header.Fits h → IsTrue (is_header h) → AllByRecursion number32.Fits numbers

@@ -24,6 +24,15 @@ header =
     (λ _. refl) (λ _. refl)
     (fixed (1 ∷ []) & fixed (magic One) & number32 & identity & identity & number32 & zeros 12)
 
+-- the same behind the open gate
+unfoldable pub behind_gate : Format DiffHeader
+behind_gate =
+    made_of (λ h. (tt, (h.pages, (h.parent, (h.identity, (h.count, tt))))))
+    (λ (_, (pages, (parent, (identity, (count, _))))).
+    record { pages = pages; parent = parent; identity = identity; count = count })
+    (λ _. refl) (λ _. refl)
+    (fixed (magic One) & number32 & identity & identity & number32 & zeros 12)
+
 -- two snapshots that have numbers, and are not one
 abbrev pub is_header : DiffHeader → Bool
 is_header h = is_numbered h.parent && is_numbered h.identity && not (is_same h.parent h.identity)

@@ -2,8 +2,9 @@
 //!
 //! `specs/Copies.antt` says what a diff is and what it makes of a copy of the memory, `Headers.antt` and `Diffs.antt`
 //! which bytes its file is. `DiffHeader::read` answers the header that a file's bytes begin with, or the first refusal
-//! that fits, and `check_table` judges the table behind it; `DiffHeader::encode` gives both as bytes. The pages behind
-//! the table are as the memory has them. `law` has what holds of every diff.
+//! that fits, and `check_table` judges the table behind it; `DiffHeader::encode_behind_gate` gives both as bytes, but
+//! the gate, which is opened last. The pages behind the table are as the memory has them. `law` has what holds of every
+//! diff.
 #![tactic(auto)]
 
 mod header;

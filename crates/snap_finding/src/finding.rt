@@ -15,15 +15,12 @@ use api_calls::SnapshotFiles;
 use gate_file::{FileError, read_front, read_start};
 use guest_pages::PageSet;
 use refusals::Refusal;
+use snap_memory::MemHeader;
 use snap_restore::load_pages;
-use snap_state::{Saved, StateCopy};
+use snap_state::{STATE_HEADER, Saved, StateCopy};
 use std::alloc::Global;
 use vm_outside::Files;
 use vm_types::Identity;
-
-const HEADER_SIZE: u64 = 4096;
-
-const STATE_HEADER: u64 = 32;
 
 /// A snapshot that was found.
 #[derive(Drop)]
@@ -50,7 +47,7 @@ fn find_size<F: Files>(alloc: Global, files: &mut F, name: &str) -> Result<u64, 
     ensures cause { FindCause result (F.known files.old).health.faults (F.known files.new).health.faults }
     ensures lasts { Lasts (F.known files.old).health (F.known files.new).health }
 {
-    match read_start(alloc, files, name, STATE_HEADER) {
+    match read_start(alloc, files, name, STATE_HEADER as u64) {
         Ok(Some(start)) => judge_start(start.size, &start.bytes),
         Ok(None) => Err(FindError::Refused(Refusal::NoSuchFile)),
         Err(FileError::Fault) => Err(FindError::Fault),
@@ -92,7 +89,7 @@ fn find_memory<F: Files>(
     ensures cause { FindCause result (F.known files.old).health.faults (F.known files.new).health.faults }
     ensures lasts { Lasts (F.known files.old).health (F.known files.new).health }
 {
-    match read_start(alloc, files, name, HEADER_SIZE) {
+    match read_start(alloc, files, name, MemHeader::SIZE as u64) {
         Ok(Some(start)) => judge_memory(alloc, identity, pages, start.size, &start.bytes),
         Ok(None) => Err(FindError::Refused(Refusal::NoSuchFile)),
         Err(FileError::Fault) => Err(FindError::Fault),
@@ -128,7 +125,13 @@ pub fn find<F: Files>(
     if let Err(why) = find_memory(alloc, files, memory, saved.identity, saved.copy.pages) {
         return Err(why);
     }
-    match load_pages(alloc, files, memory, HEADER_SIZE, saved.copy.pages) {
+    match load_pages(
+        alloc,
+        files,
+        memory,
+        MemHeader::SIZE as u64,
+        saved.copy.pages,
+    ) {
         Ok(pages) => Ok(FoundSnapshot {
             identity: saved.identity,
             copy: saved.copy,

@@ -7,23 +7,15 @@ ghost use Rattle.snap_finding.specs.Finding.{said_length, size_judged, size_of, 
 
 use crate::finding::FindError;
 use file_format::{DecodeError, is_closed, is_other};
+use guest_memory::PAGE_SIZE;
 use refusals::Refusal;
 use snap_memory::MemHeader;
-use snap_state::{Saved, decode};
+use snap_state::{STATE_HEADER, STATE_MAGIC, Saved, decode};
 use std::alloc::Global;
 use vm_types::Identity;
 
-const HEADER_SIZE: u64 = 4096;
-
-const PAGE: u64 = 4096;
-
-const STATE_HEADER: usize = 32;
-
 /// No state file is longer.
 const MOST_BYTES: u64 = 0x800_0000;
-
-/// "RVFCSTA", and version 1.
-const STATE_MAGIC: [u8; 11] = [82, 86, 70, 67, 83, 84, 65, 1, 0, 0, 0];
 
 fn refused_by(why: DecodeError) -> FindError
     ensures { result ≡ refused_by why }
@@ -102,7 +94,7 @@ fn judge_header(
     if header.merging != 0 {
         return Err(FindError::Refused(Refusal::MergeUnfinished));
     }
-    if header.pages != pages || size != HEADER_SIZE + PAGE * pages as u64 {
+    if header.pages != pages || size != MemHeader::SIZE as u64 + PAGE_SIZE as u64 * pages as u64 {
         return Err(FindError::Refused(Refusal::SizesDiffer));
     }
     let own = header.identity();

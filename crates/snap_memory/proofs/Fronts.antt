@@ -1,10 +1,10 @@
 -- When bytes begin with a header.
-use Rattle.std.proofs.Common.{◌≡◌, ℕ, ◌+◌, ◌*◌, ◌≤◌, Bool, true, false, List, [], ◌∷◌, ◌++◌, length, get_or, ltb, Option, Some, None}
-use Rattle.std.proofs.Common.{Result, Ok, Err, refl, sym, ap, subst, ◌∙◌, arith, length-append}
+use Rattle.std.proofs.Common.{◌≡◌, ℕ, ◌+◌, ◌*◌, Bool, true, false, List, [], ◌∷◌, ◌++◌, length, get_or, ltb, Some}
+use Rattle.std.proofs.Common.{Err, refl, ap, ◌∙◌, arith, length-append}
 use Rattle.std.specs.List.{flat_map}
 use Rattle.std.proofs.lemmas.Bool.{le-ltb}
-use Rattle.std.proofs.lemmas.List.{length-replicate, append-nil}
-use Rattle.file_format.specs.Format.{IsBytes, Format}
+use Rattle.std.proofs.lemmas.List.{length-replicate}
+use Rattle.file_format.specs.Format.{IsBytes}
 use Rattle.file_format.specs.Kinds.{byte, number32, number64, zeros, fixed, times}
 use Rattle.file_format.specs.Identities.{identity}
 use Rattle.file_format.specs.Reading.{Takes}
@@ -14,7 +14,7 @@ use Rattle.file_format.specs.declared.error.ReadError.TheVariants.{Bad, Memory}
 use Rattle.snap_memory.specs.declared.slot.Slot.{Slot}
 use Rattle.snap_memory.specs.declared.header.MemHeader.{MemHeader}
 use Rattle.snap_memory.specs.Slots.{slot}
-use Rattle.snap_memory.specs.Headers.{magic, header, is_valid, Begins, Found}
+use Rattle.snap_memory.specs.Headers.{magic, header, behind_gate, is_valid, Begins, Found}
 
 begun_reads : (given : List ℕ) (h : MemHeader) (b : Begins given h) → header.reads given ≡ Some (h, b.pages)
 begun_reads given h b = ap header.reads b.bytes ∙ header.again h b.pages b.fits
@@ -41,12 +41,24 @@ begun given h rest b is e b-is holds =
     let passes : is_valid h ≡ true = cc in
     record { fits = takes.0; valid = passes; pages = rest; bytes = takes.1 }
 
--- what was written begins with the header, whatever follows it
-pub encoded : (h : MemHeader) (file : List ℕ) → header.Fits h → is_valid h ≡ true → file ≡ header.puts h []
-    → (pages : List ℕ) → Begins (file ++ pages) h
-encoded h file fits valid written pages =
-    let is : file ≡ header.bytes h = written ∙ header.same h [] in
-    record { fits = fits; valid = valid; pages = pages; bytes = ap (λ (bs : List ℕ). bs ++ pages) is }
+-- what was written behind an open gate is the header
+gated : (h : MemHeader) → behind_gate.Fits h → header.Fits h
+unfolding header behind_gate fixed
+gated h fits = (refl, fits)
+
+pub written_is : (h : MemHeader) (behind : List ℕ) → behind ≡ behind_gate.puts h [] → 1 ∷ behind ≡ header.bytes h
+unfolding header behind_gate fixed
+written_is h behind written = ap (λ (bs : List ℕ). 1 ∷ bs) (written ∙ behind_gate.same h [])
+
+-- a file begins with it, whatever follows it
+pub encoded : (h : MemHeader) (behind : List ℕ) → behind_gate.Fits h → is_valid h ≡ true → behind ≡ behind_gate.puts h []
+    → (pages : List ℕ) → Begins (1 ∷ behind ++ pages) h
+encoded h behind fits valid written pages = record {
+  fits = gated h fits;
+  valid = valid;
+  pages = pages;
+  bytes = ap (λ (bs : List ℕ). bs ++ pages) (written_is h behind written);
+}
 
 -- ---- the length
 
@@ -54,11 +66,11 @@ length-zeros : (n : ℕ) → length ((zeros n).bytes tt) ≡ n
 unfolding zeros
 length-zeros n = length-replicate n 0
 
-length-slot : (s : Slot) → length (slot.bytes s) ≡ 32
+pub length-slot : (s : Slot) → length (slot.bytes s) ≡ 32
 unfolding slot identity number64 byte
 length-slot s = omega (arith, length-zeros 15)
 
-length-slots : (vs : List Slot) → length (flat_map slot.bytes vs) ≡ 32 * length vs
+pub length-slots : (vs : List Slot) → length (flat_map slot.bytes vs) ≡ 32 * length vs
 length-slots [] = refl
 length-slots (v ∷ vs) = omega (arith, length-append (slot.bytes v) (flat_map slot.bytes vs), length-slot v, length-slots vs)
 
@@ -75,8 +87,9 @@ length-header h fits =
     let joined = length-joined ((zeros 31).bytes tt) ((times 100 slot).bytes h.slots) ((zeros 832).bytes tt) in
     omega (arith, joined, length-zeros 31, length-zeros 832, length-times h.slots fits.1.1.1.1.1.1.0)
 
-pub length-encoded : (h : MemHeader) (file : List ℕ) → header.Fits h → file ≡ header.puts h [] → length file ≡ 4096
-length-encoded h file fits written = ap length (written ∙ header.same h []) ∙ length-header h fits
+pub length-encoded : (h : MemHeader) (behind : List ℕ) → behind_gate.Fits h → behind ≡ behind_gate.puts h [] → length behind ≡ 4095
+length-encoded h behind fits written =
+    omega (arith, ap length (written_is h behind written), length-header h (gated h fits))
 
 -- ---- one header
 

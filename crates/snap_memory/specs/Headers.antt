@@ -28,6 +28,15 @@ header =
     (λ _. refl) (λ _. refl)
     (fixed (1 ∷ []) & fixed magic & number32 & identity & byte & zeros 31 & times 100 slot & zeros 832)
 
+-- the same behind the open gate
+unfoldable pub behind_gate : Format MemHeader
+behind_gate =
+    made_of (λ h. (tt, (h.pages, (h.made_as, (h.merging, (tt, (h.slots, tt)))))))
+    (λ (_, (pages, (made_as, (merging, (_, (slots, _)))))).
+    record { pages = pages; made_as = made_as; merging = merging; slots = slots })
+    (λ _. refl) (λ _. refl)
+    (fixed magic & number32 & identity & byte & zeros 31 & times 100 slot & zeros 832)
+
 -- ---- which headers there are
 
 -- Leading open slots have numbers. The first that isn't open is free, but for its 15 zeros; all behind it are zeros.

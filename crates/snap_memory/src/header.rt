@@ -1,9 +1,9 @@
 // A header.
-ghost use Rattle.std.specs.Prelude.{◌≡◌, ◌++◌, List, ℕ, IsTrue, IfOk, OnOk, length};
+ghost use Rattle.std.specs.Prelude.{◌≡◌, ◌∷◌, ◌++◌, List, ℕ, IsTrue, IfOk, OnOk, length};
 ghost use Rattle.file_format.specs.Kinds.{times};
 ghost use Rattle.file_format.specs.Starts.{Decodes};
 ghost use Rattle.snap_memory.specs.Slots.{slot};
-ghost use Rattle.snap_memory.specs.Headers.{magic, header, are_slots, identity_of, is_valid, new_header, Begins, Found};
+ghost use Rattle.snap_memory.specs.Headers.{magic, header, behind_gate, are_slots, identity_of, is_valid, new_header, Begins, Found};
 
 use crate::slot::{Slot, are_zero, free_slots, read_slots};
 use file_format::{
@@ -12,8 +12,6 @@ use file_format::{
 };
 use std::alloc::{AllocError, Global};
 use vm_types::Identity;
-
-const HEADER_SIZE: usize = 4096;
 
 /// "RVFCMEM", and version 1.
 const MAGIC: [u8; 11] = [82, 86, 70, 67, 77, 69, 77, 1, 0, 0, 0];
@@ -31,19 +29,13 @@ pub struct MemHeader {
     pub slots: [Slot; 100],
 }
 
-#[tactic(auto, unfolding(crate::specs::Headers::header))]
+#[tactic(auto, unfolding(crate::specs::Headers::header, crate::specs::Headers::behind_gate))]
 impl Stored for MemHeader {
     ghost format = { header };
 
     fn write(&self, out: &mut Vec<u8>) -> Result<(), AllocError> {
         write_fixed(&[1], out)?;
-        write_fixed(&MAGIC, out)?;
-        self.pages.write(out)?;
-        self.made_as.write(out)?;
-        self.merging.write(out)?;
-        write_zeros(31, out)?;
-        write_slots(&self.slots, out)?;
-        write_zeros(832, out)?;
+        self.write_behind_gate(out)?;
         Ok(())
     }
 
@@ -102,6 +94,24 @@ fn header_at(alloc: Global, bytes: &[u8]) -> Result<MemHeader, ReadError>
 }
 
 impl MemHeader {
+    /// How many bytes it has.
+    pub const SIZE: usize = 4096;
+
+    #[tactic(auto, unfolding(crate::specs::Headers::behind_gate))]
+    fn write_behind_gate(&self, out: &mut Vec<u8>) -> Result<(), AllocError>
+        ensures fits { OnOk result (behind_gate.Fits self.now) }
+        ensures bytes { OnOk result (out.new.items ≡ behind_gate.puts self.now out.old.items) }
+    {
+        write_fixed(&MAGIC, out)?;
+        self.pages.write(out)?;
+        self.made_as.write(out)?;
+        self.merging.write(out)?;
+        write_zeros(31, out)?;
+        write_slots(&self.slots, out)?;
+        write_zeros(832, out)?;
+        Ok(())
+    }
+
     /// The header of a new file of so many pages, into which nothing is merged.
     pub fn new(pages: u32, made_as: Identity) -> MemHeader
         ensures { result ≡ new_header pages made_as }
@@ -119,7 +129,7 @@ impl MemHeader {
     pub fn read(alloc: Global, bytes: &[u8]) -> Result<MemHeader, DecodeError>
         ensures { Decodes 4096 magic Begins bytes.now result }
     {
-        if is_closed(bytes, HEADER_SIZE) {
+        if is_closed(bytes, MemHeader::SIZE) {
             return Err(DecodeError::GateClosed);
         }
         if is_other(bytes, &MAGIC) {
@@ -132,16 +142,16 @@ impl MemHeader {
         }
     }
 
-    /// The header's bytes, with its gate open. Whatever follows them, `read` answers this header.
-    pub fn encode(&self, alloc: Global) -> Result<Vec<u8>, AllocError>
+    /// The header's bytes behind its gate. Behind an open one, and whatever follows them, `read` answers this header.
+    pub fn encode_behind_gate(&self, alloc: Global) -> Result<Vec<u8>, AllocError>
         requires { IsTrue (is_valid self.now) }
-        ensures begins { IfOk result (λ file. (pages : List ℕ) → Begins (file.items ++ pages) self.now) }
-        ensures size { IfOk result (λ file. length file.items ≡ 4096) }
-        ensures bytes { IfOk result (λ file. file.items ≡ header.bytes self.now) }
+        ensures begins { IfOk result (λ behind. (pages : List ℕ) → Begins (1 ∷ behind.items ++ pages) self.now) }
+        ensures size { IfOk result (λ behind. length behind.items ≡ 4095) }
+        ensures bytes { IfOk result (λ behind. 1 ∷ behind.items ≡ header.bytes self.now) }
     {
-        let mut file = Vec::new(alloc);
-        self.write(&mut file)?;
-        Ok(file)
+        let mut behind = Vec::new(alloc);
+        self.write_behind_gate(&mut behind)?;
+        Ok(behind)
     }
 
     /// Whether a file can have it: the numbers are from 1 to below 2^63, and the slots behind the first that isn't open

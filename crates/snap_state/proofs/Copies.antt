@@ -1,7 +1,7 @@
 -- When bytes hold a copy.
 use Rattle.std.proofs.Common.{◌≡◌, ℕ, ◌+◌, Bool, true, false, ◌&&◌, get_or, eqb, ltb, List, [], ◌∷◌, ◌++◌, length, drop, Some, None, Err, refl, sym, ap, subst, ◌∙◌, append_assoc, arith}
 use Rattle.std.specs.Prelude.{IsTrue}
-use Rattle.std.proofs.lemmas.Bool.{eqb-true, eq-eqb, le-ltb}
+use Rattle.std.proofs.lemmas.Bool.{eqb-true, eq-eqb, le-ltb, and_parts}
 use Rattle.std.proofs.lemmas.List.{append-nil, nil_from_length}
 use Rattle.vm_types.specs.declared.identity.Identity.{Identity}
 use Rattle.file_format.specs.Format.{IsBytes}
@@ -35,11 +35,6 @@ length-contents v len i c = omega arith
 
 all_true : (a b c : Bool) → a ≡ true → b ≡ true → c ≡ true → (a && b && c) ≡ true
 all_true a b c p q r = rw (p, q, r) refl
-
-and_parts : (a b : Bool) → (a && b) ≡ true → (a ≡ true) × (b ≡ true)
-and_parts true true e = (refl, refl)
-and_parts true false e = absurd cc
-and_parts false b e = absurd cc
 
 held_accepted : (v : Version) (rest : List ℕ) (s : Saved) → Holds v rest s
     → is_accepted (length rest) 0 (length ((state_copy v).bytes s.copy)) s.identity s.copy ≡ true
@@ -90,21 +85,21 @@ regroup : (a b c d : List ℕ) → ((a ++ b) ++ c) ++ d ≡ a ++ (b ++ (c ++ d))
 regroup a b c d = simp append_assoc
 
 -- what was written is the encoding
-pub encoded : (i : Identity) (c : StateCopy) (body file : List ℕ) → body ≡ (state_copy current_version).puts c []
+pub encoded : (i : Identity) (c : StateCopy) (body behind : List ℕ) → body ≡ (state_copy current_version).puts c []
     → (state_copy current_version).Fits c → number32.Fits (length body) → identity.Fits i
     → IsTrue (is_valid c) → IsTrue (is_numbered i)
-    → file ≡ identity.puts i (number32.puts (length body) (1 ∷ magic current_version)) ++ body
-    → Encodes file (record { identity = i; copy = c })
-encoded i c body file written fits fits_len fits_identity valid numbered file-is =
-    let start : List ℕ = 1 ∷ magic current_version in
+    → behind ≡ identity.puts i (number32.puts (length body) (magic current_version)) ++ body
+    → Encodes (1 ∷ behind) (record { identity = i; copy = c })
+encoded i c body behind written fits fits_len fits_identity valid numbered behind-is =
+    let start : List ℕ = magic current_version in
     let body-is : body ≡ (state_copy current_version).bytes c = written ∙ (state_copy current_version).same c [] in
     let puts : identity.puts i (number32.puts (length body) start) ≡ (start ++ number32.bytes (length body)) ++ identity.bytes i =
     identity.same i (number32.puts (length body) start)
     ∙ ap (λ (x : List ℕ). x ++ identity.bytes i) (number32.same (length body) start) in
-    let whole : file ≡ start ++ (number32.bytes (length body) ++ (identity.bytes i ++ body)) =
-    file-is ∙ ap (λ (x : List ℕ). x ++ body) puts ∙ regroup start (number32.bytes (length body)) (identity.bytes i) body in
-    subst (λ (b : List ℕ). number32.Fits (length b) → file ≡ start ++ (number32.bytes (length b) ++ (identity.bytes i ++ b)) → Encodes file (record { identity = i; copy = c })) (sym body-is)
-    (λ fits_len' whole'. record { saved = record { fits = (fits_len', (fits_identity, fits)); valid = valid; numbered = numbered }; bytes = whole' }) fits_len whole
+    let whole : behind ≡ start ++ (number32.bytes (length body) ++ (identity.bytes i ++ body)) =
+    behind-is ∙ ap (λ (x : List ℕ). x ++ body) puts ∙ regroup start (number32.bytes (length body)) (identity.bytes i) body in
+    subst (λ (b : List ℕ). number32.Fits (length b) → behind ≡ start ++ (number32.bytes (length b) ++ (identity.bytes i ++ b)) → Encodes (1 ∷ behind) (record { identity = i; copy = c })) (sym body-is)
+    (λ fits_len' whole'. record { saved = record { fits = (fits_len', (fits_identity, fits)); valid = valid; numbered = numbered }; bytes = ap (λ (l : List ℕ). 1 ∷ l) whole' }) fits_len whole
 
 -- ---- one copy
 

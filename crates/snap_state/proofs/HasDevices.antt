@@ -1,5 +1,5 @@
 -- A copy that has the ports and devices that are configured has as many as there are drives, each of a block device.
-use Rattle.std.proofs.Common.{◌≡◌, ◌∙◌, ℕ, suc, ◌==◌, ◌&&◌, Bool, true, false, refl, ap, List, [], ◌∷◌, length, map, arith}
+use Rattle.std.proofs.Common.{◌≡◌, ◌∙◌, suc, ◌==◌, ◌&&◌, Bool, true, false, refl, ap, List, [], ◌∷◌, length, map, arith}
 use Rattle.std.specs.List.{list_all}
 use Rattle.std.proofs.lemmas.Bool.{and_parts, eq-eqb, eqb-true}
 use Rattle.api_calls.specs.declared.call.Drive.{Drive}

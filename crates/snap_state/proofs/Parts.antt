@@ -1,6 +1,6 @@
 -- A hart that a copy may have and its copy, a board and its copy.
-use Rattle.std.proofs.Common.{◌≡◌, ℕ, ◌&&◌, Bool, true, false, eqb, refl, sym}
-use Rattle.std.proofs.lemmas.Bool.{eqb-true}
+use Rattle.std.proofs.Common.{◌≡◌, ℕ, Bool, true, false, eqb, refl, sym}
+use Rattle.std.proofs.lemmas.Bool.{eqb-true, and_parts}
 use Rattle.board_table.specs.Board.{Board}
 use Rattle.rv_supervisor.specs.Csrs.{bit, status}
 use Rattle.snap_harts.specs.declared.hart.SavedHart.{SavedHart}
@@ -22,11 +22,6 @@ due_again false IdleWaiting e = refl
 due_again true IdleWaiting e = absurd cc
 due_again false (Access word) e = refl
 due_again true (Access word) e = absurd cc
-
-and_parts : (a b : Bool) → (a && b) ≡ true → (a ≡ true) × (b ≡ true)
-and_parts true true e = (refl, refl)
-and_parts true false e = absurd cc
-and_parts false b e = absurd cc
 
 pub hart_again : (pages : ℕ) (s : SavedHart) → is_hart pages s ≡ true → saved_hart (hart_of s) ≡ s
 hart_again pages s is =

@@ -13,13 +13,11 @@ use file_format::{DecodeError, Input, ReadError, Stored, is_closed, is_numbered,
 use std::alloc::{AllocError, Global};
 use vm_types::Identity;
 
-const HEADER_SIZE: usize = 32;
+/// How many bytes the header of a state file has.
+pub const STATE_HEADER: usize = 32;
 
-/// The gate, open; "RVFCSTA", and version 1.
-const START: [u8; 12] = [1, 82, 86, 70, 67, 83, 84, 65, 1, 0, 0, 0];
-
-/// "RVFCSTA", and version 1.
-const MAGIC: [u8; 11] = [82, 86, 70, 67, 83, 84, 65, 1, 0, 0, 0];
+/// What stands behind its gate: "RVFCSTA", and version 1.
+pub const STATE_MAGIC: [u8; 11] = [82, 86, 70, 67, 83, 84, 65, 1, 0, 0, 0];
 
 /// A copy, under the identity of its snapshot.
 #[derive(Drop)]
@@ -52,10 +50,10 @@ fn contents_at(alloc: Global, rest: &[u8]) -> Result<Saved, ReadError>
 pub fn decode(alloc: Global, bytes: &[u8]) -> Result<Saved, DecodeError>
     ensures { Decodes 32 (magic (version_of bytes.now)) Encodes bytes.now result }
 {
-    if is_closed(bytes, HEADER_SIZE) {
+    if is_closed(bytes, STATE_HEADER) {
         return Err(DecodeError::GateClosed);
     }
-    if is_other(bytes, &MAGIC) {
+    if is_other(bytes, &STATE_MAGIC) {
         return Err(DecodeError::WrongMagic);
     }
     let (_, rest) = bytes.split_at(12);
@@ -66,32 +64,36 @@ pub fn decode(alloc: Global, bytes: &[u8]) -> Result<Saved, DecodeError>
     }
 }
 
-// A header, and this body behind it.
-fn file_of(alloc: Global, identity: Identity, body: &[u8]) -> Result<Vec<u8>, AllocError>
+// What stands behind the gate: the rest of the header, and this body.
+fn with_header(alloc: Global, identity: Identity, body: &[u8]) -> Result<Vec<u8>, AllocError>
     ensures len { IfOk result (λ _. number32.Fits (length body.now)) }
     ensures identity { IfOk result (λ _. named.Fits identity) }
-    ensures bytes { IfOk result (λ file. file.items ≡
-        named.puts identity (number32.puts (length body.now) (1 ∷ magic current_version)) ++ body.now) }
+    ensures bytes { IfOk result (λ behind. behind.items ≡
+        named.puts identity (number32.puts (length body.now) (magic current_version)) ++ body.now) }
 {
     let Ok(len) = u32::try_from(body.len()) else {
         return Err(AllocError);
     };
-    let mut file = Vec::new(alloc);
-    file.extend_from_slice(&START)?;
-    len.write(&mut file)?;
-    identity.write(&mut file)?;
-    file.extend_from_slice(body)?;
-    Ok(file)
+    let mut behind = Vec::new(alloc);
+    behind.extend_from_slice(&STATE_MAGIC)?;
+    len.write(&mut behind)?;
+    identity.write(&mut behind)?;
+    behind.extend_from_slice(body)?;
+    Ok(behind)
 }
 
-/// The bytes of the file of this copy under this identity, whose number is from 1 to below 2^63.
-pub fn encode(alloc: Global, identity: Identity, copy: &StateCopy) -> Result<Vec<u8>, AllocError>
+/// The bytes behind the gate of the file of this copy under this identity, whose number is from 1 to below 2^63.
+pub fn encode_behind_gate(
+    alloc: Global,
+    identity: Identity,
+    copy: &StateCopy,
+) -> Result<Vec<u8>, AllocError>
     requires valid { IsTrue (is_valid copy.now) }
     requires numbered { IsTrue (is_numbered identity) }
-    ensures { IfOk result (λ file. Encodes file.items (record { identity = identity; copy = copy.now })) }
+    ensures { IfOk result (λ behind. Encodes (1 ∷ behind.items) (record { identity = identity; copy = copy.now })) }
 {
     let mut body = Vec::new(alloc);
     copy.write(&mut body)?;
-    let file = file_of(alloc, identity, &body)?;
-    Ok(file)
+    let behind = with_header(alloc, identity, &body)?;
+    Ok(behind)
 }

@@ -3,7 +3,7 @@
 //!
 //! `specs/Files.antt` says which bytes are a state file of which copy, over the formats of the parts: `Configured`,
 //! `Boards`, `Copies`, and those of `snap_harts` and `snap_devices`. `Valid` says which copies there are, a line a rule.
-//! `encode` writes the file of a copy; `decode` answers the one copy that the bytes are a file of, or the first refusal
+//! `encode_behind_gate` writes the file of a copy but its gate, which is opened last; `decode` answers the one copy that the bytes are a file of, or the first refusal
 //! that fits. `specs/Copy.antt` says of which board and of which harts a copy is.
 #![tactic(auto)]
 
@@ -21,6 +21,6 @@ pub use board::SavedBoard;
 pub use configuration::{BootSource, Configuration};
 pub use copy::{Reservation, Section, StateCopy};
 pub use drives::SavedDrives;
-pub use file::{Saved, decode, encode};
+pub use file::{STATE_HEADER, STATE_MAGIC, Saved, decode, encode_behind_gate};
 pub use law::{one_copy, one_of_each};
 pub use valid::is_valid;

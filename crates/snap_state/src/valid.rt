@@ -17,12 +17,9 @@ use crate::copy::{Reservation, Section, StateCopy};
 use api_calls::MachineConfig;
 use guest_memory::{PAGE_SIZE, RAM_START, is_ram};
 use rv_doing::{effect_of_word, wanted};
-use rv_supervisor::{HartCsr, Regs, csr_value};
+use rv_supervisor::{HartCsr, INTERRUPTS, Regs, csr_value};
 use snap_harts::{HartPlace, SavedHart};
 use vm_types::TextList;
-
-/// The bits of sie: software, timer and external interrupts.
-const INTERRUPTS: u64 = 0x222;
 
 const RING_SIZE: usize = 4096;
 

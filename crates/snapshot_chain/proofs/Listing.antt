@@ -1,5 +1,5 @@
 -- The creates of a chain are a list with which files agree.
-use Rattle.std.proofs.Common.{◌≡◌, ◌≢◌, ◌<◌, ℕ, List, [], ◌∷◌, ◌++◌, Option, Some, None, inl, inr, refl, sym, ◌∙◌, ap, subst, arith}
+use Rattle.std.proofs.Common.{◌≡◌, ◌≢◌, ◌<◌, ℕ, List, [], ◌∷◌, Option, Some, None, inl, inr, refl, sym, ◌∙◌, ap, subst, arith}
 use Rattle.std.specs.Prelude.{IsTrue}
 use Rattle.vm_types.specs.declared.identity.Identity.{Identity}
 use Rattle.gate_file.specs.Pairs.{Target, text_of}
@@ -13,7 +13,7 @@ use Rattle.snapshot_merge.specs.Memories.{IsMemoryFile}
 use Rattle.flat_snapshot.specs.Files.{diff_file, memory_file, state_body, state_file}
 use Rattle.create_lists.specs.Listed.{AreCreates, AreFilesOf, Create, IsAmong, diff_since, memory_of, saved_of}
 use Rattle.snapshot_chain.specs.Chains as chains
-use Rattle.snapshot_chain.specs.Chains.{DiffsLead, Follows, IsSaving, Saving, identity_of, memory_text, state_text}
+use Rattle.snapshot_chain.specs.Chains.{DiffsLead, IsSaving, Saving, identity_of, memory_text, state_text}
 use Rattle.snapshot_chain.specs.Listed.{create_of, creates_of, diffs_from}
 use Rattle.snapshot_chain.proofs.Created.{diff_is_file, diff_text, full_file, full_text, is_diff, number_rises, state_is}
 

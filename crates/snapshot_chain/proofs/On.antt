@@ -1,5 +1,5 @@
 -- Inside an item a machine is ready, and its guest on, if it was so before the item.
-use Rattle.std.proofs.Common.{◌≡◌, ℕ, Bool, true, false, if◌then◌else◌, nat_lt, refl, ap, sym, subst, ◌∙◌, List, [], ◌∷◌, Option, Some, None, Result, Ok, Err, inl, inr}
+use Rattle.std.proofs.Common.{◌≡◌, ℕ, Bool, true, false, if◌then◌else◌, nat_lt, refl, ap, ◌∙◌, List, [], ◌∷◌, Option, Some, None, Result, Ok, Err, inl, inr}
 use Rattle.std.specs.Prelude.{bit_or, ◌^◌}
 use Rattle.vm_types.specs.Saved.{Saved}
 use Rattle.vm_types.specs.declared.ids.ActorId.TheVariants.{Device as DeviceId}
@@ -27,7 +27,7 @@ use Rattle.flat_machine.specs.Machine.{Machine, is_off, off_by}
 use Rattle.flat_machine.specs.Ready.{Ready}
 use Rattle.flat_machine.specs.Requests.{CreateFails, Creates, Fails, Leaves, LeavesBy, RequestStep, Restores, Stores, allowed, disk_of, halted, image_of, retold, started_from}
 use Rattle.flat_machine.proofs.Between.{leaves_of}
-use Rattle.flat_machine.proofs.Ready.{request_ready}
+use Rattle.flat_machine.proofs.Ready.{request_ready, ready_is}
 use Rattle.snapshot_chain.specs.Chains.{IsInside}
 
 abbrev On : Machine → Type 0
@@ -128,9 +128,6 @@ inside_on m n (inl same) on = on_is m n same on
 inside_on m n (inr (bytes, outcomes, said, c, front)) on = front_on outcomes (arrived m.connection bytes) c m n said on front
 
 -- ---- and it stays ready
-
-ready_is : (m n : Machine) → n ≡ m → Ready m → Ready n
-ready_is m n is ready = subst (λ (q : Machine). Ready q) (sym is) ready
 
 front_ready : (outcomes : List Outcome) (c d : Connection) (m n : Machine) (said : List Response) → Ready m
     → ConversationFront RequestStep outcomes c m said d n → Ready n

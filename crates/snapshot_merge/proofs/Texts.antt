@@ -13,7 +13,7 @@ use Rattle.snap_memory.specs.declared.header.MemHeader.{MemHeader}
 use Rattle.snap_memory.specs.declared.slot.Slot.{Slot}
 use Rattle.snap_memory.specs.Headers.{header, magic}
 use Rattle.snap_memory.specs.Slots.{slot}
-use Rattle.snap_memory.proofs.Fronts.{length-header}
+use Rattle.snap_memory.proofs.Fronts.{length-header, length-slot, length-slots}
 use Rattle.snap_diff.specs.Copies.{rises, with_pages}
 use Rattle.snap_diff.proofs.Laying.{below, length-paged, others_rise}
 use Rattle.gate_file.specs.Stages.{written_all}
@@ -66,10 +66,6 @@ put_mark h v = refl
 
 -- ---- a slot
 
-length-slot : (s : Slot) → length (slot.bytes s) ≡ 32
-unfolding slot identity number64 byte zeros
-length-slot s = let nothing : ℕ = 0 in omega (arith, length-replicate 15 nothing)
-
 pub length-identity : (i : Identity) → length (identity.bytes i) ≡ 16
 unfolding identity number64
 length-identity i = refl
@@ -94,10 +90,6 @@ put_slot (t ∷ ts) (suc j) q piece s lt inside is =
     ap (λ (k : ℕ). put_at (slot.bytes t ++ flat_map slot.bytes ts) k piece) place
     ∙ put_behind (slot.bytes t) (flat_map slot.bytes ts) piece (32 * j + q)
     ∙ ap (λ (l : List ℕ). slot.bytes t ++ l) (put_slot ts j q piece s (omega (arith, lt)) inside is)
-
-length-slots : (slots : List Slot) → length (flat_map slot.bytes slots) ≡ 32 * length slots
-length-slots [] = refl
-length-slots (s ∷ ss) = omega (arith, length-append (slot.bytes s) (flat_map slot.bytes ss), length-slot s, length-slots ss)
 
 put_header : (h : MemHeader) (j q : ℕ) (piece : List ℕ) (s : Slot) → j < length h.slots → q + length piece ≤ 32
     → put_at (slot.bytes (get_or h.slots j s)) q piece ≡ slot.bytes s → put_at (header.bytes h) (64 + (32 * j + q)) piece ≡ header.bytes (record h { slots = set h.slots j s })

@@ -2,7 +2,7 @@
 use Rattle.std.proofs.Common.{◌≡◌, ◌<◌, ◌≤◌, ℕ, zero, suc, ◌+◌, ◌*◌, ◌-◌, ◌%◌, true, List, [], ◌∷◌, ◌++◌, length, take, drop, get_or, inl, inr, refl, sym, ◌∙◌, ap, subst, arith, length-append, length-drop}
 use Rattle.std.specs.Int.{w64, from_le_bytes, to_le_bytes}
 use Rattle.std.proofs.lemmas.Bool.{cases_lt}
-use Rattle.std.proofs.lemmas.List.{drop_at, get_or-append_right, get_or_append_left, get_or_past, length-take-le, take-append-drop, take_at}
+use Rattle.std.proofs.lemmas.List.{drop_at, get_or_past, length-take-le, take-append-drop, take_at}
 use Rattle.vm_types.specs.Saved.{written}
 use Rattle.vm_types.specs.declared.identity.Identity.{Identity}
 use Rattle.gate_file.specs.Stages.{AreInside, AreLike, AreOfBytes, IsTorn, written_all}
@@ -15,14 +15,9 @@ use Rattle.snap_diff.specs.Copies.{rises}
 use Rattle.snap_diff.proofs.Laying.{below, others_rise}
 use Rattle.snap_diff.proofs.Tables.{bytes_behind, bytes_front}
 use Rattle.snapshot_merge.specs.Calls.{page_writes}
+use Rattle.vm_outside.proofs.Imaging.{both_bytes}
 
 -- ---- what are bytes
-
-both_bytes : (front back : List ℕ) → IsBytes front → IsBytes back → IsBytes (front ++ back)
-both_bytes front back first second i = elim (cases_lt i (length front)) [
-  | inl lt ↦ subst (λ (b : ℕ). b < 256) (sym (get_or_append_left front back 0 i lt)) (first i)
-  | inr le ↦ subst (λ (b : ℕ). b < 256) (sym (get_or-append_right front back (length front) i 0 refl le)) (second (i - length front))
-]
 
 pub byte_is : (v : ℕ) → v < 256 → IsBytes (v ∷ [])
 byte_is v small zero = small

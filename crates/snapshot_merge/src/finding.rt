@@ -20,10 +20,6 @@ use snap_memory::MemHeader;
 use std::alloc::Global;
 use vm_outside::Files;
 
-const BASE_HEADER: u64 = 4096;
-
-pub(crate) const DIFF_HEADER: u64 = 64;
-
 /// A diff's file before its pages.
 #[derive(Drop)]
 pub struct DiffStart {
@@ -47,7 +43,7 @@ fn find_base<F: Files>(alloc: Global, files: &mut F, name: &str) -> Result<MemHe
     ensures cause { RebaseCause result (F.known files.old).health.faults (F.known files.new).health.faults }
     ensures lasts { Lasts (F.known files.old).health (F.known files.new).health }
 {
-    match read_start(alloc, files, name, BASE_HEADER) {
+    match read_start(alloc, files, name, MemHeader::SIZE as u64) {
         Ok(Some(start)) => judge_base(alloc, start.size, &start.bytes),
         Ok(None) => Err(RebaseError::Refused(Refusal::NoSuchFile)),
         Err(why) => Err(failed_by(why)),
@@ -64,7 +60,7 @@ fn find_diff<F: Files>(alloc: Global, files: &mut F, name: &str) -> Result<DiffS
     ensures cause { RebaseCause result (F.known files.old).health.faults (F.known files.new).health.faults }
     ensures lasts { Lasts (F.known files.old).health (F.known files.new).health }
 {
-    let start = match read_start(alloc, files, name, DIFF_HEADER) {
+    let start = match read_start(alloc, files, name, DiffHeader::SIZE as u64) {
         Ok(Some(start)) => start,
         Ok(None) => return Err(RebaseError::Refused(Refusal::NoSuchFile)),
         Err(why) => return Err(failed_by(why)),
@@ -107,7 +103,8 @@ fn read_table<F: Files>(
     ensures cause { RebaseCause result (F.known files.old).health.faults (F.known files.new).health.faults }
     ensures lasts { Lasts (F.known files.old).health (F.known files.new).health }
 {
-    let bytes = match read_front(alloc, files, name, DIFF_HEADER + 4 * header.count as u64) {
+    let front = DiffHeader::SIZE as u64 + 4 * header.count as u64;
+    let bytes = match read_front(alloc, files, name, front) {
         Ok(bytes) => bytes,
         Err(why) => return Err(failed_by(why)),
     };

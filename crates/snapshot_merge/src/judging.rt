@@ -22,8 +22,6 @@ use snap_diff::{DiffHeader, check_table};
 use snap_memory::MemHeader;
 use std::alloc::Global;
 
-const HEADER_SIZE: u64 = 4096;
-
 pub(crate) fn refused_by(why: DecodeError) -> RebaseError
     ensures { result ≡ refused_by why }
 {
@@ -59,7 +57,7 @@ fn size_base(size: u64, header: MemHeader) -> Result<MemHeader, RebaseError>
     ensures judged { Answers Same result (base_sized size header) }
     ensures cause { (n : ℕ) → RebaseCause result n n }
 {
-    if size == HEADER_SIZE + PAGE_SIZE as u64 * header.pages as u64 {
+    if size == MemHeader::SIZE as u64 + PAGE_SIZE as u64 * header.pages as u64 {
         Ok(header)
     } else {
         Err(RebaseError::Refused(Refusal::SizesDiffer))
@@ -81,7 +79,7 @@ fn size_diff(size: u64, header: DiffHeader) -> Result<DiffHeader, RebaseError>
     ensures judged { (given : List ℕ) → Begins (take 64 given) header → size ≡ length given → StartJudged given result }
     ensures cause { (n : ℕ) → RebaseCause result n n }
 {
-    if size == 64 + (4 + PAGE_SIZE as u64) * header.count as u64 {
+    if size == DiffHeader::SIZE as u64 + (4 + PAGE_SIZE as u64) * header.count as u64 {
         Ok(header)
     } else {
         Err(RebaseError::Refused(Refusal::BadField))
@@ -96,7 +94,7 @@ pub(crate) fn judge_table(header: DiffHeader, bytes: &[u8]) -> Result<(), Rebase
         TableJudged given header bytes.now result }
     ensures cause { (n : ℕ) → RebaseCause result n n }
 {
-    match check_table(&bytes[64..], header.pages) {
+    match check_table(&bytes[DiffHeader::SIZE..], header.pages) {
         Ok(()) => Ok(()),
         Err(_) => Err(RebaseError::Refused(Refusal::BadField)),
     }

@@ -9,12 +9,11 @@ ghost use Rattle.gate_file.specs.Stages.{calls_of, stage_calls, text_after, writ
 ghost use Rattle.snapshot_merge.specs.Calls.{filling, marking, naming, page_writes, slot_at};
 ghost use Rattle.vm_outside.specs.Known.{Called, Tells};
 
-use crate::finding::{DIFF_HEADER, DiffStart};
+use crate::finding::DiffStart;
 use guest_memory::PAGE_SIZE;
-use snap_diff::table_page;
+use snap_diff::{DiffHeader, table_page};
+use snap_memory::MemHeader;
 use vm_outside::{Failed, Files};
-
-const BASE_HEADER: u64 = 4096;
 
 // Where the merging byte is.
 const MERGING: u64 = 32;
@@ -130,11 +129,12 @@ fn put_pages<F: Files>(
         (F.known files.old) (F.known files.new)) }
     ensures called { Called (F.known files.old).health (F.known files.new).health result }
 {
-    let pages = DIFF_HEADER + 4 * start.header.count as u64;
+    let pages = DiffHeader::SIZE as u64 + 4 * start.header.count as u64;
     for i in 0..start.header.count {
-        let number = table_page(&start.bytes[64..], i);
+        let number = table_page(&start.bytes[DiffHeader::SIZE..], i);
         files.read_at(diff, pages + (PAGE_SIZE as u64) * i as u64, page)?;
-        files.write_at(base, BASE_HEADER + (PAGE_SIZE as u64) * number as u64, page)?;
+        let place = MemHeader::SIZE as u64 + PAGE_SIZE as u64 * number as u64;
+        files.write_at(base, place, page)?;
     }
     files.sync(base)?;
     Ok(())

@@ -15,7 +15,6 @@ use Rattle.turn_table.specs.declared.held.Held.{Held}
 use Rattle.turn_table.specs.declared.view.View.{View}
 use Rattle.turn_table.specs.declared.view.Round.{Round}
 use Rattle.turn_table.specs.declared.view.Turn.{Turn}
-use Rattle.turn_table.specs.declared.view.Noted.{Noted}
 use Rattle.turn_table.specs.Views.{entries_at, all_at, parts_of, wrote, noted}
 use Rattle.turn_table.specs.Rule.{IsAmong, IsAt, Stands, Fits, IsKept}
 use Rattle.turn_table.specs.Steps.{Mine, with_turn, IsTaken, Takes, Releases}

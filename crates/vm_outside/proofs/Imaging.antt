@@ -1,6 +1,6 @@
 -- One call more: what files hold is one of the images that a crash may leave, where it was before.
 use Rattle.std.proofs.Common.{◌≡◌, ◌≢◌, ◌<◌, ◌≤◌, ◌⊎◌, ℕ, zero, suc, ◌+◌, ◌-◌, ◌==◌, Bool, true, false, cond, List, [], ◌∷◌, ◌++◌, length, get_or, take, drop, replicate, Option, Some, None, is_some, inl, inr, refl, sym, ◌∙◌, ap, subst, arith}
-use Rattle.std.proofs.lemmas.Bool.{cases_lt}
+use Rattle.std.proofs.lemmas.Bool.{cases_lt, false_from_ne_true}
 use Rattle.std.proofs.lemmas.List.{get_or-append_right, get_or-drop, get_or-take, get_or_append_left, get_or_past, length-append, length-drop, length-replicate, length-take, length-take-le}
 use Rattle.std.proofs.lemmas.Slice.Eq.{bytes_eq-Decides}
 use Rattle.std.proofs.lemmas.Map.Text.{is_eq-slice_cmp}
@@ -16,25 +16,21 @@ use Rattle.vm_outside.specs.Crashes.{Disk, Images, IsBytes, Left, LeftBy, NoFile
 
 -- ---- a file that is put
 
-not_so : (b : Bool) → (b ≡ true → ⊥) → b ≡ false
-not_so true never = absurd (never refl)
-not_so false never = refl
-
-got : (m : Saved) (name text q : List ℕ) → get (insert m name text) q ≡ cond (eq_by_cmp (slice_cmp nat_cmp) q name) (Some text) (get m q)
+pub got : (m : Saved) (name text q : List ℕ) → get (insert m name text) q ≡ cond (eq_by_cmp (slice_cmp nat_cmp) q name) (Some text) (get m q)
 got m name text q = get-insert nat_list_cmp_total m name text q
 
-got_there : (m : Saved) (name text : List ℕ) → get (insert m name text) name ≡ Some text
+pub got_there : (m : Saved) (name text : List ℕ) → get (insert m name text) name ≡ Some text
 got_there m name text =
     got m name text name ∙ ap (λ (b : Bool). cond b (Some text) (get m name)) (is_eq-slice_cmp name name ∙ (bytes_eq-Decides name name).1 refl)
 
-got_other : (m : Saved) (name text other : List ℕ) → other ≢ name → get (insert m name text) other ≡ get m other
+pub got_other : (m : Saved) (name text other : List ℕ) → other ≢ name → get (insert m name text) other ≡ get m other
 got_other m name text other differs =
     got m name text other
-    ∙ ap (λ (b : Bool). cond b (Some text) (get m other)) (is_eq-slice_cmp other name ∙ not_so (bytes_eq other name) (λ same. differs ((bytes_eq-Decides other name).0 same)))
+    ∙ ap (λ (b : Bool). cond b (Some text) (get m other)) (is_eq-slice_cmp other name ∙ false_from_ne_true (bytes_eq other name) (λ same. differs ((bytes_eq-Decides other name).0 same)))
 
 -- ---- what are bytes
 
-both_bytes : (front back : List ℕ) → IsBytes front → IsBytes back → IsBytes (front ++ back)
+pub both_bytes : (front back : List ℕ) → IsBytes front → IsBytes back → IsBytes (front ++ back)
 both_bytes front back first second i = elim (cases_lt i (length front)) [
   | inl lt ↦ subst (λ (b : ℕ). b < 256) (sym (get_or_append_left front back 0 i lt)) (first i)
   | inr le ↦ subst (λ (b : ℕ). b < 256) (sym (get_or-append_right front back (length front) i 0 refl le)) (second (i - length front))
@@ -114,7 +110,7 @@ write_torn text bytes at false = over text bytes at
 
 -- ---- calls in turn
 
-left_both : (before : Disk → Type 0) (a b : List FileCall) (d : Disk) → Left (Left before a) b d → Left before (a ++ b) d
+pub left_both : (before : Disk → Type 0) (a b : List FileCall) (d : Disk) → Left (Left before a) b d → Left before (a ++ b) d
 left_both before [] b d left = left
 left_both before (c ∷ a) b d left = left_both (λ d. (old : Disk) × before old × LeftBy c old d) a b d left
 

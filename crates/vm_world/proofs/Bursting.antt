@@ -1,6 +1,6 @@
 -- A hart's instructions one after another, made by a loop that holds the pc and the count down apart.
 use Rattle.std.proofs.Common.{◌≡◌, ℕ, ◌+◌, ◌-◌, ◌<◌, ◌≤◌, ◌%◌, ◌^◌, ◌++◌, nat_le, nat_lt, Bool, true, false, if◌then◌else◌, List, [], ◌∷◌, Some, slice_get, slice_set, refl, sym, ap, subst, ◌∙◌, arith, inl, inr}
-use Rattle.std.proofs.lemmas.Bool.{leb-true, le-leb, ltb-true}
+use Rattle.std.proofs.lemmas.Bool.{leb-true, le-leb, ltb-true, false_from_ne_true}
 use Rattle.vm_types.specs.Fits.{fits}
 use Rattle.vm_types.specs.declared.ids.ActorId.{ActorId}
 use Rattle.vm_types.specs.declared.op.Op.{Op}
@@ -117,12 +117,8 @@ same_by true b to from = sym (to refl)
 same_by false true to from = from refl
 same_by false false to from = refl
 
-over_by : (b : Bool) → (b ≡ true → ⊥) → b ≡ false
-over_by true never = absurd (never refl)
-over_by false never = refl
-
 over : (count made : ℕ) → made < count → nat_le count made ≡ false
-over count made more = over_by (nat_le count made) (λ is. omega (arith, more, leb-true count made is))
+over count made more = false_from_ne_true (nat_le count made) (λ is. omega (arith, more, leb-true count made is))
 
 last_one : (count made : ℕ) → made < count → nat_le (count - made) 1 ≡ nat_le count (made + 1)
 last_one count made more =
@@ -176,7 +172,7 @@ burst_goes pages mid later first actor done accesses pc given ended r s same gon
     (goes (r.count - done) board ports)))))
 
 high_is : (at : ℕ) → ram_start ≤ at → nat_lt at ram_start ≡ false
-high_is at far = over_by (nat_lt at ram_start) (λ is. omega (arith, far, ltb-true at ram_start is))
+high_is at far = false_from_ne_true (nat_lt at ram_start) (λ is. omega (arith, far, ltb-true at ram_start is))
 
 load_fits : (kind : LoadKind) (at word : ℕ) → fits (op.Read at (load_bytes kind)) (Bytes (bytes_of (load_bytes kind) word)) ≡ true
 load_fits LoadKind.Byte at word = refl

@@ -1,6 +1,6 @@
 -- What the hart's small ops are answered is what its ops are answered.
 use Rattle.std.proofs.Common.{◌≡◌, ℕ, zero, suc, ◌+◌, ◌-◌, ◌≤◌, nat_le, nat_lt, Bool, true, false, cond, ◌&&◌, List, [], ◌∷◌, Option, Some, None, length, slice_get, slice_set, refl, sym, ap, subst, ◌∙◌, inl, inr, arith, ◌<◌, if◌then◌else◌, ◌⊎◌}
-use Rattle.std.proofs.lemmas.Bool.{cases_lt, leb-true, ltb-false, ltb-true}
+use Rattle.std.proofs.lemmas.Bool.{cases_lt, leb-true, ltb-false, ltb-true, and_parts, false_from_ne_true}
 use Rattle.vm_types.specs.declared.ids.ActorId.{ActorId}
 use Rattle.vm_types.specs.declared.ids.PlaceId.{PlaceId}
 use Rattle.vm_types.specs.declared.op.Op.{Op}
@@ -64,22 +64,14 @@ read_leaves m at len true = refl
 read_leaves m at len false = refl
 
 -- an access at RAM's start or above is none to the board's registers
-right_holds : (a b : Bool) → (a && b) ≡ true → b ≡ true
-right_holds true b both = both
-right_holds false b both = cc
-
-is_false : (b : Bool) → (b ≡ true → ⊥) → b ≡ false
-is_false true never = absurd (never refl)
-is_false false never = refl
-
 too_high : (at len : ℕ) → ram_start ≤ at → at - 0x2000000 + len ≤ 4096 → ⊥
 too_high at len high inside = omega (arith, high, inside)
 
 pub not_registers : (at len : ℕ) → ram_start ≤ at → are_registers at len ≡ false
 not_registers at len high =
-    is_false (are_registers at len) (λ all. too_high at len high (leb-true (at - 0x2000000 + len) 4096
-    (right_holds (nat_le 0x2000000 at) (nat_le (at - 0x2000000 + len) 4096)
-    (right_holds (nat_le 1 len) (is_window at len) all))))
+    false_from_ne_true (are_registers at len) (λ all. too_high at len high (leb-true (at - 0x2000000 + len) 4096
+    (and_parts (nat_le 0x2000000 at) (nat_le (at - 0x2000000 + len) 4096)
+    (and_parts (nat_le 1 len) (is_window at len) all).1).1))
 
 pub not_low : (at : ℕ) → nat_lt at ram_start ≡ false → ram_start ≤ at
 not_low at is = ltb-false at ram_start is
@@ -92,18 +84,14 @@ none_by : (b : Bool) (k : ℕ) → b ≡ false → (let found : Option ℕ = if 
 none_by true k is = cc
 none_by false k is = refl
 
-left_holds : (a b : Bool) → (a && b) ≡ true → a ≡ true
-left_holds true b both = refl
-left_holds false b both = cc
-
 not_port : (at len : ℕ) → ram_start ≤ at → port_at at len ≡ None
 not_port at len high =
     let near : Bool = nat_lt (port_number at) most_ports in
     let begun : Bool = nat_le 1 len && nat_le ports_start at in
     let all : Bool = nat_le 1 len && nat_le ports_start at && near && is_in_one at len in
     none_by all (port_number at)
-    (is_false all (λ is. far at high (ltb-true (port_number at) most_ports
-    (right_holds begun near (left_holds (begun && near) (is_in_one at len) is)))))
+    (false_from_ne_true all (λ is. far at high (ltb-true (port_number at) most_ports
+    (and_parts begun near (and_parts (begun && near) (is_in_one at len) is).0).1)))
 
 module _ (pages : List PageValue) (board : Board) (ports : List PortState) (actor : ActorId) where
   abbrev paged : ℕ → Bool → PlaceId

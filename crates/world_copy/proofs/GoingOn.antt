@@ -1,8 +1,7 @@
 -- A world goes on where the guest does.
-use Rattle.std.proofs.Common.{◌≡◌, ℕ, zero, suc, ◌*◌, ◌/◌, ◌<◌, ◌^◌, Bool, true, false, List, [], ◌∷◌, ◌++◌, Option, Some, None, is_some, length, map, replicate, slice_get, refl, sym, ap, subst, ◌∙◌, arith}
+use Rattle.std.proofs.Common.{◌≡◌, ℕ, zero, suc, ◌*◌, ◌/◌, ◌<◌, ◌^◌, Bool, true, false, List, [], ◌∷◌, ◌++◌, Some, is_some, length, map, replicate, slice_get, refl, sym, ap, subst, ◌∙◌, arith}
 use Rattle.std.specs.Prelude.{IsTrue}
 use Rattle.std.proofs.lemmas.List.{length-map}
-use Rattle.vm_types.specs.declared.op.Op.{Op}
 use Rattle.le_fields.specs.Fields.{bytes_of}
 use Rattle.le_fields.proofs.Values.{value_of_bytes}
 use Rattle.rv_supervisor.specs.declared.regs.Regs.{Regs}
@@ -32,26 +31,19 @@ use Rattle.snap_harts.specs.Copy.{regs_of, turn_of}
 use Rattle.snap_state.specs.Copy.{board_at}
 use Rattle.snap_state.specs.Valid.{is_valid}
 use Rattle.flat_snapshot.specs.Carried.{carried_guest, hart_steps, resumed, slots_with, steps_at}
-use Rattle.flat_snapshot.proofs.GoesOn.{devices_sound}
+use Rattle.flat_snapshot.proofs.GoesOn.{devices_sound, access_fetches}
 use Rattle.vm_world.specs.Worlds.{IsWorld, world_with}
 use Rattle.world_copy.specs.GoingOn.{GoOn}
+use Rattle.vm_world.proofs.Events.{something}
 
 -- ---- one hart
-
-some_op : (o : Option Op) → is_some o ≡ true → (op : Op) × (o ≡ Some op)
-some_op None is = cc
-some_op (Some op) is = (op, refl)
-
-access_fetches : (due : Bool) (word : ℕ) → turn_of due (Access word) ≡ turn.Fetch
-access_fetches true word = refl
-access_fetches false word = refl
 
 -- one that has begun an instruction
 pub leads_begun : (h : SavedHart) (word : ℕ) → h.place ≡ Access word → word < 2 ^ 32
     → is_some (asked (executes word (regs_of h))) ≡ true
     → LeadsTo (regs_of h) (steps_at h.place h.pc) (record { regs = regs_of h; begun = Some word })
 leads_begun h word at small asks =
-    let op = some_op (asked (executes word (regs_of h))) asks in
+    let op = something (asked (executes word (regs_of h))) asks in
     let fetches : turn_of h.is_look_due h.place ≡ turn.Fetch = ap (turn_of h.is_look_due) at ∙ access_fetches h.is_look_due word in
     let steps : steps_at (Access word) h.pc ≡ steps_at h.place h.pc = ap (λ (p : HartPlace). steps_at p h.pc) (sym at) in (
       [],

@@ -1,8 +1,8 @@
-use Rattle.std.proofs.Common.{◌≡◌, ◌∙◌, ap, ap₂, refl, rules, codes, true}
+use Rattle.std.proofs.Common.{◌≡◌, ◌∙◌, ap, ap₂, rules, codes}
 use Rattle.std.proofs.lemmas.Result.{IfOk-weaker}
-use Rattle.clap.specs.Words.{App, Shape, app_of, shape_of, with_subcommand}
+use Rattle.clap.specs.Words.{Shape, app_of, shape_of, with_subcommand}
 use Rattle.clap.proofs.SimpleLemmas.{plain_fields}
-use Rattle.command_line.specs.Programs.{number_app, program_app, replay_app, serve_app}
+use Rattle.command_line.specs.Programs.{number_app, program_app}
 use Rattle.command_line.proofs.commands.monitor_program.Goals as goal
 
 pub returns : goal.returns

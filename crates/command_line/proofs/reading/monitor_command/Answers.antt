@@ -1,7 +1,7 @@
-use Rattle.std.proofs.Common.{◌≡◌, ◌∙◌, ap, sym, subst, map, string_bytes, List}
+use Rattle.std.proofs.Common.{◌∙◌, ap, sym, subst, map, string_bytes, List}
 use Rattle.std.proofs.lemmas.Result.{err_from_is_err_and}
-use Rattle.clap.specs.Words.{App, Text, app_of, is_simple_and_free}
-use Rattle.command_line.specs.Programs.{IsRead, IsUsage, monitor_app}
+use Rattle.clap.specs.Words.{App, Text, is_simple_and_free}
+use Rattle.command_line.specs.Programs.{IsRead, IsUsage}
 use Rattle.command_line.proofs.Monitor.{is_plain, read_means, usage_means}
 use Rattle.command_line.proofs.reading.monitor_command.Goals as goal
 

@@ -3,5 +3,4 @@ use Rattle.monitor_plans.proofs.creating.body_of.Goals as goal
 
 pub returns : goal.returns
 returns c =
-    body_is c.args.identity c.args.copy.now c.in_ok-file.file.items c.deref.result.now c.in_ok-body.body c.in_ok-file.ensures
-    c.deref.ensures.value c.in_ok-body.ensures
+    body_is c.args.identity c.args.copy.now c.in_ok-body.body.items c.from_vec.result c.in_ok-body.ensures c.from_vec.ensures

@@ -5,11 +5,11 @@ use Rattle.snap_diff.specs.Copies.{pages_at}
 use Rattle.monitor_plans.proofs.Headings.{are_pages, diff_head_is, few_numbers, is_diff, numbers_are, numbers_rise}
 use Rattle.monitor_plans.proofs.heading.diff_heading.Goals as goal
 
-pub encode-requires-clause-header : goal.encode-requires-clause-header
-encode-requires-clause-header c = is_diff c.args.parent c.args.identity c.requires.numbered c.requires.parent
+pub encode_behind_gate-requires-clause-header : goal.encode_behind_gate-requires-clause-header
+encode_behind_gate-requires-clause-header c = is_diff c.args.parent c.args.identity c.requires.numbered c.requires.parent
 
-pub encode-requires-clause-rise : goal.encode-requires-clause-rise
-encode-requires-clause-rise c =
+pub encode_behind_gate-requires-clause-rise : goal.encode_behind_gate-requires-clause-rise
+encode_behind_gate-requires-clause-rise c =
     let marked : c.in-Ok.numbers.items ≡ marked_from 0 (marks_of c.args.guest.now.pages) =
     c.in-Ok.ensures ∙ ap (λ (ps : List PageValue). marked_from 0 (marks_of ps)) c.pages.ensures.pages in
     numbers_rise c.args.guest.now.pages c.args.pages c.deref.result.now (sym c.requires.pages) (c.deref.ensures.value ∙ marked)
@@ -23,10 +23,10 @@ returns c =
       there = are_pages c.args.guest.now.pages c.in-Ok.numbers.items marked;
       head_is = λ g is.
           diff_head_is c.args.parent c.args.identity c.args.pages _ c.deref.result.now
-          c.in-Ok-encode.file.items c.deref-2.result.now c.in-Ok-behind_gate.head g
+          c.in-Ok-encode_behind_gate.start.items c.from_vec.result g
           (c.deref.ensures.value ∙ numbers_are c.args.guest.now g c.args.pages c.in-Ok.numbers.items is long marked)
           (omega (arith, c.len.ensures, ap length c.deref.ensures.value))
-          c.in-Ok-encode.ensures.bytes c.deref-2.ensures.value c.in-Ok-behind_gate.ensures;
+          c.in-Ok-encode_behind_gate.ensures.bytes c.from_vec.ensures;
       pages_are = λ g is.
           ap (λ (ns : List ℕ). pages_at ns g.memory.bytes)
           (numbers_are c.args.guest.now g c.args.pages c.in-Ok.numbers.items is long marked);

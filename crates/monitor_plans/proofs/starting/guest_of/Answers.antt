@@ -4,8 +4,8 @@ use Rattle.monitor_plans.proofs.Loads.{has_room, loads_are}
 use Rattle.monitor_plans.proofs.Standing.{start_ready}
 use Rattle.monitor_plans.proofs.starting.guest_of.Goals as goal
 
-pub place_of-requires : goal.place_of-requires
-place_of-requires c = let mib = (bounded c.args.config.now c.requires.taken).mib in omega (arith, mib)
+pub initrd_place-requires : goal.initrd_place-requires
+initrd_place-requires c = let mib = (bounded c.args.config.now c.requires.taken).mib in omega (arith, mib)
 
 pub world_of-requires-clause-few : goal.world_of-requires-clause-few
 world_of-requires-clause-few c = (bounded c.args.config.now c.requires.taken).harts
@@ -26,11 +26,11 @@ world_of-requires-clause-room c =
 pub returns-clause-world : goal.returns-clause-world
 returns-clause-world c =
     loads_are c.args.config.now c.args.image.now c.args.disk.now _ _ _ _ c.args.drives.now c.in_ok-world.world
-    c.initrd_of.ensures c.place_of.ensures c.in_ok-tree.ensures c.as_slice.ensures.value c.in_ok-world.ensures
+    c.initrd_of.ensures c.initrd_place.ensures c.in_ok-tree.ensures c.as_slice.ensures.value c.in_ok-world.ensures
 
 pub returns-clause-ready : goal.returns-clause-ready
 returns-clause-ready c =
     start_ready c.args.config.now c.args.image.now c.args.disk.now c.args.drives.now c.in_ok-world.world c.requires.taken c.requires.source
     c.requires.many c.requires.fit c.requires.fits
     (loads_are c.args.config.now c.args.image.now c.args.disk.now _ _ _ _ c.args.drives.now c.in_ok-world.world
-    c.initrd_of.ensures c.place_of.ensures c.in_ok-tree.ensures c.as_slice.ensures.value c.in_ok-world.ensures)
+    c.initrd_of.ensures c.initrd_place.ensures c.in_ok-tree.ensures c.as_slice.ensures.value c.in_ok-world.ensures)

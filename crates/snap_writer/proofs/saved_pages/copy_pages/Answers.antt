@@ -2,7 +2,7 @@ use Rattle.std.proofs.Common.{◌≡◌, ℕ, List, ◌+◌, ◌*◌, ◌-◌, �
 use Rattle.std.proofs.lemmas.List.{drop-drop, length-take-le}
 use Rattle.guest_pages.specs.Pages.{flat_of}
 use Rattle.guest_pages.proofs.Copying.{copied_more}
-use Rattle.snap_diff.specs.Copies.{page_at, pages_at}
+use Rattle.snap_diff.specs.Copies.{pages_at}
 use Rattle.snap_writer.proofs.Selecting.{length-pages, page_there}
 use Rattle.snap_writer.proofs.saved_pages.copy_pages.Goals as goal
 

@@ -1,5 +1,4 @@
-use Rattle.std.proofs.Common.{◌∙◌, ap, sym, subst}
-use Rattle.vm_config.specs.declared.config.Config.{Config}
+use Rattle.std.proofs.Common.{◌∙◌, ap, subst}
 use Rattle.api_rules.specs.Table.{decision}
 use Rattle.flat_machine.specs.Ready.{IsTaken}
 use Rattle.monitor_machine.specs.Live.{Live}

@@ -1,5 +1,5 @@
-use Rattle.std.proofs.Common.{ℕ, ap, sym, ◌∙◌, ◌*◌, ◌/◌, arith, option_map, length, List, take, drop}
-use Rattle.snap_writer.proofs.Selecting.{size_is, some_are, some_there}
+use Rattle.std.proofs.Common.{ℕ, ap, ◌∙◌, ◌*◌, arith, option_map}
+use Rattle.snap_writer.proofs.Selecting.{size_is}
 use Rattle.snap_writer.proofs.saved_pages.SavedPages.copy_out.Goals as goal
 
 pub copy_pages-requires-clause-inside : goal.copy_pages-requires-clause-inside

@@ -1,5 +1,4 @@
 use Rattle.std.proofs.Common.{ℕ, ◌*◌, ap, ◌∙◌, option_map}
-use Rattle.guest_pages.specs.Pages.{flat_of}
 use Rattle.snap_writer.proofs.Selecting.{size_is}
 use Rattle.snap_writer.proofs.saved_pages.SavedPages.len.Goals as goal
 

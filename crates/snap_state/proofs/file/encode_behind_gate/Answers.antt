@@ -2,11 +2,11 @@ use Rattle.std.proofs.Common.{ap, ◌∙◌}
 use Rattle.file_format.specs.Versions.{current_version}
 use Rattle.snap_state.specs.Copies.{state_copy}
 use Rattle.snap_state.proofs.Copies.{encoded}
-use Rattle.snap_state.proofs.file.encode.Goals as goal
+use Rattle.snap_state.proofs.file.encode_behind_gate.Goals as goal
 
 pub returns : goal.returns
 returns c =
-    encoded c.args.identity c.args.copy.now c.deref.result.now c.in_ok-file.file.items
+    encoded c.args.identity c.args.copy.now c.deref.result.now c.in_ok-behind.behind.items
     (c.deref.ensures.value ∙ c.in_ok-write.ensures.bytes ∙ ap ((state_copy current_version).puts c.args.copy.now) c.new-body.ensures.items)
-    c.in_ok-write.ensures.fits c.in_ok-file.ensures.len c.in_ok-file.ensures.identity
-    c.requires.valid c.requires.numbered c.in_ok-file.ensures.bytes
+    c.in_ok-write.ensures.fits c.in_ok-behind.ensures.len c.in_ok-behind.ensures.identity
+    c.requires.valid c.requires.numbered c.in_ok-behind.ensures.bytes
