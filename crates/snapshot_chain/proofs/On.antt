@@ -8,7 +8,7 @@ use Rattle.serde_json.specs.Data.{Data}
 use Rattle.metadata_store.specs.Store.{patched, put}
 use Rattle.http_stream.specs.Stream.{Connection}
 use Rattle.http_stream.specs.declared.request.Next.{Next}
-use Rattle.http_stream.specs.Conversation.{ConversationFront, arrived}
+use Rattle.http_stream.specs.Conversation.{Conversation, ConversationFront, arrived}
 use Rattle.api_calls.specs.declared.call.SnapshotCreate.{SnapshotCreate}
 use Rattle.api_calls.specs.declared.call.SnapshotLoad.{SnapshotLoad}
 use Rattle.api_calls.specs.declared.call.VmState.TheVariants.{Paused, Resumed}
@@ -21,6 +21,7 @@ use Rattle.board_table.specs.Acts.{line_count, raise_line}
 use Rattle.guest_devices.specs.declared.device.Device.{Device}
 use Rattle.flat_guest.specs.Guest.{Guest}
 use Rattle.flat_snapshot.specs.Found.{Snapshot, found}
+use Rattle.flat_machine.specs.Items.{Talks}
 use Rattle.flat_machine.specs.Outcome.{Left, Outcome}
 use Rattle.flat_machine.specs.Outcome.Outcome.{Answered, Failed, NoMemory}
 use Rattle.flat_machine.specs.Machine.{Machine, is_off, off_by}
@@ -122,6 +123,17 @@ front_on : (outcomes : List Outcome) (c d : Connection) (m n : Machine) (said : 
 front_on [] c d m n said on (given, after, takes, stays_so, none, is) = on_is m n is on
 front_on (how ∷ outcomes) c d m n said on (given, after, first, mid, rest, takes, step, more, text) =
     front_on outcomes after d mid n rest (request_on how given m first mid on step) more
+
+conversation_on : (outcomes : List Outcome) (c d : Connection) (m n : Machine) (said : List Response) → On m
+    → Conversation RequestStep outcomes c m said d n → On n
+conversation_on [] c d m n said on (quiet, same, none, is) = on_is m n is on
+conversation_on (how ∷ outcomes) c d m n said on (given, after, first, mid, rest, takes, step, more, text) =
+    conversation_on outcomes after d mid n rest (request_on how given m first mid on step) more
+
+pub talks_on : (bytes : List ℕ) (outcomes : List Outcome) (m : Machine) (said : List Response) (n : Machine) → Talks bytes outcomes m said n
+    → is_off m ≡ false → is_off n ≡ false
+talks_on bytes outcomes m said n (after, mid, talk, is) on =
+    ap is_off is ∙ conversation_on outcomes (arrived m.connection bytes) after m mid said on talk
 
 pub inside_on : (m n : Machine) → IsInside m n → is_off m ≡ false → is_off n ≡ false
 inside_on m n (inl same) on = on_is m n same on

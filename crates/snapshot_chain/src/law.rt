@@ -28,6 +28,8 @@ ghost use Rattle.flat_guest.specs.Guest.{Guest, unwritten};
 ghost use Rattle.flat_guest.specs.Same.{AreAlike};
 ghost use Rattle.flat_snapshot.specs.Carried.{carried_guest};
 ghost use Rattle.flat_machine.specs.Machine.{Machine, is_off};
+ghost use Rattle.flat_machine.specs.Items.{Talks};
+ghost use Rattle.flat_machine.specs.Outcome.{Outcome};
 ghost use Rattle.flat_machine.specs.Outcome.Outcome.{Answered};
 ghost use Rattle.flat_machine.specs.Ready.{Ready};
 ghost use Rattle.flat_machine.specs.Requests.{Leaves, RequestStep, allowed, carried, decided, next_identity};
@@ -73,10 +75,12 @@ pub fn answered_creates()
 {}
 
 /// A machine that is ready before an item is ready inside it, and so at each create of it. No request turns a guest off: where
-/// it is on before an item, it is on inside the item too.
+/// it is on before an item, it is on inside the item too, and behind all that its bytes ask for.
 pub fn on_inside()
     ensures ready { (m n : Machine) → IsInside m n → Ready m → Ready n }
     ensures on { (m n : Machine) → IsInside m n → is_off m ≡ false → is_off n ≡ false }
+    ensures behind { (bytes : List ℕ) (outcomes : List Outcome) (m : Machine) (said : List Response) (n : Machine) →
+        Talks bytes outcomes m said n → is_off m ≡ false → is_off n ≡ false }
 {}
 
 /// Creates of diffs, each since the one before, find memories of which each is the one before overlaid with its diff. Each
