@@ -1,27 +1,24 @@
 -- A change from the API, and a Reset, lead a body and its guest on alike.
-use Rattle.std.proofs.Common.{◌≡◌, ℕ, ◌==◌, ◌<◌, ◌^◌, Bool, true, false, refl, sym, ap, subst, ◌∙◌, List, length, Option, Some, None, slice_get, slice_set, map}
+use Rattle.std.proofs.Common.{◌≡◌, ℕ, ◌==◌, Bool, true, false, refl, sym, ap, subst, ◌∙◌, List, length, Option, Some, None, slice_get, slice_set, map}
 use Rattle.std.proofs.lemmas.Bool.{eqb-true, eqb-false}
 use Rattle.std.proofs.lemmas.List.{length-map, length-set}
-use Rattle.vm_types.specs.declared.ids.ActorId.{ActorId}
-use Rattle.board_table.specs.Acts.{raise_line}
 use Rattle.board_table.specs.Board.{Board}
 use Rattle.port_table.specs.declared.state.PortState.{PortState}
-use Rattle.block_device.specs.declared.kind.BlockChange.TheVariants.{Sectors}
-use Rattle.guest_devices.specs.Devices.{BlockChanged, DeviceChange, DeviceLeads, DeviceLeft, FlatDevice, device_changed, device_reset, device_told, left_reset}
+use Rattle.guest_devices.specs.declared.change.DeviceChange.{DeviceChange}
+use Rattle.guest_devices.specs.Devices.{DeviceLeads, DeviceLeft, FlatDevice, device_changed, device_reset, device_told, left_reset}
+use Rattle.guest_devices.specs.Kinds.{FitsChange}
 use Rattle.guest_devices.proofs.Follows.{reset_leads, told_leads}
-use Rattle.flat_guest.specs.Body.{Body, IsGuest, lefts_resized}
-use Rattle.flat_guest.specs.Changes.{reset_guest, resized, sectors_shown, sectors_told}
+use Rattle.flat_guest.specs.Body.{Body, IsGuest, lefts_told}
+use Rattle.flat_guest.specs.Changes as changes
+use Rattle.flat_guest.specs.Changes.{board_shown, devices_told, ports_with, reset_guest}
 use Rattle.flat_guest.specs.Guest.{Guest, whole_pages}
-use Rattle.flat_guest.proofs.Devices.{sound_devices_reset, sound_resized}
+use Rattle.flat_guest.proofs.Devices.{sound_devices_reset, sound_devices_told}
 use Rattle.flat_guest.proofs.Lists.{get_set_other, get_set_same, mapped_from, some_is, there_too}
 
 module _ (lefts : List DeviceLeft) (devices : List FlatDevice) (many : length lefts ≡ length devices)
     (leads : (k : ℕ) (d : FlatDevice) (left : DeviceLeft) → slice_get devices k ≡ Some d → slice_get lefts k ≡ Some left
     → DeviceLeads d left)
-    (k sectors : ℕ) where
-  abbrev change : DeviceChange
-  change = BlockChanged (Sectors sectors)
-
+    (k : ℕ) (change : DeviceChange) where
   module _ (left : DeviceLeft) (x : FlatDevice) (left_is : slice_get lefts k ≡ Some left) (x_is : slice_get devices k ≡ Some x) where
     leads_by : (same : Bool) (j : ℕ) (d : FlatDevice) (l : DeviceLeft) → (j == k) ≡ same
         → slice_get (slice_set devices k (device_told x change)) j ≡ Some d
@@ -44,9 +41,9 @@ module _ (lefts : List DeviceLeft) (devices : List FlatDevice) (many : length le
   -- where the change leads, there or not
   abbrev Told : Option DeviceLeft → Option FlatDevice → Type 0
   Told l o =
-      (length (lefts_resized l lefts k sectors) ≡ length (sectors_told o devices k sectors))
-      × ((j : ℕ) (d : FlatDevice) (m : DeviceLeft) → slice_get (sectors_told o devices k sectors) j ≡ Some d
-      → slice_get (lefts_resized l lefts k sectors) j ≡ Some m → DeviceLeads d m)
+      (length (lefts_told l lefts k change) ≡ length (devices_told o devices k change))
+      × ((j : ℕ) (d : FlatDevice) (m : DeviceLeft) → slice_get (devices_told o devices k change) j ≡ Some d
+      → slice_get (lefts_told l lefts k change) j ≡ Some m → DeviceLeads d m)
 
   told_by : (l : Option DeviceLeft) (o : Option FlatDevice) → slice_get lefts k ≡ l → slice_get devices k ≡ o → Told l o
   told_by None None l_is o_is = (many, leads)
@@ -67,28 +64,28 @@ module _ (lefts : List DeviceLeft) (devices : List FlatDevice) (many : length le
   told = told_by (slice_get lefts k) (slice_get devices k) refl refl
 
 -- the body behind the change
-abbrev pub body_resized : ℕ → ℕ → Body → Body
-body_resized k sectors b = record b {
-  board = raise_line b.board (ActorId.Device k);
-  ports = sectors_shown (slice_get b.ports k) b.ports k sectors;
-  devices = lefts_resized (slice_get b.devices k) b.devices k sectors;
+abbrev pub body_told : ℕ → DeviceChange → Option (List ℕ) → Body → Body
+body_told k change shown b = record b {
+  board = board_shown shown b.board k;
+  ports = ports_with shown b.ports k;
+  devices = lefts_told (slice_get b.devices k) b.devices k change;
 }
 
-pub resized_is : (b : Body) (g : Guest) (k sectors : ℕ) → sectors < 2 ^ 64 → IsGuest b g
-    → IsGuest (body_resized k sectors b) (resized k sectors g)
-resized_is b g k sectors size is =
-    let both = told b.devices g.devices is.devices_are.count is.devices_are.each k sectors in
+pub told_is : (b : Body) (g : Guest) (k : ℕ) (change : DeviceChange) (shown : Option (List ℕ)) → FitsChange change → IsGuest b g
+    → IsGuest (body_told k change shown b) (changes.told k change shown g)
+told_is b g k change shown fits is =
+    let both = told b.devices g.devices is.devices_are.count is.devices_are.each k change in
     record {
       memory_is = is.memory_is;
       marks_are = is.marks_are;
-      board_is = ap (λ (n : Board). raise_line n (ActorId.Device k)) is.board_is;
-      ports_are = ap (λ (ports : List PortState). sectors_shown (slice_get ports k) ports k sectors) is.ports_are;
+      board_is = ap (λ (n : Board). board_shown shown n k) is.board_is;
+      ports_are = ap (λ (ports : List PortState). ports_with shown ports k) is.ports_are;
       timer_is = is.timer_is;
       harts_are = record { count = is.harts_are.count; each = is.harts_are.each };
       devices_are = record {
         count = both.0;
         each = both.1;
-        sound = sound_resized (whole_pages g.memory) g.ports g.devices is.devices_are.sound k sectors size;
+        sound = sound_devices_told (whole_pages g.memory) g.ports g.devices is.devices_are.sound k change shown fits;
       };
     }
 

@@ -1,5 +1,5 @@
 -- Ports and devices stay as many, and devices sound: at the start, with each act and with each change.
-use Rattle.std.proofs.Common.{◌≡◌, ℕ, zero, suc, ◌+◌, ◌==◌, ◌<◌, ◌^◌, Bool, true, false, refl, sym, ap, subst, ◌∙◌, List, [], ◌∷◌, arith}
+use Rattle.std.proofs.Common.{◌≡◌, ℕ, zero, suc, ◌+◌, ◌==◌, Bool, true, false, refl, sym, ap, subst, ◌∙◌, List, [], ◌∷◌, arith}
 use Rattle.std.proofs.Common.{length, map, Option, Some, None, slice_get, slice_set}
 use Rattle.std.specs.List.{All}
 use Rattle.std.proofs.lemmas.List.{length-map, length-set}
@@ -11,18 +11,19 @@ use Rattle.vm_types.specs.declared.op.Op.{Op}
 use Rattle.vm_types.specs.declared.reply.Reply.{Reply}
 use Rattle.vm_types.specs.declared.entry.Step.{Step}
 use Rattle.vm_types.specs.Fits.{fits}
-use Rattle.le_fields.specs.Fields.{bytes_of}
 use Rattle.port_table.specs.Acts as port
 use Rattle.port_table.specs.declared.state.PortState.{PortState}
-use Rattle.block_device.specs.declared.kind.BlockChange.TheVariants.{Sectors}
+use Rattle.guest_devices.specs.declared.change.DeviceChange.{DeviceChange}
 use Rattle.guest_devices.specs.declared.new_device.NewDevice.{NewDevice}
-use Rattle.guest_devices.specs.Devices.{BlockChanged, DeviceChange, FitsNew, FlatDevice, device_did, device_reset, device_told, new_device}
+use Rattle.guest_devices.specs.Devices.{FitsNew, FlatDevice, device_did, device_reset, device_told, new_device}
+use Rattle.guest_devices.specs.Kinds.{FitsChange}
+use Rattle.guest_devices.specs.Ports.{port_at_start}
 use Rattle.guest_devices.specs.Sound.{IsSoundDevice}
 use Rattle.guest_devices.proofs.Soundness.{did_sound, new_sound, reset_sound, told_sound}
-use Rattle.flat_guest.specs.Changes.{sectors_shown, sectors_told}
+use Rattle.flat_guest.specs.Changes.{devices_told, ports_shown, ports_with}
 use Rattle.flat_guest.specs.Guest.{Guest, Wants, WantsOf, whole_pages}
 use Rattle.flat_guest.specs.Sound.{AreSoundDevices}
-use Rattle.flat_guest.specs.Start.{devices_at_start, port_at_start}
+use Rattle.flat_guest.specs.Start.{devices_at_start}
 use Rattle.flat_guest.specs.Steps.{device_after, devices_after, memory_after, port_after, ports_after}
 use Rattle.flat_guest.proofs.Lengths.{pages_kept}
 use Rattle.flat_guest.proofs.Lists.{get_set_other, get_set_same, mapped_from, some_is}
@@ -50,15 +51,19 @@ devices_many (ActorId.Device k) devices s = device_many (slice_get devices k) de
 devices_many (ActorId.Hart k) devices s = refl
 devices_many ActorId.Timer devices s = refl
 
-pub told_many : (o : Option FlatDevice) (devices : List FlatDevice) (k sectors : ℕ)
-    → length (sectors_told o devices k sectors) ≡ length devices
-told_many None devices k sectors = refl
-told_many (Some d) devices k sectors = length-set devices k (device_told d (BlockChanged (Sectors sectors)))
+pub told_many : (o : Option FlatDevice) (devices : List FlatDevice) (k : ℕ) (change : DeviceChange)
+    → length (devices_told o devices k change) ≡ length devices
+told_many None devices k change = refl
+told_many (Some d) devices k change = length-set devices k (device_told d change)
 
-shown_many : (o : Option PortState) (ports : List PortState) (k sectors : ℕ)
-    → length (sectors_shown o ports k sectors) ≡ length ports
-shown_many None ports k sectors = refl
-shown_many (Some p) ports k sectors = length-set ports k (port.configured p (bytes_of 8 sectors))
+bytes_many : (o : Option PortState) (ports : List PortState) (k : ℕ) (bytes : List ℕ)
+    → length (ports_shown o ports k bytes) ≡ length ports
+bytes_many None ports k bytes = refl
+bytes_many (Some p) ports k bytes = length-set ports k (port.configured p bytes)
+
+shown_many : (shown : Option (List ℕ)) (ports : List PortState) (k : ℕ) → length (ports_with shown ports k) ≡ length ports
+shown_many None ports k = refl
+shown_many (Some bytes) ports k = bytes_many (slice_get ports k) ports k bytes
 
 -- each is sound, in a guest of so many pages
 abbrev Each : ℕ → List FlatDevice → Type 0
@@ -88,12 +93,11 @@ module _ (pages : ℕ) (devices : List FlatDevice) (each : Each pages devices) w
       replaced pages devices each k x (device_did x s) is (did_sound k pages x s (each k x is) want fit)
 
   -- by a change
-  each_told : (k sectors : ℕ) (o : Option FlatDevice) → sectors < 2 ^ 64 → slice_get devices k ≡ o
-      → Each pages (sectors_told o devices k sectors)
-  each_told k sectors None size is = each
-  each_told k sectors (Some x) size is =
-      let c : DeviceChange = BlockChanged (Sectors sectors) in
-      replaced pages devices each k x (device_told x c) is (told_sound k pages x c size (each k x is))
+  each_told : (k : ℕ) (change : DeviceChange) (o : Option FlatDevice) → FitsChange change → slice_get devices k ≡ o
+      → Each pages (devices_told o devices k change)
+  each_told k change None fits is = each
+  each_told k change (Some x) fits is =
+      replaced pages devices each k x (device_told x change) is (told_sound k pages x change fits (each k x is))
 
 each_after : (g : Guest) (pages : ℕ) → Each pages g.devices → (s : Step) → fits s.op s.reply ≡ true → (actor : ActorId)
     → Wants g actor s.op → Each pages (devices_after actor g.devices s)
@@ -114,14 +118,12 @@ sound_after g sound place actor op reply want fit =
       each = each_after g (whole_pages g.memory) sound.each s fit actor want;
     })
 
-pub sound_resized : (pages : ℕ) (ports : List PortState) (devices : List FlatDevice) → AreSoundDevices pages ports devices
-    → (k sectors : ℕ) → sectors < 2 ^ 64
-    → AreSoundDevices pages (sectors_shown (slice_get ports k) ports k sectors)
-    (sectors_told (slice_get devices k) devices k sectors)
-sound_resized pages ports devices sound k sectors size = record {
-  as_many = shown_many (slice_get ports k) ports k sectors ∙ sound.as_many
-      ∙ sym (told_many (slice_get devices k) devices k sectors);
-  each = each_told pages devices sound.each k sectors (slice_get devices k) size refl;
+pub sound_devices_told : (pages : ℕ) (ports : List PortState) (devices : List FlatDevice) → AreSoundDevices pages ports devices
+    → (k : ℕ) (change : DeviceChange) (shown : Option (List ℕ)) → FitsChange change
+    → AreSoundDevices pages (ports_with shown ports k) (devices_told (slice_get devices k) devices k change)
+sound_devices_told pages ports devices sound k change shown fits = record {
+  as_many = shown_many shown ports k ∙ sound.as_many ∙ sym (told_many (slice_get devices k) devices k change);
+  each = each_told pages devices sound.each k change (slice_get devices k) fits refl;
 }
 
 -- by a Reset

@@ -16,7 +16,7 @@ use Rattle.vm_types.specs.declared.entry.Step.{Step}
 use Rattle.vm_types.specs.declared.entry.Entry.{Entry}
 use Rattle.vm_types.specs.Fits.{fits}
 use Rattle.vm_types.specs.Ids.{same_actor}
-use Rattle.le_fields.specs.Fields.{bytes_of}
+use Rattle.le_fields.specs.Fields.{IsByte}
 use Rattle.le_fields.proofs.Values.{all_bytes}
 use Rattle.guest_memory.specs.Boot.{Loads, boot_memory, bytes_of_mib, image_start, tree_start}
 use Rattle.guest_memory.specs.Kept as memory_kept
@@ -50,15 +50,17 @@ use Rattle.hart_trace.proofs.OneHart.{one_hart}
 use Rattle.hart_trace.proofs.Traces.{leads_start, some_hart, wants_only}
 use Rattle.timer_trace.specs.States.{wants_by}
 use Rattle.timer_trace.proofs.Traces as timer_traces
+use Rattle.guest_devices.specs.declared.change.DeviceChange.{DeviceChange}
 use Rattle.guest_devices.specs.declared.drive.NewDrive.{NewDrive}
 use Rattle.guest_devices.specs.declared.new_device.NewDevice.{NewDevice}
 use Rattle.guest_devices.specs.declared.new_device.NewDevice.TheVariants as kinds
+use Rattle.guest_devices.specs.Ports.{block_port, capacity, feature_if, offered, port_at_start}
 use Rattle.flat_guest.specs.Body.{out_reply, reply_at}
-use Rattle.flat_guest.specs.Changes.{resized, sectors_shown}
+use Rattle.flat_guest.specs.Changes.{board_shown, ports_shown, ports_with, told}
 use Rattle.flat_guest.specs.Guest.{Guest, Wants, WantsFrom, unwritten}
 use Rattle.flat_guest.specs.Savable.{IsSavable, IsSmallAct}
 use Rattle.flat_guest.specs.Sound.{IsSound}
-use Rattle.flat_guest.specs.Start.{drive_port, feature_if, offered, port_at_start, start_of_harts, started, timer_restarted}
+use Rattle.flat_guest.specs.Start.{start_of_harts, started, timer_restarted}
 use Rattle.flat_guest.specs.Steps.{FlatStep, board_after, guest_after, memory_after, port_after, port_reply, ports_after}
 use Rattle.flat_guest.proofs.Lists.{get_lt}
 use Rattle.flat_guest.proofs.Soundness.{fit, hart_port_by, replied, same_hart, wants_from}
@@ -334,13 +336,13 @@ offered_small d =
     or_lt 64 (feature_if d.is_read_only feature.BlockReadOnly) (feature_if d.offers_flush feature.BlockFlush)
     (feature_small d.is_read_only feature.BlockReadOnly (omega arith)) (feature_small d.offers_flush feature.BlockFlush (omega arith))
 
-drive_kept : (d : NewDrive) → port_kept.IsKept Block (drive_port d)
-drive_kept d = port.new_stays Block (offered d) (bytes_of 8 d.sectors) (offered_small d) (all_bytes 8 d.sectors)
+drive_kept : (d : NewDrive) → port_kept.IsKept Block (block_port d)
+drive_kept d = port.new_stays Block (offered d) (capacity d.sectors) (offered_small d) (all_bytes 8 d.sectors)
 
 start_ports : (all : List NewDevice) → All (port_kept.IsKept Block) (map port_at_start all)
 start_ports [] = All-nil (port_kept.IsKept Block)
 start_ports (kinds.Block d ∷ others) =
-    All-cons (port_kept.IsKept Block) (drive_port d) (map port_at_start others) (drive_kept d) (start_ports others)
+    All-cons (port_kept.IsKept Block) (block_port d) (map port_at_start others) (drive_kept d) (start_ports others)
 
 starts_kept : (harts mib pages : ℕ) → mib ≤ 1024 → All (λ (r : Regs). IsKept (page_size * pages) (fresh r)) (start_of_harts harts mib)
 starts_kept harts mib pages few =
@@ -399,19 +401,35 @@ savable_drained pages harts g is = record {
   each = λ k start now there leads. is.each k start now there leads;
 }
 
-shown_by : (k sectors : ℕ) (ports : List PortState) (o : Option PortState) → slice_get ports k ≡ o
-    → All (port_kept.IsKept Block) ports → All (port_kept.IsKept Block) (sectors_shown o ports k sectors)
-shown_by k sectors ports None there all = all
-shown_by k sectors ports (Some p) there all =
-    All-set (port_kept.IsKept Block) ports k (port_acts.configured p (bytes_of 8 sectors))
-    (port.configured_stays Block p (bytes_of 8 sectors) (all_bytes 8 sectors) (get_all (port_kept.IsKept Block) ports k p there all)) all
+bytes_kept : (k : ℕ) (bytes : List ℕ) (ports : List PortState) (o : Option PortState) → All IsByte bytes → slice_get ports k ≡ o
+    → All (port_kept.IsKept Block) ports → All (port_kept.IsKept Block) (ports_shown o ports k bytes)
+bytes_kept k bytes ports None small there all = all
+bytes_kept k bytes ports (Some p) small there all =
+    All-set (port_kept.IsKept Block) ports k (port_acts.configured p bytes)
+    (port.configured_stays Block p bytes small (get_all (port_kept.IsKept Block) ports k p there all)) all
 
-pub savable_resize : (pages harts : ℕ) (g : Guest) (k sectors : ℕ) → IsSavable pages harts g → IsSavable pages harts (resized k sectors g)
-savable_resize pages harts g k sectors is = record {
+-- what a change shows are bytes
+abbrev pub AreShown : Option (List ℕ) → Type 0
+AreShown None = Unit {0}
+AreShown (Some bytes) = All IsByte bytes
+
+shown_kept : (shown : Option (List ℕ)) (k : ℕ) (ports : List PortState) → AreShown shown → All (port_kept.IsKept Block) ports
+    → All (port_kept.IsKept Block) (ports_with shown ports k)
+shown_kept None k ports small all = all
+shown_kept (Some bytes) k ports small all = bytes_kept k bytes ports (slice_get ports k) small refl all
+
+shown_board : (shown : Option (List ℕ)) (harts k : ℕ) (b : Board) → board_kept.IsKept harts b
+    → board_kept.IsKept harts (board_shown shown b k)
+shown_board None harts k b is = is
+shown_board (Some bytes) harts k b is = board.raised harts b is (ActorId.Device k)
+
+pub savable_told : (pages harts : ℕ) (g : Guest) (k : ℕ) (change : DeviceChange) (shown : Option (List ℕ)) → AreShown shown
+    → IsSavable pages harts g → IsSavable pages harts (told k change shown g)
+savable_told pages harts g k change shown small is = record {
   few = is.few;
   memory = is.memory;
-  board = board.raised harts g.board is.board (ActorId.Device k);
-  ports = shown_by k sectors g.ports (slice_get g.ports k) refl is.ports;
+  board = shown_board shown harts k g.board is.board;
+  ports = shown_kept shown k g.ports small is.ports;
   many = is.many;
   each = λ j start now there leads. is.each j start now there leads;
 }

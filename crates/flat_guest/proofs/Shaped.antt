@@ -12,7 +12,6 @@ use Rattle.vm_types.specs.declared.entry.Step.{Step}
 use Rattle.vm_types.specs.declared.entry.Entry.{Entry}
 use Rattle.vm_types.specs.Fits.{fits}
 use Rattle.vm_types.specs.Ids.{same_actor}
-use Rattle.le_fields.specs.Fields.{bytes_of}
 use Rattle.guest_memory.specs.Boot.{Loads, boot_memory, bytes_of_mib, image_start, tree_start}
 use Rattle.guest_memory.specs.Kept as memory_kept
 use Rattle.guest_memory.specs.Memory as memory
@@ -33,9 +32,10 @@ use Rattle.hart_trace.specs.Stopped.{stopped_regs}
 use Rattle.hart_trace.proofs.Leads.{leads_next}
 use Rattle.hart_trace.proofs.OneHart.{one_hart}
 use Rattle.hart_trace.proofs.Traces.{leads_start, some_hart, wants_only}
+use Rattle.guest_devices.specs.declared.change.DeviceChange.{DeviceChange}
 use Rattle.guest_devices.specs.declared.new_device.NewDevice.{NewDevice}
 use Rattle.flat_guest.specs.Body.{out_reply, reply_at}
-use Rattle.flat_guest.specs.Changes.{reset_guest, resized, sectors_shown}
+use Rattle.flat_guest.specs.Changes.{board_shown, ports_shown, ports_with, reset_guest, told}
 use Rattle.flat_guest.specs.Guest.{Guest, Wants, WantsFrom, unwritten}
 use Rattle.flat_guest.specs.Sound.{IsSound}
 use Rattle.flat_guest.specs.Start.{start_of_harts, started, timer_restarted}
@@ -258,17 +258,26 @@ shaped_drained pages harts kinds g is = record {
   each = λ k start now there leads. is.each k start now there leads;
 }
 
-shown_by : (k sectors : ℕ) (ports : List PortState) (o : Option PortState) → slice_get ports k ≡ o
-    → port_kinds (sectors_shown o ports k sectors) ≡ port_kinds ports
-shown_by k sectors ports None there = refl
-shown_by k sectors ports (Some p) there = kinds_set ports k p (port_acts.configured p (bytes_of 8 sectors)) there refl
+bytes_kinds : (k : ℕ) (bytes : List ℕ) (ports : List PortState) (o : Option PortState) → slice_get ports k ≡ o
+    → port_kinds (ports_shown o ports k bytes) ≡ port_kinds ports
+bytes_kinds k bytes ports None there = refl
+bytes_kinds k bytes ports (Some p) there = kinds_set ports k p (port_acts.configured p bytes) there refl
 
-pub shaped_resize : (pages harts : ℕ) (kinds : List DeviceKind) (g : Guest) (k sectors : ℕ) → IsShaped pages harts kinds g → IsShaped pages harts kinds (resized k sectors g)
-shaped_resize pages harts kinds g k sectors is = record {
+shown_kinds : (shown : Option (List ℕ)) (k : ℕ) (ports : List PortState) → port_kinds (ports_with shown ports k) ≡ port_kinds ports
+shown_kinds None k ports = refl
+shown_kinds (Some bytes) k ports = bytes_kinds k bytes ports (slice_get ports k) refl
+
+shown_long : (shown : Option (List ℕ)) (harts k : ℕ) (b : Board) → board_kept.IsLong harts b → board_kept.IsLong harts (board_shown shown b k)
+shown_long None harts k b is = is
+shown_long (Some bytes) harts k b is = raised_long harts b is (ActorId.Device k)
+
+pub shaped_told : (pages harts : ℕ) (kinds : List DeviceKind) (g : Guest) (k : ℕ) (change : DeviceChange) (shown : Option (List ℕ))
+    → IsShaped pages harts kinds g → IsShaped pages harts kinds (told k change shown g)
+shaped_told pages harts kinds g k change shown is = record {
   few = is.few;
   memory = is.memory;
-  board = raised_long harts g.board is.board (ActorId.Device k);
-  ports = shown_by k sectors g.ports (slice_get g.ports k) refl ∙ is.ports;
+  board = shown_long shown harts k g.board is.board;
+  ports = shown_kinds shown k g.ports ∙ is.ports;
   many = is.many;
   each = λ j start now there leads. is.each j start now there leads;
 }

@@ -1,6 +1,6 @@
 -- A guest that has started is never stuck.
 use Rattle.std.proofs.Common.{◌≡◌, ℕ, zero, suc, nat_lt, Bool, true, false, cond, refl, sym, ap, subst, ◌∙◌, List, [], ◌∷◌}
-use Rattle.std.proofs.Common.{◌++◌, length, Option, Some, None, slice_get, get_or, ◌<◌, ◌≤◌, ◌^◌, ◌⊎◌, inl, inr, arith}
+use Rattle.std.proofs.Common.{◌++◌, length, Option, Some, None, slice_get, get_or, ◌<◌, ◌≤◌, ◌⊎◌, inl, inr, arith}
 use Rattle.std.specs.List.{All}
 use Rattle.std.proofs.lemmas.Bool.{eqb-true, ltb-true}
 use Rattle.std.proofs.lemmas.Option.{slice_get_cases}
@@ -24,10 +24,12 @@ use Rattle.timer_trace.specs.States.{new_timer, wants_by}
 use Rattle.timer_trace.specs.Traces as timer
 use Rattle.timer_trace.proofs.Traces as timer_traces
 use Rattle.guest_memory.specs.Boot.{Loads, boot_memory}
+use Rattle.guest_devices.specs.declared.change.DeviceChange.{DeviceChange}
 use Rattle.guest_devices.specs.declared.new_device.NewDevice.{NewDevice}
 use Rattle.guest_devices.specs.Devices.{FitsNew, FlatDevice, device_calls, device_times}
+use Rattle.guest_devices.specs.Kinds.{FitsChange}
 use Rattle.guest_devices.proofs.Soundness.{some_want as device_want, want_own}
-use Rattle.flat_guest.specs.Changes.{reset_guest, resized}
+use Rattle.flat_guest.specs.Changes.{reset_guest, told}
 use Rattle.flat_guest.specs.Guest.{Guest, Wants, WantsFrom, WantsOf, is_actor, layout_of, whole_pages}
 use Rattle.flat_guest.specs.Places.{place_of}
 use Rattle.flat_guest.specs.declared.places.Layout.{Layout}
@@ -57,11 +59,12 @@ sound_restart g sound = record {
   devices_on = sound.devices_on;
 }
 
-pub sound_resize : (g : Guest) (k sectors : ℕ) → sectors < 2 ^ 64 → IsSound g → IsSound (resized k sectors g)
-sound_resize g k sectors size sound = record {
+pub sound_told : (g : Guest) (k : ℕ) (change : DeviceChange) (shown : Option (List ℕ)) → FitsChange change → IsSound g
+    → IsSound (told k change shown g)
+sound_told g k change shown fits sound = record {
   timer_on = sound.timer_on;
   harts_on = λ j start is. sound.harts_on j start is;
-  devices_on = devices.sound_resized (whole_pages g.memory) g.ports g.devices sound.devices_on k sectors size;
+  devices_on = devices.sound_devices_told (whole_pages g.memory) g.ports g.devices sound.devices_on k change shown fits;
 }
 
 pub sound_reset : (g : Guest) → IsSound g → IsSound (reset_guest g)

@@ -17,8 +17,8 @@ use Rattle.flat_guest.specs.Given.Given.{Host, Nothing, Short}
 use Rattle.hart_trace.specs.States.{Hart, LeadsTo, hart_next, hart_wants}
 use Rattle.timer_trace.specs.declared.timer.Timer.{Timer}
 use Rattle.timer_trace.specs.States as timer
-use Rattle.block_device.specs.declared.kind.BlockChange.TheVariants.{Sectors}
-use Rattle.guest_devices.specs.Devices.{BlockChanged, DeviceChange, DeviceLeads, DeviceLeft, FlatDevice, device_changed}
+use Rattle.guest_devices.specs.declared.change.DeviceChange.{DeviceChange}
+use Rattle.guest_devices.specs.Devices.{DeviceLeads, DeviceLeft, FlatDevice, device_changed}
 use Rattle.guest_devices.specs.Kept.{device_want, devices_given}
 use Rattle.flat_guest.specs.declared.places.Layout.{Layout}
 use Rattle.flat_guest.specs.Guest.{Guest, whole_pages}
@@ -93,10 +93,6 @@ lefts_after actor devices reply = devices
 abbrev pub lefts_told : Option DeviceLeft → List DeviceLeft → ℕ → DeviceChange → List DeviceLeft
 lefts_told None devices k change = devices
 lefts_told (Some left) devices k change = slice_set devices k (device_changed change left)
-
--- another size of its disk
-abbrev pub lefts_resized : Option DeviceLeft → List DeviceLeft → ℕ → ℕ → List DeviceLeft
-lefts_resized left devices k sectors = lefts_told left devices k (BlockChanged (Sectors sectors))
 
 -- the reply of an act with no place: what is given, where a host object is asked
 abbrev pub out_reply : Op → Given → Reply

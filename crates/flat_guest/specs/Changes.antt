@@ -3,11 +3,10 @@ use Rattle.std.specs.Prelude.{ℕ, List, Option, Some, None, map, slice_get, sli
 use Rattle.vm_types.specs.declared.ids.ActorId.TheVariants.{Device}
 use Rattle.board_table.specs.Acts.{raise_line}
 use Rattle.board_table.specs.Board.{Board}
-use Rattle.le_fields.specs.Fields.{bytes_of}
 use Rattle.port_table.specs.declared.state.PortState.{PortState}
 use Rattle.port_table.specs.Acts.{configured}
-use Rattle.block_device.specs.declared.kind.BlockChange.TheVariants.{Sectors}
-use Rattle.guest_devices.specs.Devices.{BlockChanged, DeviceChange, FlatDevice, device_reset, device_told}
+use Rattle.guest_devices.specs.declared.change.DeviceChange.{DeviceChange}
+use Rattle.guest_devices.specs.Devices.{FlatDevice, device_reset, device_told}
 use Rattle.flat_guest.specs.Guest.{Guest}
 
 -- the device of this number, if it is there, is told of a change
@@ -37,23 +36,6 @@ told k change shown g = record g {
   ports = ports_with shown g.ports k;
   devices = devices_told (slice_get g.devices k) g.devices k change;
 }
-
--- a block device's change of the number of sectors, and what it shows of it (VIRTIO 1.2, 5.2.4)
-abbrev pub sectors_change : ℕ → DeviceChange
-sectors_change sectors = BlockChanged (Sectors sectors)
-
-abbrev pub capacity_shown : ℕ → Option (List ℕ)
-capacity_shown sectors = Some (bytes_of 8 sectors)
-
-abbrev pub sectors_told : Option FlatDevice → List FlatDevice → ℕ → ℕ → List FlatDevice
-sectors_told d devices k sectors = devices_told d devices k (sectors_change sectors)
-
-abbrev pub sectors_shown : Option PortState → List PortState → ℕ → ℕ → List PortState
-sectors_shown p ports k sectors = ports_shown p ports k (bytes_of 8 sectors)
-
--- the disk of block device k has another size, in sectors of 512 bytes
-abbrev pub resized : ℕ → ℕ → Guest → Guest
-resized k sectors g = told k (sectors_change sectors) (capacity_shown sectors) g
 
 -- a guest behind the Reset that comes before a create: each device is told of it, and all else stays
 abbrev pub reset_guest : Guest → Guest

@@ -11,8 +11,8 @@ use Rattle.rv_supervisor.specs.declared.regs.Regs.{Regs}
 use Rattle.hart_trace.specs.Kept as hart
 use Rattle.hart_trace.specs.States.{Hart, LeadsTo}
 use Rattle.guest_devices.specs.declared.new_device.NewDevice.{NewDevice}
+use Rattle.guest_devices.specs.Ports.{port_at_start}
 use Rattle.flat_guest.specs.Guest.{Guest}
-use Rattle.flat_guest.specs.Start.{port_at_start}
 
 -- the kinds of ports, by their numbers
 abbrev pub port_kinds : List PortState → List DeviceKind

@@ -8,11 +8,13 @@ ghost use Rattle.vm_types.specs.declared.reply.Reply.{Reply};
 ghost use Rattle.guest_memory.specs.Boot.{Loads, boot_memory, bytes_of_mib};
 ghost use Rattle.guest_memory.specs.Reserved.{hart_limit};
 ghost use Rattle.port_table.specs.declared.kind.DeviceKind.{DeviceKind};
+ghost use Rattle.guest_devices.specs.declared.change.DeviceChange.{DeviceChange};
 ghost use Rattle.guest_devices.specs.declared.new_device.NewDevice.{NewDevice};
 ghost use Rattle.guest_devices.specs.Devices.{FitsNew};
+ghost use Rattle.guest_devices.specs.Kinds.{FitsChange};
 ghost use Rattle.flat_guest.specs.Given.{Event, Given};
 ghost use Rattle.flat_guest.specs.Given.Given.{Nothing};
-ghost use Rattle.flat_guest.specs.Changes.{reset_guest, resized};
+ghost use Rattle.flat_guest.specs.Changes.{reset_guest, told};
 ghost use Rattle.flat_guest.specs.Guest.{Guest, Wants, is_actor};
 ghost use Rattle.flat_guest.specs.Same.{AreAlike};
 ghost use Rattle.flat_guest.specs.Shaped.{IsShaped, kinds_at_start};
@@ -42,7 +44,8 @@ pub fn some_step()
     ensures start { (harts mib : ℕ) (loads : Loads) (devices : List NewDevice) →
         All FitsNew devices → IsSound (started harts mib loads devices) }
     ensures restart { (g : Guest) → IsSound g → IsSound (timer_restarted g) }
-    ensures resize { (g : Guest) (k sectors : ℕ) → sectors < 2 ^ 64 → IsSound g → IsSound (resized k sectors g) }
+    ensures told { (g : Guest) (k : ℕ) (change : DeviceChange) (shown : Option (List ℕ)) →
+        FitsChange change → IsSound g → IsSound (told k change shown g) }
     ensures reset { (g : Guest) → IsSound g → IsSound (reset_guest g) }
     ensures step { (g : Guest) (actor : ActorId) → IsSound g → is_actor g actor ≡ true →
         (op : Op) × Wants g actor op × ((given : Given) → is_given op given ≡ true →
@@ -63,8 +66,8 @@ pub fn same_shape()
         IsShaped (256 * mib) harts (kinds_at_start devices) (started harts mib loads devices) }
     ensures restart { (pages harts : ℕ) (kinds : List DeviceKind) (g : Guest) → IsShaped pages harts kinds g →
         IsShaped pages harts kinds (timer_restarted g) }
-    ensures resize { (pages harts : ℕ) (kinds : List DeviceKind) (g : Guest) (k sectors : ℕ) →
-        IsShaped pages harts kinds g → IsShaped pages harts kinds (resized k sectors g) }
+    ensures told { (pages harts : ℕ) (kinds : List DeviceKind) (g : Guest) (k : ℕ) (change : DeviceChange)
+        (shown : Option (List ℕ)) → IsShaped pages harts kinds g → IsShaped pages harts kinds (told k change shown g) }
     ensures reset { (pages harts : ℕ) (kinds : List DeviceKind) (g : Guest) → IsShaped pages harts kinds g →
         IsShaped pages harts kinds (reset_guest g) }
     ensures stays { (pages harts : ℕ) (kinds : List DeviceKind) (g : Guest) (event : Event) (e : Entry) (h : Guest) →

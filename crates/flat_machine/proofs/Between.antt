@@ -31,7 +31,8 @@ use Rattle.script_text.specs.declared.item.Item.TheVariants as item
 use Rattle.serde_json.specs.Data.{Data}
 use Rattle.metadata_store.specs.Store.{patched, put}
 use Rattle.guest_devices.specs.declared.device.Device.{Device}
-use Rattle.flat_guest.specs.Changes.{reset_guest, resized}
+use Rattle.guest_devices.specs.Kinds.{sectors_change}
+use Rattle.flat_guest.specs.Changes.{reset_guest}
 use Rattle.flat_guest.specs.Guest.{Guest, is_actor, unwritten}
 use Rattle.flat_guest.specs.Start.{timer_restarted}
 use Rattle.flat_guest.specs.Steps.{FlatStep, Makes, is_given}
@@ -45,7 +46,7 @@ use Rattle.flat_machine.specs.Outcome.Outcome.{Answered, Failed, NoMemory}
 use Rattle.flat_machine.specs.Machine.{Machine, drained, drained_guest, phase_by, phase_of, running_by}
 use Rattle.flat_machine.specs.Items.{ItemStep, MemoryLine, RegisterLine, RepliesLine, StepsLine, Talks}
 use Rattle.response_form.specs.Responses.{Response}
-use Rattle.flat_machine.specs.Requests.{CreateFails, Creates, Fails, Leaves, LeavesBy, RequestStep, Stores, allowed, configured, halted, next_identity, patched_drive, retold, sectors_of}
+use Rattle.flat_machine.specs.Requests.{CreateFails, Creates, Fails, Leaves, LeavesBy, RequestStep, Stores, allowed, configured, halted, next_identity, patched_drive, resized, retold, sectors_of}
 use Rattle.flat_machine.specs.Run.{Act, Run}
 use Rattle.flat_machine.proofs.Allowed.{IsAllowed, allowed_is}
 
@@ -176,7 +177,7 @@ retold_keeps g (Some path) (Some k) saved (Some q) is = (
   refl,
   subst (λ (x : Guest). Keeps x (resized k (sectors_of (get saved path)) q)) (same_guest q g is) (
     record { size = refl; unwritten = λ i none. none; pages = λ i none. refl },
-    told_many (slice_get q.devices k) q.devices k (sectors_of (get saved path)),
+    told_many (slice_get q.devices k) q.devices k (sectors_change (sectors_of (get saved path))),
   ),
 )
 retold_keeps g (Some path) (Some k) saved None is = absurd cc

@@ -1,5 +1,5 @@
 -- A machine that is ready stays so, whatever it is asked and whatever its guest does, and its guest can be copied.
-use Rattle.std.proofs.Common.{◌≡◌, ◌<◌, ◌≤◌, ◌+◌, ◌*◌, ◌^◌, ℕ, Bool, true, false, not, refl, sym, ap, subst, ◌∙◌, List, [], ◌∷◌, length, map, Option, Some, None, Result, Ok, Err, slice_get, arith, length-append}
+use Rattle.std.proofs.Common.{◌≡◌, ◌≤◌, ◌+◌, ◌*◌, ℕ, Bool, true, false, not, refl, sym, ap, subst, ◌∙◌, List, [], ◌∷◌, length, map, Option, Some, None, Result, Ok, Err, slice_get, arith, length-append}
 use Rattle.std.specs.FinMap.{get}
 use Rattle.std.specs.List.{filter}
 use Rattle.std.proofs.lemmas.List.{length-map}
@@ -39,17 +39,20 @@ use Rattle.api_rules.specs.Table.{has_started}
 use Rattle.script_text.specs.declared.item.Item.{Item}
 use Rattle.script_text.specs.declared.item.Item.TheVariants as item
 use Rattle.response_form.specs.Responses.{Response}
+use Rattle.guest_devices.specs.declared.change.DeviceChange.{DeviceChange}
 use Rattle.guest_devices.specs.declared.device.Device.{Device}
 use Rattle.guest_devices.specs.declared.new_device.NewDevice.{NewDevice}
-use Rattle.flat_guest.specs.Changes.{reset_guest, resized}
+use Rattle.guest_devices.specs.Kinds.{FitsChange, sectors_change}
+use Rattle.guest_devices.specs.Ports.{port_at_start, shown_by}
+use Rattle.flat_guest.specs.Changes.{reset_guest, told}
 use Rattle.flat_guest.specs.Guest.{Guest, is_actor, unwritten}
 use Rattle.flat_guest.specs.Shaped.{IsShaped, kinds_at_start}
 use Rattle.flat_guest.specs.Sound.{IsSound}
-use Rattle.flat_guest.specs.Start.{port_at_start, started as started_guest, timer_restarted}
+use Rattle.flat_guest.specs.Start.{started as started_guest, timer_restarted}
 use Rattle.flat_guest.specs.Steps.{FlatStep, Makes, is_given}
 use Rattle.flat_guest.proofs.Devices.{told_many}
-use Rattle.flat_guest.proofs.Shaped.{shaped_drained, shaped_makes, shaped_next, shaped_resize, shaped_restart, shaped_start, shaped_unwritten}
-use Rattle.flat_guest.proofs.Soundness.{sound_next, sound_reset, sound_resize, sound_restart, sound_start}
+use Rattle.flat_guest.proofs.Shaped.{shaped_drained, shaped_makes, shaped_next, shaped_restart, shaped_start, shaped_told, shaped_unwritten}
+use Rattle.flat_guest.proofs.Soundness.{sound_next, sound_reset, sound_restart, sound_start, sound_told}
 use Rattle.snap_state.specs.Valid.{kinds_of}
 use Rattle.flat_snapshot.specs.Copies.{configuration_of}
 use Rattle.flat_snapshot.specs.Found.{Snapshot, found}
@@ -137,14 +140,14 @@ drained_ready config paused (Some g) is = record {
   rests = is.rests;
 }
 
-pub resized_ready : (config : Config) (paused : Bool) (g : Guest) (k sectors : ℕ) → sectors < 2 ^ 64 → IsReadyGuest config paused g
-    → IsReadyGuest config paused (resized k sectors g)
-resized_ready config paused g k sectors small is = record {
-  sound = sound_resize g k sectors small is.sound;
+pub told_ready : (config : Config) (paused : Bool) (g : Guest) (k : ℕ) (change : DeviceChange) (shown : Option (List ℕ))
+    → FitsChange change → IsReadyGuest config paused g → IsReadyGuest config paused (told k change shown g)
+told_ready config paused g k change shown fits is = record {
+  sound = sound_told g k change shown fits is.sound;
   ready = record {
     configured = is.ready.configured;
-    shaped = shaped_resize _ _ _ g k sectors is.ready.shaped;
-    devices = told_many (slice_get g.devices k) g.devices k sectors ∙ is.ready.devices;
+    shaped = shaped_told _ _ _ g k change shown is.ready.shaped;
+    devices = told_many (slice_get g.devices k) g.devices k change ∙ is.ready.devices;
   };
   rests = is.rests;
 }
@@ -186,7 +189,8 @@ module _ (config : Config) (patch : DrivePatch) (paused : Bool) (taken : IsTaken
   retold_ready : (path : Option (List ℕ)) (number : Option ℕ) (saved : Saved) (guest : Option Guest) → ReadyBy config paused guest
       → ReadyBy after paused (retold path number saved guest)
   retold_ready (Some path) (Some k) saved (Some g) is =
-      resized_ready after paused g k (sectors_of (get saved path)) (few_sectors (get saved path)) (patched_ready (Some g) is)
+      let change : DeviceChange = sectors_change (sectors_of (get saved path)) in
+      told_ready after paused g k change (shown_by change) (few_sectors (get saved path)) (patched_ready (Some g) is)
   retold_ready (Some path) (Some k) saved None is = tt
   retold_ready (Some path) None saved guest is = patched_ready guest is
   retold_ready None number saved guest is = patched_ready guest is

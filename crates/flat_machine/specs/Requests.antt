@@ -43,7 +43,9 @@ use Rattle.response_form.specs.Responses.{Response}
 use Rattle.guest_devices.specs.declared.device.Device.{Device}
 use Rattle.guest_devices.specs.declared.new_device.NewDevice.{NewDevice}
 use Rattle.guest_devices.specs.declared.new_device.NewDevice.TheVariants as kinds
-use Rattle.flat_guest.specs.Changes.{reset_guest, resized}
+use Rattle.guest_devices.specs.Kinds.{sectors_change}
+use Rattle.guest_devices.specs.Ports.{shown_by}
+use Rattle.flat_guest.specs.Changes.{reset_guest, told}
 use Rattle.flat_guest.specs.Guest.{Guest, unwritten}
 use Rattle.flat_guest.specs.Start.{started, timer_restarted}
 use Rattle.snap_state.specs.declared.copy.StateCopy.{StateCopy}
@@ -209,6 +211,10 @@ started_from (Some image) disk m =
       paused = false;
     }
 started_from None disk m = m
+
+-- the disk of device k has another size, in sectors of 512 bytes
+abbrev pub resized : ℕ → ℕ → Guest → Guest
+resized k sectors g = told k (sectors_change sectors) (shown_by (sectors_change sectors)) g
 
 -- a device whose drive has another file is told its size
 abbrev pub retold : Option (List ℕ) → Option ℕ → Saved → Option Guest → Option Guest

@@ -1,145 +1,158 @@
--- A sound device keeps to its own, and stays sound.
-use Rattle.std.proofs.Common.{◌≡◌, ℕ, ◌<◌, ◌≤◌, ◌^◌, refl, sym, subst, ap, ◌∙◌, Bool, true, false, if◌then◌else◌, inl, inr, List, ◌⊎◌}
+-- A sound device keeps to its own, and stays sound: of any kind, by what is owed of each.
+use Rattle.std.proofs.Common.{◌≡◌, ℕ, ◌<◌, ◌≤◌, ◌^◌, refl, sym, subst, ap, ◌∙◌, Bool, true, if◌then◌else◌, inl, inr, Option, Some, None}
 use Rattle.vm_types.specs.declared.op.Op.{Op}
+use Rattle.vm_types.specs.declared.op.OutOp.{OutOp}
 use Rattle.vm_types.specs.declared.entry.Step.{Step}
 use Rattle.vm_types.specs.declared.reply.Reply.{Reply}
 use Rattle.vm_types.specs.Fits.{Fits}
-use Rattle.device_trace.specs.Acts.{AsksOnly, IsAskedBy, IsOwnAct, is_disk_call}
-use Rattle.device_trace.specs.Script.{Script, Ends}
-use Rattle.device_trace.specs.States.{changed_at, stepped, wants}
-use Rattle.device_trace.specs.Traces.{setting}
+use Rattle.device_trace.specs.Acts.{AsksOnly, IsAskedBy}
+use Rattle.device_trace.specs.Script.{Script}
+use Rattle.device_trace.specs.States.{stepped}
 use Rattle.vq_split.specs.Inside.{IsInside}
-use Rattle.queue_device.specs.declared.device.QueueRounds.{QueueRounds}
-use Rattle.queue_device.specs.Service.{Queued}
 use Rattle.queue_device.proofs.Confined.{act_confined, change_confined, step_confined}
 use Rattle.queue_device.proofs.GoesOn.{change_on, new_on, reply_on}
 use Rattle.queue_device.proofs.Keeping.{new_are}
 use Rattle.queue_device.proofs.KeptStays.{state_stays}
-use Rattle.block_device.specs.declared.data.BlockData.{BlockData}
-use Rattle.block_device.specs.declared.kind.BlockChange.TheVariants.{Sectors}
-use Rattle.block_device.specs.declared.kind.BlockKind.{BlockKind}
-use Rattle.block_device.specs.Block.{block, block_rules, changed}
-use Rattle.block_device.specs.Kept.{is_work}
-use Rattle.block_device.specs.States.{BlockKept, BlockStays, IsBounded, block_left, is_state}
-use Rattle.block_device.specs.Working.{IsFine, hand_of}
-use Rattle.block_device.proofs.Owes.{owes}
-use Rattle.block_device.proofs.Resuming.{resumes, short_state}
+use Rattle.guest_devices.specs.declared.change.DeviceChange.{DeviceChange}
 use Rattle.guest_devices.specs.declared.device.Device.{Device}
-use Rattle.guest_devices.specs.declared.device.Device.TheVariants as device
 use Rattle.guest_devices.specs.declared.new_device.NewDevice.{NewDevice}
-use Rattle.guest_devices.specs.declared.new_device.NewDevice.TheVariants as kinds
-use Rattle.guest_devices.specs.Devices.{DeviceLeft, BlockLeft, DeviceChange, BlockChanged, FlatDevice, BlockIs}
-use Rattle.guest_devices.specs.Devices.{DeviceLeads, DeviceWants, FitsChange, FitsNew, device_at, device_calls, device_changed, device_did}
-use Rattle.guest_devices.specs.Devices.{device_next, device_reset, device_times, device_told, device_wants, left_reset, new_device}
-use Rattle.guest_devices.specs.Kept.{IsBoundedDevice, device_left, device_pages, device_port, is_device_state, is_kept, kept_reset}
-use Rattle.guest_devices.specs.Sound.{HasKept, IsSoundDevice, KeepsToItsOwn}
+use Rattle.guest_devices.specs.Devices.{DataOf, DeviceLeads, DeviceLeft, DeviceWants, FitsNew, FlatDevice, device_at, device_calls}
+use Rattle.guest_devices.specs.Devices.{device_changed, device_did, device_next, device_reset, device_rules, device_times, device_told}
+use Rattle.guest_devices.specs.Devices.{device_wants, left_of, left_reset, left_told, new_device, new_left}
+use Rattle.guest_devices.specs.Kept.{IsBounded, IsBoundedDevice, KeptDevice, device_left, device_pages, device_port, is_device_state}
+use Rattle.guest_devices.specs.Kept.{is_state_kept, kept_of, left_by}
+use Rattle.guest_devices.specs.Kinds.{ChangeOf, FitsChange, IsFineOf, calls_of, change_for, changing_of, hand_of, is_work_of}
+use Rattle.guest_devices.specs.Kinds.{kind_at_start, own_at_start, reset_for, service_of, times_of}
+use Rattle.guest_devices.specs.Sound.{HasKept, IsSoundDevice, KeepsToItsOwn, LeavesFine, StaysOwn}
 use Rattle.guest_devices.proofs.Follows.{at_start, did_leads, left_wants, one_left, reset_leads, told_leads, wants_only}
-
--- what is kept, as a block device
-abbrev kept_block : (port pages : ℕ) (t : Script (Queued BlockData)) → BlockKept port pages t → QueueRounds BlockKind
-kept_block port pages t k =
-    record { rounds = k.rounds; kind = record { facts = k.own; work = k.stage }; phase = k.phase }
+use Rattle.guest_devices.proofs.Owed.{laws}
 
 module _ (port pages : ℕ) where
+  -- what is kept is kept by a device
   copy_of : (d : FlatDevice) (left : DeviceLeft) → pages ≤ 2 ^ 20 → DeviceLeads d left → HasKept port pages left
       → (it : Device) × DeviceLeads d (device_left it) × (is_device_state it ≡ true) × IsBoundedDevice it
       × (device_port it ≡ port) × (device_pages it ≡ pages)
-  copy_of d (BlockLeft t) small l has = (
-    device.Block (kept_block port pages t has),
-    subst (λ (x : Script (Queued BlockData)). DeviceLeads d (BlockLeft x)) (sym has.left) l,
-    has.is,
-    record { pages = subst (λ (n : ℕ). n ≤ 2 ^ 20) (sym has.of_pages) small; sectors = has.fine },
-    has.at_port,
-    has.of_pages,
-  )
+  copy_of d left small l has =
+      let kept : KeptDevice =
+      record { kind = left.kind; phase = has.phase; rounds = has.rounds; own = has.own; stage = has.stage } in
+      let bounded : IsBounded kept =
+      record {
+        pages = subst (λ (n : ℕ). n ≤ 2 ^ 20) (sym has.of_pages) small;
+        fine = has.fine;
+        short = has.short;
+      } in
+      let held = (laws left.kind).held has.phase has.rounds has.own has.stage has.is in
+      let tells : device_left held.0 ≡ left = ap left_by held.1 ∙ ap (left_of left.kind) has.left in (
+        held.0,
+        subst (λ (x : DeviceLeft). DeviceLeads d x) (sym tells) l,
+        ap is_state_kept held.1 ∙ has.is,
+        subst (λ (x : KeptDevice). IsBounded x) (sym held.1) bounded,
+        ap (λ (x : KeptDevice). x.rounds.port) held.1 ∙ has.at_port,
+        ap (λ (x : KeptDevice). x.rounds.pages) held.1 ∙ has.of_pages,
+      )
 
   -- ---- what is left keeps to its own
 
   step_keeps : (left : DeviceLeft) (reply : Reply) → KeepsToItsOwn port pages left → Fits (device_wants left) reply
       → KeepsToItsOwn port pages (device_next left reply)
-  step_keeps (BlockLeft t) reply own fit =
-      let on : (x : Script (Queued BlockData)) → stepped block_rules t reply ≡ x → KeepsToItsOwn port pages (BlockLeft x) =
+  step_keeps left reply own fit =
+      let k = left.kind in
+      let t = left.left in
+      let owed = laws k in
+      let on : (x : Script (DataOf k)) → stepped (device_rules k) t reply ≡ x → KeepsToItsOwn port pages (left_of k x) =
       λ x is. record {
         stays =
-            subst (λ (z : Script (Queued BlockData)). BlockStays port pages z) is
-            (step_confined block (setting changed) false is_disk_call port pages owes t reply own.stays fit);
+            subst (λ (z : Script (DataOf k)). StaysOwn port pages (left_of k z)) is
+            (step_confined (service_of k) (changing_of k) (times_of k) (calls_of k) port pages owed.confines t reply own.stays
+            fit);
         kept = λ small.
-            subst (λ (z : Script (Queued BlockData)). BlockKept port pages z) is
-            (reply_on block (setting changed) hand_of is_work IsFine false is_disk_call port pages small owes resumes t reply
-            (own.kept small) fit);
+            subst (λ (z : Script (DataOf k)). HasKept port pages (left_of k z)) is
+            (reply_on (service_of k) (changing_of k) (hand_of k) (is_work_of k) (IsFineOf k) (times_of k) (calls_of k) port pages
+            small owed.confines owed.resumes t reply (own.kept small) fit);
       } in
-      on _ (ap (λ (b : Bool). if b then stepped block_rules t reply else t) (sym fit))
+      on _ (ap (λ (b : Bool). if b then stepped (device_rules k) t reply else t) (sym fit))
 
-  change_keeps : (left : DeviceLeft) (c : DeviceChange) → FitsChange c → KeepsToItsOwn port pages left
-      → KeepsToItsOwn port pages (device_changed c left)
-  change_keeps (BlockLeft t) (BlockChanged (Sectors sectors)) size own = record {
-    stays = change_confined block (setting changed) false is_disk_call port pages owes t (Sectors sectors) own.stays;
-    kept = λ small.
-        change_on block (setting changed) hand_of is_work IsFine false is_disk_call port pages small owes resumes t
-        (Sectors sectors) (own.kept small) (λ e was. (size, size));
-  }
+  told_keeps : (left : DeviceLeft) (c : Option (ChangeOf left.kind)) → LeavesFine left.kind c → KeepsToItsOwn port pages left
+      → KeepsToItsOwn port pages (left_told left c)
+  told_keeps left None fine own = own
+  told_keeps left (Some c) fine own =
+      let k = left.kind in
+      let owed = laws k in
+      record {
+        stays =
+            change_confined (service_of k) (changing_of k) (times_of k) (calls_of k) port pages owed.confines left.left c
+            own.stays;
+        kept = λ small.
+            change_on (service_of k) (changing_of k) (hand_of k) (is_work_of k) (IsFineOf k) (times_of k) (calls_of k) port pages
+            small owed.confines owed.resumes left.left c (own.kept small) fine;
+      }
 
-  reset_keeps : (left : DeviceLeft) → KeepsToItsOwn port pages left → KeepsToItsOwn port pages (left_reset left)
-  reset_keeps (BlockLeft t) own = own
+  asks_keeps : (left : DeviceLeft) → KeepsToItsOwn port pages left
+      → IsAskedBy (times_of left.kind) (calls_of left.kind) port (device_wants left)
+  asks_keeps left own =
+      let k = left.kind in
+      (act_confined (service_of k) (changing_of k) (times_of k) (calls_of k) port pages (laws k).confines left.left own.stays).1
 
   own_keeps : (d : FlatDevice) (left : DeviceLeft) → DeviceLeads d left → KeepsToItsOwn port pages left
       → IsAskedBy (device_times d) (device_calls d) port (device_wants left)
-  own_keeps (BlockIs start items) (BlockLeft t) l own =
-      (act_confined block (setting changed) false is_disk_call port pages owes t own.stays).1
+  own_keeps d left l own =
+      subst (λ (x : DeviceLeft). IsAskedBy (times_of x.kind) (calls_of x.kind) port (device_wants left)) l.2
+      (asks_keeps left own)
 
   inside_keeps : (left : DeviceLeft) → pages < 2 ^ 32 → KeepsToItsOwn port pages left → IsInside pages (device_wants left)
-  inside_keeps (BlockLeft t) few own =
-      (act_confined block (setting changed) false is_disk_call port pages owes t own.stays).0 few
+  inside_keeps left few own =
+      let k = left.kind in
+      (act_confined (service_of k) (changing_of k) (times_of k) (calls_of k) port pages (laws k).confines left.left own.stays).0
+      few
 
-  -- without limits it asks no guest time
-  asks_only : (op : Op) → IsAskedBy false is_disk_call port op → AsksOnly is_disk_call op
-  asks_only op (inl timed) = let wrong : false ≡ true = timed.0 in absurd (cc)
-  asks_only op (inr own) = own.1
-
-  host_keeps : (d : FlatDevice) (left : DeviceLeft) → DeviceLeads d left → KeepsToItsOwn port pages left
-      → AsksOnly (device_calls d) (device_wants left)
-  host_keeps (BlockIs start items) (BlockLeft t) l own =
-      asks_only (wants block_rules t) (own_keeps (BlockIs start items) (BlockLeft t) l own)
+-- to ask guest time is to ask no host object
+asks_only : (times : Bool) (calls : OutOp → Bool) (port : ℕ) (op : Op) → IsAskedBy times calls port op → AsksOnly calls op
+asks_only times calls port op (inl timed) = subst (λ (o : Op). AsksOnly calls o) (sym timed.1) tt
+asks_only times calls port op (inr own) = own.1
 
 pub new_sound : (port pages : ℕ) (what : NewDevice) → FitsNew what → IsSoundDevice port pages (new_device port pages what)
-new_sound port pages (kinds.Block d) size = (
-  BlockLeft _,
-  refl,
-  record {
-    stays = (refl, λ few. new_are block port pages);
-    kept = λ small.
-        new_on block (setting changed) hand_of is_work IsFine false is_disk_call port pages small owes resumes
-        (record { sectors = d.sectors; drive_id = d.drive_id; is_read_only = d.is_read_only }) size;
-  },
-)
+new_sound port pages what fits =
+    let k = kind_at_start what in
+    let owed = laws k in (
+      new_left port pages what,
+      at_start (new_left port pages what),
+      record {
+        stays = (refl, λ few. new_are (service_of k) port pages);
+        kept = λ small.
+            new_on (service_of k) (changing_of k) (hand_of k) (is_work_of k) (IsFineOf k) (times_of k) (calls_of k) port pages
+            small owed.confines owed.resumes (own_at_start what) fits;
+      },
+    )
 
-pub kept_sound : (b : QueueRounds BlockKind) → is_state b ≡ true → IsBounded b
-    → IsSoundDevice b.rounds.port b.rounds.pages (device_at (BlockLeft (block_left b)))
-kept_sound b is bounded = (
-  BlockLeft (block_left b),
-  refl,
-  record {
-    stays =
-        state_stays block (setting changed) hand_of is_work IsFine false is_disk_call b.phase b.rounds b.kind.facts b.kind.work
-        owes resumes is;
-    kept = λ small. record {
-      phase = b.phase;
-      rounds = b.rounds;
-      own = b.kind.facts;
-      stage = b.kind.work;
-      is = is;
-      fine = bounded.sectors;
-      short = short_state b is;
-      at_port = refl;
-      of_pages = refl;
-      left = refl;
-    };
-  },
-)
+kept_sound : (d : KeptDevice) → is_state_kept d ≡ true → IsBounded d
+    → IsSoundDevice d.rounds.port d.rounds.pages (device_at (left_by d))
+kept_sound d is bounded =
+    let k = d.kind in
+    let owed = laws k in (
+      left_by d,
+      at_start (left_by d),
+      record {
+        stays =
+            state_stays (service_of k) (changing_of k) (hand_of k) (is_work_of k) (IsFineOf k) (times_of k) (calls_of k) d.phase
+            d.rounds d.own d.stage owed.confines owed.resumes is;
+        kept = λ small. record {
+          phase = d.phase;
+          rounds = d.rounds;
+          own = d.own;
+          stage = d.stage;
+          is = is;
+          fine = bounded.fine;
+          short = bounded.short;
+          at_port = refl;
+          of_pages = refl;
+          left = refl;
+        };
+      },
+    )
 
-pub resumed_sound : (k : Device) → is_device_state k ≡ true → IsBoundedDevice k
-    → IsSoundDevice (device_port k) (device_pages k) (device_at (device_left k))
-resumed_sound (device.Block b) is bounded = kept_sound b is bounded
+pub resumed_sound : (it : Device) → is_device_state it ≡ true → IsBoundedDevice it
+    → IsSoundDevice (device_port it) (device_pages it) (device_at (device_left it))
+resumed_sound it is bounded = kept_sound (kept_of it) is bounded
 
 pub copied : (port pages : ℕ) (d : FlatDevice) → pages ≤ 2 ^ 20 → IsSoundDevice port pages d
     → (it : Device) × DeviceLeads d (device_left it) × (is_device_state it ≡ true) × IsBoundedDevice it
@@ -158,19 +171,18 @@ did_sound port pages d s sound want fit =
 
 pub told_sound : (port pages : ℕ) (d : FlatDevice) (c : DeviceChange) → FitsChange c
     → IsSoundDevice port pages d → IsSoundDevice port pages (device_told d c)
-told_sound port pages d c fits sound =
-    (device_changed c sound.0, told_leads d sound.0 c sound.1, change_keeps port pages sound.0 c fits sound.2)
+told_sound port pages d c fits sound = (
+  device_changed c sound.0,
+  told_leads d sound.0 c sound.1,
+  told_keeps port pages sound.0 (change_for c sound.0.kind) ((laws sound.0.kind).changed c fits) sound.2,
+)
 
 pub reset_sound : (port pages : ℕ) (d : FlatDevice) → IsSoundDevice port pages d → IsSoundDevice port pages (device_reset d)
-reset_sound port pages d sound =
-    (left_reset sound.0, reset_leads d sound.0 sound.1, reset_keeps port pages sound.0 sound.2)
-
--- what is kept of a device behind a Reset may be kept, and tells what it has still to do then
-pub reset_kept : (it : Device) → is_kept it ≡ true → is_kept (kept_reset it) ≡ true
-reset_kept (device.Block b) is = is
-
-pub reset_left : (it : Device) → device_left (kept_reset it) ≡ left_reset (device_left it)
-reset_left (device.Block b) = refl
+reset_sound port pages d sound = (
+  left_reset sound.0,
+  reset_leads d sound.0 sound.1,
+  told_keeps port pages sound.0 (reset_for sound.0.kind) (laws sound.0.kind).reset sound.2,
+)
 
 pub at_sound : (port pages : ℕ) (d : FlatDevice) (left : DeviceLeft) → IsSoundDevice port pages d
     → DeviceLeads d left → IsSoundDevice port pages (device_at left)
@@ -199,5 +211,4 @@ want_inside port pages d op few sound want =
 pub want_host : (port pages : ℕ) (d : FlatDevice) (op : Op) → IsSoundDevice port pages d → DeviceWants d op
     → AsksOnly (device_calls d) op
 want_host port pages d op sound want =
-    subst (λ (o : Op). AsksOnly (device_calls d) o) (sym (wants_only d sound.0 op sound.1 want))
-    (host_keeps port pages d sound.0 sound.1 sound.2)
+    asks_only (device_times d) (device_calls d) port op (want_own port pages d op sound want)

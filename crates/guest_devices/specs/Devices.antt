@@ -1,95 +1,118 @@
--- The devices of a guest, by kind: what each has still to do, and the device in the flat machine.
-use Rattle.std.specs.Prelude.{ℕ, ◌≡◌, ◌<◌, ◌^◌, Bool, false, List, [], ◌∷◌, ◌++◌}
+-- The devices of a guest, of any kind: what each has still to do, and the device in the flat machine.
+use Rattle.std.specs.Prelude.{ℕ, ◌≡◌, Bool, false, Option, Some, None, List, [], ◌∷◌, ◌++◌}
 use Rattle.std.proofs.Common.{ap}
 use Rattle.vm_types.specs.declared.op.Op.{Op}
 use Rattle.vm_types.specs.declared.op.OutOp.{OutOp}
 use Rattle.vm_types.specs.declared.reply.Reply.{Reply}
 use Rattle.vm_types.specs.declared.entry.Step.{Step}
 use Rattle.vm_types.specs.Fits.{fits}
-use Rattle.device_trace.specs.Acts.{is_disk_call}
 use Rattle.device_trace.specs.Script.{Script, Ends}
-use Rattle.device_trace.specs.Traces.{Item, Did, Changed, Continues}
+use Rattle.device_trace.specs.Traces.{Item, Did, Changed, Continues, Rules}
 use Rattle.device_trace.specs.States.{wants, next, leaves, changed_at, Leads}
+use Rattle.queue_device.specs.Lanes.{new_rounds}
+use Rattle.queue_device.specs.Left.{queued}
+use Rattle.queue_device.specs.Rounds.{queue_rules}
 use Rattle.queue_device.specs.Service.{Queued}
-use Rattle.block_device.specs.declared.data.BlockData.{BlockData}
-use Rattle.block_device.specs.declared.kind.BlockChange.{BlockChange}
-use Rattle.block_device.specs.Block.{block_rules, new_block}
-use Rattle.block_device.specs.declared.kind.BlockChange.TheVariants.{Sectors}
+use Rattle.guest_devices.specs.declared.change.DeviceChange.{DeviceChange}
 use Rattle.guest_devices.specs.declared.new_device.NewDevice.{NewDevice}
-use Rattle.guest_devices.specs.declared.new_device.NewDevice.TheVariants as kinds
+use Rattle.guest_devices.specs.Kinds.{Kind, ChangeOf, IsFineOf, OwnOf, calls_of, change_for, changing_of, kind_at_start, own_at_start}
+use Rattle.guest_devices.specs.Kinds.{reset_for, service_of, times_of}
 
--- what a device has still to do
-pub data DeviceLeft : Type 0 where
-  BlockLeft : Script (Queued BlockData) → DeviceLeft
+-- the data of a device of this kind, and what it does
+abbrev pub DataOf : Kind → Type 0
+DataOf k = Queued (OwnOf k)
 
--- what the API changes of a device
-pub data DeviceChange : Type 0 where
-  BlockChanged : BlockChange → DeviceChange
+abbrev pub device_rules : (k : Kind) → Rules (DataOf k) (ChangeOf k)
+device_rules k = queue_rules (service_of k) (changing_of k)
 
--- it gives a disk less than 2^64 sectors
-abbrev pub FitsChange : DeviceChange → Type 0
-FitsChange (BlockChanged (Sectors sectors)) = sectors < 2 ^ 64
+-- ---- what a device has still to do
+
+pub record DeviceLeft : Type 0 where
+  pub kind : Kind
+  pub left : Script (DataOf kind)
+
+abbrev pub left_of : (k : Kind) → Script (DataOf k) → DeviceLeft
+left_of k t = record { kind = k; left = t }
 
 abbrev pub device_wants : DeviceLeft → Op
-device_wants (BlockLeft t) = wants block_rules t
+device_wants d = wants (device_rules d.kind) d.left
 
 -- a reply that doesn't fit leaves it
 abbrev pub device_next : DeviceLeft → Reply → DeviceLeft
-device_next (BlockLeft t) reply = BlockLeft (next block_rules t reply)
+device_next d reply = left_of d.kind (next (device_rules d.kind) d.left reply)
 
-pub device_leaves : (left : DeviceLeft) (reply : Reply) → fits (device_wants left) reply ≡ false
-    → device_next left reply ≡ left
-device_leaves (BlockLeft t) reply unfit = ap BlockLeft (leaves block_rules t reply unfit)
+pub device_leaves : (d : DeviceLeft) (reply : Reply) → fits (device_wants d) reply ≡ false → device_next d reply ≡ d
+device_leaves d reply unfit = ap (left_of d.kind) (leaves (device_rules d.kind) d.left reply unfit)
+
+-- a change of its own kind
+abbrev pub left_told : (d : DeviceLeft) → Option (ChangeOf d.kind) → DeviceLeft
+left_told d None = d
+left_told d (Some c) = left_of d.kind (changed_at (device_rules d.kind) c d.left)
 
 abbrev pub device_changed : DeviceChange → DeviceLeft → DeviceLeft
-device_changed (BlockChanged c) (BlockLeft t) = BlockLeft (changed_at block_rules c t)
+device_changed change d = left_told d (change_for change d.kind)
 
--- a device in the flat machine: what it had still to do where its items begin, and its items since
-pub data FlatDevice : Type 0 where
-  BlockIs : Script (Queued BlockData) → List (Item BlockChange) → FlatDevice
+-- the Reset that comes before a create
+abbrev pub left_reset : DeviceLeft → DeviceLeft
+left_reset d = left_told d (reset_for d.kind)
+
+-- ---- the device in the flat machine
+
+-- what it had still to do where its items begin, and its items since
+pub record FlatDevice : Type 0 where
+  pub kind : Kind
+  pub start : Script (DataOf kind)
+  pub items : List (Item (ChangeOf kind))
+
+-- one more
+abbrev pub with_item : (d : FlatDevice) → Item (ChangeOf d.kind) → FlatDevice
+with_item d item = record { kind = d.kind; start = d.start; items = d.items ++ item ∷ [] }
 
 -- its items lead to this
 abbrev pub DeviceLeads : FlatDevice → DeviceLeft → Type 0
-DeviceLeads (BlockIs start items) (BlockLeft t) = Leads block_rules start items t
+DeviceLeads d left = (t : Script (DataOf d.kind)) × Leads (device_rules d.kind) d.start d.items t × (left ≡ left_of d.kind t)
 
--- one act more, one change more
+-- it wants the act that continues its items to a trace
+abbrev pub DeviceWants : FlatDevice → Op → Type 0
+DeviceWants d op = Continues (device_rules d.kind) d.start d.items op
+
+-- one act more
 abbrev pub device_did : FlatDevice → Step → FlatDevice
-device_did (BlockIs start items) s = BlockIs start (items ++ Did s ∷ [])
+device_did d s = with_item d (Did s)
+
+-- one change more, of its own kind
+abbrev pub told_of : (d : FlatDevice) → Option (ChangeOf d.kind) → FlatDevice
+told_of d None = d
+told_of d (Some c) = with_item d (Changed c)
 
 abbrev pub device_told : FlatDevice → DeviceChange → FlatDevice
-device_told (BlockIs start items) (BlockChanged c) = BlockIs start (items ++ Changed c ∷ [])
+device_told d change = told_of d (change_for change d.kind)
 
--- A device behind the Reset that comes before a create, and what it has still to do then. A block device is told nothing.
 abbrev pub device_reset : FlatDevice → FlatDevice
-device_reset (BlockIs start items) = BlockIs start items
-
-abbrev pub left_reset : DeviceLeft → DeviceLeft
-left_reset (BlockLeft t) = BlockLeft t
-
--- a device wants the act that continues its items to a trace
-abbrev pub DeviceWants : FlatDevice → Op → Type 0
-DeviceWants (BlockIs start items) op = Continues block_rules start items op
+device_reset d = told_of d (reset_for d.kind)
 
 -- a device whose items begin where this is still to be done
 abbrev pub device_at : DeviceLeft → FlatDevice
-device_at (BlockLeft t) = BlockIs t []
+device_at d = record { kind = d.kind; start = d.left; items = [] }
 
--- what the device of this port has to do that has done nothing, in a guest of so many pages
+-- ---- the device of this port that has done nothing, in a guest of so many pages
+
 abbrev pub new_left : ℕ → ℕ → NewDevice → DeviceLeft
-new_left port pages (kinds.Block d) = BlockLeft (Ends (new_block port pages d.drive_id d.sectors d.is_read_only))
+new_left port pages what = left_of (kind_at_start what) (Ends (queued (new_rounds port pages) (own_at_start what)))
 
--- that device
 abbrev pub new_device : ℕ → ℕ → NewDevice → FlatDevice
 new_device port pages what = device_at (new_left port pages what)
 
--- its disk has less than 2^64 sectors
+-- it may start with such data
 abbrev pub FitsNew : NewDevice → Type 0
-FitsNew (kinds.Block d) = d.sectors < 2 ^ 64
+FitsNew what = IsFineOf (kind_at_start what) (own_at_start what)
+
+-- ---- what it may ask
 
 -- the calls of a device's host object
 abbrev pub device_calls : FlatDevice → OutOp → Bool
-device_calls (BlockIs start items) = is_disk_call
+device_calls d = calls_of d.kind
 
 -- it has limits that need guest time
 abbrev pub device_times : FlatDevice → Bool
-device_times (BlockIs start items) = false
+device_times d = times_of d.kind

@@ -1,3 +1,5 @@
 pub mod Devices
 pub mod Kept
+pub mod Kinds
+pub mod Ports
 pub mod Sound

@@ -1,10 +1,10 @@
 // A device of any kind as an actor.
 ghost use Rattle.std.specs.Prelude.{◌≡◌, true};
-ghost use Rattle.block_device.specs.declared.kind.BlockChange.TheVariants.{Sectors};
-ghost use Rattle.guest_devices.specs.Devices.{BlockChanged, device_changed, new_left};
+ghost use Rattle.guest_devices.specs.Devices.{device_changed, new_left};
 ghost use Rattle.guest_devices.specs.Kept.{device_left, device_pages, device_port, is_kept, kept_reset};
 
-use crate::again::{block_again, block_port};
+use crate::block::{block_again, give_block, new_block, port_of_block, tell_block, want_of_block};
+use crate::change::DeviceChange;
 use crate::new_device::NewDevice;
 use block_device::Block;
 use vm_types::{Actor, Op, Reply};
@@ -21,13 +21,7 @@ impl Device {
         ensures { device_left result ≡ new_left port pages what.now }
     {
         match what {
-            NewDevice::Block(drive) => Device::Block(Block::new(
-                port,
-                pages,
-                drive.drive_id,
-                drive.sectors,
-                drive.is_read_only,
-            )),
+            NewDevice::Block(drive) => Device::Block(new_block(port, pages, drive)),
         }
     }
 
@@ -37,7 +31,7 @@ impl Device {
         ensures kept { is_kept self.now ≡ true }
     {
         match self {
-            Device::Block(block) => block_port(block),
+            Device::Block(block) => port_of_block(block),
         }
     }
 
@@ -60,16 +54,19 @@ impl Device {
         }
     }
 
-    /// The disk of a block device has another size, in sectors of 512 bytes, from the next judgement of a request on.
-    pub fn set_sectors(&mut self, sectors: u64)
-        ensures { device_left self.new ≡ device_changed (BlockChanged (Sectors sectors)) (device_left self.old) }
+    /// A change of its kind. One of another kind is none.
+    pub fn change(&mut self, change: DeviceChange)
+        ensures { device_left self.new ≡ device_changed change (device_left self.old) }
     {
         match self {
-            Device::Block(block) => block.set_sectors(sectors),
+            Device::Block(block) => {
+                let DeviceChange::Block(change) = change;
+                tell_block(block, change);
+            }
         }
     }
 
-    /// The Reset that comes before a create. A block device is told nothing.
+    /// The Reset that comes before a create, for a kind that is told of it.
     pub fn reset(&mut self)
         ensures { self.new ≡ kept_reset self.old }
     {
@@ -95,13 +92,13 @@ impl Actor for Device {
 
     fn want(&self) -> Op {
         match self {
-            Device::Block(block) => block.want(),
+            Device::Block(block) => want_of_block(block),
         }
     }
 
     fn give(&mut self, reply: Reply) {
         match self {
-            Device::Block(block) => block.give(reply),
+            Device::Block(block) => give_block(block, reply),
         }
     }
 }

@@ -8,24 +8,19 @@ ghost use Rattle.device_trace.specs.Script.{Script, Ends};
 ghost use Rattle.device_trace.specs.States.{LeadsTo};
 ghost use Rattle.device_trace.specs.Traces.{Continues, Item};
 ghost use Rattle.vq_split.specs.Inside.{IsInside};
-ghost use Rattle.queue_device.specs.declared.device.QueueRounds.{QueueRounds};
-ghost use Rattle.queue_device.specs.Service.{Queued};
-ghost use Rattle.block_device.specs.declared.data.BlockData.{BlockData};
-ghost use Rattle.block_device.specs.declared.kind.BlockChange.{BlockChange};
-ghost use Rattle.block_device.specs.declared.kind.BlockKind.{BlockKind};
-ghost use Rattle.block_device.specs.Block.{block_rules};
-ghost use Rattle.block_device.specs.States.{IsBounded, block_left, is_state};
+ghost use Rattle.guest_devices.specs.declared.change.DeviceChange.{DeviceChange};
 ghost use Rattle.guest_devices.specs.declared.device.Device.{Device};
 ghost use Rattle.guest_devices.specs.declared.new_device.NewDevice.{NewDevice};
-ghost use Rattle.guest_devices.specs.Devices.{BlockIs, BlockLeft, DeviceChange, DeviceLeads, DeviceLeft, DeviceWants, FitsChange, FitsNew};
-ghost use Rattle.guest_devices.specs.Devices.{FlatDevice, device_at, device_calls, device_changed, device_did, device_next, device_reset};
-ghost use Rattle.guest_devices.specs.Devices.{device_times, device_told, device_wants, left_reset, new_device};
+ghost use Rattle.guest_devices.specs.Devices.{DataOf, DeviceLeads, DeviceLeft, DeviceWants, FitsNew, FlatDevice, device_at, device_calls};
+ghost use Rattle.guest_devices.specs.Devices.{device_changed, device_did, device_next, device_reset, device_rules, device_times};
+ghost use Rattle.guest_devices.specs.Devices.{device_told, device_wants, left_reset, new_device};
 ghost use Rattle.guest_devices.specs.Kept.{IsBoundedDevice, device_left, device_pages, device_port, is_device_state, is_kept, kept_reset};
+ghost use Rattle.guest_devices.specs.Kinds.{ChangeOf, FitsChange, Kind};
 ghost use Rattle.guest_devices.specs.Sound.{IsSoundDevice};
 
 /// The items of a device lead to one thing that is still to be done, and the act that this wants is the one that the
 /// device wants. With a step of it, with a change, or behind a Reset, they lead to what comes next, and so do the data that
-/// are kept of it. Where a block device begins where a trace led, it wants the one act that continues this trace with its items.
+/// are kept of it. Where a device begins where a trace led, it wants the one act that continues this trace with its items.
 pub fn devices_follow()
     ensures begins { (left : DeviceLeft) → DeviceLeads (device_at left) left }
     ensures one { (d : FlatDevice) (left other : DeviceLeft) →
@@ -45,12 +40,14 @@ pub fn devices_follow()
         DeviceLeads d left → DeviceLeads (device_reset d) (left_reset left) }
     ensures reset_kept { (it : Device) → is_kept it ≡ true →
         (is_kept (kept_reset it) ≡ true) × (device_left (kept_reset it) ≡ left_reset (device_left it)) }
-    ensures continues { (first : Queued BlockData) (before items : List (Item BlockChange)) (start : Script (Queued BlockData)) (op : Op) →
-        LeadsTo block_rules first before start → DeviceWants (BlockIs start items) op →
-        Continues block_rules (Ends first) (before ++ items) op }
-    ensures wanted { (first : Queued BlockData) (before items : List (Item BlockChange)) (start : Script (Queued BlockData)) (op : Op) →
-        LeadsTo block_rules first before start → Continues block_rules (Ends first) (before ++ items) op →
-        DeviceWants (BlockIs start items) op }
+    ensures continues { (k : Kind) (first : DataOf k) (before items : List (Item (ChangeOf k))) (start : Script (DataOf k))
+        (op : Op) → LeadsTo (device_rules k) first before start →
+        DeviceWants (record { kind = k; start = start; items = items }) op →
+        Continues (device_rules k) (Ends first) (before ++ items) op }
+    ensures wanted { (k : Kind) (first : DataOf k) (before items : List (Item (ChangeOf k))) (start : Script (DataOf k))
+        (op : Op) → LeadsTo (device_rules k) first before start →
+        Continues (device_rules k) (Ends first) (before ++ items) op →
+        DeviceWants (record { kind = k; start = start; items = items }) op }
 {}
 
 /// A sound device always wants something: an act of its own, and of host objects a call of its own, or guest time where it
@@ -69,8 +66,6 @@ pub fn sound_devices()
         IsSoundDevice port pages d → IsSoundDevice port pages (device_reset d) }
     ensures again { (port pages : ℕ) (d : FlatDevice) (left : DeviceLeft) →
         IsSoundDevice port pages d → DeviceLeads d left → IsSoundDevice port pages (device_at left) }
-    ensures kept { (b : QueueRounds BlockKind) → is_state b ≡ true → IsBounded b →
-        IsSoundDevice b.rounds.port b.rounds.pages (device_at (BlockLeft (block_left b))) }
     ensures resumed { (k : Device) → is_device_state k ≡ true → IsBoundedDevice k →
         IsSoundDevice (device_port k) (device_pages k) (device_at (device_left k)) }
     ensures copied { (port pages : ℕ) (d : FlatDevice) → pages ≤ 2 ^ 20 → IsSoundDevice port pages d →

@@ -22,13 +22,16 @@ use Rattle.api_rules.specs.declared.ids.Ids.{Ids}
 use Rattle.api_rules.specs.Ids.{based, spent}
 use Rattle.guest_pages.specs.Pages.{cleared}
 use Rattle.guest_pages.proofs.Marking.{flat_cleared, marks_cleared}
-use Rattle.flat_guest.specs.Changes.{reset_guest, resized}
+use Rattle.guest_devices.specs.declared.change.DeviceChange.{DeviceChange}
+use Rattle.guest_devices.specs.Kinds.{FitsChange}
+use Rattle.guest_devices.specs.Ports.{shown_by}
+use Rattle.flat_guest.specs.Changes.{reset_guest, told}
 use Rattle.flat_guest.specs.Given.{Given}
 use Rattle.flat_guest.specs.Guest.{Guest, unwritten}
 use Rattle.flat_machine.specs.Machine.{Machine, first_ids, new_machine}
 use Rattle.flat_machine.specs.Requests.{halted, parent_of}
 use Rattle.flat_machine.specs.Ready.{IsBaseBefore, IsFitting, IsReadyGuest, IsTaken, Ready, ReadyBy}
-use Rattle.flat_machine.proofs.Ready.{base_later, drained_ready, event_ready, guest_ready, halted_ready, makes_ready, new_ready, patched_ready, reset_ready, resized_ready, resumed_ready, unwritten_ready}
+use Rattle.flat_machine.proofs.Ready.{base_later, drained_ready, event_ready, guest_ready, halted_ready, makes_ready, new_ready, patched_ready, reset_ready, told_ready, resumed_ready, unwritten_ready}
 use Rattle.flat_machine.proofs.Taken.{changed_taken, configured_taken}
 use Rattle.snap_state.specs.Valid.{are_drives}
 use Rattle.timer_trace.specs.States.{new_timer}
@@ -40,7 +43,7 @@ use Rattle.monitor_plans.specs.Headings.{HasParent}
 use Rattle.monitor_plans.specs.Plans.{HasReadyGuest, IsEarly}
 use Rattle.monitor_machine.specs.Answering.{TakesReply}
 use Rattle.monitor_machine.specs.Live.{Live}
-use Rattle.monitor_machine.specs.Plans.{Resizes, halted_world, paused_by, world_by}
+use Rattle.monitor_machine.specs.Plans.{TellsDevice, halted_world, paused_by, world_by}
 use Rattle.monitor_machine.specs.Ready.{IsReadyLive}
 use Rattle.monitor_machine.specs.State.{IsGuestBy, IsLive}
 use Rattle.monitor_machine.proofs.Leaving.{left_is}
@@ -154,24 +157,26 @@ drain_stays live w there it =
       devices_are = record { count = is.devices_are.count; each = is.devices_are.each; sound = is.devices_are.sound };
     }
 
--- another size of a disk
-pub resize_stays : (live : Live) (w v : WorldValue) (k sectors : ℕ) → sectors < 2 ^ 64 → live.guest ≡ Some w
-    → ((g : Guest) → IsWorld w g → IsWorld v (resized k sectors g)) → IsReadyLive live → IsReadyLive (record live { guest = Some v })
-resize_stays live w v k sectors small there told it =
+-- a device is told of a change
+change_stays : (live : Live) (w v : WorldValue) (k : ℕ) (change : DeviceChange) → FitsChange change → live.guest ≡ Some w
+    → ((g : Guest) → IsWorld w g → IsWorld v (told k change (shown_by change) g)) → IsReadyLive live
+    → IsReadyLive (record live { guest = Some v })
+change_stays live w v k change fits there tells it =
     let on = standing live w there it in
-    changes_to live w v on (resized k sectors on.guest)
-    (resized_ready on.flat.config on.flat.paused on.guest k sectors small on.stands) (told on.guest on.world)
+    changes_to live w v on (told k change (shown_by change) on.guest)
+    (told_ready on.flat.config on.flat.paused on.guest k change (shown_by change) fits on.stands) (tells on.guest on.world)
 
--- a device is told of it, if both are there
-pub resizes_stay : (live : Live) (device : Option ℕ) (sectors : ℕ) (after : Option WorldValue) → sectors < 2 ^ 64
-    → Resizes device sectors live.guest after → IsReadyLive live → IsReadyLive (record live { guest = after })
-resizes_stay live device sectors after small told it = by_guest device live.guest after refl told
+-- if both are there
+pub tells_stay : (live : Live) (device : Option ℕ) (change : DeviceChange) (after : Option WorldValue) → FitsChange change
+    → TellsDevice device change live.guest after → IsReadyLive live → IsReadyLive (record live { guest = after })
+tells_stay live device change after fits tells it = by_guest device live.guest after refl tells
   where
-    by_guest : (k : Option ℕ) (w v : Option WorldValue) → live.guest ≡ w → Resizes k sectors w v → IsReadyLive (record live { guest = v })
+    by_guest : (k : Option ℕ) (w v : Option WorldValue) → live.guest ≡ w → TellsDevice k change w v
+        → IsReadyLive (record live { guest = v })
     by_guest None w v there is = subst (λ (o : Option WorldValue). IsReadyLive (record live { guest = o })) (there ∙ sym is) it
     by_guest (Some k) None v there is = subst (λ (o : Option WorldValue). IsReadyLive (record live { guest = o })) (there ∙ sym is) it
     by_guest (Some k) (Some w) None there is = absurd is
-    by_guest (Some k) (Some w) (Some v) there is = resize_stays live w v k sectors small there is it
+    by_guest (Some k) (Some w) (Some v) there is = change_stays live w v k change fits there is it
 
 -- the guest is taken out
 pub taken_out : (live : Live) → IsReadyLive live → IsReadyLive (record live { guest = None })

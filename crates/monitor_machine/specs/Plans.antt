@@ -22,8 +22,10 @@ use Rattle.api_rules.specs.Ids.{based, spent}
 use Rattle.api_rules.specs.declared.ids.Ids.{Ids}
 use Rattle.timer_trace.specs.States.{new_timer}
 use Rattle.guest_devices.specs.declared.device.Device.{Device}
-use Rattle.guest_devices.specs.Devices.{DeviceChange}
-use Rattle.flat_guest.specs.Changes.{capacity_shown, reset_guest, sectors_change, told}
+use Rattle.guest_devices.specs.declared.change.DeviceChange.{DeviceChange}
+use Rattle.guest_devices.specs.Kinds.{sectors_change}
+use Rattle.guest_devices.specs.Ports.{shown_by}
+use Rattle.flat_guest.specs.Changes.{reset_guest, told}
 use Rattle.flat_guest.specs.Guest.{Guest}
 use Rattle.flat_guest.specs.Start.{started}
 use Rattle.snap_state.specs.declared.copy.StateCopy.{StateCopy}
@@ -255,16 +257,17 @@ plan_after (plan.Restores r) live =
     }
 plan_after it live = live
 
--- what becomes of the world where a device is told of a change, and shows this, if both are there
-abbrev pub TellsDevice : Option ℕ → DeviceChange → Option (List ℕ) → Option WorldValue → Option WorldValue → Type 0
-TellsDevice None change shown world after = after ≡ world
-TellsDevice (Some k) change shown None after = after ≡ None
-TellsDevice (Some k) change shown (Some w) None = ⊥
-TellsDevice (Some k) change shown (Some w) (Some v) = (g : Guest) → IsWorld w g → IsWorld v (told k change shown g)
+-- what becomes of the world where a device is told of a change, and shows it, if both are there
+abbrev pub TellsDevice : Option ℕ → DeviceChange → Option WorldValue → Option WorldValue → Type 0
+TellsDevice None change world after = after ≡ world
+TellsDevice (Some k) change None after = after ≡ None
+TellsDevice (Some k) change (Some w) None = ⊥
+TellsDevice (Some k) change (Some w) (Some v) =
+    (g : Guest) → IsWorld w g → IsWorld v (told k change (shown_by change) g)
 
 -- the size of its disk
 abbrev pub Resizes : Option ℕ → ℕ → Option WorldValue → Option WorldValue → Type 0
-Resizes device sectors world after = TellsDevice device (sectors_change sectors) (capacity_shown sectors) world after
+Resizes device sectors world after = TellsDevice device (sectors_change sectors) world after
 
 -- and of the machine where a drive has another file
 pub record TakesFile (r : Resize) (live after : LiveMachine) : Type 0 where

@@ -20,7 +20,8 @@ use Rattle.guest_devices.specs.Devices.{FitsNew}
 use Rattle.guest_pages.specs.Pages.{PageValue, flat_of}
 use Rattle.flat_guest.specs.Guest.{Guest}
 use Rattle.flat_guest.specs.Shaped.{IsShaped, kinds_at_start}
-use Rattle.flat_guest.specs.Start.{port_at_start, started}
+use Rattle.guest_devices.specs.Ports.{port_at_start}
+use Rattle.flat_guest.specs.Start.{started}
 use Rattle.flat_guest.proofs.Shaped.{shaped_start}
 use Rattle.flat_guest.proofs.Soundness.{sound_start}
 use Rattle.snap_state.specs.Valid.{is_valid}

@@ -19,7 +19,8 @@ use Rattle.hart_trace.proofs.Traces as hart_traces
 use Rattle.timer_trace.specs.States.{wants_by}
 use Rattle.timer_trace.proofs.Traces as timer_traces
 use Rattle.device_trace.specs.Acts.{is_disk_call}
-use Rattle.guest_devices.specs.Devices.{BlockIs, FlatDevice, device_calls}
+use Rattle.guest_devices.specs.Devices.{FlatDevice}
+use Rattle.guest_devices.specs.Kinds.{Block, Kind, calls_of}
 use Rattle.guest_devices.proofs.Soundness.{want_host}
 use Rattle.flat_guest.specs.Given.{Event}
 use Rattle.flat_guest.specs.Guest.{Guest, Wants, WantsFrom, WantsOf, layout_of, whole_pages}
@@ -71,15 +72,15 @@ turn_asks g (ActorId.Hart k) act turn wants = absurd (hart_asks g k act wants)
 turn_asks g (ActorId.Device k) act turn wants = cc
 
 -- a device asks its disk
-disk_calls : (d : FlatDevice) (act : OutOp) → device_calls d act ≡ true → is_disk_call act ≡ true
-disk_calls (BlockIs start items) act is = is
+disk_calls : (k : Kind) (act : OutOp) → calls_of k act ≡ true → is_disk_call act ≡ true
+disk_calls Block act is = is
 
 device_asks : (g : Guest) (k : ℕ) (o : Option FlatDevice) (act : OutOp) → IsSound g → slice_get g.devices k ≡ o
     → WantsOf o (Op.Out act) → is_disk_call act ≡ true
 device_asks g k None act sound is wants = absurd wants
 device_asks g k (Some d) act sound is wants =
     let own = sound.devices_on.each k d is in
-    disk_calls d act (want_host k (whole_pages g.memory) d (Op.Out act) own wants)
+    disk_calls d.kind act (want_host k (whole_pages g.memory) d (Op.Out act) own wants)
 
 abbrev pub Asks : ActorId → OutOp → Type 0
 Asks actor act =

@@ -14,8 +14,8 @@ use Rattle.port_table.specs.declared.kind.DeviceKind.{DeviceKind}
 use Rattle.port_table.specs.declared.kind.DeviceKind.TheVariants.{Net, Block, Balloon, Vsock}
 use Rattle.port_table.specs.Window.{most_ports}
 use Rattle.guest_devices.specs.declared.device.Device.{Device}
-use Rattle.guest_devices.specs.declared.device.Device.TheVariants as device
-use Rattle.guest_devices.specs.Kept.{device_pages, device_port, is_kept}
+use Rattle.guest_devices.specs.Kept.{device_pages, device_port, is_kept, kept_of}
+use Rattle.guest_devices.specs.Ports.{number_of}
 use Rattle.rv_supervisor.specs.declared.regs.Regs.{Regs}
 use Rattle.rv_supervisor.specs.declared.csr.HartCsr.TheVariants.{Sstatus}
 use Rattle.rv_supervisor.specs.Csrs.{interrupts, csr_value}
@@ -126,7 +126,7 @@ abbrev pub port_kind : PortState → DeviceKind
 port_kind p = p.kind
 
 abbrev pub kind_of : Device → DeviceKind
-kind_of (device.Block b) = Block
+kind_of d = number_of (kept_of d).kind
 
 -- the devices of a machine by their numbers: a block device for each drive
 abbrev pub kinds_of : Configuration → List DeviceKind

@@ -1,15 +1,15 @@
--- Devices as a start makes them, and one that is told of another disk.
+-- Devices as a start makes them, and one that is told of a change.
 use Rattle.std.proofs.Common.{◌≡◌, ℕ, zero, suc, ◌+◌, ◌*◌, ◌<◌, refl, sym, ap, subst, ◌∙◌, List, [], ◌∷◌, ◌++◌, Option, Some, option_map, length, get_or, take, slice_get, slice_set, arith}
 use Rattle.std.proofs.lemmas.List.{length-take-le, map-set, take_more}
 use Rattle.std.proofs.lemmas.Option.{slice_get-map}
 use Rattle.guest_memory.specs.Memory.{Memory}
-use Rattle.block_device.specs.declared.kind.BlockChange.TheVariants.{Sectors}
+use Rattle.guest_devices.specs.declared.change.DeviceChange.{DeviceChange}
 use Rattle.guest_devices.specs.declared.device.Device.{Device}
 use Rattle.guest_devices.specs.declared.new_device.NewDevice.{NewDevice}
-use Rattle.guest_devices.specs.Devices.{BlockChanged, DeviceLeads, DeviceLeft, FlatDevice, device_at, device_changed, new_left}
+use Rattle.guest_devices.specs.Devices.{DeviceLeads, DeviceLeft, FlatDevice, device_at, device_changed, new_left}
 use Rattle.guest_devices.specs.Kept.{device_left, devices_left}
 use Rattle.guest_devices.proofs.Follows.{at_start}
-use Rattle.flat_guest.specs.Body.{lefts_resized}
+use Rattle.flat_guest.specs.Body.{lefts_told}
 use Rattle.flat_guest.specs.Guest.{whole_pages}
 use Rattle.flat_guest.specs.Start.{devices_at_start}
 use Rattle.flat_guest.proofs.Lists.{some_is}
@@ -63,16 +63,16 @@ one_made pages k devices all device none below before is =
     ∙ sym (lefts_more pages 0 made what)
     ∙ ap (λ (l : List NewDevice). lefts_at_start pages 0 l) (sym (take_more all k none below))
 
--- one of them is told of another size of its disk
-pub one_told : (devices : List Device) (k sectors : ℕ) (device after : Device) → slice_get devices k ≡ Some device
-    → device_left after ≡ device_changed (BlockChanged (Sectors sectors)) (device_left device)
-    → devices_left (slice_set devices k after) ≡ lefts_resized (slice_get (devices_left devices) k) (devices_left devices) k sectors
-one_told devices k sectors device after is told =
+-- one of them is told of a change
+pub one_told : (devices : List Device) (k : ℕ) (change : DeviceChange) (device after : Device) → slice_get devices k ≡ Some device
+    → device_left after ≡ device_changed change (device_left device)
+    → devices_left (slice_set devices k after) ≡ lefts_told (slice_get (devices_left devices) k) (devices_left devices) k change
+one_told devices k change device after is told =
     let found : slice_get (devices_left devices) k ≡ Some (device_left device) =
     slice_get-map device_left devices k ∙ ap (λ (x : Option Device). option_map device_left x) is in
     map-set device_left devices k after
     ∙ ap (λ (left : DeviceLeft). slice_set (devices_left devices) k left) told
-    ∙ ap (λ (x : Option DeviceLeft). lefts_resized x (devices_left devices) k sectors) (sym found)
+    ∙ ap (λ (x : Option DeviceLeft). lefts_told x (devices_left devices) k change) (sym found)
 
 -- so many pages are all that memory has
 pub all_pages : (m : Memory) (count : ℕ) → length m.bytes ≡ 4096 * count → count ≡ whole_pages m

@@ -1,5 +1,5 @@
 -- A world's events are the flat machine's.
-use Rattle.std.proofs.Common.{◌≡◌, ℕ, zero, suc, ◌+◌, ◌<◌, ◌^◌, true, false, Bool, nat_lt, refl, sym, ap, subst, ◌∙◌, List, [], ◌∷◌, length, replicate, slice_get, map, if◌then◌else◌, MatchOption, is_some, Option, Some, None, ◌⊎◌, arith}
+use Rattle.std.proofs.Common.{◌≡◌, ℕ, zero, suc, ◌+◌, ◌<◌, true, false, Bool, nat_lt, refl, sym, ap, subst, ◌∙◌, List, [], ◌∷◌, length, replicate, slice_get, map, if◌then◌else◌, MatchOption, is_some, Option, Some, None, ◌⊎◌, arith}
 use Rattle.std.proofs.lemmas.Bool.{lt-ltb, ltb-false, ltb-true}
 use Rattle.vm_types.specs.declared.ids.ActorId.{ActorId}
 use Rattle.vm_types.specs.Fits.{out_fits}
@@ -16,24 +16,25 @@ use Rattle.timer_trace.specs.declared.timer.Timer.{Timer}
 use Rattle.timer_trace.specs.States.{new_timer}
 use Rattle.timer_trace.proofs.Traces as timer_traces
 use Rattle.flat_guest.specs.Guest.{Guest, Wants, WantsFrom, WantsOf, is_actor, none_written, unwritten}
-use Rattle.board_table.specs.Acts.{raise_line}
 use Rattle.board_table.specs.Board.{Board}
 use Rattle.port_table.specs.declared.state.PortState.{PortState}
+use Rattle.guest_devices.specs.declared.change.DeviceChange.{DeviceChange}
 use Rattle.guest_devices.specs.declared.device.Device.{Device}
 use Rattle.guest_devices.specs.Devices.{DeviceLeft, FlatDevice, device_next, device_wants, left_reset}
 use Rattle.guest_devices.specs.Kept.{device_want, devices_given, devices_left, kept_reset}
-use Rattle.guest_devices.proofs.Soundness.{reset_left}
+use Rattle.guest_devices.specs.Kinds.{FitsChange}
+use Rattle.guest_devices.proofs.Owed.{reset_left}
 use Rattle.flat_guest.specs.declared.places.Layout.{Layout}
 use Rattle.flat_guest.specs.Places.{is_register_access, place_by, place_of, port_accessed}
-use Rattle.flat_guest.specs.Body.{Body, IsGuest, body_after, harts_after, lefts_after, lefts_resized, reply_at, timer_after, want_of, wants, with_reply}
-use Rattle.flat_guest.specs.Changes.{reset_guest, resized, sectors_shown}
+use Rattle.flat_guest.specs.Body.{Body, IsGuest, body_after, harts_after, lefts_after, lefts_told, reply_at, timer_after, want_of, wants, with_reply}
+use Rattle.flat_guest.specs.Changes.{board_shown, ports_with, reset_guest, told}
 use Rattle.flat_guest.specs.Given.{Given, as_given}
 use Rattle.flat_guest.specs.Given.Given.{Nothing}
 use Rattle.flat_guest.specs.Start.{timer_restarted}
 use Rattle.flat_guest.specs.Steps.{board_after, is_given, memory_after, ports_after}
 use Rattle.flat_guest.proofs.Acting as acting
 use Rattle.flat_guest.proofs.Changing as changing
-use Rattle.flat_guest.proofs.Changing.{body_reset, body_resized}
+use Rattle.flat_guest.proofs.Changing.{body_reset, body_told}
 use Rattle.flat_guest.proofs.Lists as lists
 use Rattle.flat_guest.proofs.Determined.{wants_one}
 use Rattle.flat_guest.proofs.Marked.{none_marked}
@@ -261,16 +262,17 @@ unwritten_is w pages g is memory marks = record {
   devices_are = record { count = is.devices_are.count; each = is.devices_are.each; sound = is.devices_are.sound };
 }
 
--- and with another disk of a device
-pub resized_is : (w : WorldValue) (b : Board) (ports : List PortState) (devices : List Device) (k sectors : ℕ) (g : Guest)
-    → sectors < 2 ^ 64 → IsWorld w g → b ≡ raise_line w.board (ActorId.Device k)
-    → ports ≡ sectors_shown (slice_get w.ports k) w.ports k sectors
-    → devices_left devices ≡ lefts_resized (slice_get (devices_left w.devices) k) (devices_left w.devices) k sectors
-    → IsWorld (record w { board = b; ports = ports; devices = devices }) (resized k sectors g)
-resized_is w b ports devices k sectors g size is board_is ports_are devices_are =
-    let after : body_of (record w { board = b; ports = ports; devices = devices }) ≡ body_resized k sectors (body_of w) =
+-- and with a device that was told of a change
+pub told_is : (w : WorldValue) (b : Board) (ports : List PortState) (devices : List Device) (k : ℕ) (change : DeviceChange)
+    (shown : Option (List ℕ)) (g : Guest) → FitsChange change → IsWorld w g → b ≡ board_shown shown w.board k
+    → ports ≡ ports_with shown w.ports k
+    → devices_left devices ≡ lefts_told (slice_get (devices_left w.devices) k) (devices_left w.devices) k change
+    → IsWorld (record w { board = b; ports = ports; devices = devices }) (told k change shown g)
+told_is w b ports devices k change shown g fits is board_is ports_are devices_are =
+    let after : body_of (record w { board = b; ports = ports; devices = devices }) ≡ body_told k change shown (body_of w) =
     λ i. record (body_of w) { board = board_is i; ports = ports_are i; devices = devices_are i } in
-    subst (λ (n : Body). IsGuest n (resized k sectors g)) (sym after) (changing.resized_is (body_of w) g k sectors size is)
+    subst (λ (n : Body). IsGuest n (told k change shown g)) (sym after)
+    (changing.told_is (body_of w) g k change shown fits is)
 
 -- and behind a Reset
 lefts_reset : (devices : List Device) → devices_left (map kept_reset devices) ≡ map left_reset (devices_left devices)

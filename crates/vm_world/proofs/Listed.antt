@@ -18,7 +18,8 @@ use Rattle.guest_devices.specs.Devices.{FitsNew}
 use Rattle.flat_guest.proofs.Marked.{none_marked}
 use Rattle.flat_guest.specs.Body.{Body, IsGuest, with_reply}
 use Rattle.flat_guest.specs.Guest.{whole_pages}
-use Rattle.flat_guest.specs.Start.{port_at_start, started, start_of_harts}
+use Rattle.guest_devices.specs.Ports.{port_at_start}
+use Rattle.flat_guest.specs.Start.{started, start_of_harts}
 use Rattle.flat_guest.proofs.Devices.{sound_at_start}
 use Rattle.vm_world.specs.Starting.{harts_at_start, lefts_at_start}
 use Rattle.vm_world.proofs.Beginning.{all_pages, lefts_lead, lefts_many}

@@ -5,11 +5,12 @@ ghost use Rattle.vm_config.specs.declared.change.Change.TheVariants as change;
 ghost use Rattle.flat_machine.specs.Machine.{Machine};
 ghost use Rattle.flat_machine.specs.Ready.{IsFitting};
 ghost use Rattle.monitor_machine.specs.Disks.{DiskUncalled, HasFile, HasFiles};
-ghost use Rattle.monitor_machine.specs.Plans.{Resizes};
+ghost use Rattle.monitor_machine.specs.Plans.{Resizes, TellsDevice};
 ghost use Rattle.monitor_machine.specs.State.{IsLive};
 
 use crate::machine::LiveMachine;
 use api_rules::Change;
+use guest_devices::DeviceChange;
 use monitor_plans::{Resize, TakenConfig};
 use vm_host::Disk;
 use vm_world::World;
@@ -29,18 +30,25 @@ fn attach_disk<D: Disk>(config: &TakenConfig, device: u8, disk: &mut D)
     }
 }
 
-// The device, if it is one, is told how many sectors its disk has, which is a number of its width.
-fn tell_sectors(guest: &mut Option<World>, device: Option<u8>, sectors: u64)
-    ensures resizes { Resizes device sectors guest.old guest.new }
-    ensures fits { sectors < 2 ^ 64 }
+// The device, if it is one, is told of a change.
+fn tell_device(guest: &mut Option<World>, device: Option<u8>, change: DeviceChange)
+    ensures { TellsDevice device change guest.old guest.new }
 {
     let Some(device) = device else {
         return;
     };
     match guest {
         None => {}
-        Some(guest) => guest.set_sectors(device, sectors),
+        Some(guest) => guest.change(device, change),
     }
+}
+
+// It is told how many sectors its disk has, which is a number of its width.
+fn tell_sectors(guest: &mut Option<World>, device: Option<u8>, sectors: u64)
+    ensures resizes { Resizes device sectors guest.old guest.new }
+    ensures fits { sectors < 2 ^ 64 }
+{
+    tell_device(guest, device, DeviceChange::of_sectors(sectors));
 }
 
 impl LiveMachine {

@@ -1,37 +1,48 @@
 // What the API changes of a world, and the Reset that comes before a create.
 ghost use Rattle.std.specs.Prelude.{◌≡◌, ◌≤◌, length, map, slice_get};
-ghost use Rattle.board_table.specs.Acts.{raise_line};
 ghost use Rattle.guest_devices.specs.Kept.{devices_left, kept_reset};
-ghost use Rattle.flat_guest.specs.Body.{lefts_resized};
-ghost use Rattle.flat_guest.specs.Changes.{reset_guest, resized, sectors_shown};
+ghost use Rattle.guest_devices.specs.Ports.{shown_by};
+ghost use Rattle.flat_guest.specs.Body.{lefts_told};
+ghost use Rattle.flat_guest.specs.Changes.{board_shown, ports_shown, ports_with, reset_guest, told};
 ghost use Rattle.flat_guest.specs.Guest.{Guest};
 ghost use Rattle.vm_world.specs.Worlds.{IsWorld, world_reset};
 
 use super::World;
-use crate::starting::capacity_bytes;
-use guest_devices::Device;
+use guest_devices::{Device, DeviceChange};
+use line_board::Board;
 use mmio_port::Port;
 use vm_types::{ActorId, BoardOp, Op, Place};
 
-// The device of this number is told how many sectors its disk has, if it is there.
-fn tell_sectors(devices: &mut Vec<Device>, number: u8, sectors: u64)
-    ensures told { devices_left devices.new.items ≡ lefts_resized
-        (slice_get (devices_left devices.old.items) number) (devices_left devices.old.items) number sectors }
+// The device of this number is told of a change, if it is there.
+fn tell_device(devices: &mut Vec<Device>, number: u8, change: DeviceChange)
+    ensures told { devices_left devices.new.items ≡ lefts_told
+        (slice_get (devices_left devices.old.items) number) (devices_left devices.old.items) number change }
     ensures none { length devices.old.items ≤ number → devices.new.items ≡ devices.old.items }
 {
     let number = number as usize;
     if number < devices.len() {
-        devices[number].set_sectors(sectors);
+        devices[number].change(change);
     }
 }
 
-// The port of this number shows them, if it is there.
-fn show_sectors(ports: &mut Vec<Port>, number: u8, sectors: u64)
-    ensures { ports.new.items ≡ sectors_shown (slice_get ports.old.items number) ports.old.items number sectors }
+// The port of this number shows these bytes as its configuration, if it is there.
+fn show_bytes(ports: &mut Vec<Port>, number: u8, bytes: &[u8])
+    ensures { ports.new.items ≡ ports_shown (slice_get ports.old.items number) ports.old.items number bytes.now }
 {
     let number = number as usize;
     if number < ports.len() {
-        ports[number].configure(&capacity_bytes(sectors));
+        ports[number].configure(bytes);
+    }
+}
+
+// It shows them if there are any, and then the driver is told by the device's line.
+fn show(ports: &mut Vec<Port>, board: &mut Board, number: u8, shown: Option<[u8; 8]>)
+    ensures ports { ports.new.items ≡ ports_with shown ports.old.items number }
+    ensures board { board.new ≡ board_shown shown board.old number }
+{
+    if let Some(bytes) = shown {
+        show_bytes(ports, number, &bytes);
+        board.act(ActorId::Device(number), &Op::Board(BoardOp::RaiseLine));
     }
 }
 
@@ -53,23 +64,22 @@ impl World {
         reset_all(&mut self.devices);
     }
 
-    /// The disk of the block device of this number has another size, in sectors of 512 bytes: the device judges by it
-    /// from its next request on, its port shows it, and the driver is told by the device's line. It is no event.
-    /// Where there is no such device, only the line of that number is raised, if the board has it.
-    pub fn set_sectors(&mut self, device: u8, sectors: u64)
-        ensures guest { (g : Guest) → IsWorld self.old g → IsWorld self.new (resized device sectors g) }
+    /// The device of this number is told of a change, if it is of the kind that is changed so. Its port shows what the change
+    /// shows, and then the driver is told by the device's line. It is no event. Where there is no such device, only that line is
+    /// raised, if the board has it.
+    pub fn change(&mut self, device: u8, change: DeviceChange)
+        ensures guest { (g : Guest) → IsWorld self.old g → IsWorld self.new (told device change (shown_by change) g) }
         ensures value { self.new ≡ record self.old {
-          board = raise_line self.old.board (ActorId.Device device);
-          ports = sectors_shown (slice_get self.old.ports device) self.old.ports device sectors;
+          board = board_shown (shown_by change) self.old.board device;
+          ports = ports_with (shown_by change) self.old.ports device;
           devices = self.new.devices;
         } }
-        ensures devices { devices_left self.new.devices ≡ lefts_resized
-            (slice_get (devices_left self.old.devices) device) (devices_left self.old.devices) device sectors }
+        ensures devices { devices_left self.new.devices ≡ lefts_told
+            (slice_get (devices_left self.old.devices) device) (devices_left self.old.devices) device change }
         ensures none { length self.old.devices ≤ device → self.new.devices ≡ self.old.devices }
     {
-        tell_sectors(&mut self.devices, device, sectors);
-        show_sectors(&mut self.ports, device, sectors);
-        self.board
-            .act(ActorId::Device(device), &Op::Board(BoardOp::RaiseLine));
+        let shown = change.shown();
+        tell_device(&mut self.devices, device, change);
+        show(&mut self.ports, &mut self.board, device, shown);
     }
 }

@@ -1,4 +1,4 @@
-use Rattle.flat_guest.proofs.Soundness.{sound_start, sound_reset, sound_restart, sound_resize, sound_next, actor_step, hart_step, actor_steps}
+use Rattle.flat_guest.proofs.Soundness.{sound_start, sound_reset, sound_restart, sound_told, sound_next, actor_step, hart_step, actor_steps}
 use Rattle.flat_guest.proofs.law.some_step.Goals as goal
 
 pub returns-clause-start : goal.returns-clause-start
@@ -7,8 +7,8 @@ returns-clause-start c = sound_start
 pub returns-clause-restart : goal.returns-clause-restart
 returns-clause-restart c = sound_restart
 
-pub returns-clause-resize : goal.returns-clause-resize
-returns-clause-resize c = sound_resize
+pub returns-clause-told : goal.returns-clause-told
+returns-clause-told c = sound_told
 
 pub returns-clause-reset : goal.returns-clause-reset
 returns-clause-reset c = sound_reset

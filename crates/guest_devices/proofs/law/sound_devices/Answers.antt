@@ -1,4 +1,4 @@
-use Rattle.guest_devices.proofs.Soundness.{at_sound, copied, did_sound, kept_sound, new_sound, reset_sound, resumed_sound, some_want, told_sound, want_host, want_inside, want_own}
+use Rattle.guest_devices.proofs.Soundness.{at_sound, copied, did_sound, new_sound, reset_sound, resumed_sound, some_want, told_sound, want_host, want_inside, want_own}
 use Rattle.guest_devices.proofs.law.sound_devices.Goals as goal
 
 pub returns-clause-begins : goal.returns-clause-begins
@@ -27,9 +27,6 @@ returns-clause-inside c = want_inside
 
 pub returns-clause-host : goal.returns-clause-host
 returns-clause-host c = want_host
-
-pub returns-clause-kept : goal.returns-clause-kept
-returns-clause-kept c = kept_sound
 
 pub returns-clause-resumed : goal.returns-clause-resumed
 returns-clause-resumed c = resumed_sound

@@ -3,7 +3,7 @@ use Rattle.std.proofs.Common.{◌∙◌, ◌++◌, ◌∷◌, [], sym, ap, map, 
 use Rattle.std.proofs.lemmas.List.{map_push, take_more}
 use Rattle.std.proofs.lemmas.List.Elements.{All-more, All-nil}
 use Rattle.guest_devices.specs.Devices.{FitsNew}
-use Rattle.flat_guest.specs.Start.{port_at_start}
+use Rattle.guest_devices.specs.Ports.{port_at_start}
 use Rattle.vm_world.proofs.starting.ports_at_start.Goals as goal
 
 pub loop-what-init : goal.loop-what-init

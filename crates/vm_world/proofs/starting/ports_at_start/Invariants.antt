@@ -1,7 +1,7 @@
 use Rattle.std.proofs.Common.{◌≡◌, map, take}
 use Rattle.std.specs.List.{All}
 use Rattle.guest_devices.specs.Devices.{FitsNew}
-use Rattle.flat_guest.specs.Start.{port_at_start}
+use Rattle.guest_devices.specs.Ports.{port_at_start}
 use Rattle.vm_world.proofs.starting.ports_at_start.Given as goal
 
 abbrev pub invariant-loop-what : goal.invariant-loop-what

@@ -1,4 +1,4 @@
-use Rattle.guest_devices.proofs.Soundness.{reset_kept}
+use Rattle.guest_devices.proofs.Owed.{reset_kept}
 use Rattle.world_copy.proofs.attached.device_kept.Goals as goal
 
 pub returns-clause-known : goal.returns-clause-known

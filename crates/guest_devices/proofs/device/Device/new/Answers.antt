@@ -2,4 +2,4 @@ use Rattle.std.proofs.Common.{rules}
 use Rattle.guest_devices.proofs.device.Device.new.Goals as goal
 
 pub returns : goal.returns
-returns c = search rules
+returns c = c.new_block.ensures c.args.what.now (search rules)

@@ -1,0 +1,93 @@
+-- The kinds of devices that a guest may have: each table has a line a kind.
+use Rattle.std.specs.Prelude.{ℕ, ◌<◌, ◌^◌, nat_lt, Bool, false, Option, Some, None}
+use Rattle.vm_types.specs.declared.op.OutOp.{OutOp}
+use Rattle.device_trace.specs.Acts.{is_disk_call}
+use Rattle.device_trace.specs.Traces.{Changing, setting}
+use Rattle.queue_device.specs.declared.phase.Work.{Work}
+use Rattle.queue_device.specs.Left.{Hand}
+use Rattle.queue_device.specs.Service.{Service}
+use Rattle.block_device.specs.declared.data.BlockData.{BlockData}
+use Rattle.block_device.specs.declared.kind.BlockChange.{BlockChange}
+use Rattle.block_device.specs.declared.kind.BlockChange.TheVariants.{Sectors}
+use Rattle.block_device.specs.Block.{block, changed}
+use Rattle.block_device.specs.Kept as block_kept
+use Rattle.block_device.specs.Working as block_working
+use Rattle.guest_devices.specs.declared.change.DeviceChange.{DeviceChange}
+use Rattle.guest_devices.specs.declared.change.DeviceChange.TheVariants as changes
+use Rattle.guest_devices.specs.declared.new_device.NewDevice.{NewDevice}
+use Rattle.guest_devices.specs.declared.new_device.NewDevice.TheVariants as starts
+
+pub data Kind : Type 0 where
+  Block : Kind
+
+-- ---- what a device of this kind is
+
+-- its data, beside its rounds
+abbrev pub OwnOf : Kind → Type 0
+OwnOf Block = BlockData
+
+-- what is changed of it from outside
+abbrev pub ChangeOf : Kind → Type 0
+ChangeOf Block = BlockChange
+
+-- what it does with its queues
+abbrev pub service_of : (k : Kind) → Service (OwnOf k)
+service_of Block = block
+
+-- what a change makes of it
+abbrev pub changing_of : (k : Kind) → Changing (OwnOf k) (ChangeOf k)
+changing_of Block = setting changed
+
+-- the calls of its host object
+abbrev pub calls_of : Kind → OutOp → Bool
+calls_of Block = is_disk_call
+
+-- it may ask guest time
+abbrev pub times_of : Kind → Bool
+times_of Block = false
+
+-- ---- what it starts with
+
+abbrev pub kind_at_start : NewDevice → Kind
+kind_at_start (starts.Block d) = Block
+
+abbrev pub own_at_start : (what : NewDevice) → OwnOf (kind_at_start what)
+own_at_start (starts.Block d) = record { sectors = d.sectors; drive_id = d.drive_id; is_read_only = d.is_read_only }
+
+-- ---- what it is told of
+
+-- the change that this is to a device of its kind; to one of another kind it is none
+abbrev pub change_for : DeviceChange → (k : Kind) → Option (ChangeOf k)
+change_for (changes.Block c) Block = Some c
+
+-- the disk of a block device has another size, in sectors of 512 bytes
+abbrev pub sectors_change : ℕ → DeviceChange
+sectors_change sectors = changes.Block (Sectors sectors)
+
+-- its numbers fit their fields: a disk has less than 2^64 sectors
+abbrev pub FitsChange : DeviceChange → Type 0
+FitsChange (changes.Block (Sectors sectors)) = sectors < 2 ^ 64
+
+-- the Reset that comes before a create, to the kinds that are told of it
+abbrev pub reset_for : (k : Kind) → Option (ChangeOf k)
+reset_for Block = None
+
+-- ---- what its code keeps
+
+-- where it is in the work that was begun
+abbrev pub StageOf : Kind → Type 0
+StageOf Block = block_working.Working
+
+abbrev pub hand_of : (k : Kind) → StageOf k → Hand (OwnOf k)
+hand_of Block = block_working.hand_of
+
+-- it may be there
+abbrev pub is_work_of : (k : Kind) → Work → ℕ → StageOf k → Bool
+is_work_of Block = block_kept.is_work
+
+-- it may have such data, as a fact and as a test
+abbrev pub IsFineOf : (k : Kind) → OwnOf k → Type 0
+IsFineOf Block e = e.sectors < 2 ^ 64
+
+abbrev pub is_fine_of : (k : Kind) → OwnOf k → Bool
+is_fine_of Block e = nat_lt e.sectors (2 ^ 64)

@@ -1,0 +1,66 @@
+// The port of a device that has done nothing, by its kind, and what it shows of a change.
+ghost use Rattle.std.specs.Prelude.{◌≡◌};
+ghost use Rattle.guest_devices.specs.declared.new_device.NewDevice.{NewDevice};
+ghost use Rattle.guest_devices.specs.declared.new_device.NewDevice.TheVariants as starts;
+ghost use Rattle.guest_devices.specs.Devices.{FitsNew};
+ghost use Rattle.guest_devices.specs.Kinds.{FitsChange};
+ghost use Rattle.guest_devices.specs.Ports as ports;
+
+use crate::change::DeviceChange;
+use crate::drive::NewDrive;
+use crate::new_device::NewDevice;
+use block_device::BlockChange;
+use le_fields::put64;
+use mmio_port::Port;
+use port_table::{DeviceKind, Feature};
+
+// The capacity of a disk in sectors of 512 bytes (VIRTIO 1.2, 5.2.4).
+fn capacity(sectors: u64) -> [u8; 8]
+    ensures { result ≡ ports.capacity sectors }
+{
+    let mut bytes = [0; 8];
+    put64(&mut bytes, 0, sectors);
+    bytes
+}
+
+fn feature_if(has: bool, feature: Feature) -> u64
+    ensures { result ≡ ports.feature_if has feature }
+{
+    if has { feature.mask() } else { 0 }
+}
+
+fn offered(drive: &NewDrive) -> u64
+    ensures { result ≡ ports.offered drive.now }
+{
+    feature_if(drive.is_read_only, Feature::BlockReadOnly)
+        | feature_if(drive.offers_flush, Feature::BlockFlush)
+}
+
+fn block_port(drive: &NewDrive) -> Port
+    ensures port { result ≡ ports.block_port drive.now }
+    ensures fits { (what : NewDevice) → what ≡ starts.Block drive.now → FitsNew what }
+{
+    Port::new(DeviceKind::Block, offered(drive), &capacity(drive.sectors))
+}
+
+/// The port of a device as a start makes it. What the device starts with fits.
+pub fn port_at_start(what: &NewDevice) -> Port
+    ensures port { result ≡ ports.port_at_start what.now }
+    ensures fits { FitsNew what.now }
+{
+    match what {
+        NewDevice::Block(drive) => block_port(drive),
+    }
+}
+
+impl DeviceChange {
+    /// The configuration that the device's port shows from this change on, if it shows the change. Its numbers fit their fields.
+    pub fn shown(&self) -> Option<[u8; 8]>
+        ensures shown { result ≡ ports.shown_by self.now }
+        ensures fits { FitsChange self.now }
+    {
+        match self {
+            DeviceChange::Block(BlockChange::Sectors(sectors)) => Some(capacity(*sectors)),
+        }
+    }
+}
