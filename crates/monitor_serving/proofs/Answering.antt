@@ -19,8 +19,9 @@ use Rattle.monitor_core.specs.State.{IsMonitor}
 use Rattle.monitor_core.specs.Talking.{HasHalted}
 use Rattle.monitor_running.specs.Reached.{known}
 use Rattle.monitor_serving.specs.declared.served.Served.TheVariants as served
-use Rattle.monitor_serving.specs.Turns.{BreaksOff, EndsConnection, GoesOff, GoesOn}
+use Rattle.monitor_serving.specs.Turns.{BreaksOff, EndsConnection, GoesOff, StaysOpen}
 use Rattle.monitor_serving.specs.Views.{host_with, hosts, view}
+use Rattle.snapshot_chain.proofs.On.{talks_on}
 use Rattle.monitor_serving.proofs.Pieces.{was_answered, was_cut, was_ignored, was_untold}
 
 -- the conn as it waited, which took nothing
@@ -64,17 +65,20 @@ module _ (monitor after : Monitor) (trace told : TraceKnown) (sink : SinkKnown) 
           (attached : (m : Machine) → IsMonitor after left m → HasFiles old.health m disk) where
         -- all was sent
         pub sent : now.took ≡ conn.took ++ text
-            → GoesOn (view monitor (hosts (known trace sink host) files) before) (view after (hosts (known told sink (host_with clock disk)) left) now)
+            → StaysOpen (view monitor (hosts (known trace sink host) files) before) (view after (hosts (known told sink (host_with clock disk)) left) now)
         sent took s m talk stands =
-            let h = hears.went tells m stands.is in
-            was_answered s m talk bytes trace told sink clock old files left monitor after before conn now is_told stands.reached came untaken
-            waits stands.is disk uncalled hears.outcomes hears.responses h.0 text [] (on m stands.is) h.1 h.2 (attached h.0 h.2) hears.writes (append-nil now.took ∙ took)
+            let h = hears.went tells m stands.is in (
+              was_answered s m talk bytes trace told sink clock old files left monitor after before conn now is_told stands.reached came untaken
+                  waits stands.is disk uncalled hears.outcomes hears.responses h.0 text [] (on m stands.is) h.1 h.2 (attached h.0 h.2) hears.writes (append-nil now.took ∙ took),
+              talks_on bytes hears.outcomes m hears.responses h.0 h.1 (on m stands.is),
+            )
 
         -- and then the connection is over; where a write failed it lacks the rest
         pub over : {E : Type 0} (result : Result (Unit {0}) E) → TakesAll conn.took now.took result text
             → Called conn.health now.health result → Lasts before.health conn.health
             → EndsConnection (view monitor (hosts (known trace sink host) files) before) (view after (hosts (known told sink (host_with clock disk)) left) now)
-        over (Ok done) took called lasts s m talk stands = ([], sent took s m talk stands, inl refl)
+        over (Ok done) took called lasts s m talk stands =
+            let all = sent took s m talk stands in ([], all.0, inl refl, all.1)
         over (Err why) (n, less, took) called lasts s m talk stands =
             let h = hears.went tells m stands.is in (
               drop n text,
@@ -83,4 +87,5 @@ module _ (monitor after : Monitor) (trace told : TraceKnown) (sink : SinkKnown) 
                   (ap (λ (l : List ℕ). l ++ drop n text) took ∙ append_assoc conn.took (take n text) (drop n text)
                   ∙ ap (λ (l : List ℕ). conn.took ++ l) (take-append-drop n text)),
               inr (let rose = called.failed in let later = lasts.later in omega (arith, rose, later)),
+              talks_on bytes hears.outcomes m hears.responses h.0 h.1 (on m stands.is),
             )

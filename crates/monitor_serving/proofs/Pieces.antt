@@ -109,7 +109,7 @@ module _ (s : Start) (m : Machine) (talk : List Out) (bytes : List ℕ) (trace t
   brought = waits_bring conn now waits ∙ gives_bring before conn bytes came
 
   -- the replies were taken, but for these bytes, once the disks were the files of drives
-  pub was_answered : (disk : DiskKnown) → DiskUncalled old disk → (outcomes : List Outcome) (responses : List Response) (n : Machine)
+  abbrev pub was_answered : (disk : DiskKnown) → DiskUncalled old disk → (outcomes : List Outcome) (responses : List Response) (n : Machine)
       (text unsent : List ℕ) → is_off m ≡ false → Talks bytes outcomes m responses n → IsMonitor after left n
       → HasFiles old.health n disk → text ≡ all_written Http responses → now.took ++ unsent ≡ conn.took ++ text
       → Continues s from (to disk) talk unsent

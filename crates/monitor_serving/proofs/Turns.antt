@@ -13,7 +13,7 @@ use Rattle.monitor_running.proofs.Lifts.{stays_more}
 use Rattle.monitor_serving.specs.declared.served.Served.{Served}
 use Rattle.monitor_serving.specs.declared.served.Served.TheVariants as served
 use Rattle.monitor_serving.specs.Causes.{ServedCause, TurnedCause}
-use Rattle.monitor_serving.specs.Turns.{Broke, BreaksOff, Continues, GoesOn, ServedAs, TurnedAs}
+use Rattle.monitor_serving.specs.Turns.{Broke, BreaksOff, Continues, GoesOn, ServedAs, StaysOpen, TurnedAs}
 use Rattle.monitor_serving.specs.Views.{AllLast, AreHeard, HasClosed, Hosts, Stands, Talked, View, closes}
 use Rattle.monitor_serving.proofs.Closing.{any_first, any_more}
 
@@ -88,6 +88,10 @@ module _ (s : Start) (a b c : View) (talk : List Out) (first : Continues s a b t
         (append_assoc talk first.heard more.heard) more.reached;
   }
 
+-- a connection that stays open goes on
+pub open_goes : (a b : View) → StaysOpen a b → GoesOn a b
+open_goes a b stays s m talk stands = (stays s m talk stands).0
+
 pub rose_after : (i mid j : ℕ) → i ≤ mid → Rose mid j → Rose i j
 rose_after i mid j first rose = omega (arith, first, rose)
 
@@ -95,6 +99,11 @@ module _ (a b c : View) (on : GoesOn a b) (conn_lasts : Lasts a.conn.health b.co
   pub goes_on : GoesOn b c → GoesOn a c
   goes_on more s m talk stands =
       let w = on s m talk stands in went_on s a b c talk w [] (more s w.flat (talk ++ w.heard) w.stands)
+
+  open_on : StaysOpen b c → StaysOpen a c
+  open_on more s m talk stands =
+      let w = on s m talk stands in
+      let e = more s w.flat (talk ++ w.heard) w.stands in (went_on s a b c talk w [] e.0, e.1)
 
   breaks_on : (end : Served) → BreaksOff end b c → BreaksOff end a c
   breaks_on end more s m talk stands =
@@ -116,7 +125,7 @@ module _ (a b c : View) (on : GoesOn a b) (conn_lasts : Lasts a.conn.health b.co
   pub served_on : (end : Served) → ServedAs end b c → ServedAs end a c
   served_on served.Ended more = λ s m talk stands.
       let w = on s m talk stands in
-      let e = more s w.flat (talk ++ w.heard) w.stands in (e.0, went_on s a b c talk w e.0 e.1, unsent_on e.0 e.2)
+      let e = more s w.flat (talk ++ w.heard) w.stands in (e.0, went_on s a b c talk w e.0 e.1, unsent_on e.0 e.2, e.3)
   served_on served.Off more = λ s m talk stands.
       let w = on s m talk stands in
       let e = more s w.flat (talk ++ w.heard) w.stands in (went_on s a b c talk w [] e.0, e.1)
@@ -124,7 +133,7 @@ module _ (a b c : View) (on : GoesOn a b) (conn_lasts : Lasts a.conn.health b.co
   served_on served.OutOfMemory more = breaks_on served.OutOfMemory more
 
   pub turned_on : (end : Option Served) → TurnedAs end b c → TurnedAs end a c
-  turned_on None more = goes_on more
+  turned_on None more = open_on more
   turned_on (Some end) more = served_on end more
 
 -- ---- causes

@@ -1,5 +1,5 @@
 -- What comes of what the reader heard that is no bytes, and why a connection is over.
-use Rattle.std.proofs.Common.{◌≡◌, ℕ, ◌⊎◌, inl, inr, true, refl, sym, ◌∙◌, subst, List, [], append-nil, Option, Some, None, IfSome}
+use Rattle.std.proofs.Common.{◌≡◌, ℕ, ◌⊎◌, inl, inr, true, false, refl, sym, ◌∙◌, subst, List, [], append-nil, Option, Some, None, IfSome}
 use Rattle.vm_types.specs.declared.exit.Object.TheVariants as object
 use Rattle.vm_outside.specs.Known.{Health, Lasts, Tells}
 use Rattle.serve_host.specs.Passing.{ConnKnown, Waits}
@@ -13,7 +13,7 @@ use Rattle.monitor_serving.specs.declared.served.Served.{Served}
 use Rattle.monitor_serving.specs.declared.served.Served.TheVariants as served
 use Rattle.monitor_serving.specs.Causes.{AnswerCause, IsOver}
 use Rattle.monitor_serving.specs.Hearing.{HearsBy}
-use Rattle.monitor_serving.specs.Turns.{Continues, EndsConnection, GoesOff, GoesOn}
+use Rattle.monitor_serving.specs.Turns.{Continues, EndsConnection, GoesOff, GoesOn, StaysOpen}
 use Rattle.monitor_serving.specs.Views.{Hosts, Stands, view}
 use Rattle.monitor_serving.proofs.Bringing.{waits_bring}
 use Rattle.monitor_serving.proofs.Turns.{rose_after}
@@ -45,8 +45,12 @@ module _ (monitor : Monitor) (hosts : Hosts) (before conn : ConnKnown) (waits : 
       → GoesOff (view monitor hosts before) (view monitor hosts conn)
   stays_off off s m talk stands = (stays s m talk stands, off m stands.is)
 
-  pub stays_over : EndsConnection (view monitor hosts before) (view monitor hosts conn)
-  stays_over s m talk stands = ([], stays s m talk stands, inl refl)
+  module _ (on : (m : Machine) → IsMonitor monitor hosts.files m → is_off m ≡ false) where
+    pub stays_open : StaysOpen (view monitor hosts before) (view monitor hosts conn)
+    stays_open s m talk stands = (stays s m talk stands, on m stands.is)
+
+    pub stays_over : EndsConnection (view monitor hosts before) (view monitor hosts conn)
+    stays_over s m talk stands = ([], stays s m talk stands, inl refl, on m stands.is)
 
 -- ---- causes
 

@@ -1,6 +1,6 @@
 -- Trace fidelity while a connection is served: what the trace took is a run of the flat machine, which leaves the machine
 -- and shows what the sink and the connection took.
-use Rattle.std.specs.Prelude.{ℕ, ◌≡◌, ◌⊎◌, true, List, [], ◌++◌, Option, Some, None}
+use Rattle.std.specs.Prelude.{ℕ, ◌≡◌, ◌⊎◌, true, false, List, [], ◌++◌, Option, Some, None}
 use Rattle.vm_types.specs.Causes.{Rose}
 use Rattle.vm_types.specs.declared.exit.Object.TheVariants as object
 use Rattle.vm_outside.specs.Known.{Health}
@@ -52,12 +52,18 @@ abbrev pub GoesOn : View → View → Type 0
 GoesOn old new =
     (s : Start) (m : Machine) (talk : List Out) → Stands s old.monitor old.hosts m talk → Continues s old new talk []
 
--- the connection is over: where a call on it failed, it may lack an end of its replies
+-- and the guest is on: the connection stays open
+abbrev pub StaysOpen : View → View → Type 0
+StaysOpen old new =
+    (s : Start) (m : Machine) (talk : List Out) → Stands s old.monitor old.hosts m talk
+    → (on : Continues s old new talk []) × (is_off on.flat ≡ false)
+
+-- The connection is over, and the guest is on. Where a call on the connection failed, it may lack an end of its replies.
 abbrev pub EndsConnection : View → View → Type 0
 EndsConnection old new =
     (s : Start) (m : Machine) (talk : List Out) → Stands s old.monitor old.hosts m talk
-    → (unsent : List ℕ) × Continues s old new talk unsent
-    × ((unsent ≡ []) ⊎ Rose old.conn.health.faults new.conn.health.faults)
+    → (unsent : List ℕ) × (on : Continues s old new talk unsent)
+    × ((unsent ≡ []) ⊎ Rose old.conn.health.faults new.conn.health.faults) × (is_off on.flat ≡ false)
 
 -- the guest turned itself off
 abbrev pub GoesOff : View → View → Type 0
@@ -80,5 +86,5 @@ ServedAs served.OutOfMemory old new = BreaksOff served.OutOfMemory old new
 
 -- a turn: it goes on, or has come to an end
 abbrev pub TurnedAs : Option Served → View → View → Type 0
-TurnedAs None old new = GoesOn old new
+TurnedAs None old new = StaysOpen old new
 TurnedAs (Some end) old new = ServedAs end old new

@@ -1,7 +1,7 @@
 use Rattle.std.proofs.Common.{refl}
 use Rattle.monitor_running.specs.Objects.{known_with}
 use Rattle.monitor_serving.specs.Views.{Hosts, hosts, view}
-use Rattle.monitor_serving.proofs.Turns.{all_last_on, all_last_self, goes_on, lasts_on, lasts_self, served_on}
+use Rattle.monitor_serving.proofs.Turns.{all_last_on, all_last_self, goes_on, lasts_on, lasts_self, open_goes, served_on}
 use Rattle.monitor_serving.proofs.Waiting.{stays_on}
 use Rattle.monitor_serving.proofs.connection.serve_turns.Goals as goal
 
@@ -37,13 +37,14 @@ loop-preserved g c =
           let on = c.loop.invariant.on tell tells in
           goes_on (view c.args.monitor.now start (N.known c.args.conn.now)) (view c.loop.monitor before (N.known c.loop.conn))
           (view turn.new.monitor after (N.known turn.new.conn)) on c.loop.invariant.conn
+          (open_goes (view c.loop.monitor before (N.known c.loop.conn)) (view turn.new.monitor after (N.known turn.new.conn))
           (c.in_default.ensures.turned
           (record {
             trace = c.loop.invariant.last.trace.still tell.trace;
             sink = c.loop.invariant.last.sink.still tell.sink;
             files = c.loop.invariant.last.files.still tell.files;
           })
-          (c.loop.invariant.conn.still tells));
+          (c.loop.invariant.conn.still tells)));
       last = all_last_on start before after c.loop.invariant.last turn.ensures.lasts;
       conn = lasts_on (N.known c.args.conn.now).health (N.known c.loop.conn).health (N.known turn.new.conn).health
           c.loop.invariant.conn turn.ensures.conn_lasts;

@@ -8,4 +8,6 @@ returns-then-is_off-clause-closes c = λ hosts before conn waits untaken.
     (λ m is. sym (c.is_off.ensures hosts.files m is) ∙ c.if-is_off.true)
 
 pub returns-clause-closes : goal.returns-clause-closes
-returns-clause-closes c = λ hosts before conn waits untaken. stays_over c.args.monitor.now hosts before conn waits untaken
+returns-clause-closes c = λ hosts before conn waits untaken.
+    stays_over c.args.monitor.now hosts before conn waits untaken
+    (λ m is. sym (c.is_off.ensures hosts.files m is) ∙ c.if-is_off.false)

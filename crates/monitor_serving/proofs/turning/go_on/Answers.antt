@@ -1,5 +1,5 @@
 use Rattle.std.proofs.Common.{sym, ◌∙◌}
-use Rattle.monitor_serving.proofs.Waiting.{stays_off, stays_on}
+use Rattle.monitor_serving.proofs.Waiting.{stays_off, stays_open}
 use Rattle.monitor_serving.proofs.turning.go_on.Goals as goal
 
 pub returns-then-is_off-clause-goes : goal.returns-then-is_off-clause-goes
@@ -8,4 +8,6 @@ returns-then-is_off-clause-goes c = λ hosts before conn waits untaken.
     (λ m is. sym (c.is_off.ensures hosts.files m is) ∙ c.if-is_off.true)
 
 pub returns-clause-goes : goal.returns-clause-goes
-returns-clause-goes c = λ hosts before conn waits untaken. stays_on c.args.monitor.now hosts before conn waits untaken
+returns-clause-goes c = λ hosts before conn waits untaken.
+    stays_open c.args.monitor.now hosts before conn waits untaken
+    (λ m is. sym (c.is_off.ensures hosts.files m is) ∙ c.if-is_off.false)

@@ -2,7 +2,7 @@ use Rattle.std.proofs.Common.{◌++◌, sym, ap, subst, ◌∙◌, List, ℕ}
 use Rattle.vm_outside.specs.Passing.{TakesAll}
 use Rattle.monitor_running.specs.Objects.{TurnKnown, known_with}
 use Rattle.monitor_running.specs.Reached.{known}
-use Rattle.monitor_serving.specs.Turns.{EndsConnection, GoesOn}
+use Rattle.monitor_serving.specs.Turns.{EndsConnection, StaysOpen}
 use Rattle.monitor_serving.specs.Views.{hosts, view}
 use Rattle.monitor_serving.proofs.Answering.{ignored, over, sent, short}
 use Rattle.monitor_serving.proofs.turning.reply.Goals as goal
@@ -70,7 +70,7 @@ returns-clause-replied g c =
     let was = g.W.TurnObjects.known c.args.with.now in
     let now = g.W.TurnObjects.known c.attach.new.with in
     λ trace sink before is_told files_tell tells gave.
-    subst (λ (k : TurnKnown). GoesOn (view c.args.monitor.now (hosts (known trace sink was.host) (F c.args.files.now)) before)
+    subst (λ (k : TurnKnown). StaysOpen (view c.args.monitor.now (hosts (known trace sink was.host) (F c.args.files.now)) before)
     (view c.hear.new.self (hosts (known_with k sink) (F c.hear.new.files)) (N c.put_all.new.conn))) (sym c.attach.ensures.beside)
     (sent c.args.monitor.now c.hear.new.self trace was.trace sink was.host.clock was.host.disk (F c.args.files.now) (F c.hear.new.files) before (N c.args.conn.now)
     (N c.put_all.new.conn) c.args.bytes.now gave.came gave.untaken is_told
