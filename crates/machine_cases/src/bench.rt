@@ -3,7 +3,7 @@ use crate::chains::memory::SIZE;
 use crate::machines::harts::Trial;
 use crate::machines::{boards, harts, pages, places, timers};
 use crate::tables::Subject;
-use crate::{chains, fillers, instructions, ports};
+use crate::{chains, fillers, instructions, kinds, ports};
 use guest_pages::Page;
 use line_board::Board;
 use mmio_port::Port;
@@ -66,6 +66,8 @@ impl Bench {
             Subject::Ports => ports::add(alloc, &mut self.port, command, text),
             Subject::Chains => chains::add(alloc, &mut self.memory, command, text),
             Subject::Fillers => fillers::add(&mut self.memory, command, text),
+            Subject::Nets => kinds::add_net(&mut self.memory, command, text),
+            Subject::Balloons => kinds::add_balloon(&mut self.memory, command, text),
             Subject::Places => places::add(command, text),
             Subject::Pages => pages::add(alloc, &mut self.page, command, text),
             Subject::Boards => boards::add(alloc, &mut self.board, command, text),

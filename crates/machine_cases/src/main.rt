@@ -1,4 +1,4 @@
-//! Tells what instructions, ports, chains, fillers, pages, boards, timers and harts do, by tables, for the gate to
+//! Tells what instructions, ports, chains, fillers, network devices, balloons, pages, boards, timers and harts do, by tables, for the gate to
 //! compare with `stdout`. What they do is proved; the values here say that the definitions mean what the manuals say.
 //!
 //! A table is a file of `data/`, and each of its lines is a case, as the README of its folder says. Those of
@@ -12,6 +12,7 @@ mod bench;
 mod chains;
 mod fillers;
 mod instructions;
+mod kinds;
 mod machines;
 mod ports;
 mod tables;

@@ -13,6 +13,8 @@ pub enum Subject {
     Ports,
     Chains,
     Fillers,
+    Nets,
+    Balloons,
     Places,
     Pages,
     Boards,
@@ -30,7 +32,7 @@ impl Subject {
     }
 }
 
-pub const TABLES: [(&str, Subject); 25] = [
+pub const TABLES: [(&str, Subject); 27] = [
     ("instructions/names", Subject::Words(Asked::Name)),
     ("instructions/corners", Subject::Words(Asked::Name)),
     ("instructions/opcodes", Subject::Words(Asked::DecodedName)),
@@ -51,6 +53,8 @@ pub const TABLES: [(&str, Subject); 25] = [
     ("chains/broken", Subject::Chains),
     ("chains/requests", Subject::Chains),
     ("fillers/sequences", Subject::Fillers),
+    ("nets/sequences", Subject::Nets),
+    ("balloons/sequences", Subject::Balloons),
     ("machines/places", Subject::Places),
     ("machines/pages", Subject::Pages),
     ("machines/boards", Subject::Boards),
