@@ -106,6 +106,6 @@ fn lay_part(memory: &mut [u8], index: u64, Numbers { a, b, c, d }: Numbers) {
     put(
         memory,
         place + 12,
-        &[(d % 0x100) as u8, 0, ((index + 1) % 4) as u8],
+        &[(d % 0x100) as u8, 0, ((index % 4 + 1) % 4) as u8],
     );
 }
