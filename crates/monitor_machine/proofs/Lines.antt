@@ -36,12 +36,11 @@ no_guest None (Some g) is none = absurd is
 no_guest (Some w) (Some g) is none = cc
 
 pub some_guest : (w : Option WorldValue) (v : WorldValue) (g : Option Guest) → IsGuestBy w g → w ≡ Some v → (h : Guest) × (g ≡ Some h) × IsWorld v h
-some_guest None v None is some = cc
-some_guest None v (Some g) is some = cc
-some_guest (Some w) v None is some = absurd is
-some_guest (Some w) v (Some g) is some =
-    let same : w ≡ v = cc in
-    (g, refl, subst (λ (x : WorldValue). IsWorld x g) same is)
+some_guest w v g is some = there_by g (subst (λ (o : Option WorldValue). IsGuestBy o g) some is)
+  where
+    there_by : (g : Option Guest) → IsGuestBy (Some v) g → (h : Guest) × (g ≡ Some h) × IsWorld v h
+    there_by None here = absurd here
+    there_by (Some h) here = (h, refl, here)
 
 -- a guest that stands still runs no more than one that isn't there
 still : (live : LiveMachine) (m : Machine) → IsLive live m → live.paused ≡ true → running m ≡ None

@@ -158,10 +158,10 @@ drain_stays live w there it =
     }
 
 -- a device is told of a change
-change_stays : (live : Live) (w v : WorldValue) (k : ℕ) (change : DeviceChange) → FitsChange change → live.guest ≡ Some w
+device_changed_stays : (live : Live) (w v : WorldValue) (k : ℕ) (change : DeviceChange) → FitsChange change → live.guest ≡ Some w
     → ((g : Guest) → IsWorld w g → IsWorld v (told k change (shown_by change) g)) → IsReadyLive live
     → IsReadyLive (record live { guest = Some v })
-change_stays live w v k change fits there tells it =
+device_changed_stays live w v k change fits there tells it =
     let on = standing live w there it in
     changes_to live w v on (told k change (shown_by change) on.guest)
     (told_ready on.flat.config on.flat.paused on.guest k change (shown_by change) fits on.stands) (tells on.guest on.world)
@@ -176,7 +176,7 @@ tells_stay live device change after fits tells it = by_guest device live.guest a
     by_guest None w v there is = subst (λ (o : Option WorldValue). IsReadyLive (record live { guest = o })) (there ∙ sym is) it
     by_guest (Some k) None v there is = subst (λ (o : Option WorldValue). IsReadyLive (record live { guest = o })) (there ∙ sym is) it
     by_guest (Some k) (Some w) None there is = absurd is
-    by_guest (Some k) (Some w) (Some v) there is = change_stays live w v k change fits there is it
+    by_guest (Some k) (Some w) (Some v) there is = device_changed_stays live w v k change fits there is it
 
 -- the guest is taken out
 pub taken_out : (live : Live) → IsReadyLive live → IsReadyLive (record live { guest = None })
