@@ -17,6 +17,7 @@ use crate::ran::Ran;
 use crate::telling::{end_by, tell_steps};
 use crate::waiting::{pass_round, waits};
 use crate::working::device_works;
+use guest_memory::HART_LIMIT;
 use pause_gate::Gate;
 use std::alloc::Global;
 use vm_outside::Sink;

@@ -22,6 +22,7 @@ use crate::ran::Ran;
 use crate::telling::{end_by, tell_slice};
 use crate::waiting::{all_wait, pass_round, time_left};
 use crate::working::device_works;
+use guest_memory::HART_LIMIT;
 use monitor_machine::LiveMachine;
 use pause_gate::Gate;
 use slice_runner::{Slice, run_slice};
