@@ -116,11 +116,11 @@ some_taken guest false w some = (some, refl)
 
 some_guest : (guest : Option WorldValue) (w : WorldValue) (flat : Option Guest) → guest ≡ Some w → IsGuestBy guest flat
     → (g : Guest) × (flat ≡ Some g) × IsWorld w g
-some_guest None w flat is guest = cc
-some_guest (Some v) w None is guest = absurd guest
-some_guest (Some v) w (Some g) is guest =
-    let same : v ≡ w = cc in
-    (g, refl, subst (λ (x : WorldValue). IsWorld x g) same guest)
+some_guest guest w flat is here = there_by flat (subst (λ (o : Option WorldValue). IsGuestBy o flat) is here)
+  where
+    there_by : (flat : Option Guest) → IsGuestBy (Some w) flat → (g : Guest) × (flat ≡ Some g) × IsWorld w g
+    there_by None is = absurd is
+    there_by (Some g) is = (g, refl, is)
 
 pub runs_as : (live : LiveMachine) (m : Machine) (w : WorldValue) → live.guest ≡ Some w → live.paused ≡ false → IsLive live m
     → IsRunning w m
