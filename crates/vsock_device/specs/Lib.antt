@@ -1,0 +1,11 @@
+pub mod Connections
+pub mod Credit
+pub mod Data
+pub mod Guest
+pub mod Host
+pub mod Lines
+pub mod Packets
+pub mod Reset
+pub mod Sequences
+pub mod Vsock
+pub mod Work

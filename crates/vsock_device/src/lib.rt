@@ -1,0 +1,27 @@
+//! A vsock device (VIRTIO 1.2, 5.10) as a kind of device on the rounds of `queue_device`. No machine has one yet.
+//!
+//! `Vsock` is what it keeps: at most 64 connections with their credit, what waits for the guest, and the chain in hand as far as
+//! it matters to a reset of the connections. `VsockKind` asks the vsock host what happened, and serves the chains of its three
+//! queues.
+#![tactic(auto)]
+
+mod calls;
+mod connection;
+mod connections;
+mod data;
+mod fetching;
+mod guest;
+mod host;
+mod kind;
+mod law;
+mod leading;
+mod line;
+mod packet;
+
+pub use connection::{Connection, Standing};
+pub use connections::Connections;
+pub use data::{InHand, Vsock, VsockChange};
+pub use fetching::Fetching;
+pub use kind::{Stage, VsockKind};
+pub use law::{vsock_does, vsock_goes_on, vsock_kept, vsock_stays};
+pub use packet::{Head, HostBytes, Packet};
