@@ -1,0 +1,345 @@
+"""The inputs of examples/hostile/fuzz: each is made from a number alone, and half of them are valid ones with one to three changes."""
+
+import json
+import os
+import random
+import re
+
+HERE = os.path.dirname(os.path.realpath(__file__))
+TOP = os.path.dirname(os.path.dirname(HERE))
+MOST_STEPS = 3000
+MOST_BYTES = 200_000
+HEX = "0123456789abcdef"
+
+
+def text_of(path):
+    with open(path, "rb") as file:
+        return file.read()
+
+
+def scripts_below(*folders):
+    """The lines of each script of these folders that isn't too long to be tried often."""
+    found = []
+    for folder in folders:
+        for at, _, names in sorted(os.walk(os.path.join(TOP, folder))):
+            for name in sorted(names):
+                if name.endswith(".script") and os.path.getsize(os.path.join(at, name)) < MOST_BYTES:
+                    found.append(text_of(os.path.join(at, name)).splitlines())
+    return [it for it in found if it]
+
+
+def scripts_of_chains():
+    """The replays of examples/chains: the lines behind `> ` up to the next part."""
+    found = []
+    folder = os.path.join(TOP, "examples", "chains")
+    for name in sorted(os.listdir(folder)):
+        lines = []
+        for line in text_of(os.path.join(folder, name)).splitlines():
+            if line.startswith(b"> "):
+                lines.append(line[2:])
+            elif not line.startswith(b"= ") and lines:
+                found.append(lines)
+                lines = []
+        if lines:
+            found.append(lines)
+    return found
+
+
+def has_drive(lines):
+    return any(b" /drives/" in line for line in lines) and any(line.startswith(b"file ") for line in lines)
+
+
+def short(line):
+    """A line of steps makes few of them, so that an input takes little time."""
+    words = line.split(b" ")
+    if words[0] == b"step" and len(words) == 3 and words[2].isdigit() and int(words[2]) > MOST_STEPS:
+        return b" ".join(words[:2] + [str(MOST_STEPS).encode()])
+    return line
+
+
+def with_little_memory(script):
+    """A machine whose memory may be written to a file has little of it."""
+    if b"/snapshot/create" not in script:
+        return script
+    return re.sub(rb'("mem_size_mib": ?)([0-9]+)', lambda it: it[1] + (b"64" if 64 < int(it[2]) <= 1024 else it[2]), script)
+
+
+# Values at limits, by which a number, a text or a whole value is replaced.
+NUMBERS = [0, 1, 2, 3, 4, 15, 16, 17, 31, 32, 33, 63, 64, 65, 127, 128, 255, 256, 1023, 1024, 1025, 4095, 4096, 65535, 65536,
+           2**31 - 1, 2**31, 2**32 - 1, 2**32, 2**53, 2**63 - 1, 2**63, 2**64 - 1, 2**64, 10**30]
+TEXTS = ["", "a", "None", "x" * 64, "x" * 65, "x" * 4095, "x" * 4096, "\0", "é"]
+VALUES = [None, True, False, 0, 1, -1, 1.0, 1e3, *TEXTS, [], [1], {}, {"a": 1}]
+# The calls of the API with the fields of their bodies.
+CALLS = [
+    ("PUT", "/boot-source", {"kernel_image_path": "k", "initrd_path": "i", "boot_args": "a b"}),
+    ("PUT", "/boot-source", {"kernel_image_path": "k"}),
+    ("PUT", "/drives/d", {"drive_id": "d", "path_on_host": "disk", "is_root_device": True, "is_read_only": False,
+                          "cache_type": "Writeback"}),
+    ("PUT", "/drives/e", {"drive_id": "e", "path_on_host": "disk", "is_root_device": False}),
+    ("PATCH", "/drives/d", {"drive_id": "d", "path_on_host": "other"}),
+    ("PUT", "/machine-config", {"vcpu_count": 2, "mem_size_mib": 4, "smt": False, "track_dirty_pages": True,
+                                "cpu_template": "None", "huge_pages": "None"}),
+    ("PATCH", "/machine-config", {"vcpu_count": 1}),
+    ("PUT", "/mmds", {"a": {"b": [1, "c"]}, "d": None}),
+    ("PATCH", "/mmds", {"a": {"b": None}, "e": 7}),
+    ("PUT", "/actions", {"action_type": "InstanceStart"}),
+    ("PATCH", "/vm", {"state": "Paused"}),
+    ("PATCH", "/vm", {"state": "Resumed"}),
+    ("PUT", "/snapshot/create", {"snapshot_path": "s", "mem_file_path": "m", "snapshot_type": "Full"}),
+    ("PUT", "/snapshot/create", {"snapshot_path": "t", "mem_file_path": "u", "snapshot_type": "Diff"}),
+    ("PUT", "/snapshot/load", {"snapshot_path": "s", "mem_file_path": "m", "resume_vm": True}),
+    ("PUT", "/snapshot/load", {"snapshot_path": "s", "mem_backend": {"backend_path": "m", "backend_type": "File"},
+                               "enable_diff_snapshots": True}),
+    ("GET", "/", None), ("GET", "/version", None), ("GET", "/machine-config", None), ("GET", "/mmds", None), ("GET", "/vm/config", None),
+]
+METHODS = ["GET", "PUT", "PATCH", "POST", "DELETE", "HEAD", "get", "FOO", "P\x01T", ""]
+PATHS = ["/", "/version", "/vm/config", "/drives/", "/drives/d/", "/drives/" + "d" * 65, "/drives/d?x", "//", "/boot-source/", "*",
+         "http://a/", "", "/snapshot/create"]
+REPLIES = ["ok", "fail", "none", "now 0", "now 18446744073709551615", "part " + "5a" * 64, "part " + "00" * 63, "part", "frame 14",
+           "new 1", "bytes 1 61", "ended 1", "dialled 1"]
+# A guest of seven instructions that goes round and counts in a word of one of 32 pages after the other: auipc t0, 16; addi t2, t2, 1;
+# andi t3, t2, 31; slli t3, t3, 12; add t3, t3, t0; sd t2, 8(t3); jal.
+IMAGE = "970201009383130013fef301131ece00330e5e0023347e006ff05ffe"
+
+
+class Inputs:
+    """All inputs of a seed."""
+
+    def __init__(self, seed):
+        self.seed = seed
+        self.scripts = scripts_below("examples", "crates/script_cases/data") + scripts_of_chains()
+        self.drives = [it for it in self.scripts if has_drive(it)]
+
+    def make(self, number):
+        """The kind of an input, and its script. For the kind `files` the script is what goes on from changed files."""
+        chance = random.Random(f"{self.seed} {number}")
+        kind = ("script", "stream", "body", "files", "queue", "clients")[number % 6]
+        return kind, with_little_memory(getattr(self, kind)(chance)), chance
+
+    def script(self, chance):
+        lines = [short(it) for it in chance.choice(self.scripts)]
+        for _ in range(chance.randint(1, 3) if chance.random() < 0.5 else chance.randint(4, 12)):
+            lines = changed_lines(chance, lines)
+        return ended(chance, lines)
+
+    def queue(self, chance):
+        """A guest with drives whose image has other bytes: its rings and descriptors are then whatever stands there."""
+        lines = [short(it) for it in chance.choice(self.drives)]
+        images = [k for k, it in enumerate(lines) if it.startswith(b"file ") and len(it) > 60]
+        for _ in range(chance.randint(1, 3) if chance.random() < 0.5 else chance.randint(4, 40)):
+            if images:
+                k = chance.choice(images)
+                lines[k] = changed_digit(chance, lines[k])
+        if chance.random() < 0.3:
+            lines = changed_lines(chance, lines)
+        return ended(chance, lines)
+
+    def stream(self, chance):
+        """Requests as the bytes of a connection, in pieces, some of them changed."""
+        sent = b"".join(request_bytes(chance, *chance.choice(CALLS)) for _ in range(chance.randint(1, 6)))
+        for _ in range(chance.choice([0, 1, 1, 2, 3, 20])):
+            sent = changed_bytes(chance, sent)
+        lines = [f"file k {IMAGE}".encode(), b"conn"]
+        while sent:
+            size = min(len(sent), chance.choice([1, 2, 7, 30, 100, 1000, 5000]))
+            lines.append(b"bytes " + sent[:size].hex().encode())
+            sent = sent[size:]
+            if chance.random() < 0.05:
+                lines.append(b"conn")
+            if chance.random() < 0.1:
+                lines.append(b"step h0 20")
+        return ended(chance, lines + [b"api GET /vm/config", b"conn", b"api GET /"])
+
+    def clients(self, chance):
+        """Clients of a server, one behind another: `client STAYS` or `client LEAVES`, and a line `bytes HEX` for each piece that it sends."""
+        lines = []
+        for _ in range(chance.randint(1, 6)):
+            lines.append(b"client " + chance.choice([b"stays", b"stays", b"stays", b"leaves"]))
+            sent = b"".join(request_bytes(chance, *chance.choice(CALLS)) for _ in range(chance.randint(1, 6)))
+            for _ in range(chance.choice([0, 0, 1, 1, 2, 3, 20])):
+                sent = changed_bytes(chance, sent)
+            while sent:
+                size = min(len(sent), chance.choice([1, 7, 30, 100, 1000, 5000, 70000]))
+                lines.append(b"bytes " + sent[:size].hex().encode())
+                sent = sent[size:]
+        return b"\n".join(lines) + b"\n"
+
+    def body(self, chance):
+        """Calls in any order, with fields that are missing, at limits, of another type, or unknown."""
+        lines = [f"file k {IMAGE}".encode(), b"file i 00", b"file disk " + b"00" * 1024, b"file other " + b"00" * 513]
+        start = [("PUT", "/boot-source", {"kernel_image_path": "k"}),
+                 ("PUT", "/machine-config", {"mem_size_mib": 4, "track_dirty_pages": True}), ("PUT", "/drives/d", CALLS[2][2]),
+                 ("PUT", "/actions", {"action_type": "InstanceStart"}), ("PATCH", "/vm", {"state": "Paused"}), CALLS[12]]
+        for method, path, fields in start[: chance.randint(0, len(start))]:
+            lines.append(api_line(method, path, json.dumps(fields)))
+        for _ in range(chance.randint(1, 10)):
+            method, path, fields = chance.choice(CALLS)
+            if chance.random() < 0.1:
+                method = chance.choice(METHODS)
+            if chance.random() < 0.1:
+                path = chance.choice(PATHS)
+            body = "" if fields is None else json.dumps(fields)
+            if chance.random() < 0.7 and fields is not None:
+                for _ in range(chance.randint(1, 3)):
+                    fields = changed_fields(chance, fields)
+                body = json.dumps(fields, ensure_ascii=chance.random() < 0.5)
+            if chance.random() < 0.1:
+                body = changed_bytes(chance, body.encode()).replace(b"\n", b" ").decode("latin-1")
+            lines.append(api_line(method, path, body))
+            if chance.random() < 0.2:
+                lines.append(b"step h0 50")
+        return ended(chance, lines)
+
+    def files(self, chance):
+        """What is asked of changed files of a snapshot: merges are in front, as lines `merge BASE DIFF`."""
+        lines = []
+        for _ in range(chance.choice([0, 1, 1, 2])):
+            base, diff = chance.choice(["m0", "m0", "m0", "m1", "s0"]), chance.choice(["m1", "m1", "m2", "m2", "m0", "s1"])
+            lines.append(f"merge {base} {diff}".encode())
+        memory = chance.choice(["m0", "m0", "m0", "m3", "m1", "absent"])
+        state = chance.choice(["s0", "s1", "s2", "s3", "s3", "m0", "absent"])
+        load = {"snapshot_path": state, "mem_file_path": memory, "track_dirty_pages": chance.random() < 0.5,
+                "resume_vm": chance.random() < 0.7}
+        lines += [api_line("PUT", "/snapshot/load", json.dumps(load)), b"api GET /vm/config", b"step h0 200", b"step h1 200",
+                  b"step d0 40", b"step t 2", b"reg h0 32", b"mem 80200000 64",
+                  b'api PATCH /vm {"state":"Paused"}', b'api PUT /snapshot/create {"snapshot_path":"a","mem_file_path":"b"}',
+                  b'api PUT /snapshot/create {"snapshot_type":"Diff","snapshot_path":"c","mem_file_path":"d"}']
+        return b"\n".join(lines) + b"\n"
+
+
+# What the files of the kind `files` are changed from: two full snapshots and two diffs, of a guest with two harts and a drive.
+FILES_SCRIPT = b"\n".join([
+    f"file k {IMAGE}".encode(), b"file disk " + b"00" * 1024, b"lineage 00000000000000a1",
+    b'api PUT /boot-source {"kernel_image_path":"k"}', b'api PUT /machine-config {"vcpu_count":2,"mem_size_mib":4,"track_dirty_pages":true}',
+    b'api PUT /drives/d {"drive_id":"d","path_on_host":"disk","is_root_device":true}', b'api PUT /actions {"action_type":"InstanceStart"}',
+    b"step h0 33", b"step d0 3", b'api PATCH /vm {"state":"Paused"}', b'api PUT /snapshot/create {"snapshot_path":"s0","mem_file_path":"m0"}',
+    b'api PATCH /vm {"state":"Resumed"}', b"step h0 41", b'api PATCH /vm {"state":"Paused"}',
+    b'api PUT /snapshot/create {"snapshot_type":"Diff","snapshot_path":"s1","mem_file_path":"m1"}',
+    b'api PATCH /vm {"state":"Resumed"}', b"step h0 70",
+    b'api PATCH /vm {"state":"Paused"}', b'api PUT /snapshot/create {"snapshot_type":"Diff","snapshot_path":"s2","mem_file_path":"m2"}',
+    b'api PUT /snapshot/create {"snapshot_path":"s3","mem_file_path":"m3"}', b""])
+
+
+def changed_files(chance, folder):
+    """Changes one to three places of the files in this folder, most of them near a file's start; or cuts or lengthens one."""
+    for _ in range(chance.choice([0, 1, 1, 2, 3])):
+        path = os.path.join(folder, chance.choice(["s0", "s1", "s2", "s3", "m0", "m0", "m1", "m1", "m2", "m3"]))
+        size = os.path.getsize(path)
+        with open(path, "r+b") as file:
+            what = chance.random()
+            if what < 0.1:
+                file.truncate(chance.choice([0, 1, 31, 32, 63, 64, 4095, 4096, max(0, size - 1), size // 2]))
+            elif what < 0.2:
+                file.truncate(size + chance.choice([1, 8, 4096]))
+            elif size:
+                near = chance.choice([64, 256, 600, 4160, size])
+                at = min(size - 1, chance.randrange(near))
+                file.seek(at)
+                file.write(bytes([chance.choice([0, 1, 2, 127, 128, 255, chance.randrange(256)])]))
+
+
+def ended(chance, lines):
+    """The script of these lines; the last one may lack its end."""
+    return b"\n".join(lines) + (b"" if chance.random() < 0.03 else b"\n")
+
+
+def api_line(method, path, body):
+    words = ["api", method, path] + ([body] if body else [])
+    return " ".join(words).encode("utf-8", "surrogatepass").replace(b"\n", b" ")
+
+
+def request_bytes(chance, method, path, fields):
+    body = b"" if fields is None else json.dumps(fields).encode()
+    heads = [f"{method} {path} HTTP/1.{chance.choice('01')}"]
+    if body or chance.random() < 0.3:
+        heads.append(f"{chance.choice(['Content-Length', 'content-length'])}: {len(body)}")
+    for _ in range(chance.choice([0, 0, 1, 3, 31, 33])):
+        heads.append(f"X-{chance.choice('abc')}: {'v' * chance.choice([0, 1, 40])}")
+    if chance.random() < 0.05:
+        heads.append(chance.choice(["Transfer-Encoding: chunked", "Content-Length: +5", "Content-Length: 65537",
+                                    "Content-Length: 99999999999999999999", "Expect: 100-continue", " folded"]))
+    ending = chance.choice(["\r\n", "\r\n", "\r\n", "\n"])
+    return chance.choice([b"", b"", b"\r\n"]) + ending.join(heads + ["", ""]).encode() + body
+
+
+def changed_fields(chance, fields):
+    fields = dict(fields)
+    name = chance.choice(sorted(fields)) if fields else "x"
+    what = chance.random()
+    if what < 0.2:
+        fields.pop(name, None)
+    elif what < 0.35:
+        fields[chance.choice(["unknown", "rate_limiter", "iops", name + "x", ""])] = chance.choice(VALUES)
+    elif what < 0.7:
+        fields[name] = chance.choice(VALUES)
+    else:
+        fields[name] = chance.choice(NUMBERS)
+    return fields
+
+
+def changed_bytes(chance, given):
+    if not given:
+        return given
+    at = chance.randrange(len(given))
+    what = chance.random()
+    if what < 0.4:
+        byte = chance.choice([0, 9, 10, 13, 32, 34, 44, 58, 92, 123, 125, 127, 128, 255, chance.randrange(256)])
+        return given[:at] + bytes([byte]) + given[at + 1:]
+    if what < 0.6:
+        return given[:at] + given[at + chance.randint(1, 8):]
+    if what < 0.8:
+        return given[:at] + given[at:at + chance.randint(1, 40)] + given[at:]
+    return given[:at] + bytes(chance.randrange(256) for _ in range(chance.randint(1, 8))) + given[at:]
+
+
+def changed_digit(chance, line):
+    """A `file` line with one hexadecimal digit, or eight in a row, changed."""
+    start = line.rfind(b" ") + 1
+    if start >= len(line):
+        return line
+    at = chance.randrange(start, len(line))
+    new = chance.choice(HEX) if chance.random() < 0.8 else "".join(chance.choice(HEX + "00ff") for _ in range(8))
+    return line[:at] + new.encode()[: len(line) - at] + line[at + len(new):]
+
+
+def changed_lines(chance, lines):
+    """One change of a script: a line goes, comes twice, changes places, or has another word, number, digit or byte."""
+    lines = list(lines)
+    if not lines:
+        return [b"api GET /"]
+    k, j = chance.randrange(len(lines)), chance.randrange(len(lines))
+    what = chance.random()
+    if what < 0.12:
+        del lines[k]
+    elif what < 0.24:
+        lines.insert(j, lines[k])
+    elif what < 0.34:
+        lines[k], lines[j] = lines[j], lines[k]
+    elif what < 0.5:
+        lines.insert(k, made_line(chance))
+    elif what < 0.65:
+        numbers = list(re.finditer(rb"[0-9]+", lines[k][:2000]))
+        if numbers:
+            it = chance.choice(numbers)
+            lines[k] = lines[k][: it.start()] + str(chance.choice(NUMBERS)).encode() + lines[k][it.end():]
+            lines[k] = short(lines[k])
+    elif what < 0.85:
+        lines[k] = changed_bytes(chance, lines[k]).replace(b"\n", b"")
+        lines[k] = short(lines[k])
+    elif lines[k].startswith(b"file "):
+        lines[k] = changed_digit(chance, lines[k])
+    else:
+        lines[k] = chance.choice([b"", b"#" + lines[k], lines[k] + b" ", b" " + lines[k], lines[k].upper()])
+    return lines
+
+
+def made_line(chance):
+    actor = chance.choice(["h0", "h1", "h31", "h32", "h255", "h256", "d0", "d1", "d15", "d16", "t", "x"])
+    method, path, fields = chance.choice(CALLS)
+    address = chance.choice(["80200000", "80000000", "7fffffff", "0", "ffffffffffffffff", "803fffff", "80400000"])
+    return chance.choice([
+        f"step {actor} {chance.choice([0, 1, 2, 10, 1000])}", f"reply {actor} {chance.choice(REPLIES)}", "console",
+        f"reg {actor} {chance.choice(NUMBERS)}", f"mem {address} {chance.choice([0, 1, 2, 63, 64, 65])}", "conn",
+        f"lineage {chance.randrange(2**64):016x}", f"file f {'00' * chance.choice([0, 1, 600])}",
+        f"api {method} {path} {'' if fields is None else json.dumps(fields)}",
+    ]).encode()
