@@ -1,5 +1,5 @@
 -- All that a balloon owes.
-use Rattle.std.proofs.Common.{◌≡◌, ℕ, zero, suc, ◌+◌, ◌*◌, ◌/◌, ◌%◌, ◌^◌, ◌<◌, ◌≤◌, ◌==◌, refl, inr, true, not, Option, List, [], ◌++◌, length, drop, arith}
+use Rattle.std.proofs.Common.{◌≡◌, ℕ, zero, suc, ◌+◌, ◌*◌, ◌/◌, ◌%◌, ◌^◌, ◌<◌, ◌≤◌, ◌==◌, refl, inr, false, true, not, Option, List, [], ◌++◌, length, drop, arith}
 use Rattle.device_trace.specs.Doing.{Gives}
 use Rattle.device_trace.specs.Keeps.{Keeps}
 use Rattle.device_trace.specs.Traces.{setting}
@@ -29,7 +29,7 @@ use Rattle.balloon_device.proofs.Pieces.{read_keeps}
 module _ (port pages : ℕ) where
   -- a page in RAM is written inside RAM
   pub zeros_keep : (count at : ℕ) → 0x80000000 ≤ at → (pages < 2 ^ 32 → at + 64 * count ≤ 0x80000000 + 4096 * pages)
-      → Keeps (IsDeviceAct true no_call port pages) (Any {A = Unit {0}}) (zeros count at)
+      → Keeps (IsDeviceAct false no_call port pages) (Any {A = Unit {0}}) (zeros count at)
   zeros_keep zero at low high = tt
   zeros_keep (suc count) at low high = (
     (λ few. in_ram pages at 64 low (omega (arith, high few)), inr (tt, tt)),
@@ -38,31 +38,31 @@ module _ (port pages : ℕ) where
 
   -- the pages of its queue are the device's
   module _ (own : ℕ) (same : pages < 2 ^ 32 → own ≡ pages) where
-    page_keeps : (number : ℕ) → Keeps (IsDeviceAct true no_call port pages) (Any {A = Unit {0}}) (page_zeroed own number)
+    page_keeps : (number : ℕ) → Keeps (IsDeviceAct false no_call port pages) (Any {A = Unit {0}}) (page_zeroed own number)
     page_keeps number =
-        keeps_if (IsDeviceAct true no_call port pages) (Any {A = Unit {0}}) (is_inside own (page_size * number) page_size) _ _ _ refl
+        keeps_if (IsDeviceAct false no_call port pages) (Any {A = Unit {0}}) (is_inside own (page_size * number) page_size) _ _ _ refl
         (λ inside.
         let r = of_ram own (page_size * number) page_size inside in
         zeros_keep 64 (page_size * number) r.0 (λ few. omega (arith, r, same few)))
         (λ outside. tt)
 
     pub numbers_keep : (count : ℕ) (bytes : List ℕ)
-        → Keeps (IsDeviceAct true no_call port pages) (Any {A = List ℕ}) (numbers_zeroed own count bytes)
+        → Keeps (IsDeviceAct false no_call port pages) (Any {A = List ℕ}) (numbers_zeroed own count bytes)
     numbers_keep zero bytes = tt
     numbers_keep (suc count) bytes =
-        keeps_then (IsDeviceAct true no_call port pages) (Any {A = Unit {0}}) (Any {A = List ℕ}) (page_zeroed own (field_at bytes 0 4)) _
+        keeps_then (IsDeviceAct false no_call port pages) (Any {A = Unit {0}}) (Any {A = List ℕ}) (page_zeroed own (field_at bytes 0 4)) _
         (page_keeps (field_at bytes 0 4)) (λ done any. numbers_keep count (drop 4 bytes))
 
     inflated_keeps : (parts : List Part) → (pages < 2 ^ 32 → AreInside pages parts)
-        → Keeps (IsDeviceAct true no_call port pages) (Any {A = List ℕ}) (inflated own parts)
+        → Keeps (IsDeviceAct false no_call port pages) (Any {A = List ℕ}) (inflated own parts)
     inflated_keeps parts inside =
         read_keeps (λ begun piece. all_zeroed own (begun ++ piece)) port pages
         (λ begun piece. numbers_keep (length (begun ++ piece) / 4) (begun ++ piece)) [] parts inside
 
   told_keeps : (parts : List Part) → (pages < 2 ^ 32 → AreInside pages parts)
-      → Keeps (IsDeviceAct true no_call port pages) (Any {A = Statistics}) (told parts)
+      → Keeps (IsDeviceAct false no_call port pages) (Any {A = Statistics}) (told parts)
   told_keeps parts inside =
-      keeps_then (IsDeviceAct true no_call port pages) (Any {A = Telling}) (Any {A = Statistics}) _ _
+      keeps_then (IsDeviceAct false no_call port pages) (Any {A = Telling}) (Any {A = Statistics}) _ _
       (read_keeps (λ (t : Telling) piece. Gives (all_told (t.begun ++ piece) t.so_far)) port pages (λ t piece. tt)
       (record { begun = []; so_far = no_statistics }) parts inside)
       (λ t any. tt)
@@ -72,28 +72,28 @@ abbrev Taking : ℕ → Which → Option Taken → Type 0
 Taking pages k t = pages < 2 ^ 32 → IsTaken balloon pages k t
 
 listed : (port pages : ℕ) (k : Which) (parts : List Part) (e : Balloon) → (pages < 2 ^ 32 → AreInside pages parts)
-    → ActingKeeps (IsDeviceAct true no_call port pages) (Taking pages k) (listed_by parts e)
+    → ActingKeeps (IsDeviceAct false no_call port pages) (Taking pages k) (listed_by parts e)
 listed port pages k parts e inside =
-    keeps_either (IsDeviceAct true no_call port pages) (Taking pages k) (total (readable parts) % 4 == 0) _ _
+    keeps_either (IsDeviceAct false no_call port pages) (Taking pages k) (total (readable parts) % 4 == 0) _ _
     (λ whole few. (inside few, tt, refl)) (λ odd few. tt)
 
 take : (port pages : ℕ) (k : Which) (parts : List Part) (e : Balloon) → (pages < 2 ^ 32 → AreInside pages parts)
-    → ActingKeeps (IsDeviceAct true no_call port pages) (Taking pages k) (taken_by k parts e)
+    → ActingKeeps (IsDeviceAct false no_call port pages) (Taking pages k) (taken_by k parts e)
 take port pages First parts e inside = listed port pages First parts e inside
 take port pages Second parts e inside = listed port pages Second parts e inside
 take port pages Third parts e inside = λ few. (inside few, tt, refl)
 
 serve : (port pages : ℕ) (k : Which) (c : Chain) (e : Balloon) → (pages < 2 ^ 32 → IsChain balloon pages k c)
-    → ActingKeeps (IsDeviceAct true no_call port pages) (λ (len : Option ℕ). Unit {0}) (served_by k c e)
+    → ActingKeeps (IsDeviceAct false no_call port pages) (λ (len : Option ℕ). Unit {0}) (served_by k c e)
 serve port pages First c e chain =
-    performing_keeps (IsDeviceAct true no_call port pages) (Any {A = List ℕ}) (λ (len : Option ℕ). Unit {0})
+    performing_keeps (IsDeviceAct false no_call port pages) (Any {A = List ℕ}) (λ (len : Option ℕ). Unit {0})
     (inflated c.queue.pages (readable c.parts)) e pages_done
     (inflated_keeps port pages c.queue.pages (λ few. (chain few).pages_are) (readable c.parts)
     (λ few. filter_inside pages (λ (part : Part). not part.writable) c.parts (chain few).parts))
     (λ f begun any. tt)
 serve port pages Second c e chain = tt
 serve port pages Third c e chain =
-    performing_keeps (IsDeviceAct true no_call port pages) (Any {A = Statistics}) (λ (len : Option ℕ). Unit {0})
+    performing_keeps (IsDeviceAct false no_call port pages) (Any {A = Statistics}) (λ (len : Option ℕ). Unit {0})
     (told (readable c.parts)) e tags_done
     (told_keeps port pages (readable c.parts)
     (λ few. filter_inside pages (λ (part : Part). not part.writable) c.parts (chain few).parts))

@@ -95,20 +95,20 @@ module _ {S : Type 0} (on : S → List ℕ → Doing S) where
   -- ---- inside RAM
 
   module _ (port pages : ℕ)
-      (ons : (s : S) (piece : List ℕ) → Keeps (IsDeviceAct true no_call port pages) (Any {A = S}) (on s piece)) where
+      (ons : (s : S) (piece : List ℕ) → Keeps (IsDeviceAct false no_call port pages) (Any {A = S}) (on s piece)) where
     most_keeps : (most : ℕ) (s : S) (parts : List Part) → (pages < 2 ^ 32 → AreInside pages parts)
-        → Keeps (IsDeviceAct true no_call port pages) (Any {A = S}) (read_most on most s parts)
+        → Keeps (IsDeviceAct false no_call port pages) (Any {A = S}) (read_most on most s parts)
     most_keeps zero s parts inside = tt
     most_keeps (suc most) s parts inside =
-        keeps_if (IsDeviceAct true no_call port pages) (Any {A = S}) (room parts == 0) _ _ _ refl (λ done. tt) (λ more. (
+        keeps_if (IsDeviceAct false no_call port pages) (Any {A = S}) (room parts == 0) _ _ _ refl (λ done. tt) (λ more. (
           (λ few. piece_inside pages (room parts) parts (inside few) (some_of (room parts) more) (omega arith), inr (tt, tt)),
           λ reply fit.
-              keeps_then (IsDeviceAct true no_call port pages) (Any {A = S}) (Any {A = S}) (on s (read_bytes (room parts) reply)) _
+              keeps_then (IsDeviceAct false no_call port pages) (Any {A = S}) (Any {A = S}) (on s (read_bytes (room parts) reply)) _
               (ons s (read_bytes (room parts) reply))
               (λ t any. most_keeps most t (past (room parts) parts)
               (λ few. past_inside pages (room parts) parts few (inside few) (omega arith))),
         ))
 
     pub read_keeps : (s : S) (parts : List Part) → (pages < 2 ^ 32 → AreInside pages parts)
-        → Keeps (IsDeviceAct true no_call port pages) (Any {A = S}) (read_all on s parts)
+        → Keeps (IsDeviceAct false no_call port pages) (Any {A = S}) (read_all on s parts)
     read_keeps s parts inside = most_keeps (total parts) s parts inside

@@ -60,52 +60,52 @@ no_take pages k (stage.Tags from s) is = cc
 
 module _ (port pages : ℕ) where
   list_keeps : (list : Collect) → AreInside pages list.from
-      → Keeps (IsDeviceAct true no_call port pages) (Any {A = List ℕ}) (list_left pages list)
+      → Keeps (IsDeviceAct false no_call port pages) (Any {A = List ℕ}) (list_left pages list)
   list_keeps list inside =
       let each = numbers_keep port pages pages (λ few. refl) in
-      keeps_then (IsDeviceAct true no_call port pages) (Any {A = List ℕ}) (Any {A = List ℕ}) _ _
+      keeps_then (IsDeviceAct false no_call port pages) (Any {A = List ℕ}) (Any {A = List ℕ}) _ _
       (each (length list.held / 4) list.held)
       (λ begun any. read_keeps (listing pages) port pages (λ begun piece. each (length (begun ++ piece) / 4) (begun ++ piece))
       begun list.from (λ few. inside))
 
   tags_keep : (from : Collect) (s : Statistics) → AreInside pages from.from
-      → Keeps (IsDeviceAct true no_call port pages) (Any {A = Statistics}) (tags_left from s)
+      → Keeps (IsDeviceAct false no_call port pages) (Any {A = Statistics}) (tags_left from s)
   tags_keep from s inside =
-      keeps_then (IsDeviceAct true no_call port pages) (Any {A = Telling}) (Any {A = Statistics}) _ _
+      keeps_then (IsDeviceAct false no_call port pages) (Any {A = Telling}) (Any {A = Statistics}) _ _
       (read_keeps telling port pages (λ t piece. tt) (all_told from.held s) from.from (λ few. inside)) (λ t any. tt)
 
   abbrev Stays : Stage → Type 0
   Stays g =
-      IsDeviceAct true no_call port pages (hand_of g).op
+      IsDeviceAct false no_call port pages (hand_of g).op
       × ((e : Balloon) (reply : Reply) → Fits (hand_of g).op reply
-      → ActingKeeps (IsDeviceAct true no_call port pages) Any ((hand_of g).serving e reply))
+      → ActingKeeps (IsDeviceAct false no_call port pages) Any ((hand_of g).serving e reply))
 
   list_stays : (list : Collect) → Reads pages 4 list → Stays (stage.List list pages)
   list_stays list v =
-      let on = led_keeps (IsDeviceAct true no_call port pages) (Any {A = List ℕ}) (list_left pages list) _
+      let on = led_keeps (IsDeviceAct false no_call port pages) (Any {A = List ℕ}) (list_left pages list) _
       (list_asked pages list.from list.held v.short v.space) (list_keeps list v.inside) in (
         on.0,
-        λ e reply fit. performing_keeps (IsDeviceAct true no_call port pages) (Any {A = List ℕ}) Any
+        λ e reply fit. performing_keeps (IsDeviceAct false no_call port pages) (Any {A = List ℕ}) Any
             (led (list_left pages list) reply) e pages_done (on.1 reply fit) (λ f begun held. tt),
       )
 
   zeros_stay : (list : Collect) (left at : ℕ) → Zeroes pages list left at → Stays (stage.Zeros list pages left at)
   zeros_stay list left at v =
-      let keeps = keeps_then (IsDeviceAct true no_call port pages) (Any {A = Unit {0}}) (Any {A = List ℕ}) _ _
+      let keeps = keeps_then (IsDeviceAct false no_call port pages) (Any {A = Unit {0}}) (Any {A = List ℕ}) _ _
       (zeros_keep port pages left at v.low (λ few. v.high)) (λ done any. list_keeps list v.inside) in
-      let on = led_keeps (IsDeviceAct true no_call port pages) (Any {A = List ℕ}) (zeros_left pages list left at) _
+      let on = led_keeps (IsDeviceAct false no_call port pages) (Any {A = List ℕ}) (zeros_left pages list left at) _
       (zeros_asked pages list left at v.some) keeps in (
         on.0,
-        λ e reply fit. performing_keeps (IsDeviceAct true no_call port pages) (Any {A = List ℕ}) Any
+        λ e reply fit. performing_keeps (IsDeviceAct false no_call port pages) (Any {A = List ℕ}) Any
             (led (zeros_left pages list left at) reply) e pages_done (on.1 reply fit) (λ f begun held. tt),
       )
 
   tags_stay : (from : Collect) (s : Statistics) → Reads pages 10 from → Stays (stage.Tags from s)
   tags_stay from s v =
-      let on = led_keeps (IsDeviceAct true no_call port pages) (Any {A = Statistics}) (tags_left from s) _
+      let on = led_keeps (IsDeviceAct false no_call port pages) (Any {A = Statistics}) (tags_left from s) _
       (tags_asked from.from from.held s (told_all from.held s v.short) v.space) (tags_keep from s v.inside) in (
         on.0,
-        λ e reply fit. performing_keeps (IsDeviceAct true no_call port pages) (Any {A = Statistics}) Any
+        λ e reply fit. performing_keeps (IsDeviceAct false no_call port pages) (Any {A = Statistics}) Any
             (led (tags_left from s) reply) e tags_done (on.1 reply fit) (λ f told held. tt),
       )
 

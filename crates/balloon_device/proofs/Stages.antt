@@ -1,5 +1,5 @@
 -- The stages that a balloon may be in, by what is so in them.
-use Rattle.std.proofs.Common.{◌≡◌, ℕ, ◌+◌, ◌*◌, ◌<◌, ◌≤◌, ◌==◌, nat_le, nat_lt, refl, true, length}
+use Rattle.std.proofs.Common.{◌≡◌, ℕ, ◌+◌, ◌*◌, ◌^◌, ◌<◌, ◌≤◌, ◌==◌, nat_le, nat_lt, refl, true, length}
 use Rattle.std.proofs.lemmas.Bool.{and_from, and_parts, eqb-true, le-leb, leb-true, lt-ltb, ltb-true}
 use Rattle.vq_split.specs.Chain.{is_inside}
 use Rattle.vq_split.specs.Inside.{AreInside}
@@ -10,8 +10,35 @@ use Rattle.dev_core.specs.declared.collect.Collect.{Collect}
 use Rattle.dev_core.specs.Pieces.{room}
 use Rattle.queue_device.specs.declared.lanes.Which.TheVariants.{First}
 use Rattle.queue_device.specs.declared.phase.Work.TheVariants as work
+use Rattle.balloon_device.specs.declared.kind.Stage.{Stage}
 use Rattle.balloon_device.specs.declared.kind.Stage.TheVariants as stage
-use Rattle.balloon_device.specs.Work.{is_reading, is_work, is_zeroing}
+use Rattle.balloon_device.specs.Work.{IsStage, is_open, is_reading, is_stage, is_work, is_zeroing}
+
+-- ---- something to want
+
+open_of : (most : ℕ) (from : Collect) → is_open most from ≡ true → (length from.held < most) × (0 < room from.from)
+open_of most from is =
+    let p = and_parts (nat_lt (length from.held) most) (nat_lt 0 (room from.from)) is in
+    (ltb-true _ _ p.0, ltb-true _ _ p.1)
+
+test_of_open : (most : ℕ) (from : Collect) → (length from.held < most) × (0 < room from.from) → is_open most from ≡ true
+test_of_open most from is = and_from _ _ (lt-ltb _ _ is.0) (lt-ltb _ _ is.1)
+
+pub stage_of : (s : Stage) → is_stage s ≡ true → IsStage s
+stage_of stage.Rest is = tt
+stage_of (stage.List list pages) is = open_of 4 list is
+stage_of (stage.Zeros list pages left at) is =
+    let p = and_parts (nat_lt 0 left) (nat_le (at + 64 * left) (2 ^ 45)) is in
+    (ltb-true _ _ p.0, leb-true _ _ p.1)
+stage_of (stage.Tags from s) is = open_of 10 from is
+
+pub test_of_stage : (s : Stage) → IsStage s → is_stage s ≡ true
+test_of_stage stage.Rest is = refl
+test_of_stage (stage.List list pages) is = test_of_open 4 list is
+test_of_stage (stage.Zeros list pages left at) is = and_from _ _ (lt-ltb _ _ is.0) (le-leb _ _ is.1)
+test_of_stage (stage.Tags from s) is = test_of_open 10 from is
+
+-- ---- inside RAM
 
 pub record Reads (pages most : ℕ) (from : Collect) : Type 0 where
   pub short : length from.held < most

@@ -57,6 +57,23 @@ IsStage (stage.List list pages) = (length list.held < 4) × (0 < room list.from)
 IsStage (stage.Zeros list pages left at) = (0 < left) × (at + 64 * left ≤ 2 ^ 45)
 IsStage (stage.Tags from s) = (length from.held < 10) × (0 < room from.from)
 
+-- the same as a test
+abbrev pub is_open : ℕ → Collect → Bool
+is_open most from = nat_lt (length from.held) most && nat_lt 0 (room from.from)
+
+abbrev pub is_stage : Stage → Bool
+is_stage stage.Rest = true
+is_stage (stage.List list pages) = is_open 4 list
+is_stage (stage.Zeros list pages left at) = nat_lt 0 left && nat_le (at + 64 * left) (2 ^ 45)
+is_stage (stage.Tags from s) = is_open 10 from
+
+abbrev pub has_stage : Kept → Bool
+has_stage k = is_stage k.stage
+
+-- what keeps these, if there may be such a one
+abbrev pub kept_from : Kept → Option Kept
+kept_from k = if has_stage k then Some k else None
+
 abbrev pub op_of : Stage → Op
 op_of stage.Rest = Op.Idle
 op_of (stage.List list pages) = Read (place list.from) (room list.from)

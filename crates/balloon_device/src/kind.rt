@@ -7,22 +7,21 @@ ghost use Rattle.queue_device.specs.declared.phase.Work.TheVariants as work;
 ghost use Rattle.vq_split.specs.Kept.{are_inside};
 ghost use Rattle.dev_core.specs.Pieces.{readable};
 ghost use Rattle.balloon_device.specs.Balloon.{pages_done, tags_done};
+ghost use Rattle.balloon_device.specs.declared.kind.Stage.TheVariants.{Rest};
 ghost use Rattle.balloon_device.specs.Statistics.{no_statistics};
-ghost use Rattle.balloon_device.specs.Work.{first_of, hand_of, is_reading, is_serving, is_work, is_zeroing, list_left, tags_left};
-ghost use Rattle.balloon_device.specs.Work.{zeros_left};
+ghost use Rattle.balloon_device.specs.Work.{first_of, hand_of, is_serving, is_stage, is_work, is_zeroing, kept_from, list_left};
+ghost use Rattle.balloon_device.specs.Work.{tags_left, zeros_left};
 
 use crate::pages::{NUMBER, next_page};
 use crate::statistics::Statistics;
 use crate::telling::{ENTRY, tell};
+use crate::valid::{WRITES, is_reading, is_stage, is_zeroing};
 use dev_core::{Collect, Gather, Held, readable, total};
 use queue_device::{Begin, Kind, TakenChain, TakenParts, Which, Work, collect_again};
 use std::marker::Model;
 use std::mem::replace;
 use vm_types::{Op, Piece, Reply};
-use vq_split::{PartList, are_inside, is_inside};
-
-/// How many writes of 64 bytes a page takes.
-const WRITES: u32 = 64;
+use vq_split::PartList;
 
 /// What the API may change.
 #[derive(Drop)]
@@ -98,32 +97,13 @@ fn first_read(parts: &PartList) -> Begin
     }
 }
 
-// Whether bytes are left to read, inside RAM of so many pages, with fewer than so many that are held.
-fn is_reading(from: &Collect, most: usize, pages: u32) -> bool
-    ensures { result ≡ is_reading pages most from.now }
-{
-    from.held.as_slice().len() < most
-        && 0 < from.from.room()
-        && are_inside(pages, from.from.parts())
-        && from.from.parts().len() <= 256
-}
-
-// Whether writes of one page are left, inside RAM, and the parts that are read after them are inside it too.
-fn is_zeroing(list: &Collect, left: u32, at: u64, pages: u32) -> bool
-    ensures { result ≡ is_zeroing pages list.now left at }
-{
-    0 < left
-        && left <= WRITES
-        && is_inside(pages, at, 64 * left as u64)
-        && list.held.as_slice().len() < 64
-        && are_inside(pages, list.from.parts())
-        && list.from.parts().len() <= 256
-}
-
 impl BalloonKind {
     /// A balloon whose statistics have this interval, in seconds; 0 where they are off. Nothing was told yet.
     pub fn new(interval: u16) -> BalloonKind
-        ensures own { result.own ≡ record { interval = interval; last = 0; statistics = no_statistics } }
+        ensures { result ≡ record {
+          own = record { interval = interval; last = 0; statistics = no_statistics };
+          stage = Rest;
+        } }
     {
         BalloonKind {
             interval,
@@ -131,6 +111,54 @@ impl BalloonKind {
             statistics: Statistics::new(),
             stage: Stage::Rest,
         }
+    }
+
+    /// The balloon that keeps these, if one may be at this stage.
+    #[tactic(auto, using(crate::proofs::Stages::stage_of))]
+    pub fn from_parts(
+        interval: u16,
+        last: u64,
+        statistics: Statistics,
+        stage: Stage,
+    ) -> Option<BalloonKind>
+        ensures { result ≡ kept_from (record {
+          own = record { interval = interval; last = last; statistics = statistics };
+          stage = stage;
+        }) }
+    {
+        if is_stage(&stage) {
+            Some(BalloonKind {
+                interval,
+                last,
+                statistics,
+                stage,
+            })
+        } else {
+            None
+        }
+    }
+
+    /// How many seconds there are between two chains of statistics; 0 where they are off.
+    pub fn interval(&self) -> u16
+        ensures { result ≡ self.now.own.interval }
+    {
+        self.interval
+    }
+
+    /// The guest time in nanoseconds at which a chain of them was let go on last; 0 before the first.
+    pub fn last(&self) -> u64
+        ensures { result ≡ self.now.own.last }
+    {
+        self.last
+    }
+
+    /// What it is at, where one may be.
+    #[tactic(auto, using(crate::proofs::Stages::test_of_stage))]
+    pub fn stage(&self) -> &Stage
+        ensures stage { result.now ≡ self.now.stage }
+        ensures is { is_stage self.now.stage ≡ true }
+    {
+        &self.stage
     }
 
     /// What the driver told last of its memory.

@@ -12,6 +12,7 @@ ghost use Rattle.queue_device.specs.Kept.{is_state};
 ghost use Rattle.queue_device.specs.Lanes.{new_lane};
 ghost use Rattle.queue_device.specs.Left.{left_at, queued};
 ghost use Rattle.queue_device.specs.Service.{Queued};
+ghost use Rattle.queue_device.specs.Timing.{is_timed_left};
 ghost use Rattle.balloon_device.specs.declared.kind.BalloonChange.{BalloonChange};
 ghost use Rattle.balloon_device.specs.declared.kind.Stage.{Stage};
 ghost use Rattle.balloon_device.specs.Balloon.{Balloon, balloon, balloon_rules, new_balloon, no_call};
@@ -29,7 +30,7 @@ use queue_device::{queue_goes_on, queue_kept, queue_one, queue_stays};
 pub fn balloon_stays()
     ensures { (port pages interval : ℕ) (items : List (Item BalloonChange)) (left : Script (Queued Balloon)) →
         LeadsTo balloon_rules (new_balloon port pages interval) items left →
-        IsDeviceAct true no_call port pages (wants balloon_rules left) }
+        IsDeviceAct (is_timed_left balloon left) no_call port pages (wants balloon_rules left) }
 {
     queue_stays::<BalloonKind>();
 }
@@ -38,7 +39,7 @@ pub fn balloon_stays()
 pub fn balloon_kept()
     ensures stays { (p : Phase) (r : Rounds) (e : Balloon) (g : Stage) →
         is_state balloon true is_work p r g ≡ true →
-        IsConfined balloon true no_call r.port r.pages (left_at balloon p (hand_of g) (queued r e)) }
+        IsConfined balloon no_call r.port r.pages (left_at balloon p (hand_of g) (queued r e)) }
     ensures one { (p q : Phase) (r t : Rounds) (e f : Balloon) (g h : Stage) →
         is_state balloon true is_work p r g ≡ true → is_state balloon true is_work q t h ≡ true →
         left_at balloon p (hand_of g) (queued r e) ≡ left_at balloon q (hand_of h) (queued t f) → queued r e ≡ queued t f }

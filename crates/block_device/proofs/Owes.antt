@@ -1,25 +1,23 @@
 -- All that a block device owes.
-use Rattle.std.proofs.Common.{◌≡◌, ℕ, ◌^◌, ◌<◌, ◌==◌, ◌||◌, nat_lt, refl, inr, Bool, true, false, if◌then◌else◌, not, Option, Some, List, [], length, arith}
-use Rattle.device_trace.specs.Acts.{IsAskedBy, is_disk_call}
+use Rattle.std.proofs.Common.{◌≡◌, ℕ, ◌^◌, ◌<◌, ◌==◌, ◌||◌, nat_lt, inr, Bool, true, false, not, Option, Some, List, [], length, arith}
+use Rattle.device_trace.specs.Acts.{is_disk_call}
 use Rattle.device_trace.specs.Traces.{setting}
-use Rattle.device_trace.proofs.Keeping.{keeps_both}
 use Rattle.device_trace.proofs.Leading.{no_cut}
 use Rattle.vq_split.specs.declared.queue.Part.{Part}
-use Rattle.vq_split.specs.Inside.{AreInside, IsInside}
+use Rattle.vq_split.specs.Inside.{AreInside}
 use Rattle.dev_core.specs.Inside.{Any}
-use Rattle.dev_core.specs.Pieces.{Got, collect_all, readable, total, writable}
-use Rattle.dev_core.proofs.Asking.{collect_all_asks}
-use Rattle.dev_core.proofs.Inside.{collect_all_keeps, filter_inside, status_place}
+use Rattle.dev_core.specs.Pieces.{Got, collect_all, readable, writable}
+use Rattle.dev_core.proofs.Inside.{filter_inside, status_place}
 use Rattle.queue_device.specs.declared.lanes.Which.{Which}
 use Rattle.queue_device.specs.Acting.{ActingKeeps}
-use Rattle.queue_device.specs.Chains.{Chain, Taken}
-use Rattle.queue_device.specs.Confined.{Confines, IsChain, IsDeviceAct, IsTaken}
-use Rattle.queue_device.proofs.Acting.{keeps_when, performing_keeps, keeps_either}
+use Rattle.queue_device.specs.Chains.{Taken}
+use Rattle.queue_device.specs.Confined.{Confines, IsDeviceAct, IsTaken}
+use Rattle.queue_device.proofs.Acting.{keeps_either, performing_keeps}
+use Rattle.queue_device.proofs.PieceActs.{collect_acts}
 use Rattle.block_device.specs.declared.data.BlockData.{BlockData}
 use Rattle.block_device.specs.Block.{block, changed, headed, is_short, request_of, served, taken}
 use Rattle.block_device.specs.Service.{service}
-use Rattle.block_device.proofs.Asking.{reads, service_acts}
-use Rattle.block_device.proofs.Staying.{service_keeps}
+use Rattle.block_device.proofs.Asking.{service_acts}
 
 pub off_right : (a b : Bool) → (a || b) ≡ false → b ≡ false
 off_right true b off = cc
@@ -43,18 +41,12 @@ module _ (port pages : ℕ) (k : Which) where
       keeps_either (IsDeviceAct false is_disk_call port pages) (Taking pages k)
       (is_short parts) _ _ (λ off few. tt)
       (λ on. performing_keeps (IsDeviceAct false is_disk_call port pages)
-      (λ (got : Got). (pages < 2 ^ 32 → AreInside pages got.parts) × Any {A = Got} got) (Taking pages k)
-      (collect_all 16 [] (readable parts)) e _
-      (keeps_both (λ op. pages < 2 ^ 32 → IsInside pages op) (IsAskedBy false is_disk_call port)
-      (λ (got : Got). pages < 2 ^ 32 → AreInside pages got.parts) (Any {A = Got}) (collect_all 16 [] (readable parts))
-      (keeps_when (pages < 2 ^ 32) (IsInside pages) (λ (got : Got). AreInside pages got.parts)
-      (collect_all 16 [] (readable parts))
-      (λ few. collect_all_keeps pages 16 [] (readable parts) few
-      (filter_inside pages (λ (part : Part). not part.writable) parts (inside few))))
-      (collect_all_asks (IsAskedBy false is_disk_call port) (reads port) 16 [] (readable parts)))
+      (λ (got : Got). pages < 2 ^ 32 → AreInside pages got.parts) (Taking pages k) (collect_all 16 [] (readable parts)) e _
+      (collect_acts is_disk_call port pages 16 [] (readable parts)
+      (λ few. filter_inside pages (λ (part : Part). not part.writable) parts (inside few)))
       (λ f got from few. (
         filter_inside pages (λ (part : Part). part.writable) parts (inside few),
-        from.0 few,
+        from few,
         some_parts (length (writable parts)) (off_right _ _ on),
       )))
 
@@ -64,23 +56,19 @@ module _ (port pages : ℕ) (k : Which) where
   serve t e is =
       keeps_either (IsDeviceAct false is_disk_call port pages) (λ (len : Option ℕ). Unit {0})
       (nat_lt (length t.got.bytes) 16) _ _ (λ short. tt)
-      (λ whole. performing_keeps (IsDeviceAct false is_disk_call port pages)
-      (λ (used : ℕ). (pages < 2 ^ 32 → Any {A = ℕ} used) × Any {A = ℕ} used) (λ (len : Option ℕ). Unit {0}) (service (request_of t e)) e _
-      (keeps_both (λ op. pages < 2 ^ 32 → IsInside pages op) (IsAskedBy false is_disk_call port)
-      (λ (used : ℕ). pages < 2 ^ 32 → Any used) (Any {A = ℕ}) (service (request_of t e))
-      (keeps_when (pages < 2 ^ 32) (IsInside pages) (Any {A = ℕ}) (service (request_of t e))
-      (λ few. service_keeps pages few (request_of t e) (is few).0 (is few).1
-      (status_place pages t.parts few (is few).0 (none_not (length t.parts) (is few).2))))
-      (service_acts port (request_of t e)))
+      (λ whole. performing_keeps (IsDeviceAct false is_disk_call port pages) (Any {A = ℕ}) (λ (len : Option ℕ). Unit {0})
+      (service (request_of t e)) e _
+      (service_acts port pages (request_of t e) (λ few. (is few).0) (λ few. (is few).1)
+      (λ few. status_place pages t.parts few (is few).0 (none_not (length t.parts) (is few).2)))
       (λ f used any. tt))
 
-pub owes : Confines block (setting changed) false is_disk_call
+pub owes : Confines block (setting changed) true is_disk_call
 owes = record {
   question = λ port pages e. (λ few. tt, inr (tt, tt));
   answer = λ port pages before e reply fit. tt;
   take = λ port pages k parts e inside. take port pages k parts e inside;
   serve = λ port pages k c e chain.
       serve port pages k (headed c.parts c.got) e (λ few. ((chain few).parts, (chain few).got, (chain few).taken));
-  untimed = λ no k c e. refl;
+  untimed = λ no. absurd (cc);
   cut = no_cut changed;
 }

@@ -1,50 +1,42 @@
 -- What a block device owes of what is kept of it.
-use Rattle.std.proofs.Common.{◌≡◌, ℕ, ◌+◌, ◌-◌, ◌*◌, ◌^◌, ◌<◌, ◌≤◌, ◌==◌, ◌||◌, nat_lt, refl, sym, ap, subst, inl, inr, Bool, true, false, if◌then◌else◌, ◌&&◌, not, Option, Some, is_some, List, [], length, arith}
-use Rattle.std.proofs.lemmas.Bool.{and_parts}
+use Rattle.std.proofs.Common.{◌≡◌, ℕ, ◌-◌, ◌^◌, ◌<◌, ◌≤◌, ◌==◌, ◌||◌, nat_lt, refl, sym, ap, subst, inl, inr, Bool, true, false, if◌then◌else◌, Option, Some, option_map, List, [], length, arith}
 use Rattle.vm_types.specs.declared.reply.Reply.{Reply}
 use Rattle.vm_types.specs.Fits.{Fits}
-use Rattle.device_trace.specs.Acts.{IsAskedBy, is_disk_call}
-use Rattle.device_trace.specs.Doing.{Doing, Gives, led}
+use Rattle.device_trace.specs.Acts.{is_disk_call}
+use Rattle.device_trace.specs.Doing.{Doing, led}
 use Rattle.device_trace.specs.Traces.{setting}
-use Rattle.device_trace.proofs.Keeping.{keeps_both}
 use Rattle.vq_split.specs.declared.queue.Part.{Part}
 use Rattle.vq_split.specs.Chain.{is_inside}
-use Rattle.vq_split.specs.Inside.{AreInside, IsInside}
+use Rattle.vq_split.specs.Inside.{AreInside}
 use Rattle.dev_core.specs.declared.collect.Collect.{Collect}
 use Rattle.dev_core.specs.Collecting.{collect_left, nothing}
 use Rattle.dev_core.specs.Inside.{Any}
-use Rattle.dev_core.specs.Pieces.{Got, collect_all, last_byte, readable, room, total, writable}
-use Rattle.dev_core.proofs.Asking.{collect_all_asks}
+use Rattle.dev_core.specs.Pieces.{Got, collect_all, last_byte, readable, room, writable}
 use Rattle.dev_core.proofs.Fuel.{collect_done}
-use Rattle.dev_core.proofs.Inside.{collect_all_keeps, filter_inside, status_place}
-use Rattle.queue_device.specs.declared.device.QueueRounds.{QueueRounds}
-use Rattle.queue_device.specs.declared.lanes.Lane.{Lane}
+use Rattle.dev_core.proofs.Inside.{filter_inside, status_place}
+use Rattle.rate_gate.specs.Gate.{Buckets, gate_passes}
 use Rattle.queue_device.specs.declared.lanes.Which.{Which}
 use Rattle.queue_device.specs.declared.phase.Work.TheVariants as work
 use Rattle.queue_device.specs.Acting.{Acting, ActingKeeps, Comes, performing}
-use Rattle.queue_device.specs.Chains.{Chain, Taken}
-use Rattle.queue_device.specs.Confined.{IsChain, IsDeviceAct, IsTaken, are_lanes}
-use Rattle.queue_device.specs.Kept.{are_kept, are_own_lanes, is_next, is_own_lane, is_place, work_of as place_of}
-use Rattle.queue_device.specs.Resuming.{AreShort, Goes, IsShortChain, IsShortTaken, Resumes, serving_of, taking_of}
-use Rattle.queue_device.proofs.Acting.{keeps_when, led_keeps, performing_acts, performing_keeps}
+use Rattle.queue_device.specs.Chains.{Taken}
+use Rattle.queue_device.specs.Confined.{IsDeviceAct}
+use Rattle.queue_device.specs.Resuming.{Goes, IsShortTaken, Resumes, serving_of, taking_of}
+use Rattle.queue_device.proofs.Acting.{led_keeps, performing_acts, performing_keeps}
+use Rattle.queue_device.proofs.PieceActs.{collect_acts}
 use Rattle.queue_device.proofs.Pieces.{collect_asks, collect_next, filter_few, more_of}
 use Rattle.block_device.specs.declared.data.BlockData.{BlockData}
-use Rattle.block_device.specs.declared.kind.BlockKind.{BlockKind}
-use Rattle.block_device.specs.declared.stage.ServiceStage.{ServiceStage}
 use Rattle.block_device.specs.declared.work.BlockStage.{BlockStage}
 use Rattle.block_device.specs.declared.work.BlockStage.TheVariants as at
-use Rattle.block_device.specs.Block.{block, changed, headed, is_short, request_of, served, taken}
+use Rattle.block_device.specs.Block.{block, changed, headed, is_short, need_of, request_of, served, taken}
 use Rattle.block_device.specs.Kept.{is_work}
 use Rattle.block_device.specs.Service.{service}
-use Rattle.block_device.specs.Serving.{serving_left, serving_op}
-use Rattle.block_device.specs.States.{is_state}
+use Rattle.block_device.specs.Serving.{serving_left}
 use Rattle.block_device.specs.Working.{IsFine, Working, hand_of}
-use Rattle.block_device.proofs.Asking.{reads, serving_acts}
+use Rattle.block_device.proofs.Asking.{serving_acts}
 use Rattle.block_device.proofs.GoesOnBegin.{service_on, total_most}
 use Rattle.block_device.proofs.GoesOnServe.{Serves, ServesOn, serves_on}
-use Rattle.block_device.proofs.Kept.{ArePart, IsWork, test_of_work, work_of}
+use Rattle.block_device.proofs.Kept.{ArePart, test_of_work, work_of}
 use Rattle.block_device.proofs.Owes.{Taking, none_not, off_right, some_parts}
-use Rattle.block_device.proofs.Staying.{serving_keeps}
 use Rattle.block_device.proofs.Wanting.{serving_asks}
 
 abbrev kept : BlockStage → Collect → List Part → Working
@@ -68,18 +60,14 @@ module _ (port pages : ℕ) (k : Which) where
   taking_by (at.Serve status s) from to is = absurd (cc)
   taking_by at.Header from to is =
       let v = work_of (work.Take k) pages (kept at.Header from to) is in
-      let keeps = keeps_both (λ op. pages < 2 ^ 32 → IsInside pages op) (IsAskedBy false is_disk_call port)
-      (λ (got : Got). pages < 2 ^ 32 → AreInside pages got.parts) (Any {A = Got}) (collect_left 16 from)
-      (keeps_when (pages < 2 ^ 32) (IsInside pages) (λ (got : Got). AreInside pages got.parts) (collect_left 16 from)
-      (λ few. collect_all_keeps pages (16 - length from.held) from.held from.from few v.from.0))
-      (collect_all_asks (IsAskedBy false is_disk_call port) (reads port) (16 - length from.held) from.held from.from) in
-      let on = led_keeps (IsDeviceAct false is_disk_call port pages) (λ (got : Got). (pages < 2 ^ 32 → AreInside pages got.parts) × Any got)
-      (collect_left 16 from) _ (collect_asks 16 from v.is.0 v.is.1) keeps in (
+      let on = led_keeps (IsDeviceAct false is_disk_call port pages) (λ (got : Got). pages < 2 ^ 32 → AreInside pages got.parts)
+      (collect_left 16 from) _ (collect_asks 16 from v.is.0 v.is.1)
+      (collect_acts is_disk_call port pages (16 - length from.held) from.held from.from (λ few. v.from.0)) in (
         on.0,
         λ e reply fit. performing_keeps (IsDeviceAct false is_disk_call port pages)
-            (λ (got : Got). (pages < 2 ^ 32 → AreInside pages got.parts) × Any got) (Taking pages k)
+            (λ (got : Got). pages < 2 ^ 32 → AreInside pages got.parts) (Taking pages k)
             (led (collect_left 16 from) reply) e _ (on.1 reply fit)
-            (λ f got held few. (v.to.0, held.0 few, more_parts (length to) v.is.2)),
+            (λ f got held few. (v.to.0, held few, more_parts (length to) v.is.2)),
       )
 
   serving_by : (stage : BlockStage) (from : Collect) (to : List Part)
@@ -91,15 +79,11 @@ module _ (port pages : ℕ) (k : Which) where
   serving_by at.Header from to is = absurd (cc)
   serving_by (at.Serve status s) from to is =
       let v = work_of (work.Serve k) pages (kept (at.Serve status s) from to) is in
-      let keeps = keeps_both (λ op. pages < 2 ^ 32 → IsInside pages op) (IsAskedBy false is_disk_call port)
-      (λ (used : ℕ). pages < 2 ^ 32 → Any used) (Any {A = ℕ}) (serving_left s from to status)
-      (keeps_when (pages < 2 ^ 32) (IsInside pages) (Any {A = ℕ}) (serving_left s from to status)
-      (λ few. serving_keeps pages s from to status few v.place (v.from.0, v.to.0)))
-      (serving_acts port s from to status) in
-      let on = led_keeps (IsDeviceAct false is_disk_call port pages) (λ (used : ℕ). (pages < 2 ^ 32 → Any used) × Any used)
-      (serving_left s from to status) _ (serving_asks s from to status v.is) keeps in (
+      let on = led_keeps (IsDeviceAct false is_disk_call port pages) (Any {A = ℕ}) (serving_left s from to status) _
+      (serving_asks s from to status v.is)
+      (serving_acts port pages s from to status (λ few. v.from.0) (λ few. v.to.0) (λ few. v.place)) in (
         on.0,
-        λ e reply fit. performing_keeps (IsDeviceAct false is_disk_call port pages) (λ (used : ℕ). (pages < 2 ^ 32 → Any used) × Any used) Any
+        λ e reply fit. performing_keeps (IsDeviceAct false is_disk_call port pages) (Any {A = ℕ}) Any
             (led (serving_left s from to status) reply) e _ (on.1 reply fit) (λ f used held. tt),
       )
 
@@ -247,10 +231,12 @@ no_answer pages g is =
     let v = work_of work.Answer pages g is in
     let wrong : false ≡ true = v.of in cc
 
-passed : (e f : BlockData) → Some e ≡ Some f → IsFine e → IsFine f
-passed e f is fine = subst IsFine (let same : e ≡ f = cc in same) fine
+passed : (e f : BlockData) (o : Option Buckets) → option_map (λ (limits : Buckets). record e { limits = limits }) o ≡ Some f
+    → IsFine e → IsFine f
+passed e f Option.None is fine = absurd (cc)
+passed e f (Some limits) is fine = subst IsFine (let same : (record e { limits = limits }) ≡ f = cc in same) fine
 
-pub resumes : Resumes block hand_of is_work IsFine (setting changed) false is_disk_call
+pub resumes : Resumes block hand_of is_work IsFine (setting changed) true is_disk_call
 resumes = record {
   rest = kept at.Rest nothing [];
   rests = λ pages. refl;
@@ -268,33 +254,7 @@ resumes = record {
   serving = λ pages k g e reply small fine is fit.
       serving pages k g.stage g.from g.to e reply (omega (arith, small)) fine is fit;
   begun = λ k e fine. fine;
-  passes = λ k c now e f fine is. passed e f is fine;
+  passes = λ k c now e f fine is. passed e f (gate_passes e.limits (need_of (headed c.parts c.got)) now) is fine;
   over = λ k e fine. fine;
   reset = λ e fine. fine;
 }
-
--- without limits no chain waits
-short_by : (o : Option Chain) → not (is_some o) ≡ true → IsShortChain o
-short_by Option.None is = tt
-short_by (Some c) is = absurd (cc)
-
-none_waits : (has : Bool) (l : Lane) → is_own_lane false has l ≡ true → not (is_some l.waiting) ≡ true
-none_waits true l is = is
-none_waits false l is =
-    let p3 = and_parts _ (not l.is_kicked) is in
-    let p2 = and_parts _ (l.used == 0) p3.0 in
-    let p1 = and_parts _ (l.next == 0) p2.0 in
-    (and_parts (not (is_some l.queue)) (not (is_some l.waiting)) p1.0).1
-
-short_none : (has : Bool) (l : Lane) → is_own_lane false has l ≡ true → IsShortChain l.waiting
-short_none has l is = short_by l.waiting (none_waits has l is)
-
-pub short_state : (b : QueueRounds BlockKind) → is_state b ≡ true → AreShort b.rounds
-short_state b is =
-    let p1 = and_parts _ (is_work (place_of b.phase) b.rounds.pages b.kind.work) is in
-    let p0 = and_parts (are_kept block false b.rounds) (is_place false b.phase b.rounds) p1.0 in
-    let k1 = and_parts _ (is_next false b.rounds.due b.rounds) p0.0 in
-    let k0 = and_parts (are_lanes block b.rounds.pages b.rounds) (are_own_lanes block false b.rounds) k1.0 in
-    let l1 = and_parts _ (is_own_lane false false b.rounds.third) k0.1 in
-    let l0 = and_parts (is_own_lane false true b.rounds.first) (is_own_lane false false b.rounds.second) l1.0 in
-    (short_none true b.rounds.first l0.0, short_none false b.rounds.second l0.1, short_none false b.rounds.third l1.1)

@@ -2,21 +2,25 @@
 ghost use Rattle.std.specs.Prelude.{◌≡◌, ◌<◌, false, List, length};
 ghost use Rattle.vq_split.specs.declared.queue.Part.{Part};
 ghost use Rattle.dev_core.specs.Pieces.{readable, writable};
-ghost use Rattle.block_device.specs.Block.{is_short};
+ghost use Rattle.block_device.specs.Block.{changed, is_short};
 
 use crate::data::BlockData;
+use crate::needs::need;
 use crate::valid::is_work;
 use crate::work::BlockWork;
 use dev_core::{Collect, Gather, Held, readable, total, writable};
 use queue_device::{Begin, Kind, TakenChain, TakenParts, Which, Work};
+use rate_gate::Bucket;
 use vm_types::{Op, Reply};
 use vq_split::PartList;
 
 /// What the API may change.
-#[derive(Clone, Copy, Drop)]
+#[derive(Drop)]
 pub enum BlockChange {
     /// The size of the disk, in sectors of 512 bytes.
     Sectors(u64),
+    /// The bucket of bytes and that of operations: another one, none, or the one that is there.
+    Limits(Option<Option<Bucket>>, Option<Option<Bucket>>),
 }
 
 /// A block device's data, and where it is in a chain.
@@ -35,8 +39,19 @@ fn is_short(reads: &PartList, writes: &PartList) -> bool
     total(reads.as_slice()) < 16 || writes.as_slice().len() == 0
 }
 
+impl BlockData {
+    fn change(&mut self, change: BlockChange)
+        ensures { self.new ≡ changed change self.old }
+    {
+        match change {
+            BlockChange::Sectors(sectors) => self.sectors = sectors,
+            BlockChange::Limits(bandwidth, ops) => self.limits.set_buckets(bandwidth, ops),
+        }
+    }
+}
+
 impl Kind for BlockKind {
-    ghost use Rattle.std.specs.Prelude.{false};
+    ghost use Rattle.std.specs.Prelude.{true};
     ghost use Rattle.device_trace.specs.Acts.{is_disk_call};
     ghost use Rattle.device_trace.specs.Traces.{setting};
     ghost use Rattle.block_device.specs.declared.data.BlockData.{BlockData};
@@ -54,7 +69,7 @@ impl Kind for BlockKind {
 
     ghost changing = { setting changed };
 
-    ghost times = { false };
+    ghost times = { true };
 
     ghost calls = { is_disk_call };
 
@@ -77,7 +92,7 @@ impl Kind for BlockKind {
     }
 
     fn may_wait(&self) -> bool {
-        false
+        true
     }
 
     fn is_taken(&self, which: Which, chain: &TakenChain) -> bool {
@@ -142,14 +157,13 @@ impl Kind for BlockKind {
     fn is_timed(&self, which: Which, chain: &TakenChain) -> bool {
         let _ = which;
         let _ = chain;
-        false
+        self.facts.limits.is_limited()
     }
 
+    #[tactic(auto, using(crate::proofs::Passing::passes_told))]
     fn passes(&mut self, which: Which, chain: &TakenChain, now: u64) -> bool {
         let _ = which;
-        let _ = chain;
-        let _ = now;
-        true
+        self.facts.limits.passes(need(chain), now)
     }
 
     fn serves(&self, which: Which, chain: &TakenChain) -> Begin {
@@ -182,20 +196,18 @@ impl Kind for BlockKind {
     fn reset(&mut self) {}
 
     fn change(&mut self, change: BlockChange) {
-        let BlockChange::Sectors(sectors) = change;
-        self.facts.sectors = sectors;
+        self.facts.change(change);
     }
 
     fn change_inside(&mut self, change: BlockChange, op: &Op) -> Option<Reply> {
         let _ = op;
-        let BlockChange::Sectors(sectors) = change;
-        self.facts.sectors = sectors;
+        self.facts.change(change);
         None
     }
 
     fn again(&self) -> BlockKind {
         BlockKind {
-            facts: self.facts,
+            facts: self.facts.again(),
             work: self.work.again(),
         }
     }

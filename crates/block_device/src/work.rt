@@ -15,10 +15,11 @@ ghost use Rattle.block_device.specs.Kept.{is_work, working_from};
 ghost use Rattle.block_device.specs.Working.{Working, hand_of, op_at};
 
 use crate::data::BlockData;
+use crate::needs::data_out;
 use crate::service::{begin, give, wanted};
 use crate::stage::ServiceStage;
 use crate::valid::is_at;
-use dev_core::{Collect, Scatter, last_byte, total};
+use dev_core::{Collect, Scatter, last_byte};
 use queue_device::{TakenChain, TakenParts, collect_again, parts_again};
 use std::marker::Model;
 use std::mem::replace;
@@ -185,8 +186,7 @@ impl BlockWork {
         }
         let mut to = Scatter::new(parts_again(chain.parts().as_slice()));
         let at = last_byte(to.parts());
-        let rest = total(from.from.parts());
-        let data_out = (from.held.as_slice().len() as u64 + rest).saturating_sub(16);
+        let data_out = data_out(&from);
         let stage = begin(facts, &mut from, &mut to, data_out);
         are_few(&from, &to);
         Some(BlockWork {

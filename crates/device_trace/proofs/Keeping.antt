@@ -16,6 +16,12 @@ keeps_then P Q R (Gives a) more keeps on = on a keeps
 keeps_then P Q R (Wants op next) more keeps on =
     (keeps.0, λ reply fit. keeps_then P Q R (next reply) more (keeps.1 reply fit) on)
 
+-- what a result meets leads to what it meets too
+pub keeps_more : {A : Type 0} (P : Op → Type 0) (Q R : A → Type 0) (t : Doing A) → Keeps P Q t → ((a : A) → Q a → R a)
+    → Keeps P R t
+keeps_more P Q R (Gives a) keeps on = on a keeps
+keeps_more P Q R (Wants op next) keeps on = (keeps.0, λ reply fit. keeps_more P Q R (next reply) (keeps.1 reply fit) on)
+
 -- what two tell of the same tree is told together
 pub keeps_both : {A : Type 0} (P O : Op → Type 0) (Q R : A → Type 0) (t : Doing A) → Keeps P Q t → Keeps O R t
     → Keeps (λ op. P op × O op) (λ a. Q a × R a) t

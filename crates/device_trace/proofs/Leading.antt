@@ -3,7 +3,7 @@ use Rattle.std.proofs.Common.{◌≡◌, refl, subst, List, [], ◌∷◌, Optio
 use Rattle.vm_types.specs.declared.op.Op.{Op}
 use Rattle.vm_types.specs.declared.reply.Reply.{Reply}
 use Rattle.vm_types.specs.Fits.{Fits}
-use Rattle.device_trace.specs.Keeps.{Stays}
+use Rattle.device_trace.specs.Keeps.{Opens, Stays}
 use Rattle.device_trace.specs.Script.{Script, Ends, Asks}
 use Rattle.device_trace.specs.States.{wants, stepped, changed_at, Leads}
 use Rattle.device_trace.specs.Traces.{Changing, Item, Did, Changed, Rules, root_op, root_next, cut_by, setting}
@@ -14,30 +14,30 @@ pub no_cut : {D C : Type 0} (changed : C → D → D) (c : C) (d : D) (op : Op) 
 no_cut changed c d op reply is = cc
 
 -- The data between two groups meet R, a change keeps that, and S says what it leaves inside one; what it leaves out is
--- answered as it may be.
-module _ {D C : Type 0} (begins : D → Script D) (changing : Changing D C) (P : Op → Type 0) (R : D → Type 0)
-    (S : D → D → Type 0) (same : (d : D) → S d d) (again : (d e f : D) → S d e → S e f → S d f) (waits : P Op.Idle)
-    (opens : (d : D) → R d → Stays P R S (begins d))
+-- answered as it may be. By the data between two groups the act that begins the next one meets O, and each act inside one P.
+module _ {D C : Type 0} (begins : D → Script D) (changing : Changing D C) (O : D → Op → Type 0) (P : Op → Type 0)
+    (R : D → Type 0) (S : D → D → Type 0) (same : (d : D) → S d d) (again : (d e f : D) → S d e → S e f → S d f)
+    (waits : (d : D) → O d Op.Idle) (opens : (d : D) → R d → Opens (O d) P R S (begins d))
     (still : (c : C) (d : D) → R d → R (changing.between c d)) (leaves : (c : C) (d : D) → S d (changing.inside c d))
     (fit : (c : C) (d : D) (op : Op) (reply : Reply) → changing.cut c d op ≡ Some reply → Fits op reply) where
   abbrev rules : Rules D C
   rules = record { begins = begins; changing = changing }
 
-  root_keeps : (t : Script D) → Stays P R S t → P (root_op t)
-  root_keeps (Ends d) stays = waits
-  root_keeps (Asks d op on) stays = stays.0
+  root_keeps : (d : D) (t : Script D) → Opens (O d) P R S t → O d (root_op t)
+  root_keeps d (Ends e) keeps = waits d
+  root_keeps d (Asks e op on) keeps = keeps.0
 
-  root_on : (t : Script D) (reply : Reply) → Stays P R S t → Fits (root_op t) reply → Stays P R S (root_next t reply)
-  root_on (Ends d) reply stays fits = stays
-  root_on (Asks d op on) reply stays fits = stays.1 d reply (same d) fits
+  root_on : (O : Op → Type 0) (t : Script D) (reply : Reply) → Opens O P R S t → Fits (root_op t) reply
+      → Stays P R S (root_next t reply)
+  root_on O (Ends d) reply keeps fits = keeps
+  root_on O (Asks d op on) reply keeps fits = keeps.1 d reply (same d) fits
 
-  pub wants_keeps : (t : Script D) → Stays P R S t → P (wants rules t)
-  wants_keeps (Ends d) stays = root_keeps (begins d) (opens d stays)
-  wants_keeps (Asks d op on) stays = stays.0
+  pub wants_between : (d : D) → R d → O d (wants rules (Ends d))
+  wants_between d stays = root_keeps d (begins d) (opens d stays)
 
   pub step_keeps : (t : Script D) (reply : Reply) → Stays P R S t → Fits (wants rules t) reply
       → Stays P R S (stepped rules t reply)
-  step_keeps (Ends d) reply stays fits = root_on (begins d) reply (opens d stays) fits
+  step_keeps (Ends d) reply stays fits = root_on (O d) (begins d) reply (opens d stays) fits
   step_keeps (Asks d op on) reply stays fits = stays.1 d reply (same d) fits
 
   cut_keeps : (c : C) (d : D) (op : Op) (on : D → Reply → Script D) (cut : Option Reply)

@@ -15,3 +15,15 @@ abbrev pub Stays : {D : Type 0} → (Op → Type 0) → (D → Type 0) → (D �
 Stays P R S (Ends d) = R d
 Stays {D = D} P R S (Asks d op on) =
     P op × ((e : D) (reply : Reply) → S d e → Fits op reply → Stays P R S (on e reply))
+
+-- the same of what begins a group: its first act meets O, and each act behind it P
+abbrev pub Opens : {D : Type 0} → (Op → Type 0) → (Op → Type 0) → (D → Type 0) → (D → D → Type 0) → Script D → Type 0
+Opens O P R S (Ends d) = R d
+Opens {D = D} O P R S (Asks d op on) =
+    O op × ((e : D) (reply : Reply) → S d e → Fits op reply → Stays P R S (on e reply))
+
+-- Each act leads from the data of the moment when its reply comes to data that T relates to them; so do these data to what is
+-- left.
+abbrev pub Moves : {D : Type 0} → (D → D → Type 0) → D → Script D → Type 0
+Moves T d (Ends e) = T d e
+Moves {D = D} T d (Asks e op on) = T d e × ((f : D) (reply : Reply) → Fits op reply → Moves T f (on f reply))

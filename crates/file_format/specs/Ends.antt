@@ -1,12 +1,14 @@
 -- A value that ends a list of bytes: what it doesn't have stands nowhere.
-use Rattle.std.specs.Prelude.{◌≡◌, ℕ, Bool, true, false, if◌then◌else◌, List, [], ◌∷◌, ◌++◌, length, Option, Some, None, refl}
+use Rattle.std.specs.Prelude.{◌≡◌, ℕ, Bool, true, false, IsTrue, if◌then◌else◌, List, [], ◌∷◌, ◌++◌, length, Option, Some, None, Result, Ok, Err, refl}
 use Rattle.std.specs.Option.{option_and_then}
 use Rattle.std.specs.Int.{w32, to_le_bytes}
 use Rattle.std.proofs.Common.{sym, ap, subst, ◌∙◌, append_assoc}
 use Rattle.std.proofs.lemmas.List.{take_at}
 use Rattle.std.proofs.lemmas.Option.{option_and_then_some}
+use Rattle.file_format.specs.declared.error.ReadError.{ReadError}
+use Rattle.file_format.specs.declared.error.ReadError.TheVariants.{Memory, Bad}
 use Rattle.file_format.specs.Format.{Format, IsBytes}
-use Rattle.file_format.specs.Kinds.{byte_list, optional}
+use Rattle.file_format.specs.Kinds.{byte_list}
 use Rattle.file_format.specs.Laws.{IsBytes-rest, IsBytes-take}
 use Rattle.file_format.specs.Whole.{whole_at, whole_again, whole_only}
 
@@ -132,6 +134,129 @@ module _ {A B : Type 0} (first : Format A) (last : Lacking B) where
     only = ended_only;
   }
 
+-- ---- whole lists of other values
+
+-- the values that a test passes
+module _ {A : Type 0} (test : A → Bool) (item : Listing A) where
+  abbrev passed_at : List ℕ → Option A
+  passed_at given = option_and_then (λ (v : A). if test v then Some v else None) (item.reads given)
+
+  chosen_some : (t : Bool) (v u : A) → (if t then Some v else None) ≡ Some u → IsTrue t × (v ≡ u)
+  chosen_some true v u e = (refl, let same : v ≡ u = cc in same)
+  chosen_some false v u e = cc
+
+  pub passed_again : (v : A) → item.Fits v × IsTrue (test v) → passed_at (item.bytes v) ≡ Some v
+  passed_again v fits =
+      ap (option_and_then (λ (v : A). if test v then Some v else None)) (item.again v fits.0)
+      ∙ ap (λ (t : Bool). if t then Some v else None) fits.1
+
+  pub passed_only : (given : List ℕ) (v : A) → IsBytes given → passed_at given ≡ Some v
+      → (item.Fits v × IsTrue (test v)) × (given ≡ item.bytes v)
+  passed_only given v is e =
+      option_and_then_some (λ (v : A). if test v then Some v else None) (item.reads given) v e
+      (λ u eu made.
+      let a = item.only given u is eu in
+      let b = chosen_some (test u) u v made in
+      subst (λ (x : A). (item.Fits x × IsTrue (test x)) × (given ≡ item.bytes x)) b.1 ((a.0, b.0), a.1))
+
+  abbrev pub passing_list : Listing A
+  passing_list = record {
+    Fits = λ v. item.Fits v × IsTrue (test v);
+    bytes = item.bytes;
+    reads = passed_at;
+    again = passed_again;
+    only = passed_only;
+  }
+
+-- those that are made of values that fit, each of which is what the value has
+module _ {A B : Type 0} (make : A → B) (part : B → A) (item : Listing A)
+    (law : (a : A) → item.Fits a → a ≡ part (make a)) where
+  abbrev stood_at : List ℕ → Option B
+  stood_at given = option_and_then (λ (a : A). Some (make a)) (item.reads given)
+
+  pub stood_again : (v : B) → (v ≡ make (part v)) × item.Fits (part v) → stood_at (item.bytes (part v)) ≡ Some v
+  stood_again v fits =
+      ap (option_and_then (λ (a : A). Some (make a))) (item.again (part v) fits.1) ∙ ap Some (sym fits.0)
+
+  pub stood_only : (given : List ℕ) (v : B) → IsBytes given → stood_at given ≡ Some v
+      → ((v ≡ make (part v)) × item.Fits (part v)) × (given ≡ item.bytes (part v))
+  stood_only given v is e =
+      option_and_then_some (λ (a : A). Some (make a)) (item.reads given) v e
+      (λ u eu made.
+      let a = item.only given u is eu in
+      let same : make u ≡ v = cc in
+      subst (λ (x : B). ((x ≡ make (part x)) × item.Fits (part x)) × (given ≡ item.bytes (part x))) same
+      (subst (λ (k : A). ((make u ≡ make k) × item.Fits k) × (given ≡ item.bytes k)) (law u a.0) ((refl, a.0), a.1)))
+
+  abbrev pub standing_list : Listing B
+  standing_list = record {
+    Fits = λ v. (v ≡ make (part v)) × item.Fits (part v);
+    bytes = λ v. item.bytes (part v);
+    reads = stood_at;
+    again = stood_again;
+    only = stood_only;
+  }
+
+-- a value, and then a list whose format it chooses; the list gives the value back
+module _ {A B : Type 0} (first : Format A) (second : A → Listing B) (key : B → A)
+    (law : (a : A) (v : B) → (second a).Fits v → a ≡ key v) where
+  abbrev chosen_at : List ℕ → Option B
+  chosen_at given = option_and_then (λ (x : A × List ℕ). (second x.0).reads x.1) (first.reads given)
+
+  pub chosen_again : (v : B) → first.Fits (key v) × (second (key v)).Fits v
+      → chosen_at (first.bytes (key v) ++ (second (key v)).bytes v) ≡ Some v
+  chosen_again v fits =
+      ap (option_and_then (λ (x : A × List ℕ). (second x.0).reads x.1))
+      (first.again (key v) ((second (key v)).bytes v) fits.0) ∙ (second (key v)).again v fits.1
+
+  pub chosen_only : (given : List ℕ) (v : B) → IsBytes given → chosen_at given ≡ Some v
+      → (first.Fits (key v) × (second (key v)).Fits v) × (given ≡ first.bytes (key v) ++ (second (key v)).bytes v)
+  chosen_only given v is e =
+      option_and_then_some (λ (x : A × List ℕ). (second x.0).reads x.1) (first.reads given) v e
+      (λ x ex ev.
+      let a = first.only given x.0 x.1 is ex in
+      let b = (second x.0).only x.1 v (IsBytes-rest given (first.bytes x.0) x.1 a.1 is) ev in
+      subst (λ (k : A). (first.Fits k × (second k).Fits v) × (given ≡ first.bytes k ++ (second k).bytes v)) (law x.0 v b.0) (
+        (a.0, b.0),
+        a.1 ∙ ap (λ (rest : List ℕ). first.bytes x.0 ++ rest) b.1,
+      ))
+
+  abbrev pub chosen_list : Listing B
+  chosen_list = record {
+    Fits = λ v. first.Fits (key v) × (second (key v)).Fits v;
+    bytes = λ v. first.bytes (key v) ++ (second (key v)).bytes v;
+    reads = chosen_at;
+    again = chosen_again;
+    only = chosen_only;
+  }
+
+pub no_list_only : {A : Type 0} (given : List ℕ) (v : A) → IsBytes given → None ≡ Some v → ⊥ × (given ≡ [])
+no_list_only given v is e = absurd (cc)
+
+-- no value
+abbrev pub no_list : {A : Type 0} → Listing A
+no_list = record {
+  Fits = λ v. ⊥;
+  bytes = λ v. [];
+  reads = λ given. None;
+  again = λ v fits. absurd fits;
+  only = no_list_only;
+}
+
+-- ---- what a call has done
+
+-- all bytes are this value, or none; or memory ran out
+abbrev pub TakesAll : {A : Type 0} → Listing A → List ℕ → Result A ReadError → Type 0
+TakesAll item given (Ok v) = item.reads given ≡ Some v
+TakesAll item given (Err Bad) = item.reads given ≡ None
+TakesAll item given (Err Memory) = Unit {0}
+
+-- all bytes are what may be lacking, if there are any
+abbrev pub TakesEnd : {B : Type 0} → Lacking B → List ℕ → Result B ReadError → Type 0
+TakesEnd last given (Ok b) = end_at last given ≡ Some b
+TakesEnd last given (Err Bad) = end_at last given ≡ None
+TakesEnd last given (Err Memory) = Unit {0}
+
 -- ---- as a list of its bytes
 
 module _ {A : Type 0} (item : Listing A) where
@@ -181,30 +306,4 @@ module _ {A : Type 0} (item : Listing A) where
     same = λ v out. byte_list.same (item.bytes v) out;
     again = listed_again;
     only = listed_only;
-  }
-
--- ---- an option at the end, with a byte that tells that it is there
-
-module _ {A : Type 0} (item : Format A) where
-  abbrev pub is_lacking : Option A → Bool
-  is_lacking None = true
-  is_lacking (Some v) = false
-
-  pub only_lacking : (v : Option A) → is_lacking v ≡ true → v ≡ None
-  only_lacking None is = refl
-  only_lacking (Some v) is = cc
-
-  pub some_byte : (v : Option A) → (optional item).Fits v → (optional item).bytes v ≡ [] → ⊥
-  unfolding optional
-  some_byte None fits is = cc
-  some_byte (Some v) fits is = cc
-
-  abbrev pub may_lack : Lacking (Option A)
-  may_lack = record {
-    item = optional item;
-    none = None;
-    is_none = is_lacking;
-    lacks = refl;
-    only_none = only_lacking;
-    some = some_byte;
   }

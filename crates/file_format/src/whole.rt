@@ -43,14 +43,14 @@ impl<T> Model for Counted<T> {
     ghost view = { λ c. c.value };
 }
 
-fn put_count(out: &mut Vec<u8>, at: usize, count: u32)
+pub fn put_count(out: &mut Vec<u8>, at: usize, count: u32)
     requires { at + 4 ≤ length out.old.items }
     ensures { out.new.items ≡ take at out.old.items ++ (to_le_bytes w32 count ++ drop (at + 4) out.old.items) }
 {
     out[at..at + 4].copy_from_slice(&count.to_le_bytes());
 }
 
-fn size(out: &Vec<u8>) -> usize
+pub fn size(out: &Vec<u8>) -> usize
     ensures { result ≡ length out.now.items }
 {
     out.len()

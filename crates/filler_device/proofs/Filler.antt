@@ -1,5 +1,5 @@
 -- All that the filler owes.
-use Rattle.std.proofs.Common.{ℕ, ◌^◌, ◌<◌, ◌==◌, refl, inr, true, not, Option, List, [], replicate}
+use Rattle.std.proofs.Common.{ℕ, ◌^◌, ◌<◌, ◌==◌, refl, inr, true, false, not, Option, List, [], replicate}
 use Rattle.vm_types.specs.declared.op.Op.TheVariants.{Read, Write}
 use Rattle.device_trace.specs.Acts.{IsAskedBy}
 use Rattle.device_trace.specs.Traces.{setting}
@@ -19,10 +19,10 @@ use Rattle.queue_device.specs.Confined.{Confines, IsChain, IsDeviceAct, IsTaken}
 use Rattle.queue_device.proofs.Acting.{keeps_when, performing_keeps, keeps_either}
 use Rattle.filler_device.specs.Filler.{Filler, filled, filler, limited, no_call, served_by, taken_by}
 
-pub reads : (port at len : ℕ) → IsAskedBy true no_call port (Read at len)
+pub reads : (port at len : ℕ) → IsAskedBy false no_call port (Read at len)
 reads port at len = inr (tt, tt)
 
-pub writes : (port at : ℕ) (piece : List ℕ) → IsAskedBy true no_call port (Write at piece)
+pub writes : (port at : ℕ) (piece : List ℕ) → IsAskedBy false no_call port (Write at piece)
 writes port at piece = inr (tt, tt)
 
 -- what is kept of a chain, in a guest of fewer than 2^32 pages
@@ -30,40 +30,40 @@ abbrev pub Taking : ℕ → Which → Option Taken → Type 0
 Taking pages k t = pages < 2 ^ 32 → IsTaken filler pages k t
 
 byte_read : (port pages : ℕ) (k : Which) (parts : List Part) (e : Filler) → (pages < 2 ^ 32 → AreInside pages parts)
-    → ActingKeeps (IsDeviceAct true no_call port pages) (Taking pages k) (taken_by Second parts e)
+    → ActingKeeps (IsDeviceAct false no_call port pages) (Taking pages k) (taken_by Second parts e)
 byte_read port pages k parts e inside =
     let mine = λ (few : pages < 2 ^ 32). filter_inside pages (λ (part : Part). not part.writable) parts (inside few) in
-    keeps_either (IsDeviceAct true no_call port pages) (Taking pages k) (total (readable parts) == 0) _ _
+    keeps_either (IsDeviceAct false no_call port pages) (Taking pages k) (total (readable parts) == 0) _ _
     (λ none few. tt)
-    (λ some. performing_keeps (IsDeviceAct true no_call port pages)
+    (λ some. performing_keeps (IsDeviceAct false no_call port pages)
     (λ (got : Got). (pages < 2 ^ 32 → AreInside pages got.parts) × Any {A = Got} got) (Taking pages k)
     (collect_all 1 [] (readable parts)) e _
-    (keeps_both (λ op. pages < 2 ^ 32 → IsInside pages op) (IsAskedBy true no_call port)
+    (keeps_both (λ op. pages < 2 ^ 32 → IsInside pages op) (IsAskedBy false no_call port)
     (λ (got : Got). pages < 2 ^ 32 → AreInside pages got.parts) (Any {A = Got}) (collect_all 1 [] (readable parts))
     (keeps_when (pages < 2 ^ 32) (IsInside pages) (λ (got : Got). AreInside pages got.parts)
     (collect_all 1 [] (readable parts)) (λ few. collect_all_keeps pages 1 [] (readable parts) few (mine few)))
-    (collect_all_asks (IsAskedBy true no_call port) (reads port) 1 [] (readable parts)))
+    (collect_all_asks (IsAskedBy false no_call port) (reads port) 1 [] (readable parts)))
     (λ f got from few. (tt, from.0 few, refl)))
 
 take : (port pages : ℕ) (k : Which) (parts : List Part) (e : Filler) → (pages < 2 ^ 32 → AreInside pages parts)
-    → ActingKeeps (IsDeviceAct true no_call port pages) (Taking pages k) (taken_by k parts e)
+    → ActingKeeps (IsDeviceAct false no_call port pages) (Taking pages k) (taken_by k parts e)
 take port pages First parts e inside = λ few. (inside few, tt, refl)
 take port pages Second parts e inside = byte_read port pages Second parts e inside
 take port pages Third parts e inside = byte_read port pages Third parts e inside
 
 serve : (port pages : ℕ) (k : Which) (c : Chain) (e : Filler) → (pages < 2 ^ 32 → IsChain filler pages k c)
-    → ActingKeeps (IsDeviceAct true no_call port pages) (λ (len : Option ℕ). Unit {0}) (served_by k c e)
+    → ActingKeeps (IsDeviceAct false no_call port pages) (λ (len : Option ℕ). Unit {0}) (served_by k c e)
 serve port pages First c e chain =
     let bytes = replicate (filled c) e.byte in
     let mine = λ (few : pages < 2 ^ 32). filter_inside pages (λ (part : Part). part.writable) c.parts (chain few).parts in
-    performing_keeps (IsDeviceAct true no_call port pages)
+    performing_keeps (IsDeviceAct false no_call port pages)
     (λ (left : List Part). (pages < 2 ^ 32 → AreInside pages left) × Any {A = List Part} left) (λ (len : Option ℕ). Unit {0})
     (put_all bytes (writable c.parts)) e _
-    (keeps_both (λ op. pages < 2 ^ 32 → IsInside pages op) (IsAskedBy true no_call port)
+    (keeps_both (λ op. pages < 2 ^ 32 → IsInside pages op) (IsAskedBy false no_call port)
     (λ (left : List Part). pages < 2 ^ 32 → AreInside pages left) (Any {A = List Part}) (put_all bytes (writable c.parts))
     (keeps_when (pages < 2 ^ 32) (IsInside pages) (λ (left : List Part). AreInside pages left)
     (put_all bytes (writable c.parts)) (λ few. put_all_keeps pages bytes (writable c.parts) few (mine few)))
-    (put_all_asks (IsAskedBy true no_call port) (writes port) bytes (writable c.parts)))
+    (put_all_asks (IsAskedBy false no_call port) (writes port) bytes (writable c.parts)))
     (λ f left from. tt)
 serve port pages Second c e chain = tt
 serve port pages Third c e chain = tt

@@ -88,43 +88,43 @@ no_answer pages (stage.Fill spill len) is = cc
 -- ---- what is left keeps to its own
 
 taking_stays : (port pages : ℕ) (k : Which) (g : Stage) → is_work (work.Take k) pages g ≡ true
-    → IsDeviceAct true no_call port pages (hand_of g).op
+    → IsDeviceAct false no_call port pages (hand_of g).op
     × ((e : Filler) (reply : Reply) → Fits (hand_of g).op reply
-    → ActingKeeps (IsDeviceAct true no_call port pages) (Taking pages k) ((hand_of g).taking e reply))
+    → ActingKeeps (IsDeviceAct false no_call port pages) (Taking pages k) ((hand_of g).taking e reply))
 taking_stays port pages k stage.Rest is = absurd (cc)
 taking_stays port pages k (stage.Fill spill len) is = absurd (cc)
 taking_stays port pages k (stage.Take from) is =
     let v = reads_of pages k from is in
-    let keeps = keeps_both (λ op. pages < 2 ^ 32 → IsInside pages op) (IsAskedBy true no_call port)
+    let keeps = keeps_both (λ op. pages < 2 ^ 32 → IsInside pages op) (IsAskedBy false no_call port)
     (λ (got : Got). pages < 2 ^ 32 → AreInside pages got.parts) (Any {A = Got}) (collect_left 1 from)
     (keeps_when (pages < 2 ^ 32) (IsInside pages) (λ (got : Got). AreInside pages got.parts) (collect_left 1 from)
     (λ few. collect_all_keeps pages (1 - length from.held) from.held from.from few v.inside))
-    (collect_all_asks (IsAskedBy true no_call port) (reads port) (1 - length from.held) from.held from.from) in
-    let on = led_keeps (IsDeviceAct true no_call port pages) (λ (got : Got). (pages < 2 ^ 32 → AreInside pages got.parts) × Any got)
+    (collect_all_asks (IsAskedBy false no_call port) (reads port) (1 - length from.held) from.held from.from) in
+    let on = led_keeps (IsDeviceAct false no_call port pages) (λ (got : Got). (pages < 2 ^ 32 → AreInside pages got.parts) × Any got)
     (collect_left 1 from) _ (collect_asks 1 from v.short v.space) keeps in (
       on.0,
-      λ e reply fit. performing_keeps (IsDeviceAct true no_call port pages)
+      λ e reply fit. performing_keeps (IsDeviceAct false no_call port pages)
           (λ (got : Got). (pages < 2 ^ 32 → AreInside pages got.parts) × Any got) (Taking pages k) (led (collect_left 1 from) reply) e
           _ (on.1 reply fit) (λ f got held few. (tt, held.0 few, refl)),
     )
 
 serving_stays : (port pages : ℕ) (k : Which) (g : Stage) → is_work (work.Serve k) pages g ≡ true
-    → IsDeviceAct true no_call port pages (hand_of g).op
+    → IsDeviceAct false no_call port pages (hand_of g).op
     × ((e : Filler) (reply : Reply) → Fits (hand_of g).op reply
-    → ActingKeeps (IsDeviceAct true no_call port pages) Any ((hand_of g).serving e reply))
+    → ActingKeeps (IsDeviceAct false no_call port pages) Any ((hand_of g).serving e reply))
 serving_stays port pages k stage.Rest is = absurd (cc)
 serving_stays port pages k (stage.Take from) is = absurd (cc)
 serving_stays port pages k (stage.Fill spill len) is =
     let v = fills_of pages k spill len is in
-    let keeps = keeps_both (λ op. pages < 2 ^ 32 → IsInside pages op) (IsAskedBy true no_call port)
+    let keeps = keeps_both (λ op. pages < 2 ^ 32 → IsInside pages op) (IsAskedBy false no_call port)
     (λ (left : List Part). pages < 2 ^ 32 → AreInside pages left) (Any {A = List Part}) (spill_left spill)
     (keeps_when (pages < 2 ^ 32) (IsInside pages) (λ (left : List Part). AreInside pages left) (spill_left spill)
     (λ few. put_all_keeps pages spill.held spill.to few v.inside))
-    (put_all_asks (IsAskedBy true no_call port) (writes port) spill.held spill.to) in
-    let on = led_keeps (IsDeviceAct true no_call port pages) (λ (left : List Part). (pages < 2 ^ 32 → AreInside pages left) × Any left)
+    (put_all_asks (IsAskedBy false no_call port) (writes port) spill.held spill.to) in
+    let on = led_keeps (IsDeviceAct false no_call port pages) (λ (left : List Part). (pages < 2 ^ 32 → AreInside pages left) × Any left)
     (spill_left spill) _ (put_asks spill.held spill.to v.some) keeps in (
       on.0,
-      λ e reply fit. performing_keeps (IsDeviceAct true no_call port pages)
+      λ e reply fit. performing_keeps (IsDeviceAct false no_call port pages)
           (λ (left : List Part). (pages < 2 ^ 32 → AreInside pages left) × Any left) Any (led (spill_left spill) reply) e _ (on.1 reply fit)
           (λ f left held. tt),
     )

@@ -1,13 +1,13 @@
 -- A device of two queues that no machine has. The first bytes of the writable parts of a chain of the first queue are
 -- filled with one byte, at most 64 of them, as its limits allow by then; the first readable byte of a chain of the second
 -- queue says which byte.
-use Rattle.std.specs.Prelude.{ℕ, ◌==◌, min, Bool, true, false, if◌then◌else◌, Option, Some, None, List, [], get_or, replicate}
+use Rattle.std.specs.Prelude.{ℕ, ◌==◌, min, Bool, true, false, if◌then◌else◌, Option, Some, None, option_map, List, [], get_or, replicate}
 use Rattle.vm_types.specs.declared.op.Op.{Op}
 use Rattle.vm_types.specs.declared.op.OutOp.{OutOp}
 use Rattle.device_trace.specs.Traces.{Rules, setting}
 use Rattle.vq_split.specs.declared.queue.Part.{Part}
 use Rattle.dev_core.specs.Pieces.{Got, collect_all, put_all, readable, total, writable}
-use Rattle.rate_gate.specs.Gate.{Buckets, gate_takes, gate_took, is_limited, with_buckets}
+use Rattle.rate_gate.specs.Gate.{Buckets, gate_passes, is_limited, with_buckets}
 use Rattle.queue_device.specs.declared.lanes.Which.{Which}
 use Rattle.queue_device.specs.declared.lanes.Which.TheVariants.{First, Second, Third}
 use Rattle.queue_device.specs.Acting.{Acting, Comes, performing}
@@ -55,8 +55,7 @@ is_first First = true
 is_first k = false
 
 abbrev pub passes_by : ℕ → ℕ → Filler → Option Filler
-passes_by bytes now e =
-    if gate_takes e.limits bytes now then Some (record e { limits = gate_took e.limits bytes now }) else None
+passes_by bytes now e = option_map (λ (limits : Buckets). record e { limits = limits }) (gate_passes e.limits bytes now)
 
 -- it has two queues
 abbrev pub wanted_of : Which → Bool → Bool

@@ -13,6 +13,7 @@ ghost use Rattle.queue_device.specs.Kept.{is_state};
 ghost use Rattle.queue_device.specs.Lanes.{new_lane};
 ghost use Rattle.queue_device.specs.Left.{left_at, queued};
 ghost use Rattle.queue_device.specs.Service.{Queued};
+ghost use Rattle.queue_device.specs.Timing.{is_timed_left};
 ghost use Rattle.filler_device.specs.declared.kind.FillerChange.{FillerChange};
 ghost use Rattle.filler_device.specs.declared.kind.Stage.{Stage};
 ghost use Rattle.filler_device.specs.Filler.{Filler, filler, filler_rules, new_filler, no_call};
@@ -28,7 +29,7 @@ use queue_device::{queue_goes_on, queue_kept, queue_one, queue_stays};
 pub fn filler_stays()
     ensures { (port pages : ℕ) (limits : Buckets) (items : List (Item FillerChange)) (left : Script (Queued Filler)) →
         LeadsTo filler_rules (new_filler port pages limits) items left →
-        IsDeviceAct true no_call port pages (wants filler_rules left) }
+        IsDeviceAct (is_timed_left filler left) no_call port pages (wants filler_rules left) }
 {
     queue_stays::<FillerKind>();
 }
@@ -37,7 +38,7 @@ pub fn filler_stays()
 pub fn filler_kept()
     ensures stays { (p : Phase) (r : Rounds) (e : Filler) (g : Stage) →
         is_state filler true is_work p r g ≡ true →
-        IsConfined filler true no_call r.port r.pages (left_at filler p (hand_of g) (queued r e)) }
+        IsConfined filler no_call r.port r.pages (left_at filler p (hand_of g) (queued r e)) }
     ensures one { (p q : Phase) (r t : Rounds) (e f : Filler) (g h : Stage) →
         is_state filler true is_work p r g ≡ true → is_state filler true is_work q t h ≡ true →
         left_at filler p (hand_of g) (queued r e) ≡ left_at filler q (hand_of h) (queued t f) → queued r e ≡ queued t f }

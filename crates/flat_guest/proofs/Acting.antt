@@ -19,7 +19,7 @@ use Rattle.hart_trace.proofs.Traces.{hart_continues}
 use Rattle.timer_trace.specs.States as timer
 use Rattle.timer_trace.proofs.Leads as timer_leads
 use Rattle.timer_trace.proofs.Traces as timer_traces
-use Rattle.guest_devices.specs.Devices.{DeviceLeads, DeviceLeft, FlatDevice, device_calls, device_did, device_next, device_times, device_wants}
+use Rattle.guest_devices.specs.Devices.{DeviceLeads, DeviceLeft, FlatDevice, device_calls, device_did, device_next, device_wants, left_times}
 use Rattle.guest_devices.specs.Kept.{device_want, devices_given}
 use Rattle.guest_devices.proofs.Follows.{did_leads, left_wants}
 use Rattle.guest_devices.proofs.Soundness.{want_own}
@@ -95,7 +95,7 @@ module _ (b : Body) (g : Guest) (is : IsGuest b g) where
       let l = left_there (slice_get b.devices k) op want in
       let d = device_leads k l.0 l.1 in
       let sound = is.devices_are.sound.each k d.0 d.1 in
-      asked_there (length g.ports) k (device_times d.0) (device_calls d.0) op
+      asked_there (length g.ports) k (left_times sound.0) (device_calls d.0) op
       (ap (λ (n : ℕ). nat_lt k n) is.devices_are.sound.as_many ∙ get_lt g.devices k d.0 d.1)
       (want_own k (whole_pages g.memory) d.0 op sound (left_wants d.0 l.0 op d.2 l.2))
 

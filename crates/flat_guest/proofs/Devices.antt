@@ -25,6 +25,7 @@ use Rattle.flat_guest.specs.Guest.{Guest, Wants, WantsOf, whole_pages}
 use Rattle.flat_guest.specs.Sound.{AreSoundDevices}
 use Rattle.flat_guest.specs.Start.{devices_at_start}
 use Rattle.flat_guest.specs.Steps.{device_after, devices_after, memory_after, port_after, ports_after}
+use Rattle.flat_guest.proofs.SameKinds.{did_kinds, ports_same, reset_kinds, shown_kinds, started_kinds, told_kinds}
 use Rattle.flat_guest.proofs.Lengths.{pages_kept}
 use Rattle.flat_guest.proofs.Lists.{get_set_other, get_set_same, mapped_from, some_is}
 
@@ -115,6 +116,7 @@ sound_after g sound place actor op reply want fit =
     (sym (pages_kept place g.memory actor op))
     (record {
       as_many = ports_many place g.ports actor op ∙ sound.as_many ∙ sym (devices_many actor g.devices s);
+      kinds = ports_same place g.ports actor op ∙ sound.kinds ∙ sym (did_kinds actor g.devices s);
       each = each_after g (whole_pages g.memory) sound.each s fit actor want;
     })
 
@@ -123,6 +125,7 @@ pub sound_devices_told : (pages : ℕ) (ports : List PortState) (devices : List 
     → AreSoundDevices pages (ports_with shown ports k) (devices_told (slice_get devices k) devices k change)
 sound_devices_told pages ports devices sound k change shown fits = record {
   as_many = shown_many shown ports k ∙ sound.as_many ∙ sym (told_many (slice_get devices k) devices k change);
+  kinds = shown_kinds shown k ports ∙ sound.kinds ∙ sym (told_kinds devices k (slice_get devices k) change refl);
   each = each_told pages devices sound.each k change (slice_get devices k) fits refl;
 }
 
@@ -139,6 +142,7 @@ pub sound_devices_reset : (pages : ℕ) (ports : List PortState) (devices : List
     → AreSoundDevices pages ports (map device_reset devices)
 sound_devices_reset pages ports devices sound = record {
   as_many = sound.as_many ∙ sym (reset_many devices);
+  kinds = sound.kinds ∙ sym (reset_kinds devices);
   each = each_reset pages devices sound.each;
 }
 
@@ -164,6 +168,7 @@ pub sound_at_start : (pages : ℕ) (all : List NewDevice) → All FitsNew all
     → AreSoundDevices pages (map port_at_start all) (devices_at_start pages 0 all)
 sound_at_start pages all fit = record {
   as_many = started_many pages 0 all;
+  kinds = started_kinds pages 0 all;
   each = λ k d is.
       let here : 0 + k ≡ k = omega arith in
       subst (λ (i : ℕ). IsSoundDevice i pages d) here (started_each pages 0 all k d fit is);

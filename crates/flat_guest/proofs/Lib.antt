@@ -7,7 +7,8 @@ pub mod Devices
 pub mod Lengths
 pub mod Lists
 pub mod Marked
-pub mod Soundness
-pub mod Stepping
+pub mod SameKinds
 pub mod Savable
 pub mod Shaped
+pub mod Soundness
+pub mod Stepping

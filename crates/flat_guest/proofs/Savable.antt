@@ -4,7 +4,6 @@ use Rattle.std.specs.List.{All}
 use Rattle.std.proofs.lemmas.Bool.{ltb-true}
 use Rattle.std.proofs.lemmas.List.{length-replicate, length-set}
 use Rattle.std.proofs.lemmas.List.Elements.{All-cons, All-head, All-nil, All-replicate, All-set, All-tail}
-use Rattle.std.proofs.lemmas.Nat.{or_lt}
 use Rattle.vm_types.specs.declared.ids.ActorId.{ActorId}
 use Rattle.vm_types.specs.declared.ids.PlaceId.{PlaceId}
 use Rattle.vm_types.specs.declared.op.Op.{Op}
@@ -17,7 +16,6 @@ use Rattle.vm_types.specs.declared.entry.Entry.{Entry}
 use Rattle.vm_types.specs.Fits.{fits}
 use Rattle.vm_types.specs.Ids.{same_actor}
 use Rattle.le_fields.specs.Fields.{IsByte}
-use Rattle.le_fields.proofs.Values.{all_bytes}
 use Rattle.guest_memory.specs.Boot.{Loads, boot_memory, bytes_of_mib, image_start, tree_start}
 use Rattle.guest_memory.specs.Kept as memory_kept
 use Rattle.guest_memory.specs.Memory as memory
@@ -29,11 +27,8 @@ use Rattle.board_table.specs.Board.{Board}
 use Rattle.board_table.specs.Kept as board_kept
 use Rattle.board_table.proofs.Keeping as board
 use Rattle.port_table.specs.Acts as port_acts
-use Rattle.port_table.specs.declared.kind.DeviceKind.TheVariants.{Block}
-use Rattle.port_table.specs.declared.kind.Feature.{Feature}
-use Rattle.port_table.specs.declared.kind.Feature.TheVariants as feature
+use Rattle.port_table.specs.declared.kind.DeviceKind.{DeviceKind}
 use Rattle.port_table.specs.declared.state.PortState.{PortState}
-use Rattle.port_table.specs.Kinds.{feature_mask}
 use Rattle.port_table.specs.Sizes as port_kept
 use Rattle.port_table.proofs.Sizes as port
 use Rattle.rv_supervisor.specs.declared.regs.Regs.{Regs}
@@ -51,14 +46,13 @@ use Rattle.hart_trace.proofs.Traces.{leads_start, some_hart, wants_only}
 use Rattle.timer_trace.specs.States.{wants_by}
 use Rattle.timer_trace.proofs.Traces as timer_traces
 use Rattle.guest_devices.specs.declared.change.DeviceChange.{DeviceChange}
-use Rattle.guest_devices.specs.declared.drive.NewDrive.{NewDrive}
 use Rattle.guest_devices.specs.declared.new_device.NewDevice.{NewDevice}
-use Rattle.guest_devices.specs.declared.new_device.NewDevice.TheVariants as kinds
-use Rattle.guest_devices.specs.Ports.{block_port, capacity, feature_if, offered, port_at_start}
+use Rattle.guest_devices.specs.Ports.{port_at_start}
+use Rattle.guest_devices.proofs.Ports.{start_kept as port_start_kept}
 use Rattle.flat_guest.specs.Body.{out_reply, reply_at}
 use Rattle.flat_guest.specs.Changes.{board_shown, ports_shown, ports_with, told}
 use Rattle.flat_guest.specs.Guest.{Guest, Wants, WantsFrom, unwritten}
-use Rattle.flat_guest.specs.Savable.{IsSavable, IsSmallAct}
+use Rattle.flat_guest.specs.Savable.{IsSavable, IsSizedPort, IsSmallAct}
 use Rattle.flat_guest.specs.Sound.{IsSound}
 use Rattle.flat_guest.specs.Start.{start_of_harts, started, timer_restarted}
 use Rattle.flat_guest.specs.Steps.{FlatStep, board_after, guest_after, memory_after, port_after, port_reply, ports_after}
@@ -74,6 +68,10 @@ of_memory_op op small = tt
 of_port_op : (op : Op) → IsSmallOp op → port_kept.IsSmallOp op
 of_port_op (Op.Write at piece) small = small
 of_port_op op small = tt
+
+-- a port of a kind is one of its own
+own_port : (kind : DeviceKind) (p : PortState) → port_kept.IsKept kind p → IsSizedPort p
+own_port kind p is = subst (λ (k : DeviceKind). port_kept.IsKept k p) (sym is.kind_is) is
 
 of_board_op : (op : Op) → IsSmallOp op → board_kept.IsSmallOp op
 of_board_op (Op.Board act) small = small
@@ -233,13 +231,14 @@ module _ (pages harts : ℕ) (g : Guest) (event : Event) (e : Entry) (h : Guest)
   board_on PlaceId.Out = is.board
 
   port_on : (k : ℕ) (o : Option PortState) → slice_get g.ports k ≡ o
-      → All (port_kept.IsKept Block) (port_after o g.ports k e.actor e.op)
+      → All IsSizedPort (port_after o g.ports k e.actor e.op)
   port_on k None there = is.ports
   port_on k (Some p) there =
-      All-set (port_kept.IsKept Block) g.ports k (port_acts.touch p e.actor e.op).1
-      (port.touch_stays Block p e.actor e.op (of_port_op e.op small) (get_all (port_kept.IsKept Block) g.ports k p there is.ports)) is.ports
+      All-set IsSizedPort g.ports k (port_acts.touch p e.actor e.op).1
+      (own_port p.kind (port_acts.touch p e.actor e.op).1
+      (port.touch_stays p.kind p e.actor e.op (of_port_op e.op small) (get_all IsSizedPort g.ports k p there is.ports))) is.ports
 
-  ports_on : (place : PlaceId) → All (port_kept.IsKept Block) (ports_after place g.ports e.actor e.op)
+  ports_on : (place : PlaceId) → All IsSizedPort (ports_after place g.ports e.actor e.op)
   ports_on (PlaceId.Page i) = is.ports
   ports_on PlaceId.Board = is.ports
   ports_on (PlaceId.Port k) = port_on k (slice_get g.ports k) refl
@@ -264,7 +263,7 @@ module _ (pages harts : ℕ) (g : Guest) (event : Event) (e : Entry) (h : Guest)
   port_replies (Some p) k there other replies =
       of_port size p e.actor e.op e.reply other replies fitting
       (subst (λ (r : Reply). port_kept.IsSmallReply r) (sym replies)
-      (port.touch_small Block p e.actor e.op (get_all (port_kept.IsKept Block) g.ports k p there is.ports)))
+      (port.touch_small p.kind p e.actor e.op (get_all IsSizedPort g.ports k p there is.ports)))
 
   place_replies : (place : PlaceId) → is_port_op e.op ≡ false → is_host_op e.op ≡ false
       → e.reply ≡ reply_at place g.memory g.board g.ports e.actor e.op Nothing → IsReply size e.op e.reply
@@ -327,22 +326,10 @@ module _ (pages harts : ℕ) (g : Guest) (event : Event) (e : Entry) (h : Guest)
 
 -- ---- a start
 
-feature_small : (has : Bool) (f : Feature) → feature_mask f < 2 ^ 64 → feature_if has f < 2 ^ 64
-feature_small true f small = small
-feature_small false f small = omega arith
-
-offered_small : (d : NewDrive) → offered d < 2 ^ 64
-offered_small d =
-    or_lt 64 (feature_if d.is_read_only feature.BlockReadOnly) (feature_if d.offers_flush feature.BlockFlush)
-    (feature_small d.is_read_only feature.BlockReadOnly (omega arith)) (feature_small d.offers_flush feature.BlockFlush (omega arith))
-
-drive_kept : (d : NewDrive) → port_kept.IsKept Block (block_port d)
-drive_kept d = port.new_stays Block (offered d) (capacity d.sectors) (offered_small d) (all_bytes 8 d.sectors)
-
-start_ports : (all : List NewDevice) → All (port_kept.IsKept Block) (map port_at_start all)
-start_ports [] = All-nil (port_kept.IsKept Block)
-start_ports (kinds.Block d ∷ others) =
-    All-cons (port_kept.IsKept Block) (block_port d) (map port_at_start others) (drive_kept d) (start_ports others)
+start_ports : (all : List NewDevice) → All IsSizedPort (map port_at_start all)
+start_ports [] = All-nil IsSizedPort
+start_ports (what ∷ others) =
+    All-cons IsSizedPort (port_at_start what) (map port_at_start others) (port_start_kept what) (start_ports others)
 
 starts_kept : (harts mib pages : ℕ) → mib ≤ 1024 → All (λ (r : Regs). IsKept (page_size * pages) (fresh r)) (start_of_harts harts mib)
 starts_kept harts mib pages few =
@@ -402,19 +389,20 @@ savable_drained pages harts g is = record {
 }
 
 bytes_kept : (k : ℕ) (bytes : List ℕ) (ports : List PortState) (o : Option PortState) → All IsByte bytes → slice_get ports k ≡ o
-    → All (port_kept.IsKept Block) ports → All (port_kept.IsKept Block) (ports_shown o ports k bytes)
+    → All IsSizedPort ports → All IsSizedPort (ports_shown o ports k bytes)
 bytes_kept k bytes ports None small there all = all
 bytes_kept k bytes ports (Some p) small there all =
-    All-set (port_kept.IsKept Block) ports k (port_acts.configured p bytes)
-    (port.configured_stays Block p bytes small (get_all (port_kept.IsKept Block) ports k p there all)) all
+    All-set IsSizedPort ports k (port_acts.configured p bytes)
+    (own_port p.kind (port_acts.configured p bytes)
+    (port.configured_stays p.kind p bytes small (get_all IsSizedPort ports k p there all))) all
 
 -- what a change shows are bytes
 abbrev pub AreShown : Option (List ℕ) → Type 0
 AreShown None = Unit {0}
 AreShown (Some bytes) = All IsByte bytes
 
-shown_kept : (shown : Option (List ℕ)) (k : ℕ) (ports : List PortState) → AreShown shown → All (port_kept.IsKept Block) ports
-    → All (port_kept.IsKept Block) (ports_with shown ports k)
+shown_kept : (shown : Option (List ℕ)) (k : ℕ) (ports : List PortState) → AreShown shown → All IsSizedPort ports
+    → All IsSizedPort (ports_with shown ports k)
 shown_kept None k ports small all = all
 shown_kept (Some bytes) k ports small all = bytes_kept k bytes ports (slice_get ports k) small refl all
 

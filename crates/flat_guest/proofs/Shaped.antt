@@ -35,7 +35,7 @@ use Rattle.hart_trace.proofs.Traces.{leads_start, some_hart, wants_only}
 use Rattle.guest_devices.specs.declared.change.DeviceChange.{DeviceChange}
 use Rattle.guest_devices.specs.declared.new_device.NewDevice.{NewDevice}
 use Rattle.flat_guest.specs.Body.{out_reply, reply_at}
-use Rattle.flat_guest.specs.Changes.{board_shown, ports_shown, ports_with, reset_guest, told}
+use Rattle.flat_guest.specs.Changes.{board_shown, reset_guest, told}
 use Rattle.flat_guest.specs.Guest.{Guest, Wants, WantsFrom, unwritten}
 use Rattle.flat_guest.specs.Sound.{IsSound}
 use Rattle.flat_guest.specs.Start.{start_of_harts, started, timer_restarted}
@@ -44,10 +44,11 @@ use Rattle.flat_guest.proofs.Lists.{get_lt}
 use Rattle.flat_guest.proofs.Soundness.{fit, hart_port_by, replied, same_hart, wants_from}
 use Rattle.guest_memory.proofs.Wholes.{booted_whole, touch_ram, touch_whole}
 use Rattle.board_table.proofs.Lengths.{board_long, drained_long, new_long, raised_long}
-use Rattle.port_table.proofs.KindStays.{touch_same}
+use Rattle.flat_guest.proofs.SameKinds.{ports_same, shown_kinds}
 use Rattle.hart_trace.specs.Kept as hart
 use Rattle.hart_trace.proofs.Shapes.{hart_shaped, start_shaped, stopped_shaped}
-use Rattle.flat_guest.specs.Shaped.{IsShaped, kinds_at_start, port_kinds}
+use Rattle.flat_guest.specs.Shaped.{IsShaped, kinds_at_start}
+use Rattle.flat_guest.specs.Sound.{port_kinds}
 use Rattle.flat_guest.specs.Steps.{Makes}
 use Rattle.flat_guest.proofs.Soundness.{sound_next}
 
@@ -57,16 +58,6 @@ get_all P (y ∷ xs) zero x is all =
     let same : y ≡ x = cc in
     subst P same (All-head P y xs all)
 get_all P (y ∷ xs) (suc k) x is all = get_all P xs k x is (All-tail P y xs all)
-
--- a port of its kind in the place of another
-kinds_set : (ports : List PortState) (k : ℕ) (p q : PortState) → slice_get ports k ≡ Some p → q.kind ≡ p.kind
-    → port_kinds (slice_set ports k q) ≡ port_kinds ports
-kinds_set [] k p q there same = cc
-kinds_set (first ∷ ports) zero p q there same =
-    let is : first ≡ p = cc in
-    ap (λ (kind : DeviceKind). kind ∷ port_kinds ports) (same ∙ sym (ap (λ (port : PortState). port.kind) is))
-kinds_set (first ∷ ports) (suc k) p q there same =
-    ap (λ (l : List DeviceKind). first.kind ∷ l) (kinds_set ports k p q there same)
 
 -- ---- to a load-reserved no place but RAM replies a word
 
@@ -119,15 +110,8 @@ module _ (pages harts : ℕ) (kinds : List DeviceKind) (g : Guest) (event : Even
   board_on (PlaceId.Port k) = is.board
   board_on PlaceId.Out = is.board
 
-  port_on : (k : ℕ) (o : Option PortState) → slice_get g.ports k ≡ o → port_kinds (port_after o g.ports k e.actor e.op) ≡ kinds
-  port_on k None there = is.ports
-  port_on k (Some p) there = kinds_set g.ports k p (port_acts.touch p e.actor e.op).1 there (touch_same p e.actor e.op) ∙ is.ports
-
   ports_on : (place : PlaceId) → port_kinds (ports_after place g.ports e.actor e.op) ≡ kinds
-  ports_on (PlaceId.Page i) = is.ports
-  ports_on PlaceId.Board = is.ports
-  ports_on (PlaceId.Port k) = port_on k (slice_get g.ports k) refl
-  ports_on PlaceId.Out = is.ports
+  ports_on place = ports_same place g.ports e.actor e.op ∙ is.ports
 
   place_replies : (place : PlaceId) → hart.IsRamReply size e.op (reply_at place g.memory g.board g.ports e.actor e.op Nothing)
   place_replies (PlaceId.Page i) =
@@ -257,15 +241,6 @@ shaped_drained pages harts kinds g is = record {
   many = is.many;
   each = λ k start now there leads. is.each k start now there leads;
 }
-
-bytes_kinds : (k : ℕ) (bytes : List ℕ) (ports : List PortState) (o : Option PortState) → slice_get ports k ≡ o
-    → port_kinds (ports_shown o ports k bytes) ≡ port_kinds ports
-bytes_kinds k bytes ports None there = refl
-bytes_kinds k bytes ports (Some p) there = kinds_set ports k p (port_acts.configured p bytes) there refl
-
-shown_kinds : (shown : Option (List ℕ)) (k : ℕ) (ports : List PortState) → port_kinds (ports_with shown ports k) ≡ port_kinds ports
-shown_kinds None k ports = refl
-shown_kinds (Some bytes) k ports = bytes_kinds k bytes ports (slice_get ports k) refl
 
 shown_long : (shown : Option (List ℕ)) (harts k : ℕ) (b : Board) → board_kept.IsLong harts b → board_kept.IsLong harts (board_shown shown b k)
 shown_long None harts k b is = is

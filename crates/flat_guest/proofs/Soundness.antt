@@ -26,7 +26,7 @@ use Rattle.timer_trace.proofs.Traces as timer_traces
 use Rattle.guest_memory.specs.Boot.{Loads, boot_memory}
 use Rattle.guest_devices.specs.declared.change.DeviceChange.{DeviceChange}
 use Rattle.guest_devices.specs.declared.new_device.NewDevice.{NewDevice}
-use Rattle.guest_devices.specs.Devices.{FitsNew, FlatDevice, device_calls, device_times}
+use Rattle.guest_devices.specs.Devices.{FitsNew, FlatDevice, device_calls, left_times}
 use Rattle.guest_devices.specs.Kinds.{FitsChange}
 use Rattle.guest_devices.proofs.Soundness.{some_want as device_want, want_own}
 use Rattle.flat_guest.specs.Changes.{reset_guest, told}
@@ -100,7 +100,7 @@ device_port : (g : Guest) (k : ℕ) (op : Op) (o : Option FlatDevice) → slice_
     → WantsOf o op → IsPortThere (length g.ports) op
 device_port g k op None is sound wants = absurd wants
 device_port g k op (Some d) is sound wants =
-    asked_there (length g.ports) k (device_times d) (device_calls d) op
+    asked_there (length g.ports) k (left_times (sound.devices_on.each k d is).0) (device_calls d) op
     (ap (λ (n : ℕ). nat_lt k n) sound.devices_on.as_many ∙ get_lt g.devices k d is)
     (want_own k (whole_pages g.memory) d op (sound.devices_on.each k d is) wants)
 

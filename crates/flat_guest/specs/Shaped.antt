@@ -6,19 +6,15 @@ use Rattle.guest_memory.specs.Ram.{page_size}
 use Rattle.guest_memory.specs.Reserved.{hart_limit}
 use Rattle.board_table.specs.Kept.{IsLong}
 use Rattle.port_table.specs.declared.kind.DeviceKind.{DeviceKind}
-use Rattle.port_table.specs.declared.state.PortState.{PortState}
 use Rattle.rv_supervisor.specs.declared.regs.Regs.{Regs}
 use Rattle.hart_trace.specs.Kept as hart
 use Rattle.hart_trace.specs.States.{Hart, LeadsTo}
 use Rattle.guest_devices.specs.declared.new_device.NewDevice.{NewDevice}
 use Rattle.guest_devices.specs.Ports.{port_at_start}
 use Rattle.flat_guest.specs.Guest.{Guest}
+use Rattle.flat_guest.specs.Sound.{port_kinds}
 
--- the kinds of ports, by their numbers
-abbrev pub port_kinds : List PortState → List DeviceKind
-port_kinds ports = map (λ (p : PortState). p.kind) ports
-
--- and those that a guest starts with
+-- the kinds of ports that a guest starts with
 abbrev pub kinds_at_start : List NewDevice → List DeviceKind
 kinds_at_start devices = port_kinds (map port_at_start devices)
 

@@ -40,6 +40,7 @@ use Rattle.guest_memory.specs.Boot.{Loads, initrd_start}
 use Rattle.devtree.specs.declared.machine.InitrdPlace.{InitrdPlace}
 use Rattle.devtree.specs.Machine.{tree_bytes}
 use Rattle.response_form.specs.Responses.{Response}
+use Rattle.rate_gate.specs.Gate.{Buckets}
 use Rattle.guest_devices.specs.declared.device.Device.{Device}
 use Rattle.guest_devices.specs.declared.new_device.NewDevice.{NewDevice}
 use Rattle.guest_devices.specs.declared.new_device.NewDevice.TheVariants as kinds
@@ -189,13 +190,18 @@ abbrev pub is_writeback : CacheType → Bool
 is_writeback cache.Unsafe = false
 is_writeback cache.Writeback = true
 
--- what a start makes of a drive, by the file under its name: a block device
+-- a gate that lets all pass
+abbrev pub no_limits : Buckets
+no_limits = record { bandwidth = None; ops = None }
+
+-- what a start makes of a drive, by the file under its name: a block device without limits
 abbrev pub drive_from : Saved → Drive → NewDevice
 drive_from saved d = kinds.Block (record {
   drive_id = id_bytes d.drive_id;
   sectors = sectors_of (get saved d.path_on_host);
   is_read_only = d.is_read_only;
   offers_flush = is_writeback d.cache_type;
+  limits = no_limits;
 })
 
 -- the devices by their numbers: one for each drive, the root drive first

@@ -1,5 +1,5 @@
 -- The guest that goes on from a snapshot is never stuck.
-use Rattle.std.proofs.Common.{◌≡◌, ℕ, zero, suc, ◌+◌, ◌*◌, ◌/◌, ◌^◌, ◌≤◌, Bool, true, false, refl, sym, subst, ◌∙◌, List, [], ◌∷◌, length, Option, Some, slice_get, map, arith}
+use Rattle.std.proofs.Common.{◌≡◌, ℕ, zero, suc, ◌+◌, ◌*◌, ◌/◌, ◌^◌, ◌≤◌, Bool, true, false, refl, sym, ap, subst, ◌∙◌, List, [], ◌∷◌, length, Option, Some, slice_get, map, arith}
 use Rattle.std.specs.Prelude.{IsTrue}
 use Rattle.std.proofs.lemmas.Bool.{and_parts}
 use Rattle.std.proofs.lemmas.List.{length-map}
@@ -12,13 +12,14 @@ use Rattle.hart_trace.specs.Traces.{Continues, IsPrefix, opening}
 use Rattle.hart_trace.specs.States.{fresh}
 use Rattle.hart_trace.proofs.Traces.{any_reply, hart_continues, hart_prefix, leads_start}
 use Rattle.guest_memory.specs.Ram.{page_size}
+use Rattle.port_table.specs.declared.kind.DeviceKind.{DeviceKind}
 use Rattle.guest_devices.specs.declared.device.Device.{Device}
 use Rattle.guest_devices.specs.Devices.{FlatDevice}
 use Rattle.guest_devices.specs.Kept.{device_port}
 use Rattle.guest_devices.specs.Sound.{IsSoundDevice}
 use Rattle.guest_devices.proofs.Placed.{kept_bounded, kept_state}
 use Rattle.guest_devices.proofs.Soundness.{resumed_sound}
-use Rattle.flat_guest.specs.Sound.{AreSoundDevices, IsSound}
+use Rattle.flat_guest.specs.Sound.{AreSoundDevices, IsSound, device_kinds}
 use Rattle.timer_trace.specs.States.{new_timer}
 use Rattle.timer_trace.proofs.Traces as timer_traces
 use Rattle.snap_harts.specs.declared.hart.SavedHart.{SavedHart}
@@ -26,7 +27,8 @@ use Rattle.snap_harts.specs.declared.hart.HartPlace.{HartPlace}
 use Rattle.snap_harts.specs.declared.hart.HartPlace.TheVariants.{Begin, BeginWaiting, Idle, IdleWaiting, Access}
 use Rattle.snap_state.specs.declared.copy.StateCopy.{StateCopy}
 use Rattle.snap_harts.specs.Copy.{regs_of, turn_of}
-use Rattle.snap_state.specs.Valid.{are_devices, is_device, is_valid}
+use Rattle.snap_state.specs.Valid.{are_devices, is_device, is_valid, kind_of}
+use Rattle.snap_state.proofs.HasDevices.{devices_are, has_parts, kinds_there}
 use Rattle.snap_state.proofs.Rules.{attached, device_of, few_pages, rules_of}
 use Rattle.flat_snapshot.specs.Carried.{carried_guest, hart_steps, resumed, steps_at}
 
@@ -81,14 +83,20 @@ devices_on pages port (it ∷ kept) few all (suc k) d is =
     let next : suc port + k ≡ port + suc k = omega arith in
     subst (λ (n : ℕ). IsSoundDevice n pages d) next (devices_on pages (suc port) kept few parts.1 k d is)
 
+resumed_kinds : (kept : List Device) → device_kinds (map resumed kept) ≡ map kind_of kept
+resumed_kinds [] = refl
+resumed_kinds (it ∷ kept) = ap (λ (l : List DeviceKind). kind_of it ∷ l) (resumed_kinds kept)
+
 pub devices_sound : (copy : StateCopy) (pages : ℕ) → IsTrue (is_valid copy) → copy.pages ≡ pages
     → AreSoundDevices pages copy.ports (map resumed copy.devices)
 devices_sound copy pages valid count =
     let rules = rules_of copy valid in
     let on = attached copy rules in
+    let has = has_parts copy rules.devices in
     let few : copy.pages ≤ 2 ^ 20 = omega (arith, few_pages copy rules) in
     record {
       as_many = on.ports ∙ sym on.devices ∙ sym (length-map copy.devices resumed);
+      kinds = kinds_there copy has ∙ sym (devices_are copy has) ∙ sym (resumed_kinds copy.devices);
       each = λ k d is.
           subst (λ (n : ℕ). IsSoundDevice k n d) count
           (subst (λ (n : ℕ). IsSoundDevice n copy.pages d) (omega arith) (devices_on copy.pages 0 copy.devices few on.each k d is));

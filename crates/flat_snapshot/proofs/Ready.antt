@@ -22,7 +22,8 @@ use Rattle.hart_trace.specs.Kept.{IsAsking, IsHeld, IsShaped}
 use Rattle.hart_trace.specs.States.{Hart, LeadsTo}
 use Rattle.hart_trace.specs.Traces.{executes}
 use Rattle.guest_devices.specs.declared.device.Device.{Device}
-use Rattle.guest_devices.specs.Devices.{DeviceLeads, FlatDevice}
+use Rattle.guest_devices.specs.Devices.{DeviceLeads, DeviceLeft, FlatDevice}
+use Rattle.guest_devices.specs.Ports.{number_of}
 use Rattle.guest_devices.specs.Kept.{device_left, device_pages, device_port, is_kept}
 use Rattle.guest_devices.specs.Sound.{IsSoundDevice}
 use Rattle.guest_devices.proofs.Follows.{one_left}
@@ -30,7 +31,7 @@ use Rattle.guest_devices.proofs.Placed.{bounded_kept, placed_alike}
 use Rattle.guest_devices.proofs.Soundness.{copied}
 use Rattle.flat_guest.specs.Changes.{reset_guest}
 use Rattle.flat_guest.specs.Guest.{Guest}
-use Rattle.flat_guest.specs.Sound.{IsSound}
+use Rattle.flat_guest.specs.Sound.{IsSound, device_kinds}
 use Rattle.flat_guest.proofs.Devices.{reset_many}
 use Rattle.flat_guest.proofs.Shaped.{shaped_reset}
 use Rattle.snap_harts.specs.declared.hart.SavedHart.{SavedHart}
@@ -39,7 +40,7 @@ use Rattle.snap_harts.proofs.Harts.{hart_back}
 use Rattle.snap_state.specs.declared.copy.StateCopy.{StateCopy}
 use Rattle.snap_state.specs.Copy.{saved_board}
 use Rattle.snap_state.proofs.HasDevices.{has_kinds}
-use Rattle.snap_state.specs.Valid.{are_devices, asks, has_bits, has_devices, has_machine, is_aligned, is_before, is_board, is_counted, is_device, is_granule, is_hart, is_machine, is_placed, is_reserved, is_rising, is_valid, rises_from}
+use Rattle.snap_state.specs.Valid.{are_devices, asks, has_bits, has_devices, has_machine, is_aligned, is_before, is_board, is_counted, is_device, is_granule, is_hart, is_machine, is_placed, is_reserved, is_rising, is_valid, kind_of, rises_from}
 use Rattle.snap_state.proofs.Rules.{rules_hold}
 use Rattle.flat_snapshot.specs.Copies.{AreHarts, AreKept, IsCopyOf, copy_of, reservations_from}
 use Rattle.flat_snapshot.specs.Ready.{IsReady}
@@ -200,11 +201,14 @@ devices_valid pages port (it ∷ kept) (d ∷ devices) few are each =
     let on : port + suc i ≡ suc port + i = omega arith in
     subst (λ (n : ℕ). IsSoundDevice n pages next) on (each (suc i) next there)))
 
-many_kept : (kept : List Device) (devices : List FlatDevice) → AreKept kept devices → length kept ≡ length devices
-many_kept [] [] are = refl
-many_kept [] (d ∷ devices) are = absurd are
-many_kept (it ∷ kept) [] are = absurd are
-many_kept (it ∷ kept) (d ∷ devices) are = ap suc (many_kept kept devices are.2)
+-- what is kept of a device is of its kind
+kept_kinds : (kept : List Device) (devices : List FlatDevice) → AreKept kept devices → map kind_of kept ≡ device_kinds devices
+kept_kinds [] [] are = refl
+kept_kinds [] (d ∷ devices) are = absurd are
+kept_kinds (it ∷ kept) [] are = absurd are
+kept_kinds (it ∷ kept) (d ∷ devices) are =
+    let same : kind_of it ≡ number_of d.kind = ap (λ (x : DeviceLeft). number_of x.kind) are.0.2 in
+    λ i. same i ∷ kept_kinds kept devices are.2 i
 
 -- ---- the board, and the machine
 
@@ -252,8 +256,7 @@ module _ (config : Config) (g : Guest) (sound : IsSound g) (is : IsReady config 
 
   devices_are : has_devices copy ≡ true
   devices_are =
-      let count = is.devices in
-      has_kinds copy is.shaped.ports (many_kept kept g.devices tell ∙ count)
+      has_kinds copy is.shaped.ports (kept_kinds kept g.devices tell ∙ sym sound.devices_on.kinds ∙ is.shaped.ports)
       (devices_valid copy.pages 0 kept g.devices few_pages tell
       (λ i d there.
       let here : i ≡ 0 + i = omega arith in

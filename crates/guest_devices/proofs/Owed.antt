@@ -5,23 +5,33 @@ use Rattle.queue_device.specs.declared.lanes.Rounds.{Rounds}
 use Rattle.queue_device.specs.declared.device.QueueRounds.{QueueRounds}
 use Rattle.queue_device.specs.declared.phase.Phase.{Phase}
 use Rattle.block_device.specs.declared.data.BlockData.{BlockData}
-use Rattle.block_device.specs.declared.kind.BlockChange.TheVariants.{Sectors}
+use Rattle.block_device.specs.declared.kind.BlockChange.TheVariants.{Limits, Sectors}
 use Rattle.block_device.specs.declared.kind.BlockKind.{BlockKind}
 use Rattle.block_device.specs.Working.{Working}
 use Rattle.block_device.proofs.Owes.{owes}
 use Rattle.block_device.proofs.Resuming.{resumes}
+use Rattle.balloon_device.specs.declared.kind.BalloonChange.TheVariants.{Interval}
+use Rattle.balloon_device.specs.declared.kind.Stage.{Stage}
+use Rattle.balloon_device.specs.Balloon as balloons
+use Rattle.balloon_device.specs.Work.{Kept}
+use Rattle.balloon_device.proofs.Balloon as balloon
+use Rattle.balloon_device.proofs.Resuming as balloon_resuming
 use Rattle.guest_devices.specs.declared.change.DeviceChange.{DeviceChange}
 use Rattle.guest_devices.specs.declared.change.DeviceChange.TheVariants as changes
 use Rattle.guest_devices.specs.declared.device.Device.{Device}
 use Rattle.guest_devices.specs.declared.device.Device.TheVariants as device
 use Rattle.guest_devices.specs.Devices.{left_reset}
 use Rattle.guest_devices.specs.Kept.{device_left, is_kept, kept_reset}
-use Rattle.guest_devices.specs.Kinds.{Block, FitsChange, Kind, change_for}
+use Rattle.guest_devices.specs.Kinds.{Balloon, Block, FitsChange, Kind, change_for}
 use Rattle.guest_devices.specs.Sound.{KindLaws, LeavesFine}
 
--- another size of its disk
+-- ---- a block device
+
+-- another size of its disk, or other limits
 block_changed : (change : DeviceChange) → FitsChange change → LeavesFine Block (change_for change Block)
 block_changed (changes.Block (Sectors sectors)) size = λ e was. (size, size)
+block_changed (changes.Block (Limits bandwidth ops)) fits = λ e was. (was, was)
+block_changed (changes.Balloon c) fits = tt
 
 -- as its code keeps it
 abbrev block_with : Phase → Rounds → BlockData → Working → QueueRounds BlockKind
@@ -38,12 +48,38 @@ block_laws = record {
   held = λ p r e g is. (device.Block (block_with p r e g), refl);
 }
 
+-- ---- a balloon
+
+-- another interval
+balloon_changed : (change : DeviceChange) → FitsChange change → LeavesFine Balloon (change_for change Balloon)
+balloon_changed (changes.Balloon (Interval seconds)) fits = λ e was. (tt, tt)
+balloon_changed (changes.Block c) fits = tt
+
+abbrev balloon_with : Phase → Rounds → balloons.Balloon → Stage → QueueRounds Kept
+balloon_with p r e g = record { rounds = r; kind = record { own = e; stage = g }; phase = p }
+
+balloon_laws : KindLaws Balloon
+balloon_laws = record {
+  confines = balloon.owes;
+  resumes = balloon_resuming.resumes;
+  changed = balloon_changed;
+  reset = tt;
+  tested = λ e is. tt;
+  tests = λ e fine. refl;
+  held = λ p r e g is. (device.Balloon (balloon_with p r e g), refl);
+}
+
+-- ---- each
+
 pub laws : (k : Kind) → KindLaws k
 laws Block = block_laws
+laws Balloon = balloon_laws
 
 -- what is kept of a device behind a Reset may be kept, and tells what it has still to do then
 pub reset_kept : (it : Device) → is_kept it ≡ true → is_kept (kept_reset it) ≡ true
 reset_kept (device.Block b) is = is
+reset_kept (device.Balloon b) is = is
 
 pub reset_left : (it : Device) → device_left (kept_reset it) ≡ left_reset (device_left it)
 reset_left (device.Block b) = refl
+reset_left (device.Balloon b) = refl

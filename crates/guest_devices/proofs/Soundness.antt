@@ -17,8 +17,8 @@ use Rattle.guest_devices.specs.declared.change.DeviceChange.{DeviceChange}
 use Rattle.guest_devices.specs.declared.device.Device.{Device}
 use Rattle.guest_devices.specs.declared.new_device.NewDevice.{NewDevice}
 use Rattle.guest_devices.specs.Devices.{DataOf, DeviceLeads, DeviceLeft, DeviceWants, FitsNew, FlatDevice, device_at, device_calls}
-use Rattle.guest_devices.specs.Devices.{device_changed, device_did, device_next, device_reset, device_rules, device_times, device_told}
-use Rattle.guest_devices.specs.Devices.{device_wants, left_of, left_reset, left_told, new_device, new_left}
+use Rattle.guest_devices.specs.Devices.{device_changed, device_did, device_next, device_reset, device_rules, device_told}
+use Rattle.guest_devices.specs.Devices.{device_wants, left_of, left_reset, left_times, left_told, new_device, new_left}
 use Rattle.guest_devices.specs.Kept.{IsBounded, IsBoundedDevice, KeptDevice, device_left, device_pages, device_port, is_device_state}
 use Rattle.guest_devices.specs.Kept.{is_state_kept, kept_of, left_by}
 use Rattle.guest_devices.specs.Kinds.{ChangeOf, FitsChange, IsFineOf, calls_of, change_for, changing_of, hand_of, is_work_of}
@@ -88,15 +88,15 @@ module _ (port pages : ℕ) where
       }
 
   asks_keeps : (left : DeviceLeft) → KeepsToItsOwn port pages left
-      → IsAskedBy (times_of left.kind) (calls_of left.kind) port (device_wants left)
+      → IsAskedBy (left_times left) (calls_of left.kind) port (device_wants left)
   asks_keeps left own =
       let k = left.kind in
       (act_confined (service_of k) (changing_of k) (times_of k) (calls_of k) port pages (laws k).confines left.left own.stays).1
 
   own_keeps : (d : FlatDevice) (left : DeviceLeft) → DeviceLeads d left → KeepsToItsOwn port pages left
-      → IsAskedBy (device_times d) (device_calls d) port (device_wants left)
+      → IsAskedBy (left_times left) (device_calls d) port (device_wants left)
   own_keeps d left l own =
-      subst (λ (x : DeviceLeft). IsAskedBy (times_of x.kind) (calls_of x.kind) port (device_wants left)) l.2
+      subst (λ (x : DeviceLeft). IsAskedBy (left_times left) (calls_of x.kind) port (device_wants left)) l.2
       (asks_keeps left own)
 
   inside_keeps : (left : DeviceLeft) → pages < 2 ^ 32 → KeepsToItsOwn port pages left → IsInside pages (device_wants left)
@@ -196,10 +196,10 @@ pub some_want : (port pages : ℕ) (d : FlatDevice) → IsSoundDevice port pages
 some_want port pages d sound =
     (device_wants sound.0, left_wants d sound.0 (device_wants sound.0) sound.1 refl)
 
-pub want_own : (port pages : ℕ) (d : FlatDevice) (op : Op) → IsSoundDevice port pages d → DeviceWants d op
-    → IsAskedBy (device_times d) (device_calls d) port op
+pub want_own : (port pages : ℕ) (d : FlatDevice) (op : Op) (sound : IsSoundDevice port pages d) → DeviceWants d op
+    → IsAskedBy (left_times sound.0) (device_calls d) port op
 want_own port pages d op sound want =
-    subst (λ (o : Op). IsAskedBy (device_times d) (device_calls d) port o) (sym (wants_only d sound.0 op sound.1 want))
+    subst (λ (o : Op). IsAskedBy (left_times sound.0) (device_calls d) port o) (sym (wants_only d sound.0 op sound.1 want))
     (own_keeps port pages d sound.0 sound.1 sound.2)
 
 pub want_inside : (port pages : ℕ) (d : FlatDevice) (op : Op) → pages < 2 ^ 32 → IsSoundDevice port pages d
@@ -211,4 +211,4 @@ want_inside port pages d op few sound want =
 pub want_host : (port pages : ℕ) (d : FlatDevice) (op : Op) → IsSoundDevice port pages d → DeviceWants d op
     → AsksOnly (device_calls d) op
 want_host port pages d op sound want =
-    asks_only (device_times d) (device_calls d) port op (want_own port pages d op sound want)
+    asks_only (left_times sound.0) (device_calls d) port op (want_own port pages d op sound want)

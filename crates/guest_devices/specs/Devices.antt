@@ -13,10 +13,11 @@ use Rattle.queue_device.specs.Lanes.{new_rounds}
 use Rattle.queue_device.specs.Left.{queued}
 use Rattle.queue_device.specs.Rounds.{queue_rules}
 use Rattle.queue_device.specs.Service.{Queued}
+use Rattle.queue_device.specs.Timing.{is_timed_left}
 use Rattle.guest_devices.specs.declared.change.DeviceChange.{DeviceChange}
 use Rattle.guest_devices.specs.declared.new_device.NewDevice.{NewDevice}
 use Rattle.guest_devices.specs.Kinds.{Kind, ChangeOf, IsFineOf, OwnOf, calls_of, change_for, changing_of, kind_at_start, own_at_start}
-use Rattle.guest_devices.specs.Kinds.{reset_for, service_of, times_of}
+use Rattle.guest_devices.specs.Kinds.{reset_for, service_of}
 
 -- the data of a device of this kind, and what it does
 abbrev pub DataOf : Kind → Type 0
@@ -113,6 +114,6 @@ FitsNew what = IsFineOf (kind_at_start what) (own_at_start what)
 abbrev pub device_calls : FlatDevice → OutOp → Bool
 device_calls d = calls_of d.kind
 
--- it has limits that need guest time
-abbrev pub device_times : FlatDevice → Bool
-device_times d = times_of d.kind
+-- it wants guest time: a chain waits that is due, and its kind times it by the data of that moment
+abbrev pub left_times : DeviceLeft → Bool
+left_times d = is_timed_left (service_of d.kind) d.left

@@ -1,17 +1,23 @@
 -- The kinds of devices that a guest may have: each table has a line a kind.
-use Rattle.std.specs.Prelude.{ℕ, ◌<◌, ◌^◌, nat_lt, Bool, false, Option, Some, None}
+use Rattle.std.specs.Prelude.{ℕ, ◌<◌, ◌^◌, nat_lt, Bool, true, Option, Some, None}
 use Rattle.vm_types.specs.declared.op.OutOp.{OutOp}
 use Rattle.device_trace.specs.Acts.{is_disk_call}
 use Rattle.device_trace.specs.Traces.{Changing, setting}
+use Rattle.token_bucket.specs.Kept.{Kept}
 use Rattle.queue_device.specs.declared.phase.Work.{Work}
 use Rattle.queue_device.specs.Left.{Hand}
 use Rattle.queue_device.specs.Service.{Service}
 use Rattle.block_device.specs.declared.data.BlockData.{BlockData}
 use Rattle.block_device.specs.declared.kind.BlockChange.{BlockChange}
-use Rattle.block_device.specs.declared.kind.BlockChange.TheVariants.{Sectors}
+use Rattle.block_device.specs.declared.kind.BlockChange.TheVariants.{Limits, Sectors}
 use Rattle.block_device.specs.Block.{block, changed}
 use Rattle.block_device.specs.Kept as block_kept
 use Rattle.block_device.specs.Working as block_working
+use Rattle.balloon_device.specs.declared.kind.BalloonChange.{BalloonChange}
+use Rattle.balloon_device.specs.declared.kind.Stage.{Stage}
+use Rattle.balloon_device.specs.Balloon as balloons
+use Rattle.balloon_device.specs.Statistics.{no_statistics}
+use Rattle.balloon_device.specs.Work as balloon_work
 use Rattle.guest_devices.specs.declared.change.DeviceChange.{DeviceChange}
 use Rattle.guest_devices.specs.declared.change.DeviceChange.TheVariants as changes
 use Rattle.guest_devices.specs.declared.new_device.NewDevice.{NewDevice}
@@ -19,75 +25,99 @@ use Rattle.guest_devices.specs.declared.new_device.NewDevice.TheVariants as star
 
 pub data Kind : Type 0 where
   Block : Kind
+  Balloon : Kind
 
 -- ---- what a device of this kind is
 
 -- its data, beside its rounds
 abbrev pub OwnOf : Kind → Type 0
 OwnOf Block = BlockData
+OwnOf Balloon = balloons.Balloon
 
 -- what is changed of it from outside
 abbrev pub ChangeOf : Kind → Type 0
 ChangeOf Block = BlockChange
+ChangeOf Balloon = BalloonChange
 
 -- what it does with its queues
 abbrev pub service_of : (k : Kind) → Service (OwnOf k)
 service_of Block = block
+service_of Balloon = balloons.balloon
 
 -- what a change makes of it
 abbrev pub changing_of : (k : Kind) → Changing (OwnOf k) (ChangeOf k)
 changing_of Block = setting changed
+changing_of Balloon = setting balloons.changed
 
 -- the calls of its host object
 abbrev pub calls_of : Kind → OutOp → Bool
 calls_of Block = is_disk_call
+calls_of Balloon = balloons.no_call
 
--- it may ask guest time
+-- a chain of it may wait for guest time
 abbrev pub times_of : Kind → Bool
-times_of Block = false
+times_of Block = true
+times_of Balloon = true
 
 -- ---- what it starts with
 
 abbrev pub kind_at_start : NewDevice → Kind
 kind_at_start (starts.Block d) = Block
+kind_at_start (starts.Balloon b) = Balloon
 
 abbrev pub own_at_start : (what : NewDevice) → OwnOf (kind_at_start what)
-own_at_start (starts.Block d) = record { sectors = d.sectors; drive_id = d.drive_id; is_read_only = d.is_read_only }
+own_at_start (starts.Block d) =
+    record { sectors = d.sectors; drive_id = d.drive_id; is_read_only = d.is_read_only; limits = d.limits }
+own_at_start (starts.Balloon w) = record { interval = w.interval; last = 0; statistics = no_statistics }
 
 -- ---- what it is told of
 
 -- the change that this is to a device of its kind; to one of another kind it is none
 abbrev pub change_for : DeviceChange → (k : Kind) → Option (ChangeOf k)
 change_for (changes.Block c) Block = Some c
+change_for (changes.Balloon c) Balloon = Some c
+change_for c k = None
 
 -- the disk of a block device has another size, in sectors of 512 bytes
 abbrev pub sectors_change : ℕ → DeviceChange
 sectors_change sectors = changes.Block (Sectors sectors)
 
--- its numbers fit their fields: a disk has less than 2^64 sectors
+-- and its gate other buckets in place of those that are named
+abbrev pub limits_change : Option (Option Kept) → Option (Option Kept) → DeviceChange
+limits_change bandwidth ops = changes.Block (Limits bandwidth ops)
+
+-- its numbers fit their fields, where data that a kind may have depend on that: a disk has less than 2^64 sectors
 abbrev pub FitsChange : DeviceChange → Type 0
 FitsChange (changes.Block (Sectors sectors)) = sectors < 2 ^ 64
+FitsChange (changes.Block (Limits bandwidth ops)) = Unit {0}
+FitsChange (changes.Balloon c) = Unit {0}
 
 -- the Reset that comes before a create, to the kinds that are told of it
 abbrev pub reset_for : (k : Kind) → Option (ChangeOf k)
 reset_for Block = None
+reset_for Balloon = None
 
 -- ---- what its code keeps
 
 -- where it is in the work that was begun
 abbrev pub StageOf : Kind → Type 0
 StageOf Block = block_working.Working
+StageOf Balloon = Stage
 
 abbrev pub hand_of : (k : Kind) → StageOf k → Hand (OwnOf k)
 hand_of Block = block_working.hand_of
+hand_of Balloon = balloon_work.hand_of
 
 -- it may be there
 abbrev pub is_work_of : (k : Kind) → Work → ℕ → StageOf k → Bool
 is_work_of Block = block_kept.is_work
+is_work_of Balloon = balloon_work.is_work
 
 -- it may have such data, as a fact and as a test
 abbrev pub IsFineOf : (k : Kind) → OwnOf k → Type 0
 IsFineOf Block e = e.sectors < 2 ^ 64
+IsFineOf Balloon e = balloon_work.AnyBalloon e
 
 abbrev pub is_fine_of : (k : Kind) → OwnOf k → Bool
 is_fine_of Block e = nat_lt e.sectors (2 ^ 64)
+is_fine_of Balloon e = true

@@ -1,5 +1,5 @@
 -- The port of a device that has done nothing, by its kind, and what it shows of a change.
-use Rattle.std.specs.Prelude.{ℕ, Bool, if◌then◌else◌, Option, Some, List, bit_or}
+use Rattle.std.specs.Prelude.{ℕ, Bool, if◌then◌else◌, Option, Some, None, List, bit_or}
 use Rattle.le_fields.specs.Fields.{bytes_of}
 use Rattle.port_table.specs.declared.kind.DeviceKind.{DeviceKind}
 use Rattle.port_table.specs.declared.kind.DeviceKind.TheVariants as numbers
@@ -8,13 +8,14 @@ use Rattle.port_table.specs.declared.kind.Feature.TheVariants.{BlockFlush, Block
 use Rattle.port_table.specs.declared.state.PortState.{PortState}
 use Rattle.port_table.specs.Kinds.{feature_mask}
 use Rattle.port_table.specs.Ports.{new_port}
-use Rattle.block_device.specs.declared.kind.BlockChange.TheVariants.{Sectors}
+use Rattle.block_device.specs.declared.kind.BlockChange.TheVariants.{Limits, Sectors}
+use Rattle.balloon_device.specs.Port.{balloon_port}
 use Rattle.guest_devices.specs.declared.change.DeviceChange.{DeviceChange}
 use Rattle.guest_devices.specs.declared.change.DeviceChange.TheVariants as changes
 use Rattle.guest_devices.specs.declared.drive.NewDrive.{NewDrive}
 use Rattle.guest_devices.specs.declared.new_device.NewDevice.{NewDevice}
 use Rattle.guest_devices.specs.declared.new_device.NewDevice.TheVariants as starts
-use Rattle.guest_devices.specs.Kinds.{Block, Kind}
+use Rattle.guest_devices.specs.Kinds.{Balloon, Block, Kind}
 
 -- ---- a block device
 
@@ -37,10 +38,14 @@ block_port d = new_port numbers.Block (offered d) (capacity d.sectors)
 -- which device its port shows (VIRTIO 1.2, 5)
 abbrev pub number_of : Kind → DeviceKind
 number_of Block = numbers.Block
+number_of Balloon = numbers.Balloon
 
 abbrev pub port_at_start : NewDevice → PortState
 port_at_start (starts.Block d) = block_port d
+port_at_start (starts.Balloon b) = balloon_port b
 
 -- the configuration that the port shows from a change on, if it shows the change
 abbrev pub shown_by : DeviceChange → Option (List ℕ)
 shown_by (changes.Block (Sectors sectors)) = Some (capacity sectors)
+shown_by (changes.Block (Limits bandwidth ops)) = None
+shown_by (changes.Balloon c) = None

@@ -17,10 +17,10 @@ abbrev pub HasKept : ℕ → ℕ → DeviceLeft → Type 0
 HasKept port pages d =
     resuming.HasKept (service_of d.kind) (hand_of d.kind) (is_work_of d.kind) (IsFineOf d.kind) (times_of d.kind) port pages d.left
 
--- from here on each act is one of the device at this port, whatever is replied and changed; and in a guest of fewer than 2^32
--- pages none touches a byte outside RAM
+-- from here on each act up to the end of the group is one of the device at this port, whatever is replied and changed; and in a
+-- guest of fewer than 2^32 pages none touches a byte outside RAM
 abbrev pub StaysOwn : ℕ → ℕ → DeviceLeft → Type 0
-StaysOwn port pages d = IsConfined (service_of d.kind) (times_of d.kind) (calls_of d.kind) port pages d.left
+StaysOwn port pages d = IsConfined (service_of d.kind) (calls_of d.kind) port pages d.left
 
 -- The device at this port keeps to its own, and in a guest of at most 2^20 pages kept data tell what is left of it.
 pub record KeepsToItsOwn (port pages : ℕ) (left : DeviceLeft) : Type 0 where

@@ -3,8 +3,6 @@ ghost use Rattle.std.specs.Prelude.{◌≡◌, ◌^◌, true, nat_lt};
 ghost use Rattle.device_trace.specs.States.{changed_at};
 ghost use Rattle.block_device.specs.Block.{block_rules};
 ghost use Rattle.block_device.specs.States.{block_left};
-ghost use Rattle.guest_devices.specs.declared.change.DeviceChange.{DeviceChange};
-ghost use Rattle.guest_devices.specs.declared.change.DeviceChange.TheVariants as changes;
 ghost use Rattle.guest_devices.specs.declared.device.Device.{Device};
 ghost use Rattle.guest_devices.specs.declared.device.Device.TheVariants as device;
 ghost use Rattle.guest_devices.specs.declared.new_device.NewDevice.{NewDevice};
@@ -12,8 +10,9 @@ ghost use Rattle.guest_devices.specs.declared.new_device.NewDevice.TheVariants a
 ghost use Rattle.guest_devices.specs.Devices.{device_changed, device_next, device_wants, new_left};
 ghost use Rattle.guest_devices.specs.Kept.{are_short, device_left, device_port, is_kept, is_short, is_sized, kept_of};
 
+use crate::change::DeviceChange;
 use crate::drive::NewDrive;
-use block_device::{Block, BlockChange, BlockKind};
+use block_device::{Block, BlockChange, BlockData, BlockKind};
 use queue_device::{QueueRounds, Rounds, TakenChain};
 use vm_types::{Actor, Op, Reply};
 
@@ -21,13 +20,13 @@ use vm_types::{Actor, Op, Reply};
 pub fn new_block(port: u8, pages: u32, drive: &NewDrive) -> Block
     ensures { (what : NewDevice) → what ≡ starts.Block drive.now → device_left (device.Block result) ≡ new_left port pages what }
 {
-    Block::new(
-        port,
-        pages,
-        drive.drive_id,
-        drive.sectors,
-        drive.is_read_only,
-    )
+    let facts = BlockData {
+        sectors: drive.sectors,
+        drive_id: drive.drive_id,
+        is_read_only: drive.is_read_only,
+        limits: drive.limits.again(),
+    };
+    Block::new(port, pages, facts)
 }
 
 /// What it wants.
@@ -48,16 +47,18 @@ pub fn give_block(block: &mut Block, reply: Reply)
 fn change_block(block: &mut Block, change: BlockChange)
     ensures { block_left block.new ≡ changed_at block_rules change (block_left block.old) }
 {
-    let BlockChange::Sectors(sectors) = change;
-    block.set_sectors(sectors);
+    block.change(change);
 }
 
-/// It is told of a change.
-pub fn tell_block(block: &mut Block, change: BlockChange)
-    ensures { (it after : Device) (told : DeviceChange) → it ≡ device.Block block.old → after ≡ device.Block block.new →
-        told ≡ changes.Block change → device_left after ≡ device_changed told (device_left it) }
+/// It is told of a change, if that is one of a block device.
+pub fn tell_block(block: &mut Block, change: DeviceChange)
+    ensures { (it after : Device) → it ≡ device.Block block.old → after ≡ device.Block block.new →
+        device_left after ≡ device_changed change (device_left it) }
 {
-    change_block(block, change);
+    match change {
+        DeviceChange::Block(change) => change_block(block, change),
+        DeviceChange::Balloon(_) => {}
+    }
 }
 
 // A chain that waits is no longer than its types let it be.
@@ -73,7 +74,7 @@ fn waits_short(waiting: &Option<TakenChain>)
 }
 
 // And rounds have the sizes of their types.
-fn rounds_sized(rounds: &Rounds)
+pub(crate) fn rounds_sized(rounds: &Rounds)
     ensures pages { nat_lt rounds.now.pages (2 ^ 32) ≡ true }
     ensures short { are_short rounds.now ≡ true }
 {

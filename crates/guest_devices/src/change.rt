@@ -1,13 +1,16 @@
 // What the API changes of a device, by its kind.
 ghost use Rattle.std.specs.Prelude.{◌≡◌};
-ghost use Rattle.guest_devices.specs.Kinds.{sectors_change};
+ghost use Rattle.guest_devices.specs.Kinds.{limits_change, sectors_change};
 
+use balloon_device::BalloonChange;
 use block_device::BlockChange;
+use rate_gate::Bucket;
 
 /// What the API changes of a device, by its kind. To a device of another kind it is none.
 #[derive(Drop)]
 pub enum DeviceChange {
     Block(BlockChange),
+    Balloon(BalloonChange),
 }
 
 impl DeviceChange {
@@ -16,5 +19,12 @@ impl DeviceChange {
         ensures { result ≡ sectors_change sectors }
     {
         DeviceChange::Block(BlockChange::Sectors(sectors))
+    }
+
+    /// The gate of a block device has other buckets in place of those that are named. `Some(None)` removes a bucket.
+    pub fn of_limits(bandwidth: Option<Option<Bucket>>, ops: Option<Option<Bucket>>) -> DeviceChange
+        ensures { result ≡ limits_change bandwidth ops }
+    {
+        DeviceChange::Block(BlockChange::Limits(bandwidth, ops))
     }
 }

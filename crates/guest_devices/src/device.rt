@@ -1,18 +1,25 @@
 // A device of any kind as an actor.
 ghost use Rattle.std.specs.Prelude.{◌≡◌, true};
 ghost use Rattle.guest_devices.specs.Devices.{device_changed, new_left};
-ghost use Rattle.guest_devices.specs.Kept.{device_left, device_pages, device_port, is_kept, kept_reset};
+ghost use Rattle.guest_devices.specs.Kept.{device_left, device_pages, device_port, is_kept, kept_of, kept_reset};
+ghost use Rattle.guest_devices.specs.Ports.{number_of};
 
+use crate::balloon::{
+    balloon_again, give_balloon, new_balloon, port_of_balloon, tell_balloon, want_of_balloon,
+};
 use crate::block::{block_again, give_block, new_block, port_of_block, tell_block, want_of_block};
 use crate::change::DeviceChange;
 use crate::new_device::NewDevice;
+use balloon_device::BalloonDevice;
 use block_device::Block;
+use port_table::DeviceKind;
 use vm_types::{Actor, Op, Reply};
 
 /// A device, by its kind.
 #[derive(Drop)]
 pub enum Device {
     Block(Block),
+    Balloon(BalloonDevice),
 }
 
 impl Device {
@@ -22,6 +29,7 @@ impl Device {
     {
         match what {
             NewDevice::Block(drive) => Device::Block(new_block(port, pages, drive)),
+            NewDevice::Balloon(what) => Device::Balloon(new_balloon(port, pages, what)),
         }
     }
 
@@ -32,6 +40,17 @@ impl Device {
     {
         match self {
             Device::Block(block) => port_of_block(block),
+            Device::Balloon(balloon) => port_of_balloon(balloon),
+        }
+    }
+
+    /// Which device its port shows (VIRTIO 1.2, 5).
+    pub fn kind(&self) -> DeviceKind
+        ensures { result ≡ number_of (kept_of self.now).kind }
+    {
+        match self {
+            Device::Block(_) => DeviceKind::Block,
+            Device::Balloon(_) => DeviceKind::Balloon,
         }
     }
 
@@ -41,6 +60,7 @@ impl Device {
     {
         match self {
             Device::Block(block) => block.state().rounds.pages,
+            Device::Balloon(balloon) => balloon.state().rounds.pages,
         }
     }
 
@@ -51,6 +71,7 @@ impl Device {
     {
         match self {
             Device::Block(block) => Device::Block(block_again(block)),
+            Device::Balloon(balloon) => Device::Balloon(balloon_again(balloon)),
         }
     }
 
@@ -59,10 +80,8 @@ impl Device {
         ensures { device_left self.new ≡ device_changed change (device_left self.old) }
     {
         match self {
-            Device::Block(block) => {
-                let DeviceChange::Block(change) = change;
-                tell_block(block, change);
-            }
+            Device::Block(block) => tell_block(block, change),
+            Device::Balloon(balloon) => tell_balloon(balloon, change),
         }
     }
 
@@ -71,7 +90,7 @@ impl Device {
         ensures { self.new ≡ kept_reset self.old }
     {
         match self {
-            Device::Block(_) => {}
+            Device::Block(_) | Device::Balloon(_) => {}
         }
     }
 }
@@ -93,12 +112,14 @@ impl Actor for Device {
     fn want(&self) -> Op {
         match self {
             Device::Block(block) => want_of_block(block),
+            Device::Balloon(balloon) => want_of_balloon(balloon),
         }
     }
 
     fn give(&mut self, reply: Reply) {
         match self {
             Device::Block(block) => give_block(block, reply),
+            Device::Balloon(balloon) => give_balloon(balloon, reply),
         }
     }
 }

@@ -1,7 +1,8 @@
 // What a machine starts a block device with.
+use rate_gate::RateGate;
 
 /// What a machine starts a block device with (VIRTIO 1.2, 5.2).
-#[derive(Clone, Copy, Drop)]
+#[derive(Drop)]
 pub struct NewDrive {
     /// What GET_ID gives.
     pub drive_id: [u8; 20],
@@ -10,4 +11,6 @@ pub struct NewDrive {
     pub is_read_only: bool,
     /// The driver may ask that what was written lasts (VIRTIO_BLK_F_FLUSH).
     pub offers_flush: bool,
+    /// How much its requests may pass.
+    pub limits: RateGate,
 }

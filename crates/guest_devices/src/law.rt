@@ -12,8 +12,8 @@ ghost use Rattle.guest_devices.specs.declared.change.DeviceChange.{DeviceChange}
 ghost use Rattle.guest_devices.specs.declared.device.Device.{Device};
 ghost use Rattle.guest_devices.specs.declared.new_device.NewDevice.{NewDevice};
 ghost use Rattle.guest_devices.specs.Devices.{DataOf, DeviceLeads, DeviceLeft, DeviceWants, FitsNew, FlatDevice, device_at, device_calls};
-ghost use Rattle.guest_devices.specs.Devices.{device_changed, device_did, device_next, device_reset, device_rules, device_times};
-ghost use Rattle.guest_devices.specs.Devices.{device_told, device_wants, left_reset, new_device};
+ghost use Rattle.guest_devices.specs.Devices.{device_changed, device_did, device_next, device_reset, device_rules};
+ghost use Rattle.guest_devices.specs.Devices.{device_told, device_wants, left_reset, left_times, new_device};
 ghost use Rattle.guest_devices.specs.Kept.{IsBoundedDevice, device_left, device_pages, device_port, is_device_state, is_kept, kept_reset};
 ghost use Rattle.guest_devices.specs.Kinds.{ChangeOf, FitsChange, Kind};
 ghost use Rattle.guest_devices.specs.Sound.{IsSoundDevice};
@@ -50,8 +50,8 @@ pub fn devices_follow()
         DeviceWants (record { kind = k; start = start; items = items }) op }
 {}
 
-/// A sound device always wants something: an act of its own, and of host objects a call of its own, or guest time where it
-/// has limits; inside RAM, where there are less than 2^32 pages. It is sound from its start on, with each fitting reply and each
+/// A sound device always wants something: an act of its own, and of host objects a call of its own, or guest time where a
+/// chain waits that is due and that its kind times; inside RAM, where there are less than 2^32 pages. It is sound from its start on, with each fitting reply and each
 /// change that fits, behind a Reset, where it goes on from what was left of another, and with whatever bounded data a device may
 /// keep. In a guest of at most 2^20 pages some device keeps what its items lead to.
 pub fn sound_devices()
@@ -73,8 +73,8 @@ pub fn sound_devices()
         × (device_port it ≡ port) × (device_pages it ≡ pages) }
     ensures some { (port pages : ℕ) (d : FlatDevice) →
         IsSoundDevice port pages d → (op : Op) × DeviceWants d op }
-    ensures own { (port pages : ℕ) (d : FlatDevice) (op : Op) →
-        IsSoundDevice port pages d → DeviceWants d op → IsAskedBy (device_times d) (device_calls d) port op }
+    ensures own { (port pages : ℕ) (d : FlatDevice) (op : Op) (sound : IsSoundDevice port pages d) →
+        DeviceWants d op → IsAskedBy (left_times sound.0) (device_calls d) port op }
     ensures inside { (port pages : ℕ) (d : FlatDevice) (op : Op) →
         pages < 2 ^ 32 → IsSoundDevice port pages d → DeviceWants d op → IsInside pages op }
     ensures host { (port pages : ℕ) (d : FlatDevice) (op : Op) →

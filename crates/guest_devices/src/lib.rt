@@ -7,6 +7,7 @@
 //! changes of one, and `specs/Ports.antt` what its port shows.
 #![tactic(auto)]
 
+mod balloon;
 mod block;
 mod change;
 mod device;

@@ -1,9 +1,11 @@
 // What a machine starts a device with, by its kind.
 
 use crate::drive::NewDrive;
+use balloon_device::NewBalloon;
 
 /// What a machine starts a device with, by its kind (VIRTIO 1.2, 5).
-#[derive(Clone, Copy, Drop)]
+#[derive(Drop)]
 pub enum NewDevice {
     Block(NewDrive),
+    Balloon(NewBalloon),
 }

@@ -1,5 +1,6 @@
 // The port of a device that has done nothing, by its kind, and what it shows of a change.
 ghost use Rattle.std.specs.Prelude.{◌≡◌};
+ghost use Rattle.balloon_device.specs.Port as balloon;
 ghost use Rattle.guest_devices.specs.declared.new_device.NewDevice.{NewDevice};
 ghost use Rattle.guest_devices.specs.declared.new_device.NewDevice.TheVariants as starts;
 ghost use Rattle.guest_devices.specs.Devices.{FitsNew};
@@ -9,6 +10,7 @@ ghost use Rattle.guest_devices.specs.Ports as ports;
 use crate::change::DeviceChange;
 use crate::drive::NewDrive;
 use crate::new_device::NewDevice;
+use balloon_device::{NewBalloon, configuration};
 use block_device::BlockChange;
 use le_fields::put64;
 use mmio_port::Port;
@@ -43,6 +45,18 @@ fn block_port(drive: &NewDrive) -> Port
     Port::new(DeviceKind::Block, offered(drive), &capacity(drive.sectors))
 }
 
+// The driver has given no page yet.
+fn balloon_port(what: &NewBalloon) -> Port
+    ensures port { result ≡ balloon.balloon_port what.now }
+    ensures fits { (new : NewDevice) → new ≡ starts.Balloon what.now → FitsNew new }
+{
+    Port::new(
+        DeviceKind::Balloon,
+        what.features(),
+        &configuration(what.target, 0),
+    )
+}
+
 /// The port of a device as a start makes it. What the device starts with fits.
 pub fn port_at_start(what: &NewDevice) -> Port
     ensures port { result ≡ ports.port_at_start what.now }
@@ -50,6 +64,7 @@ pub fn port_at_start(what: &NewDevice) -> Port
 {
     match what {
         NewDevice::Block(drive) => block_port(drive),
+        NewDevice::Balloon(what) => balloon_port(what),
     }
 }
 
@@ -61,6 +76,8 @@ impl DeviceChange {
     {
         match self {
             DeviceChange::Block(BlockChange::Sectors(sectors)) => Some(capacity(*sectors)),
+            DeviceChange::Block(BlockChange::Limits(_, _)) => None,
+            DeviceChange::Balloon(_) => None,
         }
     }
 }

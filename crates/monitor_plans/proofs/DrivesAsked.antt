@@ -14,9 +14,9 @@ use Rattle.vm_outside.specs.Known.{FilesKnown, Lasts, Tells}
 use Rattle.api_calls.specs.declared.call.Drive.{Drive}
 use Rattle.vm_config.specs.Drives.{device_of, in_order, is_named, is_root}
 use Rattle.guest_devices.specs.declared.new_device.NewDevice.{NewDevice}
-use Rattle.guest_devices.specs.Devices.{FitsNew}
 use Rattle.flat_machine.specs.Requests.{drive_from, have_files}
 use Rattle.monitor_plans.specs.declared.drives.DriveFiles.{DriveFiles}
+use Rattle.monitor_plans.specs.Starting.{FitsDrive}
 
 -- each drive is one of the devices
 pub length-in_order : (drives : List Drive) → length (in_order drives) ≡ length drives
@@ -138,7 +138,7 @@ pub record HasAsked (drives : List Drive) (before now : FilesKnown) (found : Dri
   pub drives_are : Tells before.health → found.drives.items ≡ drives_to before.saved drives i
   pub there_is : Tells before.health → found.are_there ≡ there_to before.saved drives i
   pub many : i ≤ length drives → length found.drives.items ≡ i
-  pub fit : All FitsNew found.drives.items
+  pub fit : All FitsDrive found.drives.items
   pub same : Tells before.health → SameFiles before now
   pub kept : now.health.faults ≡ before.health.faults
   pub lasts : Lasts before.health now.health
@@ -148,7 +148,7 @@ pub one_asked : (drives : List Drive) (before mid now : FilesKnown) (found after
     → (Tells mid.health → after.drives.items ≡ found.drives.items ++ drive_from mid.saved d ∷ [])
     → (Tells mid.health → after.are_there ≡ (found.are_there && has_file mid.saved drives d))
     → length after.drives.items ≡ length found.drives.items + 1
-    → (All FitsNew found.drives.items → All FitsNew after.drives.items)
+    → (All FitsDrive found.drives.items → All FitsDrive after.drives.items)
     → (Tells mid.health → SameFiles mid now) → now.health.faults ≡ mid.health.faults → Lasts mid.health now.health
     → HasAsked drives before now after (i + 1)
 one_asked drives before mid now found after i d so_far is drive there more fit same kept lasts = record {

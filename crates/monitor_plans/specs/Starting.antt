@@ -2,6 +2,9 @@
 use Rattle.std.specs.Prelude.{◌≡◌, ℕ, List, Option, Some, None}
 use Rattle.vm_types.specs.Saved.{Saved}
 use Rattle.vm_config.specs.declared.config.Config.{Config}
+use Rattle.guest_devices.specs.declared.new_device.NewDevice.{NewDevice}
+use Rattle.guest_devices.specs.declared.new_device.NewDevice.TheVariants as starts
+use Rattle.guest_devices.specs.Devices.{FitsNew}
 use Rattle.flat_guest.specs.Start.{started}
 use Rattle.flat_machine.specs.Requests.{disk_by, devices_from, image_by, initrd_name, loads_from, start_refusal}
 use Rattle.vm_world.specs.Worlds.{IsWorld}
@@ -14,6 +17,11 @@ image_in config saved = image_by config.boot_source saved
 
 abbrev pub disk_in : Config → Saved → Option (List ℕ)
 disk_in config saved = disk_by (initrd_name config.boot_source) saved
+
+-- it is a block device, which may start so
+abbrev pub FitsDrive : NewDevice → Type 0
+FitsDrive (starts.Block d) = FitsNew (starts.Block d)
+FitsDrive (starts.Balloon b) = ⊥
 
 abbrev pub StartGives : Plan → Config → Saved → Type 0
 StartGives (plan.Starts w) config saved =

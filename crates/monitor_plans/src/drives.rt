@@ -1,17 +1,18 @@
 // The files of the drives, as a start asks for them.
 ghost use Rattle.std.specs.Prelude.{All, ◌≡◌, ◌≤◌, ◌+◌, ◌++◌, ◌∷◌, ◌&&◌, [], ℕ, true, List, Option, IfOk, OnOk, is_some, length, map, option_map};
 ghost use Rattle.std.specs.FinMap.{get};
-ghost use Rattle.guest_devices.specs.Devices.{FitsNew};
 ghost use Rattle.vm_types.specs.Saved.{Saved};
 ghost use Rattle.vm_outside.specs.Filing.{SameFiles};
 ghost use Rattle.vm_outside.specs.Known.{Lasts, Tells};
 ghost use Rattle.vm_config.specs.Drives.{in_order};
 ghost use Rattle.flat_machine.specs.Requests.{drive_from, have_files, id_bytes, is_writeback, sectors_of};
 ghost use Rattle.gate_file.specs.Reading.{FileCause};
+ghost use Rattle.monitor_plans.specs.Starting.{FitsDrive};
 
 use api_calls::{CacheType, Drive};
 use gate_file::FileError;
 use guest_devices::{NewDevice, NewDrive};
+use rate_gate::RateGate;
 use std::alloc::Global;
 use vm_config::Drives;
 use vm_outside::Files;
@@ -64,13 +65,14 @@ pub(crate) fn sectors_of(size: Option<u64>) -> u64
 fn new_drive(drive: &Drive, size: Option<u64>) -> NewDevice
     ensures made { (saved : Saved) → size ≡ option_map length (get saved drive.now.path_on_host) →
         result ≡ drive_from saved drive.now }
-    ensures fits { FitsNew result }
+    ensures fits { FitsDrive result }
 {
     NewDevice::Block(NewDrive {
         drive_id: id_bytes(drive.drive_id.as_bytes()),
         sectors: sectors_of(size),
         is_read_only: drive.is_read_only,
         offers_flush: is_writeback(drive.cache_type),
+        limits: RateGate::new(None, None),
     })
 }
 
@@ -92,7 +94,7 @@ impl DriveFiles {
         ensures there { OnOk result (Tells (F.known files.old).health → self.new.are_there
             ≡ (self.old.are_there && is_some (get (F.known files.old).saved drive.now.path_on_host))) }
         ensures more { OnOk result (length self.new.drives.items ≡ length self.old.drives.items + 1) }
-        ensures fit { OnOk result (All FitsNew self.old.drives.items → All FitsNew self.new.drives.items) }
+        ensures fit { OnOk result (All FitsDrive self.old.drives.items → All FitsDrive self.new.drives.items) }
         ensures same { Tells (F.known files.old).health → SameFiles (F.known files.old) (F.known files.new) }
         ensures cause { FileCause result (F.known files.old).health.faults (F.known files.new).health.faults }
         ensures lasts { Lasts (F.known files.old).health (F.known files.new).health }
@@ -119,7 +121,7 @@ pub(crate) fn drive_files<F: Files>(
     ensures there { IfOk result (λ it. Tells (F.known files.old).health →
         it.are_there ≡ have_files drives.now (F.known files.old).saved) }
     ensures many { IfOk result (λ it. length it.drives.items ≡ length drives.now) }
-    ensures fit { IfOk result (λ it. All FitsNew it.drives.items) }
+    ensures fit { IfOk result (λ it. All FitsDrive it.drives.items) }
     ensures same { Tells (F.known files.old).health → SameFiles (F.known files.old) (F.known files.new) }
     ensures cause { FileCause result (F.known files.old).health.faults (F.known files.new).health.faults }
     ensures lasts { Lasts (F.known files.old).health (F.known files.new).health }

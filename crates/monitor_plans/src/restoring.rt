@@ -40,15 +40,15 @@ pub fn restore<F: Files>(alloc: Global, load: &SnapshotLoad, files: &mut F) -> P
 {
     match find(alloc, files, &load.files) {
         Ok(found) => {
-            let copy = found.copy;
-            let Ok(guest) = world_of(alloc, &copy, found.pages) else {
+            let Ok(carried) = world_of(alloc, found.copy, found.pages) else {
                 return Plan::NoMemory;
             };
+            let config = config_of(carried.configuration, load.track_dirty_pages);
             Plan::Restores(Restored {
                 identity: found.identity,
                 next: found.identity.number + 1,
-                config: TakenConfig::of(config_of(copy.configuration, load.track_dirty_pages)),
-                guest,
+                config: TakenConfig::of(config),
+                guest: carried.world,
                 resumes: load.resume_vm,
             })
         }

@@ -5,7 +5,6 @@ ghost use Rattle.guest_memory.specs.Boot.{loads_fit};
 ghost use Rattle.boot_loader.specs.Loading.{have_room, loads_of};
 ghost use Rattle.flat_guest.specs.Start.{started};
 ghost use Rattle.flat_machine.specs.Ready.{IsTaken};
-ghost use Rattle.guest_devices.specs.Devices.{FitsNew};
 ghost use Rattle.vm_config.specs.Changes.{changed};
 ghost use Rattle.vm_config.specs.declared.change.Change.TheVariants as change;
 ghost use Rattle.flat_machine.specs.Requests.{loads_from, initrd_place};
@@ -13,7 +12,7 @@ ghost use Rattle.vm_outside.specs.Filing.{SameFiles};
 ghost use Rattle.vm_outside.specs.Known.{Lasts, Tells};
 ghost use Rattle.vm_world.specs.Worlds.{IsWorld, WorldValue};
 ghost use Rattle.monitor_plans.specs.Plans.{HasReadyGuest, KeepsReady, PlanCause};
-ghost use Rattle.monitor_plans.specs.Starting.{StartGives};
+ghost use Rattle.monitor_plans.specs.Starting.{FitsDrive, StartGives};
 
 use crate::disk::{disk_file, load_disk};
 use crate::drives::drive_files;
@@ -154,7 +153,7 @@ fn guest_of(
     requires taken { IsTaken config.now }
     requires source { is_some config.now.boot_source ≡ true }
     requires many { length drives.now ≡ length config.now.drives }
-    requires fit { All FitsNew drives.now }
+    requires fit { All FitsDrive drives.now }
     requires fits { loads_fit config.now.machine.mem_size_mib (length image.now) (option_map length disk.now) ≡ true }
     ensures world { IfOk result (λ guest.
         IsWorld guest (started config.now.machine.vcpu_count config.now.machine.mem_size_mib

@@ -20,7 +20,7 @@ use Rattle.timer_trace.specs.States.{wants_by}
 use Rattle.timer_trace.proofs.Traces as timer_traces
 use Rattle.device_trace.specs.Acts.{is_disk_call}
 use Rattle.guest_devices.specs.Devices.{FlatDevice}
-use Rattle.guest_devices.specs.Kinds.{Block, Kind, calls_of}
+use Rattle.guest_devices.specs.Kinds.{Balloon, Block, Kind, calls_of}
 use Rattle.guest_devices.proofs.Soundness.{want_host}
 use Rattle.flat_guest.specs.Given.{Event}
 use Rattle.flat_guest.specs.Guest.{Guest, Wants, WantsFrom, WantsOf, layout_of, whole_pages}
@@ -74,6 +74,7 @@ turn_asks g (ActorId.Device k) act turn wants = cc
 -- a device asks its disk
 disk_calls : (k : Kind) (act : OutOp) → calls_of k act ≡ true → is_disk_call act ≡ true
 disk_calls Block act is = is
+disk_calls Balloon act is = cc
 
 device_asks : (g : Guest) (k : ℕ) (o : Option FlatDevice) (act : OutOp) → IsSound g → slice_get g.devices k ≡ o
     → WantsOf o (Op.Out act) → is_disk_call act ≡ true

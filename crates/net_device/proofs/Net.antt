@@ -1,5 +1,5 @@
 -- All that a network device owes.
-use Rattle.std.proofs.Common.{◌≡◌, ℕ, zero, suc, ◌-◌, ◌==◌, ◌<◌, ◌≤◌, ◌^◌, Bool, true, false, not, inr, refl, List, [], ◌∷◌, drop, Option, Some, None, arith}
+use Rattle.std.proofs.Common.{◌≡◌, ℕ, zero, suc, ◌-◌, ◌==◌, ◌<◌, ◌^◌, Bool, true, false, not, inr, refl, List, [], ◌∷◌, drop, Option, Some, None, arith}
 use Rattle.vm_types.specs.declared.op.Op.{Op}
 use Rattle.vm_types.specs.declared.op.Op.TheVariants.{Write}
 use Rattle.vm_types.specs.declared.reply.Reply.{Reply}
@@ -14,7 +14,7 @@ use Rattle.vq_split.specs.declared.queue.Part.{Part}
 use Rattle.vq_split.specs.Chain.{read_bytes}
 use Rattle.vq_split.specs.Inside.{AreInside, IsInside}
 use Rattle.dev_core.specs.Inside.{Any}
-use Rattle.dev_core.specs.Pieces.{past, place, put_all, readable, room, total, writable}
+use Rattle.dev_core.specs.Pieces.{past, put_all, readable, room, total, writable}
 use Rattle.dev_core.proofs.Asking.{put_all_asks}
 use Rattle.dev_core.proofs.Inside.{filter_inside, past_inside, piece_inside, put_all_keeps}
 use Rattle.queue_device.specs.declared.lanes.Which.{Which}
@@ -29,7 +29,7 @@ use Rattle.net_device.specs.Net.{Net, answered_by, emptied, has_room, is_link_ca
 -- at this port, in a guest of so many pages
 module _ (port pages : ℕ) where
   abbrev P : Op → Type 0
-  P = IsDeviceAct true is_link_call port pages
+  P = IsDeviceAct false is_link_call port pages
 
   -- ---- from the link
 
@@ -83,7 +83,7 @@ module _ (port pages : ℕ) where
 
   -- ---- chains
 
-  pub writes : (at : ℕ) (piece : List ℕ) → IsAskedBy true is_link_call port (Write at piece)
+  pub writes : (at : ℕ) (piece : List ℕ) → IsAskedBy false is_link_call port (Write at piece)
   writes at piece = inr (tt, tt)
 
   serve : (k : Which) (c : Chain) (e : Net) → (pages < 2 ^ 32 → IsChain net pages k c)
@@ -93,11 +93,11 @@ module _ (port pages : ℕ) where
       keeps_either P (λ (len : Option ℕ). Unit {0}) (has_room c e) _ _
       (λ there. performing_keeps P (λ (left : List Part). (pages < 2 ^ 32 → AreInside pages left) × Any {A = List Part} left)
       (λ (len : Option ℕ). Unit {0}) (put_all e.text (writable c.parts)) e _
-      (keeps_both (λ op. pages < 2 ^ 32 → IsInside pages op) (IsAskedBy true is_link_call port)
+      (keeps_both (λ op. pages < 2 ^ 32 → IsInside pages op) (IsAskedBy false is_link_call port)
       (λ (left : List Part). pages < 2 ^ 32 → AreInside pages left) (Any {A = List Part}) (put_all e.text (writable c.parts))
       (keeps_when (pages < 2 ^ 32) (IsInside pages) (λ (left : List Part). AreInside pages left)
       (put_all e.text (writable c.parts)) (λ few. put_all_keeps pages e.text (writable c.parts) few (mine few)))
-      (put_all_asks (IsAskedBy true is_link_call port) writes e.text (writable c.parts)))
+      (put_all_asks (IsAskedBy false is_link_call port) writes e.text (writable c.parts)))
       (λ f left from. tt))
       (λ short. tt)
   serve Second c e chain =

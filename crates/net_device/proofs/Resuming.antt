@@ -110,19 +110,19 @@ sends_asked (b ∷ bytes) rest some = refl
 module _ (port pages : ℕ) where
   abbrev AnswerStays : AtWork → Type 0
   AnswerStays g =
-      IsDeviceAct true is_link_call port pages (hand_of g).op
+      IsDeviceAct false is_link_call port pages (hand_of g).op
       × ((e : Net) (reply : Reply) → Fits (hand_of g).op reply
-      → ActingKeeps (IsDeviceAct true is_link_call port pages) Any ((hand_of g).answering e reply))
+      → ActingKeeps (IsDeviceAct false is_link_call port pages) Any ((hand_of g).answering e reply))
 
   take_stays : (size index : ℕ) (bytes : List ℕ) → Takes size index bytes
       → AnswerStays (at_stage (stage.Take size index) bytes)
   take_stays size index bytes v =
       let left : ℕ = pieces size - index in
-      let on = led_keeps (IsDeviceAct true is_link_call port pages) (Any {A = Option (List ℕ)})
+      let on = led_keeps (IsDeviceAct false is_link_call port pages) (Any {A = Option (List ℕ)})
       (taking left size index bytes) _ (takes_asked left size index bytes (omega (arith, v.more)))
       (taking_keeps port pages left size index bytes) in (
         on.0,
-        λ e reply fit. performing_keeps (IsDeviceAct true is_link_call port pages) (Any {A = Option (List ℕ)}) Any
+        λ e reply fit. performing_keeps (IsDeviceAct false is_link_call port pages) (Any {A = Option (List ℕ)}) Any
             (led (taking left size index bytes) reply) e received (on.1 reply fit) (λ f text any. came port pages f text),
       )
 
@@ -137,23 +137,23 @@ module _ (port pages : ℕ) where
 
   abbrev ServiceStays : AtWork → Type 0
   ServiceStays g =
-      IsDeviceAct true is_link_call port pages (hand_of g).op
+      IsDeviceAct false is_link_call port pages (hand_of g).op
       × ((e : Net) (reply : Reply) → Fits (hand_of g).op reply
-      → ActingKeeps (IsDeviceAct true is_link_call port pages) Any ((hand_of g).serving e reply))
+      → ActingKeeps (IsDeviceAct false is_link_call port pages) Any ((hand_of g).serving e reply))
 
   receive_stays : (at : ℕ) (to : List Part) (bytes : List ℕ) → Has pages (share (drop at bytes) to) to
       → ServiceStays (at_stage (stage.Receive at to) bytes)
   receive_stays at to bytes v =
-      let keeps = keeps_both (λ op. pages < 2 ^ 32 → IsInside pages op) (IsAskedBy true is_link_call port)
+      let keeps = keeps_both (λ op. pages < 2 ^ 32 → IsInside pages op) (IsAskedBy false is_link_call port)
       (λ (left : List Part). pages < 2 ^ 32 → AreInside pages left) (Any {A = List Part}) (put_all (drop at bytes) to)
       (keeps_when (pages < 2 ^ 32) (IsInside pages) (λ (left : List Part). AreInside pages left) (put_all (drop at bytes) to)
       (λ few. put_all_keeps pages (drop at bytes) to few v.inside))
-      (put_all_asks (IsAskedBy true is_link_call port) (writes port pages) (drop at bytes) to) in
-      let on = led_keeps (IsDeviceAct true is_link_call port pages)
+      (put_all_asks (IsAskedBy false is_link_call port) (writes port pages) (drop at bytes) to) in
+      let on = led_keeps (IsDeviceAct false is_link_call port pages)
       (λ (left : List Part). (pages < 2 ^ 32 → AreInside pages left) × Any left) (put_all (drop at bytes) to) _
       (put_asks (drop at bytes) to v.some) keeps in (
         on.0,
-        λ e reply fit. performing_keeps (IsDeviceAct true is_link_call port pages)
+        λ e reply fit. performing_keeps (IsDeviceAct false is_link_call port pages)
             (λ (left : List Part). (pages < 2 ^ 32 → AreInside pages left) × Any left) Any
             (led (put_all (drop at bytes) to) reply) e _ (on.1 reply fit) (λ f left held. tt),
       )
@@ -161,22 +161,22 @@ module _ (port pages : ℕ) where
   read_stays : (skip : ℕ) (from : List Part) (bytes : List ℕ) → Has pages (room from) from
       → ServiceStays (at_stage (stage.Read skip from) bytes)
   read_stays skip from bytes v =
-      let on = led_keeps (IsDeviceAct true is_link_call port pages) (Any {A = Unit {0}}) (sending_all skip from) _
+      let on = led_keeps (IsDeviceAct false is_link_call port pages) (Any {A = Unit {0}}) (sending_all skip from) _
       (ap asked (sent_more skip from v.some)) (sending_keeps port pages (suc (total from)) skip from (λ few. v.inside)) in (
         on.0,
-        λ e reply fit. performing_keeps (IsDeviceAct true is_link_call port pages) (Any {A = Unit {0}}) Any
+        λ e reply fit. performing_keeps (IsDeviceAct false is_link_call port pages) (Any {A = Unit {0}}) Any
             (led (sending_all skip from) reply) e _ (on.1 reply fit) (λ f done any. tt),
       )
 
   send_stays : (piece : List ℕ) (skip : ℕ) (from : List Part) (bytes : List ℕ)
       → Has pages (length piece) from → ServiceStays (at_stage (stage.Send piece skip from) bytes)
   send_stays piece skip from bytes v =
-      let on = led_keeps (IsDeviceAct true is_link_call port pages) (Any {A = Unit {0}})
+      let on = led_keeps (IsDeviceAct false is_link_call port pages) (Any {A = Unit {0}})
       (piece_sent piece (sending_all skip from)) _ (sends_asked piece (sending_all skip from) v.some)
       (piece_keeps port pages piece (sending_all skip from)
       (sending_keeps port pages (suc (total from)) skip from (λ few. v.inside))) in (
         on.0,
-        λ e reply fit. performing_keeps (IsDeviceAct true is_link_call port pages) (Any {A = Unit {0}}) Any
+        λ e reply fit. performing_keeps (IsDeviceAct false is_link_call port pages) (Any {A = Unit {0}}) Any
             (led (piece_sent piece (sending_all skip from)) reply) e _ (on.1 reply fit) (λ f done any. tt),
       )
 

@@ -1,5 +1,5 @@
 -- A network device (VIRTIO 1.2, 5.1): its queue 0 receives, and its queue 1 transmits (5.1.2).
-use Rattle.std.specs.Prelude.{ℕ, ◌-◌, ◌==◌, nat_le, not, ◌&&◌, Bool, true, false, if◌then◌else◌, Option, Some, None, List, [], length}
+use Rattle.std.specs.Prelude.{ℕ, ◌-◌, ◌==◌, nat_le, not, ◌&&◌, Bool, true, false, if◌then◌else◌, Option, Some, None, option_map, List, [], length}
 use Rattle.vm_types.specs.declared.op.Op.TheVariants.{Out}
 use Rattle.vm_types.specs.declared.op.OutOp.{OutOp}
 use Rattle.vm_types.specs.declared.op.OutOp.TheVariants.{LinkTake, LinkPart, LinkSend, LinkEnd}
@@ -8,7 +8,7 @@ use Rattle.vm_types.specs.declared.reply.Reply.TheVariants.{Frame}
 use Rattle.device_trace.specs.Traces.{Rules, setting}
 use Rattle.vq_split.specs.declared.queue.Part.{Part}
 use Rattle.dev_core.specs.Pieces.{put_all, readable, total, writable}
-use Rattle.rate_gate.specs.Gate.{Buckets, gate_takes, gate_took, is_limited, with_buckets}
+use Rattle.rate_gate.specs.Gate.{Buckets, gate_passes, is_limited, with_buckets}
 use Rattle.queue_device.specs.declared.lanes.Which.{Which}
 use Rattle.queue_device.specs.declared.lanes.Which.TheVariants.{First, Second, Third}
 use Rattle.queue_device.specs.Acting.{Acting, Comes, performing}
@@ -80,10 +80,8 @@ timed_by Third c e = false
 
 abbrev pub passes_by : Which → Chain → ℕ → Net → Option Net
 passes_by First c now e =
-    if gate_takes e.rx (length e.text - header_size) now
-    then Some (record e { rx = gate_took e.rx (length e.text - header_size) now }) else None
-passes_by Second c now e =
-    if gate_takes e.tx (sent_length c.parts) now then Some (record e { tx = gate_took e.tx (sent_length c.parts) now }) else None
+    option_map (λ (limits : Buckets). record e { rx = limits }) (gate_passes e.rx (length e.text - header_size) now)
+passes_by Second c now e = option_map (λ (limits : Buckets). record e { tx = limits }) (gate_passes e.tx (sent_length c.parts) now)
 passes_by Third c now e = Some e
 
 -- ---- the device

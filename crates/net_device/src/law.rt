@@ -13,6 +13,7 @@ ghost use Rattle.queue_device.specs.Kept.{is_state};
 ghost use Rattle.queue_device.specs.Lanes.{new_lane};
 ghost use Rattle.queue_device.specs.Left.{left_at, queued};
 ghost use Rattle.queue_device.specs.Service.{Queued};
+ghost use Rattle.queue_device.specs.Timing.{is_timed_left};
 ghost use Rattle.net_device.specs.declared.kind.NetChange.{NetChange};
 ghost use Rattle.net_device.specs.Net.{Net, is_link_call, net, net_rules, new_net};
 ghost use Rattle.net_device.specs.Work.{AtWork, NetKept, hand_of, is_work};
@@ -27,7 +28,7 @@ use queue_device::{queue_goes_on, queue_kept, queue_one, queue_stays};
 pub fn net_stays()
     ensures { (port pages : ℕ) (rx tx : Buckets) (items : List (Item NetChange)) (left : Script (Queued Net)) →
         LeadsTo net_rules (new_net port pages rx tx) items left →
-        IsDeviceAct true is_link_call port pages (wants net_rules left) }
+        IsDeviceAct (is_timed_left net left) is_link_call port pages (wants net_rules left) }
 {
     queue_stays::<NetKind>();
 }
@@ -36,7 +37,7 @@ pub fn net_stays()
 pub fn net_kept()
     ensures stays { (p : Phase) (r : Rounds) (e : Net) (g : AtWork) →
         is_state net true is_work p r g ≡ true →
-        IsConfined net true is_link_call r.port r.pages (left_at net p (hand_of g) (queued r e)) }
+        IsConfined net is_link_call r.port r.pages (left_at net p (hand_of g) (queued r e)) }
     ensures one { (p q : Phase) (r t : Rounds) (e f : Net) (g h : AtWork) →
         is_state net true is_work p r g ≡ true → is_state net true is_work q t h ≡ true →
         left_at net p (hand_of g) (queued r e) ≡ left_at net q (hand_of h) (queued t f) → queued r e ≡ queued t f }

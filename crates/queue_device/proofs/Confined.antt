@@ -1,5 +1,6 @@
--- A device with queues asks for no act but its own, or guest time, inside RAM, where its kind does: once for all kinds.
-use Rattle.std.proofs.Common.{◌≡◌, ℕ, ◌^◌, ◌<◌, ◌==◌, ◌&&◌, refl, sym, subst, ◌∙◌, Bool, true, false, if◌then◌else◌, inl, inr, Option, Some, None, List}
+-- A device with queues asks for no act but its own inside RAM, and guest time where a group begins with it, where its kind keeps to
+-- its own: once for all kinds.
+use Rattle.std.proofs.Common.{◌≡◌, ℕ, ◌^◌, ◌<◌, ◌==◌, ◌&&◌, refl, sym, subst, ◌∙◌, Bool, true, false, if◌then◌else◌, inl, inr, Option, Some, None, is_some, List}
 use Rattle.std.proofs.lemmas.Bool.{and_parts, eqb-true}
 use Rattle.vm_types.specs.declared.op.Op.{Op}
 use Rattle.vm_types.specs.declared.op.Op.TheVariants.{Board}
@@ -11,11 +12,11 @@ use Rattle.vm_types.specs.declared.reply.Reply.{Reply}
 use Rattle.device_trace.specs.Acts.{IsAskedBy}
 use Rattle.device_trace.specs.Doing.{Doing, Gives, Wants}
 use Rattle.device_trace.specs.Keeps as trees
-use Rattle.device_trace.specs.Script.{Script, Ends, perform}
+use Rattle.device_trace.specs.Script.{Script, Ends, Asks, perform}
 use Rattle.device_trace.specs.States.{Leads, changed_at, stepped, wants}
 use Rattle.device_trace.specs.Traces.{Changing, Item}
 use Rattle.device_trace.proofs.Keeping.{keeps_both, stays_if, stays_perform}
-use Rattle.device_trace.proofs.Leading.{change_keeps, leads_keep, step_keeps, wants_keeps}
+use Rattle.device_trace.proofs.Leading.{change_keeps, leads_keep, step_keeps, wants_between}
 use Rattle.le_fields.specs.Fields.{field_at}
 use Rattle.vq_split.specs.declared.queue.Queue.{Queue}
 use Rattle.vq_split.specs.declared.queue.Part.{Part}
@@ -44,7 +45,8 @@ use Rattle.queue_device.specs.Lanes.{lane_waiting, next_rounds, round_begun, rou
 use Rattle.queue_device.specs.Rounds.{answered, at_own, at_rounds, begins, begins_at, broken_off, due_behind, due_from, given_back}
 use Rattle.queue_device.specs.Rounds.{goes_on, index_shown, lane, lane_begins, look_begins, looked, next_begins, on_behind, on_from}
 use Rattle.queue_device.specs.Rounds.{over_begins, own_changing, question_begins, queue_rules, round_broken, round_from, served}
-use Rattle.queue_device.specs.Rounds.{serving, taken, taking, time_of, timed, took, wait_begins, walk_begun, walk_from, walked}
+use Rattle.queue_device.specs.Rounds.{serving, taken, taking, time_asked, time_of, timed, took, wait_begins, walk_begun, walk_from, walked}
+use Rattle.queue_device.specs.Timing.{is_timed_left, timed_due, timed_lane, timed_next}
 use Rattle.queue_device.specs.Service.{Queued, Service}
 use Rattle.queue_device.proofs.Acting.{keeps_when, stays_during}
 use Rattle.queue_device.proofs.Keeping.{begun_are, chain_of, lane_held, lane_in, lane_is, next_are, over_are, test_of_chain}
@@ -55,7 +57,7 @@ module _ {E C : Type 0} (s : Service E) (changing : Changing E C) (times : Bool)
   D = Queued E
 
   abbrev P : Op → Type 0
-  P = IsDeviceAct times calls port pages
+  P = IsDeviceAct false calls port pages
 
   abbrev R : D → Type 0
   R = HasRounds s port pages
@@ -64,7 +66,11 @@ module _ {E C : Type 0} (s : Service E) (changing : Changing E C) (times : Bool)
   S = LeavesRounds {E = E}
 
   abbrev Confined : Script D → Type 0
-  Confined = IsConfined s times calls port pages
+  Confined = IsConfined s calls port pages
+
+  -- what begins a group, with guest time where a chain is timed
+  abbrev pub Opened : Option (Which × Chain) → Script D → Type 0
+  Opened timed t = trees.Opens (IsDeviceAct (is_some timed) calls port pages) P R S t
 
   -- ---- data with the rounds of this device
 
@@ -134,22 +140,22 @@ module _ {E C : Type 0} (s : Service E) (changing : Changing E C) (times : Bool)
   pub at_port : (d : D) → R d → d.rounds.port ≡ port
   at_port d is = is.0
 
-  pub line : IsAskedBy times calls port (Board RaiseLine)
+  pub line : IsAskedBy false calls port (Board RaiseLine)
   line = inr (refl, tt)
 
-  pub reads : (at len : ℕ) → IsAskedBy times calls port (Op.Read at len)
+  pub reads : (at len : ℕ) → IsAskedBy false calls port (Op.Read at len)
   reads at len = inr (tt, tt)
 
-  pub writes : (at : ℕ) (piece : List ℕ) → IsAskedBy times calls port (Op.Write at piece)
+  pub writes : (at : ℕ) (piece : List ℕ) → IsAskedBy false calls port (Op.Write at piece)
   writes at piece = inr (tt, tt)
 
   -- the acts of what is performed, and what it comes to
   pub performs : {A : Type 0} (Q : A → Type 0) (t : Doing A) (d : D) (more : D → A → Script D)
-      → (pages < 2 ^ 32 → trees.Keeps (IsInside pages) Q t) → trees.Keeps (IsAskedBy times calls port) (Any {A = A}) t
+      → (pages < 2 ^ 32 → trees.Keeps (IsInside pages) Q t) → trees.Keeps (IsAskedBy false calls port) (Any {A = A}) t
       → ((e : D) (a : A) → S d e → (pages < 2 ^ 32 → Q a) → Confined (more e a)) → Confined (perform t d more)
   performs Q t d more inside asks next =
       stays_perform P R S same again (λ a. (pages < 2 ^ 32 → Q a) × Any a) t d more
-      (keeps_both (λ op. pages < 2 ^ 32 → IsInside pages op) (IsAskedBy times calls port) (λ a. pages < 2 ^ 32 → Q a) Any t
+      (keeps_both (λ op. pages < 2 ^ 32 → IsInside pages op) (IsAskedBy false calls port) (λ a. pages < 2 ^ 32 → Q a) Any t
       (keeps_when (pages < 2 ^ 32) (IsInside pages) Q t inside) asks)
       (λ e a left is. next e a left is.0)
 
@@ -157,7 +163,7 @@ module _ {E C : Type 0} (s : Service E) (changing : Changing E C) (times : Bool)
   broken_stay k d is =
       let p = d.rounds.port in
       performs (Any {A = Unit {0}}) (broken p) d (λ e done. Ends (broken_off s k e)) (λ few. broken_keeps pages p)
-      (broken_asks (IsAskedBy times calls port) line p (inr (at_port d is, tt)))
+      (broken_asks (IsAskedBy false calls port) line p (inr (at_port d is, tt)))
       (λ e done left any. overs e.rounds (kept d e is left))
 
   returned_stays : (k : Which) (q : Queue) (head : ℕ) (d : D) (len : ℕ) → R d → Stands q
@@ -169,7 +175,7 @@ module _ {E C : Type 0} (s : Service E) (changing : Changing E C) (times : Bool)
       performs (Any {A = Unit {0}}) t d (λ e done. Ends (given_back s k e))
       (λ few. subst (λ (n : ℕ). trees.Keeps (IsInside n) (Any {A = Unit {0}}) t) (fine few).1
       (returned_keeps p q used head len (fine few).0))
-      (returned_asks (IsAskedBy times calls port) line writes p (inr (at_port d is, tt)) q used head len)
+      (returned_asks (IsAskedBy false calls port) line writes p (inr (at_port d is, tt)) q used head len)
       (λ e done left any. given k e (kept d e is left))
 
   -- ---- a chain
@@ -190,24 +196,33 @@ module _ {E C : Type 0} (s : Service E) (changing : Changing E C) (times : Bool)
   timed_stays k c d (Some own) is chain =
       serving_stays k c (record { rounds = in_lane k lane_freed d.rounds; own = own }) (freed k d.rounds is) chain
 
-  time_asked_for : (b : Bool) (k : Which) (c : Chain) (e : E) → times ≡ b → s.is_timed k c e ≡ true → times ≡ true
-  time_asked_for true k c e may is = may
-  time_asked_for false k c e may is =
-      let no : true ≡ false = sym is ∙ kind.untimed may k c e in cc
-
   taken_stays : (k : Which) (c : Chain) (d : D) → R d → (pages < 2 ^ 32 → IsChain s pages k c) → Confined (taken s k c d)
   taken_stays k c d is chain =
       stays_if P R S (s.is_timed k c d.own) (s.is_timed k c d.own) _ _ refl (λ asks. waits_on k c d is chain)
       (λ free. serving_stays k c d is chain)
 
-  goes_on_stays : (k : Which) (c : Chain) (d : D) → R d → (pages < 2 ^ 32 → IsChain s pages k c) → Confined (goes_on s k c d)
-  goes_on_stays k c d is chain =
-      stays_if P R S (s.is_timed k c d.own) (s.is_timed k c d.own) _ _ refl
-      (λ asks. (
-        (λ few. tt, inl (time_asked_for times k c d.own refl asks, refl)),
-        λ e reply left fit. timed_stays k c e (s.passes k c (time_of reply) e.own) (kept d e is left) chain,
-      ))
-      (λ free. serving_stays k c (at_rounds (in_lane k lane_freed) d) (freed k d.rounds is) chain)
+  -- an act of the device's own is one too where guest time may be asked
+  asked_more : (timed : Bool) (op : Op) → IsAskedBy false calls port op → IsAskedBy timed calls port op
+  asked_more timed op (inl asks) = let wrong : false ≡ true = asks.0 in absurd (cc)
+  asked_more timed op (inr own) = inr own
+
+  opened : (timed : Option (Which × Chain)) (t : Script D) → Confined t → Opened timed t
+  opened timed (Ends d) stays = stays
+  opened timed (Asks d op on) stays = ((stays.0.0, asked_more (is_some timed) op stays.0.1), stays.1)
+
+  goes_by : (timed : Bool) (k : Which) (c : Chain) (d : D) → R d → (pages < 2 ^ 32 → IsChain s pages k c)
+      → Opened (if timed then Some (k, c) else None)
+      (if timed then time_asked s k c d else serving s k c (at_rounds (in_lane k lane_freed) d))
+  goes_by true k c d is chain = (
+    (λ few. tt, inl (refl, refl)),
+    λ e reply left fit. timed_stays k c e (s.passes k c (time_of reply) e.own) (kept d e is left) chain,
+  )
+  goes_by false k c d is chain =
+      opened None _ (serving_stays k c (at_rounds (in_lane k lane_freed) d) (freed k d.rounds is) chain)
+
+  goes_on_stays : (k : Which) (c : Chain) (d : D) → R d → (pages < 2 ^ 32 → IsChain s pages k c)
+      → Opened (if s.is_timed k c d.own then Some (k, c) else None) (goes_on s k c d)
+  goes_on_stays k c d is chain = goes_by (s.is_timed k c d.own) k c d is chain
 
   pub took_stays : (k : Which) (q : Queue) (head : ℕ) (d : D) (o : Option Taken) → R d → Stands q
       → (pages < 2 ^ 32 → IsTaken s pages k o) → Confined (took s k q head d o)
@@ -263,20 +278,22 @@ module _ {E C : Type 0} (s : Service E) (changing : Changing E C) (times : Bool)
       let fine : Stands q =
       λ few. (sound q (subst (λ (n : ℕ). n < 2 ^ 32) (sym (of_pages few)) few) it, of_pages few) in
       from_stays k next q (chain_walk q next) d is fine
-      (keeps_both (λ op. pages < 2 ^ 32 → IsInside pages op) (IsAskedBy times calls port)
+      (keeps_both (λ op. pages < 2 ^ 32 → IsInside pages op) (IsAskedBy false calls port)
       (λ w. pages < 2 ^ 32 → WalkInside pages w) (Any {A = Walk}) (chain_walk q next)
       (keeps_when (pages < 2 ^ 32) (IsInside pages) (WalkInside pages) (chain_walk q next)
       (λ few. subst (λ (n : ℕ). trees.Keeps (IsInside n) (WalkInside n) (chain_walk q next)) (of_pages few)
       (walk_keeps q next (fine few).0)))
-      (walk_asks (IsAskedBy times calls port) reads q next))
+      (walk_asks (IsAskedBy false calls port) reads q next))
 
   -- ---- groups
 
   lane_stays : (k : Which) (o : Option Queue) (w : Option Chain) (d : D) → R d
-      → (pages < 2 ^ 32 → is_queue s pages o ≡ true) → (pages < 2 ^ 32 → is_waiting s pages k w ≡ true) → Confined (lane_begins s k o w d)
+      → (pages < 2 ^ 32 → is_queue s pages o ≡ true) → (pages < 2 ^ 32 → is_waiting s pages k w ≡ true)
+      → Opened (timed_lane s k o w d.own) (lane_begins s k o w d)
   lane_stays k None w d is queue waiting = is
   lane_stays k (Some q) (Some c) d is queue waiting = goes_on_stays k c d is (λ few. chain_of s pages few k c (waiting few))
-  lane_stays k (Some q) None d is queue waiting = begun_stays k q (queue_flaw q) d refl is (λ few. eqb-true _ _ (queue few))
+  lane_stays k (Some q) None d is queue waiting =
+      opened None _ (begun_stays k q (queue_flaw q) d refl is (λ few. eqb-true _ _ (queue few)))
 
   from_on : (asks : Bool) (d : D) → R d → R (round_from s asks d)
   from_on asks d is = from_by (asks && s.may_ask && s.asks d.own)
@@ -323,21 +340,27 @@ module _ {E C : Type 0} (s : Service E) (changing : Changing E C) (times : Bool)
   over_stays true d is = look_stays d is
   over_stays false d is = wait_stays d is
 
-  next_stays : (o : Option Which) (d : D) → R d → Confined (next_begins s o d)
+  next_stays : (o : Option Which) (d : D) → R d → Opened (timed_next s o d) (next_begins s o d)
   next_stays (Some k) d is =
       let l = lane s k d in
       let fine = λ (few : pages < 2 ^ 32). and_parts (is_queue s pages l.queue) (is_waiting s pages k l.waiting)
       (lane_is s port pages k d.rounds (is.1 few)) in
       lane_stays k l.queue l.waiting d is (λ few. (fine few).0) (λ few. (fine few).1)
-  next_stays None d is = over_stays d.rounds.is_busy (at_rounds round_over d) (overs d.rounds is)
+  next_stays None d is =
+      let now : D = at_rounds round_over d in
+      opened None (over_begins s d.rounds.is_busy now) (over_stays d.rounds.is_busy now (overs d.rounds is))
 
-  begins_stay : (due : Due) (d : D) → R d → Confined (begins_at s due d)
-  begins_stay due.Look d is = look_stays d is
-  begins_stay due.Question d is = question_stays d is
+  begins_stay : (due : Due) (d : D) → R d → Opened (timed_due s due d) (begins_at s due d)
+  begins_stay due.Look d is = opened None (look_begins s d) (look_stays d is)
+  begins_stay due.Question d is = opened None (question_begins s d) (question_stays d is)
   begins_stay (due.Lane k) d is = next_stays (due_from s k d) d is
-  begins_stay due.Wait d is = wait_stays d is
+  begins_stay due.Wait d is = opened None (wait_begins s d) (wait_stays d is)
 
-  opens : (d : D) → R d → Confined (begins s d)
+  -- what may begin the next group
+  abbrev pub First_act : D → Op → Type 0
+  First_act d op = IsDeviceAct (is_some (timed_due s d.rounds.due d)) calls port pages op
+
+  opens : (d : D) → R d → Opened (timed_due s d.rounds.due d) (begins s d)
   opens d is = begins_stay d.rounds.due d is
 
   still : (c : C) (d : D) → R d → R ((own_changing changing).between c d)
@@ -346,20 +369,23 @@ module _ {E C : Type 0} (s : Service E) (changing : Changing E C) (times : Bool)
   leaves : (c : C) (d : D) → S d ((own_changing changing).inside c d)
   leaves c d = refl
 
-  pub act_confined : (t : Script D) → Confined t → P (wants (queue_rules s changing) t)
-  act_confined = wants_keeps (begins s) (own_changing changing) P R S same again (λ few. tt, inr (tt, tt)) opens still leaves
-      (λ c d op reply is. kind.cut c d.own op reply is)
+  pub act_confined : (t : Script D) → Confined t
+      → IsDeviceAct (is_timed_left s t) calls port pages (wants (queue_rules s changing) t)
+  act_confined (Ends d) is =
+      wants_between (begins s) (own_changing changing) First_act P R S same again (λ d. (λ few. tt, inr (tt, tt))) opens still
+      leaves (λ c d op reply is. kind.cut c d.own op reply is) d is
+  act_confined (Asks d op on) is = is.0
 
   pub step_confined : (t : Script D) (reply : Reply) → Confined t → Fits (wants (queue_rules s changing) t) reply
       → Confined (stepped (queue_rules s changing) t reply)
-  step_confined = step_keeps (begins s) (own_changing changing) P R S same again (λ few. tt, inr (tt, tt)) opens still leaves
+  step_confined = step_keeps (begins s) (own_changing changing) First_act P R S same again (λ d. (λ few. tt, inr (tt, tt))) opens still leaves
       (λ c d op reply is. kind.cut c d.own op reply is)
 
   pub change_confined : (t : Script D) (c : C) → Confined t → Confined (changed_at (queue_rules s changing) c t)
-  change_confined = change_keeps (begins s) (own_changing changing) P R S same again (λ few. tt, inr (tt, tt)) opens still leaves
+  change_confined = change_keeps (begins s) (own_changing changing) First_act P R S same again (λ d. (λ few. tt, inr (tt, tt))) opens still leaves
       (λ c d op reply is. kind.cut c d.own op reply is)
 
   pub leads_confined : (t : Script D) (items : List (Item C)) (left : Script D) → Confined t
       → Leads (queue_rules s changing) t items left → Confined left
-  leads_confined = leads_keep (begins s) (own_changing changing) P R S same again (λ few. tt, inr (tt, tt)) opens still leaves
+  leads_confined = leads_keep (begins s) (own_changing changing) First_act P R S same again (λ d. (λ few. tt, inr (tt, tt))) opens still leaves
       (λ c d op reply is. kind.cut c d.own op reply is)

@@ -1,12 +1,12 @@
 -- What is left of a device in a state that it may be in is confined, and tells the device's data.
-use Rattle.std.proofs.Common.{◌≡◌, ℕ, ◌^◌, ◌<◌, refl, sym, ap, subst, ◌∙◌, Bool, true, if◌then◌else◌, inr, Some, ◌==◌, Option}
+use Rattle.std.proofs.Common.{◌≡◌, ℕ, ◌^◌, ◌<◌, refl, sym, ap, subst, ◌∙◌, Bool, true, false, if◌then◌else◌, inr, Some, ◌==◌, Option}
 use Rattle.std.proofs.lemmas.Bool.{and_from, and_parts}
 use Rattle.vm_types.specs.declared.op.Op.{Op}
 use Rattle.vm_types.specs.declared.op.OutOp.{OutOp}
 use Rattle.device_trace.specs.Acts.{IsAskedBy}
 use Rattle.device_trace.specs.Doing.{Doing, Gives, Wants, asked}
 use Rattle.device_trace.specs.Keeps as trees
-use Rattle.device_trace.specs.Script.{Script, Ends, Asks, perform}
+use Rattle.device_trace.specs.Script.{Script, Ends, data_of, perform}
 use Rattle.device_trace.specs.Traces.{Changing}
 use Rattle.vq_split.specs.Inside.{IsInside, WalkInside}
 use Rattle.vq_split.specs.Kept.{is_walking}
@@ -59,7 +59,7 @@ module _ {E G C : Type 0} (s : Service E) (changing : Changing E C) (hand : G �
   D = Queued E
 
   abbrev P : Op → Type 0
-  P = IsDeviceAct times calls port pages
+  P = IsDeviceAct false calls port pages
 
   abbrev R : D → Type 0
   R = HasRounds s port pages
@@ -68,7 +68,7 @@ module _ {E G C : Type 0} (s : Service E) (changing : Changing E C) (hand : G �
   S = LeavesRounds {E = E}
 
   abbrev Confined : Script D → Type 0
-  Confined = IsConfined s times calls port pages
+  Confined = IsConfined s calls port pages
 
   place_stays : (p : Phase) (r : Rounds) (e : E) (g : G) → AreItsRounds s port pages r → is_place times p r ≡ true
       → is_work (work_of p) pages g ≡ true → Confined (left_at s p (hand g) (queued r e))
@@ -90,7 +90,7 @@ module _ {E G C : Type 0} (s : Service E) (changing : Changing E C) (hand : G �
       performs s changing times calls port pages kind (WalkInside pages) (walk_left v) (queued r e) (walked s k v.queue)
       (λ few. subst (λ (n : ℕ). trees.Keeps (IsInside n) (WalkInside n) (walk_left v)) (is few).1
       (walking_keeps v (is few).0))
-      (walk_left_asks (IsAskedBy times calls port) (reads s changing times calls port pages kind) v)
+      (walk_left_asks (IsAskedBy false calls port) (reads s changing times calls port pages kind) v)
       (λ d came left inside. walked_stays s changing times calls port pages kind k v.queue d came
       (kept s changing times calls port pages kind (queued r e) d are left) (λ few. ((is few).0.sound, (is few).1)) inside)
   place_stays (phase.Take c) r e g are place works =
@@ -126,7 +126,7 @@ module _ {E G C : Type 0} (s : Service E) (changing : Changing E C) (hand : G �
       (λ f done. Ends (given_back s c.which f))
       (λ few. subst (λ (n : ℕ). trees.Keeps (IsInside n) (Any {A = Unit {0}}) (return_left stage used)) (h few).1
       (return_keeps stage used (h few).0))
-      (return_left_asks (IsAskedBy times calls port) (line s changing times calls port pages kind)
+      (return_left_asks (IsAskedBy false calls port) (line s changing times calls port pages kind)
       (writes s changing times calls port pages kind) stage used
       (inr (at_port s changing times calls port pages kind (queued r e) are, tt)))
       (λ d done left any. given s changing times calls port pages kind c.which d
@@ -134,7 +134,7 @@ module _ {E G C : Type 0} (s : Service E) (changing : Changing E C) (hand : G �
   place_stays (phase.Break k stage) r e g are place works =
       performs s changing times calls port pages kind (Any {A = Unit {0}}) (break_left stage r.port) (queued r e)
       (λ f done. Ends (broken_off s k f)) (λ few. break_keeps pages stage r.port)
-      (break_left_asks (IsAskedBy times calls port) (line s changing times calls port pages kind) stage r.port
+      (break_left_asks (IsAskedBy false calls port) (line s changing times calls port pages kind) stage r.port
       (inr (at_port s changing times calls port pages kind (queued r e) are, tt)))
       (λ d done left any. overs s changing times calls port pages kind d.rounds
       (kept s changing times calls port pages kind (queued r e) d are left))
@@ -163,7 +163,7 @@ pub state_stays : {E G C : Type 0} (s : Service E) (changing : Changing E C) (ha
     (is_work : Work → ℕ → G → Bool) (IsFine : E → Type 0) (times : Bool) (calls : OutOp → Bool) (p : Phase) (r : Rounds)
     (e : E) (g : G) → Confines s changing times calls
     → Resumes s hand is_work IsFine changing times calls → is_state s times is_work p r g ≡ true
-    → IsConfined s times calls r.port r.pages (left_at s p (hand g) (queued r e))
+    → IsConfined s calls r.port r.pages (left_at s p (hand g) (queued r e))
 state_stays s changing hand is_work IsFine times calls p r e g kind owes is =
     let v = test_parts s times is_work p r g is in
     place_stays s changing hand is_work IsFine times calls r.port r.pages kind owes p r e g (refl, λ few. v.are)
@@ -171,17 +171,13 @@ state_stays s changing hand is_work IsFine times calls p r e g kind owes is =
 
 -- ---- the data at the root of what is left
 
-abbrev root_data : {D : Type 0} → Script D → D
-root_data (Ends d) = d
-root_data (Asks d op on) = d
-
 perform_data : {D A : Type 0} (t : Doing A) (d : D) (more : D → A → Script D) (op : Op) → asked t ≡ Some op
-    → root_data (perform t d more) ≡ d
+    → data_of (perform t d more) ≡ d
 perform_data (Gives a) d more op is = absurd (cc)
 perform_data (Wants o on) d more op is = refl
 
 root_of : {E G : Type 0} (s : Service E) (times : Bool) (hand : G → Hand E) (p : Phase) (r : Rounds) (e : E) (g : G)
-    → is_place times p r ≡ true → root_data (left_at s p (hand g) (queued r e)) ≡ queued r e
+    → is_place times p r ≡ true → data_of (left_at s p (hand g) (queued r e)) ≡ queued r e
 root_of s times hand phase.Between r e g place = refl
 root_of s times hand phase.Question r e g place = refl
 root_of s times hand (phase.Walk k v) r e g place =
@@ -205,5 +201,5 @@ pub state_one : {E G : Type 0} (s : Service E) (times : Bool) (hand : G → Hand
 state_one s times hand is_work p q r t e f g h is at same =
     let v = test_parts s times is_work p r g is in
     let w = test_parts s times is_work q t h at in
-    sym (root_of s times hand p r e g v.place) ∙ ap root_data same
+    sym (root_of s times hand p r e g v.place) ∙ ap data_of same
     ∙ root_of s times hand q t f h w.place

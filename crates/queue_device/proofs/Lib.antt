@@ -6,8 +6,11 @@ pub mod GoesOn
 pub mod Keeping
 pub mod KeptRounds
 pub mod KeptStays
+pub mod Owning
+pub mod PieceActs
 pub mod Pieces
 pub mod Places
 pub mod Spilling
 pub mod Steps
+pub mod Timed
 pub mod Walks

@@ -63,10 +63,11 @@ module _ {E : Type 0} (s : Service E) where
   abbrev pub HasRounds : ℕ → ℕ → Queued E → Type 0
   HasRounds port pages d = AreItsRounds port pages d.rounds
 
-  -- what is still to be done asks for no act but the device's own, or guest time, whatever is replied and changed
-  abbrev pub IsConfined : Bool → (OutOp → Bool) → ℕ → ℕ → Script (Queued E) → Type 0
-  IsConfined times calls port pages t =
-      Stays (IsDeviceAct times calls port pages) (HasRounds port pages) (LeavesRounds {E = E}) t
+  -- what is still to be done of a group asks for no act but the device's own, whatever is replied and changed: guest time is
+  -- asked by the first act of a group alone
+  abbrev pub IsConfined : (OutOp → Bool) → ℕ → ℕ → Script (Queued E) → Type 0
+  IsConfined calls port pages t =
+      Stays (IsDeviceAct false calls port pages) (HasRounds port pages) (LeavesRounds {E = E}) t
 
   -- ---- what a kind owes
 
@@ -84,16 +85,16 @@ module _ {E : Type 0} (s : Service E) where
     pub got : AreInside pages c.got.parts
     pub taken : s.is_taken k c.parts c.got ≡ true
 
-  -- The kind's own acts are such, over a chain inside RAM; it asks guest time only where it may; and what a change leaves out
-  -- is answered as it may be.
+  -- The kind's own acts are such, over a chain inside RAM; for none of its chains guest time is asked where it may not be; and
+  -- what a change leaves out is answered as it may be.
   pub record Confines {C : Type 0} (changing : Changing E C) (times : Bool) (calls : OutOp → Bool) : Type 0 where
-    pub question : (port pages : ℕ) (e : E) → IsDeviceAct times calls port pages (s.question e)
+    pub question : (port pages : ℕ) (e : E) → IsDeviceAct false calls port pages (s.question e)
     pub answer : (port pages : ℕ) (before e : E) (reply : Reply) → Fits (s.question before) reply →
-        ActingKeeps (IsDeviceAct times calls port pages) (λ (received : Bool). Unit {0}) (s.answer e reply)
+        ActingKeeps (IsDeviceAct false calls port pages) (λ (received : Bool). Unit {0}) (s.answer e reply)
     pub take : (port pages : ℕ) (k : Which) (parts : List Part) (e : E) → (pages < 2 ^ 32 → AreInside pages parts) →
-        ActingKeeps (IsDeviceAct times calls port pages) (λ (t : Option Taken). pages < 2 ^ 32 → IsTaken pages k t)
+        ActingKeeps (IsDeviceAct false calls port pages) (λ (t : Option Taken). pages < 2 ^ 32 → IsTaken pages k t)
         (s.take k parts e)
     pub serve : (port pages : ℕ) (k : Which) (c : Chain) (e : E) → (pages < 2 ^ 32 → IsChain pages k c) →
-        ActingKeeps (IsDeviceAct times calls port pages) (λ (len : Option ℕ). Unit {0}) (s.serve k c e)
+        ActingKeeps (IsDeviceAct false calls port pages) (λ (len : Option ℕ). Unit {0}) (s.serve k c e)
     pub untimed : times ≡ false → (k : Which) (c : Chain) (e : E) → s.is_timed k c e ≡ false
     pub cut : (c : C) (e : E) (op : Op) (reply : Reply) → changing.cut c e op ≡ Some reply → Fits op reply

@@ -4,7 +4,9 @@ pub mod Confined
 pub mod Kept
 pub mod Lanes
 pub mod Left
+pub mod Owning
 pub mod Resuming
 pub mod Rounds
+pub mod Timing
 pub mod Service
 pub mod Spilling

@@ -1,5 +1,5 @@
 -- What a kind owes so that a device goes on from what is kept of it.
-use Rattle.std.specs.Prelude.{◌≡◌, ◌<◌, ◌≤◌, ◌^◌, ◌⊎◌, ℕ, Bool, true, Option, Some, None, List, length}
+use Rattle.std.specs.Prelude.{◌≡◌, ◌<◌, ◌≤◌, ◌^◌, ◌⊎◌, ℕ, Bool, true, false, Option, Some, None, List, length}
 use Rattle.vm_types.specs.declared.op.OutOp.{OutOp}
 use Rattle.vm_types.specs.declared.reply.Reply.{Reply}
 use Rattle.vm_types.specs.Fits.{Fits}
@@ -74,18 +74,18 @@ module _ {E G : Type 0} (s : Service E) (hand : G → Hand E) (is_work : Work �
     pub rest : G
     pub rests : (pages : ℕ) → is_work work.Rest pages rest ≡ true
     pub answering_stays : (port pages : ℕ) (g : G) → is_work work.Answer pages g ≡ true →
-        IsDeviceAct times calls port pages (hand g).op
+        IsDeviceAct false calls port pages (hand g).op
         × ((e : E) (reply : Reply) → Fits (hand g).op reply →
-        ActingKeeps (IsDeviceAct times calls port pages) Any ((hand g).answering e reply))
+        ActingKeeps (IsDeviceAct false calls port pages) Any ((hand g).answering e reply))
     pub taking_stays : (port pages : ℕ) (k : Which) (g : G) → is_work (work.Take k) pages g ≡ true →
-        IsDeviceAct times calls port pages (hand g).op
+        IsDeviceAct false calls port pages (hand g).op
         × ((e : E) (reply : Reply) → Fits (hand g).op reply →
-        ActingKeeps (IsDeviceAct times calls port pages) (λ (t : Option Taken). pages < 2 ^ 32 → IsTaken s pages k t)
+        ActingKeeps (IsDeviceAct false calls port pages) (λ (t : Option Taken). pages < 2 ^ 32 → IsTaken s pages k t)
         ((hand g).taking e reply))
     pub serving_stays : (port pages : ℕ) (k : Which) (g : G) → is_work (work.Serve k) pages g ≡ true →
-        IsDeviceAct times calls port pages (hand g).op
+        IsDeviceAct false calls port pages (hand g).op
         × ((e : E) (reply : Reply) → Fits (hand g).op reply →
-        ActingKeeps (IsDeviceAct times calls port pages) Any ((hand g).serving e reply))
+        ActingKeeps (IsDeviceAct false calls port pages) Any ((hand g).serving e reply))
     pub answer : (pages : ℕ) (before e : E) (reply : Reply) → pages ≤ 2 ^ 20 → IsFine e →
         Fits (s.question before) reply → Goes answering_of work.Answer pages Any (s.answer e reply)
     pub answering : (pages : ℕ) (g : G) (e : E) (reply : Reply) → pages ≤ 2 ^ 20 → IsFine e →

@@ -13,34 +13,35 @@ ghost use Rattle.queue_device.specs.Lanes.{new_rounds};
 ghost use Rattle.queue_device.specs.Left.{left_at, queued};
 ghost use Rattle.queue_device.specs.Resuming.{HasKept, Resumes};
 ghost use Rattle.queue_device.specs.Rounds.{queue_rules};
+ghost use Rattle.queue_device.specs.Timing.{is_timed_left};
 ghost use Rattle.queue_device.specs.Service.{Queued};
 
 use crate::kind::Kind;
 
 /// Where the kind keeps to its own, so does the device at this port: whatever is replied and changed, each act that it wants is
-/// its own or, where the kind may, asks for guest time, it asks its host object for the kind's calls alone, and in a guest of
-/// fewer than 2^32 pages it touches no byte outside RAM. That holds from new rounds on, with a chain that waits, and wherever
-/// its items lead.
+/// its own, or asks for guest time where a chain waits that is due and that the kind times by its data of that moment; it asks its
+/// host object for the kind's calls alone, and in a guest of fewer than 2^32 pages it touches no byte outside RAM. That holds from
+/// new rounds on, with a chain that waits, and wherever its items lead.
 pub fn queue_stays<T: Kind>()
     ensures begins { (port pages : ℕ) → AreItsRounds T.service port pages (new_rounds port pages) }
     ensures leads { (port pages : ℕ) (start left : Script (Queued T.Own)) (items : List (Item T.Change)) →
         Confines T.service T.changing T.times T.calls →
-        IsConfined T.service T.times T.calls port pages start →
+        IsConfined T.service T.calls port pages start →
         Leads (queue_rules T.service T.changing) start items left →
-        IsConfined T.service T.times T.calls port pages left }
+        IsConfined T.service T.calls port pages left }
     ensures acts { (port pages : ℕ) (left : Script (Queued T.Own)) →
-        Confines T.service T.changing T.times T.calls → IsConfined T.service T.times T.calls port pages left →
-        IsDeviceAct T.times T.calls port pages (wants (queue_rules T.service T.changing) left) }
+        Confines T.service T.changing T.times T.calls → IsConfined T.service T.calls port pages left →
+        IsDeviceAct (is_timed_left T.service left) T.calls port pages (wants (queue_rules T.service T.changing) left) }
 {}
 
 /// What is left of a device in a state that it may be in is confined, where the kind keeps to its own: it asks for no act but
-/// its own, or guest time where the kind may, inside RAM of so many pages, whatever is replied and changed.
+/// its own inside RAM of so many pages, whatever is replied and changed, and no guest time inside a group.
 pub fn queue_kept<T: Kind>()
     ensures { (p : Phase) (r : Rounds) (e : T.Own) (g : T.Stage) →
         Confines T.service T.changing T.times T.calls →
         Resumes T.service T.hand T.is_work T.IsFine T.changing T.times T.calls →
         is_state T.service T.times T.is_work p r g ≡ true →
-        IsConfined T.service T.times T.calls r.port r.pages (left_at T.service p (T.hand g) (queued r e)) }
+        IsConfined T.service T.calls r.port r.pages (left_at T.service p (T.hand g) (queued r e)) }
 {}
 
 /// Of two devices in states that they may be in of which as much is left to do the data are one.

@@ -1,6 +1,6 @@
 -- Two buckets that let a need pass together. Each part is said of a bucket that may be absent: without one
 -- there is no limit.
-use Rattle.std.specs.Prelude.{◌≡◌, ℕ, max, ◌&&◌, ◌||◌, Bool, true, List, ◌∷◌, Option, Some, None, is_some, unwrap_or}
+use Rattle.std.specs.Prelude.{◌≡◌, ℕ, max, ◌&&◌, ◌||◌, Bool, true, List, ◌∷◌, Option, Some, None, if◌then◌else◌, is_some, unwrap_or}
 use Rattle.token_bucket.specs.Allowance.{Start, Need, may_pass, moment_at}
 use Rattle.token_bucket.specs.Kept.{Kept, Keeps, IsWait, takes, took, waits_until}
 
@@ -45,6 +45,10 @@ gate_took gate bytes now =
       bandwidth = bucket_took gate.bandwidth bytes now;
       ops = bucket_took gate.ops ops_need now;
     }
+
+-- the buckets of a request of so many bytes, where it passes at a moment
+abbrev pub gate_passes : Buckets → ℕ → ℕ → Option Buckets
+gate_passes gate bytes now = if gate_takes gate bytes now then Some (gate_took gate bytes now) else None
 
 -- the later of the moments that they wait for
 abbrev pub gate_wait : Buckets → ℕ → ℕ

@@ -1,8 +1,8 @@
 // The gate, and what a request is told.
-ghost use Rattle.std.specs.Prelude.{◌≡◌, ◌↔◌, ◌≢◌, ℕ, IsTrue, true, false, option_map, unwrap_or};
+ghost use Rattle.std.specs.Prelude.{◌≡◌, ◌↔◌, ◌≢◌, ℕ, IsTrue, true, false, Some, None, if◌then◌else◌, option_map, unwrap_or};
 ghost use Rattle.token_bucket.specs.Kept.{saved_of};
 ghost use Rattle.rate_gate.specs.Gate.{Buckets, Allows, Adds, WaitsFor, WaitsForBoth, ops_need};
-ghost use Rattle.rate_gate.specs.Gate.{bucket_takes, bucket_took, bucket_wait, gate_takes, gate_took, is_limited, with_buckets};
+ghost use Rattle.rate_gate.specs.Gate.{bucket_takes, bucket_took, bucket_wait, gate_passes, gate_takes, gate_took, is_limited, with_buckets};
 ghost use Rattle.rate_gate.specs.Passing.{told};
 ghost use Rattle.rate_gate.specs.Saved.{HaveSameRates, bucket_at, gate_at, gate_saved};
 ghost use Rattle.rate_gate.specs.Lives.{LivesOn, StaysBounded};
@@ -195,11 +195,12 @@ impl RateGate {
     }
 
     /// Whether so many bytes and one operation pass at a moment; where they don't, nothing changes.
-    #[tactic(auto, using(crate::proofs::Passing::go_takes, crate::proofs::Passing::wait_waits))]
+    #[tactic(auto, using(crate::proofs::Passing::go_takes, crate::proofs::Passing::wait_waits, crate::proofs::Passing::passes_told,))]
     pub fn passes(&mut self, bytes: u64, now: u64) -> bool
         ensures takes { result ≡ gate_takes self.old bytes now }
         ensures took { result ≡ true → self.new ≡ gate_took self.old bytes now }
         ensures stays { result ≡ false → self.new ≡ self.old }
+        ensures passes { gate_passes self.old bytes now ≡ (if result then Some self.new else None) }
     {
         match self.take(bytes, now) {
             Pass::Go => true,

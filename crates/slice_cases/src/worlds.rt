@@ -1,6 +1,7 @@
 // Worlds of two harts, and a clock for their slices.
 use boot_loader::Loads;
 use guest_devices::{NewDevice, NewDrive};
+use rate_gate::RateGate;
 use std::alloc::Global;
 use vm_host::Clock;
 use vm_types::{Entry, Op, is_same_op, is_same_place, is_same_reply};
@@ -52,6 +53,7 @@ fn drive(sectors: u64) -> NewDevice {
         sectors,
         is_read_only: false,
         offers_flush: false,
+        limits: RateGate::new(None, None),
     })
 }
 

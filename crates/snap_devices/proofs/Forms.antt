@@ -1,5 +1,5 @@
 -- What a block device keeps in a state that it may be in is what its form in a file stands for.
-use Rattle.std.proofs.Common.{◌≡◌, ℕ, ◌==◌, ◌+◌, refl, sym, ap, subst, Bool, true, false, ◌&&◌, not, if◌then◌else◌, Option, Some, None, is_some, List, length}
+use Rattle.std.proofs.Common.{◌≡◌, ℕ, ◌==◌, ◌+◌, refl, sym, ap, subst, ◌∙◌, Bool, true, false, ◌&&◌, not, if◌then◌else◌, Option, Some, None, is_some, List, length}
 use Rattle.std.proofs.lemmas.Bool.{and_from, and_parts, eqb-true}
 use Rattle.vq_split.specs.declared.queue.Part.{Part}
 use Rattle.vq_split.specs.declared.queue.Queue.{Queue}
@@ -18,8 +18,8 @@ use Rattle.queue_device.specs.declared.phase.InHand.{InHand}
 use Rattle.queue_device.specs.declared.phase.Phase.{Phase}
 use Rattle.queue_device.specs.declared.phase.Phase.TheVariants as phase
 use Rattle.queue_device.specs.Confined.{are_lanes, is_lane, is_queue}
-use Rattle.queue_device.specs.Kept.{are_kept, are_own_lanes, is_at_lane, is_in_hand, is_new, is_next, is_of_round, is_over}
-use Rattle.queue_device.specs.Kept.{is_place, is_same_queue, is_told, work_of}
+use Rattle.queue_device.specs.Kept.{are_kept, are_own_lanes, is_at_lane, is_in_hand, is_new, is_next, is_of_round, is_over, is_own_lane}
+use Rattle.queue_device.specs.Kept.{is_place, is_same_queue, is_taken_of, is_told, work_of}
 use Rattle.queue_device.specs.Lanes.{lane_of, new_lane}
 use Rattle.block_device.specs.declared.kind.BlockKind.{BlockKind}
 use Rattle.block_device.specs.declared.work.BlockStage.{BlockStage}
@@ -30,9 +30,11 @@ use Rattle.block_device.specs.States.{is_state}
 use Rattle.block_device.specs.Working.{Working}
 use Rattle.block_device.proofs.Kept.{work_of as work_parts}
 use Rattle.snap_devices.specs.declared.file.FileBlock.{FileBlock}
-use Rattle.snap_devices.specs.declared.file.FilePhase.TheVariants.{Between, Break, Header, Serve, Return}
-use Rattle.snap_devices.specs.Forms.{due_filed, due_kept, file_of, in_hand, is_form, is_header_long, is_plain, is_queue_due, is_walk_alone}
-use Rattle.snap_devices.specs.Forms.{kept_of, phase_filed, phase_kept, queue_filed, queue_kept, rounds_kept, served_filed, stage_kept, walk_filed}
+use Rattle.snap_devices.specs.declared.file.FileMore.{FileMore}
+use Rattle.snap_devices.specs.declared.file.FilePhase.{FilePhase}
+use Rattle.snap_devices.specs.Forms.{data_filed, due_filed, due_kept, file_of, hand_filed, hand_kept, in_hand, is_form, is_hand}
+use Rattle.snap_devices.specs.Forms.{is_header_long, is_plain, is_queue_due, is_walk_alone, kept_of, other_queue, phase_filed}
+use Rattle.snap_devices.specs.Forms.{phase_kept, queue_filed, queue_kept, rounds_kept, served_filed, stage_kept, walk_filed}
 
 -- ---- lanes
 
@@ -93,22 +95,20 @@ round_some (Some shown) q is = refl
 record OneLane (r : Rounds) : Type 0 where
   second : r.second ≡ new_lane
   third : r.third ≡ new_lane
-  waiting : r.first.waiting ≡ None
   queue : is_queue block r.pages r.first.queue ≡ true
   next : is_next false r.due r ≡ true
 
-one_lane : (r : Rounds) → are_kept block false r ≡ true → OneLane r
+one_lane : (r : Rounds) → are_kept block true r ≡ true → OneLane r
 one_lane r is =
     let b = and_parts _ (is_next false r.due r) is in
-    let a = and_parts (are_lanes block r.pages r) (are_own_lanes block false r) b.0 in
+    let a = and_parts (are_lanes block r.pages r) (are_own_lanes block true r) b.0 in
     let own = and_parts _ (is_new r.third) a.1 in
-    let first = and_parts (not (is_some r.first.waiting)) (is_new r.second) own.0 in
+    let first = and_parts (is_own_lane true true r.first) (is_new r.second) own.0 in
     let lanes = and_parts _ (is_lane block r.pages Third r.third) a.0 in
     let lane = and_parts (is_lane block r.pages First r.first) (is_lane block r.pages Second r.second) lanes.0 in
     record {
       second = new_is r.second first.1;
       third = new_is r.third own.1;
-      waiting = none_of r.first.waiting first.0;
       queue = (and_parts (is_queue block r.pages r.first.queue) _ lane.0).0;
       next = b.1;
     }
@@ -144,13 +144,13 @@ due_back due.Wait r one is = refl
 due_back due.Question r one is = absurd (cc)
 due_back (due.Lane k) r one is = ap due.Lane (sym (first_is k r one is))
 
-rounds_back : (b : QueueRounds BlockKind) → OneLane b.rounds → b.rounds ≡ rounds_kept (file_of b).facts
+rounds_back : (b : QueueRounds BlockKind) → OneLane b.rounds → b.rounds ≡ rounds_kept (data_filed b) b.rounds.first.waiting
 rounds_back b one =
     let r = b.rounds in
     λ i. record {
       first = record {
         queue = queue_back r.due r one one.next i;
-        waiting = one.waiting i;
+        waiting = r.first.waiting;
         next = r.first.next;
         used = r.first.used;
         is_kicked = r.first.is_kicked;
@@ -165,18 +165,22 @@ rounds_back b one =
 
 -- ---- where it is, and the kind's stage
 
-hand_is : (c : InHand) (r : Rounds) → OneLane r → is_in_hand false c r ≡ true
-    → c ≡ in_hand (queue_filed r.pages r.first.queue) c.head
-hand_is c r one is =
-    let round = (and_parts _ (is_of_round (lane_of c.which r).queue c.queue) is).1 in
-    let k = first_is c.which r one (round_some _ c.queue round) in
-    let here : is_of_round r.first.queue c.queue ≡ true =
-    subst (λ (w : Which). is_of_round (lane_of w r).queue c.queue ≡ true) (sym k) round in
-    λ i. record { which = sym k i; queue = of_round r.first.queue c.queue r.pages here i; head = c.head }
+hand_by : (t : Bool) (q c : Queue) → is_same_queue q c ≡ t → c ≡ hand_kept (if t then None else Some c) q
+hand_by true q c is = same_is q c is
+hand_by false q c is = refl
 
-phase_back : (p : Phase) (s : BlockStage) (from : Collect) (r : Rounds) → OneLane r → is_place false p r ≡ true
+hand_is : (c : InHand) (r : Rounds) → OneLane r → is_in_hand true c r ≡ true
+    → c ≡ in_hand (hand_kept (other_queue (queue_filed r.pages r.first.queue) c.queue) (queue_filed r.pages r.first.queue)) c.head
+hand_is c r one is =
+    let some = (and_parts _ (is_taken_of true (lane_of c.which r).queue c.queue) is).1 in
+    let k = first_is c.which r one some in
+    let q = queue_filed r.pages r.first.queue in
+    λ i. record { which = sym k i; queue = hand_by (is_same_queue q c.queue) q c.queue refl i; head = c.head }
+
+phase_back : (p : Phase) (s : BlockStage) (from : Collect) (r : Rounds) → OneLane r → is_place true p r ≡ true
     → is_of (work_of p) s ≡ true
-    → p ≡ phase_kept (walk_filed p) (phase_filed p s from) (queue_filed r.pages r.first.queue)
+    → p ≡ phase_kept (walk_filed p) (phase_filed p s from)
+    (hand_kept (hand_filed p (queue_filed r.pages r.first.queue)) (queue_filed r.pages r.first.queue))
 phase_back phase.Between s from r one place of = refl
 phase_back phase.Question s from r one place of = absurd (cc)
 phase_back (phase.Walk k w) s from r one place of =
@@ -222,13 +226,13 @@ stage_back (phase.Break k stage) (at.Serve place s) from of = absurd (cc)
 
 record Parts (b : QueueRounds BlockKind) : Type 0 where
   one : OneLane b.rounds
-  place : is_place false b.phase b.rounds ≡ true
+  place : is_place true b.phase b.rounds ≡ true
   of : is_of (work_of b.phase) b.kind.work.stage ≡ true
 
 parts_of : (b : QueueRounds BlockKind) → is_state b ≡ true → Parts b
 parts_of b is =
     let z = and_parts _ (is_work (work_of b.phase) b.rounds.pages b.kind.work) is in
-    let y = and_parts (are_kept block false b.rounds) (is_place false b.phase b.rounds) z.0 in
+    let y = and_parts (are_kept block true b.rounds) (is_place true b.phase b.rounds) z.0 in
     record {
       one = one_lane b.rounds y.0;
       place = y.1;
@@ -281,12 +285,31 @@ plain_header (phase.Serve c) s from = served_header c.head s from
 plain_header (phase.Return c len stage) s from = refl
 plain_header (phase.Break k stage) s from = refl
 
+other_hand : (t : Bool) (q c : Queue) (p : FilePhase) → is_same_queue q c ≡ t
+    → is_hand (Some c) None p q ≡ not (is_same_queue q c) → is_hand (if t then None else Some c) None p q ≡ true
+other_hand true q c p is told = refl
+other_hand false q c p is told = told ∙ ap not is
+
+plain_hand : (p : Phase) (s : BlockStage) (from : Collect) (q : Queue) → is_of (work_of p) s ≡ true
+    → is_hand (hand_filed p q) (walk_filed p) (phase_filed p s from) q ≡ true
+plain_hand phase.Between s from q of = refl
+plain_hand phase.Question s from q of = refl
+plain_hand (phase.Walk k w) s from q of = refl
+plain_hand (phase.Take c) s from q of = other_hand (is_same_queue q c.queue) q c.queue _ refl refl
+plain_hand (phase.Serve c) at.Rest from q of = absurd (cc)
+plain_hand (phase.Serve c) at.Header from q of = absurd (cc)
+plain_hand (phase.Serve c) (at.Serve place s) from q of = other_hand (is_same_queue q c.queue) q c.queue _ refl refl
+plain_hand (phase.Return c len stage) s from q of = other_hand (is_same_queue q c.queue) q c.queue _ refl refl
+plain_hand (phase.Break k stage) s from q of = refl
+
 plain_is : (b : QueueRounds BlockKind) → Parts b → is_plain (file_of b) ≡ true
 plain_is b it =
     let w = b.kind.work in
     and_from _ _
+    (and_from _ _
     (and_from _ _ (plain_queue b.rounds.due b.rounds it.one.next) (plain_walk b.phase w.stage w.from))
-    (plain_header b.phase w.stage w.from)
+    (plain_header b.phase w.stage w.from))
+    (plain_hand b.phase w.stage w.from (queue_filed b.rounds.pages b.rounds.first.queue) it.of)
 
 pub stands : (b : QueueRounds BlockKind) → is_state b ≡ true → (b ≡ kept_of (file_of b)) × (is_form (file_of b) ≡ true)
 stands b is =
@@ -304,12 +327,15 @@ off_second : (a b : Bool) → b ≡ false → (a && b) ≡ false
 off_second false b is = refl
 off_second true b is = is
 
-pub unsound_off : (c : InHand) (r : Rounds) → is_sound c.queue ≡ false → (is_at_lane r.due && is_in_hand false c r) ≡ false
+pub unsound_off : (c : InHand) (r : Rounds) → is_sound c.queue ≡ false → (is_at_lane r.due && is_in_hand true c r) ≡ false
 unsound_off c r is = off_second (is_at_lane r.due) _ (off_first _ _ (off_first (is_sound c.queue) _ is))
 
-pub place_off : (f : FileBlock)
-    → ((r : Rounds) → is_place false (phase_kept f.walk f.phase f.facts.queue) r ≡ false) → is_state (kept_of f) ≡ false
-place_off f off = off_first _ _ (off_second (are_kept block false (rounds_kept f.facts)) _ (off (rounds_kept f.facts)))
+pub place_off : (f : FileBlock) (m : FileMore)
+    → ((r : Rounds) → is_place true (phase_kept f.walk f.phase (hand_kept m.in_hand f.facts.queue)) r ≡ false)
+    → is_state (kept_of (f, m)) ≡ false
+place_off f m off =
+    off_first _ _
+    (off_second (are_kept block true (rounds_kept f.facts m.waiting)) _ (off (rounds_kept f.facts m.waiting)))
 
 none_test : (test : Bool) (w : Working) → Option.None ≡ (if test then Some w else None) → test ≡ false
 none_test true w is = absurd (cc)
@@ -320,7 +346,8 @@ pub none_at : (s : BlockStage) (from : Collect) (to : List Part) → Option.None
     → is_at s from to ≡ false
 none_at s from to is = none_test (is_at s from to) (record { stage = s; from = from; to = to }) is
 
-pub work_off : (f : FileBlock) → is_at (stage_kept f.phase) f.from f.to ≡ false → is_state (kept_of f) ≡ false
-work_off f off =
-    off_second (are_kept block false (rounds_kept f.facts) && is_place false (kept_of f).phase (rounds_kept f.facts)) _
+pub work_off : (f : FileBlock) (m : FileMore) → is_at (stage_kept f.phase) f.from f.to ≡ false → is_state (kept_of (f, m)) ≡ false
+work_off f m off =
+    off_second (are_kept block true (rounds_kept f.facts m.waiting)
+    && is_place true (kept_of (f, m)).phase (rounds_kept f.facts m.waiting)) _
     (off_first _ _ (off_first _ _ (off_first _ _ (off_second _ _ off))))

@@ -1,4 +1,5 @@
 pub mod Lengths
 pub mod Forms
 pub mod Reading
+pub mod Writing
 pub mod Three

@@ -1,31 +1,132 @@
--- A block device is read by its form.
-use Rattle.std.proofs.Common.{◌≡◌, ℕ, ap, ◌∙◌, Bool, true, false, if◌then◌else◌, List, Option, Some, None, option_map}
+-- A block device is read by its form and what stands behind it, and so is a device.
+use Rattle.std.proofs.Common.{◌≡◌, ℕ, zero, suc, refl, sym, ap, ◌∙◌, Bool, true, false, if◌then◌else◌, List, Option, Some, None}
 use Rattle.std.specs.Option.{option_and_then}
+use Rattle.file_format.specs.Ends.{end_at, ended, whole}
+use Rattle.file_format.specs.Kinds.{byte}
 use Rattle.queue_device.specs.declared.device.QueueRounds.{QueueRounds}
 use Rattle.block_device.specs.declared.kind.BlockKind.{BlockKind}
+use Rattle.balloon_device.specs.States.{is_state}
+use Rattle.balloon_device.specs.Work.{Kept}
+use Rattle.guest_devices.specs.declared.device.Device.{Device}
+use Rattle.guest_devices.specs.declared.device.Device.TheVariants as kept
 use Rattle.snap_devices.specs.declared.file.FileBlock.{FileBlock}
+use Rattle.snap_devices.specs.declared.file.FileMore.{FileMore}
+use Rattle.snap_devices.specs.Balloons.{balloon, balloon_fields}
 use Rattle.snap_devices.specs.Blocks.{block, block_fields}
+use Rattle.snap_devices.specs.Devices.{device, devices}
 use Rattle.snap_devices.specs.Forms.{is_form, kept_of}
+use Rattle.snap_devices.specs.Limits.{end_of_device}
 
-abbrev made : FileBlock × List ℕ → Option (QueueRounds BlockKind × List ℕ)
-made x = Some (kept_of x.0, x.1)
+abbrev Whole : Type 0
+Whole = FileBlock × FileMore
 
-abbrev tested : FileBlock × List ℕ → Option (FileBlock × List ℕ)
-tested x = if is_form x.0 then Some x else None
+abbrev made : Whole → Option (QueueRounds BlockKind)
+made x = Some (kept_of x)
 
-abbrev before : List ℕ → QueueRounds BlockKind → QueueRounds BlockKind × List ℕ
-before rest b = (b, rest)
+abbrev tested : Whole → Option Whole
+tested x = if is_form x then Some x else None
 
-chosen : (test : Bool) (f : FileBlock) (b : QueueRounds BlockKind) (rest : List ℕ)
-    → (if test then Some (kept_of f) else None) ≡ Some b
-    → option_and_then made (if test then Some (f, rest) else None) ≡ Some (before rest b)
-chosen true f b rest is = ap (λ (o : Option (QueueRounds BlockKind)). option_map (before rest) o) is
-chosen false f b rest is = absurd (cc)
+abbrev behind : FileBlock × List ℕ → Option Whole
+behind x = option_and_then (λ (m : FileMore). Some (x.0, m)) (end_at end_of_device x.1)
 
-pub reads_as : (given rest : List ℕ) (f : FileBlock) (b : QueueRounds BlockKind)
-    → block_fields.reads given ≡ Some (f, rest) → (if is_form f then Some (kept_of f) else None) ≡ Some b
-    → block.reads given ≡ Some (b, rest)
-unfolding block
-reads_as given rest f b read is =
-    ap (λ (r : Option (FileBlock × List ℕ)). option_and_then made (option_and_then tested r)) read
-    ∙ chosen (is_form f) f b rest is
+chosen : (test : Bool) (x : Whole) (o : Option (QueueRounds BlockKind)) → (if test then Some (kept_of x) else None) ≡ o
+    → option_and_then made (if test then Some x else None) ≡ o
+chosen true x o is = is
+chosen false x o is = is
+
+abbrev pub reads_by : Option (FileBlock × List ℕ) → Option (QueueRounds BlockKind)
+reads_by read = option_and_then made (option_and_then tested (option_and_then behind read))
+
+pub read_block : (given : List ℕ) → block.reads given ≡ reads_by (block_fields.reads given)
+unfolding block ended
+read_block given = refl
+
+pub fields_bad : (given : List ℕ) → block_fields.reads given ≡ None → block.reads given ≡ None
+fields_bad given read = read_block given ∙ ap reads_by read
+
+with_end : (given rest : List ℕ) (f : FileBlock) (o : Option FileMore) → block_fields.reads given ≡ Some (f, rest)
+    → end_at end_of_device rest ≡ o
+    → block.reads given ≡ option_and_then made (option_and_then tested (option_and_then (λ (m : FileMore). Some (f, m)) o))
+with_end given rest f o read end =
+    read_block given ∙ ap reads_by read
+    ∙ ap (λ (e : Option FileMore). option_and_then made (option_and_then tested (option_and_then (λ (m : FileMore). Some (f, m)) e))) end
+
+pub end_bad : (given rest : List ℕ) (f : FileBlock) → block_fields.reads given ≡ Some (f, rest)
+    → end_at end_of_device rest ≡ None → block.reads given ≡ None
+end_bad given rest f read end = with_end given rest f None read end
+
+pub reads_as : (given rest : List ℕ) (f : FileBlock) (m : FileMore) (o : Option (QueueRounds BlockKind))
+    → block_fields.reads given ≡ Some (f, rest) → end_at end_of_device rest ≡ Some m
+    → (if is_form (f, m) then Some (kept_of (f, m)) else None) ≡ o → block.reads given ≡ o
+reads_as given rest f m o read end is = with_end given rest f (Some m) read end ∙ chosen (is_form (f, m)) (f, m) o is
+
+-- ---- a device
+
+pub other_kind : (code : ℕ) (given : List ℕ) → (code ≡ 1 → ⊥) → (code ≡ 2 → ⊥) → (devices code).reads given ≡ None
+other_kind zero given first second = refl
+other_kind (suc zero) given first second = absurd (first refl)
+other_kind (suc (suc zero)) given first second = absurd (second refl)
+other_kind (suc (suc (suc n))) given first second = refl
+
+pub kind_bad : (given : List ℕ) → byte.reads given ≡ None → device.reads given ≡ None
+unfolding device
+kind_bad given read = ap (option_and_then (λ (x : ℕ × List ℕ). (devices x.0).reads x.1)) read
+
+pub kind_read : (given rest : List ℕ) (code : ℕ) (o : Option Device) → byte.reads given ≡ Some (code, rest)
+    → (devices code).reads rest ≡ o → device.reads given ≡ o
+unfolding device
+kind_read given rest code o read is = ap (option_and_then (λ (x : ℕ × List ℕ). (devices x.0).reads x.1)) read ∙ is
+
+-- of a block device
+pub block_is : (given rest : List ℕ) (b : QueueRounds BlockKind) → byte.reads given ≡ Some (1, rest)
+    → block.reads rest ≡ Some b → device.reads given ≡ Some (kept.Block b)
+block_is given rest b read is =
+    kind_read given rest 1 (Some (kept.Block b)) read (ap (option_and_then (λ (a : QueueRounds BlockKind). Some (kept.Block a))) is)
+
+pub block_none : (given rest : List ℕ) → byte.reads given ≡ Some (1, rest) → block.reads rest ≡ None → device.reads given ≡ None
+block_none given rest read is =
+    kind_read given rest 1 None read (ap (option_and_then (λ (a : QueueRounds BlockKind). Some (kept.Block a))) is)
+
+-- ---- a balloon is read where it is in a state that it may be in
+
+abbrev Read : Type 0
+Read = QueueRounds Kept × List ℕ
+
+chosen_balloon : (test : Bool) (b it : QueueRounds Kept) (rest : List ℕ) → Some it ≡ (if test then Some b else None)
+    → if◌then◌else◌ {A = Option Read} test (Some (b, rest)) None ≡ Some (it, rest)
+chosen_balloon true b it rest is = let same : it ≡ b = cc in ap (λ (x : QueueRounds Kept). (let it : Read = (x, rest) in Some it)) (sym same)
+chosen_balloon false b it rest is = absurd (cc)
+
+no_balloon : (test : Bool) (b : QueueRounds Kept) (rest : List ℕ) → None ≡ (if test then Some b else None)
+    → if◌then◌else◌ {A = Option Read} test (Some (b, rest)) None ≡ None
+no_balloon true b rest is = absurd (cc)
+no_balloon false b rest is = refl
+
+abbrev balloon_if : Read → Option Read
+balloon_if x = if is_state x.0 then Some x else None
+
+pub balloon_read : (given rest : List ℕ) (b it : QueueRounds Kept) → balloon_fields.reads given ≡ Some (b, rest)
+    → Some it ≡ (if is_state b then Some b else None) → balloon.reads given ≡ Some (it, rest)
+unfolding balloon
+balloon_read given rest b it read is = ap (option_and_then balloon_if) read ∙ chosen_balloon (is_state b) b it rest is
+
+pub balloon_refused : (given rest : List ℕ) (b : QueueRounds Kept) → balloon_fields.reads given ≡ Some (b, rest)
+    → None ≡ (if is_state b then Some b else None) → balloon.reads given ≡ None
+unfolding balloon
+balloon_refused given rest b read is = ap (option_and_then balloon_if) read ∙ no_balloon (is_state b) b rest is
+
+-- ---- a device that is a balloon
+
+pub balloon_is : (given rest : List ℕ) (b : QueueRounds Kept) → byte.reads given ≡ Some (2, rest)
+    → (whole balloon).reads rest ≡ Some b → device.reads given ≡ Some (kept.Balloon b)
+balloon_is given rest b read is =
+    kind_read given rest 2 (Some (kept.Balloon b)) read (ap (option_and_then (λ (a : QueueRounds Kept). Some (kept.Balloon a))) is)
+
+pub balloon_none : (given rest : List ℕ) → byte.reads given ≡ Some (2, rest) → (whole balloon).reads rest ≡ None
+    → device.reads given ≡ None
+balloon_none given rest read is =
+    kind_read given rest 2 None read (ap (option_and_then (λ (a : QueueRounds Kept). Some (kept.Balloon a))) is)
+
+pub other_none : (given rest : List ℕ) (code : ℕ) → byte.reads given ≡ Some (code, rest) → (code ≡ 1 → ⊥) → (code ≡ 2 → ⊥)
+    → device.reads given ≡ None
+other_none given rest code read first second = kind_read given rest code None read (other_kind code rest first second)

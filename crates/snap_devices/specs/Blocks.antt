@@ -1,8 +1,9 @@
 -- A block device as bytes.
 use Rattle.std.specs.Prelude.{◌≡◌, ℕ, zero, suc, refl}
 use Rattle.std.proofs.Common.{sym, ap}
+use Rattle.file_format.specs.Ends.{Listing, ended, passing_list, standing_list}
 use Rattle.file_format.specs.Format.{Format}
-use Rattle.file_format.specs.Kinds.{byte, number16, number64, flag, optional, times, just, nothing, chosen_by, passing}
+use Rattle.file_format.specs.Kinds.{byte, number16, number64, flag, optional, times, just, nothing, chosen_by}
 use Rattle.file_format.specs.Kinds.{◌&◌, made_of}
 use Rattle.queue_device.specs.declared.device.QueueRounds.{QueueRounds}
 use Rattle.block_device.specs.declared.kind.BlockKind.{BlockKind}
@@ -11,9 +12,9 @@ use Rattle.snap_devices.specs.declared.file.FileData.{FileData}
 use Rattle.snap_devices.specs.declared.file.FileDue.{FileDue}
 use Rattle.snap_devices.specs.declared.file.FileDue.TheVariants.{Look, Walk, Idle}
 use Rattle.snap_devices.specs.Forms.{file_of, form_back, is_form, kept_of}
+use Rattle.snap_devices.specs.Limits.{end_of_device}
 use Rattle.snap_devices.specs.Phases.{phase}
 use Rattle.snap_devices.specs.Queues.{queue, parts, collect, walk}
-use Rattle.snap_devices.specs.Standing.{standing}
 
 -- ---- its data: what is due, as a byte, stands last
 
@@ -70,6 +71,7 @@ block_fields =
     (λ _. refl) (λ _. refl)
     (block_data & phase & optional walk & collect & parts)
 
--- of a state that it may be in
-unfoldable pub block : Format (QueueRounds BlockKind)
-block = standing kept_of file_of (passing is_form block_fields) (λ f fits. form_back f fits.1)
+-- of a state that it may be in, with what it has of a limit behind it, which ends the list
+unfoldable pub block : Listing (QueueRounds BlockKind)
+block =
+    standing_list kept_of file_of (passing_list is_form (ended block_fields end_of_device)) (λ f fits. form_back f fits.1)

@@ -1,10 +1,12 @@
 -- What a block device keeps, and its form in a file. The form tells no more than is needed: a block device has one queue, on which
--- it works while that is due; a walk and a chain in hand are of that queue, and how much of a header is left to be read is told.
-use Rattle.std.specs.Prelude.{◌≡◌, ℕ, ◌+◌, ◌==◌, Bool, true, false, ◌&&◌, IsTrue, Option, Some, None, length, refl}
-use Rattle.std.proofs.Common.{ap}
-use Rattle.std.proofs.lemmas.Bool.{and_parts, eqb-true}
+-- it works while that is due; a walk is of that queue, and so is a chain in hand, unless its queue is told; and how much of a header
+-- is left to be read is told.
+use Rattle.std.specs.Prelude.{◌≡◌, ℕ, ◌+◌, ◌==◌, Bool, true, false, ◌&&◌, not, if◌then◌else◌, IsTrue, Option, Some, None, length, refl}
+use Rattle.std.proofs.Common.{sym, ap, ◌∙◌}
+use Rattle.std.proofs.lemmas.Bool.{and_from, and_parts, eqb-true}
 use Rattle.vq_split.specs.declared.queue.Queue.{Queue}
 use Rattle.vq_split.specs.Walking.{Walking}
+use Rattle.vq_split.proofs.Kept.{is_eq}
 use Rattle.dev_core.specs.declared.collect.Collect.{Collect}
 use Rattle.dev_core.specs.Looks.{no_queue}
 use Rattle.dev_core.specs.Pieces.{total}
@@ -16,6 +18,8 @@ use Rattle.queue_device.specs.declared.lanes.Which.TheVariants.{First}
 use Rattle.queue_device.specs.declared.phase.InHand.{InHand}
 use Rattle.queue_device.specs.declared.phase.Phase.{Phase}
 use Rattle.queue_device.specs.declared.phase.Phase.TheVariants as phase
+use Rattle.queue_device.specs.Chains.{Chain}
+use Rattle.queue_device.specs.Kept.{is_same_queue}
 use Rattle.queue_device.specs.Lanes.{new_lane}
 use Rattle.block_device.specs.declared.kind.BlockKind.{BlockKind}
 use Rattle.block_device.specs.declared.work.BlockStage.{BlockStage}
@@ -25,6 +29,7 @@ use Rattle.snap_devices.specs.declared.file.FileBlock.{FileBlock}
 use Rattle.snap_devices.specs.declared.file.FileData.{FileData}
 use Rattle.snap_devices.specs.declared.file.FileDue.{FileDue}
 use Rattle.snap_devices.specs.declared.file.FileDue.TheVariants.{Look, Walk, Idle}
+use Rattle.snap_devices.specs.declared.file.FileMore.{FileMore}
 use Rattle.snap_devices.specs.declared.file.FilePhase.{FilePhase}
 use Rattle.snap_devices.specs.declared.file.FilePhase.TheVariants.{Between, Break, Header, Serve, Return}
 
@@ -40,11 +45,11 @@ queue_kept Look q = None
 queue_kept Walk q = Some q
 queue_kept Idle q = None
 
-abbrev pub rounds_kept : FileData → Rounds
-rounds_kept d = record {
+abbrev pub rounds_kept : FileData → Option Chain → Rounds
+rounds_kept d waiting = record {
   first = record {
     queue = queue_kept d.due d.queue;
-    waiting = None;
+    waiting = waiting;
     next = d.next;
     used = d.used;
     is_kicked = d.is_kicked;
@@ -75,14 +80,25 @@ stage_kept (Header len head) = at.Header
 stage_kept (Serve place stage head) = at.Serve place stage
 stage_kept (Return len head stage) = at.Rest
 
-abbrev pub kept_of : FileBlock → QueueRounds BlockKind
-kept_of f = record {
-  rounds = rounds_kept f.facts;
+-- the queue of the chain in hand: the one that is told, or that of the round
+abbrev pub hand_kept : Option Queue → Queue → Queue
+hand_kept None q = q
+hand_kept (Some hand) q = hand
+
+-- by a form and what may be lacking behind it
+abbrev pub kept_of : FileBlock × FileMore → QueueRounds BlockKind
+kept_of (f, more) = record {
+  rounds = rounds_kept f.facts more.waiting;
   kind = record {
-    facts = record { sectors = f.facts.sectors; drive_id = f.facts.drive_id; is_read_only = f.facts.is_read_only };
+    facts = record {
+      sectors = f.facts.sectors;
+      drive_id = f.facts.drive_id;
+      is_read_only = f.facts.is_read_only;
+      limits = more.limits;
+    };
     work = record { stage = stage_kept f.phase; from = f.from; to = f.to };
   };
-  phase = phase_kept f.walk f.phase f.facts.queue;
+  phase = phase_kept f.walk f.phase (hand_kept more.in_hand f.facts.queue);
 }
 
 -- ---- the form of what is kept
@@ -134,14 +150,37 @@ walk_filed (phase.Serve c) = None
 walk_filed (phase.Return c len stage) = None
 walk_filed (phase.Break k stage) = None
 
-abbrev pub file_of : QueueRounds BlockKind → FileBlock
-file_of b = record {
+abbrev pub block_filed : QueueRounds BlockKind → FileBlock
+block_filed b = record {
   facts = data_filed b;
   phase = phase_filed b.phase b.kind.work.stage b.kind.work.from;
   walk = walk_filed b.phase;
   from = b.kind.work.from;
   to = b.kind.work.to;
 }
+
+-- a queue that isn't the one of the round
+abbrev pub other_queue : Queue → Queue → Option Queue
+other_queue q hand = if is_same_queue q hand then None else Some hand
+
+abbrev pub hand_filed : Phase → Queue → Option Queue
+hand_filed phase.Between q = None
+hand_filed phase.Question q = None
+hand_filed (phase.Walk k w) q = None
+hand_filed (phase.Take c) q = other_queue q c.queue
+hand_filed (phase.Serve c) q = other_queue q c.queue
+hand_filed (phase.Return c len stage) q = other_queue q c.queue
+hand_filed (phase.Break k stage) q = None
+
+abbrev pub more_filed : QueueRounds BlockKind → FileMore
+more_filed b = record {
+  limits = b.kind.facts.limits;
+  waiting = b.rounds.first.waiting;
+  in_hand = hand_filed b.phase (queue_filed b.rounds.pages b.rounds.first.queue);
+}
+
+abbrev pub file_of : QueueRounds BlockKind → FileBlock × FileMore
+file_of b = (block_filed b, more_filed b)
 
 -- ---- which forms there are
 
@@ -171,11 +210,23 @@ is_header_long (Header len head) from = len == length from.held + total from.fro
 is_header_long (Serve at stage head) from = true
 is_header_long (Return len head stage) from = true
 
-abbrev pub is_plain : FileBlock → Bool
-is_plain f = is_queue_due f.facts.due f.facts.queue && is_walk_alone f.walk f.phase && is_header_long f.phase f.from
+-- a queue is told where a chain is in hand that isn't of the round's
+abbrev pub is_hand : Option Queue → Option Walking → FilePhase → Queue → Bool
+is_hand None w p q = true
+is_hand (Some hand) (Some w) p q = false
+is_hand (Some hand) None Between q = false
+is_hand (Some hand) None (Break stage) q = false
+is_hand (Some hand) None (Header len head) q = not (is_same_queue q hand)
+is_hand (Some hand) None (Serve at stage head) q = not (is_same_queue q hand)
+is_hand (Some hand) None (Return len head stage) q = not (is_same_queue q hand)
+
+abbrev pub is_plain : FileBlock × FileMore → Bool
+is_plain (f, more) =
+    is_queue_due f.facts.due f.facts.queue && is_walk_alone f.walk f.phase && is_header_long f.phase f.from
+    && is_hand more.in_hand f.walk f.phase f.facts.queue
 
 -- and of a state that a block device may be in
-abbrev pub is_form : FileBlock → Bool
+abbrev pub is_form : FileBlock × FileMore → Bool
 is_form f = is_plain f && is_state (kept_of f)
 
 -- ---- such a form is what the value has that it stands for
@@ -224,26 +275,67 @@ walk_back None (Header len head) q = refl
 walk_back None (Serve at stage head) q = refl
 walk_back None (Return len head stage) q = refl
 
-pub form_back : (f : FileBlock) → IsTrue (is_form f) → f ≡ file_of (kept_of f)
-form_back f form =
-    let plain = (and_parts (is_plain f) _ form).0 in
-    let b = and_parts _ (is_header_long f.phase f.from) plain in
+same_refl : (q : Queue) → is_same_queue q q ≡ true
+same_refl q =
+    and_from _ _
+    (and_from _ _
+    (and_from _ _ (and_from _ _ (is_eq q.descriptors _ refl) (is_eq q.available _ refl)) (is_eq q.used _ refl)) (is_eq q.size _ refl))
+    (is_eq q.pages _ refl)
+
+no_other : (q : Queue) → None ≡ other_queue q q
+no_other q = sym (ap (λ (t : Bool). if t then None else Some q) (same_refl q))
+
+other_by : (t : Bool) (hand : Queue) → not t ≡ true → Some hand ≡ (if t then None else Some hand)
+other_by false hand is = refl
+other_by true hand is = cc
+
+one_other : (q hand : Queue) → not (is_same_queue q hand) ≡ true → Some hand ≡ other_queue q hand
+one_other q hand is = other_by (is_same_queue q hand) hand is
+
+hand_back : (o : Option Queue) (w : Option Walking) (p : FilePhase) (q : Queue) → is_hand o w p q ≡ true
+    → o ≡ hand_filed (phase_kept w p (hand_kept o q)) q
+hand_back None (Some w) p q is = refl
+hand_back None None Between q is = refl
+hand_back None None (Break stage) q is = refl
+hand_back None None (Header len head) q is = no_other q
+hand_back None None (Serve at stage head) q is = no_other q
+hand_back None None (Return len head stage) q is = no_other q
+hand_back (Some hand) (Some w) p q is = absurd (cc)
+hand_back (Some hand) None Between q is = absurd (cc)
+hand_back (Some hand) None (Break stage) q is = absurd (cc)
+hand_back (Some hand) None (Header len head) q is = one_other q hand is
+hand_back (Some hand) None (Serve at stage head) q is = one_other q hand is
+hand_back (Some hand) None (Return len head stage) q is = one_other q hand is
+
+pub form_back : (x : FileBlock × FileMore) → IsTrue (is_form x) → x ≡ file_of (kept_of x)
+form_back (f, more) form =
+    let plain = (and_parts (is_plain (f, more)) _ form).0 in
+    let c = and_parts _ (is_hand more.in_hand f.walk f.phase f.facts.queue) plain in
+    let b = and_parts _ (is_header_long f.phase f.from) c.0 in
     let a = and_parts (is_queue_due f.facts.due f.facts.queue) (is_walk_alone f.walk f.phase) b.0 in
-    λ i. record {
-      facts = record {
-        sectors = f.facts.sectors;
-        queue = queue_back f.facts.due f.facts.queue a.0 i;
-        drive_id = f.facts.drive_id;
-        next = f.facts.next;
-        used = f.facts.used;
-        port = f.facts.port;
-        is_read_only = f.facts.is_read_only;
-        is_kicked = f.facts.is_kicked;
-        has_finished = f.facts.has_finished;
-        due = due_back f.facts.due i;
-      };
-      phase = phase_back f.walk f.phase f.facts.queue f.from a.1 b.1 i;
-      walk = walk_back f.walk f.phase f.facts.queue i;
-      from = f.from;
-      to = f.to;
-    }
+    let q = queue_back f.facts.due f.facts.queue a.0 in
+    let hand : more.in_hand ≡ hand_filed (phase_kept f.walk f.phase (hand_kept more.in_hand f.facts.queue))
+    (queue_filed f.facts.queue.pages (queue_kept f.facts.due f.facts.queue)) =
+    hand_back more.in_hand f.walk f.phase f.facts.queue c.1
+    ∙ ap (hand_filed (phase_kept f.walk f.phase (hand_kept more.in_hand f.facts.queue))) q in
+    λ i. (
+      record {
+        facts = record {
+          sectors = f.facts.sectors;
+          queue = q i;
+          drive_id = f.facts.drive_id;
+          next = f.facts.next;
+          used = f.facts.used;
+          port = f.facts.port;
+          is_read_only = f.facts.is_read_only;
+          is_kicked = f.facts.is_kicked;
+          has_finished = f.facts.has_finished;
+          due = due_back f.facts.due i;
+        };
+        phase = phase_back f.walk f.phase (hand_kept more.in_hand f.facts.queue) f.from a.1 b.1 i;
+        walk = walk_back f.walk f.phase (hand_kept more.in_hand f.facts.queue) i;
+        from = f.from;
+        to = f.to;
+      },
+      record { limits = more.limits; waiting = more.waiting; in_hand = hand i },
+    )

@@ -3,6 +3,10 @@ pub mod Queues
 pub mod Serving
 pub mod Phases
 pub mod Standing
+pub mod Limits
 pub mod Forms
 pub mod Blocks
+pub mod Rounds
+pub mod Places
+pub mod Balloons
 pub mod Devices

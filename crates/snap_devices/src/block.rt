@@ -1,13 +1,15 @@
 // A block device.
-ghost use Rattle.std.specs.Prelude.{◌≡◌, OnOk};
+ghost use Rattle.std.specs.Prelude.{◌≡◌, ◌++◌, OnOk};
+ghost use Rattle.file_format.specs.Ends.{TakesAll};
 ghost use Rattle.file_format.specs.Kinds.{optional};
 ghost use Rattle.file_format.specs.Reading.{Takes};
 ghost use Rattle.snap_devices.specs.Blocks.{block, block_data, block_fields, due, due_code};
-ghost use Rattle.snap_devices.specs.Forms.{file_of, walk_filed};
+ghost use Rattle.snap_devices.specs.Forms.{block_filed, walk_filed};
 ghost use Rattle.snap_devices.specs.Queues.{walk};
 
 use crate::file::{FileBlock, FileData, FileDue, FilePhase};
-use crate::form::{block_of, data_filed, phase_filed};
+use crate::form::{block_of, data_filed, more_filed, phase_filed};
+use crate::limits::{read_more, write_more};
 use crate::queue::{read_begun, read_collect, read_parts, write_collect, write_parts, write_walk};
 use crate::saved::Saved;
 use block_device::{Block, BlockKind};
@@ -118,8 +120,8 @@ fn write_begun(phase: &Phase, out: &mut Vec<u8>) -> Result<(), AllocError>
 
 #[tactic(auto, unfolding(crate::specs::Blocks::block_fields))]
 fn write_fields(b: &QueueRounds<BlockKind>, out: &mut Vec<u8>) -> Result<(), AllocError>
-    ensures fits { OnOk result (block_fields.Fits (file_of b.now)) }
-    ensures bytes { OnOk result (out.new.items ≡ block_fields.puts (file_of b.now) out.old.items) }
+    ensures fits { OnOk result (block_fields.Fits (block_filed b.now)) }
+    ensures bytes { OnOk result (out.new.items ≡ block_fields.puts (block_filed b.now) out.old.items) }
 {
     let work = &b.kind.work;
     Saved {
@@ -154,22 +156,30 @@ fn read_fields(alloc: Global, input: &mut Input) -> Result<FileBlock, ReadError>
 }
 
 /// Puts a block device at the end.
-#[tactic(auto, unfolding(crate::specs::Blocks::block), using(crate::proofs::Forms::stands))]
 pub fn write_block(b: &Block, out: &mut Vec<u8>) -> Result<(), AllocError>
     ensures fits { OnOk result (block.Fits b.now) }
-    ensures bytes { OnOk result (out.new.items ≡ block.puts b.now out.old.items) }
+    ensures bytes { OnOk result (out.new.items ≡ out.old.items ++ block.bytes b.now) }
 {
-    write_fields(b.state(), out)?;
+    let state = b.state();
+    write_fields(state, out)?;
+    write_more(&more_filed(state), out)?;
     Ok(())
 }
 
-/// Takes a block device from the front.
-#[tactic(auto, unfolding(crate::specs::Blocks::block))]
+/// The block device that all the bytes are that are left.
+#[tactic(auto, using(crate::proofs::Reading::fields_bad, crate::proofs::Reading::end_bad))]
 pub fn read_block(alloc: Global, input: &mut Input) -> Result<Block, ReadError>
-    ensures { Takes block input.old input.new result }
+    ensures { TakesAll block input.old result }
 {
-    let file = read_fields(alloc, input)?;
-    match block_of(file) {
+    let file = match read_fields(alloc, input) {
+        Ok(file) => file,
+        Err(error) => return Err(error),
+    };
+    let more = match read_more(alloc, input) {
+        Ok(more) => more,
+        Err(error) => return Err(error),
+    };
+    match block_of(file, more) {
         Some(b) => Ok(b),
         None => Err(ReadError::Bad),
     }

@@ -1,45 +1,63 @@
 // A device.
-ghost use Rattle.std.specs.Prelude.{◌≡◌, OnOk};
+ghost use Rattle.std.specs.Prelude.{◌≡◌, ◌++◌, OnOk};
+ghost use Rattle.file_format.specs.Ends.{TakesAll};
 ghost use Rattle.snap_devices.specs.Devices.{device};
 
+use crate::balloon::{read_balloon, write_balloon};
 use crate::block::{read_block, write_block};
 use crate::saved::Saved;
-use file_format::{Input, ReadError, Stored};
+use file_format::{Input, ReadError, Stored, Whole};
 use guest_devices::Device;
 use std::alloc::{AllocError, Global};
 
-#[tactic(auto, unfolding(crate::specs::Devices::device, file_format::specs::Kinds::byte))]
 fn write_device(it: &Device, out: &mut Vec<u8>) -> Result<(), AllocError>
     ensures fits { OnOk result (device.Fits it.now) }
-    ensures bytes { OnOk result (out.new.items ≡ device.puts it.now out.old.items) }
+    ensures bytes { OnOk result (out.new.items ≡ out.old.items ++ device.bytes it.now) }
 {
     match it {
         Device::Block(block) => {
             1u8.write(out)?;
             write_block(block, out)?;
         }
+        Device::Balloon(balloon) => {
+            2u8.write(out)?;
+            write_balloon(balloon, out)?;
+        }
     }
     Ok(())
 }
 
-#[tactic(auto, unfolding(crate::specs::Devices::device, file_format::specs::Kinds::byte))]
-impl Stored for Saved<Device> {
-    ghost format = { device };
+#[tactic(auto, using(crate::proofs::Reading::kind_bad, crate::proofs::Reading::block_is, crate::proofs::Reading::block_none, crate::proofs::Reading::balloon_is, crate::proofs::Reading::balloon_none, crate::proofs::Reading::other_none,))]
+fn read_device(alloc: Global, bytes: &[u8]) -> Result<Device, ReadError>
+    ensures { TakesAll device bytes.now result }
+{
+    let mut input = Input::new(bytes);
+    match u8::read(alloc, &mut input) {
+        Ok(1) => match read_block(alloc, &mut input) {
+            Ok(block) => Ok(Device::Block(block)),
+            Err(error) => Err(error),
+        },
+        Ok(2) => match read_balloon(alloc, &mut input) {
+            Ok(balloon) => Ok(Device::Balloon(balloon)),
+            Err(error) => Err(error),
+        },
+        Ok(_) => Err(ReadError::Bad),
+        Err(error) => Err(error),
+    }
+}
 
-    fn write(&self, out: &mut Vec<u8>) -> Result<(), AllocError> {
+impl Whole for Saved<Device> {
+    ghost listing = { device };
+
+    fn write_all(&self, out: &mut Vec<u8>) -> Result<(), AllocError> {
         write_device(&self.value, out)?;
         Ok(())
     }
 
-    fn read(alloc: Global, input: &mut Input) -> Result<Saved<Device>, ReadError> {
-        match u8::read(alloc, input)? {
-            1 => {
-                let block = read_block(alloc, input)?;
-                Ok(Saved {
-                    value: Device::Block(block),
-                })
-            }
-            _ => Err(ReadError::Bad),
+    fn read_all(alloc: Global, bytes: &[u8]) -> Result<Saved<Device>, ReadError> {
+        match read_device(alloc, bytes) {
+            Ok(value) => Ok(Saved { value }),
+            Err(error) => Err(error),
         }
     }
 }

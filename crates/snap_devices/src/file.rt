@@ -1,6 +1,8 @@
 // A block device as a file has it.
 use block_device::ServiceStage;
 use dev_core::{BreakStage, Collect, ReturnStage, Scatter};
+use queue_device::TakenChain;
+use rate_gate::RateGate;
 use vq_split::{ChainWalk, Queue};
 
 /// What is due next.
@@ -73,4 +75,14 @@ pub struct FileBlock {
     pub walk: Option<ChainWalk>,
     pub from: Collect,
     pub to: Scatter,
+}
+
+/// What may be lacking behind it.
+#[derive(Drop)]
+pub struct FileMore {
+    pub limits: RateGate,
+    /// The chain that waits for guest time.
+    pub waiting: Option<TakenChain>,
+    /// The queue of the chain in hand, where it was taken when the queue had other registers.
+    pub in_hand: Option<Queue>,
 }

@@ -1,9 +1,10 @@
 //! Ports and devices as bytes: how a state file has each of them, one encoding for each state.
 //!
 //! `specs/` has the formats: `Ports` of a port, `Devices` of a device by its kind, and under it `Blocks`, `Phases`,
-//! `Serving` and `Queues` of a block device. `Saved<Port>` and `Saved<Device>` are written and read so (`Stored`): what is
-//! read is the one port or device that bytes at a front are, exactly where they are the encoding of a state that it may be
-//! in. What this takes of memory is no more than a few times the bytes that are there.
+//! `Serving`, `Queues` and `Limits` of a block device, and `Balloons`, `Rounds` and `Places` of a balloon. `Saved<Port>` and
+//! `Saved<Device>` are written and read so (`Stored`, and `Whole` of a device): what is read is the one port or device that
+//! bytes at a front are, exactly where they are the encoding of a state that it may be in. What this takes of memory is no
+//! more than a few times the bytes that are there.
 //!
 //! Numbers are little-endian; a flag is a byte 0 or 1; an option is a flag, and behind a 1 the value; a list is a count
 //! of 4 bytes, and its items.
@@ -14,7 +15,7 @@
 //! the configuration. A queue, 33 bytes: QueueDesc, QueueDriver and QueueDevice (8 each), QueueNum and QueueReady (4
 //! each), and the flag that it was kicked.
 //!
-//! A device: its kind (1 byte: 1 block), and what is kept of it. A block device:
+//! A device: its kind (1 byte: 1 block, 2 balloon), and what is kept of it. A block device:
 //!
 //! - its data, 67 bytes: the size of the disk in sectors (8); the queue, 30 bytes: its three tables (8 each), its size
 //!   (2) and the guest's pages (4); the drive's id (20); the number of the next chain and how many were given back (2
@@ -35,17 +36,45 @@
 //!   of its parts;
 //! - the list of the parts that are still read; the list of the bytes that are held; the list of the parts that are
 //!   still written. A part, 13 bytes: where it is (8), how many bytes it has (4), and the flag that the device writes
-//!   it.
+//!   it;
+//! - and where the gate has a bucket, a chain waits, or the chain in hand is of another queue than the round's: the bucket of bytes
+//!   and that of operations, each an option; the chain that waits, an option; and the queue of the chain in hand, an option. Where
+//!   none of these is there the list ends before them. A bucket, 48 bytes: how many tokens it holds, in how many nanoseconds so many
+//!   flow in, and what is left of its burst (8 each); what is owed to a full balance, in tokens times nanoseconds (16); and the
+//!   moment of the newest request that passed (8). A chain that waits: its queue, 30 bytes; its head (2); the list of the parts that
+//!   are still needed; the list of the parts that are still read; the list of the bytes that were read.
+//!
+//! A balloon:
+//!
+//! - its rounds: the guest's pages (4); the number of its port (1); what is due (1: 0 a look, 1 the question to its host, which
+//!   a balloon never asks, 2 a queue, and behind a 2 the queue's number (1), 3 a wait); the flag that the round gave a chain
+//!   back; and its three queues. A queue: the number of its next chain and how many were given back (2 each); the flag that it
+//!   was kicked; its registers, an option of 30 bytes; and the chain that waits, an option;
+//! - where it is, a byte and what follows it: 0 between two groups; 1 its host answered, which is never so of a balloon; 2 a
+//!   chain is walked: the queue's number (1) and the walk; 3 a chain is read before it may be served, which is never so of a
+//!   balloon, and 4 it is served: the chain in hand; 5 it is given back: how many bytes were written (4), how far (1), and the
+//!   chain in hand; 6 a queue is broken: its number (1), and then 0 the port, 1 the line is told (1). A chain in hand, 33 bytes:
+//!   its queue's number (1), that queue as it was when the chain was taken (30), and the chain's head (2);
+//! - how many seconds there are between two chains of statistics (2); the guest time at which one was let go on last (8); what
+//!   it told: of each of ten tags an option of its value (8);
+//! - what it is at in a chain, a byte and what follows it: 0 nothing; 1 a list of pages is read: the guest's pages (4), and
+//!   what is read; 2 a page is zeroed: the guest's pages (4), how many writes of 64 bytes are left (4), where the next one goes
+//!   (8), and what is read behind them; 3 statistics are read: what they told so far, as above, and what is read. What is read:
+//!   the list of the parts that are left; the list of the bytes that are held.
 #![tactic(auto)]
 
+mod balloon;
 mod block;
 mod device;
 mod file;
 mod form;
 mod law;
+mod limits;
 mod phase;
+mod place;
 mod port;
 mod queue;
+mod rounds;
 mod saved;
 
 pub use law::port_size;

@@ -210,8 +210,9 @@ pub fn write_walk(it: &ChainWalk, out: &mut Vec<u8>) -> Result<(), AllocError>
     Ok(())
 }
 
+/// Takes a walk from the front.
 #[tactic(auto, unfolding(crate::specs::Queues::walk, crate::specs::Queues::walk_fields))]
-fn read_walk(alloc: Global, input: &mut Input) -> Result<ChainWalk, ReadError>
+pub fn read_walk(alloc: Global, input: &mut Input) -> Result<ChainWalk, ReadError>
     ensures { Takes walk input.old input.new result }
 {
     let (queue, (next, stage)): (Saved<Queue>, (u16, Saved<Stage>)) = Stored::read(alloc, input)?;

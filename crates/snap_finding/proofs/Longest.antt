@@ -12,6 +12,7 @@ use Rattle.api_calls.specs.declared.call.Drive.{Drive}
 use Rattle.api_calls.specs.Form.{is_id, is_path}
 use Rattle.file_format.specs.Kinds.{fixed, flag, number16, number64, text}
 use Rattle.file_format.specs.Identities.{identity}
+use Rattle.file_format.specs.Ends.{listed}
 use Rattle.file_format.specs.Whole.{counted}
 use Rattle.snap_devices.specs.Ports.{port}
 use Rattle.snap_devices.specs.Devices.{device}
@@ -32,7 +33,7 @@ use Rattle.snap_harts.specs.HartStates.{hart_state}
 use Rattle.snap_state.specs.Valid.{are_drives, are_paths, are_sections, has_devices, has_machine, is_before, is_board, is_drive, is_machine, is_reserved, is_rising, is_source, is_valid, rises_from}
 use Rattle.snap_state.proofs.HasDevices.{has_parts}
 use Rattle.snap_finding.proofs.Sizes.{device_within, hart_state_within, hart_within, port_within}
-use Rattle.snap_finding.proofs.Within.{Within, within16, within32, within64, flag_within, zeros_within, constant_within, just_within, pair_within, made_within, passing_within, optional_most, optional_within, total, total-pass, list_within, each_within, counted_within, bytes_within, text_within}
+use Rattle.snap_finding.proofs.Within.{Within, within16, within32, within64, flag_within, zeros_within, constant_within, just_within, pair_within, made_within, passing_within, optional_most, optional_within, total, total-pass, list_within, each_within, counted_within, listed_within, bytes_within, text_within}
 
 -- ---- the configuration
 
@@ -105,18 +106,18 @@ reservation_within : Within copies.reservation.reads (λ _. 12)
 unfolding copies.reservation
 reservation_within = made_within _ _ (λ a. omega arith) (pair_within within32 (pair_within within32 within32))
 
-few_devices : Within copies.devices.reads (λ ds. 4 + 10274 * length ds)
+few_devices : Within copies.devices.reads (λ ds. 4 + 27634 * length ds)
 unfolding copies.devices
 few_devices =
-    passing_within _ (λ ds. 4 + 10274 * length ds) (λ v is. omega arith)
-    (each_within 10274 (counted device) (counted_within 10270 device device_within))
+    passing_within _ (λ ds. 4 + 27634 * length ds) (λ v is. omega arith)
+    (each_within 27634 (listed device) (listed_within 27630 device device_within))
 
 abbrev copy_most : StateCopy → ℕ
 copy_most c =
     (configuration_most c.configuration + 13)
     + (board_most c.board
     + ((4 + 328 * length c.harts)
-    + ((4 + 153 * length c.ports) + ((4 + 10274 * length c.devices) + (4 + 12 * length c.reservations)))))
+    + ((4 + 153 * length c.ports) + ((4 + 27634 * length c.devices) + (4 + 12 * length c.reservations)))))
 
 sections_within : (v : Version) → Within (copies.sections_in v).reads (λ _. 0)
 sections_within One = just_within _ 0

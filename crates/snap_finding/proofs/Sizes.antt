@@ -1,8 +1,12 @@
 -- How many bytes each part of a state file has at most.
 use Rattle.std.proofs.Common.{ℕ, zero, suc, arith, replicate}
 use Rattle.std.proofs.lemmas.Bool.{leb-true}
-use Rattle.file_format.specs.Kinds.{byte, number64}
+use Rattle.file_format.specs.Kinds.{byte, number64, optional}
+use Rattle.snap_devices.specs.Balloons as balloons
+use Rattle.snap_devices.specs.Limits as limits
+use Rattle.snap_devices.specs.Places as places
 use Rattle.snap_devices.specs.Queues as queues
+use Rattle.snap_devices.specs.Rounds as rounds
 use Rattle.snap_devices.specs.Serving as serving
 use Rattle.snap_devices.specs.Phases as phases
 use Rattle.snap_devices.specs.Blocks as blocks
@@ -10,7 +14,8 @@ use Rattle.snap_devices.specs.Devices as devices
 use Rattle.snap_devices.specs.Ports as ports
 use Rattle.snap_harts.specs.HartStates as hart_states
 use Rattle.snap_harts.specs.Harts as harts
-use Rattle.snap_finding.proofs.Within.{Within, just_within, any_within, byte_within, within16, within32, within64, flag_within, constant_within, nothing_within, pair_within, then_within, made_within, passing_within, times_within, list_within, bytes_within, total-const}
+use Rattle.snap_finding.proofs.Within.{Within, WithinList, chosen_list_within, ended_within, no_list_within, passing_list_within, standing_list_within, whole_within, wider_within}
+use Rattle.snap_finding.proofs.Within.{just_within, any_within, byte_within, within16, within32, within64, flag_within, constant_within, nothing_within, pair_within, then_within, made_within, passing_within, times_within, list_within, bytes_within, total-const}
 
 -- ---- a queue, parts and a walk
 
@@ -127,23 +132,154 @@ data_within =
     (pair_within within64 (pair_within queue_within (pair_within (times_within 20 1 byte byte_within) (pair_within within16 within16))))
     (pair_within byte_within (pair_within flag_within (pair_within flag_within (pair_within flag_within due_within)))))
 
-block_within : Within blocks.block.reads (λ _. 10269)
-unfolding blocks.block blocks.block_fields
-block_within =
-    made_within _ _ (λ a. omega arith)
-    (passing_within _ (λ _. 10269) (λ v is. omega arith)
-    (made_within _ (λ _. 10269) (λ a. omega arith)
+fields_within : Within blocks.block_fields.reads (λ _. 10269)
+unfolding blocks.block_fields
+fields_within =
+    made_within _ (λ _. 10269) (λ a. omega arith)
     (pair_within data_within
-    (pair_within phase_within (pair_within (any_within 3369 queues.walk walk_within) (pair_within collect_within parts_within))))))
+    (pair_within phase_within (pair_within (any_within 3369 queues.walk walk_within) (pair_within collect_within parts_within))))
 
-devices_within : (code : ℕ) → Within (devices.devices code).reads (λ _. 10269)
-devices_within zero = nothing_within 10269
-devices_within (suc zero) = made_within _ _ (λ a. omega arith) block_within
-devices_within (suc (suc n)) = nothing_within 10269
+-- ---- what may be lacking behind it
 
-pub device_within : Within devices.device.reads (λ _. 10270)
+owed_within : Within limits.owed.reads (λ _. 16)
+unfolding limits.owed
+owed_within = made_within _ _ (λ a. omega arith) (pair_within within64 within64)
+
+bucket_within : Within limits.bucket.reads (λ _. 48)
+unfolding limits.bucket limits.bucket_fields
+bucket_within =
+    passing_within _ (λ _. 48) (λ v is. omega arith)
+    (made_within _ (λ _. 48) (λ a. omega arith)
+    (pair_within within64 (pair_within within64 (pair_within within64 (pair_within owed_within within64)))))
+
+gate_within : Within limits.limits.reads (λ _. 98)
+unfolding limits.limits
+gate_within =
+    made_within _ _ (λ a. omega arith)
+    (pair_within (any_within 48 limits.bucket bucket_within) (any_within 48 limits.bucket bucket_within))
+
+chain_within : Within limits.chain.reads (λ _. 6828)
+unfolding limits.chain limits.chain_fields
+chain_within =
+    passing_within _ (λ _. 6828) (λ v is. omega arith)
+    (made_within _ (λ _. 6828) (λ a. omega arith)
+    (pair_within queue_within (pair_within within16 (pair_within parts_within (pair_within parts_within held_within)))))
+
+more_within : Within limits.more.reads (λ _. 6958)
+unfolding limits.more
+more_within =
+    made_within _ _ (λ a. omega arith)
+    (pair_within gate_within (pair_within (any_within 6828 limits.chain chain_within) (any_within 30 queues.queue queue_within)))
+
+block_within : WithinList blocks.block.reads 17227
+unfolding blocks.block
+block_within =
+    standing_list_within _ 17227
+    (passing_list_within _ 17227 (ended_within blocks.block_fields limits.end_of_device 10269 6958 fields_within more_within))
+
+-- ---- a balloon
+
+queues_within : (code : ℕ) → Within (rounds.which_queues code).reads (λ _. 0)
+queues_within zero = just_within _ 0
+queues_within (suc zero) = just_within _ 0
+queues_within (suc (suc zero)) = just_within _ 0
+queues_within (suc (suc (suc n))) = nothing_within 0
+
+which_within : Within rounds.which.reads (λ _. 1)
+unfolding rounds.which
+which_within = then_within byte_within queues_within
+
+nexts_within : (code : ℕ) → Within (rounds.nexts code).reads (λ _. 1)
+nexts_within zero = just_within _ 1
+nexts_within (suc zero) = just_within _ 1
+nexts_within (suc (suc zero)) = made_within _ _ (λ a. omega arith) which_within
+nexts_within (suc (suc (suc zero))) = just_within _ 1
+nexts_within (suc (suc (suc (suc n)))) = nothing_within 1
+
+next_within : Within rounds.next_due.reads (λ _. 2)
+unfolding rounds.next_due
+next_within = then_within byte_within nexts_within
+
+lane_within : Within rounds.lane.reads (λ _. 6865)
+unfolding rounds.lane
+lane_within =
+    made_within _ (λ _. 6865) (λ a. omega arith)
+    (pair_within (pair_within within16 (pair_within within16 flag_within))
+    (pair_within (any_within 30 queues.queue queue_within) (any_within 6828 limits.chain chain_within)))
+
+rounds_within : Within rounds.rounds.reads (λ _. 20603)
+unfolding rounds.rounds
+rounds_within =
+    made_within _ (λ _. 20603) (λ a. omega arith)
+    (pair_within (pair_within within32 (pair_within byte_within (pair_within next_within flag_within)))
+    (pair_within lane_within (pair_within lane_within lane_within)))
+
+hand_within : Within places.hand.reads (λ _. 33)
+unfolding places.hand places.hand_fields
+hand_within =
+    passing_within _ (λ _. 33) (λ v is. omega arith)
+    (made_within _ (λ _. 33) (λ a. omega arith) (pair_within which_within (pair_within queue_within within16)))
+
+device_places_within : (code : ℕ) → Within (places.places code).reads (λ _. 3370)
+device_places_within zero = just_within _ 3370
+device_places_within (suc zero) = just_within _ 3370
+device_places_within (suc (suc zero)) = made_within _ _ (λ a. omega arith) (pair_within which_within walk_within)
+device_places_within (suc (suc (suc zero))) = made_within _ _ (λ a. omega arith) hand_within
+device_places_within (suc (suc (suc (suc zero)))) = made_within _ _ (λ a. omega arith) hand_within
+device_places_within (suc (suc (suc (suc (suc zero))))) =
+    made_within _ _ (λ a. omega arith) (pair_within within32 (pair_within return_within hand_within))
+device_places_within (suc (suc (suc (suc (suc (suc zero)))))) =
+    made_within _ _ (λ a. omega arith) (pair_within which_within break_within)
+device_places_within (suc (suc (suc (suc (suc (suc (suc n))))))) = nothing_within 3370
+
+device_place_within : Within places.place.reads (λ _. 3371)
+unfolding places.place
+device_place_within = then_within byte_within device_places_within
+
+statistics_within : Within balloons.statistics.reads (λ _. 90)
+unfolding balloons.statistics
+statistics_within =
+    made_within _ (λ _. 90) (λ a. omega arith) (times_within 10 9 (optional number64) (any_within 8 number64 within64))
+
+balloon_stages_within : (code : ℕ) → Within (balloons.stages code).reads (λ _. 3554)
+balloon_stages_within zero = just_within _ 3554
+balloon_stages_within (suc zero) = made_within _ _ (λ a. omega arith) (pair_within within32 collect_within)
+balloon_stages_within (suc (suc zero)) =
+    made_within _ _ (λ a. omega arith) (pair_within within32 (pair_within within32 (pair_within within64 collect_within)))
+balloon_stages_within (suc (suc (suc zero))) = made_within _ _ (λ a. omega arith) (pair_within statistics_within collect_within)
+balloon_stages_within (suc (suc (suc (suc n)))) = nothing_within 3554
+
+balloon_stage_within : Within balloons.stage.reads (λ _. 3555)
+unfolding balloons.stage
+balloon_stage_within = then_within byte_within balloon_stages_within
+
+balloon_kind_within : Within balloons.kind.reads (λ _. 3655)
+unfolding balloons.kind balloons.kind_fields
+balloon_kind_within =
+    passing_within _ (λ _. 3655) (λ v is. omega arith)
+    (made_within _ (λ _. 3655) (λ a. omega arith)
+    (pair_within within16 (pair_within within64 (pair_within statistics_within balloon_stage_within))))
+
+balloon_within : Within balloons.balloon.reads (λ _. 27629)
+unfolding balloons.balloon balloons.balloon_fields
+balloon_within =
+    passing_within _ (λ _. 27629) (λ v is. omega arith)
+    (made_within _ (λ _. 27629) (λ a. omega arith)
+    (pair_within rounds_within (pair_within device_place_within balloon_kind_within)))
+
+-- ---- a device of any kind
+
+devices_within : (code : ℕ) → WithinList (devices.devices code).reads 27629
+devices_within zero = no_list_within 27629
+devices_within (suc zero) =
+    standing_list_within _ 27629 (wider_within 17227 27629 (omega arith) block_within)
+devices_within (suc (suc zero)) =
+    standing_list_within _ 27629 (whole_within balloons.balloon 27629 balloon_within)
+devices_within (suc (suc (suc n))) = no_list_within 27629
+
+pub device_within : WithinList devices.device.reads 27630
 unfolding devices.device
-device_within = then_within byte_within devices_within
+device_within = chosen_list_within 1 27629 byte_within devices_within
 
 -- ---- a port
 

@@ -1,5 +1,5 @@
 -- How many bytes a read takes at most, by what it reads.
-use Rattle.std.proofs.Common.{◌≡◌, ℕ, zero, suc, ◌+◌, ◌*◌, ◌≤◌, Bool, true, false, cond, ltb, List, [], ◌∷◌, length, drop, length-drop, length-take, take, Option, Some, None, refl, ap, subst, arith}
+use Rattle.std.proofs.Common.{◌≡◌, ℕ, zero, suc, ◌+◌, ◌*◌, ◌≤◌, Bool, true, false, if◌then◌else◌, cond, ltb, List, [], ◌∷◌, length, drop, length-drop, length-take, take, Option, Some, None, refl, ap, subst, arith}
 use Rattle.std.proofs.Math.Nat.{mul-suc}
 use Rattle.std.proofs.lemmas.Bool.{and_parts}
 use Rattle.std.proofs.lemmas.Option.{option_and_then_some, cond_some}
@@ -10,6 +10,7 @@ use Rattle.std.specs.Str.{bytes_eq}
 use Rattle.file_format.specs.Format.{Format}
 use Rattle.file_format.specs.Kinds.{byte, byte_list, flag, list_of, number16, number32, number64, optional, raw, text, times, zeros}
 use Rattle.file_format.specs.Readers.{are_zeros, constant_at, front_at, made_at, nothing_at, nothing_else, number_at, pair_at, passing_at, then_at, times_at}
+use Rattle.file_format.specs.Ends.{Lacking, Listing, end_at, ended, listed, there, whole}
 use Rattle.file_format.specs.Whole.{counted, ended_at, whole_at}
 
 pub record Within {A : Type 0} (reads : List ℕ → Option (A × List ℕ)) (most : A → ℕ) : Type 0 where
@@ -251,15 +252,15 @@ text_within = passing_within _ _ (λ v is. omega arith) bytes_within
 
 -- ---- a value as a list of its bytes
 
-ended : {A : Type 0} (v u : A) (rest : List ℕ) → ended_at v rest ≡ Some u → rest ≡ []
-ended v u [] is = refl
-ended v u (b ∷ rest) is = absurd cc
+none_left : {A : Type 0} (v u : A) (rest : List ℕ) → ended_at v rest ≡ Some u → rest ≡ []
+none_left v u [] is = refl
+none_left v u (b ∷ rest) is = absurd cc
 
 whole_takes : {A : Type 0} {item : List ℕ → Option (A × List ℕ)} {n : ℕ} → Within item (λ _. n) → (bytes : List ℕ) (v : A)
     → whole_at item bytes ≡ Some v → length bytes ≤ n
 whole_takes {A} {item} w bytes v is =
     option_and_then_some (λ (x : A × List ℕ). ended_at x.0 x.1) (item bytes) v is
-    (λ x ex ey. omega (arith, w.at bytes x.0 x.1 ex, ap length (ended x.0 v x.1 ey)))
+    (λ x ex ey. omega (arith, w.at bytes x.0 x.1 ex, ap length (none_left x.0 v x.1 ey)))
 
 pub counted_within : {A : Type 0} (n : ℕ) (item : Format A) → Within item.reads (λ _. n) → Within (counted item).reads (λ _. 4 + n)
 unfolding counted
@@ -270,4 +271,70 @@ counted_within {A} n item w = record {
       (λ u eu made.
       let same : ◌≡◌ {A = A × List ℕ} (u, x.1) (v, rest) = cc in
       omega (arith, bytes_take given x.0 x.1 ex, whole_takes w x.0 u eu, ap (λ (p : A × List ℕ). length p.1) same)));
+}
+
+-- ---- whole lists
+
+-- no list of more bytes is read
+pub record WithinList {A : Type 0} (reads : List ℕ → Option A) (most : ℕ) : Type 0 where
+  pub at : (given : List ℕ) (v : A) → reads given ≡ Some v → length given ≤ most
+
+pub wider_within : {A : Type 0} {reads : List ℕ → Option A} (n m : ℕ) → n ≤ m → WithinList reads n → WithinList reads m
+wider_within n m less w = record { at = λ given v is. omega (arith, less, w.at given v is) }
+
+pub whole_within : {A : Type 0} (item : Format A) (n : ℕ) → Within item.reads (λ _. n) → WithinList (whole item).reads n
+whole_within item n w = record { at = λ given v is. whole_takes w given v is }
+
+end_takes : {B : Type 0} (last : Lacking B) (m : ℕ) → Within last.item.reads (λ _. m) → (bytes : List ℕ) (b : B)
+    → end_at last bytes ≡ Some b → length bytes ≤ m
+end_takes last m w [] b is = omega arith
+end_takes {B} last m w (byte ∷ rest) b is =
+    option_and_then_some (there last) (whole_at last.item.reads (byte ∷ rest)) b is
+    (λ c ec ed. whole_takes w (byte ∷ rest) c ec)
+
+pub ended_within : {A B : Type 0} (first : Format A) (last : Lacking B) (n m : ℕ) → Within first.reads (λ _. n)
+    → Within last.item.reads (λ _. m) → WithinList (ended first last).reads (n + m)
+unfolding ended
+ended_within {A} {B} first last n m w z = record {
+  at = λ given v is.
+      option_and_then_some
+      (λ (x : A × List ℕ). option_and_then (λ (b : B). Some (x.0, b)) (end_at last x.1)) (first.reads given) v is
+      (λ x ex ey. option_and_then_some (λ (b : B). Some (x.0, b)) (end_at last x.1) v ey
+      (λ b eb made. omega (arith, w.at given x.0 x.1 ex, end_takes last m z x.1 b eb)));
+}
+
+pub passing_list_within : {A : Type 0} {reads : List ℕ → Option A} (test : A → Bool) (n : ℕ) → WithinList reads n
+    → WithinList (λ given. option_and_then (λ (v : A). if test v then Some v else None) (reads given)) n
+passing_list_within {A} {reads} test n w = record {
+  at = λ given v is.
+      option_and_then_some (λ (v : A). if test v then Some v else None) (reads given) v is (λ u eu made. w.at given u eu);
+}
+
+pub standing_list_within : {A B : Type 0} {reads : List ℕ → Option A} (make : A → B) (n : ℕ) → WithinList reads n
+    → WithinList (λ given. option_and_then (λ (a : A). Some (make a)) (reads given)) n
+standing_list_within {A} {B} {reads} make n w = record {
+  at = λ given v is. option_and_then_some (λ (a : A). Some (make a)) (reads given) v is (λ u eu made. w.at given u eu);
+}
+
+pub no_list_within : {A : Type 0} (n : ℕ) → WithinList {A = A} (λ given. None) n
+no_list_within n = record { at = λ given v is. absurd cc }
+
+pub chosen_list_within : {A B : Type 0} {first : List ℕ → Option (A × List ℕ)} {second : A → List ℕ → Option B} (n m : ℕ)
+    → Within first (λ _. n) → ((a : A) → WithinList (second a) m)
+    → WithinList (λ given. option_and_then (λ (x : A × List ℕ). second x.0 x.1) (first given)) (n + m)
+chosen_list_within {A} {B} {first} {second} n m w z = record {
+  at = λ given v is.
+      option_and_then_some (λ (x : A × List ℕ). second x.0 x.1) (first given) v is
+      (λ x ex ev. omega (arith, w.at given x.0 x.1 ex, (z x.0).at x.1 v ev));
+}
+
+pub listed_within : {A : Type 0} (n : ℕ) (item : Listing A) → WithinList item.reads n → Within (listed item).reads (λ _. 4 + n)
+unfolding listed
+listed_within {A} n item w = record {
+  at = λ given v rest is.
+      option_and_then_some (λ (x : List ℕ × List ℕ). option_and_then (λ (u : A). Some (u, x.1)) (item.reads x.0)) (byte_list.reads given) (v, rest) is
+      (λ x ex ey. option_and_then_some (λ (u : A). Some (u, x.1)) (item.reads x.0) (v, rest) ey
+      (λ u eu made.
+      let same : ◌≡◌ {A = A × List ℕ} (u, x.1) (v, rest) = cc in
+      omega (arith, bytes_take given x.0 x.1 ex, w.at x.0 u eu, ap (λ (p : A × List ℕ). length p.1) same)));
 }

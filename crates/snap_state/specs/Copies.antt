@@ -4,6 +4,7 @@ use Rattle.file_format.specs.Format.{Format}
 use Rattle.file_format.specs.Kinds.{number32, number64, flag, list_of, passing, just, ◌&◌, made_of}
 use Rattle.file_format.specs.Versions.{Version}
 use Rattle.file_format.specs.Versions.Version.{One}
+use Rattle.file_format.specs.Ends.{listed}
 use Rattle.file_format.specs.Whole.{counted}
 use Rattle.port_table.specs.Window.{most_ports}
 use Rattle.guest_devices.specs.declared.device.Device.{Device}
@@ -29,7 +30,7 @@ abbrev pub are_few : List Device → Bool
 are_few ds = nat_le (length ds) most_ports
 
 unfoldable pub devices : Format (List Device)
-devices = passing are_few (list_of (counted device))
+devices = passing are_few (list_of (listed device))
 
 -- version 1 has no place for sections
 abbrev pub sections_in : Version → Format (List Section)

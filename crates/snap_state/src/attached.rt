@@ -5,11 +5,11 @@ ghost use Rattle.api_calls.specs.Drives.{is_named, is_root};
 ghost use Rattle.api_calls.specs.Form.{is_id, is_id_byte};
 ghost use Rattle.port_table.specs.declared.kind.DeviceKind.TheVariants as device_kind;
 ghost use Rattle.snap_state.specs.Valid.{are_devices, are_drives, are_told_apart};
-ghost use Rattle.snap_state.specs.Valid.{is_device, is_drive, is_kind, port_kind};
+ghost use Rattle.snap_state.specs.Valid.{is_device, is_drive, is_kind, kind_of, port_kind};
 
 use crate::valid::is_path;
 use api_calls::Drive;
-use file_format::Counted;
+use file_format::{Counted, Listed};
 use guest_devices::Device;
 use mmio_port::Port;
 use port_table::DeviceKind;
@@ -106,7 +106,21 @@ pub fn are_block_ports(ports: &[Counted<Saved<Port>>]) -> bool
     ports.iter().all(|port| is_block_port(port))
 }
 
-fn is_device(pages: u32, port: usize, item: &Counted<Saved<Device>>) -> bool
+fn is_block_device(item: &Listed<Saved<Device>>) -> bool
+    ensures { result ≡ is_kind device_kind.Block (kind_of item.now) }
+{
+    let kind = item.value.value.kind();
+    matches!(kind, DeviceKind::Block)
+}
+
+/// Whether these are block devices.
+pub fn are_block_devices(devices: &[Listed<Saved<Device>>]) -> bool
+    ensures { result ≡ list_all (λ d. is_kind device_kind.Block (kind_of d)) devices.now }
+{
+    devices.iter().all(|device| is_block_device(device))
+}
+
+fn is_device(pages: u32, port: usize, item: &Listed<Saved<Device>>) -> bool
     ensures { result ≡ is_device pages port item.now }
 {
     let device = &item.value.value;
@@ -114,7 +128,7 @@ fn is_device(pages: u32, port: usize, item: &Counted<Saved<Device>>) -> bool
 }
 
 /// Whether these are the devices of the ports from 0 on, in a guest of so many pages.
-pub fn are_devices(pages: u32, devices: &[Counted<Saved<Device>>]) -> bool
+pub fn are_devices(pages: u32, devices: &[Listed<Saved<Device>>]) -> bool
     ensures { result ≡ are_devices pages 0 devices.now }
 {
     for (port, device) in devices.iter().enumerate() {

@@ -6,7 +6,7 @@ ghost use Rattle.snap_state.specs.Copies.{reservation, sections_in, state_copy};
 use crate::board::SavedBoard;
 use crate::configuration::Configuration;
 use crate::devices::{read_devices, write_devices};
-use file_format::{Counted, Input, Items, ReadError, Stored};
+use file_format::{Counted, Input, Items, Listed, ReadError, Stored};
 use guest_devices::Device;
 use mmio_port::Port;
 use snap_devices::Saved;
@@ -44,7 +44,7 @@ pub struct StateCopy {
     /// The ports of the devices, by their numbers.
     pub ports: Items<Counted<Saved<Port>>>,
     /// The devices, each by the number of its port.
-    pub devices: Items<Counted<Saved<Device>>>,
+    pub devices: Items<Listed<Saved<Device>>>,
     /// By page and then by hart.
     pub reservations: Items<Reservation>,
     /// By their tags, which rise.

@@ -3,7 +3,7 @@ ghost use Rattle.std.specs.Prelude.{◌≡◌, OnOk};
 ghost use Rattle.file_format.specs.Reading.{Takes};
 ghost use Rattle.snap_state.specs.Copies.{devices};
 
-use file_format::{Counted, Input, Items, ReadError, Stored, read_items};
+use file_format::{Input, Items, Listed, ReadError, Stored, read_items};
 use guest_devices::Device;
 use snap_devices::Saved;
 use std::alloc::{AllocError, Global};
@@ -14,7 +14,7 @@ const MOST_DEVICES: usize = 16;
 /// Puts the devices at the end. More than there can be are given up as if there were no memory.
 #[tactic(auto, unfolding(crate::specs::Copies::devices))]
 pub fn write_devices(
-    list: &Items<Counted<Saved<Device>>>,
+    list: &Items<Listed<Saved<Device>>>,
     out: &mut Vec<u8>,
 ) -> Result<(), AllocError>
     ensures fits { OnOk result (devices.Fits list.now) }
@@ -31,7 +31,7 @@ pub fn write_devices(
 pub fn read_devices(
     alloc: Global,
     input: &mut Input,
-) -> Result<Items<Counted<Saved<Device>>>, ReadError>
+) -> Result<Items<Listed<Saved<Device>>>, ReadError>
     ensures { Takes devices input.old input.new result }
 {
     let count = u32::read(alloc, input)?;

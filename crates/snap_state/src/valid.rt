@@ -7,10 +7,10 @@ ghost use Rattle.snap_state.specs.Valid.{are_paths, is_source, is_machine, is_bo
 ghost use Rattle.snap_state.specs.Valid.{has_bits, is_granule, asks, is_placed, is_hart, is_reserved};
 ghost use Rattle.port_table.specs.declared.kind.DeviceKind.TheVariants as device_kind;
 ghost use Rattle.snap_state.specs.Valid.{is_before, is_rising, has_machine, has_devices, is_valid};
-ghost use Rattle.snap_state.specs.Valid.{are_devices, are_sections, is_kind, port_kind};
+ghost use Rattle.snap_state.specs.Valid.{are_devices, are_sections, is_kind, kind_of, port_kind};
 ghost use Rattle.snap_harts.specs.Copy.{regs_of};
 
-use crate::attached::{are_block_ports, are_devices, are_drives};
+use crate::attached::{are_block_devices, are_block_ports, are_devices, are_drives};
 use crate::board::SavedBoard;
 use crate::configuration::BootSource;
 use crate::copy::{Reservation, Section, StateCopy};
@@ -184,6 +184,7 @@ fn are_attached(copy: &StateCopy) -> bool
     ensures { result ≡ ((length copy.now.ports == length copy.now.configuration.drives)
         && (length copy.now.devices == length copy.now.configuration.drives)
         && list_all (λ p. is_kind device_kind.Block (port_kind p)) copy.now.ports
+        && list_all (λ d. is_kind device_kind.Block (kind_of d)) copy.now.devices
         && are_devices copy.now.pages 0 copy.now.devices) }
 {
     let drives = copy.configuration.drives.drives.len();
@@ -192,6 +193,7 @@ fn are_attached(copy: &StateCopy) -> bool
     ports.len() == drives
         && devices.len() == drives
         && are_block_ports(ports)
+        && are_block_devices(devices)
         && are_devices(copy.pages, devices)
 }
 

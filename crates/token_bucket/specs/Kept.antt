@@ -1,8 +1,9 @@
 -- What a bucket keeps of its start and its needs.
-use Rattle.std.specs.Prelude.{◌≡◌, ℕ, ◌+◌, ◌-◌, ◌*◌, ◌/◌, ◌^◌, ◌<◌, ◌≤◌, min, max, nat_eq, nat_le, ◌||◌, Bool, true, false, if◌then◌else◌}
+use Rattle.std.specs.Prelude.{◌≡◌, ℕ, ◌+◌, ◌-◌, ◌*◌, ◌/◌, ◌^◌, ◌<◌, ◌≤◌, min, max, nat_eq, nat_le, nat_lt, ◌&&◌, ◌||◌, Bool, true, false, if◌then◌else◌}
 use Rattle.std.specs.Prelude.{List, Option, Some, None, ℤ, pos, negsuc, ◌-ℤ◌}
 use Rattle.token_bucket.specs.Rate.{Rate, rate_of, full}
 use Rattle.token_bucket.specs.Allowance.{Start, Need, total, last_moment, NeverFall, fits, owed, may_pass}
+use Rattle.token_bucket.specs.declared.state.BucketParts.{BucketParts}
 use Rattle.token_bucket.specs.declared.state.State.{State}
 
 -- a bucket as its callers see it
@@ -38,6 +39,26 @@ kept_at rate state =
       owes = owed_of (full rate) state.balance;
       moment = state.moment;
     }
+
+-- what is kept, by all of its parts
+abbrev pub kept_of : BucketParts → Kept
+kept_of parts =
+    record {
+      rate = record { size = parts.size; refill = parts.refill };
+      burst = parts.burst;
+      owes = parts.owed;
+      moment = parts.moment;
+    }
+
+-- what a bucket may keep: fewer than 2^48 tokens in fewer than 2^52 nanoseconds, and a debt of less than 2^127
+abbrev pub is_kept : Kept → Bool
+is_kept k =
+    nat_lt 0 k.rate.size && nat_lt k.rate.size (2 ^ 48) && nat_lt k.rate.refill (2 ^ 52)
+    && nat_le k.owes (k.rate.size * k.rate.refill + 2 ^ 127)
+
+-- the bucket that keeps this, if there may be such a one
+abbrev pub bucket_from : Kept → Option Kept
+bucket_from k = if is_kept k then Some k else None
 
 -- a new bucket is full; there is none where the size or the milliseconds of refill time are 0, which is no limit
 abbrev pub new_bucket : ℕ → ℕ → ℕ → Option Kept

@@ -1,13 +1,13 @@
 // The bucket: the burst that is left, what is owed, and when.
 ghost use Rattle.std.specs.Prelude.{◌≡◌, ◌+◌, ◌-◌, ◌*◌, ◌^◌, ◌<◌, ◌⊎◌, ◌↔◌};
-ghost use Rattle.std.specs.Prelude.{ℕ, List, [], ◌∷◌, max, false, IsTrue, IsNone, IfSome};
+ghost use Rattle.std.specs.Prelude.{ℕ, List, [], ◌∷◌, max, true, false, IsTrue, IsNone, IfSome};
 ghost use Rattle.token_bucket.specs.Rate.{full, rate_of};
 ghost use Rattle.token_bucket.specs.Allowance.{Start, Need, may_pass, moment_at, saved, NeverFall};
-ghost use Rattle.token_bucket.specs.Kept.{Keeps, IsWait, new_bucket, owed_of, kept_at, saved_of};
+ghost use Rattle.token_bucket.specs.Kept.{Keeps, IsWait, bucket_from, is_kept, kept_of, new_bucket, owed_of, kept_at, saved_of};
 ghost use Rattle.token_bucket.specs.Kept.{owes_at, takes, took, most_owed, waits_until};
 ghost use Rattle.token_bucket.specs.Window.{IsLife, IsBounded, Lives, with_need};
 
-use crate::State;
+use crate::{BucketParts, State};
 use std::marker::Model;
 
 const NANOSECONDS: u64 = 1_000_000;
@@ -124,6 +124,45 @@ impl Bucket {
         State {
             burst: self.burst,
             balance,
+            moment: self.moment,
+        }
+    }
+
+    /// The bucket that keeps this, if there may be such a one.
+    pub fn from_parts(parts: BucketParts) -> Option<Bucket>
+        ensures { result ≡ bucket_from (kept_of parts) }
+    {
+        let BucketParts {
+            size,
+            refill,
+            burst,
+            owed,
+            moment,
+        } = parts;
+        let few = 0 < size && size < 1 << 48 && refill < 1 << 52;
+        if few && owed <= size as u128 * refill as u128 + (1 << 127) {
+            Some(Bucket {
+                size,
+                refill,
+                burst,
+                owed,
+                moment,
+            })
+        } else {
+            None
+        }
+    }
+
+    /// All that it keeps, which a bucket may keep.
+    pub fn parts(&self) -> BucketParts
+        ensures parts { kept_of result ≡ self.now }
+        ensures may { is_kept self.now ≡ true }
+    {
+        BucketParts {
+            size: self.size,
+            refill: self.refill,
+            burst: self.burst,
+            owed: self.owed,
             moment: self.moment,
         }
     }

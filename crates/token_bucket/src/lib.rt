@@ -10,4 +10,4 @@ mod state;
 
 pub use bucket::Bucket;
 pub use law::{by_what_is_kept, life_goes_on, rate_bound, some_start};
-pub use state::State;
+pub use state::{BucketParts, State};

@@ -4,5 +4,7 @@ pub mod Pieces
 pub mod Ports
 pub mod Resuming
 pub mod Stages
+pub mod StagesStay
 pub mod Staying
+pub mod Untimed
 pub mod Working

@@ -13,17 +13,16 @@ use Rattle.dev_core.specs.Collecting.{collect_left}
 use Rattle.dev_core.specs.Inside.{Any}
 use Rattle.dev_core.specs.Pieces.{Got, past, put_all, readable, room, share, total, writable}
 use Rattle.dev_core.proofs.Fuel.{collect_done, put_done}
-use Rattle.dev_core.proofs.Inside.{filter_inside, past_inside, piece_inside}
+use Rattle.dev_core.proofs.Inside.{filter_inside, past_inside}
 use Rattle.queue_device.specs.declared.lanes.Which.{Which}
 use Rattle.queue_device.specs.declared.lanes.Which.TheVariants.{First, Second, Third}
 use Rattle.queue_device.specs.declared.phase.Work.TheVariants as work
 use Rattle.queue_device.specs.declared.spill.Spill.{Spill}
-use Rattle.queue_device.specs.Acting.{Acting, ActingKeeps, Comes, performing}
+use Rattle.queue_device.specs.Acting.{Acting, Comes, performing}
 use Rattle.queue_device.specs.Chains.{Chain}
-use Rattle.queue_device.specs.Confined.{IsChain, IsDeviceAct}
+use Rattle.queue_device.specs.Confined.{IsChain}
 use Rattle.queue_device.specs.Resuming.{Goes, IsShortChain, IsShortTaken, Resumes, answering_of, serving_of, taking_of}
-use Rattle.queue_device.specs.Spilling.{spill_left}
-use Rattle.queue_device.proofs.Acting.{led_keeps, performing_acts, performing_keeps}
+use Rattle.queue_device.proofs.Acting.{performing_acts}
 use Rattle.queue_device.proofs.Pieces.{collect_asks, collect_next, filter_few, more_of, past_few, put_asks, put_next}
 use Rattle.vsock_packet.specs.declared.header.Header.{Header}
 use Rattle.vsock_packet.specs.declared.operation.Operation.{Operation}
@@ -49,103 +48,7 @@ use Rattle.vsock_device.specs.Vsock.{event_told, is_host_call, kept_of, received
 use Rattle.vsock_device.specs.Work.{AnyVsock, hand_of, is_work}
 use Rattle.vsock_device.proofs.Pieces.{forward_done, forward_more}
 use Rattle.vsock_device.proofs.Stages.{Fetches, Has, fetches_of, has_of, no_answer, no_take, sends_of, test_of_fetches, test_of_has, test_of_sends}
-use Rattle.vsock_device.proofs.Owes.{collects, dialled_keeps, forwards, open_keeps, packet_keeps, passed_keeps, piece_keeps, puts}
-
--- ---- what is left keeps to its own
-
-module _ (port pages : ℕ) where
-  abbrev AnswerStays : Stage → Type 0
-  AnswerStays g =
-      IsDeviceAct false is_host_call port pages (hand_of g).op
-      × ((e : Vsock) (reply : Reply) → Fits (hand_of g).op reply
-      → ActingKeeps (IsDeviceAct false is_host_call port pages) Any ((hand_of g).answering e reply))
-
-  answering_stays : (g : Stage) → is_work work.Answer pages g ≡ true → AnswerStays g
-  answering_stays g is =
-      let v = no_answer pages g is in
-      subst AnswerStays (sym v.1) ((λ few. tt, inr (refl, refl)), λ e reply fit. tt)
-
-  abbrev ServiceStays : Stage → Type 0
-  ServiceStays g =
-      IsDeviceAct false is_host_call port pages (hand_of g).op
-      × ((e : Vsock) (reply : Reply) → Fits (hand_of g).op reply
-      → ActingKeeps (IsDeviceAct false is_host_call port pages) Any ((hand_of g).serving e reply))
-
-  abbrev Left : List Part → Type 0
-  Left left = (pages < 2 ^ 32 → AreInside pages left) × Any left
-
-  -- bytes are written, and then this is done
-  spill_stays : (spill : Spill) (more : Vsock → List Part → Acting Vsock (Option ℕ)) → Has pages (share spill.held spill.to) spill.to
-      → ((f : Vsock) (left : List Part) → ActingKeeps (IsDeviceAct false is_host_call port pages) Any (more f left))
-      → IsDeviceAct false is_host_call port pages (hand_of (stage.Event spill)).op
-      × ((e : Vsock) (reply : Reply) → Fits (hand_of (stage.Event spill)).op reply
-      → ActingKeeps (IsDeviceAct false is_host_call port pages) Any (performing (led (spill_left spill) reply) e more))
-  spill_stays spill more v after =
-      let on = led_keeps (IsDeviceAct false is_host_call port pages) Left (put_all spill.held spill.to) _
-      (put_asks spill.held spill.to v.some) (puts port pages spill.held spill.to (λ few. v.inside)) in (
-        on.0,
-        λ e reply fit. performing_keeps (IsDeviceAct false is_host_call port pages) Left Any
-            (led (put_all spill.held spill.to) reply) e more (on.1 reply fit) (λ f left is. after f left),
-      )
-
-  abbrev GotLeft : Got → Type 0
-  GotLeft got = (pages < 2 ^ 32 → AreInside pages got.parts) × Any got
-
-  fetch_stays : (from : Collect) (len : ℕ) → Fetches pages from → ServiceStays (stage.Fetch from len)
-  fetch_stays from len v =
-      let on = led_keeps (IsDeviceAct false is_host_call port pages) GotLeft (collect_left 44 from) _
-      (collect_asks 44 from v.short v.has.some)
-      (collects port pages (44 - length from.held) from.held from.from (λ few. v.has.inside)) in (
-        on.0,
-        λ e reply fit. performing_keeps (IsDeviceAct false is_host_call port pages) GotLeft Any
-            (led (collect_left 44 from) reply) e (packet_read len) (on.1 reply fit)
-            (λ f got is. packet_keeps port pages len got f is.0),
-      )
-
-  read_stays : (host : ℕ) (from : List Part) → Has pages (room from) from → ServiceStays (stage.Read host from)
-  read_stays host from v = (
-    (λ few. piece_inside pages (room from) from v.inside v.some (omega arith), inr (tt, tt)),
-    λ e reply fit. piece_keeps port pages host (read_bytes (room from) reply) e _ (λ f.
-        forwards port pages host (past (room from) from) f (λ few. past_inside pages (room from) from few v.inside (omega arith))),
-  )
-
-  serving_stays : (k : Which) (g : Stage) → is_work (work.Serve k) pages g ≡ true → ServiceStays g
-  serving_stays First (stage.Deliver spill len) is =
-      spill_stays spill _ (has_of pages (share spill.held spill.to) spill.to is) (λ f left. tt)
-  serving_stays First stage.Rest is = absurd (cc)
-  serving_stays First (stage.Close host) is = absurd (cc)
-  serving_stays First (stage.Event spill) is = absurd (cc)
-  serving_stays First (stage.Fetch from len) is = absurd (cc)
-  serving_stays First (stage.Dial header) is = absurd (cc)
-  serving_stays First (stage.Accept host line) is = absurd (cc)
-  serving_stays First (stage.Send host piece from) is = absurd (cc)
-  serving_stays First (stage.Read host from) is = absurd (cc)
-  serving_stays Second (stage.Fetch from len) is = fetch_stays from len (fetches_of pages len from is)
-  serving_stays Second (stage.Close host) is = ((λ few. tt, inr (refl, refl)), λ e reply fit. tt)
-  serving_stays Second (stage.Dial header) is =
-      ((λ few. tt, inr (refl, refl)), λ e reply fit. dialled_keeps port pages reply header e)
-  serving_stays Second (stage.Accept host line) is =
-      ((λ few. tt, inr (refl, refl)), λ e reply fit. open_keeps port pages reply host e)
-  serving_stays Second (stage.Send host piece from) is =
-      let v = sends_of pages host piece from is in (
-        (λ few. tt, inr (refl, refl)),
-        λ e reply fit. passed_keeps port pages reply host (length piece) e _
-            (λ f. forwards port pages host from f (λ few. v.inside)),
-      )
-  serving_stays Second (stage.Read host from) is = read_stays host from (has_of pages (room from) from is)
-  serving_stays Second stage.Rest is = absurd (cc)
-  serving_stays Second (stage.Deliver spill len) is = absurd (cc)
-  serving_stays Second (stage.Event spill) is = absurd (cc)
-  serving_stays Third (stage.Event spill) is =
-      spill_stays spill _ (has_of pages (share spill.held spill.to) spill.to is) (λ f left. tt)
-  serving_stays Third stage.Rest is = absurd (cc)
-  serving_stays Third (stage.Close host) is = absurd (cc)
-  serving_stays Third (stage.Deliver spill len) is = absurd (cc)
-  serving_stays Third (stage.Fetch from len) is = absurd (cc)
-  serving_stays Third (stage.Dial header) is = absurd (cc)
-  serving_stays Third (stage.Accept host line) is = absurd (cc)
-  serving_stays Third (stage.Send host piece from) is = absurd (cc)
-  serving_stays Third (stage.Read host from) is = absurd (cc)
+use Rattle.vsock_device.proofs.StagesStay.{answering_stays, serving_stays}
 
 -- ---- what is kept behind an act
 

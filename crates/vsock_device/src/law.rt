@@ -39,7 +39,7 @@ pub fn vsock_stays()
 pub fn vsock_kept()
     ensures stays { (p : Phase) (r : Rounds) (e : Vsock) (g : Stage) →
         is_state vsock false is_work p r g ≡ true →
-        IsConfined vsock false is_host_call r.port r.pages (left_at vsock p (hand_of g) (queued r e)) }
+        IsConfined vsock is_host_call r.port r.pages (left_at vsock p (hand_of g) (queued r e)) }
     ensures one { (p q : Phase) (r t : Rounds) (e f : Vsock) (g h : Stage) →
         is_state vsock false is_work p r g ≡ true → is_state vsock false is_work q t h ≡ true →
         left_at vsock p (hand_of g) (queued r e) ≡ left_at vsock q (hand_of h) (queued t f) → queued r e ≡ queued t f }

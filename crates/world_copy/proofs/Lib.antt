@@ -1,3 +1,4 @@
 pub mod Copied
 pub mod GoingOn
+mod Moving
 pub mod Ready

@@ -3,7 +3,7 @@ ghost use Rattle.std.specs.Prelude.{◌≡◌, true, IfOk, map};
 ghost use Rattle.std.specs.List.{list_all};
 ghost use Rattle.guest_devices.specs.Kept.{is_kept, kept_reset};
 
-use file_format::{Counted, Items};
+use file_format::{Counted, Items, Listed};
 use guest_devices::Device;
 use mmio_port::Port;
 use snap_devices::Saved;
@@ -31,13 +31,13 @@ pub fn ports_kept(alloc: Global, ports: &[Port]) -> Result<Items<Counted<Saved<P
 }
 
 // The copy is reset, and the device isn't.
-fn device_kept(device: &Device) -> Counted<Saved<Device>>
+fn device_kept(device: &Device) -> Listed<Saved<Device>>
     ensures kept { result ≡ kept_reset device.now }
     ensures known { is_kept (kept_reset device.now) ≡ true }
 {
     let mut kept = device.again();
     kept.reset();
-    Counted {
+    Listed {
         value: Saved { value: kept },
     }
 }
@@ -46,7 +46,7 @@ fn device_kept(device: &Device) -> Counted<Saved<Device>>
 pub fn devices_kept(
     alloc: Global,
     devices: &[Device],
-) -> Result<Items<Counted<Saved<Device>>>, AllocError>
+) -> Result<Items<Listed<Saved<Device>>>, AllocError>
     ensures kept { IfOk result (λ kept. kept ≡ map kept_reset devices.now) }
     ensures known { IfOk result (λ kept. list_all is_kept kept ≡ true) }
 {
@@ -57,38 +57,31 @@ pub fn devices_kept(
     Ok(kept)
 }
 
-fn port_of(kept: &Counted<Saved<Port>>) -> Port
-    ensures { result ≡ kept.now }
-{
-    let saved = &kept.value;
-    port_again(&saved.value)
-}
-
-/// The ports that a copy has.
-pub fn ports_of(alloc: Global, kept: &[Counted<Saved<Port>>]) -> Result<Vec<Port>, AllocError>
-    ensures { IfOk result (λ ports. ports.items ≡ kept.now) }
+/// The ports that a copy had.
+pub fn ports_of(alloc: Global, kept: Vec<Counted<Saved<Port>>>) -> Result<Vec<Port>, AllocError>
+    ensures { IfOk result (λ ports. ports.items ≡ kept.items) }
 {
     let mut ports = Vec::new(alloc);
-    for port in kept {
-        ports.push(port_of(port))?;
+    let mut rest = kept.into_iter();
+    while let Some(port) = rest.next() {
+        let saved = port.value;
+        ports.push(saved.value)?;
     }
     Ok(ports)
 }
 
-fn device_of(kept: &Counted<Saved<Device>>) -> Device
-    ensures { result ≡ kept.now }
-{
-    let saved = &kept.value;
-    saved.value.again()
-}
-
-/// The devices that a copy has.
-pub fn devices_of(alloc: Global, kept: &[Counted<Saved<Device>>]) -> Result<Vec<Device>, AllocError>
-    ensures { IfOk result (λ devices. devices.items ≡ kept.now) }
+/// The devices that a copy had.
+pub fn devices_of(
+    alloc: Global,
+    kept: Vec<Listed<Saved<Device>>>,
+) -> Result<Vec<Device>, AllocError>
+    ensures { IfOk result (λ devices. devices.items ≡ kept.items) }
 {
     let mut devices = Vec::new(alloc);
-    for device in kept {
-        devices.push(device_of(device))?;
+    let mut rest = kept.into_iter();
+    while let Some(device) = rest.next() {
+        let saved = device.value;
+        devices.push(saved.value)?;
     }
     Ok(devices)
 }

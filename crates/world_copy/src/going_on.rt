@@ -20,7 +20,7 @@ use hart_rv64::Hart;
 use line_board::{Board, HartParts};
 use reservation_copy::reserve;
 use snap_harts::{HartPlace, SavedHart, SavedHartState};
-use snap_state::{SavedBoard, StateCopy};
+use snap_state::{Configuration, SavedBoard, StateCopy};
 use std::alloc::{AllocError, Global};
 use vm_world::World;
 
@@ -67,39 +67,51 @@ fn states_of(alloc: Global, saved: &[SavedHartState]) -> Result<Vec<HartState>, 
     Ok(states)
 }
 
-fn board_of(alloc: Global, harts: u64, now: u64, saved: &SavedBoard) -> Result<Board, AllocError>
-    requires valid { is_board harts saved.now ≡ true }
+fn board_of(alloc: Global, harts: u64, now: u64, saved: SavedBoard) -> Result<Board, AllocError>
+    requires valid { is_board harts saved ≡ true }
     requires few { harts ≤ 32 }
-    ensures { IfOk result (λ board. board ≡ board_at now saved.now) }
+    ensures { IfOk result (λ board. board ≡ board_at now saved) }
 {
+    let states = states_of(alloc, saved.states.as_slice())?;
     let parts = HartParts {
-        enables: saved.enables.as_slice().to_vec(alloc)?,
-        software: saved.software.as_slice().to_vec(alloc)?,
-        deadlines: saved.deadlines.as_slice().to_vec(alloc)?,
-        states: states_of(alloc, saved.states.as_slice())?,
+        enables: saved.enables.into_vec(),
+        software: saved.software.into_vec(),
+        deadlines: saved.deadlines.into_vec(),
+        states,
     };
     let board = Board::from_parts(alloc, saved.console.as_slice(), now, saved.pending, parts)?;
     Ok(board)
 }
 
+/// The world that goes on from a copy, and what was configured.
+#[derive(Drop)]
+pub struct Carried {
+    pub world: World,
+    pub configuration: Configuration,
+}
+
 /// The world that goes on from a copy, whose memory has these bytes. Nothing is reserved in the pages yet, and none is
-/// marked.
-pub fn world_of(alloc: Global, copy: &StateCopy, pages: PageSet) -> Result<World, AllocError>
-    requires valid { IsTrue (is_valid copy.now) }
-    requires count { length pages ≡ copy.now.pages }
-    requires free { (flat_of pages).reserved ≡ unreserved copy.now.pages }
-    requires unmarked { marks_of pages ≡ replicate copy.now.pages false }
-    ensures world { IfOk result (λ world. IsWorld world (carried_guest copy.now (flat_of pages).bytes)) }
-    ensures whole { length (flat_of pages).bytes ≡ page_size * copy.now.pages }
+/// marked. The copy's ports and devices are the world's.
+pub fn world_of(alloc: Global, copy: StateCopy, pages: PageSet) -> Result<Carried, AllocError>
+    requires valid { IsTrue (is_valid copy) }
+    requires count { length pages ≡ copy.pages }
+    requires free { (flat_of pages).reserved ≡ unreserved copy.pages }
+    requires unmarked { marks_of pages ≡ replicate copy.pages false }
+    ensures world { IfOk result (λ it. IsWorld it.world (carried_guest copy (flat_of pages).bytes)) }
+    ensures configuration { IfOk result (λ it. it.configuration ≡ copy.configuration) }
+    ensures whole { length (flat_of pages).bytes ≡ page_size * copy.pages }
 {
     let mut pages = pages;
     // Their bytes are so many whole pages.
     let _size = pages.len();
     let count = copy.configuration.machine.vcpu_count;
-    let board = board_of(alloc, count, copy.guest_time, &copy.board)?;
     let harts = harts_of(alloc, copy.pages, copy.harts.as_slice())?;
-    let ports = ports_of(alloc, copy.ports.as_slice())?;
-    let devices = devices_of(alloc, copy.devices.as_slice())?;
     reserve(&mut pages, count, copy.reservations.as_slice());
-    Ok(World::from_parts(pages, board, harts, ports, devices))
+    let board = board_of(alloc, count, copy.guest_time, copy.board)?;
+    let ports = ports_of(alloc, copy.ports.into_vec())?;
+    let devices = devices_of(alloc, copy.devices.into_vec())?;
+    Ok(Carried {
+        world: World::from_parts(pages, board, harts, ports, devices),
+        configuration: copy.configuration,
+    })
 }

@@ -1,7 +1,7 @@
 // The acts of a block device over a small memory.
 use crate::chains::memory::{AVAILABLE, HEADER, PAGES, PLACE, STATUS, USED, put, read};
 use crate::chains::setting::Setting;
-use block_device::Block;
+use block_device::{Block, BlockData};
 use std::alloc::AllocError;
 use vm_types::{Actor, BoardOp, Op, OutOp, Piece, PortLook, PortOp, QueueShown, Reply};
 
@@ -19,13 +19,13 @@ const NONE: QueueShown = QueueShown {
     is_kicked: false,
 };
 
-/// The outside of the device: whether its queue was kicked, the port's Status, and how many acts of the disk there
-/// were.
+/// The outside of the device: whether its queue was kicked, the port's Status, how many acts of the disk there were, and guest time.
 #[derive(Drop)]
 struct Outside {
     is_kicked: bool,
     status: u32,
     disk: u64,
+    now: u64,
 }
 
 fn read_letter(at: u64) -> char {
@@ -106,6 +106,11 @@ fn answered(outside: &mut Outside, memory: &mut [u8], setting: &Setting, op: &Op
         Op::Port { port: _, act } => port_answered(outside, setting, act),
         Op::Out(act) => disk_answered(outside, setting, act),
         Op::Board(BoardOp::RaiseLine) => ('B', Reply::Done),
+        Op::Board(BoardOp::Time) => {
+            let now = outside.now;
+            outside.now = now.wrapping_add(setting.step);
+            ('T', Reply::Word(now))
+        }
         Op::Idle => ('I', Reply::Done),
         _ => ('?', Reply::AccessFault),
     }
@@ -113,11 +118,18 @@ fn answered(outside: &mut Outside, memory: &mut [u8], setting: &Setting, op: &Op
 
 /// Puts the letters of a device's acts at the end, whose first look shows a kick.
 pub fn add_acts(text: &mut String, memory: &mut [u8], setting: &Setting) -> Result<(), AllocError> {
-    let mut block = Block::new(0, PAGES, ID, setting.sectors, setting.is_read_only);
+    let facts = BlockData {
+        sectors: setting.sectors,
+        drive_id: ID,
+        is_read_only: setting.is_read_only,
+        limits: setting.limits(),
+    };
+    let mut block = Block::new(0, PAGES, facts);
     let mut outside = Outside {
         is_kicked: true,
         status: 15,
         disk: 0,
+        now: 0,
     };
     for _ in 0..setting.acts {
         let op = block.want();

@@ -1,11 +1,13 @@
 // What a case sets up.
 use crate::chains::memory::{AVAILABLE, DESCRIPTORS, HEADER, PAGES, PLACE, STATUS, USED, put};
 use crate::words::{Numbers, numbers_in};
+use rate_gate::{Bucket, RateGate};
 use vm_types::QueueShown;
 use vq_split::Queue;
 
 /// The device, its queue, how many acts are made and which bytes are shown after them. The disk's acts from the one of
-/// number `failing` on fail.
+/// number `failing` on fail. The bucket of bytes is full at first; guest time begins with 0, and is `step` nanoseconds later at each
+/// question.
 #[derive(Clone, Copy, Drop)]
 pub struct Setting {
     pub sectors: u64,
@@ -17,9 +19,20 @@ pub struct Setting {
     pub shown: u64,
     pub count: usize,
     pub filled: u16,
+    pub limit: u64,
+    pub ms: u64,
+    pub step: u64,
 }
 
 impl Setting {
+    /// The gate, whose bucket has numbers of 16 bits.
+    pub fn limits(&self) -> RateGate {
+        RateGate::new(
+            Bucket::new(self.limit % 0x1_0000, 0, self.ms % 0x1_0000),
+            None,
+        )
+    }
+
     pub fn queue(&self) -> Queue {
         Queue {
             descriptors: self.table,
@@ -52,6 +65,9 @@ const PLAIN: Setting = Setting {
     shown: 0,
     count: 0,
     filled: 0,
+    limit: 0,
+    ms: 0,
+    step: 0,
 };
 
 /// A case, whose words are set up in memory.
@@ -81,6 +97,11 @@ fn set(setting: &mut Setting, memory: &mut [u8], name: &str, values: Numbers) ->
         "size" => setting.size = low16(values.a),
         "table" => setting.table = values.a,
         "sectors" => setting.sectors = values.a,
+        "limit" => {
+            setting.limit = values.a;
+            setting.ms = values.b;
+        }
+        "step" => setting.step = values.a,
         "readonly" => setting.is_read_only = values.a == 1,
         "failing" => setting.failing = values.a,
         "acts" => setting.acts = values.a as usize,

@@ -1,12 +1,9 @@
-use Rattle.block_device.specs.Block.{changed}
 use Rattle.block_device.proofs.Owes.{owes}
 use Rattle.block_device.proofs.Resuming.{resumes}
 use Rattle.block_device.proofs.law.block_goes_on.Goals as goal
 
 pub returns-clause-begins : goal.returns-clause-begins
-returns-clause-begins c port pages sectors id read_only small size =
-    c.queue_goes_on.ensures.begins port pages (record { sectors = sectors; drive_id = id; is_read_only = read_only }) small
-    owes resumes size
+returns-clause-begins c port pages facts small fine = c.queue_goes_on.ensures.begins port pages facts small owes resumes fine
 
 pub returns-clause-reply : goal.returns-clause-reply
 returns-clause-reply c port pages t reply small kept fit =
@@ -14,4 +11,4 @@ returns-clause-reply c port pages t reply small kept fit =
 
 pub returns-clause-change : goal.returns-clause-change
 returns-clause-change c port pages t change small kept fine =
-    c.queue_goes_on.ensures.change port pages t change small owes resumes kept (λ e was. (fine e, fine e))
+    c.queue_goes_on.ensures.change port pages t change small owes resumes kept (λ e was. (fine e was, fine e was))

@@ -1,4 +1,4 @@
-use Rattle.guest_devices.proofs.OneKind.{give_is}
+use Rattle.guest_devices.proofs.OfBlock.{give_is}
 use Rattle.guest_devices.proofs.block.give_block.Goals as goal
 
 pub returns : goal.returns

@@ -3,7 +3,7 @@ use Rattle.queue_device.specs.declared.device.QueueRounds.{QueueRounds}
 use Rattle.block_device.specs.declared.kind.BlockKind.{BlockKind}
 use Rattle.guest_devices.specs.declared.device.Device.TheVariants as device
 use Rattle.guest_devices.specs.Kept.{is_sized, kept_of}
-use Rattle.guest_devices.proofs.OneKind.{kept_is}
+use Rattle.guest_devices.proofs.OfBlock.{kept_is}
 use Rattle.guest_devices.proofs.Placed.{kept_from}
 use Rattle.guest_devices.proofs.block.kept_block.Goals as goal
 

@@ -1,4 +1,4 @@
-use Rattle.guest_devices.proofs.OneKind.{want_is}
+use Rattle.guest_devices.proofs.OfBlock.{want_is}
 use Rattle.guest_devices.proofs.block.want_of_block.Goals as goal
 
 pub returns : goal.returns

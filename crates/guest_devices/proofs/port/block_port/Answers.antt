@@ -1,5 +1,5 @@
 use Rattle.std.proofs.Common.{◌<◌, ◌^◌, rules}
-use Rattle.guest_devices.proofs.OneKind.{fits_is}
+use Rattle.guest_devices.proofs.OfBlock.{fits_is}
 use Rattle.guest_devices.proofs.port.block_port.Goals as goal
 
 pub returns-clause-fits : goal.returns-clause-fits

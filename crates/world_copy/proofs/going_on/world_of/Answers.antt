@@ -13,35 +13,35 @@ use Rattle.world_copy.proofs.GoingOn.{goes_on}
 use Rattle.world_copy.proofs.going_on.world_of.Goals as goal
 
 pub board_of-requires-clause-valid : goal.board_of-requires-clause-valid
-board_of-requires-clause-valid c = (rules_of c.args.copy.now c.requires.valid).board
+board_of-requires-clause-valid c = (rules_of c.args.copy c.requires.valid).board
 
 pub board_of-requires-clause-few : goal.board_of-requires-clause-few
-board_of-requires-clause-few c = few_harts c.args.copy.now (rules_of c.args.copy.now c.requires.valid)
+board_of-requires-clause-few c = few_harts c.args.copy (rules_of c.args.copy c.requires.valid)
 
 pub harts_of-requires : goal.harts_of-requires
 harts_of-requires c =
-    ap (λ (l : List SavedHart). list_all (is_hart c.args.copy.now.pages) l) c.as_slice.ensures
-    ∙ (rules_of c.args.copy.now c.requires.valid).harts
+    ap (λ (l : List SavedHart). list_all (is_hart c.args.copy.pages) l) c.as_slice.ensures
+    ∙ (rules_of c.args.copy c.requires.valid).harts
 
 pub reserve-requires-clause-few : goal.reserve-requires-clause-few
-reserve-requires-clause-few c = few_harts c.args.copy.now (rules_of c.args.copy.now c.requires.valid)
+reserve-requires-clause-few c = few_harts c.args.copy (rules_of c.args.copy c.requires.valid)
 
 pub reserve-requires-clause-there : goal.reserve-requires-clause-there
 reserve-requires-clause-there c =
-    let copy = c.args.copy.now in
+    let copy = c.args.copy in
     let harts = copy.configuration.machine.vcpu_count in
-    ap (λ (l : List Reservation). list_all (is_reserved (length c.args.pages) harts) l) c.as_slice-4.ensures
+    ap (λ (l : List Reservation). list_all (is_reserved (length c.args.pages) harts) l) c.as_slice-2.ensures
     ∙ ap (λ (n : ℕ). list_all (is_reserved n harts) copy.reservations) c.requires.count
     ∙ (rules_of copy c.requires.valid).reservations
 
 pub from_parts-requires-clause-few : goal.from_parts-requires-clause-few
 from_parts-requires-clause-few c =
-    omega (arith, c.reserve.ensures.count, c.requires.count, few_pages c.args.copy.now (rules_of c.args.copy.now c.requires.valid))
+    omega (arith, c.reserve.ensures.count, c.requires.count, few_pages c.args.copy (rules_of c.args.copy c.requires.valid))
 
 pub from_parts-requires-clause-few_ports : goal.from_parts-requires-clause-few_ports
 from_parts-requires-clause-few_ports c =
-    let on = attached c.args.copy.now (rules_of c.args.copy.now c.requires.valid) in
-    omega (arith, ap length c.in_ok-ports.ensures, ap length c.as_slice-2.ensures, on.ports, on.few)
+    let on = attached c.args.copy (rules_of c.args.copy c.requires.valid) in
+    omega (arith, ap length c.in_ok-ports.ensures, ap length c.into_vec.ensures, on.ports, on.few)
 
 pub returns-clause-whole : goal.returns-clause-whole
 returns-clause-whole c =
@@ -49,14 +49,14 @@ returns-clause-whole c =
 
 pub returns-clause-world : goal.returns-clause-world
 returns-clause-world c =
-    let copy = c.args.copy.now in
+    let copy = c.args.copy in
     let whole : length (flat_of c.args.pages).bytes ≡ page_size * copy.pages =
     c.len-size.ensures.bytes ∙ ap (λ (n : ℕ). page_size * n) (c.len-size.ensures.pages ∙ c.requires.count) in
     subst (λ (w : WorldValue). IsWorld w (carried_guest copy (flat_of c.args.pages).bytes)) (sym c.from_parts.ensures)
     (goes_on copy c.args.pages c.reserve.new.pages c.in_ok-board.board c.in_ok-ports.ports.items c.in_ok-harts.harts.items
     c.in_ok-devices.devices.items c.requires.valid whole c.reserve.ensures.bytes
-    (c.reserve.ensures.reserved ∙ ap (λ (l : List Reservation). slots_with l (flat_of c.args.pages).reserved) c.as_slice-4.ensures)
+    (c.reserve.ensures.reserved ∙ ap (λ (l : List Reservation). slots_with l (flat_of c.args.pages).reserved) c.as_slice-2.ensures)
     c.requires.free c.reserve.ensures.marks c.requires.unmarked c.in_ok-board.ensures
-    (c.in_ok-ports.ensures ∙ c.as_slice-2.ensures)
+    (c.in_ok-ports.ensures ∙ c.into_vec.ensures)
     (subst (λ (l : List SavedHart). GoOn l c.in_ok-harts.harts.items) c.as_slice.ensures c.in_ok-harts.ensures)
-    (c.in_ok-devices.ensures ∙ c.as_slice-3.ensures))
+    (c.in_ok-devices.ensures ∙ c.into_vec-2.ensures))

@@ -1,5 +1,9 @@
-use Rattle.std.proofs.Common.{rules}
+use Rattle.std.proofs.Common.{refl}
+use Rattle.guest_devices.specs.declared.device.Device.TheVariants as device
 use Rattle.guest_devices.proofs.device.Device.change.Goals as goal
 
-pub returns : goal.returns
-returns c = c.tell_block.ensures c.args.self.now _ c.args.change (search rules) (search rules) (search rules)
+pub returns-in-Block : goal.returns-in-Block
+returns-in-Block c = c.tell_block.ensures c.args.self.now (device.Block c.tell_block.new.block) c.in-Block.is refl
+
+pub returns-in-Balloon : goal.returns-in-Balloon
+returns-in-Balloon c = c.tell_balloon.ensures c.args.self.now (device.Balloon c.tell_balloon.new.balloon) c.in-Balloon.is refl

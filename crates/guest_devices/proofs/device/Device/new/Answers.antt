@@ -1,5 +1,8 @@
 use Rattle.std.proofs.Common.{rules}
 use Rattle.guest_devices.proofs.device.Device.new.Goals as goal
 
-pub returns : goal.returns
-returns c = c.new_block.ensures c.args.what.now (search rules)
+pub returns-in-Block : goal.returns-in-Block
+returns-in-Block c = c.new_block.ensures c.args.what.now c.in-Block.is
+
+pub returns-in-Balloon : goal.returns-in-Balloon
+returns-in-Balloon c = c.new_balloon.ensures c.args.what.now c.in-Balloon.is

@@ -1,5 +1,8 @@
 use Rattle.std.proofs.Common.{rules}
 use Rattle.guest_devices.proofs.device.Device.port.Goals as goal
 
-pub returns-clause-kept : goal.returns-clause-kept
-returns-clause-kept c = c.port_of_block.ensures.kept c.args.self.now (search rules)
+pub returns-in-Block-clause-kept : goal.returns-in-Block-clause-kept
+returns-in-Block-clause-kept c = c.port_of_block.ensures.kept c.args.self.now c.in-Block.is
+
+pub returns-in-Balloon-clause-kept : goal.returns-in-Balloon-clause-kept
+returns-in-Balloon-clause-kept c = c.port_of_balloon.ensures.kept c.args.self.now c.in-Balloon.is

@@ -1,5 +1,9 @@
-use Rattle.std.proofs.Common.{rules}
+use Rattle.std.proofs.Common.{refl}
+use Rattle.guest_devices.specs.declared.device.Device.TheVariants as device
 use Rattle.guest_devices.proofs.device.DeviceActor.give.Goals as goal
 
-pub returns : goal.returns
-returns c = c.give_block.ensures c.args.self.now _ (search rules) (search rules)
+pub returns-in-Block : goal.returns-in-Block
+returns-in-Block c = c.give_block.ensures c.args.self.now (device.Block c.give_block.new.block) c.in-Block.is refl
+
+pub returns-in-Balloon : goal.returns-in-Balloon
+returns-in-Balloon c = c.give_balloon.ensures c.args.self.now (device.Balloon c.give_balloon.new.balloon) c.in-Balloon.is refl

@@ -1,5 +1,8 @@
 use Rattle.std.proofs.Common.{rules}
 use Rattle.guest_devices.proofs.device.DeviceActor.want.Goals as goal
 
-pub returns : goal.returns
-returns c = c.want_of_block.ensures c.args.self.now (search rules)
+pub returns-in-Block : goal.returns-in-Block
+returns-in-Block c = c.want_of_block.ensures c.args.self.now c.in-Block.is
+
+pub returns-in-Balloon : goal.returns-in-Balloon
+returns-in-Balloon c = c.want_of_balloon.ensures c.args.self.now c.in-Balloon.is

@@ -1,0 +1,7 @@
+use Rattle.std.proofs.Common.{subst, sym}
+use Rattle.guest_devices.specs.declared.change.DeviceChange.{DeviceChange}
+use Rattle.guest_devices.specs.Kinds.{FitsChange}
+use Rattle.guest_devices.proofs.change.DeviceChange.shown.Goals as goal
+
+pub returns-in-Balloon-clause-fits : goal.returns-in-Balloon-clause-fits
+returns-in-Balloon-clause-fits c = subst (λ (change : DeviceChange). FitsChange change) (sym c.in-Balloon.is) tt

@@ -1,0 +1,11 @@
+use Rattle.std.proofs.Common.{ap, sym}
+use Rattle.guest_devices.specs.declared.device.Device.{Device}
+use Rattle.guest_devices.specs.Kept.{kept_of}
+use Rattle.guest_devices.specs.Ports.{number_of}
+use Rattle.guest_devices.proofs.device.Device.kind.Goals as goal
+
+pub returns-in-Block : goal.returns-in-Block
+returns-in-Block c = ap (λ (d : Device). number_of (kept_of d).kind) (sym c.in-Block.is)
+
+pub returns-in-Balloon : goal.returns-in-Balloon
+returns-in-Balloon c = ap (λ (d : Device). number_of (kept_of d).kind) (sym c.in-Balloon.is)

@@ -1,0 +1,134 @@
+// Where a device with queues is.
+ghost use Rattle.std.specs.Prelude.{◌≡◌, OnOk};
+ghost use Rattle.file_format.specs.Reading.{Takes};
+ghost use Rattle.snap_devices.specs.Places.{hand, place, place_code};
+
+use crate::queue::{read_walk, write_walk};
+use crate::saved::Saved;
+use dev_core::{BreakStage, ReturnStage};
+use file_format::{Input, ReadError, Stored};
+use queue_device::{InHand, Phase, SoundQueue, Which};
+use std::alloc::{AllocError, Global};
+use vq_split::Queue;
+
+#[tactic(auto, unfolding(crate::specs::Places::hand, crate::specs::Places::hand_fields), using(vq_split::proofs::Kept::test_of_sound))]
+impl Stored for Saved<InHand> {
+    ghost format = { hand };
+
+    fn write(&self, out: &mut Vec<u8>) -> Result<(), AllocError> {
+        Saved {
+            value: self.value.which,
+        }
+        .write(out)?;
+        Saved {
+            value: self.value.queue.fields(),
+        }
+        .write(out)?;
+        self.value.head.write(out)?;
+        Ok(())
+    }
+
+    fn read(alloc: Global, input: &mut Input) -> Result<Saved<InHand>, ReadError> {
+        let (which, (queue, head)): (Saved<Which>, (Saved<Queue>, u16)) = Stored::read(
+            alloc, input,
+        )?;
+        match SoundQueue::from_fields(queue.value) {
+            Some(queue) => Ok(Saved {
+                value: InHand {
+                    which: which.value,
+                    queue,
+                    head,
+                },
+            }),
+            None => Err(ReadError::Bad),
+        }
+    }
+}
+
+fn place_code(place: &Phase) -> u8
+    ensures { result ≡ place_code place.now }
+{
+    match place {
+        Phase::Between => 0,
+        Phase::Question => 1,
+        Phase::Walk { .. } => 2,
+        Phase::Take { .. } => 3,
+        Phase::Serve { .. } => 4,
+        Phase::Return { .. } => 5,
+        Phase::Break { .. } => 6,
+    }
+}
+
+/// Puts at the end where a device is.
+#[tactic(auto, unfolding(crate::specs::Places::place, file_format::specs::Kinds::byte))]
+pub fn write_place(it: &Phase, out: &mut Vec<u8>) -> Result<(), AllocError>
+    ensures fits { OnOk result (place.Fits it.now) }
+    ensures bytes { OnOk result (out.new.items ≡ place.puts it.now out.old.items) }
+{
+    place_code(it).write(out)?;
+    match it {
+        Phase::Between | Phase::Question => {}
+        Phase::Walk { which, walk } => {
+            Saved { value: *which }.write(out)?;
+            write_walk(walk, out)?;
+        }
+        Phase::Take { chain } => Saved { value: *chain }.write(out)?,
+        Phase::Serve { chain } => Saved { value: *chain }.write(out)?,
+        Phase::Return { chain, len, stage } => {
+            len.write(out)?;
+            Saved { value: *stage }.write(out)?;
+            Saved { value: *chain }.write(out)?;
+        }
+        Phase::Break { which, stage } => {
+            Saved { value: *which }.write(out)?;
+            Saved { value: *stage }.write(out)?;
+        }
+    }
+    Ok(())
+}
+
+/// Takes from the front where a device is.
+#[tactic(auto, unfolding(crate::specs::Places::place, file_format::specs::Kinds::byte))]
+pub fn read_place(alloc: Global, input: &mut Input) -> Result<Phase, ReadError>
+    ensures { Takes place input.old input.new result }
+{
+    let place = match u8::read(alloc, input)? {
+        0 => Phase::Between,
+        1 => Phase::Question,
+        2 => {
+            let which: Saved<Which> = Stored::read(alloc, input)?;
+            let walk = read_walk(alloc, input)?;
+            Phase::Walk {
+                which: which.value,
+                walk,
+            }
+        }
+        3 => {
+            let chain: Saved<InHand> = Stored::read(alloc, input)?;
+            Phase::Take { chain: chain.value }
+        }
+        4 => {
+            let chain: Saved<InHand> = Stored::read(alloc, input)?;
+            Phase::Serve { chain: chain.value }
+        }
+        5 => {
+            let (len, (stage, chain)): (u32, (Saved<ReturnStage>, Saved<InHand>)) = Stored::read(
+                alloc, input,
+            )?;
+            Phase::Return {
+                chain: chain.value,
+                len,
+                stage: stage.value,
+            }
+        }
+        6 => {
+            let (which, stage): (Saved<Which>, Saved<BreakStage>) = Stored::read(alloc, input)?;
+            Phase::Break {
+                which: which.value,
+                stage: stage.value,
+            }
+        }
+        _ => return Err(ReadError::Bad),
+    };
+    Ok(place)
+}
