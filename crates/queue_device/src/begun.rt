@@ -197,6 +197,7 @@ fn over_begun<K: Kind>(rounds: &mut Rounds, kind: &mut K, reply: &Reply) -> Phas
 }
 
 /// The first reply of a group.
+#[inline(never)]
 pub fn begun<K: Kind>(rounds: &mut Rounds, kind: &mut K, reply: Reply) -> Phase
     requires { fits (root_op (begins K.service (queued rounds.old (K.own kind.old)))) reply ≡ true }
     ensures left { left_at K.service result (K.hand (K.stage kind.new)) (queued rounds.new (K.own kind.new)) ≡

@@ -10,7 +10,7 @@ ghost use Rattle.queue_device.specs.Left.{left_at, queued};
 ghost use Rattle.queue_device.specs.Rounds.{queue_rules};
 
 use crate::begun::begun;
-use crate::inside::{inside_given, inside_op};
+use crate::inside::{inside_given, inside_op, serve_given};
 use crate::kind::Kind;
 use crate::lanes::Rounds;
 use crate::opening::opening;
@@ -42,6 +42,26 @@ impl<K: Kind> QueueRounds<K> {
 
     /// Leads on by a reply that fits.
     pub fn step(&mut self, reply: Reply)
+        requires { fits (wants (queue_rules K.service K.changing)
+            (left_at K.service self.old.phase (K.hand (K.stage self.old.kind)) (queued self.old.rounds (K.own self.old.kind)))) reply ≡ true }
+        ensures left { left_at K.service self.new.phase (K.hand (K.stage self.new.kind)) (queued self.new.rounds (K.own self.new.kind)) ≡
+            stepped (queue_rules K.service K.changing)
+            (left_at K.service self.old.phase (K.hand (K.stage self.old.kind)) (queued self.old.rounds (K.own self.old.kind))) reply }
+        ensures kept { is_state K.service K.times K.is_work self.old.phase self.old.rounds (K.stage self.old.kind) ≡ true →
+            is_state K.service K.times K.is_work self.new.phase self.new.rounds (K.stage self.new.kind) ≡ true }
+    {
+        if let Phase::Serve { chain } = &self.phase {
+            let chain = *chain;
+            serve_given(&self.rounds, &mut self.kind, &mut self.phase, chain, &reply);
+            return;
+        }
+        self.step_moved(reply);
+    }
+
+    // The same where no chain is served: what the device is at is moved. A function of its own, since each call clears the room
+    // for all that a function may move.
+    #[inline(never)]
+    fn step_moved(&mut self, reply: Reply)
         requires { fits (wants (queue_rules K.service K.changing)
             (left_at K.service self.old.phase (K.hand (K.stage self.old.kind)) (queued self.old.rounds (K.own self.old.kind)))) reply ≡ true }
         ensures left { left_at K.service self.new.phase (K.hand (K.stage self.new.kind)) (queued self.new.rounds (K.own self.new.kind)) ≡

@@ -87,6 +87,7 @@ fn lane_op<K: Kind>(rounds: &Rounds, kind: &K, which: Which) -> Op
 }
 
 /// The act that begins a group.
+#[inline(never)]
 pub fn opening<K: Kind>(rounds: &Rounds, kind: &K) -> Op
     ensures { result ≡ root_op (begins K.service (queued rounds.now (K.own kind.now))) }
 {

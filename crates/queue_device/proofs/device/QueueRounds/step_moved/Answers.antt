@@ -3,7 +3,7 @@ use Rattle.queue_device.specs.declared.phase.Phase.{Phase}
 use Rattle.queue_device.specs.declared.phase.Phase.TheVariants as phase
 use Rattle.queue_device.specs.Kept.{is_state}
 use Rattle.queue_device.proofs.CodeGoes.{state_parts}
-use Rattle.queue_device.proofs.device.QueueRounds.step.Goals as goal
+use Rattle.queue_device.proofs.device.QueueRounds.step_moved.Goals as goal
 
 pub returns-in-Between-clause-kept : goal.returns-in-Between-clause-kept
 returns-in-Between-clause-kept g c = λ state.
