@@ -1,0 +1,12 @@
+pub mod Asking
+pub mod Calls
+pub mod Changed
+pub mod Configured
+pub mod Creating
+pub mod Files
+pub mod Guests
+pub mod Loaded
+pub mod Requests
+pub mod Runs
+pub mod Traces
+pub mod Turned

@@ -1,0 +1,3 @@
+pub mod Alike
+pub mod Files
+pub mod Twins
