@@ -13,6 +13,8 @@ use Rattle.api_calls.specs.declared.call.ApiCall.TheVariants as call
 use Rattle.vm_config.specs.declared.config.Config.{Config}
 use Rattle.vm_config.specs.declared.config.Phase.{Phase}
 use Rattle.vm_config.specs.declared.config.Phase.TheVariants as phase
+use Rattle.vm_config.specs.declared.statistics.Statistics.{Statistics}
+use Rattle.vm_config.specs.Devices.{balloon_device}
 use Rattle.vm_config.specs.declared.change.Change.{Change}
 use Rattle.vm_config.specs.declared.change.Change.TheVariants as change
 use Rattle.api_rules.specs.declared.answer.Answer.{Answer}
@@ -22,6 +24,7 @@ use Rattle.api_rules.specs.Table.{change_of, decision, first_refusal, has_starte
 use Rattle.response_form.specs.Responses.{Response}
 use Rattle.flat_guest.specs.Guest.{Guest}
 use Rattle.flat_snapshot.proofs.Finds.{both}
+use Rattle.flat_machine.specs.Balloon.{TellsBalloon}
 use Rattle.flat_machine.specs.Machine.{Machine, phase_by, phase_of}
 use Rattle.flat_machine.specs.Requests.{AnswersBy, Responds, allowed, by_contents, decided, file_refusal}
 use Rattle.flat_machine.proofs.Allowed.{not_refused, same_change}
@@ -29,6 +32,7 @@ use Rattle.flat_machine.proofs.Between.{IsLater, started}
 use Rattle.alike_runs.specs.Alike.{Alike}
 use Rattle.alike_runs.specs.Twins.{Twins}
 use Rattle.alike_runs.proofs.Files.{base_none, file_there}
+use Rattle.alike_runs.proofs.Guests.{tells_too}
 
 -- ---- which calls are allowed of a machine that has started
 
@@ -43,6 +47,9 @@ later_by p config (call.PutDrive drive) has placed = never p has placed
 later_by p config (call.PatchDrive patch) has placed = tt
 later_by p config (call.PutMachineConfig machine) has placed = never p has placed
 later_by p config (call.PatchMachineConfig patch) has placed = never p has placed
+later_by p config (call.PutBalloon balloon) has placed = never p has placed
+later_by p config (call.PatchBalloon patch) has placed = tt
+later_by p config (call.PatchStatistics patch) has placed = tt
 later_by p config (call.PutMetadata body) has placed = tt
 later_by p config (call.PatchMetadata patch) has placed = tt
 later_by p config call.InstanceStart has placed = never p has placed
@@ -71,6 +78,9 @@ own_alike p config a b (call.PutDrive drive) none number = refl
 own_alike p config a b (call.PatchDrive patch) none number = refl
 own_alike p config a b (call.PutMachineConfig machine) none number = refl
 own_alike p config a b (call.PatchMachineConfig patch) none number = refl
+own_alike p config a b (call.PutBalloon balloon) none number = refl
+own_alike p config a b (call.PatchBalloon patch) none number = refl
+own_alike p config a b (call.PatchStatistics patch) none number = refl
 own_alike p config a b (call.PutMetadata body) none number = refl
 own_alike p config a b (call.PatchMetadata patch) none number = refl
 own_alike p config a b call.InstanceStart none number = refl
@@ -123,6 +133,9 @@ module _ (twins : List Twins) (m n : Machine) (alike : Alike twins m n) where
   contents_alike (change.PatchDrive patch) later =
       ap (λ (r : Option Refusal). unless r (Ok (change.PatchDrive patch))) (there_by patch.path_on_host)
   contents_alike (change.MachineConfig machine) later = absurd later
+  contents_alike (change.PutBalloon balloon) later = absurd later
+  contents_alike (change.PatchBalloon patch) later = refl
+  contents_alike (change.PatchStatistics patch) later = refl
   contents_alike change.Start later = absurd later
   contents_alike (change.State state) later = refl
   contents_alike (change.CreateSnapshot it) later = refl
@@ -141,6 +154,14 @@ module _ (twins : List Twins) (m n : Machine) (alike : Alike twins m n) where
       contents_by given (decided m given) refl
       ∙ ap (λ (r : Result Change Refusal). r >>= by_contents n) (decided_alike given)
 
+  -- a balloon tells the same
+  tells_alike : (s : Option Statistics) → TellsBalloon m.guest (balloon_device m.config) s → TellsBalloon n.guest (balloon_device n.config) s
+  tells_alike s is =
+      subst (λ (c : Config). TellsBalloon n.guest (balloon_device c) s) alike.config
+      (subst (λ (o : Option Guest). TellsBalloon o (balloon_device m.config) s) (sym alike.second)
+      (tells_too alike.g alike.h alike.guests (balloon_device m.config) s
+      (subst (λ (o : Option Guest). TellsBalloon o (balloon_device m.config) s) alike.first is)))
+
   pub answers_alike : (r : Result Change Refusal) (answer : Answer) → AnswersBy m r answer → AnswersBy n r answer
   answers_alike (Ok it) answer (told, tells, is) = (
     told,
@@ -149,6 +170,7 @@ module _ (twins : List Twins) (m n : Machine) (alike : Alike twins m n) where
       phase_is = tells.phase_is ∙ phase_alike;
       config_is = tells.config_is ∙ alike.config;
       metadata_is = tells.metadata_is ∙ alike.metadata;
+      statistics_is = tells_alike told.statistics tells.statistics_is;
     },
     is,
   )

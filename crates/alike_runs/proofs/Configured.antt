@@ -1,5 +1,6 @@
 -- A machine that has started is configured, and stays so.
 use Rattle.std.proofs.Common.{◌≡◌, ℕ, Bool, true, false, refl, sym, ap, subst, ◌∙◌, List, [], ◌∷◌, length, Option, Some, None, is_some, Result, Ok, Err}
+use Rattle.std.specs.FinMap.{get}
 use Rattle.vm_types.specs.Saved.{Saved}
 use Rattle.vm_types.specs.declared.ids.ActorId.{ActorId}
 use Rattle.vm_types.specs.declared.ids.ActorId.TheVariants.{Hart as HartId}
@@ -13,12 +14,19 @@ use Rattle.http_stream.specs.Stream.{Connection}
 use Rattle.http_stream.specs.declared.request.Next.{Next}
 use Rattle.http_stream.specs.Conversation.{Conversation, ConversationFront, arrived}
 use Rattle.http_stream.specs.Sent.{sent}
+use Rattle.api_calls.specs.declared.balloon.Balloon.{Balloon}
+use Rattle.api_calls.specs.declared.limiter.Limiter.{Limiter}
 use Rattle.api_calls.specs.declared.call.SnapshotCreate.{SnapshotCreate}
 use Rattle.api_calls.specs.declared.call.SnapshotLoad.{SnapshotLoad}
 use Rattle.api_calls.specs.declared.call.VmState.TheVariants.{Paused, Resumed}
 use Rattle.vm_config.specs.declared.change.Change.{Change}
 use Rattle.vm_config.specs.declared.change.Change.TheVariants as change
+use Rattle.vm_config.specs.Changes.{with_amount, with_interval}
+use Rattle.vm_config.specs.Devices.{balloon_device}
 use Rattle.vm_config.specs.Drives.{device_of}
+use Rattle.port_table.specs.declared.state.PortState.{PortState}
+use Rattle.guest_devices.specs.declared.change.DeviceChange.{DeviceChange}
+use Rattle.guest_devices.specs.Kinds.{sectors_change}
 use Rattle.script_text.specs.declared.item.Item.{Item}
 use Rattle.script_text.specs.declared.item.Item.TheVariants as item
 use Rattle.script_output.specs.Output.{console_line}
@@ -29,12 +37,14 @@ use Rattle.flat_guest.specs.Given.Given.{Host, Nothing}
 use Rattle.flat_guest.specs.Guest.{Guest, is_actor}
 use Rattle.flat_guest.specs.Steps.{is_given}
 use Rattle.flat_snapshot.specs.Found.{Snapshot, found}
+use Rattle.flat_machine.specs.Balloon.{interval_told, target_in}
 use Rattle.flat_machine.specs.Given.{reply_given}
+use Rattle.flat_machine.specs.Limits.{limits_told}
 use Rattle.flat_machine.specs.Items.{ItemStep, MemoryLine, RegisterLine, RepliesLine, StepsLine, Talks}
 use Rattle.flat_machine.specs.Machine.{Machine, console_of, drained_guest, is_off, new_machine, running_by}
 use Rattle.flat_machine.specs.Outcome.{Left, Outcome}
 use Rattle.flat_machine.specs.Outcome.Outcome.{Answered, Failed, NoMemory}
-use Rattle.flat_machine.specs.Requests.{CreateFails, Creates, Fails, Leaves, LeavesBy, RequestStep, Restores, Stores, allowed, halted, retold}
+use Rattle.flat_machine.specs.Requests.{CreateFails, Creates, Fails, Leaves, LeavesBy, RequestStep, Restores, Stores, allowed, halted, relimited, resized, retargeted, retimed, sectors_of, shows_by, told_at}
 use Rattle.flat_machine.specs.Run.{Act, Run}
 use Rattle.flat_machine.proofs.Between.{by_either, leaves_of}
 use Rattle.flat_trace.specs.Showing as trace
@@ -53,11 +63,29 @@ kept m n guest config own there = config ∙ own (sym guest ∙ there)
 
 -- ---- what changes leave
 
-retold_there : (path : Option (List ℕ)) (number : Option ℕ) (saved : Saved) (o : Option Guest) → is_some (retold path number saved o) ≡ is_some o
-retold_there (Some path) (Some k) saved (Some g) = refl
-retold_there (Some path) (Some k) saved None = refl
-retold_there (Some path) None saved o = refl
-retold_there None number saved o = refl
+told_there : (number : Option ℕ) (change : DeviceChange) (shows : Option PortState → Option (List ℕ)) (o : Option Guest)
+    → is_some (told_at number change shows o) ≡ is_some o
+told_there (Some k) change shows (Some g) = refl
+told_there (Some k) change shows None = refl
+told_there None change shows (Some g) = refl
+told_there None change shows None = refl
+
+resized_there : (path : Option (List ℕ)) (number : Option ℕ) (saved : Saved) (o : Option Guest) → is_some (resized path number saved o) ≡ is_some o
+resized_there None number saved o = refl
+resized_there (Some path) number saved o =
+    let change : DeviceChange = sectors_change (sectors_of (get saved path)) in told_there number change (shows_by change) o
+
+relimited_there : (limiter : Option Limiter) (number : Option ℕ) (o : Option Guest) → is_some (relimited limiter number o) ≡ is_some o
+relimited_there None number o = refl
+relimited_there (Some l) number o = told_there number (limits_told l) (shows_by (limits_told l)) o
+
+retargeted_there : (balloon : Option Balloon) (number : Option ℕ) (o : Option Guest) → is_some (retargeted balloon number o) ≡ is_some o
+retargeted_there None number o = refl
+retargeted_there (Some b) number o = told_there number (interval_told b) (target_in b) o
+
+retimed_there : (balloon : Option Balloon) (number : Option ℕ) (o : Option Guest) → is_some (retimed balloon number o) ≡ is_some o
+retimed_there None number o = refl
+retimed_there (Some b) number o = told_there number (interval_told b) (shows_by (interval_told b)) o
 
 halted_there : (b : Bool) (o : Option Guest) → is_some (halted b o) ≡ is_some o
 halted_there true o = refl
@@ -91,11 +119,24 @@ leaves_kept : (it : Change) (m n : Machine) → Leaves m it n → Configured m �
 leaves_kept (change.BootSource source) m n is own = λ there. ap (λ (q : Machine). q.config.configured) is
 leaves_kept (change.PutDrive drive) m n is own = λ there. ap (λ (q : Machine). q.config.configured) is
 leaves_kept (change.PatchDrive patch) m n is own =
+    let number : Option ℕ = device_of m.config.drives patch.drive_id in
     kept m n
     (ap (λ (q : Machine). is_some q.guest) is
-    ∙ retold_there patch.path_on_host (device_of m.config.drives patch.drive_id) m.saved m.guest)
+    ∙ relimited_there patch.rate_limiter number (resized patch.path_on_host number m.saved m.guest)
+    ∙ resized_there patch.path_on_host number m.saved m.guest)
     (ap (λ (q : Machine). q.config.configured) is) own
 leaves_kept (change.MachineConfig machine) m n is own = λ there. ap (λ (q : Machine). q.config.configured) is
+leaves_kept (change.PutBalloon balloon) m n is own = λ there. ap (λ (q : Machine). q.config.configured) is
+leaves_kept (change.PatchBalloon patch) m n is own =
+    kept m n
+    (ap (λ (q : Machine). is_some q.guest) is
+    ∙ retargeted_there (with_amount patch m.config.balloon) (balloon_device m.config) m.guest)
+    (ap (λ (q : Machine). q.config.configured) is) own
+leaves_kept (change.PatchStatistics patch) m n is own =
+    kept m n
+    (ap (λ (q : Machine). is_some q.guest) is
+    ∙ retimed_there (with_interval patch m.config.balloon) (balloon_device m.config) m.guest)
+    (ap (λ (q : Machine). q.config.configured) is) own
 leaves_kept change.Start m n is own = λ there. ap (λ (q : Machine). q.config.configured) is
 leaves_kept (change.State Paused) m n is own =
     kept m n (ap (λ (q : Machine). is_some q.guest) is ∙ halted_there m.paused m.guest) (ap (λ (q : Machine). q.config.configured) is) own
@@ -116,6 +157,9 @@ failed_kept (change.BootSource source) m left n x own = absurd x
 failed_kept (change.PutDrive drive) m left n x own = absurd x
 failed_kept (change.PatchDrive patch) m left n x own = same m n x.3 own
 failed_kept (change.MachineConfig machine) m left n x own = absurd x
+failed_kept (change.PutBalloon balloon) m left n x own = absurd x
+failed_kept (change.PatchBalloon patch) m left n x own = absurd x
+failed_kept (change.PatchStatistics patch) m left n x own = absurd x
 failed_kept change.Start m left n x own = same m n x.1 own
 failed_kept (change.State state) m left n x own = absurd x
 failed_kept (change.CreateSnapshot it) m left n x own = fails_kept m.guest m it left n x own

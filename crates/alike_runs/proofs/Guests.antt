@@ -6,6 +6,7 @@ use Rattle.vm_types.specs.declared.entry.Entry.{Entry}
 use Rattle.vm_types.specs.declared.entry.Step.{Step}
 use Rattle.vm_types.specs.declared.op.Op.{Op}
 use Rattle.vm_config.specs.declared.config.Config.{Config}
+use Rattle.vm_config.specs.declared.statistics.Statistics.{Statistics}
 use Rattle.guest_memory.specs.Memory as memory
 use Rattle.guest_pages.specs.Marks.{writes_page}
 use Rattle.board_table.specs.Board.{Board}
@@ -34,6 +35,7 @@ use Rattle.flat_guest.proofs.Lists.{there_too}
 use Rattle.flat_guest.proofs.Marked.{none_marked}
 use Rattle.snap_state.specs.declared.copy.StateCopy.{StateCopy}
 use Rattle.flat_snapshot.specs.Copies.{AreHarts, AreKept, IsCopyOf, copy_of}
+use Rattle.flat_machine.specs.Balloon.{DeviceTells, TellsBalloon}
 use Rattle.flat_machine.specs.Items.{ShowsFrom}
 use Rattle.alike_runs.specs.Alike.{AlikeGuests}
 
@@ -92,6 +94,28 @@ module _ (g h : Guest) (alike : AlikeGuests g h) where
       let both : None ≡ Some other.0 = sym there ∙ other.1 in
       cc
   shows_by k number text (Some s) (Some t) here there (x, leads, is) = (x, hart_too k s t x here there leads, is)
+
+  told_by : (k : ℕ) (d e : Option FlatDevice) (p : Option PortState) (s : Option Statistics) → slice_get g.devices k ≡ d → slice_get h.devices k ≡ e
+      → DeviceTells d p s → DeviceTells e p s
+  told_by k None None None s here there tells = tells
+  told_by k None None (Some p) s here there tells = tells
+  told_by k None (Some e) p s here there tells =
+      let other = there_too h.devices g.devices k e (sym devices_many) there in
+      let both : ◌≡◌ {A = Option FlatDevice} None (Some other.0) = sym here ∙ other.1 in
+      absurd cc
+  told_by k (Some d) None p s here there tells =
+      let other = there_too g.devices h.devices k d devices_many here in
+      let both : ◌≡◌ {A = Option FlatDevice} None (Some other.0) = sym there ∙ other.1 in
+      absurd cc
+  told_by k (Some d) (Some e) None s here there tells = tells
+  told_by k (Some d) (Some e) (Some p) s here there (left, leads, is) = (left, left_too k d e left here there leads, is)
+
+  -- what a balloon tells
+  pub tells_too : (number : Option ℕ) (s : Option Statistics) → TellsBalloon (Some g) number s → TellsBalloon (Some h) number s
+  tells_too None s tells = tells
+  tells_too (Some k) s tells =
+      subst (λ (ports : List PortState). DeviceTells (slice_get h.devices k) (slice_get ports k) s) ports_same
+      (told_by k (slice_get g.devices k) (slice_get h.devices k) (slice_get g.ports k) s refl refl tells)
 
   pub shows_too : (k number : ℕ) (text : List ℕ) → ShowsFrom (slice_get g.starts k) (g.steps (HartId k)) number text
       → ShowsFrom (slice_get h.starts k) (h.steps (HartId k)) number text

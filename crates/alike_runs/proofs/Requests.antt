@@ -1,28 +1,38 @@
 -- Requests to machines that are alike.
-use Rattle.std.proofs.Common.{◌≡◌, ◌<◌, ◌/◌, ◌%◌, ◌^◌, ℕ, Bool, true, false, refl, sym, ap, subst, ◌∙◌, List, [], ◌∷◌, ◌++◌, append_assoc, Option, Some, None, Result, Ok, Err}
+use Rattle.std.proofs.Common.{◌≡◌, ◌/◌, ◌%◌, ◌^◌, ℕ, Bool, true, false, refl, sym, ap, subst, ◌∙◌, List, [], ◌∷◌, ◌++◌, append_assoc, Option, Some, None, Result, Ok, Err, slice_get}
 use Rattle.std.specs.FinMap.{get}
 use Rattle.vm_types.specs.Saved.{Saved}
 use Rattle.refusals.specs.declared.refusal.Refusal.{Refusal}
 use Rattle.serde_json.specs.Data.{Data}
 use Rattle.metadata_store.specs.Store.{patched, put}
 use Rattle.http_stream.specs.declared.request.Next.{Next}
+use Rattle.api_calls.specs.declared.balloon.Balloon.{Balloon}
+use Rattle.api_calls.specs.declared.balloon.BalloonPatch.{BalloonPatch}
+use Rattle.api_calls.specs.declared.balloon.StatisticsPatch.{StatisticsPatch}
 use Rattle.api_calls.specs.declared.call.DrivePatch.{DrivePatch}
+use Rattle.api_calls.specs.declared.limiter.Limiter.{Limiter}
 use Rattle.api_calls.specs.declared.call.VmState.TheVariants.{Paused, Resumed}
 use Rattle.vm_config.specs.declared.config.Config.{Config}
 use Rattle.vm_config.specs.declared.change.Change.{Change}
 use Rattle.vm_config.specs.declared.change.Change.TheVariants as change
-use Rattle.vm_config.specs.Changes.{changed}
+use Rattle.vm_config.specs.Changes.{changed, with_amount, with_interval}
+use Rattle.vm_config.specs.Devices.{balloon_device}
 use Rattle.vm_config.specs.Drives.{device_of}
 use Rattle.response_form.specs.Responses.{Response}
+use Rattle.port_table.specs.declared.state.PortState.{PortState}
+use Rattle.guest_devices.specs.declared.change.DeviceChange.{DeviceChange}
 use Rattle.guest_devices.specs.declared.device.Device.{Device}
-use Rattle.guest_devices.specs.Kinds.{sectors_change}
-use Rattle.guest_devices.specs.Ports.{shown_by}
+use Rattle.guest_devices.specs.Kinds.{FitsChange, sectors_change}
+use Rattle.flat_guest.specs.Changes.{told}
 use Rattle.flat_guest.specs.Guest.{Guest}
 use Rattle.flat_guest.specs.Start.{timer_restarted}
+use Rattle.flat_machine.specs.Balloon.{interval_told, target_in}
+use Rattle.flat_machine.specs.Limits.{limits_told}
 use Rattle.flat_machine.specs.Machine.{Machine}
 use Rattle.flat_machine.specs.Outcome.{Left, Outcome}
 use Rattle.flat_machine.specs.Outcome.Outcome.{Answered, Failed, NoMemory}
-use Rattle.flat_machine.specs.Requests.{Fails, LeavesBy, RequestStep, Stores, allowed, configured, halted, patched_drive, resized, retold, sectors_of}
+use Rattle.flat_machine.specs.Requests.{Fails, LeavesBy, RequestStep, Stores, allowed, configured, halted, patched_balloon, patched_drive, patched_statistics}
+use Rattle.flat_machine.specs.Requests.{relimited, resized, retargeted, retimed, sectors_of, shows_by, told_at}
 use Rattle.flat_machine.proofs.Allowed.{allowed_is}
 use Rattle.flat_machine.proofs.Between.{IsLater, allowed_later, started}
 use Rattle.flat_machine.proofs.Sizes.{few_sectors}
@@ -33,7 +43,7 @@ use Rattle.alike_runs.proofs.Asking.{allowed_alike, decided_alike, responds_alik
 use Rattle.alike_runs.proofs.Changed.{with_config, with_guest, with_metadata, with_paused}
 use Rattle.alike_runs.proofs.Creating.{creates_alike, fails_alike, next_twins}
 use Rattle.alike_runs.proofs.Files.{bytes_long}
-use Rattle.alike_runs.proofs.Guests.{restarted_alike, told_alike}
+use Rattle.alike_runs.proofs.Guests.{ports_same, restarted_alike, told_alike}
 
 -- the second machine is led to one that is so and is alike with k, with these twins behind as many more
 pub record Led (twins : List Twins) (k : Machine) (P : Machine → Type 0) : Type 0 where
@@ -89,25 +99,45 @@ module _ (g h : Guest) (guests : AlikeGuests g h) where
   sectors_alike twins (Some a) None alike = absurd alike
   sectors_alike twins (Some a) (Some b) alike = ap (λ (n : ℕ). n / 512 % 2 ^ 64) (bytes_long twins a b alike)
 
-  resized_alike : (k a b : ℕ) (x y : Guest) → a ≡ b → a < 2 ^ 64 → AlikeGuests x y → AlikeGuests (resized k a x) (resized k b y)
-  resized_alike k a b x y same few alike =
-      subst (λ (n : ℕ). AlikeGuests (resized k a x) (resized k n y)) same
-      (told_alike k (sectors_change a) (shown_by (sectors_change a)) x y few alike)
+  -- a device is told of a change in both, whose ports show the same
+  at_alike : (number : Option ℕ) (change : DeviceChange) (shows : Option PortState → Option (List ℕ)) (o p : Option Guest) → FitsChange change
+      → o ≡ Some g → p ≡ Some h → Both (told_at number change shows o) (told_at number change shows p)
+  at_alike number change shows None p fits first second = absurd cc
+  at_alike number change shows (Some x) None fits first second = absurd cc
+  at_alike None change shows (Some x) (Some y) fits first second = (x, y, refl, refl, named_alike x y first second)
+  at_alike (Some k) change shows (Some x) (Some y) fits first second =
+      let alike = named_alike x y first second in (
+        told k change (shows (slice_get x.ports k)) x,
+        told k change (shows (slice_get y.ports k)) y,
+        refl,
+        refl,
+        subst (λ (ports : List PortState). AlikeGuests (told k change (shows (slice_get x.ports k)) x) (told k change (shows (slice_get ports k)) y))
+            (ports_same x y alike) (told_alike k change (shows (slice_get x.ports k)) x y fits alike),
+      )
 
-  retold_alike : (twins : List Twins) (path : Option (List ℕ)) (number : Option ℕ) (a b : Saved) (o p : Option Guest) → AlikeFiles twins a b
-      → o ≡ Some g → p ≡ Some h → Both (retold path number a o) (retold path number b p)
-  retold_alike twins None number a b o p files first second = (g, h, first, second, guests)
-  retold_alike twins (Some path) None a b o p files first second = (g, h, first, second, guests)
-  retold_alike twins (Some path) (Some k) a b None p files first second = absurd cc
-  retold_alike twins (Some path) (Some k) a b (Some x) None files first second = absurd cc
-  retold_alike twins (Some path) (Some k) a b (Some x) (Some y) files first second = (
-    resized k (sectors_of (get a path)) x,
-    resized k (sectors_of (get b path)) y,
-    refl,
-    refl,
-    resized_alike k (sectors_of (get a path)) (sectors_of (get b path)) x y (sectors_alike twins (get a path) (get b path) (files path))
-        (few_sectors (get a path)) (named_alike x y first second),
-  )
+  resized_alike : (twins : List Twins) (path : Option (List ℕ)) (number : Option ℕ) (a b : Saved) (o p : Option Guest) → AlikeFiles twins a b
+      → o ≡ Some g → p ≡ Some h → Both (resized path number a o) (resized path number b p)
+  resized_alike twins None number a b o p files first second = (g, h, first, second, guests)
+  resized_alike twins (Some path) number a b o p files first second =
+      let change : DeviceChange = sectors_change (sectors_of (get a path)) in
+      subst (λ (n : ℕ). Both (resized (Some path) number a o) (told_at number (sectors_change n) (shows_by (sectors_change n)) p))
+      (sectors_alike twins (get a path) (get b path) (files path))
+      (at_alike number change (shows_by change) o p (few_sectors (get a path)) first second)
+
+  relimited_alike : (limiter : Option Limiter) (number : Option ℕ) (o p : Option Guest) → o ≡ Some g → p ≡ Some h
+      → Both (relimited limiter number o) (relimited limiter number p)
+  relimited_alike None number o p first second = (g, h, first, second, guests)
+  relimited_alike (Some l) number o p first second = at_alike number (limits_told l) (shows_by (limits_told l)) o p tt first second
+
+  retargeted_alike : (balloon : Option Balloon) (number : Option ℕ) (o p : Option Guest) → o ≡ Some g → p ≡ Some h
+      → Both (retargeted balloon number o) (retargeted balloon number p)
+  retargeted_alike None number o p first second = (g, h, first, second, guests)
+  retargeted_alike (Some b) number o p first second = at_alike number (interval_told b) (target_in b) o p tt first second
+
+  retimed_alike : (balloon : Option Balloon) (number : Option ℕ) (o p : Option Guest) → o ≡ Some g → p ≡ Some h
+      → Both (retimed balloon number o) (retimed balloon number p)
+  retimed_alike None number o p first second = (g, h, first, second, guests)
+  retimed_alike (Some b) number o p first second = at_alike number (interval_told b) (shows_by (interval_told b)) o p tt first second
 
 -- ---- what an allowed change leaves
 
@@ -115,15 +145,37 @@ module _ (twins : List Twins) (m n : Machine) (alike : Alike twins m n) where
   patched_alike : (patch : DrivePatch) → Alike twins (configured (patched_drive m patch) (change.PatchDrive patch))
       (configured (patched_drive n patch) (change.PatchDrive patch))
   patched_alike patch =
-      let both = retold_alike alike.g alike.h alike.guests twins patch.path_on_host (device_of m.config.drives patch.drive_id) m.saved n.saved
-      m.guest n.guest alike.saved alike.first alike.second in
-      let number : device_of n.config.drives patch.drive_id ≡ device_of m.config.drives patch.drive_id =
+      let number : Option ℕ = device_of m.config.drives patch.drive_id in
+      let also : device_of n.config.drives patch.drive_id ≡ number =
       ap (λ (c : Config). device_of c.drives patch.drive_id) (sym alike.config) in
+      let size = resized_alike alike.g alike.h alike.guests twins patch.path_on_host number m.saved n.saved m.guest n.guest alike.saved alike.first
+      alike.second in
+      let both = relimited_alike size.0 size.1 size.4 patch.rate_limiter number (resized patch.path_on_host number m.saved m.guest)
+      (resized patch.path_on_host number n.saved n.guest) size.2 size.3 in
       with_config twins (patched_drive m patch) (patched_drive n patch)
-      (with_guest twins m n alike (retold patch.path_on_host (device_of m.config.drives patch.drive_id) m.saved m.guest)
-      (retold patch.path_on_host (device_of n.config.drives patch.drive_id) n.saved n.guest) both.0 both.1 both.2
-      (ap (λ (o : Option ℕ). retold patch.path_on_host o n.saved n.guest) number ∙ both.3) both.4)
+      (with_guest twins m n alike (patched_drive m patch).guest (patched_drive n patch).guest both.0 both.1 both.2
+      (ap (λ (o : Option ℕ). relimited patch.rate_limiter o (resized patch.path_on_host o n.saved n.guest)) also ∙ both.3) both.4)
       (λ (c : Config). changed c (change.PatchDrive patch))
+
+  amount_alike : (patch : BalloonPatch) → Alike twins (configured (patched_balloon m patch) (change.PatchBalloon patch))
+      (configured (patched_balloon n patch) (change.PatchBalloon patch))
+  amount_alike patch =
+      let both = retargeted_alike alike.g alike.h alike.guests (with_amount patch m.config.balloon) (balloon_device m.config) m.guest n.guest
+      alike.first alike.second in
+      with_config twins (patched_balloon m patch) (patched_balloon n patch)
+      (with_guest twins m n alike (patched_balloon m patch).guest (patched_balloon n patch).guest both.0 both.1 both.2
+      (ap (λ (c : Config). retargeted (with_amount patch c.balloon) (balloon_device c) n.guest) (sym alike.config) ∙ both.3) both.4)
+      (λ (c : Config). changed c (change.PatchBalloon patch))
+
+  interval_alike : (patch : StatisticsPatch) → Alike twins (configured (patched_statistics m patch) (change.PatchStatistics patch))
+      (configured (patched_statistics n patch) (change.PatchStatistics patch))
+  interval_alike patch =
+      let both = retimed_alike alike.g alike.h alike.guests (with_interval patch m.config.balloon) (balloon_device m.config) m.guest n.guest
+      alike.first alike.second in
+      with_config twins (patched_statistics m patch) (patched_statistics n patch)
+      (with_guest twins m n alike (patched_statistics m patch).guest (patched_statistics n patch).guest both.0 both.1 both.2
+      (ap (λ (c : Config). retimed (with_interval patch c.balloon) (balloon_device c) n.guest) (sym alike.config) ∙ both.3) both.4)
+      (λ (c : Config). changed c (change.PatchStatistics patch))
 
   stores_alike : (due : Result Data Refusal) (k : Machine) → Stores due m k → (l : Machine) × Stores due n l × Alike twins k l
   stores_alike (Ok kept) k is =
@@ -147,6 +199,15 @@ module _ (twins : List Twins) (m n : Machine) (alike : Alike twins m n) where
       led twins k l (λ (q : Machine). LeavesBy n (Ok (change.PatchDrive patch)) kept q) (none, refl)
       (moved twins k (configured (patched_drive m patch) (change.PatchDrive patch)) l is (patched_alike patch))
   leaves_alike (change.MachineConfig machine) kept k later x = absurd later
+  leaves_alike (change.PutBalloon balloon) kept k later x = absurd later
+  leaves_alike (change.PatchBalloon patch) kept k later (none, is) =
+      let l : Machine = configured (patched_balloon n patch) (change.PatchBalloon patch) in
+      led twins k l (λ (q : Machine). LeavesBy n (Ok (change.PatchBalloon patch)) kept q) (none, refl)
+      (moved twins k (configured (patched_balloon m patch) (change.PatchBalloon patch)) l is (amount_alike patch))
+  leaves_alike (change.PatchStatistics patch) kept k later (none, is) =
+      let l : Machine = configured (patched_statistics n patch) (change.PatchStatistics patch) in
+      led twins k l (λ (q : Machine). LeavesBy n (Ok (change.PatchStatistics patch)) kept q) (none, refl)
+      (moved twins k (configured (patched_statistics m patch) (change.PatchStatistics patch)) l is (interval_alike patch))
   leaves_alike (change.PutMetadata body) kept k later (none, x) =
       let on = stores_alike (put body) k x in
       led twins k on.0 (λ (q : Machine). LeavesBy n (Ok (change.PutMetadata body)) kept q) (none, on.1) on.2
@@ -184,6 +245,9 @@ module _ (twins : List Twins) (m n : Machine) (alike : Alike twins m n) where
   failed_alike (change.PutDrive drive) left k x = absurd x
   failed_alike (change.PatchDrive patch) left k (path, is, none, same) = (n, (path, is, none, refl), moved twins k m n same alike)
   failed_alike (change.MachineConfig machine) left k x = absurd x
+  failed_alike (change.PutBalloon balloon) left k x = absurd x
+  failed_alike (change.PatchBalloon patch) left k x = absurd x
+  failed_alike (change.PatchStatistics patch) left k x = absurd x
   failed_alike change.Start left k (none, same) = (n, (none, refl), moved twins k m n same alike)
   failed_alike (change.State state) left k x = absurd x
   failed_alike (change.CreateSnapshot it) left k x = fails_alike twins m n alike it left k m.guest n.guest alike.first alike.second x

@@ -1,6 +1,7 @@
 -- What holds of each call that a request asks for.
-use Rattle.std.proofs.Common.{◌≡◌, ◌≢◌, ◌≤◌, ℕ, true, length, List, Option, Some, None, Result, Ok, Err, refl, subst}
+use Rattle.std.proofs.Common.{◌≡◌, ◌≢◌, ◌<◌, ◌≤◌, ◌^◌, ℕ, true, length, List, Option, Some, None, Result, Ok, Err, refl, subst}
 use Rattle.std.specs.Prelude.{⊤}
+use Rattle.std.specs.Str.{is_utf8}
 use Rattle.serde_json.specs.Data.{Data, null, boolean, number, string, array, object, Members}
 use Rattle.refusals.specs.declared.refusal.Refusal.{Refusal}
 use Rattle.http_stream.specs.declared.request.Request.{Request}
@@ -11,22 +12,29 @@ use Rattle.api_calls.specs.declared.endpoint.Body.TheVariants as body
 use Rattle.api_calls.specs.declared.endpoint.Endpoint.{Endpoint}
 use Rattle.api_calls.specs.declared.endpoint.Endpoint.TheVariants as endpoint
 use Rattle.api_calls.specs.Form.{holds, is_path, is_id, refusal}
+use Rattle.api_calls.specs.Limits.{is_limiter}
 use Rattle.api_calls.specs.Fields.{form_of}
 use Rattle.api_calls.specs.Call.{◌>>=◌, json_of, object_in, object_of, unless, made, asked, call_of}
 use Rattle.api_calls.specs.Routes.{Target, target_of}
 use Rattle.api_calls.proofs.Drives.{drive_is, patch_is}
-use Rattle.api_calls.proofs.Ranges.{IsWithin, machine_is, machine_patch_is, source_is}
+use Rattle.api_calls.proofs.Ranges.{IsWithin, balloon_is, machine_is, machine_patch_is, source_is, statistics_is}
 use Rattle.api_calls.proofs.Snapshots.{create_is, load_is}
 
 -- what is said of a call
 abbrev pub IsAsked : ApiCall → Type 0
 IsAsked (call.PutBootSource source) =
     (is_path source.kernel_image_path ≡ true) × (holds is_path source.initrd_path ≡ true) × (length source.boot_args ≤ 2048)
-IsAsked (call.PutDrive drive) = (is_id drive.drive_id ≡ true) × (is_path drive.path_on_host ≡ true)
-IsAsked (call.PatchDrive patch) = (is_id patch.drive_id ≡ true) × (holds is_path patch.path_on_host ≡ true)
+    × (is_utf8 source.boot_args ≡ true)
+IsAsked (call.PutDrive drive) =
+    (is_id drive.drive_id ≡ true) × (is_path drive.path_on_host ≡ true) × (holds is_limiter drive.rate_limiter ≡ true)
+IsAsked (call.PatchDrive patch) =
+    (is_id patch.drive_id ≡ true) × (holds is_path patch.path_on_host ≡ true) × (holds is_limiter patch.rate_limiter ≡ true)
 IsAsked (call.PutMachineConfig machine) = IsWithin 1 32 machine.vcpu_count × IsWithin 4 1024 machine.mem_size_mib
 IsAsked (call.PatchMachineConfig patch) =
     ((n : ℕ) → patch.vcpu_count ≡ Some n → IsWithin 1 32 n) × ((n : ℕ) → patch.mem_size_mib ≡ Some n → IsWithin 4 1024 n)
+IsAsked (call.PutBalloon balloon) = balloon.stats_polling_interval_s < 2 ^ 16
+IsAsked (call.PatchBalloon patch) = ⊤
+IsAsked (call.PatchStatistics patch) = patch.stats_polling_interval_s < 2 ^ 16
 IsAsked (call.PutMetadata d) = ⊤
 IsAsked (call.PatchMetadata d) = ⊤
 IsAsked call.InstanceStart = ⊤
@@ -43,6 +51,9 @@ made_is body.Drive named ms none = drive_is named ms none
 made_is body.DrivePatch named ms none = patch_is named ms none
 made_is body.MachineConfig named ms none = machine_is ms none
 made_is body.MachinePatch named ms none = machine_patch_is ms none
+made_is body.Balloon named ms none = balloon_is ms none
+made_is body.BalloonPatch named ms none = tt
+made_is body.StatisticsPatch named ms none = statistics_is ms none
 made_is body.Metadata named ms none = tt
 made_is body.MetadataPatch named ms none = tt
 made_is body.Action named ms none = tt

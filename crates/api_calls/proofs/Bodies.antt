@@ -73,6 +73,11 @@ optional_path (Some (string s)) kind range = inl (s, refl, range)
 optional_path (Some (array ds)) kind range = absurd cc
 optional_path (Some (object ms)) kind range = absurd cc
 
+-- a name, or none
+pub held : (o : Option (List ℕ)) (given : Bool) → ((s : List ℕ) × (o ≡ Some s) × (is_path s ≡ true)) ⊎ ((o ≡ None) × (given ≡ false)) → holds is_path o ≡ true
+held o given (inl x) = rw x.1 x.2
+held o given (inr x) = rw x.0 refl
+
 -- ---- an id
 
 needed_id : (g : Option Data) → is_some (option_and_then (unless_null true) g) ≡ true

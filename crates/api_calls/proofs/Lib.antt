@@ -1,5 +1,6 @@
 pub mod Bodies
 pub mod Snapshots
-pub mod Drives
 pub mod Ranges
+pub mod Limits
+pub mod Drives
 pub mod Asked

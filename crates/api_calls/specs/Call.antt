@@ -1,5 +1,5 @@
 -- What a request asks for, or its first refusal.
-use Rattle.std.specs.Prelude.{ℕ, Bool, false, ◌||◌, List, [], if◌then◌else◌, Option, Some, None, is_some, option_and_then, unwrap_or, Result, Ok, Err, codes}
+use Rattle.std.specs.Prelude.{ℕ, Bool, false, ◌||◌, List, [], ◌∷◌, if◌then◌else◌, Option, Some, None, is_some, option_and_then, option_map, unwrap_or, Result, Ok, Err, codes}
 use Rattle.std.specs.Str.{bytes_eq, is_utf8}
 use Rattle.serde_json.specs.Data.{Data}
 use Rattle.serde_json.specs.Find.{get, as_object}
@@ -7,7 +7,7 @@ use Rattle.serde_json.specs.Read.{read}
 use Rattle.refusals.specs.declared.refusal.Refusal.{Refusal}
 use Rattle.refusals.specs.declared.refusal.Refusal.TheVariants as refused
 use Rattle.http_stream.specs.declared.request.Request.{Request}
-use Rattle.api_calls.specs.Form.{refusal, text_at, number_at, flag_at}
+use Rattle.api_calls.specs.Form.{refusal, text_at, number_at, flag_at, object_at}
 use Rattle.api_calls.specs.Fields.{form_of}
 use Rattle.api_calls.specs.Routes.{target_of}
 use Rattle.api_calls.specs.declared.call.ApiCall.{ApiCall}
@@ -18,6 +18,8 @@ use Rattle.api_calls.specs.declared.call.VmState.{VmState}
 use Rattle.api_calls.specs.declared.call.VmState.TheVariants as state
 use Rattle.api_calls.specs.declared.call.SnapshotType.{SnapshotType}
 use Rattle.api_calls.specs.declared.call.SnapshotType.TheVariants as snapshot
+use Rattle.api_calls.specs.declared.limiter.BucketConfig.{BucketConfig}
+use Rattle.api_calls.specs.declared.limiter.Limiter.{Limiter}
 use Rattle.api_calls.specs.declared.endpoint.Body.{Body}
 use Rattle.api_calls.specs.declared.endpoint.Body.TheVariants as body
 use Rattle.api_calls.specs.declared.endpoint.Endpoint.{Endpoint}
@@ -66,6 +68,30 @@ state_of d = if is_text (codes "Paused") (text_at (codes "state") d) then state.
 abbrev pub type_of : Data → SnapshotType
 type_of d = if is_text (codes "Diff") (text_at (codes "snapshot_type") d) then snapshot.Diff else snapshot.Full
 
+abbrev pub number_or_zero : Option ℕ → ℕ
+number_or_zero n = unwrap_or n 0
+
+-- the object in a field, if it has one
+abbrev pub object_under : List ℕ → Data → Option Data
+object_under name d = object_at (name ∷ []) d
+
+abbrev pub bucket_of : Data → BucketConfig
+bucket_of d = record {
+  size = number_or_zero (number_at (codes "size") d);
+  refill_time = number_or_zero (number_at (codes "refill_time") d);
+  one_time_burst = number_at (codes "one_time_burst") d;
+}
+
+abbrev pub limiter_of : Data → Limiter
+limiter_of d = record {
+  bandwidth = option_map bucket_of (object_under (codes "bandwidth") d);
+  ops = option_map bucket_of (object_under (codes "ops") d);
+}
+
+-- the limits in a field, if there are any
+abbrev pub limiter_at : List ℕ → Data → Option Limiter
+limiter_at name d = option_map limiter_of (object_under name d)
+
 -- dirty pages are tracked where either of two fields asks for it
 abbrev pub is_set : List ℕ → Data → Bool
 is_set name d = unwrap_or (flag_at name d) false
@@ -96,20 +122,33 @@ made body.Drive d = call.PutDrive (record {
   is_root_device = is_set (codes "is_root_device") d;
   is_read_only = is_set (codes "is_read_only") d;
   cache_type = cache_of d;
+  rate_limiter = limiter_at (codes "rate_limiter") d;
 })
 made body.DrivePatch d = call.PatchDrive (record {
   drive_id = text_or_none (text_at (codes "drive_id") d);
   path_on_host = text_at (codes "path_on_host") d;
+  rate_limiter = limiter_at (codes "rate_limiter") d;
 })
 made body.MachineConfig d = call.PutMachineConfig (record {
-  vcpu_count = unwrap_or (number_at (codes "vcpu_count") d) 0;
-  mem_size_mib = unwrap_or (number_at (codes "mem_size_mib") d) 0;
+  vcpu_count = number_or_zero (number_at (codes "vcpu_count") d);
+  mem_size_mib = number_or_zero (number_at (codes "mem_size_mib") d);
   track_dirty_pages = is_set (codes "track_dirty_pages") d;
 })
 made body.MachinePatch d = call.PatchMachineConfig (record {
   vcpu_count = number_at (codes "vcpu_count") d;
   mem_size_mib = number_at (codes "mem_size_mib") d;
   track_dirty_pages = flag_at (codes "track_dirty_pages") d;
+})
+made body.Balloon d = call.PutBalloon (record {
+  amount_mib = number_or_zero (number_at (codes "amount_mib") d);
+  deflate_on_oom = is_set (codes "deflate_on_oom") d;
+  stats_polling_interval_s = number_or_zero (number_at (codes "stats_polling_interval_s") d);
+})
+made body.BalloonPatch d = call.PatchBalloon (record {
+  amount_mib = number_or_zero (number_at (codes "amount_mib") d);
+})
+made body.StatisticsPatch d = call.PatchStatistics (record {
+  stats_polling_interval_s = number_or_zero (number_at (codes "stats_polling_interval_s") d);
 })
 made body.Metadata d = call.PutMetadata d
 made body.MetadataPatch d = call.PatchMetadata d

@@ -1,7 +1,7 @@
 -- The fields of each body, in the order of the API's table. What isn't built is not in it: a field is unknown
 -- then, and a value out of range.
-use Rattle.std.specs.Prelude.{ℕ, true, false, List, [], ◌∷◌, codes}
-use Rattle.api_calls.specs.Form.{Kind, path, id, text, choice, whole, flag, unset, group, Row, Together, free, some_of, either, differing, naming, Form}
+use Rattle.std.specs.Prelude.{ℕ, ◌-◌, ◌^◌, true, false, List, [], ◌∷◌, codes}
+use Rattle.api_calls.specs.Form.{Kind, path, id, text, choice, whole, flag, unset, group, Row, Level, Together, free, some_of, either, differing, naming, Form}
 use Rattle.api_calls.specs.declared.endpoint.Body.{Body}
 use Rattle.api_calls.specs.declared.endpoint.Body.TheVariants as body
 
@@ -11,12 +11,32 @@ needed name kind = record { name = name; required = true; kind = kind }
 abbrev optional : List ℕ → Kind → Row
 optional name kind = record { name = name; required = false; kind = kind }
 
+-- the fields of the body itself
+abbrev outer : List Row → Level
+outer rows = record { place = []; rows = rows }
+
 -- a body with no object in it
 abbrev flat : List Row → Together → Form
-flat rows together = record { levels = record { place = []; rows = rows } ∷ []; together = together }
+flat rows together = record { levels = outer rows ∷ []; together = together }
 
 abbrev none_alone : Kind
 none_alone = choice (codes "None" ∷ [])
+
+-- a bucket: its numbers are below 2^48 and below 2^32
+abbrev pub bucket_rows : List Row
+bucket_rows =
+    needed (codes "size") (whole 0 (2 ^ 48 - 1))
+    ∷ needed (codes "refill_time") (whole 0 (2 ^ 32 - 1))
+    ∷ optional (codes "one_time_burst") (whole 0 (2 ^ 48 - 1))
+    ∷ []
+
+-- the limits in the field of this name, and the two buckets in them
+abbrev pub limiter_levels : List ℕ → List Level
+limiter_levels name =
+    record { place = name ∷ []; rows = optional (codes "bandwidth") group ∷ optional (codes "ops") group ∷ [] }
+    ∷ record { place = name ∷ codes "bandwidth" ∷ []; rows = bucket_rows }
+    ∷ record { place = name ∷ codes "ops" ∷ []; rows = bucket_rows }
+    ∷ []
 
 -- PUT /boot-source
 abbrev pub boot_source : Form
@@ -28,20 +48,32 @@ boot_source = flat (
 
 -- PUT /drives/{id}, where the body names the drive that the path does
 abbrev pub drive : List ℕ → Form
-drive named = flat (
-    needed (codes "drive_id") id
-    ∷ needed (codes "path_on_host") path
-    ∷ needed (codes "is_root_device") flag
-    ∷ optional (codes "is_read_only") flag
-    ∷ optional (codes "cache_type") (choice (codes "Unsafe" ∷ codes "Writeback" ∷ []))
-    ∷ []) (naming (codes "drive_id") named)
+drive named = record {
+  levels =
+      outer (
+      needed (codes "drive_id") id
+      ∷ needed (codes "path_on_host") path
+      ∷ needed (codes "is_root_device") flag
+      ∷ optional (codes "is_read_only") flag
+      ∷ optional (codes "cache_type") (choice (codes "Unsafe" ∷ codes "Writeback" ∷ []))
+      ∷ optional (codes "rate_limiter") group
+      ∷ [])
+      ∷ limiter_levels (codes "rate_limiter");
+  together = naming (codes "drive_id") named;
+}
 
 -- PATCH /drives/{id}
 abbrev pub drive_patch : List ℕ → Form
-drive_patch named = flat (
-    needed (codes "drive_id") id
-    ∷ optional (codes "path_on_host") path
-    ∷ []) (naming (codes "drive_id") named)
+drive_patch named = record {
+  levels =
+      outer (
+      needed (codes "drive_id") id
+      ∷ optional (codes "path_on_host") path
+      ∷ optional (codes "rate_limiter") group
+      ∷ [])
+      ∷ limiter_levels (codes "rate_limiter");
+  together = naming (codes "drive_id") named;
+}
 
 -- PUT /machine-config: 1 to 32 harts, 4 to 1,024 MiB
 abbrev pub machine_config : Form
@@ -65,6 +97,30 @@ machine_patch = flat (
     ∷ optional (codes "huge_pages") none_alone
     ∷ []) (some_of (codes "vcpu_count" ∷ codes "mem_size_mib" ∷ codes "smt"
     ∷ codes "track_dirty_pages" ∷ codes "cpu_template" ∷ codes "huge_pages" ∷ []))
+
+-- a whole number of 64 bits
+abbrev any_number : Kind
+any_number = whole 0 (2 ^ 64 - 1)
+
+-- how many seconds there are between two reports, below 2^16
+abbrev seconds : Kind
+seconds = whole 0 (2 ^ 16 - 1)
+
+-- PUT /balloon: how much memory there is isn't asked here
+abbrev pub balloon : Form
+balloon = flat (
+    needed (codes "amount_mib") any_number
+    ∷ needed (codes "deflate_on_oom") flag
+    ∷ optional (codes "stats_polling_interval_s") seconds
+    ∷ []) free
+
+-- PATCH /balloon
+abbrev pub balloon_patch : Form
+balloon_patch = flat (needed (codes "amount_mib") any_number ∷ []) free
+
+-- PATCH /balloon/statistics
+abbrev pub statistics_patch : Form
+statistics_patch = flat (needed (codes "stats_polling_interval_s") seconds ∷ []) free
 
 -- PUT and PATCH /mmds: of its fields nothing is asked here
 abbrev pub metadata : Form
@@ -119,6 +175,9 @@ form_of body.Drive named = drive named
 form_of body.DrivePatch named = drive_patch named
 form_of body.MachineConfig named = machine_config
 form_of body.MachinePatch named = machine_patch
+form_of body.Balloon named = balloon
+form_of body.BalloonPatch named = balloon_patch
+form_of body.StatisticsPatch named = statistics_patch
 form_of body.Metadata named = metadata
 form_of body.MetadataPatch named = metadata
 form_of body.Action named = action

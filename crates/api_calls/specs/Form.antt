@@ -2,7 +2,7 @@
 use Rattle.std.specs.Prelude.{ℕ, ◌&&◌, ◌||◌, ◌==◌, Bool, true, false, not, List, [], ◌∷◌, length, if◌then◌else◌, nat_lt, nat_le, Option, Some, None, is_some, option_and_then, option_map}
 use Rattle.std.specs.List.{list_any, list_all, find}
 use Rattle.std.specs.Char.{is_ascii_alphanumeric}
-use Rattle.std.specs.Str.{bytes_eq}
+use Rattle.std.specs.Str.{bytes_eq, is_utf8}
 use Rattle.serde_json.specs.Data.{Data, null, boolean, number, string, array, object, Members, no_members, member}
 use Rattle.serde_json.specs.Find.{get, as_object, as_null, as_bool, as_str, as_number, as_u64}
 use Rattle.refusals.specs.declared.refusal.Refusal.{Refusal}
@@ -12,9 +12,9 @@ use Rattle.api_calls.specs.declared.test.Test.TheVariants as test
 
 -- ---- tables
 
--- What a field's value must be: the name of a file; the id of a thing; a text of at most so many bytes; one of these
--- texts; a whole number, at least and at most; a flag; a flag that must not be set; an object, whose fields have a level
--- of their own.
+-- What a field's value must be: the name of a file; the id of a thing; a text of at most
+-- so many bytes; one of these texts; a whole number, at least and at most; a flag; a flag that must not be set; an object,
+-- whose fields have a level of their own.
 pub data Kind : Type 0 where
   path : Kind
   id : Kind
@@ -113,8 +113,16 @@ is_of_kind unset d = is_some (as_bool d)
 is_of_kind group d = is_some (as_object d)
 
 -- 1 to 4,095 bytes, none of them a NUL
+abbrev pub has_path_bytes : List ℕ → Bool
+has_path_bytes t = nat_lt 0 (length t) && nat_le (length t) 4095 && not (list_any (λ b. b == 0) t)
+
+-- of UTF-8
 abbrev pub is_path : List ℕ → Bool
-is_path t = nat_lt 0 (length t) && nat_le (length t) 4095 && not (list_any (λ b. b == 0) t)
+is_path t = has_path_bytes t && is_utf8 t
+
+-- so many bytes of UTF-8 at most
+abbrev pub is_short_text : ℕ → List ℕ → Bool
+is_short_text most t = nat_le (length t) most && is_utf8 t
 
 -- a letter or digit of ASCII, or _
 abbrev pub is_id_byte : ℕ → Bool
@@ -127,7 +135,7 @@ is_id t = nat_lt 0 (length t) && nat_le (length t) 64 && list_all is_id_byte t
 unfoldable pub is_in_range : Kind → Data → Bool
 is_in_range path d = holds is_path (as_str d)
 is_in_range id d = holds is_id (as_str d)
-is_in_range (text most) d = holds (λ t. nat_le (length t) most) (as_str d)
+is_in_range (text most) d = holds (is_short_text most) (as_str d)
 is_in_range (choice texts) d = holds (λ t. list_any (λ c. bytes_eq c t) texts) (as_str d)
 is_in_range (whole least most) d = holds (λ n. nat_le least n && nat_le n most) (as_whole d)
 is_in_range flag d = true

@@ -3,3 +3,4 @@ pub mod Fields
 pub mod Routes
 pub mod Call
 pub mod Drives
+pub mod Limits

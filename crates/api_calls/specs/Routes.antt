@@ -33,6 +33,9 @@ routes =
     ∷ route_in (codes "PATCH") (codes "/drives/") (endpoint.Send body.DrivePatch)
     ∷ route (codes "PUT") (codes "/machine-config") (endpoint.Send body.MachineConfig)
     ∷ route (codes "PATCH") (codes "/machine-config") (endpoint.Send body.MachinePatch)
+    ∷ route (codes "PUT") (codes "/balloon") (endpoint.Send body.Balloon)
+    ∷ route (codes "PATCH") (codes "/balloon") (endpoint.Send body.BalloonPatch)
+    ∷ route (codes "PATCH") (codes "/balloon/statistics") (endpoint.Send body.StatisticsPatch)
     ∷ route (codes "PUT") (codes "/mmds") (endpoint.Send body.Metadata)
     ∷ route (codes "PATCH") (codes "/mmds") (endpoint.Send body.MetadataPatch)
     ∷ route (codes "PUT") (codes "/actions") (endpoint.Send body.Action)
@@ -44,6 +47,8 @@ routes =
     ∷ route (codes "GET") (codes "/machine-config") (endpoint.Get part.MachineConfig)
     ∷ route (codes "GET") (codes "/mmds") (endpoint.Get part.Metadata)
     ∷ route (codes "GET") (codes "/vm/config") (endpoint.Get part.VmConfig)
+    ∷ route (codes "GET") (codes "/balloon") (endpoint.Get part.Balloon)
+    ∷ route (codes "GET") (codes "/balloon/statistics") (endpoint.Get part.Statistics)
     ∷ []
 
 -- The id that a path has where it fits a pattern, byte by byte; an empty one, where the pattern is a fixed path.

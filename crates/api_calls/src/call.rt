@@ -1,6 +1,8 @@
 // The calls of the API, in the table's order.
 ghost use Rattle.std.specs.Prelude.{◌≡◌};
 
+use crate::balloon::{Balloon, BalloonPatch, StatisticsPatch};
+use crate::limiter::Limiter;
 use metadata_store::Tree;
 use vm_types::TextList;
 
@@ -17,6 +19,10 @@ pub enum Part {
     Metadata,
     /// GET /vm/config: all that is configured.
     VmConfig,
+    /// GET /balloon: what is configured of the balloon.
+    Balloon,
+    /// GET /balloon/statistics: what its device and its driver say.
+    Statistics,
 }
 
 /// What the machine boots.
@@ -65,6 +71,8 @@ pub struct Drive {
     /// Whether the guest can only read it.
     pub is_read_only: bool,
     pub cache_type: CacheType,
+    /// The limits of its requests.
+    pub rate_limiter: Option<Limiter>,
 }
 
 /// What is to be replaced of a drive; what isn't given stays.
@@ -74,6 +82,8 @@ pub struct DrivePatch {
     pub drive_id: TextList,
     /// The name of its file, of 1 to 4,095 bytes.
     pub path_on_host: Option<TextList>,
+    /// The buckets that take the place of those of the same name.
+    pub rate_limiter: Option<Limiter>,
 }
 
 /// The machine itself. Simultaneous multithreading is always off.
@@ -148,6 +158,12 @@ pub enum ApiCall {
     PutMachineConfig(MachineConfig),
     /// PATCH /machine-config
     PatchMachineConfig(MachinePatch),
+    /// PUT /balloon
+    PutBalloon(Balloon),
+    /// PATCH /balloon
+    PatchBalloon(BalloonPatch),
+    /// PATCH /balloon/statistics
+    PatchStatistics(StatisticsPatch),
     /// PUT /mmds: an object, whose numbers may be any.
     PutMetadata(Tree),
     /// PATCH /mmds: an object, whose numbers may be any.

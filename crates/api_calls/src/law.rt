@@ -1,7 +1,10 @@
 // What holds of every call that the tables let through.
-ghost use Rattle.std.specs.Prelude.{◌≡◌, ◌≢◌, ◌≤◌, ℕ, true, length, Ok, Some};
+ghost use Rattle.std.specs.Prelude.{◌≡◌, ◌≢◌, ◌<◌, ◌≤◌, ◌^◌, ℕ, true, length, Ok, Some};
+ghost use Rattle.std.specs.Str.{is_utf8};
 ghost use Rattle.http_stream.specs.declared.request.Request.{Request};
 ghost use Rattle.api_calls.specs.declared.call.ApiCall.TheVariants as call;
+ghost use Rattle.api_calls.specs.declared.balloon.Balloon.{Balloon};
+ghost use Rattle.api_calls.specs.declared.balloon.StatisticsPatch.{StatisticsPatch};
 ghost use Rattle.api_calls.specs.declared.call.BootSource.{BootSource};
 ghost use Rattle.api_calls.specs.declared.call.Drive.{Drive};
 ghost use Rattle.api_calls.specs.declared.call.DrivePatch.{DrivePatch};
@@ -10,6 +13,7 @@ ghost use Rattle.api_calls.specs.declared.call.MachinePatch.{MachinePatch};
 ghost use Rattle.api_calls.specs.declared.call.SnapshotCreate.{SnapshotCreate};
 ghost use Rattle.api_calls.specs.declared.call.SnapshotLoad.{SnapshotLoad};
 ghost use Rattle.api_calls.specs.Form.{holds, is_id, is_path};
+ghost use Rattle.api_calls.specs.Limits.{is_limiter};
 ghost use Rattle.api_calls.specs.Call.{call_of};
 
 /// What a create and a load ask for: a create names two files whose names differ, and each name in either call is one
@@ -32,12 +36,31 @@ pub fn drives_are_named()
         (is_id patch.drive_id ≡ true) × (holds is_path patch.path_on_host ≡ true) }
 {}
 
+/// Limits of a drive have buckets of fewer than 2^48 tokens, of a refill time below 2^32 milliseconds,
+/// and of a burst below 2^48.
+pub fn limits_are_bounded()
+    ensures drive { (r : Request) (drive : Drive) → call_of r ≡ Ok (call.PutDrive drive) →
+        holds is_limiter drive.rate_limiter ≡ true }
+    ensures drive_patch { (r : Request) (patch : DrivePatch) → call_of r ≡ Ok (call.PatchDrive patch) →
+        holds is_limiter patch.rate_limiter ≡ true }
+{}
+
+/// A balloon's reports have fewer than 2^16 seconds between them.
+pub fn reports_are_near()
+    ensures put { (r : Request) (balloon : Balloon) → call_of r ≡ Ok (call.PutBalloon balloon) →
+        balloon.stats_polling_interval_s < 2 ^ 16 }
+    ensures patch { (r : Request) (patch : StatisticsPatch) → call_of r ≡ Ok (call.PatchStatistics patch) →
+        patch.stats_polling_interval_s < 2 ^ 16 }
+{}
+
 /// What a machine boots: files by names of 1 to 4,095 bytes without a NUL, the second of which may be left out, and at most
-/// 2,048 bytes of arguments.
+/// 2,048 bytes of arguments, in UTF-8.
 pub fn sources_are_short()
-    ensures { (r : Request) (source : BootSource) → call_of r ≡ Ok (call.PutBootSource source) →
+    ensures short { (r : Request) (source : BootSource) → call_of r ≡ Ok (call.PutBootSource source) →
         (is_path source.kernel_image_path ≡ true) × (holds is_path source.initrd_path ≡ true)
         × (length source.boot_args ≤ 2048) }
+    ensures text { (r : Request) (source : BootSource) → call_of r ≡ Ok (call.PutBootSource source) →
+        is_utf8 source.boot_args ≡ true }
 {}
 
 /// A machine has 1 to 32 harts and 4 to 1,024 MiB of memory, by a PUT and by what a PATCH gives.

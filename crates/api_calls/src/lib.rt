@@ -3,18 +3,26 @@
 //! `specs/Routes.antt` has the paths and their methods, `specs/Fields.antt` the fields of each body, and
 //! `specs/Form.antt` what is asked of fields and which refusal comes first. `specs/Call.antt` puts them together:
 //! the call that a request is, or its first refusal. But for `CacheType::text` there is no body here: `api_json` reads
-//! requests by these tables, and the flat machine cites them. `specs/Drives.antt` says of a drive what others need too.
+//! requests by these tables, and the flat machine cites them. `specs/Drives.antt` and
+//! `specs/Limits.antt` say of a drive and of limits what others need too.
 #![tactic(auto)]
 
+mod balloon;
 mod call;
 mod endpoint;
 mod law;
+mod limiter;
 mod test;
 
+pub use balloon::{Balloon, BalloonPatch, StatisticsPatch};
 pub use call::{
     ApiCall, BootSource, CacheType, Drive, DrivePatch, MachineConfig, MachinePatch, Part,
     SnapshotCreate, SnapshotFiles, SnapshotLoad, SnapshotType, VmState,
 };
 pub use endpoint::{Body, Endpoint};
-pub use law::{drives_are_named, machines_are_in_range, paths_differ, sources_are_short};
+pub use law::{
+    drives_are_named, limits_are_bounded, machines_are_in_range, paths_differ, reports_are_near,
+    sources_are_short,
+};
+pub use limiter::{BucketConfig, Limiter};
 pub use test::Test;

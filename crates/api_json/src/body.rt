@@ -49,6 +49,14 @@ pub fn text_or_none<'v>(object: &'v Value, name: &str) -> &'v str
     }
 }
 
+/// The object in a field, if it has one.
+pub fn object<'v>(object: &'v Value, name: &str) -> Option<&'v Value>
+    ensures { option_map (λ v. view v.now) result ≡ call.object_under name.now (view object.now) }
+{
+    let value = object.get(name)?;
+    if value.is_object() { Some(value) } else { None }
+}
+
 pub fn number(object: &Value, name: &str) -> Option<u64>
     ensures { result ≡ number_at name.now (view object.now) }
 {

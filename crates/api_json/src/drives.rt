@@ -10,12 +10,35 @@ ghost use Rattle.api_json.specs.Tables.{form_of};
 use crate::body::{is_set, text, text_or_none};
 use crate::form::{Kind, Row};
 use crate::levels::{Form, Level, Together};
+use crate::limits::{BUCKET_ROWS, LIMITER_ROWS, limiter_at};
 use api_calls::{ApiCall, CacheType, Drive, DrivePatch};
 use serde_json::Value;
 use std::alloc::{AllocError, Global};
 use vm_types::TextList;
 
-const PUT_ROWS: [Row; 5] = [
+const LIMITS: Row = Row {
+    name: "rate_limiter",
+    required: false,
+    kind: Kind::Group,
+};
+
+// Its limits, and the two buckets in them.
+const LIMITER: Level = Level {
+    place: &["rate_limiter"],
+    rows: &LIMITER_ROWS,
+};
+
+const BANDWIDTH: Level = Level {
+    place: &["rate_limiter", "bandwidth"],
+    rows: &BUCKET_ROWS,
+};
+
+const OPS: Level = Level {
+    place: &["rate_limiter", "ops"],
+    rows: &BUCKET_ROWS,
+};
+
+const PUT_ROWS: [Row; 6] = [
     Row {
         name: "drive_id",
         required: true,
@@ -41,9 +64,10 @@ const PUT_ROWS: [Row; 5] = [
         required: false,
         kind: Kind::Choice(&["Unsafe", "Writeback"]),
     },
+    LIMITS,
 ];
 
-const PATCH_ROWS: [Row; 2] = [
+const PATCH_ROWS: [Row; 3] = [
     Row {
         name: "drive_id",
         required: true,
@@ -54,17 +78,28 @@ const PATCH_ROWS: [Row; 2] = [
         required: false,
         kind: Kind::Path,
     },
+    LIMITS,
 ];
 
-static PUT_LEVELS: [Level; 1] = [Level {
-    place: &[],
-    rows: &PUT_ROWS,
-}];
+static PUT_LEVELS: [Level; 4] = [
+    Level {
+        place: &[],
+        rows: &PUT_ROWS,
+    },
+    LIMITER,
+    BANDWIDTH,
+    OPS,
+];
 
-static PATCH_LEVELS: [Level; 1] = [Level {
-    place: &[],
-    rows: &PATCH_ROWS,
-}];
+static PATCH_LEVELS: [Level; 4] = [
+    Level {
+        place: &[],
+        rows: &PATCH_ROWS,
+    },
+    LIMITER,
+    BANDWIDTH,
+    OPS,
+];
 
 /// The fields of a PUT, where the path names the drive of this id.
 pub fn put_form(id: &[u8]) -> Form<'_>
@@ -114,6 +149,7 @@ pub fn put(alloc: Global, object: &Value) -> Result<ApiCall, AllocError>
         is_root_device: is_set(object, "is_root_device"),
         is_read_only: is_set(object, "is_read_only"),
         cache_type: cache_of(object),
+        rate_limiter: limiter_at(object, "rate_limiter"),
     }))
 }
 
@@ -129,5 +165,6 @@ pub fn patch(alloc: Global, object: &Value) -> Result<ApiCall, AllocError>
     Ok(ApiCall::PatchDrive(DrivePatch {
         drive_id,
         path_on_host,
+        rate_limiter: limiter_at(object, "rate_limiter"),
     }))
 }

@@ -1,5 +1,5 @@
 // The fields of one object, by a table.
-ghost use Rattle.std.specs.Prelude.{◌≡◌, map, option_map, string_bytes, is_some};
+ghost use Rattle.std.specs.Prelude.{◌≡◌, length, map, nat_le, option_map, string_bytes, is_some};
 ghost use Rattle.std.specs.List.{list_all, list_any};
 ghost use Rattle.std.specs.Str.{bytes_eq};
 ghost use Rattle.std.specs.BTreeMap.{keys};
@@ -82,10 +82,28 @@ fn are_known(rows: &[Row], object: &Value) -> bool
     }
 }
 
+fn has_path_bytes(text: &str) -> bool
+    ensures { result ≡ form.has_path_bytes text.now }
+{
+    !text.is_empty() && text.len() <= LONGEST_PATH && !text.as_bytes().contains(&0)
+}
+
 fn is_path(text: &str) -> bool
     ensures { result ≡ form.is_path text.now }
 {
-    !text.is_empty() && text.len() <= LONGEST_PATH && !text.as_bytes().contains(&0)
+    has_path_bytes(text)
+}
+
+fn is_within(most: usize, text: &str) -> bool
+    ensures { result ≡ nat_le (length text.now) most }
+{
+    text.len() <= most
+}
+
+fn is_short_text(most: usize, text: &str) -> bool
+    ensures { result ≡ form.is_short_text most text.now }
+{
+    is_within(most, text)
 }
 
 fn is_id_byte(byte: u8) -> bool
@@ -145,7 +163,7 @@ fn is_in_range(kind: &Kind, value: &Value) -> bool
             None => true,
         },
         Kind::Text(most) => match value.as_str() {
-            Some(text) => text.len() <= *most,
+            Some(text) => is_short_text(*most, text),
             None => true,
         },
         Kind::Choice(texts) => match value.as_str() {

@@ -11,8 +11,9 @@ mod error;
 mod form;
 mod levels;
 
-// The parts of a request.
+// The parts of a request, and the limits in its body.
 mod body;
+mod limits;
 mod routes;
 
 // The resources, in the order of the API's table: PUT /boot-source,
@@ -23,6 +24,9 @@ mod drives;
 
 // PUT and PATCH /machine-config,
 mod machine_config;
+
+// PUT and PATCH /balloon, PATCH /balloon/statistics,
+mod balloon;
 
 // PUT and PATCH /mmds,
 mod metadata;

@@ -7,6 +7,7 @@ ghost use Rattle.api_json.specs.Gives.{Gives};
 ghost use Rattle.api_json.specs.Tables.{form_of};
 
 use crate::actions::ACTION;
+use crate::balloon::{self, BALLOON, BALLOON_PATCH, STATISTICS_PATCH};
 use crate::body::object_of;
 use crate::boot_source::{self, BOOT_SOURCE};
 use crate::drives;
@@ -33,6 +34,9 @@ fn form_of(body: Body, id: &[u8]) -> Form<'_>
         Body::DrivePatch => drives::patch_form(id),
         Body::MachineConfig => MACHINE_CONFIG,
         Body::MachinePatch => MACHINE_PATCH,
+        Body::Balloon => BALLOON,
+        Body::BalloonPatch => BALLOON_PATCH,
+        Body::StatisticsPatch => STATISTICS_PATCH,
         Body::Metadata | Body::MetadataPatch => METADATA,
         Body::Action => ACTION,
         Body::VmState => VM_STATE,
@@ -50,6 +54,9 @@ fn make(alloc: Global, body: Body, object: Value) -> Result<ApiCall, AllocError>
         Body::DrivePatch => drives::patch(alloc, &object),
         Body::MachineConfig => Ok(machine_config::put(&object)),
         Body::MachinePatch => Ok(machine_config::patch(&object)),
+        Body::Balloon => Ok(balloon::put(&object)),
+        Body::BalloonPatch => Ok(balloon::patch(&object)),
+        Body::StatisticsPatch => Ok(balloon::patch_statistics(&object)),
         Body::Metadata => Ok(ApiCall::PutMetadata(Tree::of_value(object))),
         Body::MetadataPatch => Ok(ApiCall::PatchMetadata(Tree::of_value(object))),
         Body::Action => Ok(ApiCall::InstanceStart),

@@ -34,7 +34,7 @@ pub struct Target<'p> {
     pub id: &'p [u8],
 }
 
-static ROUTES: [Route; 16] = [
+static ROUTES: [Route; 21] = [
     Route {
         pattern: Pattern::Fixed("/boot-source"),
         method: "PUT",
@@ -59,6 +59,21 @@ static ROUTES: [Route; 16] = [
         pattern: Pattern::Fixed("/machine-config"),
         method: "PATCH",
         endpoint: Endpoint::Send(Body::MachinePatch),
+    },
+    Route {
+        pattern: Pattern::Fixed("/balloon"),
+        method: "PUT",
+        endpoint: Endpoint::Send(Body::Balloon),
+    },
+    Route {
+        pattern: Pattern::Fixed("/balloon"),
+        method: "PATCH",
+        endpoint: Endpoint::Send(Body::BalloonPatch),
+    },
+    Route {
+        pattern: Pattern::Fixed("/balloon/statistics"),
+        method: "PATCH",
+        endpoint: Endpoint::Send(Body::StatisticsPatch),
     },
     Route {
         pattern: Pattern::Fixed("/mmds"),
@@ -114,6 +129,16 @@ static ROUTES: [Route; 16] = [
         pattern: Pattern::Fixed("/vm/config"),
         method: "GET",
         endpoint: Endpoint::Get(Part::VmConfig),
+    },
+    Route {
+        pattern: Pattern::Fixed("/balloon"),
+        method: "GET",
+        endpoint: Endpoint::Get(Part::Balloon),
+    },
+    Route {
+        pattern: Pattern::Fixed("/balloon/statistics"),
+        method: "GET",
+        endpoint: Endpoint::Get(Part::Statistics),
     },
 ];
 

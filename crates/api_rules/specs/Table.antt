@@ -1,9 +1,12 @@
 -- Which calls are allowed: the API's table, row by row, without the checks of bodies, which come before.
-use Rattle.std.specs.Prelude.{ℕ, ◌^◌, nat_le, Bool, true, false, not, ◌&&◌, if◌then◌else◌, List, [], ◌∷◌, length, Option, Some, None, is_none, unwrap_or, Result, Ok, Err}
+use Rattle.std.specs.Prelude.{ℕ, ◌^◌, ◌==◌, nat_le, nat_lt, Bool, true, false, not, ◌&&◌, ◌||◌, if◌then◌else◌, List, [], ◌∷◌, Option, Some, None, is_none, unwrap_or, Result, Ok, Err}
 use Rattle.std.specs.List.{list_any}
 use Rattle.guest_memory.specs.Boot.{loads_fit}
 use Rattle.refusals.specs.declared.refusal.Refusal.{Refusal}
 use Rattle.refusals.specs.declared.refusal.Refusal.TheVariants as refusal
+use Rattle.api_calls.specs.declared.balloon.Balloon.{Balloon}
+use Rattle.api_calls.specs.declared.balloon.BalloonPatch.{BalloonPatch}
+use Rattle.api_calls.specs.declared.balloon.StatisticsPatch.{StatisticsPatch}
 use Rattle.api_calls.specs.declared.call.ApiCall.{ApiCall}
 use Rattle.api_calls.specs.declared.call.ApiCall.TheVariants as call
 use Rattle.api_calls.specs.declared.call.MachineConfig.{MachineConfig}
@@ -12,6 +15,8 @@ use Rattle.api_calls.specs.declared.call.SnapshotType.TheVariants as snapshot
 use Rattle.api_calls.specs.declared.call.MachinePatch.{MachinePatch}
 use Rattle.api_calls.specs.declared.call.Drive.{Drive}
 use Rattle.api_calls.specs.declared.call.DrivePatch.{DrivePatch}
+use Rattle.api_calls.specs.declared.call.Part.{Part}
+use Rattle.api_calls.specs.declared.call.Part.TheVariants as tells
 use Rattle.vm_config.specs.Devices.{device_count}
 use Rattle.vm_config.specs.Drives.{has_drive, is_named, is_root}
 use Rattle.vm_config.specs.declared.config.Config.{Config}
@@ -27,19 +32,32 @@ use Rattle.api_rules.specs.declared.ids.Ids.{Ids}
 
 -- ---- the phase
 
+-- a balloon tells its statistics once it runs
+abbrev pub when_told : Part → When
+when_told tells.Instance = Always
+when_told tells.Version = Always
+when_told tells.MachineConfig = Always
+when_told tells.Metadata = Always
+when_told tells.VmConfig = Always
+when_told tells.Balloon = Always
+when_told tells.Statistics = AfterBoot
+
 abbrev pub when_allowed : ApiCall → When
 when_allowed (call.PutBootSource source) = BeforeBoot
 when_allowed (call.PutDrive drive) = BeforeBoot
 when_allowed (call.PatchDrive patch) = AfterBoot
 when_allowed (call.PutMachineConfig machine) = BeforeBoot
 when_allowed (call.PatchMachineConfig patch) = BeforeBoot
+when_allowed (call.PutBalloon balloon) = BeforeBoot
+when_allowed (call.PatchBalloon patch) = AfterBoot
+when_allowed (call.PatchStatistics patch) = AfterBoot
 when_allowed (call.PutMetadata body) = Always
 when_allowed (call.PatchMetadata patch) = Always
 when_allowed call.InstanceStart = BeforeBoot
 when_allowed (call.PatchVm state) = AfterBoot
 when_allowed (call.CreateSnapshot it) = AfterBoot
 when_allowed (call.LoadSnapshot load) = BeforeBoot
-when_allowed (call.Get part) = Always
+when_allowed (call.Get part) = when_told part
 
 abbrev pub has_started : Phase → Bool
 has_started phase.NotStarted = false
@@ -56,6 +74,16 @@ misplaced BeforeBoot p = if has_started p then Some refusal.OnlyBeforeBoot else 
 misplaced AfterBoot p = if has_started p then None else Some refusal.OnlyAfterBoot
 misplaced Always p = None
 
+-- ---- a PATCH of the machine
+
+-- the given fields replace, and the others stay
+abbrev pub patched : MachineConfig → MachinePatch → MachineConfig
+patched machine patch = record {
+  vcpu_count = unwrap_or patch.vcpu_count machine.vcpu_count;
+  mem_size_mib = unwrap_or patch.mem_size_mib machine.mem_size_mib;
+  track_dirty_pages = unwrap_or patch.track_dirty_pages machine.track_dirty_pages;
+}
+
 -- ---- a call's own refusals: a test and its refusal, one for each row, in order
 
 abbrev pub Rows : Type 0
@@ -66,14 +94,71 @@ abbrev pub has_other_root : Config → Drive → Bool
 has_other_root config drive = list_any (λ d. is_root d && not (is_named drive.drive_id d)) config.drives
 
 -- a machine has 16 devices at most
+abbrev pub has_no_room : Config → Bool
+has_no_room config = nat_le 16 (device_count config)
+
 abbrev pub drive_rows : Config → Drive → Rows
 drive_rows config drive =
     (is_root drive && has_other_root config drive, refusal.SecondRootDrive)
-    ∷ (not (has_drive config.drives drive.drive_id) && nat_le 16 (device_count config), refusal.TooManyDevices)
+    ∷ (not (has_drive config.drives drive.drive_id) && has_no_room config, refusal.TooManyDevices)
     ∷ []
 
 abbrev pub drive_patch_rows : Config → DrivePatch → Rows
 drive_patch_rows config patch = (not (has_drive config.drives patch.drive_id), refusal.NoSuchId) ∷ []
+
+-- a guest gives what it has at most
+abbrev pub is_beyond : ℕ → ℕ → Bool
+is_beyond mib amount = nat_lt mib amount
+
+-- the memory that is configured is no less than what the balloon is to take
+abbrev pub amount_of : Option Balloon → ℕ
+amount_of None = 0
+amount_of (Some b) = b.amount_mib
+
+abbrev pub memory_rows : Config → ℕ → Rows
+memory_rows config mib = (is_beyond mib (amount_of config.balloon), refusal.OutOfRange) ∷ []
+
+abbrev pub balloon_rows : Config → Balloon → Rows
+balloon_rows config balloon =
+    (is_beyond config.machine.mem_size_mib balloon.amount_mib, refusal.OutOfRange)
+    ∷ (is_none config.balloon && has_no_room config, refusal.TooManyDevices)
+    ∷ []
+
+abbrev pub balloon_patch_rows : Config → BalloonPatch → Rows
+balloon_patch_rows config patch =
+    (is_none config.balloon, refusal.NoSuchId)
+    ∷ (is_beyond config.machine.mem_size_mib patch.amount_mib, refusal.OutOfRange)
+    ∷ []
+
+-- reports are on where there are seconds between them
+abbrev pub interval_of : Option Balloon → ℕ
+interval_of None = 0
+interval_of (Some b) = b.stats_polling_interval_s
+
+abbrev pub is_on : ℕ → Bool
+is_on seconds = not (seconds == 0)
+
+-- they are neither switched on nor off
+abbrev pub switches : ℕ → ℕ → Bool
+switches old new = (is_on old && not (is_on new)) || (is_on new && not (is_on old))
+
+abbrev pub statistics_patch_rows : Config → StatisticsPatch → Rows
+statistics_patch_rows config patch =
+    (is_none config.balloon, refusal.NoSuchId)
+    ∷ (switches (interval_of config.balloon) patch.stats_polling_interval_s, refusal.StatisticsOff)
+    ∷ []
+
+abbrev pub told_rows : Config → Part → Rows
+told_rows config tells.Instance = []
+told_rows config tells.Version = []
+told_rows config tells.MachineConfig = []
+told_rows config tells.Metadata = []
+told_rows config tells.VmConfig = []
+told_rows config tells.Balloon = (is_none config.balloon, refusal.NoSuchId) ∷ []
+told_rows config tells.Statistics =
+    (is_none config.balloon, refusal.NoSuchId)
+    ∷ (not (is_on (interval_of config.balloon)), refusal.StatisticsOff)
+    ∷ []
 
 abbrev pub start_rows : Config → Rows
 start_rows config = (is_none config.boot_source, refusal.NoBootSource) ∷ []
@@ -98,15 +183,18 @@ abbrev pub own_rows : Phase → Config → Ids → ApiCall → Rows
 own_rows p config ids (call.PutBootSource source) = []
 own_rows p config ids (call.PutDrive drive) = drive_rows config drive
 own_rows p config ids (call.PatchDrive patch) = drive_patch_rows config patch
-own_rows p config ids (call.PutMachineConfig machine) = []
-own_rows p config ids (call.PatchMachineConfig patch) = []
+own_rows p config ids (call.PutMachineConfig machine) = memory_rows config machine.mem_size_mib
+own_rows p config ids (call.PatchMachineConfig patch) = memory_rows config (patched config.machine patch).mem_size_mib
+own_rows p config ids (call.PutBalloon balloon) = balloon_rows config balloon
+own_rows p config ids (call.PatchBalloon patch) = balloon_patch_rows config patch
+own_rows p config ids (call.PatchStatistics patch) = statistics_patch_rows config patch
 own_rows p config ids (call.PutMetadata body) = []
 own_rows p config ids (call.PatchMetadata patch) = []
 own_rows p config ids call.InstanceStart = start_rows config
 own_rows p config ids (call.PatchVm state) = []
 own_rows p config ids (call.CreateSnapshot it) = create_rows p config ids it.snapshot_type
 own_rows p config ids (call.LoadSnapshot load) = load_rows config
-own_rows p config ids (call.Get part) = []
+own_rows p config ids (call.Get part) = told_rows config part
 
 abbrev pub first_refusal : Rows → Option Refusal
 first_refusal [] = None
@@ -117,20 +205,15 @@ own_refusal p config ids c = first_refusal (own_rows p config ids c)
 
 -- ---- what an accepted call asks for
 
--- the given fields replace, and the others stay
-abbrev pub patched : MachineConfig → MachinePatch → MachineConfig
-patched machine patch = record {
-  vcpu_count = unwrap_or patch.vcpu_count machine.vcpu_count;
-  mem_size_mib = unwrap_or patch.mem_size_mib machine.mem_size_mib;
-  track_dirty_pages = unwrap_or patch.track_dirty_pages machine.track_dirty_pages;
-}
-
 abbrev pub change_of : Config → ApiCall → Change
 change_of config (call.PutBootSource source) = change.BootSource source
 change_of config (call.PutDrive drive) = change.PutDrive drive
 change_of config (call.PatchDrive patch) = change.PatchDrive patch
 change_of config (call.PutMachineConfig machine) = change.MachineConfig machine
 change_of config (call.PatchMachineConfig patch) = change.MachineConfig (patched config.machine patch)
+change_of config (call.PutBalloon balloon) = change.PutBalloon balloon
+change_of config (call.PatchBalloon patch) = change.PatchBalloon patch
+change_of config (call.PatchStatistics patch) = change.PatchStatistics patch
 change_of config (call.PutMetadata body) = change.PutMetadata body
 change_of config (call.PatchMetadata patch) = change.PatchMetadata patch
 change_of config call.InstanceStart = change.Start

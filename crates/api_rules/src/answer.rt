@@ -5,7 +5,7 @@ ghost use Rattle.api_rules.specs.Answers.{accepted, no_content, refused};
 use metadata_store::Store;
 use refusals::{Refusal, fault_text};
 use std::alloc::{AllocError, Global};
-use vm_config::{Change, Config, Phase};
+use vm_config::{Change, Config, Phase, Statistics};
 use vm_types::ByteList;
 
 const OK: u16 = 200;
@@ -39,7 +39,8 @@ pub fn fault_answer(alloc: Global, refusal: Refusal) -> Result<Answer, AllocErro
     })
 }
 
-/// What an accepted call is answered by the machine of this id in this phase, with these metadata.
+/// What an accepted call is answered by the machine of this id in this phase, with these metadata and, where a balloon runs,
+/// what that tells.
 pub fn accepted_answer(
     alloc: Global,
     change: &Change,
@@ -47,13 +48,20 @@ pub fn accepted_answer(
     phase: Phase,
     config: &Config,
     metadata: &Store,
+    statistics: Option<Statistics>,
 ) -> Result<Answer, AllocError>
-    ensures { IfOk result (λ answer. answer ≡ accepted change.now id.now phase config.now metadata.now) }
+    ensures { IfOk result (λ answer. answer ≡ accepted change.now (record {
+      id = id.now;
+      phase = phase;
+      config = config.now;
+      metadata = metadata.now;
+      statistics = statistics;
+    })) }
 {
     match change {
         Change::Tell(part) => Ok(Answer {
             status: OK,
-            body: Some(config.json(alloc, *part, id, phase, metadata)?),
+            body: Some(config.json(alloc, *part, id, phase, metadata, statistics)?),
         }),
         _ => Ok(done_answer()),
     }

@@ -3,11 +3,11 @@ ghost use Rattle.std.specs.Prelude.{◌≡◌};
 ghost use Rattle.api_rules.specs.Table as table;
 
 use crate::actions::start_refusal;
-use crate::drives::{patch_refusal, put_refusal};
 use crate::ids::Ids;
-use crate::machine_config::patched;
+use crate::machine_config::{memory_refusal, patch_refusal, patched};
 use crate::snapshot::{create_refusal, load_refusal};
-use api_calls::ApiCall;
+use crate::{balloon, drives};
+use api_calls::{ApiCall, Part};
 use refusals::Refusal;
 use vm_config::{Change, Config, Phase};
 
@@ -19,6 +19,20 @@ pub enum When {
     Always,
 }
 
+fn when_told(part: Part) -> When
+    ensures { result ≡ table.when_told part }
+{
+    match part {
+        Part::Statistics => When::AfterBoot,
+        Part::Instance
+        | Part::Version
+        | Part::MachineConfig
+        | Part::Metadata
+        | Part::VmConfig
+        | Part::Balloon => When::Always,
+    }
+}
+
 fn when_allowed(call: &ApiCall) -> When
     ensures { result ≡ table.when_allowed call.now }
 {
@@ -27,12 +41,16 @@ fn when_allowed(call: &ApiCall) -> When
         | ApiCall::PutDrive(_)
         | ApiCall::PutMachineConfig(_)
         | ApiCall::PatchMachineConfig(_)
+        | ApiCall::PutBalloon(_)
         | ApiCall::InstanceStart
         | ApiCall::LoadSnapshot(_) => When::BeforeBoot,
-        ApiCall::PatchDrive(_) | ApiCall::PatchVm(_) | ApiCall::CreateSnapshot(_) => {
-            When::AfterBoot
-        }
-        ApiCall::PutMetadata(_) | ApiCall::PatchMetadata(_) | ApiCall::Get(_) => When::Always,
+        ApiCall::PatchDrive(_)
+        | ApiCall::PatchBalloon(_)
+        | ApiCall::PatchStatistics(_)
+        | ApiCall::PatchVm(_)
+        | ApiCall::CreateSnapshot(_) => When::AfterBoot,
+        ApiCall::PutMetadata(_) | ApiCall::PatchMetadata(_) => When::Always,
+        ApiCall::Get(part) => when_told(*part),
     }
 }
 
@@ -50,8 +68,14 @@ fn own_refusal(phase: Phase, config: &Config, ids: &Ids, call: &ApiCall) -> Opti
     ensures { result ≡ table.own_refusal phase config.now ids.now call.now }
 {
     match call {
-        ApiCall::PutDrive(drive) => put_refusal(config, drive),
-        ApiCall::PatchDrive(patch) => patch_refusal(config, patch),
+        ApiCall::PutDrive(drive) => drives::put_refusal(config, drive),
+        ApiCall::PatchDrive(patch) => drives::patch_refusal(config, patch),
+        ApiCall::PutMachineConfig(machine) => memory_refusal(config, machine.mem_size_mib),
+        ApiCall::PatchMachineConfig(patch) => patch_refusal(config, patch),
+        ApiCall::PutBalloon(balloon) => balloon::put_refusal(config, balloon),
+        ApiCall::PatchBalloon(patch) => balloon::patch_refusal(config, patch),
+        ApiCall::PatchStatistics(patch) => balloon::statistics_refusal(config, patch),
+        ApiCall::Get(part) => balloon::told_refusal(config, *part),
         ApiCall::InstanceStart => start_refusal(config),
         ApiCall::CreateSnapshot(create) => create_refusal(phase, config, ids, create.snapshot_type),
         ApiCall::LoadSnapshot(_) => load_refusal(config),
@@ -70,6 +94,9 @@ fn change_of(config: &Config, call: ApiCall) -> Change
         ApiCall::PatchMachineConfig(patch) => {
             Change::MachineConfig(patched(&config.machine, &patch))
         }
+        ApiCall::PutBalloon(balloon) => Change::PutBalloon(balloon),
+        ApiCall::PatchBalloon(patch) => Change::PatchBalloon(patch),
+        ApiCall::PatchStatistics(patch) => Change::PatchStatistics(patch),
         ApiCall::PutMetadata(body) => Change::PutMetadata(body),
         ApiCall::PatchMetadata(patch) => Change::PatchMetadata(patch),
         ApiCall::InstanceStart => Change::Start,

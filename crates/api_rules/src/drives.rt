@@ -2,11 +2,10 @@
 ghost use Rattle.std.specs.Prelude.{◌≡◌};
 ghost use Rattle.api_rules.specs.Table as table;
 
+use crate::room::has_no_room;
 use api_calls::{Drive, DrivePatch};
 use refusals::Refusal;
 use vm_config::Config;
-
-const MOST_DEVICES: usize = 16;
 
 // Whether another drive than this one is the root drive.
 fn has_other_root(config: &Config, drive: &Drive) -> bool
@@ -26,7 +25,7 @@ pub fn put_refusal(config: &Config, drive: &Drive) -> Option<Refusal>
 {
     if drive.is_root_device && has_other_root(config, drive) {
         Some(Refusal::SecondRootDrive)
-    } else if !config.drives.has(drive.drive_id.as_str()) && config.device_count() >= MOST_DEVICES {
+    } else if !config.drives.has(drive.drive_id.as_str()) && has_no_room(config) {
         Some(Refusal::TooManyDevices)
     } else {
         None

@@ -7,12 +7,16 @@
 #![tactic(auto)]
 
 mod ids;
+mod room;
 
 // The resources that have rules of their own, in the order of the API's table: PUT and PATCH /drives/{id},
 mod drives;
 
-// PATCH /machine-config,
+// PUT and PATCH /machine-config,
 mod machine_config;
+
+// PUT, GET and PATCH /balloon, GET and PATCH /balloon/statistics,
+mod balloon;
 
 // PUT /actions,
 mod actions;

@@ -14,6 +14,8 @@ use Rattle.http_stream.specs.Stream.{Connection}
 use Rattle.http_stream.specs.declared.request.Next.{Next}
 use Rattle.http_stream.specs.Conversation.{Conversation, ConversationFront, arrived}
 use Rattle.http_stream.specs.Sent.{sent}
+use Rattle.api_calls.specs.declared.balloon.Balloon.{Balloon}
+use Rattle.api_calls.specs.declared.limiter.Limiter.{Limiter}
 use Rattle.api_calls.specs.declared.call.ApiCall.{ApiCall}
 use Rattle.api_calls.specs.declared.call.ApiCall.TheVariants as call
 use Rattle.api_calls.specs.declared.call.SnapshotCreate.{SnapshotCreate}
@@ -23,6 +25,8 @@ use Rattle.vm_config.specs.declared.config.Phase.{Phase}
 use Rattle.vm_config.specs.declared.config.Phase.TheVariants as phase
 use Rattle.vm_config.specs.declared.change.Change.{Change}
 use Rattle.vm_config.specs.declared.change.Change.TheVariants as change
+use Rattle.vm_config.specs.Changes.{with_amount, with_interval}
+use Rattle.vm_config.specs.Devices.{balloon_device}
 use Rattle.vm_config.specs.Drives.{device_of}
 use Rattle.api_rules.specs.declared.deciding.When.TheVariants.{BeforeBoot}
 use Rattle.api_rules.specs.Table.{change_of, has_started, misplaced, when_allowed}
@@ -31,14 +35,18 @@ use Rattle.script_text.specs.declared.item.Item.TheVariants as item
 use Rattle.serde_json.specs.Data.{Data}
 use Rattle.metadata_store.specs.Store.{patched, put}
 use Rattle.guest_devices.specs.declared.device.Device.{Device}
+use Rattle.guest_devices.specs.declared.change.DeviceChange.{DeviceChange}
 use Rattle.guest_devices.specs.Kinds.{sectors_change}
-use Rattle.flat_guest.specs.Changes.{reset_guest}
+use Rattle.port_table.specs.declared.state.PortState.{PortState}
+use Rattle.flat_guest.specs.Changes.{reset_guest, told}
 use Rattle.flat_guest.specs.Guest.{Guest, is_actor, unwritten}
 use Rattle.flat_guest.specs.Start.{timer_restarted}
 use Rattle.flat_guest.specs.Steps.{FlatStep, Makes, is_given}
 use Rattle.flat_guest.proofs.Devices.{devices_many, reset_many, told_many}
 use Rattle.flat_snapshot.specs.Unwritten.{KeepsUnwritten}
 use Rattle.flat_snapshot.proofs.Unwritten.{keeps_joined, keeps_same, one_keeps, several_keep}
+use Rattle.flat_machine.specs.Balloon.{interval_told, target_in}
+use Rattle.flat_machine.specs.Limits.{limits_told}
 use Rattle.flat_machine.specs.Between.{GoesOn, NoCreate, SomeCreate}
 use Rattle.flat_machine.specs.Given.{reply_given}
 use Rattle.flat_machine.specs.Outcome.{Left, Outcome}
@@ -46,7 +54,7 @@ use Rattle.flat_machine.specs.Outcome.Outcome.{Answered, Failed, NoMemory}
 use Rattle.flat_machine.specs.Machine.{Machine, drained, drained_guest, phase_by, phase_of, running_by}
 use Rattle.flat_machine.specs.Items.{ItemStep, MemoryLine, RegisterLine, RepliesLine, StepsLine, Talks}
 use Rattle.response_form.specs.Responses.{Response}
-use Rattle.flat_machine.specs.Requests.{CreateFails, Creates, Fails, Leaves, LeavesBy, RequestStep, Stores, allowed, configured, halted, next_identity, patched_drive, resized, retold, sectors_of}
+use Rattle.flat_machine.specs.Requests.{CreateFails, Creates, Fails, Leaves, LeavesBy, RequestStep, Stores, allowed, configured, halted, next_identity, patched_balloon, patched_drive, patched_statistics, relimited, resized, retargeted, retimed, sectors_of, shows_by, told_at}
 use Rattle.flat_machine.specs.Run.{Act, Run}
 use Rattle.flat_machine.proofs.Allowed.{IsAllowed, allowed_is}
 
@@ -110,6 +118,7 @@ abbrev pub IsLater : Change → Type 0
 IsLater (change.BootSource source) = ⊥
 IsLater (change.PutDrive drive) = ⊥
 IsLater (change.MachineConfig machine) = ⊥
+IsLater (change.PutBalloon balloon) = ⊥
 IsLater change.Start = ⊥
 IsLater (change.LoadSnapshot load) = ⊥
 IsLater it = Unit {0}
@@ -127,6 +136,9 @@ at_its_time p config (call.PutDrive drive) started placed = too_late p started p
 at_its_time p config (call.PatchDrive patch) started placed = tt
 at_its_time p config (call.PutMachineConfig machine) started placed = too_late p started placed
 at_its_time p config (call.PatchMachineConfig patch) started placed = too_late p started placed
+at_its_time p config (call.PutBalloon balloon) started placed = too_late p started placed
+at_its_time p config (call.PatchBalloon patch) started placed = tt
+at_its_time p config (call.PatchStatistics patch) started placed = tt
 at_its_time p config (call.PutMetadata body) started placed = tt
 at_its_time p config (call.PatchMetadata patch) started placed = tt
 at_its_time p config call.InstanceStart started placed = too_late p started placed
@@ -170,19 +182,43 @@ drained_keeps g (Some q) is = (
       (record { size = refl; unwritten = λ i none. none; pages = λ i none. refl }, refl),
 )
 
-retold_keeps : (g : Guest) (path : Option (List ℕ)) (number : Option ℕ) (saved : Saved) (guest : Option Guest) → guest ≡ Some g
-    → (h : Guest) × (retold path number saved guest ≡ Some h) × Keeps g h
-retold_keeps g (Some path) (Some k) saved (Some q) is = (
-  resized k (sectors_of (get saved path)) q,
+-- a device is told of a change
+told_keeps : (g : Guest) (number : Option ℕ) (change : DeviceChange) (shows : Option PortState → Option (List ℕ)) (guest : Option Guest)
+    → guest ≡ Some g → (h : Guest) × (told_at number change shows guest ≡ Some h) × Keeps g h
+told_keeps g None change shows guest is = (g, is, (keeps_same g g refl, refl))
+told_keeps g (Some k) change shows None is = absurd cc
+told_keeps g (Some k) change shows (Some q) is = (
+  told k change (shows (slice_get q.ports k)) q,
   refl,
-  subst (λ (x : Guest). Keeps x (resized k (sectors_of (get saved path)) q)) (same_guest q g is) (
+  subst (λ (x : Guest). Keeps x (told k change (shows (slice_get q.ports k)) q)) (same_guest q g is) (
     record { size = refl; unwritten = λ i none. none; pages = λ i none. refl },
-    told_many (slice_get q.devices k) q.devices k (sectors_change (sectors_of (get saved path))),
+    told_many (slice_get q.devices k) q.devices k change,
   ),
 )
-retold_keeps g (Some path) (Some k) saved None is = absurd cc
-retold_keeps g (Some path) None saved guest is = (g, is, (keeps_same g g refl, refl))
-retold_keeps g None number saved guest is = (g, is, (keeps_same g g refl, refl))
+
+keeps_both : (g h q : Guest) → Keeps g h → Keeps h q → Keeps g q
+keeps_both g h q first second = (keeps_joined g h q first.0 second.0, second.1 ∙ first.1)
+
+resized_keeps : (g : Guest) (path : Option (List ℕ)) (number : Option ℕ) (saved : Saved) (guest : Option Guest) → guest ≡ Some g
+    → (h : Guest) × (resized path number saved guest ≡ Some h) × Keeps g h
+resized_keeps g None number saved guest is = (g, is, (keeps_same g g refl, refl))
+resized_keeps g (Some path) number saved guest is =
+    let change : DeviceChange = sectors_change (sectors_of (get saved path)) in told_keeps g number change (shows_by change) guest is
+
+relimited_keeps : (g : Guest) (limiter : Option Limiter) (number : Option ℕ) (guest : Option Guest) → guest ≡ Some g
+    → (h : Guest) × (relimited limiter number guest ≡ Some h) × Keeps g h
+relimited_keeps g None number guest is = (g, is, (keeps_same g g refl, refl))
+relimited_keeps g (Some l) number guest is = told_keeps g number (limits_told l) (shows_by (limits_told l)) guest is
+
+retargeted_keeps : (g : Guest) (balloon : Option Balloon) (number : Option ℕ) (guest : Option Guest) → guest ≡ Some g
+    → (h : Guest) × (retargeted balloon number guest ≡ Some h) × Keeps g h
+retargeted_keeps g None number guest is = (g, is, (keeps_same g g refl, refl))
+retargeted_keeps g (Some b) number guest is = told_keeps g number (interval_told b) (target_in b) guest is
+
+retimed_keeps : (g : Guest) (balloon : Option Balloon) (number : Option ℕ) (guest : Option Guest) → guest ≡ Some g
+    → (h : Guest) × (retimed balloon number guest ≡ Some h) × Keeps g h
+retimed_keeps g None number guest is = (g, is, (keeps_same g g refl, refl))
+retimed_keeps g (Some b) number guest is = told_keeps g number (interval_told b) (shows_by (interval_told b)) guest is
 
 create_on : (g : Guest) (guest : Option Guest) (m : Machine) (it : SnapshotCreate) (kept : List Device) (n : Machine) → guest ≡ Some g
     → Creates guest m it kept n → GoesOn g m n
@@ -204,9 +240,20 @@ leaves_on g (change.BootSource source) m n there later is = absurd later
 leaves_on g (change.PutDrive drive) m n there later is = absurd later
 leaves_on g (change.PatchDrive patch) m n there later is =
     let after : Machine = configured (patched_drive m patch) (change.PatchDrive patch) in
-    let h = retold_keeps g patch.path_on_host (device_of m.config.drives patch.drive_id) m.saved m.guest there in
-    moved g m n after is (by_events g h.0 m after h.1 refl refl h.2)
+    let number = device_of m.config.drives patch.drive_id in
+    let h = resized_keeps g patch.path_on_host number m.saved m.guest there in
+    let q = relimited_keeps h.0 patch.rate_limiter number (resized patch.path_on_host number m.saved m.guest) h.1 in
+    moved g m n after is (by_events g q.0 m after q.1 refl refl (keeps_both g h.0 q.0 h.2 q.2))
 leaves_on g (change.MachineConfig machine) m n there later is = absurd later
+leaves_on g (change.PutBalloon balloon) m n there later is = absurd later
+leaves_on g (change.PatchBalloon patch) m n there later is =
+    let after : Machine = configured (patched_balloon m patch) (change.PatchBalloon patch) in
+    let h = retargeted_keeps g (with_amount patch m.config.balloon) (balloon_device m.config) m.guest there in
+    moved g m n after is (by_events g h.0 m after h.1 refl refl h.2)
+leaves_on g (change.PatchStatistics patch) m n there later is =
+    let after : Machine = configured (patched_statistics m patch) (change.PatchStatistics patch) in
+    let h = retimed_keeps g (with_interval patch m.config.balloon) (balloon_device m.config) m.guest there in
+    moved g m n after is (by_events g h.0 m after h.1 refl refl h.2)
 leaves_on g change.Start m n there later is = absurd later
 leaves_on g (change.State Paused) m n there later is =
     let h = halted_keeps g m.paused m.guest there in
@@ -240,6 +287,9 @@ fails_on g change.Start m left n there x = same g m n there x.1
 fails_on g (change.State state) m left n there x = absurd x
 fails_on g (change.CreateSnapshot it) m left n there x = create_fails_on g m.guest m it left n there x
 fails_on g (change.LoadSnapshot load) m left n there x = same g m n there x.1
+fails_on g (change.PutBalloon balloon) m left n there x = absurd x
+fails_on g (change.PatchBalloon patch) m left n there x = absurd x
+fails_on g (change.PatchStatistics patch) m left n there x = absurd x
 fails_on g (change.PutMetadata body) m left n there x = absurd x
 fails_on g (change.PatchMetadata patch) m left n there x = absurd x
 fails_on g (change.Tell part) m left n there x = absurd x

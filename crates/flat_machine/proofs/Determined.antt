@@ -43,16 +43,20 @@ use Rattle.api_calls.specs.declared.call.SnapshotCreate.{SnapshotCreate}
 use Rattle.api_calls.specs.declared.call.SnapshotLoad.{SnapshotLoad}
 use Rattle.flat_snapshot.specs.Found.{Snapshot, found}
 use Rattle.flat_snapshot.proofs.Copied.{same_copy}
-use Rattle.flat_machine.specs.Requests.{AnswersBy, CreateFails, Creates, Fails, LeavesBy, Responds, Restores, RequestStep, Stores, TellsOf, Told, allowed, answer_told, calls_in, created, parent_in, respond}
+use Rattle.flat_machine.specs.Requests.{AnswersBy, CreateFails, Creates, Fails, LeavesBy, Responds, Restores, RequestStep, Stores, TellsOf, allowed, calls_in, created, parent_in, respond}
 use Rattle.serde_json.specs.Data.{Data}
 use Rattle.metadata_store.specs.Store.{patched, put}
+use Rattle.vm_config.specs.Devices.{balloon_device}
+use Rattle.vm_config.specs.Texts.{Told}
 use Rattle.vm_config.specs.declared.change.Change.{Change}
 use Rattle.vm_config.specs.declared.change.Change.TheVariants as change
 use Rattle.api_rules.specs.declared.answer.Answer.{Answer}
+use Rattle.api_rules.specs.Answers.{accepted}
 use Rattle.api_calls.specs.declared.call.VmState.TheVariants.{Paused, Resumed}
 use Rattle.refusals.specs.declared.refusal.Refusal.{Refusal}
 use Rattle.flat_machine.specs.Run.{Act, Run}
 use Rattle.flat_machine.proofs.Allowed.{same_change}
+use Rattle.flat_machine.proofs.Telling.{tells_one}
 
 -- one text and one machine
 abbrev Same : List ℕ → List ℕ → Machine → Machine → Type 0
@@ -122,6 +126,9 @@ result_one (Ok (change.BootSource source)) m kept n k x y = x.1 ∙ sym y.1
 result_one (Ok (change.PutDrive drive)) m kept n k x y = x.1 ∙ sym y.1
 result_one (Ok (change.PatchDrive patch)) m kept n k x y = x.1 ∙ sym y.1
 result_one (Ok (change.MachineConfig machine)) m kept n k x y = x.1 ∙ sym y.1
+result_one (Ok (change.PutBalloon balloon)) m kept n k x y = x.1 ∙ sym y.1
+result_one (Ok (change.PatchBalloon patch)) m kept n k x y = x.1 ∙ sym y.1
+result_one (Ok (change.PatchStatistics patch)) m kept n k x y = x.1 ∙ sym y.1
 result_one (Ok (change.PutMetadata body)) m kept n k x y = stores_one (put body) m n k x.1 y.1
 result_one (Ok (change.PatchMetadata patch)) m kept n k x y = stores_one (patched m.metadata patch) m n k x.1 y.1
 result_one (Ok change.Start) m kept n k x y = x.1 ∙ sym y.1
@@ -137,6 +144,9 @@ fails_one (change.BootSource source) m left n k x y = absurd x
 fails_one (change.PutDrive drive) m left n k x y = absurd x
 fails_one (change.PatchDrive patch) m left n k x y = x.3 ∙ sym y.3
 fails_one (change.MachineConfig machine) m left n k x y = absurd x
+fails_one (change.PutBalloon balloon) m left n k x y = absurd x
+fails_one (change.PatchBalloon patch) m left n k x y = absurd x
+fails_one (change.PatchStatistics patch) m left n k x y = absurd x
 fails_one (change.PutMetadata body) m left n k x y = absurd x
 fails_one (change.PatchMetadata patch) m left n k x y = absurd x
 fails_one change.Start m left n k x y = x.1 ∙ sym y.1
@@ -151,11 +161,12 @@ told_one m a b x y = λ i. record {
   phase = (x.phase_is ∙ sym y.phase_is) i;
   config = (x.config_is ∙ sym y.config_is) i;
   metadata = (x.metadata_is ∙ sym y.metadata_is) i;
+  statistics = tells_one m.guest (balloon_device m.config) a.statistics b.statistics x.statistics_is y.statistics_is i;
 }
 
 answer_one : (r : Result Change Refusal) (m : Machine) (a b : Answer) → AnswersBy m r a → AnswersBy m r b → a ≡ b
 answer_one (Ok it) m a b (told, tells, is) (other, says, be) =
-    is ∙ ap (λ (t : Told). answer_told it t) (told_one m told other tells says) ∙ sym be
+    is ∙ ap (accepted it) (told_one m told other tells says) ∙ sym be
 answer_one (Err why) m a b is be = is ∙ sym be
 
 responds_one : (m : Machine) (given : Next) (t u : List Response) → Responds m given t → Responds m given u → t ≡ u

@@ -1,29 +1,37 @@
 -- Drives of which one is put, or has another file, stay as a state file has them.
-use Rattle.std.proofs.Common.{◌≡◌, ◌≤◌, ℕ, ◌+◌, Bool, true, false, not, nat_le, ◌&&◌, ◌||◌, cond, if◌then◌else◌, refl, sym, ap, ◌∙◌, List, [], ◌∷◌, ◌++◌, length, Option, Some, None, arith, length-append}
-use Rattle.std.specs.Prelude.{count_by}
+use Rattle.std.proofs.Common.{◌≡◌, ◌≤◌, ℕ, ◌+◌, Bool, true, false, not, nat_le, ◌&&◌, cond, if◌then◌else◌, refl, sym, ap, ◌∙◌, List, [], ◌∷◌, ◌++◌, length, Option, Some, None, arith, length-append}
+use Rattle.std.specs.Prelude.{count_by, unwrap_or}
 use Rattle.std.specs.List.{list_all, list_any}
-use Rattle.std.specs.Str.{bytes_eq}
-use Rattle.std.proofs.lemmas.Bool.{and_from, and_parts, le-leb, leb-false, leb-true, not-true, or_from, or_parts}
-use Rattle.std.proofs.lemmas.List.Folds.{list_all-append, list_any-append}
+use Rattle.std.specs.Option.{option_or}
+use Rattle.std.proofs.lemmas.Bool.{and_from, and_parts, le-leb, leb-false, leb-true, not-true, or_parts}
 use Rattle.std.proofs.lemmas.List.Sums.{sum_by-cons}
 use Rattle.std.proofs.lemmas.Slice.Eq.{bytes_eq-Decides}
+use Rattle.api_calls.specs.declared.balloon.Balloon.{Balloon}
 use Rattle.api_calls.specs.declared.call.Drive.{Drive}
+use Rattle.api_calls.specs.declared.call.DrivePatch.{DrivePatch}
+use Rattle.api_calls.specs.declared.limiter.Limiter.{Limiter}
 use Rattle.api_calls.specs.Form.{holds, is_id, is_path}
-use Rattle.vm_config.specs.Drives.{has_drive, is_named, is_root, put_drive, with_changed, with_path}
-use Rattle.snap_state.specs.Valid.{are_drives, are_told_apart, is_drive}
+use Rattle.api_calls.specs.Limits.{is_bucket, is_limiter}
+use Rattle.vm_config.specs.Devices.{count_in}
+use Rattle.vm_config.specs.Drives.{has_drive, id_of_drive, is_named, is_root, patch_drive, patched_drive, put_drive, with_changed}
+use Rattle.vm_config.specs.Limits.{limited, names_bucket, no_limits, with_buckets}
+use Rattle.vm_config.specs.Named.{are_apart}
+use Rattle.vm_config.proofs.Apart.{apart_changed, apart_put, each_changed, each_put, length-changed}
+use Rattle.snap_state.specs.Valid.{are_drives, has_room, is_drive}
+use Rattle.flat_machine.specs.Ready.{AreFitting}
 
 -- ---- what is asked of drives, one by one
 
 record AreDrives (drives : List Drive) : Type 0 where
   few : length drives ≤ 16
   each : list_all is_drive drives ≡ true
-  apart : are_told_apart drives ≡ true
+  apart : are_apart id_of_drive drives ≡ true
   root : count_by is_root drives ≤ 1
 
 parts_of : (drives : List Drive) → are_drives drives ≡ true → AreDrives drives
 parts_of drives are =
     let p2 = and_parts _ (nat_le (count_by is_root drives) 1) are in
-    let p1 = and_parts _ (are_told_apart drives) p2.0 in
+    let p1 = and_parts _ (are_apart id_of_drive drives) p2.0 in
     let p0 = and_parts (nat_le (length drives) 16) (list_all is_drive drives) p1.0 in
     record {
       few = leb-true (length drives) 16 p0.0;
@@ -35,12 +43,9 @@ parts_of drives are =
 are_all : (drives : List Drive) → AreDrives drives → are_drives drives ≡ true
 are_all drives is =
     and_from _ (nat_le (count_by is_root drives) 1)
-    (and_from _ (are_told_apart drives)
+    (and_from _ (are_apart id_of_drive drives)
     (and_from (nat_le (length drives) 16) (list_all is_drive drives) (le-leb (length drives) 16 is.few) is.each)
     is.apart) (le-leb (count_by is_root drives) 1 is.root)
-
-pub drives_few : (drives : List Drive) → are_drives drives ≡ true → length drives ≤ 16
-drives_few drives are = (parts_of drives are).few
 
 -- ---- how many are root drives
 
@@ -51,54 +56,6 @@ by_root : (d : Drive) (root : Bool) (drives : List Drive) → is_root d ≡ root
     → count_by is_root (d ∷ drives) ≡ cond root 1 0 + count_by is_root drives
 by_root d root drives is =
     roots_cons d drives ∙ ap (λ (b : Bool). cond b 1 0 + count_by is_root drives) is
-
--- ---- a drive is changed in its place, and keeps its id
-
-length-changed : (id : List ℕ) (f : Drive → Drive) (drives : List Drive) → length (with_changed id f drives) ≡ length drives
-length-changed id f [] = refl
-length-changed id f (d ∷ drives) = by_name (is_named id d) (length-changed id f drives)
-  where
-    by_name : (named : Bool) → length (with_changed id f drives) ≡ length drives
-        → length (if named then f d ∷ drives else d ∷ with_changed id f drives) ≡ length (d ∷ drives)
-    by_name true rest = refl
-    by_name false rest = omega (arith, rest)
-
-pub length-path : (drives : List Drive) (id : List ℕ) (path : Option (List ℕ)) → length (with_path id path drives) ≡ length drives
-length-path drives id None = refl
-length-path drives id (Some path) = length-changed id (λ d. record d { path_on_host = path }) drives
-
-module _ (id : List ℕ) (f : Drive → Drive) (same : (d : Drive) → is_named id d ≡ true → (f d).drive_id ≡ d.drive_id) where
-  any_same : (other : List ℕ) (drives : List Drive)
-      → list_any (is_named other) (with_changed id f drives) ≡ list_any (is_named other) drives
-  any_same other [] = refl
-  any_same other (d ∷ drives) = by_name (is_named id d) refl (any_same other drives)
-    where
-      by_name : (named : Bool) → is_named id d ≡ named
-          → list_any (is_named other) (with_changed id f drives) ≡ list_any (is_named other) drives
-          → list_any (is_named other) (if named then f d ∷ drives else d ∷ with_changed id f drives) ≡ list_any (is_named other) (d ∷ drives)
-      by_name true is rest = ap (λ (own : List ℕ). bytes_eq own other || list_any (is_named other) drives) (same d is)
-      by_name false is rest = ap (λ (b : Bool). is_named other d || b) rest
-
-  apart_same : (drives : List Drive) → are_told_apart (with_changed id f drives) ≡ are_told_apart drives
-  apart_same [] = refl
-  apart_same (d ∷ drives) = by_name (is_named id d) refl (apart_same drives)
-    where
-      by_name : (named : Bool) → is_named id d ≡ named → are_told_apart (with_changed id f drives) ≡ are_told_apart drives
-          → are_told_apart (if named then f d ∷ drives else d ∷ with_changed id f drives) ≡ are_told_apart (d ∷ drives)
-      by_name true is rest = ap (λ (own : List ℕ). not (list_any (is_named own) drives) && are_told_apart drives) (same d is)
-      by_name false is rest = λ i. not (any_same d.drive_id drives i) && rest i
-
-  each_kept : ((d : Drive) → is_drive d ≡ true → is_drive (f d) ≡ true) → (drives : List Drive) → list_all is_drive drives ≡ true
-      → list_all is_drive (with_changed id f drives) ≡ true
-  each_kept keeps [] all = refl
-  each_kept keeps (d ∷ drives) all =
-      let parts = and_parts (is_drive d) (list_all is_drive drives) all in
-      by_name (is_named id d) parts.0 parts.1 (each_kept keeps drives parts.1)
-    where
-      by_name : (named : Bool) → is_drive d ≡ true → list_all is_drive drives ≡ true → list_all is_drive (with_changed id f drives) ≡ true
-          → list_all is_drive (if named then f d ∷ drives else d ∷ with_changed id f drives) ≡ true
-      by_name true own others rest = and_from (is_drive (f d)) (list_all is_drive drives) (keeps d own) others
-      by_name false own others rest = and_from (is_drive d) (list_all is_drive (with_changed id f drives)) own rest
 
 -- ---- another file
 
@@ -113,49 +70,67 @@ roots_same id f flag (d ∷ drives) = by_name (is_named id d) (roots_same id f f
     by_name false rest =
         roots_cons d (with_changed id f drives) ∙ ap (λ (n : ℕ). cond (is_root d) 1 0 + n) rest ∙ sym (roots_cons d drives)
 
-pub path_told : (id : List ℕ) (path : Option (List ℕ)) (drives : List Drive) → are_drives drives ≡ true → holds is_path path ≡ true
-    → are_drives (with_path id path drives) ≡ true
-path_told id None drives are given = are
-path_told id (Some path) drives are given =
+or_kept : {T : Type 0} (p : T → Bool) (a b : Option T) → holds p a ≡ true → holds p b ≡ true → holds p (option_or a b) ≡ true
+or_kept p None b new old = old
+or_kept p (Some x) b new old = new
+
+old_limits : (o : Option Limiter) → holds is_limiter o ≡ true → is_limiter (unwrap_or o no_limits) ≡ true
+old_limits None old = refl
+old_limits (Some l) old = old
+
+limits_kept : (new old : Option Limiter) → holds is_limiter new ≡ true → holds is_limiter old ≡ true → holds is_limiter (limited new old) ≡ true
+limits_kept None old given there = there
+limits_kept (Some l) old given there = by_named (names_bucket l)
+  where
+    both : is_limiter (with_buckets l (unwrap_or old no_limits)) ≡ true
+    both =
+        let was : Limiter = unwrap_or old no_limits in
+        let first = and_parts (holds is_bucket l.bandwidth) (holds is_bucket l.ops) given in
+        let second = and_parts (holds is_bucket was.bandwidth) (holds is_bucket was.ops) (old_limits old there) in
+        and_from _ _ (or_kept is_bucket l.bandwidth was.bandwidth first.0 second.0)
+        (or_kept is_bucket l.ops was.ops first.1 second.1)
+
+    by_named : (b : Bool) → holds is_limiter (if b then Some (with_buckets l (unwrap_or old no_limits)) else old) ≡ true
+    by_named true = both
+    by_named false = there
+
+path_kept : (new : Option (List ℕ)) (old : List ℕ) → holds is_path new ≡ true → is_path old ≡ true → is_path (unwrap_or new old) ≡ true
+path_kept None old given there = there
+path_kept (Some path) old given there = given
+
+drive_kept : (patch : DrivePatch) (d : Drive) → holds is_path patch.path_on_host ≡ true → holds is_limiter patch.rate_limiter ≡ true
+    → is_drive d ≡ true → is_drive (patched_drive patch d) ≡ true
+drive_kept patch d path limits own =
+    let p1 = and_parts _ (holds is_limiter d.rate_limiter) own in
+    let p0 = and_parts (is_id d.drive_id) (is_path d.path_on_host) p1.0 in
+    and_from _ _ (and_from _ _ p0.0 (path_kept patch.path_on_host d.path_on_host path p0.1))
+    (limits_kept patch.rate_limiter d.rate_limiter limits p1.1)
+
+pub patch_told : (patch : DrivePatch) (drives : List Drive) → are_drives drives ≡ true → holds is_path patch.path_on_host ≡ true
+    → holds is_limiter patch.rate_limiter ≡ true → are_drives (patch_drive drives patch) ≡ true
+patch_told patch drives are path limits =
     let is = parts_of drives are in
-    let f : Drive → Drive = λ d. record d { path_on_host = path } in
-    let many = length-changed id f drives in
+    let f : Drive → Drive = patched_drive patch in
+    let many = length-changed id_of_drive patch.drive_id f drives in
     let few = is.few in
-    let roots = roots_same id f (λ d. refl) drives in
+    let roots = roots_same patch.drive_id f (λ d. refl) drives in
     let root = is.root in
-    are_all (with_changed id f drives) (record {
+    are_all (patch_drive drives patch) (record {
       few = omega (arith, many, few);
-      each = each_kept id f (λ d named. refl) (λ d own. and_from (is_id d.drive_id) (is_path path) (and_parts (is_id d.drive_id) (is_path d.path_on_host) own).0 given) drives is.each;
-      apart = apart_same id f (λ d named. refl) drives ∙ is.apart;
+      each = each_changed id_of_drive is_drive patch.drive_id f (λ d own. drive_kept patch d path limits own) drives is.each;
+      apart = apart_changed id_of_drive patch.drive_id f (λ d named. refl) drives ∙ is.apart;
       root = omega (arith, roots, root);
     })
+
+-- as many drives, and so as many devices
+pub length-patched : (patch : DrivePatch) (drives : List Drive) → length (patch_drive drives patch) ≡ length drives
+length-patched patch drives = length-changed id_of_drive patch.drive_id (patched_drive patch) drives
 
 -- ---- a drive that is put
 
 -- the id of a drive that is named so
 named_is : (id : List ℕ) (d : Drive) → is_named id d ≡ true → d.drive_id ≡ id
 named_is id d is = (bytes_eq-Decides d.drive_id id).0 is
-
-other_way : (a b : List ℕ) → bytes_eq a b ≡ false → bytes_eq b a ≡ false
-other_way a b nay = by_test (bytes_eq b a) refl
-  where
-    by_test : (t : Bool) → bytes_eq b a ≡ t → bytes_eq b a ≡ false
-    by_test true same = absurd (let e : true ≡ false = sym ((bytes_eq-Decides a b).1 (sym ((bytes_eq-Decides b a).0 same))) ∙ nay in cc)
-    by_test false is = is
-
--- behind drives none of which has its id
-apart_push : (drive : Drive) (drives : List Drive) → list_any (is_named drive.drive_id) drives ≡ false → are_told_apart drives ≡ true
-    → are_told_apart (drives ++ drive ∷ []) ≡ true
-apart_push drive [] none apart = refl
-apart_push drive (d ∷ drives) none apart =
-    let other = or_parts (is_named drive.drive_id d) (list_any (is_named drive.drive_id) drives) none in
-    let parts = and_parts (not (list_any (is_named d.drive_id) drives)) (are_told_apart drives) apart in
-    let own : list_any (is_named d.drive_id) (drives ++ drive ∷ []) ≡ false =
-    list_any-append (is_named d.drive_id) drives (drive ∷ [])
-    ∙ or_from (list_any (is_named d.drive_id) drives) (is_named d.drive_id drive || false) (not-true (list_any (is_named d.drive_id) drives) parts.0)
-    (or_from (is_named d.drive_id drive) false (other_way d.drive_id drive.drive_id other.0) refl) in
-    and_from (not (list_any (is_named d.drive_id) (drives ++ drive ∷ []))) (are_told_apart (drives ++ drive ∷ [])) (ap not own)
-    (apart_push drive drives other.1 parts.1)
 
 roots_push : (drive : Drive) (drives : List Drive) → count_by is_root (drives ++ drive ∷ []) ≡ count_by is_root drives + cond (is_root drive) 1 0
 roots_push drive [] = roots_cons drive [] ∙ omega arith
@@ -203,11 +178,11 @@ no_roots id (d ∷ drives) none other =
     omega (arith, rest, first)
 
 one_root : (drive : Drive) (drives : List Drive) → is_root drive ≡ true → list_any (is_other drive.drive_id) drives ≡ false
-    → are_told_apart drives ≡ true → count_by is_root (with_changed drive.drive_id (λ d. drive) drives) ≤ 1
+    → are_apart id_of_drive drives ≡ true → count_by is_root (with_changed drive.drive_id (λ d. drive) drives) ≤ 1
 one_root drive [] root none apart = omega arith
 one_root drive (d ∷ drives) root none apart =
     let here = or_parts (is_other drive.drive_id d) (list_any (is_other drive.drive_id) drives) none in
-    let parts = and_parts (not (list_any (is_named d.drive_id) drives)) (are_told_apart drives) apart in
+    let parts = and_parts (not (list_any (is_named d.drive_id) drives)) (are_apart id_of_drive drives) apart in
     by_name (is_named drive.drive_id d) refl here.0 here.1 (not-true (list_any (is_named d.drive_id) drives) parts.0)
     (one_root drive drives root here.1 parts.1)
   where
@@ -231,19 +206,6 @@ module _ (drive : Drive) (drives : List Drive) (is : AreDrives drives) (own : is
   few_changed true flag = one_root drive drives flag (ap (λ (b : Bool). b && list_any (is_other drive.drive_id) drives) (sym flag) ∙ roots) is.apart
   few_changed false flag = let less = roots_less drive.drive_id drive drives flag in let root = is.root in omega (arith, less, root)
 
-  changed_told : AreDrives (with_changed drive.drive_id (λ d. drive) drives)
-  changed_told =
-      let many = length-changed drive.drive_id (λ d. drive) drives in
-      let few = is.few in
-      let same : (d : Drive) → is_named drive.drive_id d ≡ true → drive.drive_id ≡ d.drive_id =
-      λ d named. sym (named_is drive.drive_id d named) in
-      record {
-        few = omega (arith, many, few);
-        each = each_kept drive.drive_id (λ d. drive) same (λ d there. own) drives is.each;
-        apart = apart_same drive.drive_id (λ d. drive) same drives ∙ is.apart;
-        root = few_changed (is_root drive) refl;
-      }
-
   few_pushed : list_any (is_named drive.drive_id) drives ≡ false → (root : Bool) → is_root drive ≡ root
       → count_by is_root (drives ++ drive ∷ []) ≤ 1
   few_pushed none true flag =
@@ -257,24 +219,34 @@ module _ (drive : Drive) (drives : List Drive) (is : AreDrives drives) (own : is
       roots_push drive drives ∙ ap (λ (b : Bool). count_by is_root drives + cond b 1 0) flag in
       omega (arith, more, root)
 
-  pushed_told : list_any (is_named drive.drive_id) drives ≡ false → nat_le 16 (length drives) ≡ false → AreDrives (drives ++ drive ∷ [])
-  pushed_told none room = record {
-    few = omega (arith, length-append drives (drive ∷ []), leb-false 16 (length drives) room);
-    each =
-        list_all-append is_drive drives (drive ∷ [])
-        ∙ and_from (list_all is_drive drives) (is_drive drive && true) is.each (and_from (is_drive drive) true own refl);
-    apart = apart_push drive drives none is.apart;
-    root = few_pushed none (is_root drive) refl;
-  }
+  roots_put : (there : Bool) → has_drive drives drive.drive_id ≡ there
+      → count_by is_root (if there then with_changed drive.drive_id (λ d. drive) drives else drives ++ drive ∷ []) ≤ 1
+  roots_put true known = few_changed (is_root drive) refl
+  roots_put false known = few_pushed known (is_root drive) refl
 
-  by_place : (there : Bool) → has_drive drives drive.drive_id ≡ there → (not there && nat_le 16 (length drives)) ≡ false
-      → AreDrives (if there then with_changed drive.drive_id (λ d. drive) drives else drives ++ drive ∷ [])
-  by_place true is_there room = changed_told
-  by_place false is_there room = pushed_told is_there room
+  -- where there is room for one more, if it is one
+  count_put : (balloon : Option Balloon) (there : Bool) → has_room drives balloon ≡ true → (not there && nat_le 16 (count_in drives balloon)) ≡ false
+      → count_in (if there then with_changed drive.drive_id (λ d. drive) drives else drives ++ drive ∷ []) balloon ≤ 16
+  count_put balloon true fits room =
+      let many = length-changed id_of_drive drive.drive_id (λ d. drive) drives in
+      omega (arith, many, leb-true (count_in drives balloon) 16 fits)
+  count_put balloon false fits room =
+      let many = length-append drives (drive ∷ []) in
+      let less = leb-false 16 (count_in drives balloon) room in
+      omega (arith, many, less)
 
 -- where no other drive is the root drive, and there is room for one more
-pub put_told : (drive : Drive) (drives : List Drive) → are_drives drives ≡ true → is_drive drive ≡ true
-    → (is_root drive && list_any (λ d. is_root d && not (is_named drive.drive_id d)) drives) ≡ false
-    → (not (has_drive drives drive.drive_id) && nat_le 16 (length drives)) ≡ false → are_drives (put_drive drives drive) ≡ true
-put_told drive drives are own roots room =
-    are_all (put_drive drives drive) (by_place drive drives (parts_of drives are) own roots (has_drive drives drive.drive_id) refl room)
+pub put_told : (drive : Drive) (drives : List Drive) (balloon : Option Balloon) → are_drives drives ≡ true → has_room drives balloon ≡ true
+    → is_drive drive ≡ true → (is_root drive && list_any (λ d. is_root d && not (is_named drive.drive_id d)) drives) ≡ false
+    → (not (has_drive drives drive.drive_id) && nat_le 16 (count_in drives balloon)) ≡ false → AreFitting (put_drive drives drive) balloon
+put_told drive drives balloon are fits own roots room =
+    let is = parts_of drives are in
+    let count = count_put drive drives is own roots balloon (has_drive drives drive.drive_id) fits room in (
+      are_all (put_drive drives drive) (record {
+        few = omega (arith, count);
+        each = each_put id_of_drive is_drive drives drive is.each own;
+        apart = apart_put id_of_drive drives drive is.apart;
+        root = roots_put drive drives is own roots (has_drive drives drive.drive_id) refl;
+      }),
+      le-leb (count_in (put_drive drives drive) balloon) 16 count,
+    )

@@ -8,8 +8,10 @@ pub mod OneReplay
 pub mod Plain
 pub mod Pushed
 pub mod Ready
+pub mod Reconfigured
 pub mod Sizes
 pub mod SomeAnswer
 pub mod SomeReplay
 pub mod Taken
+pub mod Telling
 pub mod WholeLines

@@ -1,9 +1,6 @@
 -- A machine that is ready stays so, whatever it is asked and whatever its guest does, and its guest can be copied.
-use Rattle.std.proofs.Common.{◌≡◌, ◌≤◌, ◌+◌, ◌*◌, ℕ, Bool, true, false, not, refl, sym, ap, subst, ◌∙◌, List, [], ◌∷◌, length, map, Option, Some, None, Result, Ok, Err, slice_get, arith, length-append}
-use Rattle.std.specs.FinMap.{get}
-use Rattle.std.specs.List.{filter}
+use Rattle.std.proofs.Common.{◌≡◌, ◌≤◌, ◌+◌, ◌*◌, ℕ, Bool, true, false, refl, sym, subst, ◌∙◌, List, [], ◌∷◌, length, Option, Some, None, Result, Ok, Err, arith}
 use Rattle.std.proofs.lemmas.List.{length-map}
-use Rattle.std.proofs.lemmas.List.Filters.{length-filter_both}
 use Rattle.vm_types.specs.Saved.{Saved}
 use Rattle.vm_types.specs.declared.identity.Identity.{Identity}
 use Rattle.vm_types.specs.declared.ids.ActorId.{ActorId}
@@ -16,7 +13,6 @@ use Rattle.serde_json.specs.Data.{Data}
 use Rattle.metadata_store.specs.Store.{patched, put}
 use Rattle.guest_memory.specs.Ram.{is_ram}
 use Rattle.port_table.specs.declared.kind.DeviceKind.{DeviceKind}
-use Rattle.port_table.specs.declared.kind.DeviceKind.TheVariants.{Block}
 use Rattle.flat_guest.specs.Given.{Event, Given}
 use Rattle.flat_guest.specs.Given.Given.{Nothing}
 use Rattle.hart_trace.specs.Asks.{is_host_op}
@@ -24,8 +20,9 @@ use Rattle.http_stream.specs.Stream.{Connection}
 use Rattle.http_stream.specs.declared.request.Next.{Next}
 use Rattle.http_stream.specs.Conversation.{Conversation, arrived}
 use Rattle.http_stream.specs.Sent.{sent}
+use Rattle.api_calls.specs.declared.balloon.BalloonPatch.{BalloonPatch}
+use Rattle.api_calls.specs.declared.balloon.StatisticsPatch.{StatisticsPatch}
 use Rattle.api_calls.specs.declared.call.BootSource.{BootSource}
-use Rattle.api_calls.specs.declared.call.Drive.{Drive}
 use Rattle.api_calls.specs.declared.call.DrivePatch.{DrivePatch}
 use Rattle.api_calls.specs.declared.call.SnapshotCreate.{SnapshotCreate}
 use Rattle.api_calls.specs.declared.call.SnapshotLoad.{SnapshotLoad}
@@ -34,25 +31,23 @@ use Rattle.vm_config.specs.declared.config.Config.{Config}
 use Rattle.vm_config.specs.declared.change.Change.{Change}
 use Rattle.vm_config.specs.declared.change.Change.TheVariants as change
 use Rattle.vm_config.specs.Changes.{changed}
-use Rattle.vm_config.specs.Drives.{device_of, in_order, is_root}
+use Rattle.vm_config.specs.Devices.{balloon_device}
+use Rattle.vm_config.specs.Drives.{device_of}
 use Rattle.api_rules.specs.Table.{has_started}
 use Rattle.script_text.specs.declared.item.Item.{Item}
 use Rattle.script_text.specs.declared.item.Item.TheVariants as item
 use Rattle.response_form.specs.Responses.{Response}
-use Rattle.guest_devices.specs.declared.change.DeviceChange.{DeviceChange}
 use Rattle.guest_devices.specs.declared.device.Device.{Device}
 use Rattle.guest_devices.specs.declared.new_device.NewDevice.{NewDevice}
-use Rattle.guest_devices.specs.Kinds.{FitsChange, sectors_change}
-use Rattle.guest_devices.specs.Ports.{port_at_start, shown_by}
-use Rattle.flat_guest.specs.Changes.{reset_guest, told}
+use Rattle.guest_devices.specs.Ports.{port_at_start}
+use Rattle.flat_guest.specs.Changes.{reset_guest}
 use Rattle.flat_guest.specs.Guest.{Guest, is_actor, unwritten}
-use Rattle.flat_guest.specs.Shaped.{IsShaped, kinds_at_start}
+use Rattle.flat_guest.specs.Shaped.{IsShaped}
 use Rattle.flat_guest.specs.Sound.{IsSound}
 use Rattle.flat_guest.specs.Start.{started as started_guest, timer_restarted}
 use Rattle.flat_guest.specs.Steps.{FlatStep, Makes, is_given}
-use Rattle.flat_guest.proofs.Devices.{told_many}
-use Rattle.flat_guest.proofs.Shaped.{shaped_drained, shaped_makes, shaped_next, shaped_restart, shaped_start, shaped_told, shaped_unwritten}
-use Rattle.flat_guest.proofs.Soundness.{sound_next, sound_reset, sound_restart, sound_start, sound_told}
+use Rattle.flat_guest.proofs.Shaped.{shaped_drained, shaped_makes, shaped_next, shaped_restart, shaped_start, shaped_unwritten}
+use Rattle.flat_guest.proofs.Soundness.{sound_next, sound_reset, sound_restart, sound_start}
 use Rattle.snap_state.specs.Valid.{kinds_of}
 use Rattle.flat_snapshot.specs.Copies.{configuration_of}
 use Rattle.flat_snapshot.specs.Found.{Snapshot, found}
@@ -67,13 +62,13 @@ use Rattle.flat_machine.specs.Outcome.Outcome.{Answered, Failed, NoMemory}
 use Rattle.flat_machine.specs.Machine.{Machine, drained, drained_guest, new_machine, phase_of, running_by}
 use Rattle.flat_machine.specs.Items.{ItemStep, MemoryLine, RegisterLine, RepliesLine, StepsLine, Talks}
 use Rattle.flat_machine.specs.Ready.{CanBeCopied, IsBaseBefore, IsReadyGuest, IsTaken, Ready, ReadyBy}
-use Rattle.flat_machine.specs.Requests.{CreateFails, Creates, Fails, Leaves, LeavesBy, RequestStep, Restores, Stores, allowed, configured, disk_of, devices_from, drive_from, halted, image_by, image_of, loads_from, parent_in, created, patched_drive, carried, retold, sectors_of, start_refusal, started_from}
+use Rattle.flat_machine.specs.Requests.{CreateFails, Creates, Fails, Leaves, LeavesBy, RequestStep, Restores, Stores, allowed, configured, disk_of, devices_from, halted, image_by, image_of, loads_from, parent_in, created, patched_balloon, patched_drive, patched_statistics, carried, resized, start_refusal, started_from}
 use Rattle.flat_machine.specs.Run.{Act, Run}
 use Rattle.flat_machine.proofs.Allowed.{IsAllowed, allowed_is, not_refused}
 use Rattle.flat_machine.proofs.Between.{allowed_later, by_either, leaves_of, one_many, several_many, started}
-use Rattle.flat_machine.proofs.Drives.{length-path}
 use Rattle.flat_machine.proofs.Numbered.{found_numbered}
-use Rattle.flat_machine.proofs.Sizes.{booted_size, devices_fit, few_sectors, start_fits}
+use Rattle.flat_machine.proofs.Reconfigured.{amount_patched, drive_patched, interval_patched, relimited_ready, resized_ready, retargeted_ready, retimed_ready, start_kinds, start_many}
+use Rattle.flat_machine.proofs.Sizes.{booted_size, devices_fit, start_fits}
 use Rattle.flat_machine.proofs.Taken.{allowed_fits, bounded, changed_taken, configured_taken, default_taken, taken_configured}
 
 -- ---- one that is this one
@@ -140,60 +135,44 @@ drained_ready config paused (Some g) is = record {
   rests = is.rests;
 }
 
-pub told_ready : (config : Config) (paused : Bool) (g : Guest) (k : ℕ) (change : DeviceChange) (shown : Option (List ℕ))
-    → FitsChange change → IsReadyGuest config paused g → IsReadyGuest config paused (told k change shown g)
-told_ready config paused g k change shown fits is = record {
-  sound = sound_told g k change shown fits is.sound;
-  ready = record {
-    configured = is.ready.configured;
-    shaped = shaped_told _ _ _ g k change shown is.ready.shaped;
-    devices = told_many (slice_get g.devices k) g.devices k change ∙ is.ready.devices;
-  };
-  rests = is.rests;
-}
+-- ---- what is configured, and told to its devices
 
--- ---- a drive has another file
+patch_ready : (m : Machine) (patch : DrivePatch) → Ready m → IsTaken (changed m.config (change.PatchDrive patch))
+    → Ready (configured (patched_drive m patch) (change.PatchDrive patch))
+patch_ready m patch ready taken =
+    let after : Config = changed m.config (change.PatchDrive patch) in
+    let number : Option ℕ = device_of m.config.drives patch.drive_id in record {
+      taken = taken;
+      guest =
+          relimited_ready after m.paused patch.rate_limiter number (resized patch.path_on_host number m.saved m.guest)
+          (resized_ready after m.paused patch.path_on_host number m.saved m.guest (drive_patched m.config patch m.paused m.guest taken ready.guest));
+      next = ready.next;
+      base = ready.base;
+    }
 
--- as many drives have the same kinds of devices
-same_kinds : (drives others : List Drive) → length drives ≡ length others
-    → map (λ (d : Drive). Block) drives ≡ map (λ (d : Drive). Block) others
-same_kinds [] [] many = refl
-same_kinds [] (d ∷ others) many = absurd (omega (arith, many))
-same_kinds (d ∷ drives) [] many = absurd (omega (arith, many))
-same_kinds (d ∷ drives) (other ∷ others) many =
-    ap (λ (l : List DeviceKind). Block ∷ l) (same_kinds drives others (omega (arith, many)))
+amount_ready : (m : Machine) (patch : BalloonPatch) → Ready m → IsTaken (changed m.config (change.PatchBalloon patch))
+    → Ready (configured (patched_balloon m patch) (change.PatchBalloon patch))
+amount_ready m patch ready taken =
+    let after : Config = changed m.config (change.PatchBalloon patch) in record {
+      taken = taken;
+      guest =
+          retargeted_ready after m.paused after.balloon (balloon_device m.config) m.guest
+          (amount_patched m.config patch m.paused m.guest taken ready.guest);
+      next = ready.next;
+      base = ready.base;
+    }
 
-module _ (config : Config) (patch : DrivePatch) (paused : Bool) (taken : IsTaken (changed config (change.PatchDrive patch))) where
-  abbrev pub after : Config
-  after = changed config (change.PatchDrive patch)
-
-  pub patched_ready : (guest : Option Guest) → ReadyBy config paused guest → ReadyBy after paused guest
-  patched_ready None is = tt
-  patched_ready (Some g) is = record {
-    sound = is.sound;
-    ready = record {
-      configured = record {
-        source = is.ready.configured.source;
-        drives = taken.drives;
-        machine = is.ready.configured.machine;
-      };
-      shaped =
-          subst
-          (λ (kinds : List DeviceKind). IsShaped (256 * config.machine.mem_size_mib) config.machine.vcpu_count kinds g)
-          (same_kinds config.drives after.drives (sym (length-path config.drives patch.drive_id patch.path_on_host))) is.ready.shaped;
-      devices = is.ready.devices ∙ sym (length-path config.drives patch.drive_id patch.path_on_host);
-    };
-    rests = is.rests;
-  }
-
-  retold_ready : (path : Option (List ℕ)) (number : Option ℕ) (saved : Saved) (guest : Option Guest) → ReadyBy config paused guest
-      → ReadyBy after paused (retold path number saved guest)
-  retold_ready (Some path) (Some k) saved (Some g) is =
-      let change : DeviceChange = sectors_change (sectors_of (get saved path)) in
-      told_ready after paused g k change (shown_by change) (few_sectors (get saved path)) (patched_ready (Some g) is)
-  retold_ready (Some path) (Some k) saved None is = tt
-  retold_ready (Some path) None saved guest is = patched_ready guest is
-  retold_ready None number saved guest is = patched_ready guest is
+interval_ready : (m : Machine) (patch : StatisticsPatch) → Ready m → IsTaken (changed m.config (change.PatchStatistics patch))
+    → Ready (configured (patched_statistics m patch) (change.PatchStatistics patch))
+interval_ready m patch ready taken =
+    let after : Config = changed m.config (change.PatchStatistics patch) in record {
+      taken = taken;
+      guest =
+          retimed_ready after m.paused after.balloon (balloon_device m.config) m.guest
+          (interval_patched m.config patch m.paused m.guest taken ready.guest);
+      next = ready.next;
+      base = ready.base;
+    }
 
 -- ---- a start
 
@@ -207,24 +186,6 @@ some_source : (source : Option BootSource) (saved : Saved) (image : List ℕ) �
     → (own : BootSource) × (source ≡ Some own)
 some_source None saved image there = absurd cc
 some_source (Some own) saved image there = (own, refl)
-
--- each drive is a device
-many_drives : (drives : List Drive) (saved : Saved) → length (map (drive_from saved) (in_order drives)) ≡ length drives
-many_drives drives saved =
-    length-map (in_order drives) (drive_from saved)
-    ∙ length-append (filter is_root drives) (filter (λ d. not (is_root d)) drives)
-    ∙ length-filter_both is_root (λ d. not (is_root d)) (λ d. refl) drives
-
--- of the kind of a block device
-drive_kinds : (drives : List Drive) (saved : Saved) → kinds_at_start (map (drive_from saved) drives) ≡ map (λ (d : Drive). Block) drives
-drive_kinds [] saved = refl
-drive_kinds (d ∷ drives) saved = ap (λ (l : List DeviceKind). Block ∷ l) (drive_kinds drives saved)
-
-start_kinds : (config : Config) (saved : Saved) → kinds_at_start (devices_from config saved) ≡ kinds_of (configuration_of config)
-start_kinds config saved =
-    drive_kinds (in_order config.drives) saved
-    ∙ same_kinds (in_order config.drives) config.drives
-    (sym (length-map (in_order config.drives) (drive_from saved)) ∙ many_drives config.drives saved)
 
 module _ (m : Machine) (image : List ℕ) (ready : Ready m) (there : image_of m ≡ Some image) (none : start_refusal m.config m.saved ≡ None) where
   abbrev new_guest : Guest
@@ -248,7 +209,13 @@ module _ (m : Machine) (image : List ℕ) (ready : Ready m) (there : image_of m 
       let devices : List NewDevice = devices_from m.config m.saved in record {
         sound = new_sound;
         ready = record {
-          configured = record { source = source_there.source; drives = source_there.drives; machine = source_there.machine };
+          configured = record {
+            source = source_there.source;
+            drives = source_there.drives;
+            machine = source_there.machine;
+            balloon = source_there.balloon;
+            room = source_there.room;
+          };
           shaped =
               subst
               (λ (kinds : List DeviceKind).
@@ -256,7 +223,7 @@ module _ (m : Machine) (image : List ℕ) (ready : Ready m) (there : image_of m 
               (start_kinds m.config m.saved)
               (shaped_start m.config.machine.vcpu_count m.config.machine.mem_size_mib (loads_from m.config image (disk_of m)) devices
               within.harts (booted_size m.config image (disk_of m) within (start_fits m image none there)));
-          devices = sym new_sound.devices_on.as_many ∙ length-map devices port_at_start ∙ many_drives m.config.drives m.saved;
+          devices = sym new_sound.devices_on.as_many ∙ length-map devices port_at_start ∙ start_many m.config m.saved;
         };
         rests = λ stands. refl;
       }
@@ -329,16 +296,20 @@ leaves_ready (change.MachineConfig machine) m n ready known is =
     (configures m it ready (changed_taken m.config it ready.taken (allowed_fits m it ready.taken known)) (λ on. allowed_later m it on known))
 leaves_ready (change.PatchDrive patch) m n ready known is =
     let it : Change = change.PatchDrive patch in
-    let taken = changed_taken m.config it ready.taken (allowed_fits m it ready.taken known) in
     ready_is (configured (patched_drive m patch) it) n is
-    (record {
-      taken = taken;
-      guest =
-          retold_ready m.config patch m.paused taken patch.path_on_host (device_of m.config.drives patch.drive_id) m.saved m.guest
-          ready.guest;
-      next = ready.next;
-      base = ready.base;
-    })
+    (patch_ready m patch ready (changed_taken m.config it ready.taken (allowed_fits m it ready.taken known)))
+leaves_ready (change.PutBalloon balloon) m n ready known is =
+    let it : Change = change.PutBalloon balloon in
+    ready_is (configured m it) n is
+    (configures m it ready (changed_taken m.config it ready.taken (allowed_fits m it ready.taken known)) (λ on. allowed_later m it on known))
+leaves_ready (change.PatchBalloon patch) m n ready known is =
+    let it : Change = change.PatchBalloon patch in
+    ready_is (configured (patched_balloon m patch) it) n is
+    (amount_ready m patch ready (changed_taken m.config it ready.taken (allowed_fits m it ready.taken known)))
+leaves_ready (change.PatchStatistics patch) m n ready known is =
+    let it : Change = change.PatchStatistics patch in
+    ready_is (configured (patched_statistics m patch) it) n is
+    (interval_ready m patch ready (changed_taken m.config it ready.taken (allowed_fits m it ready.taken known)))
 leaves_ready change.Start m n ready known is =
     let none = (not_refused (start_refusal m.config m.saved) (Ok change.Start) change.Start known.contents).0 in
     ready_is (configured (started_from (image_of m) (disk_of m) m) change.Start) n is
@@ -377,6 +348,9 @@ fails_ready change.Start m left n ready x = ready_is m n x.1 ready
 fails_ready (change.State state) m left n ready x = absurd x
 fails_ready (change.CreateSnapshot it) m left n ready x = create_fails_ready m.guest m it left n ready x
 fails_ready (change.LoadSnapshot load) m left n ready x = ready_is m n x.1 ready
+fails_ready (change.PutBalloon balloon) m left n ready x = absurd x
+fails_ready (change.PatchBalloon patch) m left n ready x = absurd x
+fails_ready (change.PatchStatistics patch) m left n ready x = absurd x
 fails_ready (change.PutMetadata body) m left n ready x = absurd x
 fails_ready (change.PatchMetadata patch) m left n ready x = absurd x
 fails_ready (change.Tell part) m left n ready x = absurd x

@@ -1,5 +1,5 @@
 -- How much memory a start makes, how large the disks of its drives are, and that what isn't refused fits.
-use Rattle.std.proofs.Common.{◌≡◌, ◌≤◌, ◌<◌, ℕ, ◌+◌, ◌-◌, ◌^◌, Bool, true, false, not, if◌then◌else◌, refl, subst, ◌∙◌, List, ◌++◌, length, take, drop, replicate, Option, Some, None, arith, length-append, length-drop, length-take}
+use Rattle.std.proofs.Common.{◌≡◌, ◌≤◌, ◌<◌, ℕ, ◌+◌, ◌-◌, ◌^◌, Bool, true, false, not, if◌then◌else◌, get_or, refl, subst, ◌∙◌, List, ◌++◌, length, take, drop, replicate, Option, Some, None, arith, length-append, length-drop, length-take}
 use Rattle.std.specs.Prelude.{is_none, option_map}
 use Rattle.std.specs.FinMap.{get}
 use Rattle.std.specs.List.{All}
@@ -10,7 +10,7 @@ use Rattle.vm_types.specs.Saved.{Saved}
 use Rattle.refusals.specs.declared.refusal.Refusal.{Refusal}
 use Rattle.refusals.specs.declared.refusal.Refusal.TheVariants as refusal
 use Rattle.vm_config.specs.declared.config.Config.{Config}
-use Rattle.vm_config.specs.Drives.{in_order}
+use Rattle.vm_config.specs.Devices.{Configured, devices_of, of_balloon, of_drive}
 use Rattle.api_rules.specs.Table.{fits_by, is_missing, len_of}
 use Rattle.api_rules.specs.declared.actions.InitrdFile.{InitrdFile}
 use Rattle.guest_memory.specs.Memory.{put_at}
@@ -19,7 +19,7 @@ use Rattle.guest_memory.specs.Boot.{Loads, boot_memory, bytes_of_mib, image_fits
 use Rattle.guest_devices.specs.Devices.{FitsNew}
 use Rattle.devtree.proofs.Sizes.{tree_fits}
 use Rattle.flat_machine.specs.Machine.{Machine}
-use Rattle.flat_machine.specs.Requests.{disk_by, disk_of, devices_from, drive_from, file_by, file_with, have_files, image_of, initrd_name, loads_from, initrd_place, sectors_of, start_refusal}
+use Rattle.flat_machine.specs.Requests.{disk_by, disk_of, device_from, devices_from, file_by, file_with, have_files, image_of, initrd_name, loads_from, initrd_place, sectors_of, start_refusal}
 use Rattle.flat_machine.proofs.Taken.{IsBounded}
 
 -- ---- memory
@@ -88,8 +88,13 @@ pub few_sectors : (file : Option (List ℕ)) → sectors_of file < 2 ^ 64
 few_sectors None = omega arith
 few_sectors (Some bytes) = omega arith
 
+device_fits : (saved : Saved) (d : Configured) → FitsNew (device_from saved d)
+device_fits saved (of_drive d) = few_sectors (get saved d.path_on_host)
+device_fits saved (of_balloon b) = tt
+
 pub devices_fit : (config : Config) (saved : Saved) → All FitsNew (devices_from config saved)
-devices_fit config saved = All-map FitsNew (drive_from saved) (in_order config.drives) (λ k d lt. few_sectors _)
+devices_fit config saved =
+    All-map FitsNew (device_from saved) (devices_of config) (λ k d lt. device_fits saved (get_or (devices_of config) k d))
 
 -- ---- what isn't refused
 

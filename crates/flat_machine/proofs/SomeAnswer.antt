@@ -11,10 +11,12 @@ use Rattle.api_calls.specs.declared.call.SnapshotCreate.{SnapshotCreate}
 use Rattle.api_calls.specs.declared.call.SnapshotLoad.{SnapshotLoad}
 use Rattle.api_calls.specs.declared.call.VmState.TheVariants.{Paused, Resumed}
 use Rattle.vm_config.specs.declared.config.Config.{Config}
+use Rattle.vm_config.specs.Devices.{balloon_device}
+use Rattle.vm_config.specs.Texts.{Told}
 use Rattle.vm_config.specs.declared.change.Change.{Change}
 use Rattle.vm_config.specs.declared.change.Change.TheVariants as change
 use Rattle.api_rules.specs.declared.answer.Answer.{Answer}
-use Rattle.api_rules.specs.Answers.{refused}
+use Rattle.api_rules.specs.Answers.{accepted, refused}
 use Rattle.response_form.specs.Responses.{Response}
 use Rattle.guest_devices.specs.declared.device.Device.{Device}
 use Rattle.flat_guest.specs.Changes.{reset_guest}
@@ -27,9 +29,10 @@ use Rattle.flat_machine.specs.Outcome.Outcome.{Answered}
 use Rattle.flat_machine.specs.Items.{TalkLines, response_lines}
 use Rattle.flat_machine.specs.Machine.{Machine, phase_of}
 use Rattle.flat_machine.specs.Ready.{IsReadyGuest, IsTaken, Ready, ReadyBy}
-use Rattle.flat_machine.specs.Requests.{AnswersBy, Creates, LeavesBy, Responds, Restores, RequestStep, Stores, Told, allowed, answer_told, carried, configured, created, disk_of, halted, image_of, parent_in, patched_drive, respond, started_from}
+use Rattle.flat_machine.specs.Requests.{AnswersBy, Creates, LeavesBy, Responds, Restores, RequestStep, Stores, allowed, carried, configured, created, disk_of, halted, image_of, parent_in, patched_balloon, patched_drive, patched_statistics, respond, started_from}
 use Rattle.flat_machine.proofs.Ready.{request_ready}
 use Rattle.flat_machine.proofs.Taken.{bounded}
+use Rattle.flat_machine.proofs.Telling.{tells_some}
 
 -- ---- what a change leaves
 
@@ -68,6 +71,10 @@ some_change (change.BootSource source) m ready = ([], configured m (change.BootS
 some_change (change.PutDrive drive) m ready = ([], configured m (change.PutDrive drive), (refl, refl))
 some_change (change.PatchDrive patch) m ready = ([], configured (patched_drive m patch) (change.PatchDrive patch), (refl, refl))
 some_change (change.MachineConfig machine) m ready = ([], configured m (change.MachineConfig machine), (refl, refl))
+some_change (change.PutBalloon balloon) m ready = ([], configured m (change.PutBalloon balloon), (refl, refl))
+some_change (change.PatchBalloon patch) m ready = ([], configured (patched_balloon m patch) (change.PatchBalloon patch), (refl, refl))
+some_change (change.PatchStatistics patch) m ready =
+    ([], configured (patched_statistics m patch) (change.PatchStatistics patch), (refl, refl))
 some_change (change.PutMetadata body) m ready = let left = some_store (put body) m in ([], left.0, (refl, left.1))
 some_change (change.PatchMetadata patch) m ready = let left = some_store (patched m.metadata patch) m in ([], left.0, (refl, left.1))
 some_change change.Start m ready = ([], configured (started_from (image_of m) (disk_of m) m) change.Start, (refl, refl))
@@ -84,17 +91,22 @@ some_result (Err why) m ready = ([], m, (refl, refl))
 -- ---- what is due is answered
 
 -- by what there is to tell
-some_answer : (made : Result Change Refusal) (m : Machine) → (answer : Answer) × AnswersBy m made answer
-some_answer (Ok it) m =
-    let told : Told = record { id = m.id; phase = phase_of m; config = m.config; metadata = m.metadata } in
-    (answer_told it told, (told, record { id_is = refl; phase_is = refl; config_is = refl; metadata_is = refl }, refl))
-some_answer (Err why) m = (refused why, refl)
+some_answer : (made : Result Change Refusal) (m : Machine) → Ready m → (answer : Answer) × AnswersBy m made answer
+some_answer (Ok it) m ready =
+    let says = tells_some m.config m.paused m.guest (balloon_device m.config) ready.guest in
+    let told : Told =
+    record { id = m.id; phase = phase_of m; config = m.config; metadata = m.metadata; statistics = says.0 } in
+    let answer : Answer = accepted it told in (
+      answer,
+      (told, record { id_is = refl; phase_is = refl; config_is = refl; metadata_is = refl; statistics_is = says.1 }, refl),
+    )
+some_answer (Err why) m ready = (refused why, refl)
 
 some_request : (given : Next) (m : Machine) → Ready m
     → (said : List Response) × (n : Machine) × AnsweredStep tt given m said n × Ready n
 some_request given m ready =
     let left = some_result (allowed m given) m ready in
-    let answer = some_answer (allowed m given) m in
+    let answer = some_answer (allowed m given) m ready in
     let said : List Response = respond given answer.0 in
     let responds : Responds m given said = (answer.0, answer.1, refl) in
     (said, left.1, (left.0, (responds, left.2)), request_ready (Answered left.0) given m said left.1 ready (responds, left.2))

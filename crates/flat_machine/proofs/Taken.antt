@@ -1,14 +1,18 @@
 -- What the API takes is as a state file has it, and stays so with every change that is allowed.
-use Rattle.std.proofs.Common.{◌≡◌, ◌≤◌, ◌*◌, ℕ, Bool, true, false, nat_le, if◌then◌else◌, refl, sym, subst, List, length, replicate, Option, Some, None, Ok, arith}
-use Rattle.std.specs.Prelude.{IsTrue, unwrap_or}
-use Rattle.std.proofs.lemmas.Bool.{and_from, and_parts, le-leb, leb-true}
+use Rattle.std.proofs.Common.{◌≡◌, ◌≤◌, ◌*◌, ◌^◌, ℕ, Bool, true, false, ◌&&◌, nat_le, if◌then◌else◌, refl, sym, subst, ◌∙◌, ◌<◌, List, length, replicate, Option, Some, None, Ok, arith}
+use Rattle.std.specs.Prelude.{IsTrue, is_none, nat_lt, unwrap_or}
+use Rattle.std.proofs.lemmas.Bool.{and_from, and_parts, le-leb, leb-false, leb-true, lt-ltb, ltb-false}
 use Rattle.std.proofs.lemmas.List.{length-replicate}
 use Rattle.refusals.specs.declared.refusal.Refusal.{Refusal}
 use Rattle.http_stream.specs.declared.request.Request.{Request}
 use Rattle.guest_memory.specs.Ram.{page_size}
 use Rattle.api_calls.specs.declared.call.ApiCall.{ApiCall}
 use Rattle.api_calls.specs.declared.call.ApiCall.TheVariants as call
+use Rattle.api_calls.specs.declared.balloon.Balloon.{Balloon}
+use Rattle.api_calls.specs.declared.balloon.BalloonPatch.{BalloonPatch}
+use Rattle.api_calls.specs.declared.balloon.StatisticsPatch.{StatisticsPatch}
 use Rattle.api_calls.specs.declared.call.BootSource.{BootSource}
+use Rattle.api_calls.specs.declared.call.Drive.{Drive}
 use Rattle.api_calls.specs.declared.call.MachineConfig.{MachineConfig}
 use Rattle.api_calls.specs.Call.{call_of}
 use Rattle.api_calls.specs.Form.{holds, is_path}
@@ -18,12 +22,12 @@ use Rattle.vm_config.specs.declared.config.Config.{Config}
 use Rattle.vm_config.specs.declared.change.Change.{Change}
 use Rattle.vm_config.specs.declared.change.Change.TheVariants as change
 use Rattle.vm_config.specs.declared.config.Phase.{Phase}
-use Rattle.vm_config.specs.Changes.{changed, default_config}
-use Rattle.vm_config.specs.Devices.{device_count}
+use Rattle.vm_config.specs.Changes.{changed, default_config, with_amount, with_interval}
+use Rattle.vm_config.specs.Devices.{count_in, device_count}
 use Rattle.api_rules.specs.declared.ids.Ids.{Ids}
-use Rattle.api_rules.specs.Table.{change_of, decision, misplaced, own_refusal, patched, unless, when_allowed}
+use Rattle.api_rules.specs.Table.{amount_of, change_of, decision, is_beyond, misplaced, own_refusal, patched, unless, when_allowed}
 use Rattle.devtree.specs.Machine.{args_by}
-use Rattle.snap_state.specs.Valid.{are_paths, is_machine, is_source, is_valid}
+use Rattle.snap_state.specs.Valid.{are_paths, has_room, is_balloon, is_machine, is_source, is_valid}
 use Rattle.snap_state.specs.declared.copy.StateCopy.{StateCopy}
 use Rattle.flat_snapshot.specs.Carried.{carried_config}
 use Rattle.flat_snapshot.specs.Copies.{source_of}
@@ -32,7 +36,7 @@ use Rattle.flat_snapshot.proofs.CarriedReady.{carried_ready}
 use Rattle.flat_machine.specs.Machine.{Machine, phase_of}
 use Rattle.flat_machine.specs.Ready.{IsFitting, IsSourceBy, IsTaken}
 use Rattle.flat_machine.proofs.Allowed.{IsAllowed, not_refused, same_change}
-use Rattle.flat_machine.proofs.Drives.{drives_few, path_told, put_told}
+use Rattle.flat_machine.proofs.Drives.{length-patched, patch_told, put_told}
 
 -- ---- within bounds
 
@@ -68,7 +72,7 @@ bounded config taken =
       mib = within.1.1;
       harts = within.0.1;
       args = args_few config.boot_source taken.source;
-      drives = drives_few config.drives taken.drives;
+      drives = leb-true (device_count config) 16 taken.room;
     }
 
 -- ---- a change of what is asked
@@ -83,6 +87,56 @@ second_row : (first second : Bool) (why because : Refusal) → (if first then So
 second_row true second why because none = absurd cc
 second_row false true why because none = absurd cc
 second_row false false why because none = refl
+
+-- the only row of a table
+only_row : (first : Bool) (why : Refusal) → (if first then Some why else None) ≡ None → first ≡ false
+only_row true why none = absurd cc
+only_row false why none = refl
+
+-- what isn't beyond the memory
+within : (mib amount : ℕ) → is_beyond mib amount ≡ false → amount ≤ mib
+within mib amount nay = ltb-false mib amount nay
+
+-- a balloon whose interval is as it was, in a machine with more memory or with less
+amount_fits : (mib old : ℕ) (balloon : Option Balloon) → amount_of balloon ≤ mib → holds (is_balloon old) balloon ≡ true
+    → holds (is_balloon mib) balloon ≡ true
+amount_fits mib old None fits was = refl
+amount_fits mib old (Some b) fits was =
+    let parts = and_parts (nat_le b.amount_mib old) (nat_lt b.stats_polling_interval_s (2 ^ 16)) was in
+    and_from _ _ (le-leb b.amount_mib mib fits) parts.1
+
+-- one that takes another amount, and one that has another interval
+amount_patched : (mib : ℕ) (patch : BalloonPatch) (balloon : Option Balloon) → patch.amount_mib ≤ mib → holds (is_balloon mib) balloon ≡ true
+    → holds (is_balloon mib) (with_amount patch balloon) ≡ true
+amount_patched mib patch None fits was = refl
+amount_patched mib patch (Some b) fits was =
+    let parts = and_parts (nat_le b.amount_mib mib) (nat_lt b.stats_polling_interval_s (2 ^ 16)) was in
+    and_from _ _ (le-leb patch.amount_mib mib fits) parts.1
+
+interval_patched : (mib : ℕ) (patch : StatisticsPatch) (balloon : Option Balloon) → patch.stats_polling_interval_s < 2 ^ 16
+    → holds (is_balloon mib) balloon ≡ true → holds (is_balloon mib) (with_interval patch balloon) ≡ true
+interval_patched mib patch None fits was = refl
+interval_patched mib patch (Some b) fits was =
+    let parts = and_parts (nat_le b.amount_mib mib) (nat_lt b.stats_polling_interval_s (2 ^ 16)) was in
+    and_from _ _ parts.0 (lt-ltb patch.stats_polling_interval_s (2 ^ 16) fits)
+
+-- a patched balloon is as many devices
+amount_room : (drives : List Drive) (patch : BalloonPatch) (balloon : Option Balloon)
+    → has_room drives (with_amount patch balloon) ≡ has_room drives balloon
+amount_room drives patch None = refl
+amount_room drives patch (Some b) = refl
+
+interval_room : (drives : List Drive) (patch : StatisticsPatch) (balloon : Option Balloon)
+    → has_room drives (with_interval patch balloon) ≡ has_room drives balloon
+interval_room drives patch None = refl
+interval_room drives patch (Some b) = refl
+
+-- there is room for a balloon where there is one, or room for one device more
+balloon_room : (drives : List Drive) (new : Balloon) (old : Option Balloon) → has_room drives old ≡ true
+    → (is_none old && nat_le 16 (count_in drives old)) ≡ false → has_room drives (Some new) ≡ true
+balloon_room drives new None fits room =
+    let less = leb-false 16 (count_in drives None) room in le-leb (count_in drives (Some new)) 16 (omega (arith, less))
+balloon_room drives new (Some b) fits room = fits
 
 paths_are : (path : Option (List ℕ)) → holds is_path path ≡ true → are_paths path ≡ true
 paths_are None is = refl
@@ -100,13 +154,27 @@ module _ (p : Phase) (config : Config) (ids : Ids) (taken : IsTaken config) wher
       (and_from (is_path source.kernel_image_path) (are_paths source.initrd_path) asked.0 (paths_are source.initrd_path asked.1))
       (le-leb (length source.boot_args) 2048 asked.2)
   call_fits (call.PutDrive drive) asked own =
-      put_told drive config.drives taken.drives (and_from _ _ asked.0 asked.1) (first_row _ _ _ _ own) (second_row _ _ _ _ own)
-  call_fits (call.PatchDrive patch) asked own = asked.1
-  call_fits (call.PutMachineConfig machine) asked own = machine_is machine asked.0 asked.1
+      put_told drive config.drives config.balloon taken.drives taken.room (and_from _ _ (and_from _ _ asked.0 asked.1) asked.2)
+      (first_row _ _ _ _ own) (second_row _ _ _ _ own)
+  call_fits (call.PatchDrive patch) asked own = (asked.1, asked.2)
+  call_fits (call.PutMachineConfig machine) asked own = (
+    machine_is machine asked.0 asked.1,
+    amount_fits machine.mem_size_mib config.machine.mem_size_mib config.balloon (within _ _ (only_row _ _ own)) taken.balloon,
+  )
   call_fits (call.PatchMachineConfig patch) asked own =
-      let old = machine_within config.machine taken.machine in
-      machine_is (patched config.machine patch) (given_within patch.vcpu_count config.machine.vcpu_count 1 32 old.0 asked.0)
-      (given_within patch.mem_size_mib config.machine.mem_size_mib 4 1024 old.1 asked.1)
+      let old = machine_within config.machine taken.machine in (
+        machine_is (patched config.machine patch) (given_within patch.vcpu_count config.machine.vcpu_count 1 32 old.0 asked.0)
+            (given_within patch.mem_size_mib config.machine.mem_size_mib 4 1024 old.1 asked.1),
+        amount_fits (patched config.machine patch).mem_size_mib config.machine.mem_size_mib config.balloon
+            (within _ _ (only_row _ _ own)) taken.balloon,
+      )
+  call_fits (call.PutBalloon balloon) asked own = (
+    and_from _ _ (le-leb balloon.amount_mib config.machine.mem_size_mib (within _ _ (first_row _ _ _ _ own)))
+        (lt-ltb balloon.stats_polling_interval_s (2 ^ 16) asked),
+    balloon_room config.drives balloon config.balloon taken.room (second_row _ _ _ _ own),
+  )
+  call_fits (call.PatchBalloon patch) asked own = within config.machine.mem_size_mib patch.amount_mib (second_row _ _ _ _ own)
+  call_fits (call.PatchStatistics patch) asked own = asked
   call_fits (call.PutMetadata body) asked own = tt
   call_fits (call.PatchMetadata patch) asked own = tt
   call_fits call.InstanceStart asked own = tt
@@ -134,21 +202,74 @@ pub allowed_fits : (m : Machine) (it : Change) → IsTaken m.config → IsAllowe
 allowed_fits m it taken known =
     asked_fits (phase_of m) m.config m.ids taken known.request known.asked it known.call_is known.own known.change_is
 
+-- what is marked as configured
+same_taken : (config : Config) → IsTaken config → IsTaken (record config { configured = true })
+same_taken config taken = record {
+  source = taken.source;
+  drives = taken.drives;
+  machine = taken.machine;
+  balloon = taken.balloon;
+  room = taken.room;
+}
+
 pub changed_taken : (config : Config) (it : Change) → IsTaken config → IsFitting config it → IsTaken (changed config it)
-changed_taken config (change.BootSource source) taken fit = record { source = fit; drives = taken.drives; machine = taken.machine }
-changed_taken config (change.PutDrive drive) taken fit = record { source = taken.source; drives = fit; machine = taken.machine }
+changed_taken config (change.BootSource source) taken fit = record {
+  source = fit;
+  drives = taken.drives;
+  machine = taken.machine;
+  balloon = taken.balloon;
+  room = taken.room;
+}
+changed_taken config (change.PutDrive drive) taken fit = record {
+  source = taken.source;
+  drives = fit.0;
+  machine = taken.machine;
+  balloon = taken.balloon;
+  room = fit.1;
+}
 changed_taken config (change.PatchDrive patch) taken fit = record {
   source = taken.source;
-  drives = path_told patch.drive_id patch.path_on_host config.drives taken.drives fit;
+  drives = patch_told patch config.drives taken.drives fit.0 fit.1;
   machine = taken.machine;
+  balloon = taken.balloon;
+  room =
+      let many = length-patched patch config.drives in
+      le-leb (device_count (changed config (change.PatchDrive patch))) 16 (omega (arith, many, leb-true (device_count config) 16 taken.room));
 }
-changed_taken config (change.MachineConfig machine) taken fit = record { source = taken.source; drives = taken.drives; machine = fit }
+changed_taken config (change.MachineConfig machine) taken fit = record {
+  source = taken.source;
+  drives = taken.drives;
+  machine = fit.0;
+  balloon = fit.1;
+  room = taken.room;
+}
+changed_taken config (change.PutBalloon balloon) taken fit = record {
+  source = taken.source;
+  drives = taken.drives;
+  machine = taken.machine;
+  balloon = fit.0;
+  room = fit.1;
+}
+changed_taken config (change.PatchBalloon patch) taken fit = record {
+  source = taken.source;
+  drives = taken.drives;
+  machine = taken.machine;
+  balloon = amount_patched config.machine.mem_size_mib patch config.balloon fit taken.balloon;
+  room = amount_room config.drives patch config.balloon ∙ taken.room;
+}
+changed_taken config (change.PatchStatistics patch) taken fit = record {
+  source = taken.source;
+  drives = taken.drives;
+  machine = taken.machine;
+  balloon = interval_patched config.machine.mem_size_mib patch config.balloon fit taken.balloon;
+  room = interval_room config.drives patch config.balloon ∙ taken.room;
+}
 changed_taken config (change.PutMetadata body) taken fit = taken
 changed_taken config (change.PatchMetadata patch) taken fit = taken
-changed_taken config change.Start taken fit = record { source = taken.source; drives = taken.drives; machine = taken.machine }
+changed_taken config change.Start taken fit = same_taken config taken
 changed_taken config (change.State state) taken fit = taken
 changed_taken config (change.CreateSnapshot it) taken fit = taken
-changed_taken config (change.LoadSnapshot load) taken fit = record { source = taken.source; drives = taken.drives; machine = taken.machine }
+changed_taken config (change.LoadSnapshot load) taken fit = same_taken config taken
 changed_taken config (change.Tell part) taken fit = taken
 
 -- ---- with what is booted
@@ -158,7 +279,13 @@ source_taken None is = tt
 source_taken (Some source) is = is
 
 pub configured_taken : (config : Config) → IsConfigured config → IsTaken config
-configured_taken config is = record { source = source_taken config.boot_source is.source; drives = is.drives; machine = is.machine }
+configured_taken config is = record {
+  source = source_taken config.boot_source is.source;
+  drives = is.drives;
+  machine = is.machine;
+  balloon = is.balloon;
+  room = is.room;
+}
 
 pub taken_configured : (config : Config) (source : BootSource) → config.boot_source ≡ Some source → IsTaken config → IsConfigured config
 taken_configured config source there taken = record {
@@ -167,12 +294,14 @@ taken_configured config source there taken = record {
       (subst (λ (o : Option BootSource). IsSourceBy o) there taken.source);
   drives = taken.drives;
   machine = taken.machine;
+  balloon = taken.balloon;
+  room = taken.room;
 }
 
 -- ---- at first, and behind a load
 
 pub default_taken : IsTaken default_config
-default_taken = record { source = tt; drives = refl; machine = refl }
+default_taken = record { source = tt; drives = refl; machine = refl; balloon = refl; room = refl }
 
 -- what goes on from a copy that a file can have; its bytes don't matter
 pub carried_taken : (tracking : Bool) (copy : StateCopy) → IsTrue (is_valid copy) → IsTaken (carried_config tracking copy.configuration)

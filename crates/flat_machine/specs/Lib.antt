@@ -1,6 +1,8 @@
+pub mod Balloon
 pub mod Between
 pub mod Given
 pub mod Items
+pub mod Limits
 pub mod Machine
 pub mod Outcome
 pub mod Ready

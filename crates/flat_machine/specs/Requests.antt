@@ -1,6 +1,6 @@
 -- What the flat machine makes of a request.
 use Rattle.std.specs.Prelude.{ℕ, ◌≡◌, ◌≢◌, ◌<◌, ◌+◌, ◌/◌, ◌%◌, ◌^◌, Bool, true, false, not, if◌then◌else◌, List, [], ◌∷◌, ◌++◌, length, map, take}
-use Rattle.std.specs.Prelude.{replicate, Option, Some, None, is_some, option_and_then, option_map, Result, Ok, Err}
+use Rattle.std.specs.Prelude.{replicate, Option, Some, None, is_some, option_and_then, option_map, Result, Ok, Err, slice_get}
 use Rattle.std.specs.List.{list_all}
 use Rattle.std.specs.FinMap.{get, insert}
 use Rattle.vm_types.specs.declared.identity.Identity.{Identity}
@@ -11,6 +11,9 @@ use Rattle.refusals.specs.declared.refusal.Refusal.TheVariants as refusal
 use Rattle.serde_json.specs.Data.{Data, null}
 use Rattle.http_stream.specs.declared.request.Next.{Next}
 use Rattle.http_stream.specs.declared.request.Next.TheVariants as next
+use Rattle.api_calls.specs.declared.balloon.Balloon.{Balloon}
+use Rattle.api_calls.specs.declared.balloon.BalloonPatch.{BalloonPatch}
+use Rattle.api_calls.specs.declared.balloon.StatisticsPatch.{StatisticsPatch}
 use Rattle.api_calls.specs.declared.call.BootSource.{BootSource}
 use Rattle.api_calls.specs.declared.call.CacheType.{CacheType}
 use Rattle.api_calls.specs.declared.call.CacheType.TheVariants as cache
@@ -22,14 +25,16 @@ use Rattle.api_calls.specs.declared.call.SnapshotType.{SnapshotType}
 use Rattle.api_calls.specs.declared.call.SnapshotType.TheVariants as snapshot
 use Rattle.api_calls.specs.declared.call.SnapshotLoad.{SnapshotLoad}
 use Rattle.api_calls.specs.declared.call.VmState.TheVariants.{Paused, Resumed}
+use Rattle.api_calls.specs.declared.limiter.Limiter.{Limiter}
 use Rattle.api_calls.specs.Call.{call_of, ◌>>=◌}
 use Rattle.metadata_store.specs.Store.{patched, put}
 use Rattle.vm_config.specs.declared.config.Config.{Config}
-use Rattle.vm_config.specs.declared.config.Phase.{Phase}
 use Rattle.vm_config.specs.declared.change.Change.{Change}
 use Rattle.vm_config.specs.declared.change.Change.TheVariants as change
-use Rattle.vm_config.specs.Changes.{changed}
-use Rattle.vm_config.specs.Drives.{device_of, in_order}
+use Rattle.vm_config.specs.Changes.{changed, with_amount, with_interval}
+use Rattle.vm_config.specs.Devices.{Configured, balloon_device, devices_of, of_balloon, of_drive}
+use Rattle.vm_config.specs.Drives.{device_of}
+use Rattle.vm_config.specs.Texts.{Told}
 use Rattle.api_rules.specs.declared.answer.Answer.{Answer}
 use Rattle.api_rules.specs.Answers.{accepted, refused}
 use Rattle.api_rules.specs.Ids.{based, spent}
@@ -40,7 +45,8 @@ use Rattle.guest_memory.specs.Boot.{Loads, initrd_start}
 use Rattle.devtree.specs.declared.machine.InitrdPlace.{InitrdPlace}
 use Rattle.devtree.specs.Machine.{tree_bytes}
 use Rattle.response_form.specs.Responses.{Response}
-use Rattle.rate_gate.specs.Gate.{Buckets}
+use Rattle.port_table.specs.declared.state.PortState.{PortState}
+use Rattle.guest_devices.specs.declared.change.DeviceChange.{DeviceChange}
 use Rattle.guest_devices.specs.declared.device.Device.{Device}
 use Rattle.guest_devices.specs.declared.new_device.NewDevice.{NewDevice}
 use Rattle.guest_devices.specs.declared.new_device.NewDevice.TheVariants as kinds
@@ -54,6 +60,8 @@ use Rattle.flat_snapshot.specs.Carried.{carried_config, carried_guest}
 use Rattle.flat_snapshot.specs.Copies.{IsCopyOf}
 use Rattle.flat_snapshot.specs.Files.{calls_of, head_of, saved_pages, state_file}
 use Rattle.flat_snapshot.specs.Found.{Snapshot, found}
+use Rattle.flat_machine.specs.Balloon.{TellsBalloon, interval_told, new_balloon, target_in}
+use Rattle.flat_machine.specs.Limits.{limits_of, limits_told}
 use Rattle.flat_machine.specs.Outcome.{Left, Outcome, nothing_left}
 use Rattle.flat_machine.specs.Outcome.Outcome.{Answered, Failed, NoMemory}
 use Rattle.flat_machine.specs.Machine.{Machine, phase_of}
@@ -132,26 +140,16 @@ allowed m given = do
   it ← decided m given
   by_contents m it
 
--- what there is to tell of a machine
-pub record Told : Type 0 where
-  pub id : List ℕ
-  pub phase : Phase
-  pub config : Config
-  pub metadata : Data
-
--- and what it is of this one
+-- what there is to tell of this machine
 pub record TellsOf (m : Machine) (told : Told) : Type 0 where
   pub id_is : told.id ≡ m.id
   pub phase_is : told.phase ≡ phase_of m
   pub config_is : told.config ≡ m.config
   pub metadata_is : told.metadata ≡ m.metadata
-
--- what is answered by that
-abbrev pub answer_told : Change → Told → Answer
-answer_told it told = accepted it told.id told.phase told.config told.metadata
+  pub statistics_is : TellsBalloon m.guest (balloon_device m.config) told.statistics
 
 abbrev pub AnswersBy : Machine → Result Change Refusal → Answer → Type 0
-AnswersBy m (Ok it) answer = (told : Told) × TellsOf m told × (answer ≡ answer_told it told)
+AnswersBy m (Ok it) answer = (told : Told) × TellsOf m told × (answer ≡ accepted it told)
 AnswersBy m (Err why) answer = answer ≡ refused why
 
 -- ---- what a change leaves
@@ -190,23 +188,23 @@ abbrev pub is_writeback : CacheType → Bool
 is_writeback cache.Unsafe = false
 is_writeback cache.Writeback = true
 
--- a gate that lets all pass
-abbrev pub no_limits : Buckets
-no_limits = record { bandwidth = None; ops = None }
-
--- what a start makes of a drive, by the file under its name: a block device without limits
+-- what a start makes of a drive, by the file under its name: a block device
 abbrev pub drive_from : Saved → Drive → NewDevice
 drive_from saved d = kinds.Block (record {
   drive_id = id_bytes d.drive_id;
   sectors = sectors_of (get saved d.path_on_host);
   is_read_only = d.is_read_only;
   offers_flush = is_writeback d.cache_type;
-  limits = no_limits;
+  limits = limits_of d.rate_limiter;
 })
 
--- the devices by their numbers: one for each drive, the root drive first
+-- the devices by their numbers
+abbrev pub device_from : Saved → Configured → NewDevice
+device_from saved (of_drive d) = drive_from saved d
+device_from saved (of_balloon b) = kinds.Balloon (new_balloon b)
+
 abbrev pub devices_from : Config → Saved → List NewDevice
-devices_from config saved = map (drive_from saved) (in_order config.drives)
+devices_from config saved = map (device_from saved) (devices_of config)
 
 -- a start makes the guest of what it loads and of the devices, which runs
 abbrev pub started_from : Option (List ℕ) → Option (List ℕ) → Machine → Machine
@@ -218,19 +216,51 @@ started_from (Some image) disk m =
     }
 started_from None disk m = m
 
--- the disk of device k has another size, in sectors of 512 bytes
-abbrev pub resized : ℕ → ℕ → Guest → Guest
-resized k sectors g = told k (sectors_change sectors) (shown_by (sectors_change sectors)) g
+-- the device of this number is told of a change in a guest that has started, if there are both, and its port shows what this
+-- makes of it
+abbrev pub told_at : Option ℕ → DeviceChange → (Option PortState → Option (List ℕ)) → Option Guest → Option Guest
+told_at (Some k) change shows (Some g) = Some (told k change (shows (slice_get g.ports k)) g)
+told_at number change shows guest = guest
 
--- a device whose drive has another file is told its size
-abbrev pub retold : Option (List ℕ) → Option ℕ → Saved → Option Guest → Option Guest
-retold (Some path) (Some k) saved (Some g) = Some (resized k (sectors_of (get saved path)) g)
-retold path number saved guest = guest
+-- what a change shows of itself, whatever the port
+abbrev pub shows_by : DeviceChange → Option PortState → Option (List ℕ)
+shows_by change port = shown_by change
 
--- a drive has another file, or the one that it had
+-- a device whose drive has another file is told its size in sectors of 512 bytes
+abbrev pub resized : Option (List ℕ) → Option ℕ → Saved → Option Guest → Option Guest
+resized None number saved guest = guest
+resized (Some path) number saved guest =
+    told_at number (sectors_change (sectors_of (get saved path))) (shows_by (sectors_change (sectors_of (get saved path)))) guest
+
+-- and one whose drive has other limits is told of their buckets
+abbrev pub relimited : Option Limiter → Option ℕ → Option Guest → Option Guest
+relimited None number guest = guest
+relimited (Some l) number guest = told_at number (limits_told l) (shows_by (limits_told l)) guest
+
 abbrev pub patched_drive : Machine → DrivePatch → Machine
-patched_drive m patch =
-    record m { guest = retold patch.path_on_host (device_of m.config.drives patch.drive_id) m.saved m.guest }
+patched_drive m patch = record m {
+  guest =
+      relimited patch.rate_limiter (device_of m.config.drives patch.drive_id)
+      (resized patch.path_on_host (device_of m.config.drives patch.drive_id) m.saved m.guest);
+}
+
+-- a balloon that is to take so much is told so by its port, whether or not it took as much before
+abbrev pub retargeted : Option Balloon → Option ℕ → Option Guest → Option Guest
+retargeted None number guest = guest
+retargeted (Some b) number guest = told_at number (interval_told b) (target_in b) guest
+
+abbrev pub patched_balloon : Machine → BalloonPatch → Machine
+patched_balloon m patch =
+    record m { guest = retargeted (with_amount patch m.config.balloon) (balloon_device m.config) m.guest }
+
+-- and one that has another interval of its reports, of that
+abbrev pub retimed : Option Balloon → Option ℕ → Option Guest → Option Guest
+retimed None number guest = guest
+retimed (Some b) number guest = told_at number (interval_told b) (shows_by (interval_told b)) guest
+
+abbrev pub patched_statistics : Machine → StatisticsPatch → Machine
+patched_statistics m patch =
+    record m { guest = retimed (with_interval patch m.config.balloon) (balloon_device m.config) m.guest }
 
 -- a guest that is to stand still: one that ran begins its timer anew
 abbrev pub halted : Bool → Option Guest → Option Guest
@@ -299,6 +329,9 @@ Leaves m (change.BootSource source) n = n ≡ configured m (change.BootSource so
 Leaves m (change.MachineConfig machine) n = n ≡ configured m (change.MachineConfig machine)
 Leaves m (change.PutDrive drive) n = n ≡ configured m (change.PutDrive drive)
 Leaves m (change.PatchDrive patch) n = n ≡ configured (patched_drive m patch) (change.PatchDrive patch)
+Leaves m (change.PutBalloon balloon) n = n ≡ configured m (change.PutBalloon balloon)
+Leaves m (change.PatchBalloon patch) n = n ≡ configured (patched_balloon m patch) (change.PatchBalloon patch)
+Leaves m (change.PatchStatistics patch) n = n ≡ configured (patched_statistics m patch) (change.PatchStatistics patch)
 Leaves m (change.PutMetadata body) n = Stores (put body) m n
 Leaves m (change.PatchMetadata patch) n = Stores (patched m.metadata patch) m n
 Leaves m change.Start n = n ≡ configured (started_from (image_of m) (disk_of m) m) change.Start

@@ -35,7 +35,7 @@ use Rattle.snap_state.specs.declared.copy.Reservation.{Reservation}
 use Rattle.snap_state.specs.declared.copy.StateCopy.{StateCopy}
 use Rattle.snap_state.specs.Copy.{board_of}
 use Rattle.snap_state.specs.Valid.{asks, has_bits, is_aligned, is_board, is_counted, is_granule, is_hart, is_machine, is_placed, is_reserved, is_valid, kinds_of}
-use Rattle.snap_state.proofs.HasDevices.{has_parts, kinds_there}
+use Rattle.snap_state.proofs.HasDevices.{has_parts}
 use Rattle.snap_state.proofs.Rules.{attached, few_harts, rules_of}
 use Rattle.flat_snapshot.specs.Carried.{carried_config, carried_guest, hart_steps, resumed, slots_with, steps_at}
 use Rattle.flat_snapshot.specs.Ready.{IsReady}
@@ -192,7 +192,7 @@ module _ (copy : StateCopy) (bytes : List ℕ) (tracking : Bool) (valid : IsTrue
         few = few_harts copy rules;
         memory = memory_whole;
         board = board_long harts copy rules.board;
-        ports = kinds_there copy (has_parts copy rules.devices);
+        ports = (has_parts copy rules.devices).ports;
         many = length-map copy.harts regs_of ∙ eqb-true (length copy.harts) harts rules.many;
         each = λ k start now there leads. harts_shaped copy.pages copy.harts k start now rules.harts there leads;
       }
@@ -201,7 +201,13 @@ module _ (copy : StateCopy) (bytes : List ℕ) (tracking : Bool) (valid : IsTrue
   carried_ready =
       let rules = rules_of copy valid in
       let on = attached copy rules in record {
-        configured = record { source = rules.source; drives = rules.drives; machine = machine_parts.0 };
+        configured = record {
+          source = rules.source;
+          drives = rules.drives;
+          machine = machine_parts.0;
+          balloon = rules.balloon;
+          room = rules.room;
+        };
         shaped = subst (λ (n : ℕ). guest.IsShaped n harts (kinds_of copy.configuration) (carried_guest copy bytes)) machine_parts.1 shaped;
         devices = length-map copy.devices resumed ∙ on.devices;
       }

@@ -28,7 +28,7 @@ use Rattle.snap_harts.specs.declared.hart.HartPlace.TheVariants.{Begin, BeginWai
 use Rattle.snap_state.specs.declared.copy.StateCopy.{StateCopy}
 use Rattle.snap_harts.specs.Copy.{regs_of, turn_of}
 use Rattle.snap_state.specs.Valid.{are_devices, is_device, is_valid, kind_of}
-use Rattle.snap_state.proofs.HasDevices.{devices_are, has_parts, kinds_there}
+use Rattle.snap_state.proofs.HasDevices.{has_parts}
 use Rattle.snap_state.proofs.Rules.{attached, device_of, few_pages, rules_of}
 use Rattle.flat_snapshot.specs.Carried.{carried_guest, hart_steps, resumed, steps_at}
 
@@ -96,7 +96,7 @@ devices_sound copy pages valid count =
     let few : copy.pages ≤ 2 ^ 20 = omega (arith, few_pages copy rules) in
     record {
       as_many = on.ports ∙ sym on.devices ∙ sym (length-map copy.devices resumed);
-      kinds = kinds_there copy has ∙ sym (devices_are copy has) ∙ sym (resumed_kinds copy.devices);
+      kinds = has.ports ∙ sym has.devices ∙ sym (resumed_kinds copy.devices);
       each = λ k d is.
           subst (λ (n : ℕ). IsSoundDevice k n d) count
           (subst (λ (n : ℕ). IsSoundDevice n copy.pages d) (omega arith) (devices_on copy.pages 0 copy.devices few on.each k d is));

@@ -278,6 +278,8 @@ module _ (config : Config) (g : Guest) (sound : IsSound g) (is : IsReady config 
     source = is.configured.source;
     drives = is.configured.drives;
     machine = machine_is;
+    balloon = is.configured.balloon;
+    room = is.configured.room;
     board = board_valid config.machine.vcpu_count g.board is.shaped.board;
     many = many_are;
     harts = harts_are;

@@ -65,6 +65,7 @@ carried_config tracking c = record {
   });
   drives = c.drives;
   machine = record c.machine { track_dirty_pages = tracking };
+  balloon = c.balloon;
   configured = true;
 }
 

@@ -56,6 +56,7 @@ configuration_of config = record {
   boot_source = source_of config.boot_source;
   drives = config.drives;
   machine = config.machine;
+  balloon = config.balloon;
 }
 
 -- the copy of a guest whose harts are where these are, with this kept of its devices

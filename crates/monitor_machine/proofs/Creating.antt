@@ -50,10 +50,11 @@ use Rattle.monitor_plans.specs.declared.plan.Task.TheVariants as task
 use Rattle.create_end.specs.Saved.{saved_world}
 use Rattle.monitor_machine.specs.declared.machine.LiveMachine.{LiveMachine}
 use Rattle.monitor_machine.specs.declared.outcome.Outcome.{Outcome}
-use Rattle.monitor_machine.specs.Plans.{IsCreate, IsTask, TaskKeepsReady, created_after, failed_after}
+use Rattle.monitor_machine.specs.Plans.{IsCreate, IsTask, TaskKeepsReady, created_after, failed_after, told_of}
 use Rattle.monitor_machine.specs.Replying.{Replies, open_response}
 use Rattle.monitor_machine.specs.State.{IsGuestBy, IsMachine}
-use Rattle.monitor_machine.proofs.Leaving.{answered, tells_is, told_of}
+use Rattle.monitor_machine.specs.Telling.{TellsOwn}
+use Rattle.monitor_machine.proofs.Leaving.{answered, tells_is}
 
 -- the world of a live machine is the guest of the machine
 world_is : (live : Option WorldValue) (w : WorldValue) (guest : Option Guest) (g : Guest) → IsGuestBy live guest → live ≡ Some w
@@ -205,11 +206,11 @@ module _ (c : Creation) (live : LiveMachine) (w : WorldValue) (known left : File
       (unwritten_is (world_reset w) (cleared w.pages) (reset_guest due.guest) (reset_is w due.guest here) (flat_cleared w.pages)
       (marks_cleared w.pages))
 
-  pub create_does : writes.Creates c.names.mem_file_path c.head (written_of c w) c.names.snapshot_path c.body known left
+  pub create_does : TellsOwn live → writes.Creates c.names.mem_file_path c.head (written_of c w) c.names.snapshot_path c.body known left
       → RequestStep (flat.Outcome.Answered kept) given m (respond given no_content) end × IsMachine (created_after c live) left end
-  create_does wrote = (
+  create_does tells wrote = (
     answered live known m end given (Ok (change.CreateSnapshot due.it)) no_content kept
-        (ap (λ (r : Result Change Refusal). r >>= by_contents m) due.asks) (told_of live, tells_is live m is.own, refl)
+        (ap (λ (r : Result Change Refusal). r >>= by_contents m) due.asks) (told_of live, tells_is live m tells is.own, refl)
         (subst (λ (o : Option Guest). Creates o m due.it kept end) (sym due.there) (due.copy, due.copied, due.kept_is, refl)),
     record {
       own = record {
@@ -329,18 +330,18 @@ module _ (form : ResponseForm) (c : Creation) (live after : LiveMachine) (w : Wo
   alone : (response : Response) → written ≡ text ++ written_as form response → written ≡ text ++ (written_as form response ++ [])
   alone response is = is ∙ ap (λ (l : List ℕ). text ++ l) (sym (append-nil (written_as form response)))
 
-  pub is_written : after ≡ created_after c live → written ≡ text ++ written_as form (open_response no_content) → left.health.faults ≡ known.health.faults
+  pub is_written : TellsOwn live → after ≡ created_after c live → written ≡ text ++ written_as form (open_response no_content) → left.health.faults ≡ known.health.faults
       → (Tells known.health
       → writes.Creates c.names.mem_file_path c.head (written_of c w) c.names.snapshot_path c.body known left)
       → Replies form given Outcome.Answered live after text written known left
-  is_written leaves writes faults wrote = record {
+  is_written tells leaves writes faults wrote = record {
     cause = faults;
     outcome = flat.Outcome.Answered kept;
     went_as = (kept, refl);
     responses = respond given no_content;
     writes = alone (open_response no_content) writes;
     went = λ told m is.
-        let does = create_does c live w known left m given kept there is (due told m is) (wrote told) in (
+        let does = create_does c live w known left m given kept there is (due told m is) tells (wrote told) in (
           end c live w known left m given kept there is (due told m is),
           does.0,
           subst (λ (l : LiveMachine). IsMachine l left (end c live w known left m given kept there is (due told m is))) (sym leaves) does.1,

@@ -14,37 +14,40 @@ use Rattle.vm_config.specs.declared.change.Change.{Change}
 use Rattle.vm_config.specs.declared.change.Change.TheVariants as change
 use Rattle.vm_config.specs.Changes.{changed, takes_memory}
 use Rattle.vm_config.specs.Drives.{device_of}
+use Rattle.vm_config.specs.Texts.{Told}
 use Rattle.api_rules.specs.declared.answer.Answer.{Answer}
-use Rattle.api_rules.specs.Answers.{no_content}
+use Rattle.api_rules.specs.Answers.{accepted, no_content}
 use Rattle.guest_devices.specs.declared.device.Device.{Device}
+use Rattle.guest_devices.specs.Kinds.{sectors_change}
 use Rattle.flat_guest.specs.Guest.{Guest}
 use Rattle.flat_machine.specs.Outcome as flat
 use Rattle.flat_machine.specs.Machine.{Machine}
 use Rattle.flat_snapshot.specs.Found.{Snapshot}
-use Rattle.flat_machine.specs.Requests.{AnswersBy, Fails, LeavesBy, RequestStep, Restores, Stores, TellsOf, Told, allowed, answer_told, carried, configured, disk_of}
-use Rattle.flat_machine.specs.Requests.{halted, patched_drive, respond, retold, sectors_of, started_from}
+use Rattle.flat_machine.specs.Requests.{AnswersBy, Fails, LeavesBy, RequestStep, Restores, Stores, TellsOf, allowed, carried, configured, disk_of}
+use Rattle.flat_machine.specs.Requests.{halted, patched_drive, relimited, resized, respond, sectors_of, shows_by, started_from}
 use Rattle.vm_world.specs.Worlds.{WorldValue}
 use Rattle.vm_world.proofs.Events.{restarted}
+use Rattle.monitor_plans.specs.declared.drive_changes.Resize.{Resize}
 use Rattle.monitor_plans.specs.declared.plan.Plan.{Plan}
 use Rattle.monitor_plans.specs.declared.plan.Plan.TheVariants as plan
 use Rattle.monitor_machine.specs.declared.machine.LiveMachine.{LiveMachine}
-use Rattle.monitor_machine.specs.Plans.{IsKept, IsPlan, PlanLeaves, Resizes, answer_of, halted_world, is_plain, paused_by, phase_of, plan_outcome, reads_files, world_by}
+use Rattle.monitor_machine.specs.Plans.{IsAnotherFile, IsKept, IsPlan, PlanLeaves, TakesChange, TakesFile, answer_of, halted_world, is_plain, paused_by, plan_outcome, reads_files, told_of, world_by}
 use Rattle.monitor_machine.specs.declared.outcome.Outcome.{Outcome}
 use Rattle.monitor_machine.specs.declared.outcome.Outcome.TheVariants.{Answered, Failed, NoMemory}
 use Rattle.monitor_machine.specs.Replying.{WentAs}
 use Rattle.monitor_machine.specs.State.{IsGuestBy, IsLive, IsMachine}
+use Rattle.monitor_machine.specs.Telling.{Relimits, Resizes, TellsChange, TellsOwn}
 use Rattle.monitor_machine.proofs.Deciding.{phase_is}
+use Rattle.monitor_machine.proofs.Telling.{change_at, relimits_at, tells_at, told_guest}
 
 -- what there is to tell of it is what there is to tell of the machine
-abbrev pub told_of : LiveMachine → Told
-told_of live = record { id = live.id; phase = phase_of live; config = live.config; metadata = live.metadata }
-
-pub tells_is : (live : LiveMachine) (m : Machine) → IsLive live m → TellsOf m (told_of live)
-tells_is live m own = record {
+pub tells_is : (live : LiveMachine) (m : Machine) → TellsOwn live → IsLive live m → TellsOf m (told_of live)
+tells_is live m tells own = record {
   id_is = own.id_is;
   phase_is = phase_is live m own;
   config_is = own.config_is;
   metadata_is = own.metadata_is;
+  statistics_is = tells m own;
 }
 
 -- how what writes no snapshot went
@@ -80,7 +83,7 @@ guest_by it paused guest = guest
 abbrev plainly : Machine → Change → Machine
 plainly m it = record m {
   config = changed m.config it;
-  guest = guest_by it m.paused m.guest;
+  guest = told_guest it m.config (guest_by it m.paused m.guest);
   paused = paused_by it m.paused;
 }
 
@@ -100,6 +103,9 @@ left_is (change.BootSource source) paused w g is = is
 left_is (change.PutDrive drive) paused w g is = is
 left_is (change.PatchDrive patch) paused w g is = is
 left_is (change.MachineConfig machine) paused w g is = is
+left_is (change.PutBalloon balloon) paused w g is = is
+left_is (change.PatchBalloon patch) paused w g is = is
+left_is (change.PatchStatistics patch) paused w g is = is
 left_is (change.PutMetadata body) paused w g is = is
 left_is (change.PatchMetadata patch) paused w g is = is
 left_is change.Start paused w g is = is
@@ -107,19 +113,28 @@ left_is (change.CreateSnapshot files) paused w g is = is
 left_is (change.LoadSnapshot load) paused w g is = is
 left_is (change.Tell part) paused w g is = is
 
--- a drive whose file stays tells its device nothing
-not_retold : (path : Option (List ℕ)) (number : Option ℕ) (saved : Saved) (g : Option Guest) → is_none path ≡ true
-    → retold path number saved g ≡ g
-not_retold None number saved g none = refl
-not_retold (Some path) number saved g none = cc
+-- a drive whose file stays tells its device no size
+not_resized : (path : Option (List ℕ)) (number : Option ℕ) (saved : Saved) (g : Option Guest) → is_none path ≡ true
+    → resized path number saved g ≡ g
+not_resized None number saved g none = refl
+not_resized (Some path) number saved g none = cc
 
 plain_leaves : (m : Machine) (it : Change) → is_plain it ≡ true → LeavesBy m (Ok it) [] (plainly m it)
 plain_leaves m (change.BootSource source) plain = (refl, refl)
 plain_leaves m (change.PutDrive drive) plain = cc
 plain_leaves m (change.PatchDrive patch) plain =
-    let same = not_retold patch.path_on_host (device_of m.config.drives patch.drive_id) m.saved m.guest plain in
-    (refl, λ i. record m { config = changed m.config (change.PatchDrive patch); guest = sym same i })
+    let number : Option ℕ = device_of m.config.drives patch.drive_id in
+    let same = not_resized patch.path_on_host number m.saved m.guest plain in (
+      refl,
+      λ i. record m {
+        config = changed m.config (change.PatchDrive patch);
+        guest = relimited patch.rate_limiter number (sym same i);
+      },
+    )
 plain_leaves m (change.MachineConfig machine) plain = (refl, refl)
+plain_leaves m (change.PutBalloon balloon) plain = (refl, refl)
+plain_leaves m (change.PatchBalloon patch) plain = (refl, refl)
+plain_leaves m (change.PatchStatistics patch) plain = (refl, refl)
 plain_leaves m (change.PutMetadata body) plain = cc
 plain_leaves m (change.PatchMetadata patch) plain = cc
 plain_leaves m change.Start plain = cc
@@ -135,6 +150,9 @@ plain_free (change.BootSource source) plain = refl
 plain_free (change.PutDrive drive) plain = cc
 plain_free (change.PatchDrive patch) plain = refl
 plain_free (change.MachineConfig machine) plain = refl
+plain_free (change.PutBalloon balloon) plain = refl
+plain_free (change.PatchBalloon patch) plain = refl
+plain_free (change.PatchStatistics patch) plain = refl
 plain_free (change.PutMetadata body) plain = refl
 plain_free (change.PatchMetadata patch) plain = refl
 plain_free change.Start plain = refl
@@ -143,26 +161,37 @@ plain_free (change.CreateSnapshot files) plain = refl
 plain_free (change.LoadSnapshot load) plain = refl
 plain_free (change.Tell part) plain = refl
 
--- where a drive has another file its device is told in both
-retold_is : (device number : Option ℕ) (sectors : ℕ) (path : Option (List ℕ)) (name : List ℕ) (saved : Saved) (w v : Option WorldValue) (g : Option Guest)
-    → path ≡ Some name → device ≡ number → sectors ≡ sectors_of (get saved name) → IsGuestBy w g → Resizes device sectors w v
-    → IsGuestBy v (retold path number saved g)
-retold_is device number sectors path name saved w v g named same size is told =
-    subst (λ (o : Option (List ℕ)). IsGuestBy v (retold o number saved g)) (sym named)
-    (by_device number w v g is (subst (λ (n : ℕ). Resizes number n w v) size (subst (λ (o : Option ℕ). Resizes o sectors w v) same told)))
-  where
-    by_device : (number : Option ℕ) (w v : Option WorldValue) (g : Option Guest) → IsGuestBy w g
-        → Resizes number (sectors_of (get saved name)) w v → IsGuestBy v (retold (Some name) number saved g)
-    by_device None w v g is told = subst (λ (o : Option WorldValue). IsGuestBy o g) (sym told) is
-    by_device (Some k) None v None is told = subst (λ (o : Option WorldValue). IsGuestBy o None) (sym told) tt
-    by_device (Some k) None v (Some g) is told = absurd is
-    by_device (Some k) (Some w) v None is told = absurd is
-    by_device (Some k) (Some w) None (Some g) is told = absurd told
-    by_device (Some k) (Some w) (Some v) (Some g) is told = told g is
+-- what a change leaves of the world is what it leaves of the guest
+changes_at : (it : Change) (live after : LiveMachine) (m : Machine) → IsLive live m → TakesChange it live after
+    → IsGuestBy after.guest (plainly m it).guest
+changes_at it live after m own takes =
+    change_at it m.config (world_by it live.paused live.guest) after.guest (guest_by it m.paused m.guest)
+    (subst (λ (b : Bool). IsGuestBy (world_by it live.paused live.guest) (guest_by it b m.guest)) own.paused_is
+    (left_is it live.paused live.guest m.guest own.guest_is))
+    (subst (λ (c : Config). TellsChange it c (world_by it live.paused live.guest) after.guest) own.config_is takes.world)
+
+-- where a drive has another file its device is told of its size in both
+resizes_at : (path : Option (List ℕ)) (name : List ℕ) (number : Option ℕ) (sectors : ℕ) (saved : Saved) (w v : Option WorldValue) (g : Option Guest)
+    → path ≡ Some name → sectors ≡ sectors_of (get saved name) → IsGuestBy w g → Resizes number sectors w v
+    → IsGuestBy v (resized path number saved g)
+resizes_at path name number sectors saved w v g named size is tells =
+    subst (λ (o : Option (List ℕ)). IsGuestBy v (resized o number saved g)) (sym named)
+    (tells_at number (sectors_change (sectors_of (get saved name))) (shows_by (sectors_change (sectors_of (get saved name)))) w v g is
+    (subst (λ (n : ℕ). Resizes number n w v) size tells))
+
+-- and of its limits
+refiles_at : (r : Resize) (live after : LiveMachine) (m : Machine) (given : Next) → IsLive live m → IsAnotherFile r m given → TakesFile r live after
+    → IsGuestBy after.guest (patched_drive m r.patch).guest
+refiles_at r live after m given own asks leaves =
+    let number : Option ℕ = device_of m.config.drives r.patch.drive_id in
+    relimits_at r.patch.rate_limiter number leaves.mid after.guest (resized r.patch.path_on_host number m.saved m.guest)
+    (resizes_at r.patch.path_on_host asks.path number r.sectors m.saved live.guest leaves.mid m.guest asks.path_is asks.sectors_is own.guest_is
+    (subst (λ (o : Option ℕ). Resizes o r.sectors live.guest leaves.mid) asks.device_is leaves.world))
+    (subst (λ (o : Option ℕ). Relimits r.patch.rate_limiter o leaves.mid after.guest) asks.device_is leaves.limits)
 
 -- what is stored leaves the machine with it
 keeps : (it : Change) (m : Machine) (told : Told) (kept : Data) → IsKept kept m it
-    → LeavesBy m (Ok it) [] (record m { metadata = kept }) × (answer_told it told ≡ no_content)
+    → LeavesBy m (Ok it) [] (record m { metadata = kept }) × (accepted it told ≡ no_content)
 keeps (change.PutMetadata body) m told kept is =
     ((refl, subst (λ (due : Result Data Refusal). Stores due m (record m { metadata = kept })) (sym is) refl), refl)
 keeps (change.PatchMetadata patch) m told kept is =
@@ -171,6 +200,9 @@ keeps (change.BootSource source) m told kept is = absurd is
 keeps (change.PutDrive drive) m told kept is = absurd is
 keeps (change.PatchDrive patch) m told kept is = absurd is
 keeps (change.MachineConfig machine) m told kept is = absurd is
+keeps (change.PutBalloon balloon) m told kept is = absurd is
+keeps (change.PatchBalloon patch) m told kept is = absurd is
+keeps (change.PatchStatistics patch) m told kept is = absurd is
 keeps change.Start m told kept is = absurd is
 keeps (change.State state) m told kept is = absurd is
 keeps (change.CreateSnapshot files) m told kept is = absurd is
@@ -189,6 +221,9 @@ fails_alone (change.PatchDrive patch) m reads =
     let named = given_path patch.path_on_host reads in
     (named.0, named.1, refl, refl)
 fails_alone (change.MachineConfig machine) m reads = cc
+fails_alone (change.PutBalloon balloon) m reads = cc
+fails_alone (change.PatchBalloon patch) m reads = cc
+fails_alone (change.PatchStatistics patch) m reads = cc
 fails_alone (change.PutMetadata body) m reads = cc
 fails_alone (change.PatchMetadata patch) m reads = cc
 fails_alone change.Start m reads = (refl, refl)
@@ -199,33 +234,32 @@ fails_alone (change.Tell part) m reads = cc
 
 -- what comes of a plan that leaves this
 pub plan_does : (it : Plan) (live after : LiveMachine) (known : FilesKnown) (m : Machine) (given : Next) → IsMachine live known m
-    → IsPlan it m given → PlanLeaves it live after → Does it m given (answer_of it live) after known
-plan_does (plan.Refused why) live after known m given is asks leaves = (
+    → TellsOwn live → IsPlan it m given → PlanLeaves it live after → Does it m given (answer_of it live) after known
+plan_does (plan.Refused why) live after known m given is tells asks leaves = (
   m,
   answered live known m m given (Err why) _ [] asks refl (refl, refl),
   subst (λ (l : LiveMachine). IsMachine l known m) (sym leaves) is,
 )
-plan_does (plan.Changes it) live after known m given is (asks, plain) leaves = (
-  plainly m it,
-  answered live known m (plainly m it) given (Ok it) _ [] asks (told_of live, tells_is live m is.own, refl) (plain_leaves m it plain),
-  subst (λ (l : LiveMachine). IsMachine l known (plainly m it)) (sym (leaves (plain_free it plain))) (record {
-    own = record {
-      id_is = is.own.id_is;
-      ids_is = is.own.ids_is;
-      config_is = ap (λ (k : Config). changed k it) is.own.config_is;
-      metadata_is = is.own.metadata_is;
-      guest_is =
-          subst (λ (b : Bool). IsGuestBy (world_by it live.paused live.guest) (guest_by it b m.guest)) is.own.paused_is
-          (left_is it live.paused live.guest m.guest is.own.guest_is);
-      paused_is = ap (λ (b : Bool). paused_by it b) is.own.paused_is;
-    };
-    files = record { saved_is = is.files.saved_is; calls_is = is.files.calls_is };
-  }),
-)
-plan_does (plan.Drives drives) live after known m given is (drive, asks, put) leaves =
+plan_does (plan.Changes it) live after known m given is tells (asks, plain) leaves =
+    let takes = leaves (plain_free it plain) in (
+      plainly m it,
+      answered live known m (plainly m it) given (Ok it) _ [] asks (told_of live, tells_is live m tells is.own, refl) (plain_leaves m it plain),
+      subst (λ (l : LiveMachine). IsMachine l known (plainly m it)) (sym takes.rest) (record {
+        own = record {
+          id_is = is.own.id_is;
+          ids_is = is.own.ids_is;
+          config_is = ap (λ (k : Config). changed k it) is.own.config_is;
+          metadata_is = is.own.metadata_is;
+          guest_is = changes_at it live after m is.own takes;
+          paused_is = ap (λ (b : Bool). paused_by it b) is.own.paused_is;
+        };
+        files = record { saved_is = is.files.saved_is; calls_is = is.files.calls_is };
+      }),
+    )
+plan_does (plan.Drives drives) live after known m given is tells (drive, asks, put) leaves =
     let n : Machine = configured m (change.PutDrive drive) in (
       n,
-      answered live known m n given (Ok (change.PutDrive drive)) _ [] asks (told_of live, tells_is live m is.own, refl) (refl, refl),
+      answered live known m n given (Ok (change.PutDrive drive)) _ [] asks (told_of live, tells_is live m tells is.own, refl) (refl, refl),
       subst (λ (l : LiveMachine). IsMachine l known n) (sym leaves) (record {
         own = record {
           id_is = is.own.id_is;
@@ -238,28 +272,27 @@ plan_does (plan.Drives drives) live after known m given is (drive, asks, put) le
         files = record { saved_is = is.files.saved_is; calls_is = is.files.calls_is };
       }),
     )
-plan_does (plan.Resizes r) live after known m given is asks leaves =
+plan_does (plan.Resizes r) live after known m given is tells asks leaves =
     let it : Change = change.PatchDrive r.patch in
     let n : Machine = configured (patched_drive m r.patch) it in (
       n,
-      answered live known m n given (Ok it) _ [] asks.asks (told_of live, tells_is live m is.own, refl) (refl, refl),
+      answered live known m n given (Ok it) _ [] asks.asks (told_of live, tells_is live m tells is.own, refl) (refl, refl),
       subst (λ (l : LiveMachine). IsMachine l known n) (sym leaves.rest) (record {
         own = record {
           id_is = is.own.id_is;
           ids_is = is.own.ids_is;
           config_is = ap (λ (k : Config). changed k it) is.own.config_is;
           metadata_is = is.own.metadata_is;
-          guest_is = retold_is r.device (device_of m.config.drives r.patch.drive_id) r.sectors r.patch.path_on_host asks.path m.saved
-              live.guest after.guest m.guest asks.path_is asks.device_is asks.sectors_is is.own.guest_is leaves.world;
+          guest_is = refiles_at r live after m given is.own asks leaves;
           paused_is = is.own.paused_is;
         };
         files = record { saved_is = is.files.saved_is; calls_is = is.files.calls_is };
       }),
     )
-plan_does (plan.Stores kept) live after known m given is (it, asks, stores) leaves =
+plan_does (plan.Stores kept) live after known m given is tells (it, asks, stores) leaves =
     let left = keeps it m (told_of live) kept stores in (
       record m { metadata = kept },
-      answered live known m (record m { metadata = kept }) given (Ok it) _ [] asks (told_of live, tells_is live m is.own, sym left.1) left.0,
+      answered live known m (record m { metadata = kept }) given (Ok it) _ [] asks (told_of live, tells_is live m tells is.own, sym left.1) left.0,
       subst (λ (l : LiveMachine). IsMachine l known (record m { metadata = kept })) (sym leaves) (record {
         own = record {
           id_is = is.own.id_is;
@@ -272,10 +305,10 @@ plan_does (plan.Stores kept) live after known m given is (it, asks, stores) leav
         files = record { saved_is = is.files.saved_is; calls_is = is.files.calls_is };
       }),
     )
-plan_does (plan.Starts w) live after known m given is (asks, image, there, world) leaves =
+plan_does (plan.Starts w) live after known m given is tells (asks, image, there, world) leaves =
     let n : Machine = configured (started_from (Some image) (disk_of m) m) change.Start in (
       n,
-      answered live known m n given (Ok change.Start) _ [] asks (told_of live, tells_is live m is.own, refl)
+      answered live known m n given (Ok change.Start) _ [] asks (told_of live, tells_is live m tells is.own, refl)
           (refl, ap (λ (o : Option (List ℕ)). configured (started_from o (disk_of m) m) change.Start) (sym there)),
       subst (λ (l : LiveMachine). IsMachine l known n) (sym leaves) (record {
         own = record {
@@ -289,11 +322,11 @@ plan_does (plan.Starts w) live after known m given is (asks, image, there, world
         files = record { saved_is = is.files.saved_is; calls_is = is.files.calls_is };
       }),
     )
-plan_does (plan.Restores r) live after known m given is asks leaves =
+plan_does (plan.Restores r) live after known m given is tells asks leaves =
     let n : Machine = carried m asks.load asks.it in (
       n,
       answered live known m n given (Ok (change.LoadSnapshot asks.load)) _ [] asks.asks
-          (told_of live, tells_is live m is.own, refl)
+          (told_of live, tells_is live m tells is.own, refl)
           (refl, subst (λ (f : Result Snapshot Refusal). Restores f m asks.load n) (sym asks.there) refl),
       subst (λ (l : LiveMachine). IsMachine l known n) (sym leaves) (record {
         own = record {
@@ -311,10 +344,10 @@ plan_does (plan.Restores r) live after known m given is asks leaves =
         files = record { saved_is = is.files.saved_is; calls_is = is.files.calls_is };
       }),
     )
-plan_does plan.FilesFailed live after known m given is (it, asks, reads) leaves = (
+plan_does plan.FilesFailed live after known m given is tells (it, asks, reads) leaves = (
   m,
   (it, asks, fails_alone it m reads, refl),
   subst (λ (l : LiveMachine). IsMachine l known m) (sym leaves) is,
 )
-plan_does plan.NoMemory live after known m given is asks leaves =
+plan_does plan.NoMemory live after known m given is tells asks leaves =
     (m, (refl, refl), subst (λ (l : LiveMachine). IsMachine l known m) (sym leaves) is)

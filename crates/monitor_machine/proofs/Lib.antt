@@ -1,4 +1,5 @@
 pub mod Attaching
+pub mod Configured
 pub mod Creating
 pub mod Deciding
 pub mod Leaving
@@ -6,3 +7,4 @@ pub mod Lines
 pub mod Planning
 pub mod Plans
 pub mod Standing
+pub mod Telling

@@ -48,6 +48,9 @@ plain_change m (change.PutDrive drive) plain = cc
 plain_change m (change.PatchDrive patch) plain =
     ap (λ (o : Option Refusal). unless o (Ok (change.PatchDrive patch))) (no_refusal patch.path_on_host m.saved plain)
 plain_change m (change.MachineConfig machine) plain = refl
+plain_change m (change.PutBalloon balloon) plain = refl
+plain_change m (change.PatchBalloon patch) plain = refl
+plain_change m (change.PatchStatistics patch) plain = refl
 plain_change m (change.PutMetadata body) plain = cc
 plain_change m (change.PatchMetadata patch) plain = cc
 plain_change m change.Start plain = cc

@@ -61,7 +61,7 @@ replies form it how live after text written known left given a cause lasts same 
   writes = a.writes
       ∙ ap (λ (l : List ℕ). text ++ l) (sym (append-nil (written_as form (plan_response a.done (closes given) live))));
   went = λ told m here.
-      let does = plan_does a.done live after known m given here (done_plan it a.done m given a.which (is_plan told m here)) a.leaves in (
+      let does = plan_does a.done live after known m given here a.tells (done_plan it a.done m given a.which (is_plan told m here)) a.leaves in (
         does.0,
         subst (λ (h : Outcome). RequestStep (outcome_of h) given m (respond given (answer_of a.done live)) does.0)
             (sym a.how_is) does.1,

@@ -1,6 +1,6 @@
 -- A live machine that is ready stays so, whatever becomes of its guest, its configuration and its numbers.
-use Rattle.std.proofs.Common.{◌≡◌, ◌≤◌, ◌<◌, ◌^◌, ◌+◌, ◌==◌, ◌&&◌, nat_lt, ℕ, Bool, true, false, refl, sym, ap, subst, ◌∙◌, List, [], Option, Some, None, Result, Ok, Err, arith}
-use Rattle.std.specs.Prelude.{IfErr, IfOk, IfSome, IsOk, IsTrue, OnErr, OnOk}
+use Rattle.std.proofs.Common.{◌≡◌, ◌≤◌, ◌<◌, ◌^◌, ◌+◌, ◌==◌, ◌&&◌, nat_lt, ℕ, Bool, true, false, refl, sym, ap, subst, ◌∙◌, List, [], Option, Some, None, Result, Ok, Err, slice_get, arith}
+use Rattle.std.specs.Prelude.{IfErr, IfOk, IfSome, IsTrue}
 use Rattle.std.proofs.lemmas.Bool.{and_from, eqb-true, lt-ltb}
 use Rattle.serde_json.specs.Data.{Data, null}
 use Rattle.file_format.specs.Identities.{is_numbered}
@@ -8,7 +8,8 @@ use Rattle.vm_types.specs.declared.identity.Identity.{Identity}
 use Rattle.vm_types.specs.declared.ids.ActorId.{ActorId}
 use Rattle.vm_types.specs.Saved.{nothing_saved}
 use Rattle.vm_outside.specs.declared.failed.Failed.{Failed}
-use Rattle.api_calls.specs.declared.call.Drive.{Drive}
+use Rattle.api_calls.specs.declared.balloon.Balloon.{Balloon}
+use Rattle.api_calls.specs.declared.limiter.Limiter.{Limiter}
 use Rattle.api_calls.specs.declared.call.SnapshotType.{SnapshotType}
 use Rattle.api_calls.specs.declared.call.SnapshotType.TheVariants as snapshot
 use Rattle.api_calls.specs.declared.call.VmState.TheVariants.{Paused, Resumed}
@@ -17,37 +18,42 @@ use Rattle.script_text.specs.declared.output.Misfit.TheVariants as misfit
 use Rattle.vm_config.specs.declared.config.Config.{Config}
 use Rattle.vm_config.specs.declared.change.Change.{Change}
 use Rattle.vm_config.specs.declared.change.Change.TheVariants as change
-use Rattle.vm_config.specs.Changes.{changed, default_config}
+use Rattle.vm_config.specs.Changes.{changed, default_config, with_amount, with_interval}
+use Rattle.vm_config.specs.Devices.{balloon_device}
+use Rattle.vm_config.specs.Drives.{device_of}
 use Rattle.api_rules.specs.declared.ids.Ids.{Ids}
 use Rattle.api_rules.specs.Ids.{based, spent}
 use Rattle.guest_pages.specs.Pages.{cleared}
 use Rattle.guest_pages.proofs.Marking.{flat_cleared, marks_cleared}
+use Rattle.port_table.specs.declared.state.PortState.{PortState}
 use Rattle.guest_devices.specs.declared.change.DeviceChange.{DeviceChange}
 use Rattle.guest_devices.specs.Kinds.{FitsChange}
-use Rattle.guest_devices.specs.Ports.{shown_by}
 use Rattle.flat_guest.specs.Changes.{reset_guest, told}
 use Rattle.flat_guest.specs.Given.{Given}
 use Rattle.flat_guest.specs.Guest.{Guest, unwritten}
 use Rattle.flat_machine.specs.Machine.{Machine, first_ids, new_machine}
-use Rattle.flat_machine.specs.Requests.{halted, parent_of}
-use Rattle.flat_machine.specs.Ready.{IsBaseBefore, IsFitting, IsReadyGuest, IsTaken, Ready, ReadyBy}
-use Rattle.flat_machine.proofs.Ready.{base_later, drained_ready, event_ready, guest_ready, halted_ready, makes_ready, new_ready, patched_ready, reset_ready, told_ready, resumed_ready, unwritten_ready}
-use Rattle.flat_machine.proofs.Taken.{changed_taken, configured_taken}
-use Rattle.snap_state.specs.Valid.{are_drives}
+use Rattle.flat_machine.specs.Balloon.{interval_told, target_in}
+use Rattle.flat_machine.specs.Limits.{limits_told}
+use Rattle.flat_machine.specs.Requests.{halted, parent_of, shows_by}
+use Rattle.flat_machine.specs.Ready.{IsBaseBefore, IsReadyGuest, Ready, ReadyBy}
+use Rattle.flat_machine.proofs.Ready.{base_later, drained_ready, event_ready, guest_ready, halted_ready, makes_ready, new_ready, reset_ready, resumed_ready, unwritten_ready}
+use Rattle.flat_machine.proofs.Reconfigured.{told_ready}
+use Rattle.flat_machine.proofs.Taken.{configured_taken}
 use Rattle.timer_trace.specs.States.{new_timer}
 use Rattle.vm_world.specs.Worlds.{IsWorld, Runs, WorldValue, world_reset}
 use Rattle.vm_world.proofs.Events.{reset_is, restarted, unwritten_is}
 use Rattle.world_copy.specs.Ready.{IsReadyWorld}
 use Rattle.create_end.specs.Saved.{saved_world}
 use Rattle.monitor_plans.specs.Headings.{HasParent}
-use Rattle.monitor_plans.specs.Plans.{HasReadyGuest, IsEarly}
+use Rattle.monitor_plans.specs.Plans.{HasReadyGuest}
 use Rattle.monitor_machine.specs.Answering.{TakesReply}
 use Rattle.monitor_machine.specs.Live.{Live}
-use Rattle.monitor_machine.specs.Plans.{TellsDevice, halted_world, paused_by, world_by}
+use Rattle.monitor_machine.specs.Plans.{halted_world, paused_by, world_by}
 use Rattle.monitor_machine.specs.Ready.{IsReadyLive}
 use Rattle.monitor_machine.specs.State.{IsGuestBy, IsLive}
+use Rattle.monitor_machine.specs.Telling.{Relimits, Retargets, Retimes, TellsChange, TellsDevice}
 use Rattle.monitor_machine.proofs.Leaving.{left_is}
-use Rattle.monitor_machine.proofs.Lines.{no_guest, some_guest}
+use Rattle.monitor_machine.proofs.Lines.{some_guest}
 
 -- ---- its guest
 
@@ -157,26 +163,57 @@ drain_stays live w there it =
       devices_are = record { count = is.devices_are.count; each = is.devices_are.each; sound = is.devices_are.sound };
     }
 
--- a device is told of a change
-device_changed_stays : (live : Live) (w v : WorldValue) (k : ℕ) (change : DeviceChange) → FitsChange change → live.guest ≡ Some w
-    → ((g : Guest) → IsWorld w g → IsWorld v (told k change (shown_by change) g)) → IsReadyLive live
-    → IsReadyLive (record live { guest = Some v })
-device_changed_stays live w v k change fits there tells it =
-    let on = standing live w there it in
-    changes_to live w v on (told k change (shown_by change) on.guest)
-    (told_ready on.flat.config on.flat.paused on.guest k change (shown_by change) fits on.stands) (tells on.guest on.world)
-
--- if both are there
-pub tells_stay : (live : Live) (device : Option ℕ) (change : DeviceChange) (after : Option WorldValue) → FitsChange change
-    → TellsDevice device change live.guest after → IsReadyLive live → IsReadyLive (record live { guest = after })
-tells_stay live device change after fits tells it = by_guest device live.guest after refl tells
+-- a device is told of a change, if both are there, and its port shows what this makes of it
+pub tells_stay : (live : Live) (device : Option ℕ) (change : DeviceChange) (shows : Option PortState → Option (List ℕ)) (after : Option WorldValue)
+    → FitsChange change → TellsDevice device change shows live.guest after → IsReadyLive live → IsReadyLive (record live { guest = after })
+tells_stay live device change shows after fits tells it = by_guest device live.guest after refl tells
   where
-    by_guest : (k : Option ℕ) (w v : Option WorldValue) → live.guest ≡ w → TellsDevice k change w v
+    by_guest : (k : Option ℕ) (w v : Option WorldValue) → live.guest ≡ w → TellsDevice k change shows w v
         → IsReadyLive (record live { guest = v })
-    by_guest None w v there is = subst (λ (o : Option WorldValue). IsReadyLive (record live { guest = o })) (there ∙ sym is) it
-    by_guest (Some k) None v there is = subst (λ (o : Option WorldValue). IsReadyLive (record live { guest = o })) (there ∙ sym is) it
+    by_guest None w v there is = same_stays live v (there ∙ sym is) it
+    by_guest (Some k) None v there is = same_stays live v (there ∙ sym is) it
     by_guest (Some k) (Some w) None there is = absurd is
-    by_guest (Some k) (Some w) (Some v) there is = device_changed_stays live w v k change fits there is it
+    by_guest (Some k) (Some w) (Some v) there is =
+        let on = standing live w there it in
+        let shown : Option (List ℕ) = shows (slice_get on.guest.ports k) in
+        changes_to live w v on (told k change shown on.guest)
+        (told_ready on.flat.config on.flat.paused on.guest k change shown fits on.stands) (is on.guest on.world)
+
+pub relimits_stay : (live : Live) (limiter : Option Limiter) (device : Option ℕ) (after : Option WorldValue)
+    → Relimits limiter device live.guest after → IsReadyLive live → IsReadyLive (record live { guest = after })
+relimits_stay live None device after tells it = same_stays live after (sym tells) it
+relimits_stay live (Some l) device after tells it = tells_stay live device (limits_told l) (shows_by (limits_told l)) after tt tells it
+
+retargets_stay : (live : Live) (balloon : Option Balloon) (device : Option ℕ) (after : Option WorldValue)
+    → Retargets balloon device live.guest after → IsReadyLive live → IsReadyLive (record live { guest = after })
+retargets_stay live None device after tells it = same_stays live after (sym tells) it
+retargets_stay live (Some b) device after tells it = tells_stay live device (interval_told b) (target_in b) after tt tells it
+
+retimes_stay : (live : Live) (balloon : Option Balloon) (device : Option ℕ) (after : Option WorldValue)
+    → Retimes balloon device live.guest after → IsReadyLive live → IsReadyLive (record live { guest = after })
+retimes_stay live None device after tells it = same_stays live after (sym tells) it
+retimes_stay live (Some b) device after tells it = tells_stay live device (interval_told b) (shows_by (interval_told b)) after tt tells it
+
+-- what a change that asks no file tells
+pub told_stays : (live : Live) (it : Change) (after : Option WorldValue) → TellsChange it live.config live.guest after → IsReadyLive live
+    → IsReadyLive (record live { guest = after })
+told_stays live (change.PatchDrive patch) after tells it =
+    relimits_stay live patch.rate_limiter (device_of live.config.drives patch.drive_id) after tells it
+told_stays live (change.PatchBalloon patch) after tells it =
+    retargets_stay live (with_amount patch live.config.balloon) (balloon_device live.config) after tells it
+told_stays live (change.PatchStatistics patch) after tells it =
+    retimes_stay live (with_interval patch live.config.balloon) (balloon_device live.config) after tells it
+told_stays live (change.BootSource source) after tells it = same_stays live after (sym tells) it
+told_stays live (change.PutDrive drive) after tells it = same_stays live after (sym tells) it
+told_stays live (change.MachineConfig machine) after tells it = same_stays live after (sym tells) it
+told_stays live (change.PutBalloon balloon) after tells it = same_stays live after (sym tells) it
+told_stays live (change.PutMetadata body) after tells it = same_stays live after (sym tells) it
+told_stays live (change.PatchMetadata patch) after tells it = same_stays live after (sym tells) it
+told_stays live change.Start after tells it = same_stays live after (sym tells) it
+told_stays live (change.State state) after tells it = same_stays live after (sym tells) it
+told_stays live (change.CreateSnapshot files) after tells it = same_stays live after (sym tells) it
+told_stays live (change.LoadSnapshot load) after tells it = same_stays live after (sym tells) it
+told_stays live (change.Tell part) after tells it = same_stays live after (sym tells) it
 
 -- the guest is taken out
 pub taken_out : (live : Live) → IsReadyLive live → IsReadyLive (record live { guest = None })
@@ -205,6 +242,9 @@ stand_guest (change.BootSource source) paused config guest is = (guest, λ w her
 stand_guest (change.PutDrive drive) paused config guest is = (guest, λ w here. here, is)
 stand_guest (change.PatchDrive patch) paused config guest is = (guest, λ w here. here, is)
 stand_guest (change.MachineConfig machine) paused config guest is = (guest, λ w here. here, is)
+stand_guest (change.PutBalloon balloon) paused config guest is = (guest, λ w here. here, is)
+stand_guest (change.PatchBalloon patch) paused config guest is = (guest, λ w here. here, is)
+stand_guest (change.PatchStatistics patch) paused config guest is = (guest, λ w here. here, is)
 stand_guest (change.PutMetadata body) paused config guest is = (guest, λ w here. here, is)
 stand_guest (change.PatchMetadata patch) paused config guest is = (guest, λ w here. here, is)
 stand_guest change.Start paused config guest is = (guest, λ w here. here, is)
@@ -259,128 +299,6 @@ pub taken_ready : (live : Live) (o : Option WorldValue) → o ≡ live.guest →
     → IfSome o (λ w. IsReadyLive (record live { guest = Some w }))
 taken_ready live None is it = tt
 taken_ready live (Some w) is it = same_stays live (Some w) (sym is) it
-
--- ---- what is configured
-
--- the same but for a mark of the configuration
-mark_configured : (config : Config) (paused : Bool) (guest : Option Guest) → ReadyBy config paused guest
-    → ReadyBy (record config { configured = true }) paused guest
-mark_configured config paused None is = tt
-mark_configured config paused (Some g) is = record {
-  sound = is.sound;
-  ready = record {
-    configured = record {
-      source = is.ready.configured.source;
-      drives = is.ready.configured.drives;
-      machine = is.ready.configured.machine;
-    };
-    shaped = is.ready.shaped;
-    devices = is.ready.devices;
-  };
-  rests = is.rests;
-}
-
-not_yet : (config : Config) (paused : Bool) (guest : Option Guest) → guest ≡ None → ReadyBy config paused guest
-not_yet config paused guest none = subst (λ (o : Option Guest). ReadyBy config paused o) (sym none) tt
-
-config_guest : (it : Change) (config : Config) (paused : Bool) (w : Option WorldValue) (guest : Option Guest) → IsTaken (changed config it)
-    → IsGuestBy w guest → IsEarly it w → ReadyBy config paused guest → ReadyBy (changed config it) paused guest
-config_guest (change.BootSource source) config paused w guest taken here early is = not_yet _ paused guest (no_guest w guest here early)
-config_guest (change.PutDrive drive) config paused w guest taken here early is = not_yet _ paused guest (no_guest w guest here early)
-config_guest (change.MachineConfig machine) config paused w guest taken here early is = not_yet _ paused guest (no_guest w guest here early)
-config_guest (change.PatchDrive patch) config paused w guest taken here early is = patched_ready config patch paused taken guest is
-config_guest (change.PutMetadata body) config paused w guest taken here early is = is
-config_guest (change.PatchMetadata patch) config paused w guest taken here early is = is
-config_guest change.Start config paused w guest taken here early is = mark_configured config paused guest is
-config_guest (change.State state) config paused w guest taken here early is = is
-config_guest (change.CreateSnapshot files) config paused w guest taken here early is = is
-config_guest (change.LoadSnapshot load) config paused w guest taken here early is = mark_configured config paused guest is
-config_guest (change.Tell part) config paused w guest taken here early is = is
-
-pub change_stays : (live : Live) (it : Change) → IsFitting live.config it → IsEarly it live.guest → IsReadyLive live
-    → IsReadyLive (record live { config = changed live.config it })
-change_stays live it fits early (m, own, ready) =
-    let taken = changed_taken m.config it ready.taken (subst (λ (c : Config). IsFitting c it) own.config_is fits) in (
-      record m { config = changed m.config it },
-      record {
-        id_is = own.id_is;
-        ids_is = own.ids_is;
-        config_is = ap (λ (c : Config). changed c it) own.config_is;
-        metadata_is = own.metadata_is;
-        guest_is = own.guest_is;
-        paused_is = own.paused_is;
-      },
-      record {
-        taken = taken;
-        guest = config_guest it m.config m.paused live.guest m.guest taken own.guest_is early ready.guest;
-        next = ready.next;
-        base = ready.base;
-      },
-    )
-
--- what was asked of it, or nothing for want of memory
-pub applied_stays : {E : Type 0} (live : Live) (it : Change) (done : Result (Unit {0}) E) (config : Config)
-    → OnOk done (config ≡ changed live.config it) → OnErr done (config ≡ live.config) → IsFitting live.config it → IsEarly it live.guest
-    → IsReadyLive live → IsReadyLive (record live { config = config })
-applied_stays live it (Ok v) config ok err fits early ready =
-    subst (λ (c : Config). IsReadyLive (record live { config = c })) (sym ok) (change_stays live it fits early ready)
-applied_stays live it (Err why) config ok err fits early ready =
-    subst (λ (c : Config). IsReadyLive (record live { config = c })) (sym err) ready
-
-pub applied_is : {E : Type 0} (done : Result (Unit {0}) E) (P : Type 0) → IsOk done → OnOk done P → P
-applied_is (Ok v) P good is = is
-applied_is (Err why) P good is = absurd cc
-
--- who stands still or goes on has started, and who hasn't stays so
-pub stays_early : (it : Change) (paused : Bool) (w : Option WorldValue) → IsEarly it w → IsEarly it (world_by it paused w)
-stays_early (change.BootSource source) paused w early = early
-stays_early (change.PutDrive drive) paused w early = early
-stays_early (change.MachineConfig machine) paused w early = early
-stays_early (change.PatchDrive patch) paused w early = tt
-stays_early (change.PutMetadata body) paused w early = tt
-stays_early (change.PatchMetadata patch) paused w early = tt
-stays_early change.Start paused w early = tt
-stays_early (change.State state) paused w early = tt
-stays_early (change.CreateSnapshot files) paused w early = tt
-stays_early (change.LoadSnapshot load) paused w early = tt
-stays_early (change.Tell part) paused w early = tt
-
--- other drives, before a start
-pub drives_stay : (live : Live) (drives : List Drive) → are_drives drives ≡ true → live.guest ≡ None → IsReadyLive live
-    → IsReadyLive (record live { config = record live.config { drives = drives; configured = true } })
-drives_stay live drives fit none (m, own, ready) =
-    let taken = subst (λ (c : Config). IsTaken c) (sym own.config_is) ready.taken in
-    let config : Config = record live.config { drives = drives; configured = true } in (
-      record m { config = config },
-      record {
-        id_is = own.id_is;
-        ids_is = own.ids_is;
-        config_is = refl;
-        metadata_is = own.metadata_is;
-        guest_is = own.guest_is;
-        paused_is = own.paused_is;
-      },
-      record {
-        taken = record { source = taken.source; drives = fit; machine = taken.machine };
-        guest = not_yet config m.paused m.guest (no_guest live.guest m.guest own.guest_is none);
-        next = ready.next;
-        base = ready.base;
-      },
-    )
-
-pub metadata_stay : (live : Live) (stored : Data) → IsReadyLive live → IsReadyLive (record live { metadata = stored })
-metadata_stay live stored (m, own, ready) = (
-  record m { metadata = stored },
-  record {
-    id_is = own.id_is;
-    ids_is = own.ids_is;
-    config_is = own.config_is;
-    metadata_is = refl;
-    guest_is = own.guest_is;
-    paused_is = own.paused_is;
-  },
-  record { taken = ready.taken; guest = ready.guest; next = ready.next; base = ready.base },
-)
 
 -- ---- a start, and a load
 

@@ -7,3 +7,4 @@ pub mod Replying
 pub mod Running
 pub mod Seen
 pub mod State
+pub mod Telling

@@ -17,15 +17,13 @@ use Rattle.vm_config.specs.declared.change.Change.{Change}
 use Rattle.vm_config.specs.declared.change.Change.TheVariants as change
 use Rattle.vm_config.specs.Changes.{changed, takes_memory}
 use Rattle.vm_config.specs.Drives.{device_of, put_drive}
+use Rattle.vm_config.specs.Texts.{Told}
 use Rattle.api_rules.specs.declared.answer.Answer.{Answer}
 use Rattle.api_rules.specs.Ids.{based, spent}
 use Rattle.api_rules.specs.declared.ids.Ids.{Ids}
 use Rattle.timer_trace.specs.States.{new_timer}
 use Rattle.guest_devices.specs.declared.device.Device.{Device}
-use Rattle.guest_devices.specs.declared.change.DeviceChange.{DeviceChange}
-use Rattle.guest_devices.specs.Kinds.{sectors_change}
-use Rattle.guest_devices.specs.Ports.{shown_by}
-use Rattle.flat_guest.specs.Changes.{reset_guest, told}
+use Rattle.flat_guest.specs.Changes.{reset_guest}
 use Rattle.flat_guest.specs.Guest.{Guest}
 use Rattle.flat_guest.specs.Start.{started}
 use Rattle.snap_state.specs.declared.copy.StateCopy.{StateCopy}
@@ -51,6 +49,7 @@ use Rattle.monitor_plans.specs.Headings.{numbers_in}
 use Rattle.monitor_plans.specs.Plans.{IsEarly, KeepsReady, plan_answer}
 use Rattle.monitor_plans.specs.Restoring.{GoesOn}
 use Rattle.monitor_machine.specs.declared.machine.LiveMachine.{LiveMachine}
+use Rattle.monitor_machine.specs.Telling.{Relimits, Resizes, TellsChange, TellsOwn, statistics_in}
 use Rattle.monitor_machine.specs.declared.outcome.Outcome.{Outcome}
 use Rattle.monitor_machine.specs.declared.outcome.Outcome.TheVariants.{Answered, Failed, NoMemory}
 
@@ -201,8 +200,17 @@ CallsLater (task.Plan it) before now = Unit {0}
 CallsLater (task.Create c) before now = now ≡ before
 
 -- what it answers, and whether the connection ends with that
+abbrev pub told_of : LiveMachine → Told
+told_of live = record {
+  id = live.id;
+  phase = phase_of live;
+  config = live.config;
+  metadata = live.metadata;
+  statistics = statistics_in live.config live.guest;
+}
+
 abbrev pub answer_of : Plan → LiveMachine → Answer
-answer_of it live = plan_answer it live.id (phase_of live) live.config live.metadata
+answer_of it live = plan_answer it (told_of live)
 
 abbrev pub plan_response : Plan → Bool → LiveMachine → Response
 plan_response it closes live = record { answer = answer_of it live; closes = closes }
@@ -234,14 +242,8 @@ abbrev pub world_by : Change → Bool → Option WorldValue → Option WorldValu
 world_by (change.State Paused) paused world = halted_world paused world
 world_by it paused world = world
 
--- and what it leaves, but for another file of a drive
+-- and what it leaves, but for a change that tells devices, or another file of a drive
 abbrev pub plan_after : Plan → LiveMachine → LiveMachine
-plan_after (plan.Changes it) live =
-    record live {
-      config = changed live.config it;
-      guest = world_by it live.paused live.guest;
-      paused = paused_by it live.paused;
-    }
 plan_after (plan.Drives drives) live =
     record live { config = record live.config { drives = drives; configured = true } }
 plan_after (plan.Stores kept) live = record live { metadata = kept }
@@ -257,27 +259,27 @@ plan_after (plan.Restores r) live =
     }
 plan_after it live = live
 
--- what becomes of the world where a device is told of a change, and shows it, if both are there
-abbrev pub TellsDevice : Option ℕ → DeviceChange → Option WorldValue → Option WorldValue → Type 0
-TellsDevice None change world after = after ≡ world
-TellsDevice (Some k) change None after = after ≡ None
-TellsDevice (Some k) change (Some w) None = ⊥
-TellsDevice (Some k) change (Some w) (Some v) =
-    (g : Guest) → IsWorld w g → IsWorld v (told k change (shown_by change) g)
+-- what becomes of the machine by a change that asks no file
+pub record TakesChange (it : Change) (live after : LiveMachine) : Type 0 where
+  pub world : TellsChange it live.config (world_by it live.paused live.guest) after.guest
+  pub rest :
+      after ≡ record live {
+        config = changed live.config it;
+        guest = after.guest;
+        paused = paused_by it live.paused;
+      }
 
--- the size of its disk
-abbrev pub Resizes : Option ℕ → ℕ → Option WorldValue → Option WorldValue → Type 0
-Resizes device sectors world after = TellsDevice device (sectors_change sectors) world after
-
--- and of the machine where a drive has another file
+-- and where a drive has another file, and perhaps other limits
 pub record TakesFile (r : Resize) (live after : LiveMachine) : Type 0 where
-  pub world : Resizes r.device r.sectors live.guest after.guest
+  pub mid : Option WorldValue
+  pub world : Resizes r.device r.sectors live.guest mid
+  pub limits : Relimits r.patch.rate_limiter r.device mid after.guest
   pub rest :
       after ≡ record live { config = changed live.config (change.PatchDrive r.patch); guest = after.guest }
 
 -- A plan leaves this. A change that takes memory is none of a plan.
 abbrev pub PlanLeaves : Plan → LiveMachine → LiveMachine → Type 0
-PlanLeaves (plan.Changes it) live after = takes_memory it ≡ false → after ≡ plan_after (plan.Changes it) live
+PlanLeaves (plan.Changes it) live after = takes_memory it ≡ false → TakesChange it live after
 PlanLeaves (plan.Resizes r) live after = TakesFile r live after
 PlanLeaves it live after = after ≡ plan_after it live
 
@@ -299,4 +301,5 @@ pub record Answers (form : ResponseForm) (it : Plan) (closes : Bool) (how : Outc
   pub which : (done ≡ it) ⊎ (done ≡ plan.NoMemory)
   pub how_is : how ≡ plan_outcome done
   pub writes : written ≡ text ++ written_as form (plan_response done closes live)
+  pub tells : TellsOwn live
   pub leaves : PlanLeaves done live after

@@ -18,6 +18,7 @@ mod lines;
 mod planning;
 mod replying;
 mod running;
+mod telling;
 
 /// A machine: its id, its lineage with the snapshots that it knows, what was configured, the metadata, the guest once it
 /// has started, and whether that stands still. Each is a ready machine (`IsReadyLive`): its guest has what is configured, each

@@ -1,9 +1,9 @@
 -- The files of the drives, asked one after another.
 use Rattle.std.proofs.Common.{◌≡◌, ℕ, zero, suc, ◌+◌, ◌-◌, ◌≤◌, ◌<◌, nat_le, nat_lt, min, Bool, true, false, not, ◌&&◌, cond, refl, sym, ap, ◌∙◌, List, [], ◌∷◌, ◌++◌, Some, None, length, map, take, drop, replicate, slice_get, arith, add-one}
-use Rattle.std.specs.Prelude.{All, is_some}
+use Rattle.std.specs.Prelude.{All, count_by, is_some}
 use Rattle.std.specs.FinMap.{get}
 use Rattle.std.specs.List.{filter, list_all, position_or_len}
-use Rattle.std.proofs.lemmas.Bool.{leb-false, leb-true, ltb-true}
+use Rattle.std.proofs.lemmas.Bool.{and_parts, leb-false, leb-true, ltb-true}
 use Rattle.std.proofs.lemmas.List.{append-nil, drop-replicate, length-append, map-append, take-append-le, take-replicate}
 use Rattle.std.proofs.lemmas.List.Filters.{length-filter_both}
 use Rattle.std.proofs.lemmas.List.Folds.{list_all-append}
@@ -12,8 +12,12 @@ use Rattle.vm_types.specs.Saved.{Saved}
 use Rattle.vm_outside.specs.Filing.{SameFiles}
 use Rattle.vm_outside.specs.Known.{FilesKnown, Lasts, Tells}
 use Rattle.api_calls.specs.declared.call.Drive.{Drive}
-use Rattle.vm_config.specs.Drives.{device_of, in_order, is_named, is_root}
+use Rattle.vm_config.specs.Drives.{device_of, id_of_drive, in_order, is_named, is_root}
 use Rattle.guest_devices.specs.declared.new_device.NewDevice.{NewDevice}
+use Rattle.api_calls.specs.Form.{holds, is_id, is_path}
+use Rattle.api_calls.specs.Limits.{is_limiter}
+use Rattle.vm_config.specs.Named.{are_apart}
+use Rattle.snap_state.specs.Valid.{are_drives, is_drive}
 use Rattle.flat_machine.specs.Requests.{drive_from, have_files}
 use Rattle.monitor_plans.specs.declared.drives.DriveFiles.{DriveFiles}
 use Rattle.monitor_plans.specs.Starting.{FitsDrive}
@@ -53,6 +57,28 @@ all_both : {A : Type 0} (p q : A → Bool) (xs : List A)
     → list_all p (filter q xs ++ filter (λ d. not (q d)) xs) ≡ list_all p xs
 all_both p q [] = refl
 all_both p q (x ∷ xs) = both_step p x (q x) (filter q xs) (filter (λ d. not (q d)) xs) xs (all_both p q xs)
+
+-- what passes of each passes of the one at a place
+passes_at : {A : Type 0} (p : A → Bool) (xs : List A) (i : ℕ) (x : A) → list_all p xs ≡ true → slice_get xs i ≡ Some x → p x ≡ true
+passes_at p [] i x all is = cc
+passes_at p (y ∷ xs) zero x all is =
+    let same : y ≡ x = cc in ap p (sym same) ∙ (and_parts (p y) (list_all p xs) all).0
+passes_at p (y ∷ xs) (suc i) x all is = passes_at p xs i x (and_parts (p y) (list_all p xs) all).1 is
+
+-- drives as the API takes them
+pub drives_of : (drives : List Drive) → are_drives drives ≡ true → list_all is_drive drives ≡ true
+drives_of drives are =
+    let root = and_parts _ (nat_le (count_by is_root drives) 1) are in
+    let apart = and_parts _ (are_apart id_of_drive drives) root.0 in
+    (and_parts (nat_le (length drives) 16) (list_all is_drive drives) apart.0).1
+
+-- the limits of a drive are such as there may be
+pub limits_there : (drives : List Drive) (i : ℕ) (d : Drive) → list_all is_drive drives ≡ true → Some d ≡ slice_get (in_order drives) i
+    → holds is_limiter d.rate_limiter ≡ true
+limits_there drives i d all is =
+    let each : list_all is_drive (in_order drives) ≡ true = all_both is_drive is_root drives ∙ all in
+    (and_parts (is_id d.drive_id && is_path d.path_on_host) (holds is_limiter d.rate_limiter)
+    (passes_at is_drive (in_order drives) i d each (sym is))).1
 
 -- one element more
 all_one : {A : Type 0} (p : A → Bool) (xs : List A) (x : A) → list_all p (xs ++ x ∷ []) ≡ (list_all p xs && p x)

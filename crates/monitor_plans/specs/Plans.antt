@@ -1,18 +1,16 @@
 -- What a plan answers, and why it is one.
 use Rattle.std.specs.Prelude.{◌≡◌, ◌≤◌, ℕ, ◌+◌, Bool, List, Option, None, true, false}
 use Rattle.vm_types.specs.Causes.{Rose}
-use Rattle.serde_json.specs.Data.{Data}
 use Rattle.refusals.specs.declared.refusal.Refusal.TheVariants as refusal
 use Rattle.vm_config.specs.declared.config.Config.{Config}
-use Rattle.vm_config.specs.declared.config.Phase.{Phase}
 use Rattle.vm_config.specs.declared.change.Change.{Change}
 use Rattle.vm_config.specs.declared.change.Change.TheVariants as change
 use Rattle.api_rules.specs.declared.answer.Answer.{Answer}
 use Rattle.api_rules.specs.Answers.{accepted, no_content, refused}
-use Rattle.snap_state.specs.Valid.{are_drives}
 use Rattle.flat_guest.specs.Guest.{Guest}
-use Rattle.flat_machine.specs.Ready.{IsFitting, IsReadyGuest}
+use Rattle.flat_machine.specs.Ready.{AreFitting, IsFitting, IsReadyGuest}
 use Rattle.vm_config.specs.Changes.{changed}
+use Rattle.vm_config.specs.Texts.{Told}
 use Rattle.vm_world.specs.Worlds.{IsWorld, WorldValue}
 use Rattle.monitor_plans.specs.declared.plan.Plan.{Plan}
 use Rattle.monitor_plans.specs.declared.plan.Plan.TheVariants as plan
@@ -20,21 +18,21 @@ use Rattle.monitor_plans.specs.declared.plan.Task.{Task}
 use Rattle.monitor_plans.specs.declared.plan.Task.TheVariants as task
 
 -- what it answers
-abbrev pub plan_answer : Plan → List ℕ → Phase → Config → Data → Answer
-plan_answer (plan.Refused why) id p config metadata = refused why
-plan_answer (plan.Changes it) id p config metadata = accepted it id p config metadata
-plan_answer (plan.Drives drives) id p config metadata = no_content
-plan_answer (plan.Resizes r) id p config metadata = no_content
-plan_answer (plan.Stores kept) id p config metadata = no_content
-plan_answer (plan.Starts w) id p config metadata = no_content
-plan_answer (plan.Restores r) id p config metadata = no_content
-plan_answer plan.FilesFailed id p config metadata = refused refusal.OutsideFailed
-plan_answer plan.NoMemory id p config metadata = refused refusal.OutOfMemory
+abbrev pub plan_answer : Plan → Told → Answer
+plan_answer (plan.Refused why) told = refused why
+plan_answer (plan.Changes it) told = accepted it told
+plan_answer (plan.Drives drives) told = no_content
+plan_answer (plan.Resizes r) told = no_content
+plan_answer (plan.Stores kept) told = no_content
+plan_answer (plan.Starts w) told = no_content
+plan_answer (plan.Restores r) told = no_content
+plan_answer plan.FilesFailed told = refused refusal.OutsideFailed
+plan_answer plan.NoMemory told = refused refusal.OutOfMemory
 
 -- what it makes of this configuration is as the API takes it
 abbrev pub IsFittingPlan : Plan → Config → Type 0
 IsFittingPlan (plan.Changes it) config = IsFitting config it
-IsFittingPlan (plan.Drives drives) config = are_drives drives ≡ true
+IsFittingPlan (plan.Drives drives) config = AreFitting drives config.balloon
 IsFittingPlan (plan.Resizes r) config = IsFitting config (change.PatchDrive r.patch)
 IsFittingPlan it config = Unit {0}
 
@@ -54,6 +52,7 @@ abbrev pub IsEarly : Change → Option WorldValue → Type 0
 IsEarly (change.BootSource source) world = world ≡ None
 IsEarly (change.PutDrive drive) world = world ≡ None
 IsEarly (change.MachineConfig machine) world = world ≡ None
+IsEarly (change.PutBalloon balloon) world = world ≡ None
 IsEarly it world = Unit {0}
 
 abbrev pub IsEarlyPlan : Plan → Option WorldValue → Type 0

@@ -85,8 +85,8 @@ fn other_file(config: &TakenConfig, patch: DrivePatch, sectors: u64) -> Plan
     })
 }
 
-// The number of the device that the drive of this id is: the API takes 16 devices at most.
-fn device_number(config: &TakenConfig, id: &str) -> Option<u8>
+/// The number of the device that the drive of this id is: the API takes 16 devices at most.
+pub fn device_number(config: &TakenConfig, id: &str) -> Option<u8>
     ensures { result ≡ device_of config.now.drives id.now }
 {
     let Some(number) = config.get().drives.device_number(id) else {

@@ -1,18 +1,22 @@
 // The files of the drives, as a start asks for them.
 ghost use Rattle.std.specs.Prelude.{All, ◌≡◌, ◌≤◌, ◌+◌, ◌++◌, ◌∷◌, ◌&&◌, [], ℕ, true, List, Option, IfOk, OnOk, is_some, length, map, option_map};
+ghost use Rattle.std.specs.List.{list_all};
 ghost use Rattle.std.specs.FinMap.{get};
+ghost use Rattle.api_calls.specs.Form.{holds};
+ghost use Rattle.api_calls.specs.Limits.{is_limiter};
+ghost use Rattle.snap_state.specs.Valid.{is_drive};
+ghost use Rattle.monitor_plans.specs.Starting.{FitsDrive};
 ghost use Rattle.vm_types.specs.Saved.{Saved};
 ghost use Rattle.vm_outside.specs.Filing.{SameFiles};
 ghost use Rattle.vm_outside.specs.Known.{Lasts, Tells};
 ghost use Rattle.vm_config.specs.Drives.{in_order};
 ghost use Rattle.flat_machine.specs.Requests.{drive_from, have_files, id_bytes, is_writeback, sectors_of};
 ghost use Rattle.gate_file.specs.Reading.{FileCause};
-ghost use Rattle.monitor_plans.specs.Starting.{FitsDrive};
 
+use crate::limits::gate_of;
 use api_calls::{CacheType, Drive};
 use gate_file::FileError;
 use guest_devices::{NewDevice, NewDrive};
-use rate_gate::RateGate;
 use std::alloc::Global;
 use vm_config::Drives;
 use vm_outside::Files;
@@ -26,7 +30,7 @@ const SECTOR: u64 = 512;
 /// What the files have of the drives.
 #[derive(Drop)]
 pub(crate) struct DriveFiles {
-    /// What the block devices start with, in the order of devices.
+    /// What the devices start with, in their order.
     pub drives: Vec<NewDevice>,
     /// Whether each drive has its file.
     pub are_there: bool,
@@ -63,6 +67,7 @@ pub(crate) fn sectors_of(size: Option<u64>) -> u64
 
 // What a drive starts with whose file has this size.
 fn new_drive(drive: &Drive, size: Option<u64>) -> NewDevice
+    requires { holds is_limiter drive.now.rate_limiter ≡ true }
     ensures made { (saved : Saved) → size ≡ option_map length (get saved drive.now.path_on_host) →
         result ≡ drive_from saved drive.now }
     ensures fits { FitsDrive result }
@@ -72,7 +77,7 @@ fn new_drive(drive: &Drive, size: Option<u64>) -> NewDevice
         sectors: sectors_of(size),
         is_read_only: drive.is_read_only,
         offers_flush: is_writeback(drive.cache_type),
-        limits: RateGate::new(None, None),
+        limits: gate_of(&drive.rate_limiter),
     })
 }
 
@@ -89,6 +94,7 @@ impl DriveFiles {
 
     // One drive more, whose file is asked.
     fn ask<F: Files>(&mut self, drive: &Drive, files: &mut F) -> Result<(), FileError>
+        requires { holds is_limiter drive.now.rate_limiter ≡ true }
         ensures drives { OnOk result (Tells (F.known files.old).health → self.new.drives.items
             ≡ self.old.drives.items ++ drive_from (F.known files.old).saved drive.now ∷ []) }
         ensures there { OnOk result (Tells (F.known files.old).health → self.new.are_there
@@ -116,6 +122,7 @@ pub(crate) fn drive_files<F: Files>(
     files: &mut F,
     drives: &Drives,
 ) -> Result<DriveFiles, FileError>
+    requires { list_all is_drive drives.now ≡ true }
     ensures drives { IfOk result (λ it. Tells (F.known files.old).health →
         it.drives.items ≡ map (drive_from (F.known files.old).saved) (in_order drives.now)) }
     ensures there { IfOk result (λ it. Tells (F.known files.old).health →

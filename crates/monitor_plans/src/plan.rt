@@ -9,7 +9,7 @@ use api_rules::{Answer, Change, Config, Phase, accepted_answer, done_answer, fau
 use metadata_store::Store;
 use refusals::Refusal;
 use std::alloc::{AllocError, Global};
-use vm_config::Drives;
+use vm_config::{Drives, Statistics};
 use vm_world::World;
 
 /// What comes of a request, where no file is left to be written: it is refused; it changes this; the drives are these; a
@@ -36,7 +36,7 @@ pub enum Task {
 }
 
 impl Plan {
-    /// What the machine of this id in this phase, with this configuration and these metadata, answers.
+    /// What the machine of this id in this phase, with this configuration, these metadata and what its balloon tells, answers.
     pub fn answer(
         &self,
         alloc: Global,
@@ -44,13 +44,22 @@ impl Plan {
         phase: Phase,
         config: &Config,
         metadata: &Store,
+        statistics: Option<Statistics>,
     ) -> Result<Answer, AllocError>
         ensures { IfOk result (λ answer. answer
-            ≡ plan_answer self.now id.now phase config.now metadata.now) }
+            ≡ plan_answer self.now (record {
+              id = id.now;
+              phase = phase;
+              config = config.now;
+              metadata = metadata.now;
+              statistics = statistics;
+            })) }
     {
         match self {
             Plan::Refused(why) => fault_answer(alloc, *why),
-            Plan::Changes(change) => accepted_answer(alloc, change, id, phase, config, metadata),
+            Plan::Changes(change) => {
+                accepted_answer(alloc, change, id, phase, config, metadata, statistics)
+            },
             Plan::Drives(_) | Plan::Resizes(_) => Ok(done_answer()),
             Plan::Stores(_) | Plan::Starts(_) | Plan::Restores(_) => Ok(done_answer()),
             Plan::FilesFailed => fault_answer(alloc, Refusal::OutsideFailed),

@@ -3,19 +3,24 @@ ghost use Rattle.std.specs.Prelude.{All, ◌≡◌, ◌+◌, ◌≤◌, ◌^◌,
 ghost use Rattle.guest_memory.specs.Boot as boot;
 ghost use Rattle.guest_memory.specs.Boot.{loads_fit};
 ghost use Rattle.boot_loader.specs.Loading.{have_room, loads_of};
+ghost use Rattle.flat_guest.specs.Shaped.{kinds_at_start};
 ghost use Rattle.flat_guest.specs.Start.{started};
+ghost use Rattle.flat_snapshot.specs.Copies.{configuration_of};
+ghost use Rattle.snap_state.specs.Valid.{kinds_of};
 ghost use Rattle.flat_machine.specs.Ready.{IsTaken};
+ghost use Rattle.guest_devices.specs.Devices.{FitsNew};
 ghost use Rattle.vm_config.specs.Changes.{changed};
+ghost use Rattle.vm_config.specs.Devices.{device_count};
 ghost use Rattle.vm_config.specs.declared.change.Change.TheVariants as change;
 ghost use Rattle.flat_machine.specs.Requests.{loads_from, initrd_place};
 ghost use Rattle.vm_outside.specs.Filing.{SameFiles};
 ghost use Rattle.vm_outside.specs.Known.{Lasts, Tells};
 ghost use Rattle.vm_world.specs.Worlds.{IsWorld, WorldValue};
 ghost use Rattle.monitor_plans.specs.Plans.{HasReadyGuest, KeepsReady, PlanCause};
-ghost use Rattle.monitor_plans.specs.Starting.{FitsDrive, StartGives};
+ghost use Rattle.monitor_plans.specs.Starting.{StartGives};
 
+use crate::devices::device_files;
 use crate::disk::{disk_file, load_disk};
-use crate::drives::drive_files;
 use crate::plan::Plan;
 use crate::taken_config::TakenConfig;
 use api_calls::MachineConfig;
@@ -63,12 +68,12 @@ fn start_by<F: Files>(alloc: Global, config: &Config, files: &mut F) -> Plan
     let Ok(file) = disk_file(files, &source.initrd_path) else {
         return Plan::FilesFailed;
     };
-    let drives = match drive_files(alloc, files, &config.drives) {
-        Ok(drives) => drives,
+    let found = match device_files(alloc, files, config) {
+        Ok(found) => found,
         Err(FileError::Fault) => return Plan::FilesFailed,
         Err(FileError::OutOfMemory) => return Plan::NoMemory,
     };
-    if let Some(why) = boot_refusal(config, size, file, drives.are_there) {
+    if let Some(why) = boot_refusal(config, size, file, found.are_there) {
         return Plan::Refused(why);
     }
     let image = match read_front(alloc, files, path, len) {
@@ -77,7 +82,7 @@ fn start_by<F: Files>(alloc: Global, config: &Config, files: &mut F) -> Plan
         Err(FileError::OutOfMemory) => return Plan::NoMemory,
     };
     match load_disk(alloc, files, &source.initrd_path, file) {
-        Ok(disk) => match guest_of(alloc, config, &image, &disk, &drives.drives) {
+        Ok(disk) => match guest_of(alloc, config, &image, &disk, &found.drives) {
             Ok(guest) => Plan::Starts(guest),
             Err(_) => Plan::NoMemory,
         },
@@ -120,44 +125,45 @@ fn initrd_of(disk: &Option<ByteList>) -> Option<&[u8]>
     }
 }
 
-// The world of this machine, with what there is room for in its memory, and these drives.
+// The world of this machine, with what there is room for in its memory, and these devices.
 fn world_of(
     alloc: Global,
     machine: MachineConfig,
     loads: &Loads<'_>,
-    drives: &[NewDevice],
+    devices: &[NewDevice],
 ) -> Result<World, AllocError>
     requires few { machine.vcpu_count ≤ 32 }
     requires small { machine.mem_size_mib ≤ 2 ^ 20 }
-    requires few_drives { length drives.now ≤ 16 }
+    requires few_devices { length devices.now ≤ 16 }
     requires room { have_room machine.mem_size_mib (loads_of loads.now) ≡ true }
     ensures { IfOk result (λ world.
-        IsWorld world (started machine.vcpu_count machine.mem_size_mib (loads_of loads.now) drives.now)) }
+        IsWorld world (started machine.vcpu_count machine.mem_size_mib (loads_of loads.now) devices.now)) }
 {
     let harts = machine.vcpu_count as usize;
-    match World::start(alloc, harts, machine.mem_size_mib, loads, drives) {
+    match World::start(alloc, harts, machine.mem_size_mib, loads, devices) {
         Ok(world) => Ok(world),
         Err(BootError::OutOfMemory) => Err(AllocError),
         Err(BootError::NoRoom) => unreachable!(),
     }
 }
 
-// The guest of this configuration, with what is booted, of this image, disk and drives, which fit.
+// The guest of this configuration, with what is booted, of this image, disk and devices, which fit.
 fn guest_of(
     alloc: Global,
     config: &Config,
     image: &[u8],
     disk: &Option<ByteList>,
-    drives: &[NewDevice],
+    devices: &[NewDevice],
 ) -> Result<World, AllocError>
     requires taken { IsTaken config.now }
     requires source { is_some config.now.boot_source ≡ true }
-    requires many { length drives.now ≡ length config.now.drives }
-    requires fit { All FitsDrive drives.now }
+    requires many { length devices.now ≡ device_count config.now }
+    requires kinds { kinds_at_start devices.now ≡ kinds_of (configuration_of config.now) }
+    requires fit { All FitsNew devices.now }
     requires fits { loads_fit config.now.machine.mem_size_mib (length image.now) (option_map length disk.now) ≡ true }
     ensures world { IfOk result (λ guest.
         IsWorld guest (started config.now.machine.vcpu_count config.now.machine.mem_size_mib
-        (loads_from config.now image.now disk.now) drives.now)) }
+        (loads_from config.now image.now disk.now) devices.now)) }
     ensures ready { IfOk result (λ guest. HasReadyGuest (changed config.now change.Start) false guest) }
 {
     let machine = config.machine;
@@ -167,6 +173,6 @@ fn guest_of(
         initrd: initrd_of(disk),
         tree: tree.as_slice(),
     };
-    let world = world_of(alloc, machine, &loads, drives)?;
+    let world = world_of(alloc, machine, &loads, devices)?;
     Ok(world)
 }

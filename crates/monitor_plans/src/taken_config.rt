@@ -1,8 +1,7 @@
 // What is configured, as the API takes it.
 ghost use Rattle.std.specs.Prelude.{◌≡◌, IsOk, OnOk, OnErr, false, true};
 ghost use Rattle.vm_config.specs.Changes.{changed, default_config, takes_memory};
-ghost use Rattle.flat_machine.specs.Ready.{IsFitting, IsTaken};
-ghost use Rattle.snap_state.specs.Valid.{are_drives};
+ghost use Rattle.flat_machine.specs.Ready.{AreFitting, IsFitting, IsTaken};
 
 use api_rules::{Change, Config};
 use std::alloc::{AllocError, Global};
@@ -66,7 +65,7 @@ impl TakenConfig {
 
     /// Takes the drives that a PUT of one leaves, which are as the API takes them.
     pub fn set_drives(&mut self, drives: Drives)
-        requires { are_drives drives ≡ true }
+        requires { AreFitting drives self.old.balloon }
         ensures { self.new ≡ record self.old { drives = drives; configured = true } }
     {
         self.config.set_drives(drives);

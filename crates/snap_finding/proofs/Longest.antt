@@ -9,7 +9,9 @@ use Rattle.vm_types.specs.declared.identity.Identity.{Identity}
 use Rattle.api_calls.specs.declared.call.CacheType.{CacheType}
 use Rattle.api_calls.specs.declared.call.CacheType.TheVariants.{Unsafe, Writeback}
 use Rattle.api_calls.specs.declared.call.Drive.{Drive}
-use Rattle.api_calls.specs.Form.{is_id, is_path}
+use Rattle.api_calls.specs.Form.{holds, is_id, is_path}
+use Rattle.api_calls.specs.Limits.{is_limiter}
+use Rattle.vm_config.specs.Devices.{count_in}
 use Rattle.file_format.specs.Kinds.{fixed, flag, number16, number64, text}
 use Rattle.file_format.specs.Identities.{identity}
 use Rattle.file_format.specs.Ends.{listed}
@@ -25,15 +27,16 @@ use Rattle.snap_state.specs.Boards.{board}
 use Rattle.snap_state.specs.Configured as configured
 use Rattle.snap_state.specs.Copies as copies
 use Rattle.snap_state.specs.Drives as drives
+use Rattle.snap_state.specs.Limits as limits
 use Rattle.file_format.specs.Versions.{Version}
 use Rattle.file_format.specs.Versions.Version.{One}
 use Rattle.snap_state.specs.Files as state
 use Rattle.snap_harts.specs.Harts.{hart}
 use Rattle.snap_harts.specs.HartStates.{hart_state}
-use Rattle.snap_state.specs.Valid.{are_drives, are_paths, are_sections, has_devices, has_machine, is_before, is_board, is_drive, is_machine, is_reserved, is_rising, is_source, is_valid, rises_from}
-use Rattle.snap_state.proofs.HasDevices.{has_parts}
+use Rattle.snap_state.specs.Valid.{are_drives, are_paths, are_sections, has_devices, has_machine, has_room, is_balloon, is_before, is_board, is_drive, is_machine, is_reserved, is_rising, is_source, is_valid, rises_from}
+use Rattle.snap_state.proofs.HasDevices.{has_parts, many_devices, many_ports}
 use Rattle.snap_finding.proofs.Sizes.{device_within, hart_state_within, hart_within, port_within}
-use Rattle.snap_finding.proofs.Within.{Within, within16, within32, within64, flag_within, zeros_within, constant_within, just_within, pair_within, made_within, passing_within, optional_most, optional_within, total, total-pass, list_within, each_within, counted_within, listed_within, bytes_within, text_within}
+use Rattle.snap_finding.proofs.Within.{Within, any_within, within16, within32, within64, flag_within, zeros_within, constant_within, just_within, pair_within, made_within, passing_within, optional_most, optional_within, total, total-pass, list_within, each_within, counted_within, listed_within, bytes_within, text_within}
 
 -- ---- the configuration
 
@@ -62,21 +65,36 @@ cache_within = record {
       (λ x ex ey. omega (arith, text_within.at given x.0 x.1 ex, cache_takes x.0 _ _ x.1 v rest refl refl ey));
 }
 
+bucket_within : Within limits.bucket.reads (λ _. 25)
+unfolding limits.bucket
+bucket_within =
+    made_within _ (λ _. 25) (λ a. omega arith) (pair_within within64 (pair_within within64 (any_within 8 number64 within64)))
+
+limiter_within : Within limits.limiter.reads (λ _. 52)
+unfolding limits.limiter
+limiter_within =
+    made_within _ (λ _. 52) (λ a. omega arith)
+    (pair_within (any_within 25 limits.bucket bucket_within) (any_within 25 limits.bucket bucket_within))
+
 abbrev drive_most : Drive → ℕ
-drive_most d = (4 + length d.drive_id) + ((4 + length d.path_on_host) + 16)
+drive_most d = (4 + length d.drive_id) + ((4 + length d.path_on_host) + 68)
 
 drive_within : Within drives.drive.reads drive_most
 unfolding drives.drive
 drive_within =
     made_within _ drive_most (λ a. omega arith)
-    (pair_within text_within (pair_within text_within (pair_within flag_within (pair_within flag_within (pair_within cache_within (zeros_within 1))))))
+    (pair_within text_within (pair_within text_within (pair_within flag_within (pair_within flag_within (pair_within cache_within (any_within 52 limits.limiter limiter_within))))))
 
 abbrev configuration_most : Configuration → ℕ
-configuration_most c = (1 + (source_most c.boot_source + ((4 + total drive_most c.drives) + 5))) + 20
+configuration_most c = (1 + (source_most c.boot_source + ((4 + total drive_most c.drives) + 5))) + 37
 
 fixed_within : (expected : List ℕ) → Within (fixed expected).reads (λ _. length expected)
 unfolding fixed
 fixed_within expected = constant_within expected _ (length expected) (omega arith)
+
+balloon_within : Within configured.balloon.reads (λ _. 17)
+unfolding configured.balloon
+balloon_within = made_within _ (λ _. 17) (λ a. omega arith) (pair_within within64 (pair_within flag_within within64))
 
 configuration_within : Within configured.configuration.reads configuration_most
 unfolding configured.configuration
@@ -84,7 +102,8 @@ configuration_within =
     made_within _ configuration_most (λ a. omega arith)
     (pair_within
     (pair_within (fixed_within (1 ∷ [])) (pair_within source_within (pair_within (list_within drives.drive drive_within) (zeros_within 5))))
-    (pair_within within64 (pair_within within64 (pair_within (zeros_within 1) (pair_within flag_within (zeros_within 2))))))
+    (pair_within within64 (pair_within within64 (pair_within (zeros_within 1)
+    (pair_within flag_within (pair_within (any_within 17 configured.balloon balloon_within) (zeros_within 1)))))))
 
 -- ---- the copy
 
@@ -178,7 +197,7 @@ few_reservations pages harts few (a ∷ others) all rises =
 -- ---- the other rules, part by part
 
 path_short : (path : List ℕ) → is_path path ≡ true → length path ≤ 4095
-path_short path is = leb-true _ _ (and_parts _ _ (and_parts _ _ is).0).1
+path_short path is = leb-true _ _ (and_parts _ _ (and_parts _ _ (and_parts _ _ is).0).0).1
 
 id_short : (id : List ℕ) → is_id id ≡ true → length id ≤ 64
 id_short id is = leb-true _ _ (and_parts _ _ (and_parts _ _ is).0).1
@@ -193,15 +212,16 @@ source_short b is =
     let paths = and_parts (is_path b.kernel_image_path) (are_paths b.initrd_path) args.0 in
     omega (arith, leb-true _ _ args.1, path_short b.kernel_image_path paths.0, paths_short b.initrd_path paths.1)
 
-drive_short : (d : Drive) → is_drive d ≡ true → drive_most d ≤ 4183
+drive_short : (d : Drive) → is_drive d ≡ true → drive_most d ≤ 4235
 drive_short d is =
-    let parts = and_parts (is_id d.drive_id) (is_path d.path_on_host) is in
+    let named = and_parts _ (holds is_limiter d.rate_limiter) is in
+    let parts = and_parts (is_id d.drive_id) (is_path d.path_on_host) named.0 in
     omega (arith, id_short d.drive_id parts.0, path_short d.path_on_host parts.1)
 
-drives_short : (ds : List Drive) → are_drives ds ≡ true → (length ds ≤ 16) × (total drive_most ds ≤ 4183 * length ds)
+drives_short : (ds : List Drive) → are_drives ds ≡ true → (length ds ≤ 16) × (total drive_most ds ≤ 4235 * length ds)
 drives_short ds is =
     let parts = and_parts (leb (length ds) 16) (list_all is_drive ds) (and_parts _ _ (and_parts _ _ is).0).0 in
-    (leb-true _ _ parts.0, total-pass drive_most is_drive 4183 drive_short ds parts.1)
+    (leb-true _ _ parts.0, total-pass drive_most is_drive 4235 drive_short ds parts.1)
 
 board_short : (harts : ℕ) (b : SavedBoard) → harts ≤ 32 → is_board harts b ≡ true → board_most b ≤ 5014
 board_short harts b few is =
@@ -220,9 +240,14 @@ machine_small c is =
     let harts = and_parts _ (leb m.vcpu_count 32) least.0 in
     (leb-true _ _ harts.1, omega (arith, eqb-true _ _ both.1, leb-true _ _ most.1))
 
-devices_few : (c : StateCopy) → has_devices c ≡ true
-    → (length c.ports ≡ length c.configuration.drives) × (length c.devices ≡ length c.configuration.drives)
-devices_few c is = let has = has_parts c is in (has.ports, has.devices)
+devices_few : (c : StateCopy) → has_devices c ≡ true → has_room c.configuration.drives c.configuration.balloon ≡ true
+    → (length c.ports ≤ 16) × (length c.devices ≤ 16)
+devices_few c is room =
+    let has = has_parts c is in
+    let few = leb-true (count_in c.configuration.drives c.configuration.balloon) 16 room in
+    let ports = many_ports c has in
+    let devices = many_devices c has in
+    (omega (arith, few, ports), omega (arith, few, devices))
 
 -- ---- all of it
 
@@ -237,10 +262,12 @@ copy_short c is =
     let harts = and_parts _ _ devices.0 in
     let count = and_parts _ (eqb (length c.harts) harts_there) harts.0 in
     let boards = and_parts _ (is_board harts_there c.board) count.0 in
-    let machine = and_parts _ (has_machine c c.configuration.machine) boards.0 in
+    let room = and_parts _ (has_room c.configuration.drives c.configuration.balloon) boards.0 in
+    let balloons = and_parts _ (holds (is_balloon c.configuration.machine.mem_size_mib) c.configuration.balloon) room.0 in
+    let machine = and_parts _ (has_machine c c.configuration.machine) balloons.0 in
     let configured = and_parts (is_source c.configuration.boot_source) (are_drives c.configuration.drives) machine.0 in
     let small = machine_small c machine.1 in
-    let few = devices_few c devices.1 in
+    let few = devices_few c devices.1 room.1 in
     let drives = drives_short c.configuration.drives configured.1 in
     omega (
       arith,

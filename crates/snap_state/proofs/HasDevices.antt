@@ -1,28 +1,37 @@
--- A copy that has the ports and devices that are configured has as many as there are drives, each of a block device.
-use Rattle.std.proofs.Common.{◌≡◌, ◌∙◌, suc, ◌==◌, ◌&&◌, Bool, true, false, refl, ap, List, [], ◌∷◌, length, map, arith}
-use Rattle.std.specs.List.{list_all}
-use Rattle.std.proofs.lemmas.Bool.{and_parts, eq-eqb, eqb-true}
-use Rattle.api_calls.specs.declared.call.Drive.{Drive}
+-- A copy that has the ports and devices that are configured has each of its kind.
+use Rattle.std.proofs.Common.{◌≡◌, ◌<◌, ◌+◌, ◌-◌, ℕ, zero, suc, ◌∙◌, true, refl, sym, ap, List, [], ◌∷◌, ◌++◌, length, map, drop, Option, Some, None, slice_get, arith}
+use Rattle.std.specs.Prelude.{is_none}
+use Rattle.std.proofs.lemmas.Bool.{and_parts}
 use Rattle.port_table.specs.declared.kind.DeviceKind.{DeviceKind}
 use Rattle.port_table.specs.declared.kind.DeviceKind.TheVariants.{Net, Block, Balloon, Vsock}
-use Rattle.port_table.specs.declared.state.PortState.{PortState}
-use Rattle.guest_devices.specs.declared.device.Device.{Device}
+use Rattle.api_calls.specs.declared.balloon.Balloon as configured
+use Rattle.api_calls.specs.declared.call.Drive.{Drive}
+use Rattle.vm_config.specs.Devices.{Configured, balloon_devices, count_in, devices_in, of_drive}
+use Rattle.vm_config.specs.Drives.{in_order}
+use Rattle.vm_config.proofs.DeviceLemmas.{counted_in, length-ordered}
+use Rattle.std.proofs.lemmas.List.{length-map}
 use Rattle.snap_state.specs.declared.copy.StateCopy.{StateCopy}
-use Rattle.snap_state.specs.Valid.{are_devices, are_kinds, has_devices, is_kind, kind_of, kinds_of, port_kind}
-
-abbrev pub is_block_port : PortState → Bool
-is_block_port p = is_kind Block (port_kind p)
-
-abbrev block_kinds : List Drive → List DeviceKind
-block_kinds drives = map (λ (d : Drive). Block) drives
+use Rattle.snap_state.specs.Valid.{are_devices, are_kinds, has_devices, is_kind, is_kind_due, kind_configured, kind_of, kinds_of, port_kind}
 
 -- ---- kinds
 
-block_is : (kind : DeviceKind) → is_kind Block kind ≡ true → kind ≡ Block
-block_is Block is = refl
-block_is Net is = cc
-block_is Balloon is = cc
-block_is Vsock is = cc
+kind_is : (due kind : DeviceKind) → is_kind due kind ≡ true → kind ≡ due
+kind_is Net Net is = refl
+kind_is Net Block is = absurd cc
+kind_is Net Balloon is = absurd cc
+kind_is Net Vsock is = absurd cc
+kind_is Block Net is = absurd cc
+kind_is Block Block is = refl
+kind_is Block Balloon is = absurd cc
+kind_is Block Vsock is = absurd cc
+kind_is Balloon Net is = absurd cc
+kind_is Balloon Block is = absurd cc
+kind_is Balloon Balloon is = refl
+kind_is Balloon Vsock is = absurd cc
+kind_is Vsock Net is = absurd cc
+kind_is Vsock Block is = absurd cc
+kind_is Vsock Balloon is = absurd cc
+kind_is Vsock Vsock is = refl
 
 kind_same : (kind : DeviceKind) → is_kind kind kind ≡ true
 kind_same Net = refl
@@ -30,158 +39,128 @@ kind_same Block = refl
 kind_same Balloon = refl
 kind_same Vsock = refl
 
-kinds_same : (kinds : List DeviceKind) → are_kinds kinds kinds ≡ true
-kinds_same [] = refl
-kinds_same (kind ∷ kinds) = rw (kind_same kind, kinds_same kinds) refl
+-- what stands at a number, and what stands behind it
+left_none : {A : Type 0} (xs : List A) (n : ℕ) → slice_get xs n ≡ None → drop n xs ≡ []
+left_none [] zero none = refl
+left_none [] (suc n) none = refl
+left_none (x ∷ xs) zero none = absurd cc
+left_none (x ∷ xs) (suc n) none = left_none xs n none
 
--- ports of block devices are of the kinds that as many drives have
-block_ports : (drives : List Drive) (ports : List PortState) → length ports ≡ length drives → list_all is_block_port ports ≡ true
-    → map port_kind ports ≡ block_kinds drives
-block_ports [] [] many each = refl
-block_ports [] (p ∷ ports) many each = absurd (omega (arith, many))
-block_ports (d ∷ drives) [] many each = absurd (omega (arith, many))
-block_ports (d ∷ drives) (p ∷ ports) many each =
-    let first = and_parts (is_block_port p) (list_all is_block_port ports) each in
-    ap (λ (kind : DeviceKind). kind ∷ map port_kind ports) (block_is p.kind first.0)
-    ∙ ap (λ (l : List DeviceKind). Block ∷ l) (block_ports drives ports (omega (arith, many)) first.1)
+left_some : {A : Type 0} (xs : List A) (n : ℕ) (x : A) → slice_get xs n ≡ Some x → drop n xs ≡ x ∷ drop (suc n) xs
+left_some {A} [] n x is = absurd cc
+left_some {A} (y ∷ xs) zero x is = let same : y ≡ x = cc in ap (λ (z : A). z ∷ xs) same
+left_some {A} (y ∷ xs) (suc n) x is = left_some xs n x is
 
--- ---- ports
+none_is : {A : Type 0} (o : Option A) → is_none o ≡ true → o ≡ None
+none_is None is = refl
+none_is (Some x) is = absurd cc
 
-ports_there : (drives : List Drive) (ports : List PortState) → are_kinds (block_kinds drives) (map port_kind ports) ≡ true
-    → (length ports ≡ length drives) × (list_all is_block_port ports ≡ true)
-ports_there [] [] is = (refl, refl)
-ports_there [] (p ∷ ports) is = cc
-ports_there (d ∷ drives) [] is = cc
-ports_there (d ∷ drives) (p ∷ ports) is =
-    let first = and_parts (is_block_port p) (are_kinds (block_kinds drives) (map port_kind ports)) is in
-    let rest = ports_there drives ports first.1 in
-    (ap suc rest.0, rw (first.0, rest.1) refl)
+-- kinds that pass from a number on are those that are due
+kinds_due : (due : List DeviceKind) (n : ℕ) (kinds : List DeviceKind) → are_kinds due n kinds ≡ true → kinds ≡ drop n due
+kinds_due due n [] is = sym (left_none due n (none_is (slice_get due n) is))
+kinds_due due n (kind ∷ kinds) is =
+    let parts = and_parts (is_kind_due (slice_get due n) kind) (are_kinds due (suc n) kinds) is in
+    by_due (slice_get due n) refl parts.0 (kinds_due due (suc n) kinds parts.1)
+  where
+    by_due : (o : Option DeviceKind) → slice_get due n ≡ o → is_kind_due o kind ≡ true → kinds ≡ drop (suc n) due
+        → kind ∷ kinds ≡ drop n due
+    by_due None there first rest = absurd cc
+    by_due (Some own) there first rest =
+        ap (λ (k : DeviceKind). k ∷ kinds) (kind_is own kind first) ∙ ap (λ (ks : List DeviceKind). own ∷ ks) rest
+        ∙ sym (left_some due n own there)
 
-ports_hold : (drives : List Drive) (ports : List PortState) → length ports ≡ length drives
-    → list_all is_block_port ports ≡ true → are_kinds (block_kinds drives) (map port_kind ports) ≡ true
-ports_hold [] [] many each = refl
-ports_hold [] (p ∷ ports) many each = absurd (omega (arith, many))
-ports_hold (d ∷ drives) [] many each = absurd (omega (arith, many))
-ports_hold (d ∷ drives) (p ∷ ports) many each =
-    let first = and_parts (is_block_port p) (list_all is_block_port ports) each in
-    rw (first.0, ports_hold drives ports (omega (arith, many)) first.1) refl
+-- and those pass
+due_kinds : (due : List DeviceKind) (n : ℕ) (kinds : List DeviceKind) → kinds ≡ drop n due → are_kinds due n kinds ≡ true
+due_kinds due n [] is = by_due (slice_get due n) refl
+  where
+    by_due : (o : Option DeviceKind) → slice_get due n ≡ o → is_none o ≡ true
+    by_due None there = refl
+    by_due (Some own) there = absurd (let e : [] ≡ own ∷ drop (suc n) due = is ∙ left_some due n own there in cc)
+due_kinds due n (kind ∷ kinds) is = by_due (slice_get due n) refl (λ rest. due_kinds due (suc n) kinds rest)
+  where
+    by_due : (o : Option DeviceKind) → slice_get due n ≡ o → (kinds ≡ drop (suc n) due → are_kinds due (suc n) kinds ≡ true)
+        → are_kinds due n (kind ∷ kinds) ≡ true
+    by_due None there more = absurd (let e : kind ∷ kinds ≡ [] = is ∙ left_none due n there in cc)
+    by_due (Some own) there more =
+        let e : kind ∷ kinds ≡ own ∷ drop (suc n) due = is ∙ left_some due n own there in
+        let first : kind ≡ own = cc in
+        let rest : kinds ≡ drop (suc n) due = cc in
+        rw (there, first, kind_same own, more rest) refl
 
--- ---- devices
+-- ---- the kinds that are due, by their numbers
 
-abbrev pub is_block_device : Device → Bool
-is_block_device d = is_kind Block (kind_of d)
+pub kind_front : (drives : List Drive) (rest : List Configured) (k : ℕ) → k < length drives
+    → slice_get (map kind_configured (map of_drive drives ++ rest)) k ≡ Some Block
+kind_front [] rest k lt = absurd (omega (arith, lt))
+kind_front (d ∷ drives) rest zero lt = refl
+kind_front (d ∷ drives) rest (suc k) lt = kind_front drives rest k (omega (arith, lt))
 
-block_devices : (drives : List Drive) (devices : List Device) → length devices ≡ length drives
-    → list_all is_block_device devices ≡ true → map kind_of devices ≡ block_kinds drives
-block_devices [] [] many each = refl
-block_devices [] (x ∷ devices) many each = absurd (omega (arith, many))
-block_devices (d ∷ drives) [] many each = absurd (omega (arith, many))
-block_devices (d ∷ drives) (x ∷ devices) many each =
-    let first = and_parts (is_block_device x) (list_all is_block_device devices) each in
-    ap (λ (kind : DeviceKind). kind ∷ map kind_of devices) (block_is (kind_of x) first.0)
-    ∙ ap (λ (l : List DeviceKind). Block ∷ l) (block_devices drives devices (omega (arith, many)) first.1)
+pub kind_behind : (drives : List Drive) (rest : List Configured) (k : ℕ)
+    → slice_get (map kind_configured (map of_drive drives ++ rest)) (length drives + k) ≡ slice_get (map kind_configured rest) k
+kind_behind [] rest k = let e : 0 + k ≡ k = omega arith in rw e refl
+kind_behind (d ∷ drives) rest k =
+    let e : length (d ∷ drives) + k ≡ suc (length drives + k) = omega arith in rw e (kind_behind drives rest k)
 
-devices_there : (drives : List Drive) (devices : List Device) → are_kinds (block_kinds drives) (map kind_of devices) ≡ true
-    → (length devices ≡ length drives) × (list_all is_block_device devices ≡ true)
-devices_there [] [] is = (refl, refl)
-devices_there [] (x ∷ devices) is = cc
-devices_there (d ∷ drives) [] is = cc
-devices_there (d ∷ drives) (x ∷ devices) is =
-    let first = and_parts (is_block_device x) (are_kinds (block_kinds drives) (map kind_of devices)) is in
-    let rest = devices_there drives devices first.1 in
-    (ap suc rest.0, rw (first.0, rest.1) refl)
+module _ (drives : List Drive) (balloon : Option configured.Balloon) (k : ℕ) where
+  pub drive_due : k < length drives → slice_get (map kind_configured (devices_in drives balloon)) k ≡ Some Block
+  drive_due lt =
+      kind_front (in_order drives) (balloon_devices balloon) k (let many = length-ordered drives in omega (arith, lt, many))
 
-devices_hold : (drives : List Drive) (devices : List Device) → length devices ≡ length drives
-    → list_all is_block_device devices ≡ true → are_kinds (block_kinds drives) (map kind_of devices) ≡ true
-devices_hold [] [] many each = refl
-devices_hold [] (x ∷ devices) many each = absurd (omega (arith, many))
-devices_hold (d ∷ drives) [] many each = absurd (omega (arith, many))
-devices_hold (d ∷ drives) (x ∷ devices) many each =
-    let first = and_parts (is_block_device x) (list_all is_block_device devices) each in
-    rw (first.0, devices_hold drives devices (omega (arith, many)) first.1) refl
+  pub balloon_due : k ≡ length drives
+      → slice_get (map kind_configured (devices_in drives balloon)) k ≡ slice_get (map kind_configured (balloon_devices balloon)) 0
+  balloon_due is =
+      let many = length-ordered drives in
+      let at : k ≡ length (in_order drives) + 0 = omega (arith, is, many) in
+      ap (slice_get (map kind_configured (devices_in drives balloon))) at ∙ kind_behind (in_order drives) (balloon_devices balloon) 0
+
+  one_balloon : (b : Option configured.Balloon) (j : ℕ) → slice_get (map kind_configured (balloon_devices b)) (suc j) ≡ None
+  one_balloon None j = refl
+  one_balloon (Some b) j = refl
+
+  pub none_due : length drives < k → slice_get (map kind_configured (devices_in drives balloon)) k ≡ None
+  none_due lt =
+      let many = length-ordered drives in
+      let past : ℕ = k - suc (length drives) in
+      let at : k ≡ length (in_order drives) + suc past = omega (arith, lt, many) in
+      ap (slice_get (map kind_configured (devices_in drives balloon))) at
+      ∙ kind_behind (in_order drives) (balloon_devices balloon) (suc past)
+      ∙ one_balloon balloon past
 
 -- ---- a copy
 
 pub record HasDevices (c : StateCopy) : Type 0 where
-  pub ports : length c.ports ≡ length c.configuration.drives
-  pub devices : length c.devices ≡ length c.configuration.drives
-  pub blocks : list_all is_block_port c.ports ≡ true
-  pub kinds : list_all is_block_device c.devices ≡ true
+  pub ports : map port_kind c.ports ≡ kinds_of c.configuration
+  pub devices : map kind_of c.devices ≡ kinds_of c.configuration
   pub each : are_devices c.pages 0 c.devices ≡ true
 
 pub has_parts : (c : StateCopy) → has_devices c ≡ true → HasDevices c
 has_parts c is =
     let p1 = and_parts _ (are_devices c.pages 0 c.devices) is in
     let p0 =
-    and_parts (are_kinds (block_kinds c.configuration.drives) (map port_kind c.ports))
-    (are_kinds (block_kinds c.configuration.drives) (map kind_of c.devices)) p1.0 in
-    let ports = ports_there c.configuration.drives c.ports p0.0 in
-    let devices = devices_there c.configuration.drives c.devices p0.1 in
+    and_parts (are_kinds (kinds_of c.configuration) 0 (map port_kind c.ports))
+    (are_kinds (kinds_of c.configuration) 0 (map kind_of c.devices)) p1.0 in
     record {
-      ports = ports.0;
-      devices = devices.0;
-      blocks = ports.1;
-      kinds = devices.1;
+      ports = kinds_due (kinds_of c.configuration) 0 (map port_kind c.ports) p0.0;
+      devices = kinds_due (kinds_of c.configuration) 0 (map kind_of c.devices) p0.1;
       each = p1.1;
     }
-
-pub has_all : (c : StateCopy) → HasDevices c → has_devices c ≡ true
-has_all c has =
-    rw (
-      ports_hold c.configuration.drives c.ports has.ports has.blocks,
-      devices_hold c.configuration.drives c.devices has.devices has.kinds,
-      has.each,
-    ) refl
-
--- by the kinds of its ports
-pub kinds_there : (c : StateCopy) → HasDevices c → map port_kind c.ports ≡ kinds_of c.configuration
-kinds_there c has = block_ports c.configuration.drives c.ports has.ports has.blocks
-
--- and of its devices
-pub devices_are : (c : StateCopy) → HasDevices c → map kind_of c.devices ≡ kinds_of c.configuration
-devices_are c has = block_devices c.configuration.drives c.devices has.devices has.kinds
 
 pub has_kinds : (c : StateCopy) → map port_kind c.ports ≡ kinds_of c.configuration → map kind_of c.devices ≡ kinds_of c.configuration
     → are_devices c.pages 0 c.devices ≡ true → has_devices c ≡ true
 has_kinds c kinds same each =
-    let ports : are_kinds (kinds_of c.configuration) (map port_kind c.ports) ≡ true =
-    ap (are_kinds (kinds_of c.configuration)) kinds ∙ kinds_same (kinds_of c.configuration) in
-    let devices : are_kinds (kinds_of c.configuration) (map kind_of c.devices) ≡ true =
-    ap (are_kinds (kinds_of c.configuration)) same ∙ kinds_same (kinds_of c.configuration) in
+    let ports = due_kinds (kinds_of c.configuration) 0 (map port_kind c.ports) kinds in
+    let devices = due_kinds (kinds_of c.configuration) 0 (map kind_of c.devices) same in
     rw (ports, devices, each) refl
 
--- ---- as the code tests it
+-- ---- how many there are
 
-same_test : (a b : Bool) → (a ≡ true → b ≡ true) → (b ≡ true → a ≡ true) → a ≡ b
-same_test true true to from = refl
-same_test true false to from = absurd (let is = to refl in cc)
-same_test false true to from = absurd (let is = from refl in cc)
-same_test false false to from = refl
+many_kinds : (c : StateCopy) → length (kinds_of c.configuration) ≡ count_in c.configuration.drives c.configuration.balloon
+many_kinds c =
+    length-map (devices_in c.configuration.drives c.configuration.balloon) kind_configured
+    ∙ counted_in c.configuration.drives c.configuration.balloon
 
-abbrev tested : StateCopy → Bool
-tested c =
-    (length c.ports == length c.configuration.drives) && (length c.devices == length c.configuration.drives)
-    && list_all is_block_port c.ports && list_all is_block_device c.devices && are_devices c.pages 0 c.devices
+pub many_ports : (c : StateCopy) → HasDevices c → length c.ports ≡ count_in c.configuration.drives c.configuration.balloon
+many_ports c has = sym (length-map c.ports port_kind) ∙ ap length has.ports ∙ many_kinds c
 
-tested_has : (c : StateCopy) → tested c ≡ true → HasDevices c
-tested_has c is =
-    let p3 = and_parts _ (are_devices c.pages 0 c.devices) is in
-    let p2 = and_parts _ (list_all is_block_device c.devices) p3.0 in
-    let p1 = and_parts _ (list_all is_block_port c.ports) p2.0 in
-    let p0 =
-    and_parts (length c.ports == length c.configuration.drives) (length c.devices == length c.configuration.drives) p1.0 in
-    record { ports = eqb-true _ _ p0.0; devices = eqb-true _ _ p0.1; blocks = p1.1; kinds = p2.1; each = p3.1 }
-
-has_tested : (c : StateCopy) → HasDevices c → tested c ≡ true
-has_tested c has =
-    rw (
-      eq-eqb (length c.ports) (length c.configuration.drives) has.ports,
-      eq-eqb (length c.devices) (length c.configuration.drives) has.devices,
-      has.blocks,
-      has.kinds,
-      has.each,
-    ) refl
-
-pub tested_is : (c : StateCopy) → tested c ≡ has_devices c
-tested_is c =
-    same_test (tested c) (has_devices c) (λ is. has_all c (tested_has c is)) (λ is. has_tested c (has_parts c is))
+pub many_devices : (c : StateCopy) → HasDevices c → length c.devices ≡ count_in c.configuration.drives c.configuration.balloon
+many_devices c has = sym (length-map c.devices kind_of) ∙ ap length has.devices ∙ many_kinds c

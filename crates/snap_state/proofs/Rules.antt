@@ -1,21 +1,24 @@
 -- What is known of a copy that there is.
 use Rattle.std.proofs.Common.{◌≡◌, ◌≤◌, ℕ, ◌*◌, true, not, if◌then◌else◌, length, refl, arith}
-use Rattle.std.specs.Prelude.{◌==◌, count_by, nat_le}
+use Rattle.std.specs.Prelude.{◌==◌, nat_le}
 use Rattle.std.specs.List.{list_all}
 use Rattle.std.proofs.lemmas.Bool.{and_parts, eqb-true, leb-true}
-use Rattle.api_calls.specs.Drives.{is_root}
+use Rattle.api_calls.specs.Form.{holds}
+use Rattle.vm_config.specs.Devices.{count_in}
 use Rattle.port_table.specs.Window.{most_ports}
 use Rattle.guest_memory.specs.Reserved.{hart_limit}
 use Rattle.guest_devices.specs.declared.device.Device.{Device}
 use Rattle.guest_devices.specs.Kept.{device_pages, device_port, is_kept}
 use Rattle.snap_state.specs.declared.copy.StateCopy.{StateCopy}
-use Rattle.snap_state.proofs.HasDevices.{has_parts, is_block_port}
-use Rattle.snap_state.specs.Valid.{are_devices, are_drives, are_sections, are_told_apart, has_devices, has_machine, is_board, is_device, is_drive, is_hart, is_machine, is_reserved, is_rising, is_source, is_valid}
+use Rattle.snap_state.proofs.HasDevices.{has_parts, many_devices, many_ports}
+use Rattle.snap_state.specs.Valid.{are_devices, are_drives, are_sections, has_devices, has_machine, has_room, is_balloon, is_board, is_device, is_hart, is_machine, is_reserved, is_rising, is_source, is_valid}
 
 pub record Rules (c : StateCopy) : Type 0 where
   pub source : is_source c.configuration.boot_source ≡ true
   pub drives : are_drives c.configuration.drives ≡ true
   pub machine : has_machine c c.configuration.machine ≡ true
+  pub balloon : holds (is_balloon c.configuration.machine.mem_size_mib) c.configuration.balloon ≡ true
+  pub room : has_room c.configuration.drives c.configuration.balloon ≡ true
   pub board : is_board c.configuration.machine.vcpu_count c.board ≡ true
   pub many : (length c.harts == c.configuration.machine.vcpu_count) ≡ true
   pub harts : list_all (is_hart c.pages) c.harts ≡ true
@@ -28,33 +31,37 @@ pub rules_of : (c : StateCopy) → is_valid c ≡ true → Rules c
 unfolding is_valid
 rules_of c valid =
     let m = c.configuration.machine in
-    let p9 = and_parts _ (are_sections c.sections) valid in
-    let p8 = and_parts _ (is_rising c.reservations) p9.0 in
-    let p7 = and_parts _ (list_all (is_reserved c.pages m.vcpu_count) c.reservations) p8.0 in
-    let p6 = and_parts _ (has_devices c) p7.0 in
-    let p5 = and_parts _ (list_all (is_hart c.pages) c.harts) p6.0 in
-    let p4 = and_parts _ (length c.harts == m.vcpu_count) p5.0 in
-    let p3 = and_parts _ (is_board m.vcpu_count c.board) p4.0 in
+    let p11 = and_parts _ (are_sections c.sections) valid in
+    let p10 = and_parts _ (is_rising c.reservations) p11.0 in
+    let p9 = and_parts _ (list_all (is_reserved c.pages m.vcpu_count) c.reservations) p10.0 in
+    let p8 = and_parts _ (has_devices c) p9.0 in
+    let p7 = and_parts _ (list_all (is_hart c.pages) c.harts) p8.0 in
+    let p6 = and_parts _ (length c.harts == m.vcpu_count) p7.0 in
+    let p5 = and_parts _ (is_board m.vcpu_count c.board) p6.0 in
+    let p4 = and_parts _ (has_room c.configuration.drives c.configuration.balloon) p5.0 in
+    let p3 = and_parts _ (holds (is_balloon m.mem_size_mib) c.configuration.balloon) p4.0 in
     let p2 = and_parts _ (has_machine c m) p3.0 in
     let p1 = and_parts (is_source c.configuration.boot_source) (are_drives c.configuration.drives) p2.0 in
     record {
       source = p1.0;
       drives = p1.1;
       machine = p2.1;
-      board = p3.1;
-      many = p4.1;
-      harts = p5.1;
-      devices = p6.1;
-      reservations = p7.1;
-      rising = p8.1;
-      sections = p9.1;
+      balloon = p3.1;
+      room = p4.1;
+      board = p5.1;
+      many = p6.1;
+      harts = p7.1;
+      devices = p8.1;
+      reservations = p9.1;
+      rising = p10.1;
+      sections = p11.1;
     }
 
 -- and they are all
 pub rules_hold : (c : StateCopy) → Rules c → is_valid c ≡ true
 unfolding is_valid
 rules_hold c r =
-    rw (r.source, r.drives, r.machine, r.board, r.many, r.harts, r.devices, r.reservations, r.rising, r.sections) refl
+    rw (r.source, r.drives, r.machine, r.balloon, r.room, r.board, r.many, r.harts, r.devices, r.reservations, r.rising, r.sections) refl
 
 -- ---- the machine: at most 32 harts, and 262,144 pages
 
@@ -78,24 +85,18 @@ few_pages c r =
 -- ---- ports and devices
 
 pub record Attached (c : StateCopy) : Type 0 where
-  pub ports : length c.ports ≡ length c.configuration.drives
-  pub devices : length c.devices ≡ length c.configuration.drives
-  pub few : length c.configuration.drives ≤ most_ports
-  pub blocks : list_all is_block_port c.ports ≡ true
+  pub ports : length c.ports ≡ count_in c.configuration.drives c.configuration.balloon
+  pub devices : length c.devices ≡ count_in c.configuration.drives c.configuration.balloon
+  pub few : count_in c.configuration.drives c.configuration.balloon ≤ most_ports
   pub each : are_devices c.pages 0 c.devices ≡ true
 
 pub attached : (c : StateCopy) → Rules c → Attached c
 attached c r =
-    let drives = c.configuration.drives in
     let has = has_parts c r.devices in
-    let d2 = and_parts _ (nat_le (count_by is_root drives) 1) r.drives in
-    let d1 = and_parts _ (are_told_apart drives) d2.0 in
-    let d0 = and_parts (nat_le (length drives) most_ports) (list_all is_drive drives) d1.0 in
     record {
-      ports = has.ports;
-      devices = has.devices;
-      few = leb-true _ _ d0.0;
-      blocks = has.blocks;
+      ports = many_ports c has;
+      devices = many_devices c has;
+      few = leb-true (count_in c.configuration.drives c.configuration.balloon) most_ports r.room;
       each = has.each;
     }
 

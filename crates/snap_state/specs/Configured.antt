@@ -3,6 +3,7 @@
 use Rattle.std.specs.Prelude.{[], ◌∷◌, refl}
 use Rattle.file_format.specs.Format.{Format}
 use Rattle.file_format.specs.Kinds.{number64, flag, text, optional, list_of, fixed, zeros, ◌&◌, made_of}
+use Rattle.api_calls.specs.declared.balloon.Balloon.{Balloon}
 use Rattle.snap_state.specs.Drives.{drive}
 use Rattle.snap_state.specs.declared.configuration.BootSource.{BootSource}
 use Rattle.snap_state.specs.declared.configuration.Configuration.{Configuration}
@@ -16,20 +17,34 @@ boot_source =
     (λ _. refl) (λ _. refl)
     (text & optional text & text)
 
+-- how much memory it is to take in MiB, whether its driver may take some back, and how many seconds are between two reports
+unfoldable pub balloon : Format Balloon
+balloon =
+    made_of (λ b. (b.amount_mib, (b.deflate_on_oom, b.stats_polling_interval_s)))
+    (λ (amount_mib, (deflate_on_oom, stats_polling_interval_s)).
+    record {
+      amount_mib = amount_mib;
+      deflate_on_oom = deflate_on_oom;
+      stats_polling_interval_s = stats_polling_interval_s;
+    })
+    (λ _. refl) (λ _. refl)
+    (number64 & flag & number64)
+
 -- The boot source, which is always there; the drives; no network interfaces, 4 zeros, and no vsock, one; the machine,
--- whose smt, a zero, stands before track_dirty_pages; no balloon and no metadata service, a zero each.
+-- whose smt, a zero, stands before track_dirty_pages; the balloon, if there is one; and no metadata service, a zero.
 unfoldable pub configuration : Format Configuration
 configuration =
     made_of
     (λ c. (
       (tt, (c.boot_source, (c.drives, tt))),
-      (c.machine.vcpu_count, (c.machine.mem_size_mib, (tt, (c.machine.track_dirty_pages, tt)))),
+      (c.machine.vcpu_count, (c.machine.mem_size_mib, (tt, (c.machine.track_dirty_pages, (c.balloon, tt))))),
     ))
-    (λ ((_, (boot_source, (drives, _))), (vcpu_count, (mem_size_mib, (_, (track_dirty_pages, _))))).
+    (λ ((_, (boot_source, (drives, _))), (vcpu_count, (mem_size_mib, (_, (track_dirty_pages, (balloon, _)))))).
     record {
       boot_source = boot_source;
       drives = drives;
       machine = record { vcpu_count = vcpu_count; mem_size_mib = mem_size_mib; track_dirty_pages = track_dirty_pages };
+      balloon = balloon;
     })
     (λ _. refl) (λ _. refl)
-    ((fixed (1 ∷ []) & boot_source & list_of drive & zeros 5) & (number64 & number64 & zeros 1 & flag & zeros 2))
+    ((fixed (1 ∷ []) & boot_source & list_of drive & zeros 5) & (number64 & number64 & zeros 1 & flag & optional balloon & zeros 1))

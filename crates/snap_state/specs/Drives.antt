@@ -4,11 +4,12 @@ use Rattle.std.specs.Str.{bytes_eq}
 use Rattle.std.proofs.Common.{Bool, true, false, sym, ap, ◌∙◌}
 use Rattle.std.proofs.lemmas.Slice.Eq.{bytes_eq-Decides}
 use Rattle.file_format.specs.Format.{Format}
-use Rattle.file_format.specs.Kinds.{flag, text, zeros, just, nothing, chosen_by, ◌&◌, made_of}
+use Rattle.file_format.specs.Kinds.{flag, text, optional, just, nothing, chosen_by, ◌&◌, made_of}
 use Rattle.api_calls.specs.declared.call.CacheType.{CacheType}
 use Rattle.api_calls.specs.declared.call.CacheType.TheVariants.{Unsafe, Writeback}
 use Rattle.api_calls.specs.declared.call.Drive.{Drive}
 use Rattle.api_calls.specs.Drives.{cache_text}
+use Rattle.snap_state.specs.Limits.{limiter}
 
 -- ---- how it is cached: a text, "Unsafe" or "Writeback"
 
@@ -34,19 +35,20 @@ cache_text-is name it fits = named_text name _ _ it refl refl fits
 unfoldable pub cache : Format CacheType
 cache = chosen_by text (λ name. only (cache_named name)) cache_text cache_text-is
 
--- ---- the drive: its id and its path, two flags, and how it is cached; no limiter, a zero
+-- ---- the drive: its id and its path, two flags, how it is cached, and its limits, if it has some
 
 unfoldable pub drive : Format Drive
 drive =
     made_of
-    (λ d. (d.drive_id, (d.path_on_host, (d.is_root_device, (d.is_read_only, (d.cache_type, tt))))))
-    (λ (drive_id, (path_on_host, (is_root_device, (is_read_only, (cache_type, _))))).
+    (λ d. (d.drive_id, (d.path_on_host, (d.is_root_device, (d.is_read_only, (d.cache_type, d.rate_limiter))))))
+    (λ (drive_id, (path_on_host, (is_root_device, (is_read_only, (cache_type, rate_limiter))))).
     record {
       drive_id = drive_id;
       path_on_host = path_on_host;
       is_root_device = is_root_device;
       is_read_only = is_read_only;
       cache_type = cache_type;
+      rate_limiter = rate_limiter;
     })
     (λ _. refl) (λ _. refl)
-    (text & text & flag & flag & cache & zeros 1)
+    (text & text & flag & flag & cache & optional limiter)

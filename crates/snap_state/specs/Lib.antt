@@ -1,3 +1,4 @@
+pub mod Limits
 pub mod Drives
 pub mod Configured
 pub mod Boards

@@ -1,11 +1,16 @@
 -- Which copies there are: what the fields must be besides fitting their places.
-use Rattle.std.specs.Prelude.{ℕ, suc, ◌*◌, ◌%◌, ◌==◌, nat_le, nat_lt, Bool, true, false, not, ◌&&◌, ◌||◌, if◌then◌else◌}
-use Rattle.std.specs.Prelude.{List, [], ◌∷◌, length, map, count_by, Option, None, Some, is_some, bit_and}
-use Rattle.std.specs.List.{list_all, list_any}
+use Rattle.std.specs.Prelude.{ℕ, suc, ◌*◌, ◌%◌, ◌^◌, ◌==◌, nat_le, nat_lt, Bool, true, false, not, ◌&&◌, ◌||◌, if◌then◌else◌}
+use Rattle.std.specs.Prelude.{List, [], ◌∷◌, length, map, count_by, Option, None, Some, is_none, is_some, bit_and, slice_get}
+use Rattle.std.specs.List.{list_all}
+use Rattle.api_calls.specs.declared.balloon.Balloon as balloon
 use Rattle.api_calls.specs.declared.call.Drive.{Drive}
 use Rattle.api_calls.specs.declared.call.MachineConfig.{MachineConfig}
-use Rattle.api_calls.specs.Drives.{is_named, is_root}
-use Rattle.api_calls.specs.Form.{is_id, is_path}
+use Rattle.api_calls.specs.Drives.{is_root}
+use Rattle.api_calls.specs.Form.{holds, is_id, is_path}
+use Rattle.api_calls.specs.Limits.{is_limiter}
+use Rattle.vm_config.specs.Devices.{Configured, count_in, devices_in, of_balloon, of_drive}
+use Rattle.vm_config.specs.Drives.{id_of_drive}
+use Rattle.vm_config.specs.Named.{are_apart}
 use Rattle.board_table.specs.Board.{ring_size}
 use Rattle.guest_memory.specs.Ram.{page_size, is_ram}
 use Rattle.guest_memory.specs.Reserved.{hart_limit}
@@ -47,20 +52,23 @@ abbrev pub is_machine : MachineConfig → Bool
 is_machine m =
     nat_le 1 m.vcpu_count && nat_le m.vcpu_count hart_limit && nat_le 4 m.mem_size_mib && nat_le m.mem_size_mib 1024
 
--- a drive's id is one that a path may name, and its file's path is one
+-- a drive's id is one that a path may name, its file's path is one, and its limits are such as there may be
 abbrev pub is_drive : Drive → Bool
-is_drive d = is_id d.drive_id && is_path d.path_on_host
+is_drive d = is_id d.drive_id && is_path d.path_on_host && holds is_limiter d.rate_limiter
 
--- no two have one id
-abbrev pub are_told_apart : List Drive → Bool
-are_told_apart [] = true
-are_told_apart (d ∷ others) = not (list_any (is_named d.drive_id) others) && are_told_apart others
-
--- one drive at most is the root device
+-- no two have one id, and one drive at most is the root device
 abbrev pub are_drives : List Drive → Bool
 are_drives drives =
-    nat_le (length drives) most_ports && list_all is_drive drives && are_told_apart drives
+    nat_le (length drives) most_ports && list_all is_drive drives && are_apart id_of_drive drives
     && nat_le (count_by is_root drives) 1
+
+-- the balloon of a machine of so many MiB takes no more than all of them
+abbrev pub is_balloon : ℕ → balloon.Balloon → Bool
+is_balloon mib b = nat_le b.amount_mib mib && nat_lt b.stats_polling_interval_s (2 ^ 16)
+
+-- there are as many devices as ports at most
+abbrev pub has_room : List Drive → Option balloon.Balloon → Bool
+has_room drives b = nat_le (count_in drives b) most_ports
 
 -- ---- the board
 
@@ -116,11 +124,14 @@ is_kind Balloon Balloon = true
 is_kind Vsock Vsock = true
 is_kind kind other = false
 
--- as many of these as of those, each of its kind
-abbrev pub are_kinds : List DeviceKind → List DeviceKind → Bool
-are_kinds [] [] = true
-are_kinds (kind ∷ kinds) (other ∷ others) = is_kind kind other && are_kinds kinds others
-are_kinds kinds others = false
+abbrev pub is_kind_due : Option DeviceKind → DeviceKind → Bool
+is_kind_due None kind = false
+is_kind_due (Some due) kind = is_kind due kind
+
+-- from this number on these are of the kinds that are due, and none lacks
+abbrev pub are_kinds : List DeviceKind → ℕ → List DeviceKind → Bool
+are_kinds due number [] = is_none (slice_get due number)
+are_kinds due number (kind ∷ others) = is_kind_due (slice_get due number) kind && are_kinds due (suc number) others
 
 abbrev pub port_kind : PortState → DeviceKind
 port_kind p = p.kind
@@ -128,9 +139,13 @@ port_kind p = p.kind
 abbrev pub kind_of : Device → DeviceKind
 kind_of d = number_of (kept_of d).kind
 
--- the devices of a machine by their numbers: a block device for each drive
+-- the kinds of the devices that are configured, by their numbers
+abbrev pub kind_configured : Configured → DeviceKind
+kind_configured (of_drive d) = Block
+kind_configured (of_balloon b) = Balloon
+
 abbrev pub kinds_of : Configuration → List DeviceKind
-kinds_of c = map (λ (d : Drive). Block) c.drives
+kinds_of c = map kind_configured (devices_in c.drives c.balloon)
 
 -- the device at this port of a guest of so many pages, with data that a device keeps
 abbrev pub is_device : ℕ → ℕ → Device → Bool
@@ -178,14 +193,16 @@ has_machine c m =
 -- a port and a device of each kind that is configured
 abbrev pub has_devices : StateCopy → Bool
 has_devices c =
-    are_kinds (kinds_of c.configuration) (map port_kind c.ports)
-    && are_kinds (kinds_of c.configuration) (map kind_of c.devices) && are_devices c.pages 0 c.devices
+    are_kinds (kinds_of c.configuration) 0 (map port_kind c.ports)
+    && are_kinds (kinds_of c.configuration) 0 (map kind_of c.devices) && are_devices c.pages 0 c.devices
 
 unfoldable pub is_valid : StateCopy → Bool
 is_valid c =
     is_source c.configuration.boot_source
     && are_drives c.configuration.drives
     && has_machine c c.configuration.machine
+    && holds (is_balloon c.configuration.machine.mem_size_mib) c.configuration.balloon
+    && has_room c.configuration.drives c.configuration.balloon
     && is_board c.configuration.machine.vcpu_count c.board
     && (length c.harts == c.configuration.machine.vcpu_count)
     && list_all (is_hart c.pages) c.harts

@@ -1,19 +1,20 @@
 // Which drives, ports and devices there are.
 ghost use Rattle.std.specs.Prelude.{◌≡◌, count_by, nat_le};
-ghost use Rattle.std.specs.List.{list_all, list_any};
-ghost use Rattle.api_calls.specs.Drives.{is_named, is_root};
+ghost use Rattle.std.specs.List.{list_all};
+ghost use Rattle.api_calls.specs.Drives.{is_root};
 ghost use Rattle.api_calls.specs.Form.{is_id, is_id_byte};
-ghost use Rattle.port_table.specs.declared.kind.DeviceKind.TheVariants as device_kind;
-ghost use Rattle.snap_state.specs.Valid.{are_devices, are_drives, are_told_apart};
-ghost use Rattle.snap_state.specs.Valid.{is_device, is_drive, is_kind, kind_of, port_kind};
+ghost use Rattle.vm_config.specs.Devices.{balloon_count};
+ghost use Rattle.vm_config.specs.Named.{are_apart, has_named};
+ghost use Rattle.snap_state.specs.Valid.{are_devices, are_drives, has_room, is_device, is_drive};
 
+use crate::configuration::Configuration;
+use crate::limits::holds_limiter;
 use crate::valid::is_path;
-use api_calls::Drive;
-use file_format::{Counted, Listed};
+use api_calls::{Balloon, Drive};
+use file_format::Listed;
 use guest_devices::Device;
-use mmio_port::Port;
-use port_table::DeviceKind;
 use snap_devices::Saved;
+use vm_config::Named;
 
 /// The board has a line for so many devices.
 const MOST_DEVICES: usize = 16;
@@ -42,27 +43,24 @@ fn is_id(id: &str) -> bool
 fn is_drive(drive: &Drive) -> bool
     ensures { result ≡ is_drive drive.now }
 {
-    is_id(drive.drive_id.as_str()) && is_path(&drive.path_on_host)
+    is_id(drive.drive_id.as_str())
+        && is_path(drive.path_on_host.as_str())
+        && holds_limiter(&drive.rate_limiter)
 }
 
-fn is_named(id: &str, drive: &Drive) -> bool
-    ensures { result ≡ is_named id.now drive.now }
+fn is_used<T: Named>(id: &str, things: &[T]) -> bool
+    ensures { result ≡ has_named T.id_of things.now id.now }
 {
-    drive.drive_id.as_str() == id
+    things.iter().any(|thing| thing.id() == id)
 }
 
-fn is_used(id: &str, drives: &[Drive]) -> bool
-    ensures { result ≡ list_any (is_named id.now) drives.now }
+// No two have one id.
+fn are_apart<T: Named>(things: &[T]) -> bool
+    ensures { result ≡ are_apart T.id_of things.now }
 {
-    drives.iter().any(|drive| is_named(id, drive))
-}
-
-fn are_told_apart(drives: &[Drive]) -> bool
-    ensures { result ≡ are_told_apart drives.now }
-{
-    let mut left = drives;
+    let mut left = things;
     while let Some((first, others)) = left.split_first() {
-        if is_used(first.drive_id.as_str(), others) {
+        if is_used(first.id(), others) {
             return false;
         }
         left = others;
@@ -88,36 +86,25 @@ pub fn are_drives(drives: &[Drive]) -> bool
 {
     drives.len() <= MOST_DEVICES
         && have_names(drives)
-        && are_told_apart(drives)
+        && are_apart(drives)
         && have_few_roots(drives)
 }
 
-fn is_block_port(item: &Counted<Saved<Port>>) -> bool
-    ensures { result ≡ is_kind device_kind.Block (port_kind item.now) }
+fn balloon_count(balloon: &Option<Balloon>) -> usize
+    ensures { result ≡ balloon_count balloon.now }
 {
-    let port = &item.value.value;
-    matches!(port.state().kind, DeviceKind::Block)
+    match balloon {
+        None => 0,
+        Some(_) => 1,
+    }
 }
 
-/// Whether these are ports of block devices.
-pub fn are_block_ports(ports: &[Counted<Saved<Port>>]) -> bool
-    ensures { result ≡ list_all (λ p. is_kind device_kind.Block (port_kind p)) ports.now }
+/// Whether there are no more devices than there may be.
+pub fn has_room(configuration: &Configuration) -> bool
+    ensures { result ≡ has_room configuration.now.drives configuration.now.balloon }
 {
-    ports.iter().all(|port| is_block_port(port))
-}
-
-fn is_block_device(item: &Listed<Saved<Device>>) -> bool
-    ensures { result ≡ is_kind device_kind.Block (kind_of item.now) }
-{
-    let kind = item.value.value.kind();
-    matches!(kind, DeviceKind::Block)
-}
-
-/// Whether these are block devices.
-pub fn are_block_devices(devices: &[Listed<Saved<Device>>]) -> bool
-    ensures { result ≡ list_all (λ d. is_kind device_kind.Block (kind_of d)) devices.now }
-{
-    devices.iter().all(|device| is_block_device(device))
+    let drives = configuration.drives.count();
+    drives + balloon_count(&configuration.balloon) <= MOST_DEVICES
 }
 
 fn is_device(pages: u32, port: usize, item: &Listed<Saved<Device>>) -> bool

@@ -2,7 +2,8 @@
 ghost use Rattle.snap_state.specs.Configured.{boot_source, configuration};
 
 use crate::drives::SavedDrives;
-use api_calls::MachineConfig;
+use crate::filed::{Filed, for_file, taken};
+use api_calls::{Balloon, MachineConfig};
 use file_format::{Input, ReadError, Stored, read_fixed, read_zeros, write_fixed, write_zeros};
 use std::alloc::{AllocError, Global};
 use vm_types::TextList;
@@ -22,6 +23,7 @@ pub struct Configuration {
     /// In the order in which they were first put.
     pub drives: SavedDrives,
     pub machine: MachineConfig,
+    pub balloon: Option<Balloon>,
 }
 
 #[tactic(auto, unfolding(crate::specs::Configured::boot_source))]
@@ -58,7 +60,8 @@ impl Stored for Configuration {
         self.machine.mem_size_mib.write(out)?;
         write_zeros(1, out)?;
         self.machine.track_dirty_pages.write(out)?;
-        write_zeros(2, out)?;
+        for_file(self.balloon).write(out)?;
+        write_zeros(1, out)?;
         Ok(())
     }
 
@@ -68,8 +71,10 @@ impl Stored for Configuration {
         read_zeros(5, input)?;
         let (vcpu_count, mem_size_mib) = Stored::read(alloc, input)?;
         read_zeros(1, input)?;
-        let track_dirty_pages = bool::read(alloc, input)?;
-        read_zeros(2, input)?;
+        let (track_dirty_pages, balloon): (bool, Option<Filed<Balloon>>) = Stored::read(
+            alloc, input,
+        )?;
+        read_zeros(1, input)?;
         Ok(Configuration {
             boot_source,
             drives,
@@ -78,6 +83,7 @@ impl Stored for Configuration {
                 mem_size_mib,
                 track_dirty_pages,
             },
+            balloon: taken(balloon),
         })
     }
 }

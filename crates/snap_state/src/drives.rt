@@ -1,13 +1,14 @@
 // Drives.
-ghost use Rattle.std.specs.Prelude.{◌≡◌, OnOk};
+ghost use Rattle.std.specs.Prelude.{◌≡◌, OnOk, length};
 ghost use Rattle.std.specs.List.{AllByRecursion};
 ghost use Rattle.file_format.specs.Kinds.{list_of, text, times};
 ghost use Rattle.file_format.specs.Readers.{put_all};
 ghost use Rattle.file_format.specs.Reading.{Takes};
 ghost use Rattle.snap_state.specs.Drives.{cache, cache_named, drive};
 
-use api_calls::{CacheType, Drive};
-use file_format::{Input, ReadError, Stored, read_zeros, write_count, write_zeros};
+use crate::filed::{Filed, for_file, taken};
+use api_calls::{CacheType, Drive, Limiter};
+use file_format::{Input, ReadError, Stored, write_count};
 use std::alloc::{AllocError, Global};
 use std::marker::Model;
 use vm_types::TextList;
@@ -25,6 +26,14 @@ impl Model for SavedDrives {
     ghost Value = { List Drive };
 
     ghost view = { λ d. d.drives.items };
+}
+
+impl SavedDrives {
+    pub fn count(&self) -> usize
+        ensures { result ≡ length self.now }
+    {
+        self.drives.len()
+    }
 }
 
 fn cache_named(name: &str) -> Option<CacheType>
@@ -80,7 +89,7 @@ fn write_drive(it: &Drive, out: &mut Vec<u8>) -> Result<(), AllocError>
     it.is_root_device.write(out)?;
     it.is_read_only.write(out)?;
     write_cache(it.cache_type, out)?;
-    write_zeros(1, out)?;
+    for_file(it.rate_limiter).write(out)?;
     Ok(())
 }
 
@@ -90,13 +99,14 @@ fn read_drive(alloc: Global, input: &mut Input) -> Result<Drive, ReadError>
 {
     let (drive_id, (path_on_host, (is_root_device, is_read_only))) = Stored::read(alloc, input)?;
     let cache_type = read_cache(alloc, input)?;
-    read_zeros(1, input)?;
+    let limiter: Option<Filed<Limiter>> = Stored::read(alloc, input)?;
     Ok(Drive {
         drive_id,
         path_on_host,
         is_root_device,
         is_read_only,
         cache_type,
+        rate_limiter: taken(limiter),
     })
 }
 

@@ -8,13 +8,17 @@
 #![tactic(auto)]
 
 mod attached;
+mod balloon;
 mod board;
 mod configuration;
 mod copy;
 mod devices;
 mod drives;
 mod file;
+mod filed;
+mod kinds;
 mod law;
+mod limits;
 mod valid;
 
 pub use board::SavedBoard;

@@ -2,18 +2,19 @@
 ghost use Rattle.std.specs.Prelude.{◌≡◌, ◌==◌, ◌&&◌, ◌≤◌, Option, List, ℕ, length};
 ghost use Rattle.std.specs.List.{list_all};
 ghost use Rattle.std.specs.Option.{option_copied};
-ghost use Rattle.api_calls.specs.Form.{is_path};
+ghost use Rattle.api_calls.specs.Form.{has_path_bytes, is_path};
 ghost use Rattle.snap_state.specs.Valid.{are_paths, is_source, is_machine, is_board, is_counted, is_aligned};
 ghost use Rattle.snap_state.specs.Valid.{has_bits, is_granule, asks, is_placed, is_hart, is_reserved};
-ghost use Rattle.port_table.specs.declared.kind.DeviceKind.TheVariants as device_kind;
 ghost use Rattle.snap_state.specs.Valid.{is_before, is_rising, has_machine, has_devices, is_valid};
-ghost use Rattle.snap_state.specs.Valid.{are_devices, are_sections, is_kind, kind_of, port_kind};
+ghost use Rattle.snap_state.specs.Valid.{are_sections};
 ghost use Rattle.snap_harts.specs.Copy.{regs_of};
 
-use crate::attached::{are_block_devices, are_block_ports, are_devices, are_drives};
+use crate::attached::{are_devices, are_drives, has_room};
+use crate::balloon::holds_balloon;
 use crate::board::SavedBoard;
 use crate::configuration::BootSource;
 use crate::copy::{Reservation, Section, StateCopy};
+use crate::kinds::{are_device_kinds, are_ports};
 use api_calls::MachineConfig;
 use guest_memory::{PAGE_SIZE, RAM_START, is_ram};
 use rv_doing::{effect_of_word, wanted};
@@ -23,12 +24,18 @@ use vm_types::TextList;
 
 const RING_SIZE: usize = 4096;
 
-/// Whether this is the name of a file: 1 to 4,095 bytes without a NUL.
-pub fn is_path(path: &TextList) -> bool
-    ensures { result ≡ is_path path.now }
+fn has_path_bytes(path: &str) -> bool
+    ensures { result ≡ has_path_bytes path.now }
 {
     let bytes = path.as_bytes();
     0 < bytes.len() && bytes.len() <= 4095 && !bytes.contains(&0)
+}
+
+/// Whether this is the name of a file: 1 to 4,095 bytes of UTF-8 without a NUL.
+pub fn is_path(path: &str) -> bool
+    ensures { result ≡ is_path path.now }
+{
+    has_path_bytes(path)
 }
 
 fn are_paths(path: &Option<TextList>) -> bool
@@ -36,14 +43,14 @@ fn are_paths(path: &Option<TextList>) -> bool
 {
     match path {
         None => true,
-        Some(path) => is_path(path),
+        Some(path) => is_path(path.as_str()),
     }
 }
 
 fn is_source(source: &BootSource) -> bool
     ensures { result ≡ is_source source.now }
 {
-    is_path(&source.kernel_image_path)
+    is_path(source.kernel_image_path.as_str())
         && are_paths(&source.initrd_path)
         && source.boot_args.as_bytes().len() <= 2048
 }
@@ -179,29 +186,14 @@ fn has_machine(copy: &StateCopy, machine: &MachineConfig) -> bool
         && copy.track_dirty_pages == machine.track_dirty_pages
 }
 
-// As many ports and devices as drives, each of a block device.
-fn are_attached(copy: &StateCopy) -> bool
-    ensures { result ≡ ((length copy.now.ports == length copy.now.configuration.drives)
-        && (length copy.now.devices == length copy.now.configuration.drives)
-        && list_all (λ p. is_kind device_kind.Block (port_kind p)) copy.now.ports
-        && list_all (λ d. is_kind device_kind.Block (kind_of d)) copy.now.devices
-        && are_devices copy.now.pages 0 copy.now.devices) }
-{
-    let drives = copy.configuration.drives.drives.len();
-    let ports = copy.ports.as_slice();
-    let devices = copy.devices.as_slice();
-    ports.len() == drives
-        && devices.len() == drives
-        && are_block_ports(ports)
-        && are_block_devices(devices)
-        && are_devices(copy.pages, devices)
-}
-
 // A port and a device of each kind that is configured.
 fn has_devices(copy: &StateCopy) -> bool
     ensures { result ≡ has_devices copy.now }
 {
-    are_attached(copy)
+    let devices = copy.devices.as_slice();
+    are_ports(&copy.configuration, copy.ports.as_slice())
+        && are_device_kinds(&copy.configuration, devices)
+        && are_devices(copy.pages, devices)
 }
 
 fn are_sections(sections: &[Section]) -> bool
@@ -220,6 +212,8 @@ pub fn is_valid(copy: &StateCopy) -> bool
     is_source(&copy.configuration.boot_source)
         && are_drives(&copy.configuration.drives.drives)
         && has_machine(copy, machine)
+        && holds_balloon(machine.mem_size_mib, &copy.configuration.balloon)
+        && has_room(&copy.configuration)
         && is_board(harts, &copy.board)
         && copy.harts.as_slice().len() as u64 == harts
         && are_harts(copy.pages, copy.harts.as_slice())

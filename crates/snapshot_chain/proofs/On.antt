@@ -1,6 +1,7 @@
 -- Inside an item a machine is ready, and its guest on, if it was so before the item.
-use Rattle.std.proofs.Common.{◌≡◌, ℕ, Bool, true, false, if◌then◌else◌, nat_lt, refl, ap, ◌∙◌, List, [], ◌∷◌, Option, Some, None, Result, Ok, Err, inl, inr}
+use Rattle.std.proofs.Common.{◌≡◌, ℕ, Bool, true, false, if◌then◌else◌, nat_lt, refl, ap, ◌∙◌, List, [], ◌∷◌, Option, Some, None, Result, Ok, Err, inl, inr, slice_get}
 use Rattle.std.specs.Prelude.{bit_or, ◌^◌}
+use Rattle.std.specs.FinMap.{get}
 use Rattle.vm_types.specs.Saved.{Saved}
 use Rattle.vm_types.specs.declared.ids.ActorId.TheVariants.{Device as DeviceId}
 use Rattle.refusals.specs.declared.refusal.Refusal.{Refusal}
@@ -9,24 +10,34 @@ use Rattle.metadata_store.specs.Store.{patched, put}
 use Rattle.http_stream.specs.Stream.{Connection}
 use Rattle.http_stream.specs.declared.request.Next.{Next}
 use Rattle.http_stream.specs.Conversation.{Conversation, ConversationFront, arrived}
+use Rattle.api_calls.specs.declared.balloon.Balloon.{Balloon}
+use Rattle.api_calls.specs.declared.limiter.Limiter.{Limiter}
 use Rattle.api_calls.specs.declared.call.SnapshotCreate.{SnapshotCreate}
 use Rattle.api_calls.specs.declared.call.SnapshotLoad.{SnapshotLoad}
 use Rattle.api_calls.specs.declared.call.VmState.TheVariants.{Paused, Resumed}
 use Rattle.vm_config.specs.declared.change.Change.{Change}
 use Rattle.vm_config.specs.declared.change.Change.TheVariants as change
+use Rattle.vm_config.specs.Changes.{with_amount, with_interval}
+use Rattle.vm_config.specs.Devices.{balloon_device}
 use Rattle.vm_config.specs.Drives.{device_of}
 use Rattle.response_form.specs.Responses.{Response}
 use Rattle.board_table.specs.Board.{Board}
 use Rattle.board_table.specs.Acts.{line_count, raise_line}
+use Rattle.port_table.specs.declared.state.PortState.{PortState}
+use Rattle.guest_devices.specs.declared.change.DeviceChange.{DeviceChange}
 use Rattle.guest_devices.specs.declared.device.Device.{Device}
+use Rattle.guest_devices.specs.Kinds.{sectors_change}
+use Rattle.flat_guest.specs.Changes.{board_shown}
 use Rattle.flat_guest.specs.Guest.{Guest}
 use Rattle.flat_snapshot.specs.Found.{Snapshot, found}
+use Rattle.flat_machine.specs.Balloon.{interval_told, target_in}
 use Rattle.flat_machine.specs.Items.{Talks}
+use Rattle.flat_machine.specs.Limits.{limits_told}
 use Rattle.flat_machine.specs.Outcome.{Left, Outcome}
 use Rattle.flat_machine.specs.Outcome.Outcome.{Answered, Failed, NoMemory}
 use Rattle.flat_machine.specs.Machine.{Machine, is_off, off_by}
 use Rattle.flat_machine.specs.Ready.{Ready}
-use Rattle.flat_machine.specs.Requests.{CreateFails, Creates, Fails, Leaves, LeavesBy, RequestStep, Restores, Stores, allowed, disk_of, halted, image_of, retold, started_from}
+use Rattle.flat_machine.specs.Requests.{CreateFails, Creates, Fails, Leaves, LeavesBy, RequestStep, Restores, Stores, allowed, disk_of, halted, image_of, relimited, resized, retargeted, retimed, sectors_of, shows_by, started_from, told_at}
 use Rattle.flat_machine.proofs.Between.{leaves_of}
 use Rattle.flat_machine.proofs.Ready.{request_ready, ready_is}
 use Rattle.snapshot_chain.specs.Chains.{IsInside}
@@ -46,12 +57,38 @@ raised_off b k = by_line (nat_lt k line_count)
     by_line true = refl
     by_line false = refl
 
-retold_on : (path : Option (List ℕ)) (number : Option ℕ) (saved : Saved) (guest : Option Guest) → off_by guest ≡ false
-    → off_by (retold path number saved guest) ≡ false
-retold_on (Some path) (Some k) saved (Some g) on = raised_off g.board k ∙ on
-retold_on (Some path) (Some k) saved None on = on
-retold_on (Some path) None saved guest on = on
-retold_on None number saved guest on = on
+shown_off : (shown : Option (List ℕ)) (b : Board) (k : ℕ) → (board_shown shown b k).off ≡ b.off
+shown_off None b k = refl
+shown_off (Some bytes) b k = raised_off b k
+
+-- where a device is told of a change
+told_on : (number : Option ℕ) (change : DeviceChange) (shows : Option PortState → Option (List ℕ)) (guest : Option Guest)
+    → off_by guest ≡ false → off_by (told_at number change shows guest) ≡ false
+told_on (Some k) change shows (Some g) on = shown_off (shows (slice_get g.ports k)) g.board k ∙ on
+told_on (Some k) change shows None on = on
+told_on None change shows (Some g) on = on
+told_on None change shows None on = on
+
+resized_on : (path : Option (List ℕ)) (number : Option ℕ) (saved : Saved) (guest : Option Guest) → off_by guest ≡ false
+    → off_by (resized path number saved guest) ≡ false
+resized_on None number saved guest on = on
+resized_on (Some path) number saved guest on =
+    let change : DeviceChange = sectors_change (sectors_of (get saved path)) in told_on number change (shows_by change) guest on
+
+relimited_on : (limiter : Option Limiter) (number : Option ℕ) (guest : Option Guest) → off_by guest ≡ false
+    → off_by (relimited limiter number guest) ≡ false
+relimited_on None number guest on = on
+relimited_on (Some l) number guest on = told_on number (limits_told l) (shows_by (limits_told l)) guest on
+
+retargeted_on : (balloon : Option Balloon) (number : Option ℕ) (guest : Option Guest) → off_by guest ≡ false
+    → off_by (retargeted balloon number guest) ≡ false
+retargeted_on None number guest on = on
+retargeted_on (Some b) number guest on = told_on number (interval_told b) (target_in b) guest on
+
+retimed_on : (balloon : Option Balloon) (number : Option ℕ) (guest : Option Guest) → off_by guest ≡ false
+    → off_by (retimed balloon number guest) ≡ false
+retimed_on None number guest on = on
+retimed_on (Some b) number guest on = told_on number (interval_told b) (shows_by (interval_told b)) guest on
 
 halted_on : (paused : Bool) (guest : Option Guest) → off_by guest ≡ false → off_by (halted paused guest) ≡ false
 halted_on true guest on = on
@@ -79,8 +116,16 @@ leaves_on : (it : Change) (m n : Machine) → On m → Leaves m it n → On n
 leaves_on (change.BootSource source) m n on is = ap is_off is ∙ on
 leaves_on (change.PutDrive drive) m n on is = ap is_off is ∙ on
 leaves_on (change.PatchDrive patch) m n on is =
-    ap is_off is ∙ retold_on patch.path_on_host (device_of m.config.drives patch.drive_id) m.saved m.guest on
+    let number : Option ℕ = device_of m.config.drives patch.drive_id in
+    ap is_off is
+    ∙ relimited_on patch.rate_limiter number (resized patch.path_on_host number m.saved m.guest)
+    (resized_on patch.path_on_host number m.saved m.guest on)
 leaves_on (change.MachineConfig machine) m n on is = ap is_off is ∙ on
+leaves_on (change.PutBalloon balloon) m n on is = ap is_off is ∙ on
+leaves_on (change.PatchBalloon patch) m n on is =
+    ap is_off is ∙ retargeted_on (with_amount patch m.config.balloon) (balloon_device m.config) m.guest on
+leaves_on (change.PatchStatistics patch) m n on is =
+    ap is_off is ∙ retimed_on (with_interval patch m.config.balloon) (balloon_device m.config) m.guest on
 leaves_on change.Start m n on is = ap is_off is ∙ started_on (image_of m) (disk_of m) m on
 leaves_on (change.State Paused) m n on is = ap is_off is ∙ halted_on m.paused m.guest on
 leaves_on (change.State Resumed) m n on is = ap is_off is ∙ on
@@ -99,6 +144,9 @@ fails_on (change.BootSource source) m left n on x = absurd x
 fails_on (change.PutDrive drive) m left n on x = absurd x
 fails_on (change.PatchDrive patch) m left n on x = on_is m n x.3 on
 fails_on (change.MachineConfig machine) m left n on x = absurd x
+fails_on (change.PutBalloon balloon) m left n on x = absurd x
+fails_on (change.PatchBalloon patch) m left n on x = absurd x
+fails_on (change.PatchStatistics patch) m left n on x = absurd x
 fails_on change.Start m left n on x = on_is m n x.1 on
 fails_on (change.State state) m left n on x = absurd x
 fails_on (change.CreateSnapshot it) m left n on x = create_fails_on m.guest m it left n on x

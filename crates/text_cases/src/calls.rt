@@ -1,13 +1,14 @@
 // A request as a call of the API.
 use crate::escapes::bytes_of;
-use api_calls::{ApiCall, CacheType, Drive, DrivePatch, Part, VmState};
+use crate::words::{add_limits, add_number, add_word};
+use api_calls::{ApiCall, Balloon, CacheType, Drive, DrivePatch, Part, VmState};
 use api_json::{ReadError, read};
 use http_stream::{HeaderList, Request};
 use std::alloc::{AllocError, Global};
 use vm_types::{ByteList, TextList};
 
-/// Puts the name of the call of a method, a path and a body at the end, for a drive with its fields, or the number of
-/// its refusal.
+/// Puts the name of the call of a method, a path and a body at the end, for a drive and a balloon with its
+/// fields, or the number of its refusal.
 pub fn add(alloc: Global, case: &str, text: &mut String) -> Result<(), AllocError> {
     let request = request_from(alloc, case)?;
     add_read(alloc, &request, text)
@@ -58,6 +59,9 @@ fn add_call(call: &ApiCall, text: &mut String) -> Result<(), AllocError> {
     match call {
         ApiCall::PutDrive(drive) => add_put(drive, text),
         ApiCall::PatchDrive(patch) => add_patch(patch, text),
+        ApiCall::PutBalloon(balloon) => add_balloon(balloon, text),
+        ApiCall::PatchBalloon(patch) => add_number(patch.amount_mib, text),
+        ApiCall::PatchStatistics(patch) => add_number(patch.stats_polling_interval_s, text),
         _ => Ok(()),
     }
 }
@@ -67,7 +71,8 @@ fn add_put(drive: &Drive, text: &mut String) -> Result<(), AllocError> {
     add_word(drive.path_on_host.as_str(), text)?;
     add_word(root_word(drive), text)?;
     add_word(access_word(drive), text)?;
-    add_word(cache_word(drive), text)
+    add_word(cache_word(drive), text)?;
+    add_limits("limits", &drive.rate_limiter, text)
 }
 
 fn root_word(drive: &Drive) -> &'static str {
@@ -95,16 +100,29 @@ fn cache_word(drive: &Drive) -> &'static str {
 
 fn add_patch(patch: &DrivePatch, text: &mut String) -> Result<(), AllocError> {
     add_word(patch.drive_id.as_str(), text)?;
-    match &patch.path_on_host {
-        Some(path) => add_word(path.as_str(), text),
+    add_some(&patch.path_on_host, text)?;
+    add_limits("limits", &patch.rate_limiter, text)
+}
+
+fn add_some(word: &Option<TextList>, text: &mut String) -> Result<(), AllocError> {
+    match word {
+        Some(word) => add_word(word.as_str(), text),
         None => Ok(()),
     }
 }
 
-// Puts a space and a word at the end.
-fn add_word(word: &str, text: &mut String) -> Result<(), AllocError> {
-    text.push(' ')?;
-    text.push_str(word)
+fn add_balloon(balloon: &Balloon, text: &mut String) -> Result<(), AllocError> {
+    add_number(balloon.amount_mib, text)?;
+    add_word(deflating_word(balloon), text)?;
+    add_number(balloon.stats_polling_interval_s, text)
+}
+
+fn deflating_word(balloon: &Balloon) -> &'static str {
+    if balloon.deflate_on_oom {
+        "deflates"
+    } else {
+        "stays"
+    }
 }
 
 fn name(call: &ApiCall) -> &'static str {
@@ -114,6 +132,9 @@ fn name(call: &ApiCall) -> &'static str {
         ApiCall::PatchDrive(_) => "drive-patch",
         ApiCall::PutMachineConfig(_) => "machine-put",
         ApiCall::PatchMachineConfig(_) => "machine-patch",
+        ApiCall::PutBalloon(_) => "balloon-put",
+        ApiCall::PatchBalloon(_) => "balloon-patch",
+        ApiCall::PatchStatistics(_) => "statistics-patch",
         ApiCall::PutMetadata(_) => "metadata-put",
         ApiCall::PatchMetadata(_) => "metadata-patch",
         ApiCall::InstanceStart => "start",
@@ -126,5 +147,7 @@ fn name(call: &ApiCall) -> &'static str {
         ApiCall::Get(Part::MachineConfig) => "machine",
         ApiCall::Get(Part::Metadata) => "metadata",
         ApiCall::Get(Part::VmConfig) => "config",
+        ApiCall::Get(Part::Balloon) => "balloon",
+        ApiCall::Get(Part::Statistics) => "statistics",
     }
 }

@@ -13,6 +13,7 @@ mod metadata;
 mod refused;
 mod scripts;
 mod streams;
+mod words;
 mod written;
 
 use metadata_service::Service;

@@ -1,2 +1,5 @@
-pub mod DriveLemmas
+pub mod Apart
+pub mod DeviceLemmas
+pub mod NamedLemmas
+pub mod NumberLemmas
 pub mod TextLemmas

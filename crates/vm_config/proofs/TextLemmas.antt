@@ -1,10 +1,61 @@
--- No drive is told by a number that isn't whole.
-use Rattle.std.proofs.Common.{◌≡◌, false, List, [], ◌∷◌, map, refl}
+-- No number that is told is one that isn't whole.
+use Rattle.std.proofs.Common.{◌≡◌, ℕ, false, List, [], ◌∷◌, map, Option, Some, None, refl}
+use Rattle.std.proofs.lemmas.Bool.{or_from}
 use Rattle.serde_json.specs.View.{items_of}
-use Rattle.serde_json.specs.Written.{items_have_float}
+use Rattle.serde_json.specs.Written.{has_float, items_have_float, members_have_float}
+use Rattle.api_calls.specs.declared.balloon.Balloon.{Balloon}
+use Rattle.api_calls.specs.declared.call.BootSource.{BootSource}
 use Rattle.api_calls.specs.declared.call.Drive.{Drive}
-use Rattle.vm_config.specs.Texts.{drive}
+use Rattle.api_calls.specs.declared.limiter.BucketConfig.{BucketConfig}
+use Rattle.api_calls.specs.declared.limiter.Limiter.{Limiter}
+use Rattle.vm_config.specs.declared.config.Config.{Config}
+use Rattle.vm_config.specs.declared.statistics.Statistics.{Statistics}
+use Rattle.vm_config.specs.Statistics.{given, rows_of}
+use Rattle.vm_config.specs.Texts as texts
 
-pub drives_whole : (ds : List Drive) → items_have_float (items_of (map drive ds)) ≡ false
+text_whole : (t : Option (List ℕ)) → has_float (texts.text_or_null t) ≡ false
+text_whole None = refl
+text_whole (Some t) = refl
+
+number_whole : (n : Option ℕ) → has_float (texts.number_or_null n) ≡ false
+number_whole None = refl
+number_whole (Some n) = refl
+
+bucket_whole : (b : Option BucketConfig) → has_float (texts.bucket b) ≡ false
+bucket_whole None = refl
+bucket_whole (Some b) = or_from _ _ (number_whole b.one_time_burst) refl
+
+limiter_whole : (l : Option Limiter) → has_float (texts.limiter l) ≡ false
+limiter_whole None = refl
+limiter_whole (Some l) = or_from _ _ (bucket_whole l.bandwidth) (or_from _ _ (bucket_whole l.ops) refl)
+
+drive_whole : (d : Drive) → has_float (texts.drive d) ≡ false
+drive_whole d = or_from _ _ (limiter_whole d.rate_limiter) refl
+
+drives_whole : (ds : List Drive) → items_have_float (items_of (map texts.drive ds)) ≡ false
 drives_whole [] = refl
-drives_whole (d ∷ ds) = drives_whole ds
+drives_whole (d ∷ ds) = or_from _ _ (drive_whole d) (drives_whole ds)
+
+source_whole : (s : Option BootSource) → has_float (texts.boot_source s) ≡ false
+source_whole None = refl
+source_whole (Some s) = or_from _ _ (text_whole s.initrd_path) refl
+
+pub balloon_whole : (b : Option Balloon) → has_float (texts.balloon b) ≡ false
+balloon_whole None = refl
+balloon_whole (Some b) = refl
+
+pub config_whole : (c : Config) → has_float (texts.vm_config c) ≡ false
+config_whole c =
+    or_from _ _ (balloon_whole c.balloon)
+    (or_from _ _ (source_whole c.boot_source)
+    (or_from _ _ (drives_whole c.drives) refl))
+
+given_whole : (rows : List (List ℕ × Option ℕ)) → members_have_float (given rows) ≡ false
+given_whole [] = refl
+given_whole ((name, Some n) ∷ rows) = given_whole rows
+given_whole ((name, None) ∷ rows) = given_whole rows
+
+pub statistics_whole : (b : Option Balloon) (s : Option Statistics) → has_float (texts.statistics_by b s) ≡ false
+statistics_whole None s = refl
+statistics_whole (Some b) None = refl
+statistics_whole (Some b) (Some s) = given_whole (rows_of b.amount_mib s)

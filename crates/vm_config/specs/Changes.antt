@@ -1,26 +1,41 @@
 -- What is configured, and what each change leaves of it.
-use Rattle.std.specs.Prelude.{Bool, true, false, [], Some, None}
+use Rattle.std.specs.Prelude.{Bool, true, false, [], Option, Some, None, option_map}
+use Rattle.api_calls.specs.declared.balloon.Balloon.{Balloon}
+use Rattle.api_calls.specs.declared.balloon.BalloonPatch.{BalloonPatch}
+use Rattle.api_calls.specs.declared.balloon.StatisticsPatch.{StatisticsPatch}
 use Rattle.vm_config.specs.Drives.{put_drive, patch_drive}
 use Rattle.vm_config.specs.declared.config.Config.{Config}
 use Rattle.vm_config.specs.declared.change.Change.{Change}
 use Rattle.vm_config.specs.declared.change.Change.TheVariants as change
 
--- no boot source, no drive, one hart and 128 MiB
+-- no boot source, no drive, no balloon, one hart and 128 MiB
 abbrev pub default_config : Config
 default_config = record {
   boot_source = None;
   drives = [];
   machine = record { vcpu_count = 1; mem_size_mib = 128; track_dirty_pages = false };
+  balloon = None;
   configured = false;
 }
 
--- What is allowed only before boot makes it configured: a boot source, a drive, a machine, a start and a load. What was
--- configured before is replaced. The metadata are no part of it.
+-- a PATCH of the balloon, where there is one
+abbrev pub with_amount : BalloonPatch → Option Balloon → Option Balloon
+with_amount patch balloon = option_map (λ (b : Balloon). record b { amount_mib = patch.amount_mib }) balloon
+
+abbrev pub with_interval : StatisticsPatch → Option Balloon → Option Balloon
+with_interval patch balloon =
+    option_map (λ (b : Balloon). record b { stats_polling_interval_s = patch.stats_polling_interval_s }) balloon
+
+-- What is allowed only before boot makes it configured: a boot source, a drive, a machine, a balloon, a start and
+-- a load. What was configured before is replaced. The metadata are no part of it.
 abbrev pub changed : Config → Change → Config
 changed config (change.BootSource source) = record config { boot_source = Some source; configured = true }
 changed config (change.PutDrive drive) = record config { drives = put_drive config.drives drive; configured = true }
 changed config (change.PatchDrive patch) = record config { drives = patch_drive config.drives patch }
 changed config (change.MachineConfig machine) = record config { machine = machine; configured = true }
+changed config (change.PutBalloon balloon) = record config { balloon = Some balloon; configured = true }
+changed config (change.PatchBalloon patch) = record config { balloon = with_amount patch config.balloon }
+changed config (change.PatchStatistics patch) = record config { balloon = with_interval patch config.balloon }
 changed config (change.PutMetadata body) = config
 changed config (change.PatchMetadata patch) = config
 changed config change.Start = record config { configured = true }
@@ -35,6 +50,9 @@ takes_memory (change.BootSource source) = false
 takes_memory (change.PutDrive drive) = true
 takes_memory (change.PatchDrive patch) = false
 takes_memory (change.MachineConfig machine) = false
+takes_memory (change.PutBalloon balloon) = false
+takes_memory (change.PatchBalloon patch) = false
+takes_memory (change.PatchStatistics patch) = false
 takes_memory (change.PutMetadata body) = false
 takes_memory (change.PatchMetadata patch) = false
 takes_memory change.Start = false

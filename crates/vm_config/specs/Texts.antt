@@ -4,15 +4,20 @@ use Rattle.std.specs.Prelude.{ℕ, false, List, map, codes, Option, Some, None}
 use Rattle.serde_json.specs.Data.{Data, null, boolean, number, string, array, object, unsigned, no_items, member, no_members}
 use Rattle.serde_json.specs.View.{items_of}
 use Rattle.serde_json.specs.Written.{compact_text}
+use Rattle.api_calls.specs.declared.balloon.Balloon.{Balloon}
 use Rattle.api_calls.specs.declared.call.BootSource.{BootSource}
 use Rattle.api_calls.specs.declared.call.Drive.{Drive}
 use Rattle.api_calls.specs.Drives.{cache_text}
 use Rattle.api_calls.specs.declared.call.MachineConfig.{MachineConfig}
 use Rattle.api_calls.specs.declared.call.Part.{Part}
 use Rattle.api_calls.specs.declared.call.Part.TheVariants as part
+use Rattle.api_calls.specs.declared.limiter.BucketConfig.{BucketConfig}
+use Rattle.api_calls.specs.declared.limiter.Limiter.{Limiter}
 use Rattle.vm_config.specs.declared.config.Config.{Config}
 use Rattle.vm_config.specs.declared.config.Phase.{Phase}
 use Rattle.vm_config.specs.declared.config.Phase.TheVariants as phase
+use Rattle.vm_config.specs.declared.statistics.Statistics.{Statistics}
+use Rattle.vm_config.specs.Statistics.{statistics}
 
 abbrev pub phase_text : Phase → List ℕ
 phase_text phase.NotStarted = codes "Not started"
@@ -54,7 +59,29 @@ abbrev pub boot_source : Option BootSource → Data
 boot_source None = null
 boot_source (Some s) = given_source s
 
--- no drive has a rate limiter yet
+-- a number that is there, or null
+abbrev pub number_or_null : Option ℕ → Data
+number_or_null None = null
+number_or_null (Some n) = number (unsigned n)
+
+abbrev pub given_bucket : BucketConfig → Data
+given_bucket b = object (
+    member (codes "one_time_burst") (number_or_null b.one_time_burst)
+    (member (codes "refill_time") (number (unsigned b.refill_time))
+    (member (codes "size") (number (unsigned b.size)) no_members)))
+
+abbrev pub bucket : Option BucketConfig → Data
+bucket None = null
+bucket (Some b) = given_bucket b
+
+abbrev pub given_limiter : Limiter → Data
+given_limiter l =
+    object (member (codes "bandwidth") (bucket l.bandwidth) (member (codes "ops") (bucket l.ops) no_members))
+
+abbrev pub limiter : Option Limiter → Data
+limiter None = null
+limiter (Some l) = given_limiter l
+
 abbrev pub drive : Drive → Data
 drive d = object (
     member (codes "cache_type") (string (cache_text d.cache_type))
@@ -62,15 +89,32 @@ drive d = object (
     (member (codes "is_read_only") (boolean d.is_read_only)
     (member (codes "is_root_device") (boolean d.is_root_device)
     (member (codes "path_on_host") (string d.path_on_host)
-    (member (codes "rate_limiter") null no_members))))))
+    (member (codes "rate_limiter") (limiter d.rate_limiter) no_members))))))
 
 abbrev pub drives : List Drive → Data
 drives ds = array (items_of (map drive ds))
 
+abbrev pub given_balloon : Balloon → Data
+given_balloon b = object (
+    member (codes "amount_mib") (number (unsigned b.amount_mib))
+    (member (codes "deflate_on_oom") (boolean b.deflate_on_oom)
+    (member (codes "stats_polling_interval_s") (number (unsigned b.stats_polling_interval_s)) no_members)))
+
+-- GET /balloon
+abbrev pub balloon : Option Balloon → Data
+balloon None = null
+balloon (Some b) = given_balloon b
+
+-- GET /balloon/statistics, which is refused where there is no balloon
+abbrev pub statistics_by : Option Balloon → Option Statistics → Data
+statistics_by (Some b) (Some s) = statistics b.amount_mib s
+statistics_by None s = null
+statistics_by (Some b) None = null
+
 -- GET /vm/config
 abbrev pub vm_config : Config → Data
 vm_config c = object (
-    member (codes "balloon") null
+    member (codes "balloon") (balloon c.balloon)
     (member (codes "boot-source") (boot_source c.boot_source)
     (member (codes "drives") (drives c.drives)
     (member (codes "machine-config") (machine c.machine)
@@ -78,13 +122,23 @@ vm_config c = object (
     (member (codes "network-interfaces") (array no_items)
     (member (codes "vsock") null no_members)))))))
 
-abbrev pub data_of : Part → List ℕ → Phase → Config → Data → Data
-data_of part.Instance id p c metadata = instance id p
-data_of part.Version id p c metadata = version
-data_of part.MachineConfig id p c metadata = machine c.machine
-data_of part.Metadata id p c metadata = metadata
-data_of part.VmConfig id p c metadata = vm_config c
+-- What there is to tell of a machine: its id, its phase, what is configured, its metadata, and what its balloon tells if it
+-- has one that runs.
+pub record Told : Type 0 where
+  pub id : List ℕ
+  pub phase : Phase
+  pub config : Config
+  pub metadata : Data
+  pub statistics : Option Statistics
 
--- of the machine with this id in this phase, and with these metadata
-abbrev pub text_of : Part → List ℕ → Phase → Config → Data → List ℕ
-text_of which id p c metadata = compact_text (data_of which id p c metadata)
+abbrev pub data_of : Part → Told → Data
+data_of part.Instance told = instance told.id told.phase
+data_of part.Version told = version
+data_of part.MachineConfig told = machine told.config.machine
+data_of part.Metadata told = told.metadata
+data_of part.VmConfig told = vm_config told.config
+data_of part.Balloon told = balloon told.config.balloon
+data_of part.Statistics told = statistics_by told.config.balloon told.statistics
+
+abbrev pub text_of : Part → Told → List ℕ
+text_of which told = compact_text (data_of which told)

@@ -1,6 +1,7 @@
 // What accepted calls ask for.
 use api_calls::{
-    BootSource, Drive, DrivePatch, MachineConfig, Part, SnapshotCreate, SnapshotLoad, VmState,
+    Balloon, BalloonPatch, BootSource, Drive, DrivePatch, MachineConfig, Part, SnapshotCreate,
+    SnapshotLoad, StatisticsPatch, VmState,
 };
 use metadata_store::Tree;
 
@@ -15,6 +16,12 @@ pub enum Change {
     PatchDrive(DrivePatch),
     /// The machine is this one.
     MachineConfig(MachineConfig),
+    /// The balloon is this one.
+    PutBalloon(Balloon),
+    /// The guest is to give so much memory from now on.
+    PatchBalloon(BalloonPatch),
+    /// There are so many seconds between two reports of the balloon from now on.
+    PatchStatistics(StatisticsPatch),
     /// The metadata are this body.
     PutMetadata(Tree),
     /// This is merged into the metadata.

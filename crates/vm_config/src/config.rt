@@ -1,12 +1,12 @@
 // What is configured.
 ghost use Rattle.std.specs.Prelude.{◌≡◌, true, false, IsOk, IfOk, OnOk, OnErr};
 ghost use Rattle.vm_config.specs.Changes.{changed, default_config, takes_memory};
-ghost use Rattle.vm_config.specs.Devices.{device_count};
 ghost use Rattle.vm_config.specs.Drives.{put_drive};
 
+use crate::balloon::{with_amount, with_interval};
 use crate::change::Change;
 use crate::drives::Drives;
-use api_calls::{BootSource, Drive, MachineConfig};
+use api_calls::{Balloon, BootSource, Drive, MachineConfig};
 use std::alloc::{AllocError, Global};
 
 const DEFAULT_HARTS: u64 = 1;
@@ -27,12 +27,13 @@ pub struct Config {
     pub boot_source: Option<BootSource>,
     pub drives: Drives,
     pub machine: MachineConfig,
+    pub balloon: Option<Balloon>,
     /// Whether any call that is allowed only before boot was accepted.
     pub configured: bool,
 }
 
 impl Config {
-    /// What a machine has before the first call: no boot source, no drive, one hart and 128 MiB.
+    /// What a machine has before the first call: no boot source, no device, one hart and 128 MiB.
     pub fn new(alloc: Global) -> Config
         ensures { result ≡ default_config }
     {
@@ -44,19 +45,13 @@ impl Config {
                 mem_size_mib: DEFAULT_MIB,
                 track_dirty_pages: false,
             },
+            balloon: None,
             configured: false,
         }
     }
 
-    /// How many devices a machine has by what is configured: one for each drive, and no others yet.
-    pub fn device_count(&self) -> usize
-        ensures { result ≡ device_count self.now }
-    {
-        self.drives.len()
-    }
-
-    /// Takes what an accepted call changes. What is given moves in, so that only one drive more takes memory. An `Err`
-    /// changes nothing.
+    /// Takes what an accepted call changes. What is given moves in, so that only one drive more takes
+    /// memory. An `Err` changes nothing.
     pub fn apply(&mut self, change: Change) -> Result<(), AllocError>
         ensures succeeds { takes_memory change ≡ false → IsOk result }
         ensures ok { OnOk result (self.new ≡ changed self.old change) }
@@ -73,6 +68,12 @@ impl Config {
                 self.machine = machine;
                 self.configured = true;
             }
+            Change::PutBalloon(balloon) => {
+                self.balloon = Some(balloon);
+                self.configured = true;
+            }
+            Change::PatchBalloon(patch) => self.balloon = with_amount(patch, self.balloon),
+            Change::PatchStatistics(patch) => self.balloon = with_interval(patch, self.balloon),
             Change::Start => self.configured = true,
             Change::LoadSnapshot(_load) => self.configured = true,
             Change::PutMetadata(_body) => {}

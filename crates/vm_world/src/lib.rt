@@ -3,7 +3,7 @@
 //! `World::step` makes the flat machine's event (`FlatStep` of `flat_guest/specs/Steps.antt`) of each guest that the
 //! world is, and refuses exactly what isn't one, with nothing changed. `World::run` makes so many events of one actor,
 //! or as many as there are before the guest is off or the actor waits for a host object's reply. `World::change` is
-//! what the API changes of a device.
+//! what the API changes of a device, and `World::statistics` what a balloon tells.
 #![tactic(auto)]
 
 mod actors;

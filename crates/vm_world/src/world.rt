@@ -26,6 +26,7 @@ ghost use Rattle.vm_world.specs.Worlds.{IsWorld, MakesEvent, Runs, place_in, wan
 
 mod changing;
 mod parting;
+mod telling;
 
 use crate::actors::{give_hart, start_harts, want_of_hart};
 use crate::hart_run::{act_on_port, run_hart};

@@ -61,6 +61,7 @@ pub(crate) fn configuration_of(alloc: Global, config: &Config) -> Result<Configu
           boot_source = source_of config.now.boot_source;
           drives = config.now.drives;
           machine = config.now.machine;
+          balloon = config.now.balloon;
         }) }
 {
     let boot_source = source_of(alloc, &config.boot_source)?;
@@ -69,6 +70,7 @@ pub(crate) fn configuration_of(alloc: Global, config: &Config) -> Result<Configu
         boot_source,
         drives,
         machine: config.machine,
+        balloon: config.balloon,
     })
 }
 
@@ -88,6 +90,7 @@ pub fn config_of(configuration: Configuration, track_dirty_pages: bool) -> Confi
             mem_size_mib: configuration.machine.mem_size_mib,
             track_dirty_pages,
         },
+        balloon: configuration.balloon,
         configured: true,
     }
 }

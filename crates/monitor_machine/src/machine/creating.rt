@@ -32,6 +32,7 @@ impl LiveMachine {
     ghost use Rattle.monitor_machine.specs.Plans.{HasPages, HasTwoNames, IsCreate};
     ghost use Rattle.monitor_machine.specs.Replying.{Replies, open_response};
     ghost use Rattle.monitor_machine.specs.State.{IsMachine};
+    ghost use Rattle.monitor_machine.specs.Telling.{TellsOwn};
 
     // The text with either response behind it.
     fn texts(&self, form: ResponseForm, text: &ByteList) -> Result<Texts, AllocError>
@@ -39,6 +40,7 @@ impl LiveMachine {
             texts.done ≡ text.now ++ written_as form (open_response no_content)) }
         ensures failed { IfOk result (λ texts.
             texts.failed ≡ text.now ++ written_as form (open_response (refused refusal.OutsideFailed))) }
+        ensures tells { IfOk result (λ texts. TellsOwn self.now) }
     {
         let mut done = ByteList::copy_of(self.alloc, text.as_slice())?;
         let bytes = write_response(self.alloc, form, &done_answer(), false)?;

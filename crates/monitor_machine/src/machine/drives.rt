@@ -5,10 +5,11 @@ ghost use Rattle.vm_config.specs.declared.change.Change.TheVariants as change;
 ghost use Rattle.flat_machine.specs.Machine.{Machine};
 ghost use Rattle.flat_machine.specs.Ready.{IsFitting};
 ghost use Rattle.monitor_machine.specs.Disks.{DiskUncalled, HasFile, HasFiles};
-ghost use Rattle.monitor_machine.specs.Plans.{Resizes, TellsDevice};
+ghost use Rattle.monitor_machine.specs.Telling.{Resizes};
 ghost use Rattle.monitor_machine.specs.State.{IsLive};
 
 use crate::machine::LiveMachine;
+use crate::machine::telling::{tell_device, tell_limits};
 use api_rules::Change;
 use guest_devices::DeviceChange;
 use monitor_plans::{Resize, TakenConfig};
@@ -30,19 +31,6 @@ fn attach_disk<D: Disk>(config: &TakenConfig, device: u8, disk: &mut D)
     }
 }
 
-// The device, if it is one, is told of a change.
-fn tell_device(guest: &mut Option<World>, device: Option<u8>, change: DeviceChange)
-    ensures { TellsDevice device change guest.old guest.new }
-{
-    let Some(device) = device else {
-        return;
-    };
-    match guest {
-        None => {}
-        Some(guest) => guest.change(device, change),
-    }
-}
-
 // It is told how many sectors its disk has, which is a number of its width.
 fn tell_sectors(guest: &mut Option<World>, device: Option<u8>, sectors: u64)
     ensures resizes { Resizes device sectors guest.old guest.new }
@@ -54,12 +42,13 @@ fn tell_sectors(guest: &mut Option<World>, device: Option<u8>, sectors: u64)
 impl LiveMachine {
     ghost use Rattle.monitor_machine.specs.Plans.{TakesFile};
 
-    // The name of the file is replaced, and the device is told how many sectors it has.
+    // The name of the file is replaced, and the device is told how many sectors it has, and of other limits if there are.
     pub(super) fn take_file(&mut self, resize: Resize)
         requires { IsFitting self.old.config (change.PatchDrive resize.patch) }
         ensures { TakesFile resize self.old self.new }
     {
         tell_sectors(&mut self.guest, resize.device, resize.sectors);
+        tell_limits(&mut self.guest, resize.device, &resize.patch.rate_limiter);
         let _applied = self.config.apply(Change::PatchDrive(resize.patch));
     }
 

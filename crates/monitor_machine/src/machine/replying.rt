@@ -1,7 +1,6 @@
 // What is answered to something that is due.
 ghost use Rattle.std.specs.Prelude.{◌≡◌, ◌⊎◌, ◌++◌, false, true, IfOk, None, OnOk, OnErr};
-ghost use Rattle.flat_machine.specs.Ready.{IsFitting};
-ghost use Rattle.snap_state.specs.Valid.{are_drives};
+ghost use Rattle.flat_machine.specs.Ready.{AreFitting, IsFitting};
 ghost use Rattle.vm_config.specs.Changes.{changed};
 ghost use Rattle.vm_config.specs.declared.change.Change.TheVariants as change;
 ghost use Rattle.vm_outside.specs.Filing.{SameFiles};
@@ -39,6 +38,7 @@ fn restart_timer(guest: &mut Option<World>)
 impl LiveMachine {
     ghost use Rattle.monitor_machine.specs.Plans.{Answers, PlanLeaves, plan_outcome, plan_response};
     ghost use Rattle.monitor_machine.specs.Replying.{AsksFiles, Replies};
+    ghost use Rattle.monitor_machine.specs.Telling.{TellsOwn};
     ghost use Rattle.monitor_plans.specs.Plans.{HasReadyGuest, IsEarly, IsReadyPlan, KeepsReady};
 
     // Puts the plan's response behind the text.
@@ -51,6 +51,7 @@ impl LiveMachine {
     ) -> Result<(), AllocError>
         ensures ok { OnOk result
             (text.new ≡ text.old ++ written_as form (plan_response plan.now closes self.now)) }
+        ensures tells { OnOk result (TellsOwn self.now) }
         ensures err { OnErr result (text.new ≡ text.old) }
     {
         let answer = plan.answer(
@@ -59,6 +60,7 @@ impl LiveMachine {
             self.phase(),
             self.config.get(),
             &self.metadata,
+            self.statistics(),
         )?;
         let bytes = write_response(self.alloc, form, &answer, closes)?;
         text.append(bytes.as_slice())
@@ -75,6 +77,7 @@ impl LiveMachine {
         ensures which { IfOk result (λ done. (done ≡ plan) ⊎ (done ≡ Plan.NoMemory)) }
         ensures response { IfOk result (λ done.
             text.new ≡ text.old ++ written_as form (plan_response done closes self.now)) }
+        ensures tells { IfOk result (λ done. TellsOwn self.now) }
         ensures keeps { IfOk result (λ done. KeepsReady plan self.now.config self.now.guest →
             KeepsReady done self.now.config self.now.guest) }
     {
@@ -124,11 +127,12 @@ impl LiveMachine {
         ensures { PlanLeaves (Plan.Changes change) self.old self.new }
     {
         self.stand(&change);
+        self.tell(&change);
         let _applied = self.config.apply(change);
     }
 
     fn take_drives(&mut self, drives: Drives)
-        requires fit { are_drives drives ≡ true }
+        requires fit { AreFitting drives self.old.config.balloon }
         requires early { self.old.guest ≡ None }
         ensures { PlanLeaves (Plan.Drives drives) self.old self.new }
     {

@@ -1,7 +1,7 @@
 // What the API changes of a world, and the Reset that comes before a create.
 ghost use Rattle.std.specs.Prelude.{◌≡◌, ◌≤◌, length, map, slice_get};
 ghost use Rattle.guest_devices.specs.Kept.{devices_left, kept_reset};
-ghost use Rattle.guest_devices.specs.Ports.{shown_by};
+ghost use Rattle.guest_devices.specs.Kinds.{FitsChange};
 ghost use Rattle.flat_guest.specs.Body.{lefts_told};
 ghost use Rattle.flat_guest.specs.Changes.{board_shown, ports_shown, ports_with, reset_guest, told};
 ghost use Rattle.flat_guest.specs.Guest.{Guest};
@@ -64,21 +64,21 @@ impl World {
         reset_all(&mut self.devices);
     }
 
-    /// The device of this number is told of a change, if it is of the kind that is changed so. Its port shows what the change
-    /// shows, and then the driver is told by the device's line. It is no event. Where there is no such device, only that line is
-    /// raised, if the board has it.
-    pub fn change(&mut self, device: u8, change: DeviceChange)
-        ensures guest { (g : Guest) → IsWorld self.old g → IsWorld self.new (told device change (shown_by change) g) }
+    /// The device of this number is told of a change, if it is of the kind that is changed so. Its port shows these bytes from now
+    /// on, if there are any, and then the driver is told by the device's line. It is no event. Where there is no such device, only
+    /// that line is raised, if the board has it.
+    pub fn change(&mut self, device: u8, change: DeviceChange, shown: Option<[u8; 8]>)
+        requires { FitsChange change }
+        ensures guest { (g : Guest) → IsWorld self.old g → IsWorld self.new (told device change shown g) }
         ensures value { self.new ≡ record self.old {
-          board = board_shown (shown_by change) self.old.board device;
-          ports = ports_with (shown_by change) self.old.ports device;
+          board = board_shown shown self.old.board device;
+          ports = ports_with shown self.old.ports device;
           devices = self.new.devices;
         } }
         ensures devices { devices_left self.new.devices ≡ lefts_told
             (slice_get (devices_left self.old.devices) device) (devices_left self.old.devices) device change }
         ensures none { length self.old.devices ≤ device → self.new.devices ≡ self.old.devices }
     {
-        let shown = change.shown();
         tell_device(&mut self.devices, device, change);
         show(&mut self.ports, &mut self.board, device, shown);
     }

@@ -4,6 +4,6 @@ use Rattle.api_calls.proofs.law.drives_are_named.Goals as goal
 
 pub returns : goal.returns
 returns c = record {
-  put = λ r drive is. asked_is r (call.PutDrive drive) is;
-  patch = λ r patch is. asked_is r (call.PatchDrive patch) is;
+  put = λ r drive is. let said = asked_is r (call.PutDrive drive) is in (said.0, said.1);
+  patch = λ r patch is. let said = asked_is r (call.PatchDrive patch) is in (said.0, said.1);
 }

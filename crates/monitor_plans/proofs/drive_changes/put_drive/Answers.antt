@@ -1,8 +1,8 @@
-use Rattle.std.proofs.Common.{◌≡◌, true, sym, ap, subst, ◌∙◌, List}
+use Rattle.std.proofs.Common.{sym, ap, subst, ◌∙◌, List}
 use Rattle.api_calls.specs.declared.call.Drive.{Drive}
 use Rattle.vm_config.specs.declared.config.Config.{Config}
 use Rattle.vm_config.specs.Drives.{put_drive}
-use Rattle.snap_state.specs.Valid.{are_drives}
+use Rattle.flat_machine.specs.Ready.{AreFitting}
 use Rattle.monitor_plans.proofs.drive_changes.put_drive.Goals as goal
 
 pub returns-in-Ok-clause-gives : goal.returns-in-Ok-clause-gives
@@ -10,7 +10,7 @@ returns-in-Ok-clause-gives c = c.in-Ok.ensures ∙ ap (λ (k : Config). put_driv
 
 pub returns-in-Ok-clause-keeps : goal.returns-in-Ok-clause-keeps
 returns-in-Ok-clause-keeps c = λ world early. (
-  subst (λ (drives : List Drive). are_drives drives ≡ true)
+  subst (λ (drives : List Drive). AreFitting drives c.args.config.now.balloon)
       (sym (c.in-Ok.ensures ∙ ap (λ (k : Config). put_drive k.drives c.args.drive) c.get.ensures.same)) c.requires,
   early,
   tt,

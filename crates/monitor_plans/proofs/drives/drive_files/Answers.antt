@@ -1,6 +1,6 @@
 use Rattle.std.proofs.Common.{◌+◌, arith, sym, subst}
 use Rattle.monitor_plans.specs.declared.drives.DriveFiles.{DriveFiles}
-use Rattle.monitor_plans.proofs.DrivesAsked.{HasAsked, all_asked, none_asked, one_asked}
+use Rattle.monitor_plans.proofs.DrivesAsked.{HasAsked, all_asked, limits_there, none_asked, one_asked}
 use Rattle.monitor_plans.proofs.drives.drive_files.Goals as goal
 use Rattle.monitor_plans.proofs.drives.drive_files.Goals.{in-Some+in_ok-ask, in_default}
 
@@ -44,3 +44,6 @@ returns-clause-many g c =
 
 pub returns-clause-fit : goal.returns-clause-fit
 returns-clause-fit g c = c.loop-number.invariant.so_far.fit
+
+pub ask-requires : goal.ask-requires
+ask-requires g c = limits_there c.args.drives.now c.loop-number.number c.in-Some.drive.now c.requires c.in-Some.ensures

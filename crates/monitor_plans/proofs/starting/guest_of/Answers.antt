@@ -13,8 +13,8 @@ world_of-requires-clause-few c = (bounded c.args.config.now c.requires.taken).ha
 pub world_of-requires-clause-small : goal.world_of-requires-clause-small
 world_of-requires-clause-small c = let mib = (bounded c.args.config.now c.requires.taken).mib in omega (arith, mib)
 
-pub world_of-requires-clause-few_drives : goal.world_of-requires-clause-few_drives
-world_of-requires-clause-few_drives c =
+pub world_of-requires-clause-few_devices : goal.world_of-requires-clause-few_devices
+world_of-requires-clause-few_devices c =
     let most = (bounded c.args.config.now c.requires.taken).drives in
     omega (arith, c.requires.many, most)
 
@@ -25,12 +25,12 @@ world_of-requires-clause-room c =
 
 pub returns-clause-world : goal.returns-clause-world
 returns-clause-world c =
-    loads_are c.args.config.now c.args.image.now c.args.disk.now _ _ _ _ c.args.drives.now c.in_ok-world.world
+    loads_are c.args.config.now c.args.image.now c.args.disk.now _ _ _ _ c.args.devices.now c.in_ok-world.world
     c.initrd_of.ensures c.initrd_place.ensures c.in_ok-tree.ensures c.as_slice.ensures.value c.in_ok-world.ensures
 
 pub returns-clause-ready : goal.returns-clause-ready
 returns-clause-ready c =
-    start_ready c.args.config.now c.args.image.now c.args.disk.now c.args.drives.now c.in_ok-world.world c.requires.taken c.requires.source
-    c.requires.many c.requires.fit c.requires.fits
-    (loads_are c.args.config.now c.args.image.now c.args.disk.now _ _ _ _ c.args.drives.now c.in_ok-world.world
+    start_ready c.args.config.now c.args.image.now c.args.disk.now c.args.devices.now c.in_ok-world.world c.requires.taken c.requires.source
+    c.requires.many c.requires.kinds c.requires.fit c.requires.fits
+    (loads_are c.args.config.now c.args.image.now c.args.disk.now _ _ _ _ c.args.devices.now c.in_ok-world.world
     c.initrd_of.ensures c.initrd_place.ensures c.in_ok-tree.ensures c.as_slice.ensures.value c.in_ok-world.ensures)

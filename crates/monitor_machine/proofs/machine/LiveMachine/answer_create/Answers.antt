@@ -1,8 +1,9 @@
-use Rattle.std.proofs.Common.{◌∙◌, ap, sym}
+use Rattle.std.proofs.Common.{◌∙◌, ap, subst, sym}
 use Rattle.monitor_machine.proofs.Creating.{ended_done, ended_failed, is_unwritten, is_written, same_create, same_part}
 use Rattle.monitor_machine.proofs.Standing.{ended_stays}
 use Rattle.monitor_machine.specs.Live.{Live}
 use Rattle.monitor_machine.specs.Seen.{live_of}
+use Rattle.monitor_machine.specs.Telling.{TellsOwn}
 use Rattle.monitor_machine.proofs.machine.LiveMachine.answer_create.Goals as goal
 
 pub invariant_of-self : goal.invariant_of-self
@@ -23,7 +24,7 @@ returns-clause-ok g c =
     (λ request kept due.
     let known = g.F.Files.known in
     is_written c.args.form c.args.creation (live_of c.self.inside) _ c.in-Some.guest c.args.text.now c.in-Ok.texts.done (known c.args.files.now)
-    (known c.create-written.new.files) request kept c.in-Some.is due
+    (known c.create-written.new.files) request kept c.in-Some.is due (subst (λ (l : Live). TellsOwn l) (sym c.self.view_is) c.in-Ok.ensures.tells)
     (ended_done c.args.creation (live_of c.self.inside) _ _ _ _ c.in-Ok-written.is c.end_create.ensures.done) c.in-Ok.ensures.done c.in-Ok-written.ensures.called.kept
     (λ told. same_create _ _ _ _ _ _ _ _ _ _ _ _ c.as_str-2.ensures c.as_slice.ensures c.in-Some-pages_of.ensures.pages c.as_str.ensures
     c.as_slice-2.ensures (c.in-Ok-written.ensures.created told)))

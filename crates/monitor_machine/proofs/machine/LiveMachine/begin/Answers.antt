@@ -6,7 +6,8 @@ use Rattle.monitor_plans.specs.Plans.{HasReadyGuest}
 use Rattle.monitor_machine.specs.Live.{Live}
 use Rattle.monitor_machine.specs.Ready.{IsReadyLive}
 use Rattle.monitor_machine.specs.Seen.{live_of}
-use Rattle.monitor_machine.proofs.Standing.{applied_is, start_stays}
+use Rattle.monitor_machine.proofs.Configured.{applied_is}
+use Rattle.monitor_machine.proofs.Standing.{start_stays}
 use Rattle.monitor_machine.proofs.machine.LiveMachine.begin.Goals as goal
 
 pub invariant_of-self : goal.invariant_of-self

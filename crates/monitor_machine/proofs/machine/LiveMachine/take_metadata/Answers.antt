@@ -1,5 +1,5 @@
 use Rattle.monitor_machine.specs.Seen.{live_of}
-use Rattle.monitor_machine.proofs.Standing.{metadata_stay}
+use Rattle.monitor_machine.proofs.Configured.{metadata_stay}
 use Rattle.monitor_machine.proofs.machine.LiveMachine.take_metadata.Goals as goal
 
 pub invariant_of-self : goal.invariant_of-self

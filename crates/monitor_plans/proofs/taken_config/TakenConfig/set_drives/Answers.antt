@@ -1,9 +1,15 @@
+use Rattle.std.proofs.Common.{sym, subst}
+use Rattle.vm_config.specs.declared.config.Config.{Config}
+use Rattle.flat_machine.specs.Ready.{AreFitting}
 use Rattle.monitor_plans.proofs.taken_config.TakenConfig.set_drives.Goals as goal
 
 pub invariant_of-self : goal.invariant_of-self
 invariant_of-self c =
+    let fit = subst (λ (k : Config). AreFitting c.args.drives k.balloon) (sym c.self.view_is) c.requires in
     rw c.set_drives.ensures (record {
       source = c.self.invariant.source;
-      drives = c.requires;
+      drives = fit.0;
       machine = c.self.invariant.machine;
+      balloon = c.self.invariant.balloon;
+      room = fit.1;
     })

@@ -1,0 +1,190 @@
+-- A guest stays ready where what is configured has the same devices, and where a device of it is told of a change.
+use Rattle.std.proofs.Common.{◌≡◌, ◌+◌, ◌*◌, ℕ, Bool, true, refl, sym, ap, subst, ◌∙◌, List, [], ◌∷◌, ◌++◌, length, map, Option, Some, None, slice_get, arith}
+use Rattle.std.proofs.lemmas.List.{length-map}
+use Rattle.std.specs.FinMap.{get}
+use Rattle.vm_types.specs.Saved.{Saved}
+use Rattle.api_calls.specs.declared.balloon.Balloon.{Balloon}
+use Rattle.api_calls.specs.declared.balloon.BalloonPatch.{BalloonPatch}
+use Rattle.api_calls.specs.declared.balloon.StatisticsPatch.{StatisticsPatch}
+use Rattle.api_calls.specs.declared.call.BootSource.{BootSource}
+use Rattle.api_calls.specs.declared.call.Drive.{Drive}
+use Rattle.api_calls.specs.declared.call.DrivePatch.{DrivePatch}
+use Rattle.api_calls.specs.declared.call.MachineConfig.{MachineConfig}
+use Rattle.api_calls.specs.declared.limiter.Limiter.{Limiter}
+use Rattle.vm_config.specs.declared.config.Config.{Config}
+use Rattle.vm_config.specs.declared.change.Change.TheVariants as change
+use Rattle.vm_config.specs.Changes.{changed, with_amount, with_interval}
+use Rattle.vm_config.specs.Devices.{Configured, balloon_count, balloon_devices, device_count, devices_in, devices_of, of_balloon, of_drive}
+use Rattle.vm_config.specs.Drives.{in_order}
+use Rattle.vm_config.proofs.DeviceLemmas.{counted, length-ordered}
+use Rattle.port_table.specs.declared.kind.DeviceKind.{DeviceKind}
+use Rattle.port_table.specs.declared.kind.DeviceKind.TheVariants as numbers
+use Rattle.port_table.specs.declared.state.PortState.{PortState}
+use Rattle.guest_devices.specs.declared.change.DeviceChange.{DeviceChange}
+use Rattle.guest_devices.specs.Kinds.{FitsChange, sectors_change}
+use Rattle.flat_guest.specs.Changes.{told}
+use Rattle.flat_guest.specs.Guest.{Guest}
+use Rattle.flat_guest.specs.Shaped.{IsShaped, kinds_at_start}
+use Rattle.flat_guest.proofs.Devices.{told_many}
+use Rattle.flat_guest.proofs.Shaped.{shaped_told}
+use Rattle.flat_guest.proofs.Soundness.{sound_told}
+use Rattle.snap_state.specs.Valid.{is_source, kind_configured, kinds_of}
+use Rattle.flat_snapshot.specs.Copies.{configuration_of, source_of}
+use Rattle.flat_machine.specs.Balloon.{interval_told, target_in}
+use Rattle.flat_machine.specs.Limits.{limits_told}
+use Rattle.flat_machine.specs.Ready.{IsReadyGuest, IsTaken, ReadyBy}
+use Rattle.flat_machine.specs.Requests.{device_from, devices_from, relimited, resized, retargeted, retimed, sectors_of, shows_by, told_at}
+use Rattle.flat_machine.proofs.Drives.{length-patched}
+use Rattle.flat_machine.proofs.Sizes.{few_sectors}
+
+-- ---- the kinds of devices
+
+-- as many drives have the same kinds
+drives_alike : (drives others : List Drive) (rest more : List Configured) → length drives ≡ length others
+    → map kind_configured rest ≡ map kind_configured more
+    → map kind_configured (map of_drive drives ++ rest) ≡ map kind_configured (map of_drive others ++ more)
+drives_alike [] [] rest more many alike = alike
+drives_alike [] (d ∷ others) rest more many alike = absurd (omega (arith, many))
+drives_alike (d ∷ drives) [] rest more many alike = absurd (omega (arith, many))
+drives_alike (d ∷ drives) (other ∷ others) rest more many alike =
+    ap (λ (l : List DeviceKind). numbers.Block ∷ l) (drives_alike drives others rest more (omega (arith, many)) alike)
+
+kinds_alike : (drives others : List Drive) (balloon other : Option Balloon) → length drives ≡ length others
+    → map kind_configured (balloon_devices balloon) ≡ map kind_configured (balloon_devices other)
+    → map kind_configured (devices_in drives balloon) ≡ map kind_configured (devices_in others other)
+kinds_alike drives others balloon other many alike =
+    let own = length-ordered drives in
+    let new = length-ordered others in
+    drives_alike (in_order drives) (in_order others) (balloon_devices balloon) (balloon_devices other) (omega (arith, many, own, new)) alike
+
+-- a balloon of another amount or interval is as good as it was
+amount_alike : (patch : BalloonPatch) (balloon : Option Balloon)
+    → map kind_configured (balloon_devices balloon) ≡ map kind_configured (balloon_devices (with_amount patch balloon))
+amount_alike patch None = refl
+amount_alike patch (Some b) = refl
+
+amount_count : (patch : BalloonPatch) (balloon : Option Balloon) → balloon_count balloon ≡ balloon_count (with_amount patch balloon)
+amount_count patch None = refl
+amount_count patch (Some b) = refl
+
+interval_alike : (patch : StatisticsPatch) (balloon : Option Balloon)
+    → map kind_configured (balloon_devices balloon) ≡ map kind_configured (balloon_devices (with_interval patch balloon))
+interval_alike patch None = refl
+interval_alike patch (Some b) = refl
+
+interval_count : (patch : StatisticsPatch) (balloon : Option Balloon) → balloon_count balloon ≡ balloon_count (with_interval patch balloon)
+interval_count patch None = refl
+interval_count patch (Some b) = refl
+
+-- what a start makes of them
+from_kinds : (configured : List Configured) (saved : Saved) → kinds_at_start (map (device_from saved) configured) ≡ map kind_configured configured
+from_kinds [] saved = refl
+from_kinds (of_drive d ∷ others) saved = ap (λ (l : List DeviceKind). numbers.Block ∷ l) (from_kinds others saved)
+from_kinds (of_balloon b ∷ others) saved = ap (λ (l : List DeviceKind). numbers.Balloon ∷ l) (from_kinds others saved)
+
+pub start_kinds : (config : Config) (saved : Saved) → kinds_at_start (devices_from config saved) ≡ kinds_of (configuration_of config)
+start_kinds config saved = from_kinds (devices_of config) saved
+
+pub start_many : (config : Config) (saved : Saved) → length (devices_from config saved) ≡ device_count config
+start_many config saved = length-map (devices_of config) (device_from saved) ∙ counted config
+
+-- ---- a guest of which something else is configured
+
+module _ (config after : Config) (paused : Bool) (taken : IsTaken after) (source : after.boot_source ≡ config.boot_source)
+    (machine : after.machine ≡ config.machine) (kinds : kinds_of (configuration_of config) ≡ kinds_of (configuration_of after))
+    (count : device_count config ≡ device_count after) where
+  same_shape : (g : Guest)
+      → IsShaped (256 * config.machine.mem_size_mib) config.machine.vcpu_count (kinds_of (configuration_of config)) g
+      → IsShaped (256 * after.machine.mem_size_mib) after.machine.vcpu_count (kinds_of (configuration_of after)) g
+  same_shape g shaped =
+      subst (λ (m : MachineConfig). IsShaped (256 * m.mem_size_mib) m.vcpu_count (kinds_of (configuration_of after)) g) (sym machine)
+      (subst (λ (k : List DeviceKind). IsShaped (256 * config.machine.mem_size_mib) config.machine.vcpu_count k g) kinds shaped)
+
+  reconfigured : (guest : Option Guest) → ReadyBy config paused guest → ReadyBy after paused guest
+  reconfigured None is = tt
+  reconfigured (Some g) is = record {
+    sound = is.sound;
+    ready = record {
+      configured = record {
+        source =
+            subst (λ (s : Option BootSource). is_source (source_of s) ≡ true) (sym source) is.ready.configured.source;
+        drives = taken.drives;
+        machine = taken.machine;
+        balloon = taken.balloon;
+        room = taken.room;
+      };
+      shaped = same_shape g is.ready.shaped;
+      devices = is.ready.devices ∙ count;
+    };
+    rests = is.rests;
+  }
+
+-- by a PATCH of a drive, of the balloon, and of the interval of its reports
+pub drive_patched : (config : Config) (patch : DrivePatch) (paused : Bool) (guest : Option Guest) → IsTaken (changed config (change.PatchDrive patch))
+    → ReadyBy config paused guest → ReadyBy (changed config (change.PatchDrive patch)) paused guest
+drive_patched config patch paused guest taken is =
+    let after : Config = changed config (change.PatchDrive patch) in
+    let many = length-patched patch config.drives in
+    let kinds = kinds_alike config.drives after.drives config.balloon config.balloon (sym many) refl in
+    reconfigured config after paused taken refl refl kinds (ap (λ (n : ℕ). n + balloon_count config.balloon) (sym many)) guest is
+
+pub amount_patched : (config : Config) (patch : BalloonPatch) (paused : Bool) (guest : Option Guest) → IsTaken (changed config (change.PatchBalloon patch))
+    → ReadyBy config paused guest → ReadyBy (changed config (change.PatchBalloon patch)) paused guest
+amount_patched config patch paused guest taken is =
+    let after : Config = changed config (change.PatchBalloon patch) in
+    let kinds = kinds_alike config.drives config.drives config.balloon after.balloon refl (amount_alike patch config.balloon) in
+    let count = ap (λ (n : ℕ). length config.drives + n) (amount_count patch config.balloon) in
+    reconfigured config after paused taken refl refl kinds count guest is
+
+pub interval_patched : (config : Config) (patch : StatisticsPatch) (paused : Bool) (guest : Option Guest)
+    → IsTaken (changed config (change.PatchStatistics patch)) → ReadyBy config paused guest
+    → ReadyBy (changed config (change.PatchStatistics patch)) paused guest
+interval_patched config patch paused guest taken is =
+    let after : Config = changed config (change.PatchStatistics patch) in
+    let kinds = kinds_alike config.drives config.drives config.balloon after.balloon refl (interval_alike patch config.balloon) in
+    let count = ap (λ (n : ℕ). length config.drives + n) (interval_count patch config.balloon) in
+    reconfigured config after paused taken refl refl kinds count guest is
+
+-- ---- a device is told of a change
+
+module _ (config : Config) (paused : Bool) where
+  pub told_ready : (g : Guest) (k : ℕ) (change : DeviceChange) (shown : Option (List ℕ)) → FitsChange change → IsReadyGuest config paused g
+      → IsReadyGuest config paused (told k change shown g)
+  told_ready g k change shown fits is = record {
+    sound = sound_told g k change shown fits is.sound;
+    ready = record {
+      configured = is.ready.configured;
+      shaped = shaped_told _ _ _ g k change shown is.ready.shaped;
+      devices = told_many (slice_get g.devices k) g.devices k change ∙ is.ready.devices;
+    };
+    rests = is.rests;
+  }
+
+  pub at_ready : (number : Option ℕ) (change : DeviceChange) (shows : Option PortState → Option (List ℕ)) (guest : Option Guest)
+      → FitsChange change → ReadyBy config paused guest → ReadyBy config paused (told_at number change shows guest)
+  at_ready (Some k) change shows (Some g) fits is = told_ready g k change (shows (slice_get g.ports k)) fits is
+  at_ready (Some k) change shows None fits is = tt
+  at_ready None change shows (Some g) fits is = is
+  at_ready None change shows None fits is = tt
+
+  pub resized_ready : (path : Option (List ℕ)) (number : Option ℕ) (saved : Saved) (guest : Option Guest) → ReadyBy config paused guest
+      → ReadyBy config paused (resized path number saved guest)
+  resized_ready None number saved guest is = is
+  resized_ready (Some path) number saved guest is =
+      let change : DeviceChange = sectors_change (sectors_of (get saved path)) in
+      at_ready number change (shows_by change) guest (few_sectors (get saved path)) is
+
+  pub relimited_ready : (limiter : Option Limiter) (number : Option ℕ) (guest : Option Guest) → ReadyBy config paused guest
+      → ReadyBy config paused (relimited limiter number guest)
+  relimited_ready None number guest is = is
+  relimited_ready (Some l) number guest is = at_ready number (limits_told l) (shows_by (limits_told l)) guest tt is
+
+  pub retargeted_ready : (balloon : Option Balloon) (number : Option ℕ) (guest : Option Guest) → ReadyBy config paused guest
+      → ReadyBy config paused (retargeted balloon number guest)
+  retargeted_ready None number guest is = is
+  retargeted_ready (Some b) number guest is = at_ready number (interval_told b) (target_in b) guest tt is
+
+  pub retimed_ready : (balloon : Option Balloon) (number : Option ℕ) (guest : Option Guest) → ReadyBy config paused guest
+      → ReadyBy config paused (retimed balloon number guest)
+  retimed_ready None number guest is = is
+  retimed_ready (Some b) number guest is = at_ready number (interval_told b) (shows_by (interval_told b)) guest tt is

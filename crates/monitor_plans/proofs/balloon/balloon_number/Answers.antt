@@ -1,0 +1,11 @@
+use Rattle.std.proofs.Common.{arith, ap, sym, ◌∙◌}
+use Rattle.vm_config.specs.declared.config.Config.{Config}
+use Rattle.vm_config.specs.Devices.{balloon_device}
+use Rattle.monitor_plans.proofs.DevicesMade.{number_below}
+use Rattle.monitor_plans.proofs.balloon.balloon_number.Goals as goal
+
+pub overflow_cast-device : goal.overflow_cast-device
+overflow_cast-device c =
+    let config : Config = c.get.result.now in
+    let below = number_below config c.in-Some.number c.get.ensures.taken c.in-Some.ensures in
+    omega (arith, below)

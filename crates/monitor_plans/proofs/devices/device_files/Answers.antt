@@ -1,0 +1,34 @@
+use Rattle.std.proofs.Common.{◌∙◌, ap, List}
+use Rattle.vm_config.specs.Drives.{in_order}
+use Rattle.guest_devices.specs.declared.new_device.NewDevice.{NewDevice}
+use Rattle.monitor_plans.specs.Starting.{with_balloon}
+use Rattle.monitor_plans.proofs.DevicesMade.{fit_with, kinds_with, made_of, many_with}
+use Rattle.monitor_plans.proofs.DrivesAsked.{drives_of}
+use Rattle.monitor_plans.proofs.devices.device_files.Goals as goal
+
+pub drive_files-requires : goal.drive_files-requires
+drive_files-requires g c = drives_of c.args.config.now.drives c.requires.drives
+
+pub returns-in-Ok-with_balloon-clause-devices : goal.returns-in-Ok-with_balloon-clause-devices
+returns-in-Ok-with_balloon-clause-devices g c = λ told.
+    let config = c.args.config.now in
+    let saved = (g.F.Files.known c.args.files.now).saved in
+    c.in-Ok-with_balloon.ensures.drives ∙ ap (λ (l : List NewDevice). with_balloon l config.balloon) (c.in-Ok.ensures.drives told)
+    ∙ made_of (in_order config.drives) config.balloon saved
+
+pub returns-in-Ok-with_balloon-clause-there : goal.returns-in-Ok-with_balloon-clause-there
+returns-in-Ok-with_balloon-clause-there g c = λ told. c.in-Ok-with_balloon.ensures.there ∙ c.in-Ok.ensures.there told
+
+pub returns-in-Ok-with_balloon-clause-many : goal.returns-in-Ok-with_balloon-clause-many
+returns-in-Ok-with_balloon-clause-many g c =
+    rw c.in-Ok-with_balloon.ensures.drives (many_with c.in-Ok.found.drives.items c.args.config.now.balloon _ c.in-Ok.ensures.many)
+
+pub returns-in-Ok-with_balloon-clause-kinds : goal.returns-in-Ok-with_balloon-clause-kinds
+returns-in-Ok-with_balloon-clause-kinds g c =
+    let config = c.args.config.now in
+    rw c.in-Ok-with_balloon.ensures.drives
+    (kinds_with c.in-Ok.found.drives.items config.drives config.balloon c.in-Ok.ensures.many c.in-Ok.ensures.fit)
+
+pub returns-in-Ok-with_balloon-clause-fit : goal.returns-in-Ok-with_balloon-clause-fit
+returns-in-Ok-with_balloon-clause-fit g c =
+    rw c.in-Ok-with_balloon.ensures.drives (fit_with c.in-Ok.found.drives.items c.args.config.now.balloon c.in-Ok.ensures.fit)

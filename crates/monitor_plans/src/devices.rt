@@ -1,0 +1,67 @@
+// The devices that a start makes.
+ghost use Rattle.std.specs.Prelude.{All, ◌≡◌, IfOk, length};
+ghost use Rattle.flat_guest.specs.Shaped.{kinds_at_start};
+ghost use Rattle.flat_machine.specs.Ready.{IsTaken};
+ghost use Rattle.flat_machine.specs.Requests.{devices_from, have_files};
+ghost use Rattle.flat_snapshot.specs.Copies.{configuration_of};
+ghost use Rattle.gate_file.specs.Reading.{FileCause};
+ghost use Rattle.guest_devices.specs.Devices.{FitsNew};
+ghost use Rattle.snap_state.specs.Valid.{kinds_of};
+ghost use Rattle.vm_config.specs.Devices.{device_count};
+ghost use Rattle.vm_outside.specs.Filing.{SameFiles};
+ghost use Rattle.vm_outside.specs.Known.{Lasts, Tells};
+ghost use Rattle.monitor_plans.specs.Starting.{with_balloon};
+
+use crate::balloon::new_balloon;
+use crate::drives::{DriveFiles, drive_files};
+use api_rules::Config;
+use gate_file::FileError;
+use guest_devices::NewDevice;
+use std::alloc::{AllocError, Global};
+use vm_outside::Files;
+
+// The balloon stands last.
+fn with_balloon(found: DriveFiles, config: &Config) -> Result<DriveFiles, AllocError>
+    requires { IsTaken config.now }
+    ensures drives { IfOk result (λ it. it.drives.items ≡ with_balloon found.drives.items config.now.balloon) }
+    ensures there { IfOk result (λ it. it.are_there ≡ found.are_there) }
+{
+    match &config.balloon {
+        None => Ok(found),
+        Some(balloon) => {
+            let mut drives = found.drives;
+            drives.push(NewDevice::Balloon(new_balloon(balloon)))?;
+            Ok(DriveFiles {
+                drives,
+                are_there: found.are_there,
+            })
+        }
+    }
+}
+
+/// The devices of a machine that is configured so, the drives by their files, asked in the order of devices.
+pub(crate) fn device_files<F: Files>(
+    alloc: Global,
+    files: &mut F,
+    config: &Config,
+) -> Result<DriveFiles, FileError>
+    requires { IsTaken config.now }
+    ensures devices { IfOk result (λ it. Tells (F.known files.old).health →
+        it.drives.items ≡ devices_from config.now (F.known files.old).saved) }
+    ensures there { IfOk result (λ it. Tells (F.known files.old).health →
+        it.are_there ≡ have_files config.now.drives (F.known files.old).saved) }
+    ensures many { IfOk result (λ it. length it.drives.items ≡ device_count config.now) }
+    ensures kinds { IfOk result (λ it. kinds_at_start it.drives.items ≡ kinds_of (configuration_of config.now)) }
+    ensures fit { IfOk result (λ it. All FitsNew it.drives.items) }
+    ensures same { Tells (F.known files.old).health → SameFiles (F.known files.old) (F.known files.new) }
+    ensures cause { FileCause result (F.known files.old).health.faults (F.known files.new).health.faults }
+    ensures lasts { Lasts (F.known files.old).health (F.known files.new).health }
+{
+    match drive_files(alloc, files, &config.drives) {
+        Ok(found) => match with_balloon(found, config) {
+            Ok(all) => Ok(all),
+            Err(_) => Err(FileError::OutOfMemory),
+        },
+        Err(error) => Err(error),
+    }
+}

@@ -1,0 +1,83 @@
+// Which kinds of ports and devices there are.
+ghost use Rattle.std.specs.Prelude.{◌≡◌, map, slice_get};
+ghost use Rattle.vm_config.specs.Devices.{balloon_devices};
+ghost use Rattle.snap_state.specs.Valid as valid;
+
+use crate::configuration::Configuration;
+use api_calls::Balloon;
+use file_format::{Counted, Listed};
+use guest_devices::Device;
+use mmio_port::Port;
+use port_table::DeviceKind;
+use snap_devices::Saved;
+
+fn is_kind(due: DeviceKind, kind: DeviceKind) -> bool
+    ensures { result ≡ valid.is_kind due kind }
+{
+    match (due, kind) {
+        (DeviceKind::Net, DeviceKind::Net)
+        | (DeviceKind::Block, DeviceKind::Block)
+        | (DeviceKind::Balloon, DeviceKind::Balloon)
+        | (DeviceKind::Vsock, DeviceKind::Vsock) => true,
+        _ => false,
+    }
+}
+
+fn is_kind_due(due: Option<DeviceKind>, kind: DeviceKind) -> bool
+    ensures { result ≡ valid.is_kind_due due kind }
+{
+    match due {
+        None => false,
+        Some(due) => is_kind(due, kind),
+    }
+}
+
+fn balloon_kind(balloon: &Option<Balloon>) -> Option<DeviceKind>
+    ensures { result ≡ slice_get (map valid.kind_configured (balloon_devices balloon.now)) 0 }
+{
+    match balloon {
+        None => None,
+        Some(_) => Some(DeviceKind::Balloon),
+    }
+}
+
+// The kind of the device of this number, if there is to be one.
+fn kind_due(configuration: &Configuration, number: usize) -> Option<DeviceKind>
+    ensures { result ≡ slice_get (valid.kinds_of configuration.now) number }
+{
+    let drives = configuration.drives.count();
+    if number < drives {
+        return Some(DeviceKind::Block);
+    }
+    if number == drives {
+        return balloon_kind(&configuration.balloon);
+    }
+    None
+}
+
+/// Whether these are the ports of the devices that are configured.
+pub fn are_ports(configuration: &Configuration, ports: &[Counted<Saved<Port>>]) -> bool
+    ensures { result ≡ valid.are_kinds (valid.kinds_of configuration.now) 0 (map valid.port_kind ports.now) }
+{
+    for (number, port) in ports.iter().enumerate() {
+        if !is_kind_due(
+            kind_due(configuration, number),
+            port.value.value.state().kind,
+        ) {
+            return false;
+        }
+    }
+    kind_due(configuration, ports.len()).is_none()
+}
+
+/// Whether these are the devices that are configured.
+pub fn are_device_kinds(configuration: &Configuration, devices: &[Listed<Saved<Device>>]) -> bool
+    ensures { result ≡ valid.are_kinds (valid.kinds_of configuration.now) 0 (map valid.kind_of devices.now) }
+{
+    for (number, device) in devices.iter().enumerate() {
+        if !is_kind_due(kind_due(configuration, number), device.value.value.kind()) {
+            return false;
+        }
+    }
+    kind_due(configuration, devices.len()).is_none()
+}

@@ -1,0 +1,105 @@
+-- Where each device stands among all.
+use Rattle.std.proofs.Common.{◌≡◌, ℕ, zero, suc, ◌+◌, ◌<◌, Bool, true, false, not, cond, List, [], ◌∷◌, ◌++◌, length, map, Option, Some, None, slice_get, refl, ap, ◌∙◌, subst, arith, add_comm, add-one}
+use Rattle.std.specs.Prelude.{option_map}
+use Rattle.std.specs.List.{filter, position, position_or_len}
+use borrow.Author.Tests.{ltb-true}
+use Rattle.std.proofs.lemmas.List.{length-append, length-map}
+use Rattle.std.proofs.lemmas.List.Filters.{length-filter_both}
+use Rattle.std.proofs.lemmas.Option.{slice_get-map}
+use Rattle.api_calls.specs.declared.balloon.Balloon.{Balloon}
+use Rattle.api_calls.specs.declared.call.Drive.{Drive}
+use Rattle.vm_config.specs.declared.config.Config.{Config}
+use Rattle.vm_config.specs.Devices.{balloon_count, balloon_device, balloon_devices, count_in, device_count, devices_in, devices_of, of_balloon, of_drive}
+use Rattle.vm_config.specs.Drives.{device_of, in_order, is_named, is_root}
+
+-- ---- lists
+
+-- the first place at which a test passes
+at_step : {X : Type 0} (p : X → Bool) (x : X) (xs : List X) (n : ℕ) (b : Bool) → p x ≡ b
+    → (n < length xs → (y : X) × (slice_get xs n ≡ Some y) × (p y ≡ true)) → cond (not b) (1 + n) 0 < length (x ∷ xs)
+    → (y : X) × (slice_get (x ∷ xs) (cond (not b) (1 + n) 0) ≡ Some y) × (p y ≡ true)
+at_step p x xs n true is more lt = (x, refl, is)
+at_step p x xs n false is more lt =
+    let rest = more (omega arith) in (rest.0, rw (add_comm 1 n, add-one) rest.1, rest.2)
+
+at_place : {X : Type 0} (p : X → Bool) (xs : List X) → position_or_len p xs < length xs
+    → (x : X) × (slice_get xs (position_or_len p xs) ≡ Some x) × (p x ≡ true)
+at_place p [] lt = absurd (omega arith)
+at_place p (x ∷ xs) lt = at_step p x xs (position_or_len p xs) (p x) refl (at_place p xs) lt
+
+placed : (t : Bool) (n k : ℕ) → cond t (Some n) None ≡ Some k → (t ≡ true) × (n ≡ k)
+placed true n k e = (refl, cc)
+placed false n k e = absurd cc
+
+at_position : {X : Type 0} (p : X → Bool) (xs : List X) (k : ℕ) → position p xs ≡ Some k
+    → (x : X) × (slice_get xs k ≡ Some x) × (p x ≡ true)
+at_position {X} p xs k e =
+    let at = placed _ (position_or_len p xs) k e in
+    subst (λ (n : ℕ). (x : X) × (slice_get xs n ≡ Some x) × (p x ≡ true)) at.1 (at_place p xs (ltb-true _ _ at.0))
+
+in_front : {X : Type 0} (xs ys : List X) (k : ℕ) (x : X) → slice_get xs k ≡ Some x → slice_get (xs ++ ys) k ≡ Some x
+in_front [] ys k x is = absurd cc
+in_front (y ∷ xs) ys zero x is = is
+in_front (y ∷ xs) ys (suc k) x is = in_front xs ys k x is
+
+past : {X : Type 0} (xs ys : List X) (k : ℕ) → slice_get (xs ++ ys) (length xs + k) ≡ slice_get ys k
+past [] ys k = let e : 0 + k ≡ k = omega arith in rw e refl
+past (x ∷ xs) ys k = let e : length (x ∷ xs) + k ≡ suc (length xs + k) = omega arith in rw e (past xs ys k)
+
+behind : {X : Type 0} (xs ys : List X) (n j k : ℕ) (x : X) → length xs ≡ n → n + j ≡ k → slice_get ys j ≡ Some x
+    → slice_get (xs ++ ys) k ≡ Some x
+behind xs ys n j k x long at is =
+    let e : length xs + j ≡ k = omega (arith, long, at) in
+    subst (λ (m : ℕ). slice_get (xs ++ ys) m ≡ Some x) e (past xs ys j ∙ is)
+
+mapped : {A B : Type 0} (f : A → B) (xs : List A) (k : ℕ) (x : A) → slice_get xs k ≡ Some x → slice_get (map f xs) k ≡ Some (f x)
+mapped f xs k x is = slice_get-map f xs k ∙ ap (option_map f) is
+
+-- ---- how many there are
+
+pub length-ordered : (drives : List Drive) → length (in_order drives) ≡ length drives
+length-ordered drives =
+    length-append (filter is_root drives) (filter (λ d. not (is_root d)) drives)
+    ∙ length-filter_both is_root (λ d. not (is_root d)) (λ d. refl) drives
+
+length-drives : (drives : List Drive) → length (map of_drive (in_order drives)) ≡ length drives
+length-drives drives = length-map (in_order drives) of_drive ∙ length-ordered drives
+
+length-balloon : (balloon : Option Balloon) → length (balloon_devices balloon) ≡ balloon_count balloon
+length-balloon None = refl
+length-balloon (Some b) = refl
+
+pub counted_in : (drives : List Drive) (balloon : Option Balloon) → length (devices_in drives balloon) ≡ count_in drives balloon
+counted_in drives balloon =
+    omega (
+      arith,
+      length-append (map of_drive (in_order drives)) (balloon_devices balloon),
+      length-drives drives,
+      length-balloon balloon,
+    )
+
+pub counted : (config : Config) → length (devices_of config) ≡ device_count config
+counted config = counted_in config.drives config.balloon
+
+-- ---- which are where
+
+pub drive_at : (config : Config) (id : List ℕ) (k : ℕ) → device_of config.drives id ≡ Some k
+    → (d : Drive) × (slice_get (devices_of config) k ≡ Some (of_drive d)) × (is_named id d ≡ true)
+drive_at config id k is =
+    let found = at_position (is_named id) (in_order config.drives) k is in
+    (found.0, in_front _ _ k _ (mapped of_drive (in_order config.drives) k found.0 found.1), found.2)
+
+balloon_of : (n k : ℕ) (balloon : Option Balloon) → option_map (λ b. n) balloon ≡ Some k → (b : Balloon) × (balloon ≡ Some b) × (n ≡ k)
+balloon_of n k None is = absurd cc
+balloon_of n k (Some b) is = (b, refl, cc)
+
+first_balloon : (balloon : Option Balloon) (b : Balloon) → balloon ≡ Some b → slice_get (balloon_devices balloon) 0 ≡ Some (of_balloon b)
+first_balloon None b is = absurd cc
+first_balloon (Some c) b is = let same : c ≡ b = cc in ap (λ (x : Balloon). Some (of_balloon x)) same
+
+pub balloon_at : (config : Config) (k : ℕ) → balloon_device config ≡ Some k
+    → (b : Balloon) × (config.balloon ≡ Some b) × (slice_get (devices_of config) k ≡ Some (of_balloon b))
+balloon_at config k is =
+    let there = balloon_of (length config.drives) k config.balloon is in
+    let own = first_balloon config.balloon there.0 there.1 in
+    (there.0, there.1, behind _ _ (length config.drives) 0 k _ (length-drives config.drives) (omega (arith, there.2)) own)
