@@ -29,6 +29,7 @@ module _ (twins : List Twins) (m n : Machine) (alike : Alike twins m n) where
   parts c d e f u v o p r s x y configs metas connections first second guests pauses = record {
     twins_are = alike.twins_are;
     id = alike.id;
+    lineages = alike.lineages;
     next = alike.next;
     base = alike.base;
     config = configs;
@@ -77,6 +78,7 @@ module _ (twins : List Twins) (m n : Machine) (alike : Alike twins m n) where
   with_lineage lineage = record {
     twins_are = alike.twins_are;
     id = alike.id;
+    lineages = ((λ small. small), λ small. small);
     next = alike.next;
     base = alike.base;
     config = alike.config;
@@ -98,6 +100,7 @@ module _ (twins : List Twins) (m n : Machine) (alike : Alike twins m n) where
   with_file name content = record {
     twins_are = alike.twins_are;
     id = alike.id;
+    lineages = alike.lineages;
     next = alike.next;
     base = alike.base;
     config = alike.config;

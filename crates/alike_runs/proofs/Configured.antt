@@ -99,7 +99,7 @@ drained_there (Some g) = refl
 create_kept : (o : Option Guest) (m : Machine) (it : SnapshotCreate) (devices : List Device) (n : Machine) → m.guest ≡ o → Creates o m it devices n
     → Configured m → Configured n
 create_kept None m it devices n is x own = same m n x.1 own
-create_kept (Some g) m it devices n is (copy, of, tells, after) own =
+create_kept (Some g) m it devices n is (copy, of, tells, saved, after) own =
     kept m n (ap (λ (q : Machine). is_some q.guest) after ∙ sym (ap (λ (o : Option Guest). is_some o) is)) (ap (λ (q : Machine). q.config.configured) after) own
 
 fails_kept : (o : Option Guest) (m : Machine) (it : SnapshotCreate) (left : Left) (n : Machine) → CreateFails o m it left n → Configured m → Configured n

@@ -1,9 +1,12 @@
 -- Machines that are alike stay so where both create a snapshot, or both fail to.
 use Rattle.std.proofs.Common.{◌≡◌, ◌≢◌, ◌<◌, ℕ, ◌+◌, refl, sym, ap, subst, ◌∙◌, List, [], ◌∷◌, ◌++◌, map, take, Option, Some, None, inl, inr, arith}
+use Rattle.std.specs.Prelude.{IsTrue}
 use Rattle.std.specs.FinMap.{get, insert}
 use Rattle.vm_types.specs.Saved.{Saved}
 use Rattle.vm_types.specs.declared.identity.Identity.{Identity}
 use Rattle.vm_outside.specs.Calls.{FileCall}
+use Rattle.file_format.specs.Identities.{is_numbered}
+use Rattle.file_format.specs.Versions.{current_version}
 use Rattle.api_calls.specs.declared.call.SnapshotCreate.{SnapshotCreate}
 use Rattle.api_calls.specs.declared.call.SnapshotFiles.{SnapshotFiles}
 use Rattle.api_calls.specs.declared.call.SnapshotType.{SnapshotType}
@@ -11,6 +14,7 @@ use Rattle.api_calls.specs.declared.call.SnapshotType.TheVariants as snapshot
 use Rattle.api_rules.specs.Ids.{spent}
 use Rattle.guest_devices.specs.declared.device.Device.{Device}
 use Rattle.snap_state.specs.declared.copy.StateCopy.{StateCopy}
+use Rattle.snap_state.specs.Files.{IsSaved}
 use Rattle.flat_guest.specs.Changes.{reset_guest}
 use Rattle.flat_guest.specs.Guest.{Guest, unwritten}
 use Rattle.flat_snapshot.specs.Files.{head_of, saved_pages, state_file}
@@ -24,6 +28,7 @@ use Rattle.alike_runs.specs.Twins.{AlikeBase, AreTwins, Twins}
 use Rattle.alike_runs.proofs.Calls.{calls_both, calls_front, calls_many}
 use Rattle.alike_runs.proofs.Changed.{calls_alike, memory_both}
 use Rattle.alike_runs.proofs.Files.{Named, base_from, file_from, file_same, named, put_alike, put_or, put_other, put_there, twins_below}
+use Rattle.alike_runs.proofs.Lineages.{lineage_small, other_fits}
 use Rattle.alike_runs.proofs.Guests.{copy_alike, reset_alike, unwritten_alike}
 
 some_guest : (g h : Guest) → ◌≡◌ {A = Option Guest} (Some g) (Some h) → g ≡ h
@@ -54,6 +59,19 @@ module _ (twins : List Twins) (m n : Machine) (alike : Alike twins m n) where
   saved_more : AlikeFiles more m.saved n.saved
   saved_more name = file_from (next_twins ∷ []) twins (get m.saved name) (get n.saved name) (alike.saved name)
 
+  -- a copy that a file of the first can have, under its next identity, is one that a file of the second can have
+  saved_too : (copy : StateCopy) → IsSaved current_version (record { identity = next_identity m; copy = copy })
+      → IsSaved current_version (record { identity = next_identity n; copy = copy })
+  saved_too copy saved =
+      let own = saved.fits.1.0 in
+      let small = alike.lineages.0 (lineage_small (next_identity m) own) in
+      record {
+        fits = (saved.fits.0, (other_fits (next_identity m) (next_identity n) own small (sym alike.next), saved.fits.1.1));
+        valid = saved.valid;
+        numbered =
+            subst (λ (k : ℕ). IsTrue (is_numbered (record { lineage = n.ids.lineage; number = k }))) alike.next saved.numbered;
+      }
+
   -- ---- answered
 
   module _ (it : SnapshotCreate) (copy : StateCopy) (x y : Guest) (both : AlikeGuests x y) where
@@ -66,6 +84,7 @@ module _ (twins : List Twins) (m n : Machine) (alike : Alike twins m n) where
     created_alike = record {
       twins_are = more_twins;
       id = alike.id;
+      lineages = alike.lineages;
       next = ap (λ (k : ℕ). k + 1) alike.next;
       base = inr (inl refl);
       config = alike.config;
@@ -96,14 +115,14 @@ module _ (twins : List Twins) (m n : Machine) (alike : Alike twins m n) where
       → Creates o m it kept k → (l : Machine) × Creates p n it kept l × Alike more k l
   creates_alike it kept k None p first second x = absurd cc
   creates_alike it kept k (Some g) None first second x = absurd cc
-  creates_alike it kept k (Some g) (Some h) first second (copy, of, tells, is) =
+  creates_alike it kept k (Some g) (Some h) first second (copy, of, tells, saved, is) =
       let here : AlikeGuests g h =
       subst (λ (q : Guest). AlikeGuests q h) (sym (some_guest g alike.g first))
       (subst (λ (q : Guest). AlikeGuests alike.g q) (sym (some_guest h alike.h second)) alike.guests) in
       let reset : AlikeGuests (reset_guest g) (reset_guest h) = reset_alike g h here in
       let l : Machine = created n (reset_guest h) it.files (parent_in n it) copy in (
         l,
-        (copy, copy_alike m.config n.config (reset_guest g) (reset_guest h) copy alike.config reset of, tells, refl),
+        (copy, copy_alike m.config n.config (reset_guest g) (reset_guest h) copy alike.config reset of, tells, saved_too copy saved, refl),
         subst (λ (q : Machine). Alike more q l) (sym is) (created_alike it copy (reset_guest g) (reset_guest h) reset),
       )
 
@@ -171,6 +190,7 @@ module _ (twins : List Twins) (m n : Machine) (alike : Alike twins m n) where
       copy = short.copy;
       is_copy = copy_alike m.config n.config (reset_guest x) (reset_guest y) short.copy alike.config reset short.is_copy;
       tells = short.tells;
+      saved = saved_too short.copy short.saved;
       lacks =
           subst (λ (c : ℕ). left.begun < c)
           (calls_many (calls_in m (reset_guest x) it short.copy) (calls_in n (reset_guest y) it short.copy) all_calls) short.lacks;
@@ -186,6 +206,7 @@ module _ (twins : List Twins) (m n : Machine) (alike : Alike twins m n) where
         subst (λ (q : Machine). Alike twins q other) (sym short.leaves) (record {
           twins_are = twins_below m.ids.next (m.ids.next + 1) twins (omega arith) alike.twins_are;
           id = alike.id;
+          lineages = alike.lineages;
           next = ap (λ (c : ℕ). c + 1) alike.next;
           base = alike.base;
           config = alike.config;

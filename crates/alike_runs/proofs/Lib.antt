@@ -5,6 +5,7 @@ pub mod Configured
 pub mod Creating
 pub mod Files
 pub mod Guests
+pub mod Lineages
 pub mod Loaded
 pub mod Requests
 pub mod Runs

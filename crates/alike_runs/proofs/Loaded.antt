@@ -1,5 +1,5 @@
 -- The machine that saved its guest, and one that loads what it saved.
-use Rattle.std.proofs.Common.{◌≡◌, true, refl, sym, ap, subst, ◌∙◌, [], Option, Some, None, inl}
+use Rattle.std.proofs.Common.{◌≡◌, ◌<◌, ◌^◌, true, refl, sym, ap, subst, ◌∙◌, [], Option, Some, None, inl}
 use Rattle.std.specs.FinMap.{get}
 use Rattle.http_stream.specs.Stream.{Connection}
 use Rattle.api_calls.specs.declared.call.BootSource as call
@@ -19,6 +19,7 @@ use Rattle.flat_machine.specs.Requests.{Creates, carried, created, next_identity
 use Rattle.flat_machine.proofs.Ready.{guest_ready}
 use Rattle.alike_runs.specs.Alike.{Alike, as_loaded}
 use Rattle.alike_runs.proofs.Files.{file_same}
+use Rattle.alike_runs.proofs.Lineages.{lineage_small}
 
 -- what was booted is kept, where there is something that can be
 source_kept : (source : Option call.BootSource) → is_source (source_of source) ≡ true
@@ -32,7 +33,8 @@ source_kept (Some source) is = refl
 
 module _ (m k : Machine) (had : Guest) (it : SnapshotCreate) (load : SnapshotLoad) (copied : StateCopy) (c : Connection) (ready : Ready m) (is_set : m.config.configured ≡ true)
     (there : m.guest ≡ Some had) (of : IsCopyOf m.config (reset_guest had) copied)
-    (goes_on : AreAlike (unwritten (reset_guest had)) (carried_guest copied had.memory.bytes)) where
+    (goes_on : AreAlike (unwritten (reset_guest had)) (carried_guest copied had.memory.bytes))
+    (own : m.ids.lineage < 2 ^ 64) (loads : k.ids.lineage < 2 ^ 64) where
   abbrev saver : Machine
   saver = created m (reset_guest had) it.files (parent_in m it) copied
 
@@ -57,6 +59,7 @@ module _ (m k : Machine) (had : Guest) (it : SnapshotCreate) (load : SnapshotLoa
   loaded_here = record {
     twins_are = tt;
     id = refl;
+    lineages = (λ small. loads, λ small. own);
     next = refl;
     base = inl refl;
     config = config_is ∙ sym copied_config;
@@ -73,15 +76,15 @@ module _ (m k : Machine) (had : Guest) (it : SnapshotCreate) (load : SnapshotLoa
   }
 
 pub loaded_alike : (m n k : Machine) (g : Guest) (it : SnapshotCreate) (load : SnapshotLoad) (copy : StateCopy) (c : Connection) → Ready m → m.config.configured ≡ true
-    → m.guest ≡ Some g → IsCopyOf m.config (reset_guest g) copy → Creates m.guest m it copy.devices n
+    → k.ids.lineage < 2 ^ 64 → m.guest ≡ Some g → IsCopyOf m.config (reset_guest g) copy → Creates m.guest m it copy.devices n
     → AreAlike (unwritten (reset_guest g)) (carried_guest copy g.memory.bytes)
     → Alike [] (record (as_loaded n k load) { connection = c })
     (record (carried k load (record { identity = next_identity m; copy = copy; bytes = g.memory.bytes })) { connection = c })
-loaded_alike m n k g it load copy c ready configured there of creates goes_on =
+loaded_alike m n k g it load copy c ready configured small there of creates goes_on =
     let made = subst (λ (o : Option Guest). Creates o m it copy.devices n) there creates in
     let same : made.0 ≡ copy = same_copy m.config (reset_guest g) made.0 copy made.2 made.1 of in
     let is : n ≡ created m (reset_guest g) it.files (parent_in m it) copy =
-    made.3 ∙ ap (λ (s : StateCopy). created m (reset_guest g) it.files (parent_in m it) s) same in
+    made.4 ∙ ap (λ (s : StateCopy). created m (reset_guest g) it.files (parent_in m it) s) same in
     subst (λ (q : Machine). Alike [] (record (as_loaded q k load) { connection = c })
     (record (carried k load (record { identity = next_identity m; copy = copy; bytes = g.memory.bytes })) { connection = c }))
-    (sym is) (loaded_here m k g it load copy c ready configured there of goes_on)
+    (sym is) (loaded_here m k g it load copy c ready configured there of goes_on (lineage_small (next_identity m) made.3.fits.1.0) small)

@@ -58,6 +58,7 @@ module _ (twins : List Twins) where
   turned_machine m n alike = record {
     twins_are = turned_numbers m.ids.next n.ids.next twins alike.next alike.twins_are;
     id = sym alike.id;
+    lineages = (alike.lineages.1, alike.lineages.0);
     next = sym alike.next;
     base = turned_base m.ids.base n.ids.base alike.base;
     config = sym alike.config;

@@ -1,5 +1,5 @@
 -- Machines that are the same but for lineages. That no later list tells them apart is the law `any_later_run`.
-use Rattle.std.specs.Prelude.{◌≡◌, ℕ, not, List, Some}
+use Rattle.std.specs.Prelude.{◌≡◌, ◌<◌, ℕ, ◌^◌, not, List, Some}
 use Rattle.serde_json.specs.Data.{null}
 use Rattle.api_calls.specs.declared.call.SnapshotLoad.{SnapshotLoad}
 use Rattle.flat_guest.specs.Guest.{Guest}
@@ -13,11 +13,16 @@ pub record AlikeGuests (g h : Guest) : Type 0 where
   pub same : AreAlike g h
   pub written : (i : ℕ) → g.written i ≡ h.written i
 
+-- Both have 64 bits, or neither has: so where one can write its identities to files, the other can.
+abbrev pub AlikeLineages : ℕ → ℕ → Type 0
+AlikeLineages a b = (a < 2 ^ 64 → b < 2 ^ 64) × (b < 2 ^ 64 → a < 2 ^ 64)
+
 -- Both have started, and made these snapshots since they are alike. All else is the same: but for the lineages, of which a
 -- machine has its own, and those of these snapshots.
 pub record Alike (twins : List Twins) (m n : Machine) : Type 0 where
   pub twins_are : AreTwins m.ids.next twins
   pub id : m.id ≡ n.id
+  pub lineages : AlikeLineages m.ids.lineage n.ids.lineage
   pub next : m.ids.next ≡ n.ids.next
   pub base : AlikeBase twins m.ids.base n.ids.base
   pub config : m.config ≡ n.config

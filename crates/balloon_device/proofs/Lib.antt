@@ -1,7 +1,9 @@
 pub mod Balloon
 pub mod Entries
 pub mod Pieces
+pub mod Narrow
 pub mod Resuming
+pub mod SmallEntries
 pub mod Stages
 pub mod Staying
 pub mod Working

@@ -1,9 +1,11 @@
 -- What a balloon has to do still, by what its code keeps.
-use Rattle.std.specs.Prelude.{ℕ, ◌+◌, ◌*◌, ◌^◌, ◌<◌, ◌≤◌, ◌==◌, nat_le, nat_lt, Bool, true, false, ◌&&◌, if◌then◌else◌, Option, Some, None, List, ◌++◌, length, replicate}
+use Rattle.std.specs.Prelude.{ℕ, ◌≡◌, ◌+◌, ◌*◌, ◌^◌, ◌<◌, ◌≤◌, ◌==◌, nat_le, nat_lt, Bool, true, false, ◌&&◌, if◌then◌else◌, Option, Some, None, IfSome, List, ◌++◌, length, replicate}
+use Rattle.std.specs.List.{All}
 use Rattle.vm_types.specs.declared.op.Op.{Op}
 use Rattle.vm_types.specs.declared.op.Op.TheVariants.{Read, Write}
 use Rattle.vm_types.specs.declared.reply.Reply.{Reply}
 use Rattle.device_trace.specs.Doing.{Doing, Gives, and_then, led}
+use Rattle.le_fields.specs.Fields.{IsByte}
 use Rattle.vq_split.specs.declared.queue.Part.{Part}
 use Rattle.vq_split.specs.Chain.{is_inside}
 use Rattle.vq_split.specs.Kept.{are_inside}
@@ -26,7 +28,7 @@ use Rattle.balloon_device.specs.declared.statistics.Statistics.{Statistics}
 use Rattle.balloon_device.specs.Balloon.{Balloon, balloon, pages_done, tags_done}
 use Rattle.balloon_device.specs.Pages.{all_zeroed, zeros}
 use Rattle.balloon_device.specs.Pieces.{read_all}
-use Rattle.balloon_device.specs.Statistics.{Telling, all_told}
+use Rattle.balloon_device.specs.Statistics.{Telling, all_told, known_tags}
 
 -- its data, and its work
 pub record Kept : Type 0 where
@@ -122,9 +124,49 @@ is_work w pages s = false
 abbrev pub AnyBalloon : Balloon → Type 0
 AnyBalloon e = Unit {0}
 
+-- ---- the widths of what it keeps
+
+-- each value that was told has 64 bits
+abbrev pub IsSmallValue : Option ℕ → Type 0
+IsSmallValue v = IfSome v (λ (value : ℕ). value < 2 ^ 64)
+
+abbrev pub AreSmall : Statistics → Type 0
+AreSmall s = (length s.values ≡ known_tags) × All IsSmallValue s.values
+
+-- what is held are bytes
+abbrev pub IsSmallStage : Stage → Type 0
+IsSmallStage stage.Rest = Unit {0}
+IsSmallStage (stage.List list pages) = All IsByte list.held
+IsSmallStage (stage.Zeros list pages left at) = All IsByte list.held
+IsSmallStage (stage.Tags from s) = All IsByte from.held × AreSmall s
+
+-- what it is at, which is small where each reply was, `sized`
+pub record SizedStage (sized : Bool) : Type 0 where
+  pub stage : Stage
+  pub small : sized ≡ true → IsSmallStage stage
+
+abbrev pub sized_hand : (sized : Bool) → SizedStage sized → Hand Balloon
+sized_hand sized g = hand_of g.stage
+
+abbrev pub is_sized_work : (sized : Bool) → Work → ℕ → SizedStage sized → Bool
+is_sized_work sized w pages g = is_work w pages g.stage
+
+pub record IsSmallData (e : Balloon) : Type 0 where
+  pub interval : e.interval < 2 ^ 16
+  pub last : e.last < 2 ^ 64
+  pub statistics : AreSmall e.statistics
+
+abbrev pub IsSizedData : Bool → Balloon → Type 0
+IsSizedData sized e = sized ≡ true → IsSmallData e
+
 -- what is kept where this is left
 abbrev pub BalloonKept : ℕ → ℕ → Script (Queued Balloon) → Type 0
-BalloonKept port pages t = HasKept balloon hand_of is_work AnyBalloon true port pages t
+BalloonKept port pages t = HasKept balloon hand_of is_work AnyBalloon false true port pages t
+
+-- and where each reply was small, each number of which has its width
+abbrev pub BalloonNarrow : ℕ → ℕ → Script (Queued Balloon) → Type 0
+BalloonNarrow port pages t =
+    HasKept balloon (sized_hand true) (is_sized_work true) (IsSizedData true) true true port pages t
 
 -- how the reading of parts begins
 abbrev pub first_of : List Part → Begin

@@ -1,17 +1,23 @@
 -- What a block device has still to do in a chain, by what it keeps.
-use Rattle.std.specs.Prelude.{◌≡◌, ◌<◌, ◌^◌, ℕ, false, Option, Some, None, List, [], length}
+use Rattle.std.specs.Prelude.{◌≡◌, ◌<◌, ◌≤◌, ◌^◌, ℕ, Bool, true, false, Option, Some, None, IfSome, List, [], length}
+use Rattle.std.specs.List.{All}
 use Rattle.vm_types.specs.declared.op.Op.{Op}
 use Rattle.vm_types.specs.declared.op.Op.TheVariants.{Read}
 use Rattle.vm_types.specs.declared.reply.Reply.{Reply}
 use Rattle.device_trace.specs.Doing.{led}
+use Rattle.le_fields.specs.Fields.{IsByte}
 use Rattle.vq_split.specs.declared.queue.Part.{Part}
 use Rattle.dev_core.specs.declared.collect.Collect.{Collect}
 use Rattle.dev_core.specs.Collecting.{collect_left, nothing}
 use Rattle.dev_core.specs.Pieces.{place, room}
+use Rattle.token_bucket.specs.Kept.{Kept, is_kept}
+use Rattle.rate_gate.specs.Gate.{Buckets}
 use Rattle.queue_device.specs.Acting.{Acting, Comes, performing}
 use Rattle.queue_device.specs.Chains.{Taken}
 use Rattle.queue_device.specs.Left.{Hand}
 use Rattle.block_device.specs.declared.data.BlockData.{BlockData}
+use Rattle.block_device.specs.declared.stage.ServiceStage.{ServiceStage}
+use Rattle.block_device.specs.declared.stage.ServiceStage.TheVariants as stage
 use Rattle.block_device.specs.declared.work.BlockStage.{BlockStage}
 use Rattle.block_device.specs.declared.work.BlockStage.TheVariants as at
 use Rattle.block_device.specs.Block.{headed}
@@ -59,3 +65,50 @@ IsAt (at.Serve status stage) from to = IsStage stage from to
 -- its disk has less than 2^64 sectors
 abbrev pub IsFine : BlockData → Type 0
 IsFine e = e.sectors < 2 ^ 64
+
+-- ---- the widths of what it keeps
+
+-- the status is a byte, and the used length has 32 bits
+abbrev pub IsSmallStage : ServiceStage → Type 0
+IsSmallStage (stage.Status status used) = (status < 2 ^ 8) × (used < 2 ^ 32)
+IsSmallStage stage = Unit {0}
+
+abbrev pub IsSmallAt : BlockStage → Type 0
+IsSmallAt (at.Serve place stage) = IsSmallStage stage
+IsSmallAt stage = Unit {0}
+
+-- at most 128 bytes are held
+abbrev pub IsHeld : List ℕ → Type 0
+IsHeld bytes = (length bytes ≤ 128) × All IsByte bytes
+
+pub record IsSmallWork (w : Working) : Type 0 where
+  pub held : IsHeld w.from.held
+  pub stage : IsSmallAt w.stage
+
+-- what it is at, which is small where each reply was, `sized`
+pub record SizedWork (sized : Bool) : Type 0 where
+  pub work : Working
+  pub small : sized ≡ true → IsSmallWork work
+
+abbrev pub sized_hand : (sized : Bool) → SizedWork sized → Hand BlockData
+sized_hand sized w = hand_of w.work
+
+-- a bucket may be such a one, and what is left of its burst and its moment have 64 bits
+pub record IsSmallBucket (k : Kept) : Type 0 where
+  pub kept : is_kept k ≡ true
+  pub burst : k.burst < 2 ^ 64
+  pub moment : k.moment < 2 ^ 64
+
+abbrev pub AreSmallLimits : Buckets → Type 0
+AreSmallLimits b = IfSome b.bandwidth IsSmallBucket × IfSome b.ops IsSmallBucket
+
+-- what GET_ID gives of the drive are 20 bytes
+abbrev pub IsSmallData : BlockData → Type 0
+IsSmallData e = (length e.drive_id ≡ 20) × All IsByte e.drive_id × AreSmallLimits e.limits
+
+-- other buckets are such
+abbrev pub AreSmallOthers : Option (Option Kept) → Type 0
+AreSmallOthers o = IfSome o (λ (b : Option Kept). IfSome b IsSmallBucket)
+
+abbrev pub IsSizedData : Bool → BlockData → Type 0
+IsSizedData sized e = IsFine e × (sized ≡ true → IsSmallData e)

@@ -1,3 +1,4 @@
+pub mod Bytes
 pub mod Nodes
 pub mod Passes
 pub mod Sizes

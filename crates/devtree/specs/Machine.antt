@@ -31,28 +31,34 @@ initrd_properties (Some initrd) =
     ∷ []
 
 -- what the guest is told of its boot (3.6)
+abbrev pub chosen_properties : List ℕ → Option InitrdPlace → List Property
+chosen_properties boot_args initrd = property (codes "bootargs") (text boot_args) ∷ initrd_properties initrd
+
 abbrev pub chosen : List ℕ → Option InitrdPlace → Node
-chosen boot_args initrd =
-    node (codes "chosen") (property (codes "bootargs") (text boot_args) ∷ initrd_properties initrd) no_nodes
+chosen boot_args initrd = node (codes "chosen") (chosen_properties boot_args initrd) no_nodes
 
 -- 3.4
-abbrev pub memory : ℕ → Node
-memory mib =
-    node (at_unit (codes "memory") ram_start) (
+abbrev pub memory_properties : ℕ → List Property
+memory_properties mib =
     property (codes "device_type") (text (codes "memory"))
     ∷ property (codes "reg") (region ram_start (bytes_of_mib mib))
-    ∷ []) no_nodes
+    ∷ []
+
+abbrev pub memory : ℕ → Node
+memory mib = node (at_unit (codes "memory") ram_start) (memory_properties mib) no_nodes
 
 -- 3.8, and the RISC-V bindings
-abbrev pub cpu : ℕ → Node
-cpu k =
-    node (at_unit (codes "cpu") k) (
+abbrev pub cpu_properties : ℕ → List Property
+cpu_properties k =
     property (codes "device_type") (text (codes "cpu"))
     ∷ property (codes "reg") (cell k)
     ∷ property (codes "status") (text (codes "okay"))
     ∷ property (codes "compatible") (text (codes "riscv"))
     ∷ property (codes "riscv,isa") (text (codes "rv64ima"))
-    ∷ []) no_nodes
+    ∷ []
+
+abbrev pub cpu : ℕ → Node
+cpu k = node (at_unit (codes "cpu") k) (cpu_properties k) no_nodes
 
 -- 3.7: guest time counts nanoseconds
 abbrev pub cpus_properties : List Property
@@ -66,24 +72,28 @@ abbrev pub cpus : ℕ → Node
 cpus harts = node (codes "cpus") cpus_properties (nodes_from cpu 0 harts)
 
 -- the interrupt controller (2.4)
-abbrev pub board : Node
-board =
-    node (at_unit (codes "board") window_start) (
+abbrev pub board_properties : List Property
+board_properties =
     property (codes "compatible") (text (codes "firecracker,rv64-board"))
     ∷ property (codes "reg") (region window_start window_size)
     ∷ property (codes "#interrupt-cells") (cell 1)
     ∷ property (codes "interrupt-controller") []
     ∷ property (codes "phandle") (cell 1)
-    ∷ []) no_nodes
+    ∷ []
+
+abbrev pub board : Node
+board = node (at_unit (codes "board") window_start) board_properties no_nodes
 
 -- a port of a device: one page for each, and the line of its number (VIRTIO 1.2, 4.2.1)
-abbrev pub device : ℕ → Node
-device k =
-    node (at_unit (codes "virtio_mmio") (ports_start + port_size * k)) (
+abbrev pub device_properties : ℕ → List Property
+device_properties k =
     property (codes "compatible") (text (codes "virtio,mmio"))
     ∷ property (codes "reg") (region (ports_start + port_size * k) port_size)
     ∷ property (codes "interrupts") (cell k)
-    ∷ []) no_nodes
+    ∷ []
+
+abbrev pub device : ℕ → Node
+device k = node (at_unit (codes "virtio_mmio") (ports_start + port_size * k)) (device_properties k) no_nodes
 
 -- what stands in the memory map (4.5)
 abbrev pub soc_properties : List Property

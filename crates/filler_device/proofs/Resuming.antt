@@ -26,8 +26,10 @@ use Rattle.queue_device.specs.Acting.{Acting, ActingKeeps, Comes, performing}
 use Rattle.queue_device.specs.Chains.{Chain, Taken}
 use Rattle.queue_device.specs.Confined.{IsChain, IsDeviceAct}
 use Rattle.queue_device.specs.Resuming.{Goes, IsShortChain, IsShortTaken, Resumes, serving_of, taking_of}
+use Rattle.queue_device.specs.Sizes.{IsLength}
 use Rattle.queue_device.specs.Spilling.{spill_left}
 use Rattle.queue_device.proofs.Acting.{keeps_when, led_keeps, performing_acts, performing_keeps}
+use Rattle.queue_device.proofs.Never.{never}
 use Rattle.queue_device.proofs.Pieces.{collect_asks, collect_next, filter_few, is_some_of, more_of, put_asks, put_next}
 use Rattle.filler_device.specs.declared.kind.Stage.{Stage}
 use Rattle.filler_device.specs.declared.kind.Stage.TheVariants as stage
@@ -133,10 +135,10 @@ serving_stays port pages k (stage.Fill spill len) is =
 
 module _ (pages : ℕ) (k : Which) where
   abbrev Takes : Acting Filler (Option Taken) → Type 0
-  Takes t = Goes filler hand_of is_work AnyFiller taking_of (work.Take k) pages (IsShortTaken filler pages k) t
+  Takes t = Goes filler hand_of is_work AnyFiller false taking_of (work.Take k) pages (IsShortTaken filler false pages k) t
 
   abbrev Serves : Acting Filler (Option ℕ) → Type 0
-  Serves t = Goes filler hand_of is_work AnyFiller serving_of (work.Serve k) pages Any t
+  Serves t = Goes filler hand_of is_work AnyFiller false serving_of (work.Serve k) pages (IsLength false) t
 
   abbrev reading : Doing Got → Filler → Acting Filler (Option Taken)
   reading t e = performing t e (λ f got. Comes f (Some (only_read got)))
@@ -152,7 +154,7 @@ module _ (pages : ℕ) (k : Which) where
         own = e;
         result = Some (only_read (record { bytes = from.held; parts = from.from }));
         fine = tt;
-        is = ((tt, inside, refl), (omega arith, few, most));
+        is = ((tt, inside, refl), (omega arith, few, most, never));
         left =
             ap (λ (t : Doing Got). reading t e) (collect_done (1 - length from.held) from.held from.from is);
       })
@@ -196,7 +198,7 @@ module _ (pages : ℕ) (k : Which) where
         own = e;
         result = Some len;
         fine = tt;
-        is = tt;
+        is = never;
         left = ap (λ (t : Doing (List Part)). filling t len e) (put_done held to is);
       })
   fill_by false held to len e is inside few =
@@ -232,22 +234,22 @@ take pages First parts e inside few =
       own = e;
       result = Some (record { parts = parts; got = no_bytes });
       fine = tt;
-      is = ((inside, tt, refl), (few, omega arith, omega arith));
+      is = ((inside, tt, refl), (few, omega arith, omega arith, never));
       left = refl;
     })
 take pages Second parts e inside few = byte_by pages Second (total (readable parts) == 0) parts e inside few
 take pages Third parts e inside few = byte_by pages Third (total (readable parts) == 0) parts e inside few
 
-serve : (pages : ℕ) (k : Which) (c : Chain) (e : Filler) → IsChain filler pages k c → IsShortChain (Some c)
+serve : (pages : ℕ) (k : Which) (c : Chain) (e : Filler) → IsChain filler pages k c → IsShortChain false (Some c)
     → Serves pages k (served_by k c e)
 serve pages First c e chain short =
     let count : length (writable c.parts) ≤ length c.parts = filter_few _ c.parts in
     fill_on pages First (replicate (filled c) e.byte) (writable c.parts) (filled c) e
     (filter_inside pages _ c.parts chain.parts) (omega (arith, count, short.0))
-serve pages Second c e chain short = inr (record { own = _; result = Some 0; fine = tt; is = tt; left = refl })
-serve pages Third c e chain short = inr (record { own = _; result = Some 0; fine = tt; is = tt; left = refl })
+serve pages Second c e chain short = inr (record { own = _; result = Some 0; fine = tt; is = never; left = refl })
+serve pages Third c e chain short = inr (record { own = _; result = Some 0; fine = tt; is = never; left = refl })
 
-pub resumes : Resumes filler hand_of is_work AnyFiller (setting limited) true no_call
+pub resumes : Resumes filler hand_of is_work AnyFiller false (setting limited) true no_call
 resumes = record {
   rest = stage.Rest;
   rests = λ pages. refl;
@@ -258,11 +260,12 @@ resumes = record {
       inr (record { own = e; result = false; fine = tt; is = tt; left = refl });
   answering = λ pages g e reply small fine is fit. absurd (no_answer pages g is);
   take = λ pages k parts e small fine inside few. take pages k parts e inside few;
-  taking = λ pages k g e reply small fine is fit. taking pages k g e reply (omega (arith, small)) is fit;
+  taking = λ pages k g e reply small fine is fit. taking pages k g e reply (omega (arith, small)) is fit.0;
   serve = λ pages k c e small fine chain short. serve pages k c e chain short;
-  serving = λ pages k g e reply small fine is fit. serving pages k g e reply (omega (arith, small)) is fit;
+  serving = λ pages k g e reply small fine is fit. serving pages k g e reply (omega (arith, small)) is fit.0;
   begun = λ k e fine. tt;
-  passes = λ k c now e f fine is. tt;
+  passes = λ pages k c now e f small early fine chain short is. tt;
   over = λ k e fine. tt;
   reset = λ e fine. tt;
+  cut = λ c e op reply is. never;
 }

@@ -69,4 +69,4 @@ AnyFiller e = Unit {0}
 
 -- what is kept where this is left
 abbrev pub FillerKept : ℕ → ℕ → Script (Queued Filler) → Type 0
-FillerKept port pages t = HasKept filler hand_of is_work AnyFiller true port pages t
+FillerKept port pages t = HasKept filler hand_of is_work AnyFiller false true port pages t

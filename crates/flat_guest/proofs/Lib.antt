@@ -7,8 +7,10 @@ pub mod Devices
 pub mod Lengths
 pub mod Lists
 pub mod Marked
+pub mod Narrow
 pub mod SameKinds
 pub mod Savable
 pub mod Shaped
 pub mod Soundness
 pub mod Stepping
+pub mod Widths

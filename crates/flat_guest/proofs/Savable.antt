@@ -165,7 +165,7 @@ of_nothing size Op.Idle host = tt
 
 -- ---- lists
 
-get_all : {A : Type 0} (P : A → Type 0) (xs : List A) (k : ℕ) (x : A) → slice_get xs k ≡ Some x → All P xs → P x
+pub get_all : {A : Type 0} (P : A → Type 0) (xs : List A) (k : ℕ) (x : A) → slice_get xs k ≡ Some x → All P xs → P x
 get_all P [] k x is all = cc
 get_all P (y ∷ xs) zero x is all =
     let same : y ≡ x = cc in

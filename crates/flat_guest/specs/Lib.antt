@@ -4,6 +4,7 @@ pub mod Given
 pub mod Guest
 pub mod Places
 pub mod Same
+pub mod Narrow
 pub mod Savable
 pub mod Shaped
 pub mod Sound

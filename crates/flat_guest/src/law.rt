@@ -16,6 +16,7 @@ ghost use Rattle.flat_guest.specs.Given.{Event, Given};
 ghost use Rattle.flat_guest.specs.Given.Given.{Nothing};
 ghost use Rattle.flat_guest.specs.Changes.{reset_guest, told};
 ghost use Rattle.flat_guest.specs.Guest.{Guest, Wants, is_actor};
+ghost use Rattle.flat_guest.specs.Narrow.{HasWidths, IsSmallGiven};
 ghost use Rattle.flat_guest.specs.Same.{AreAlike};
 ghost use Rattle.flat_guest.specs.Shaped.{IsShaped, kinds_at_start};
 ghost use Rattle.flat_guest.specs.Sound.{IsSound};
@@ -80,4 +81,11 @@ pub fn same_events()
         FlatStep h event e (guest_after h e) × AreAlike k (guest_after h e) }
     ensures several { (g h k : Guest) (actor : ActorId) (count : ℕ) (es : List Entry) → AreAlike g h →
         StepsBy g actor count es k → (l : Guest) × StepsBy h actor count es l × AreAlike k l }
+{}
+
+/// Where each number of a guest has its width, an event leaves it so: each reply but a host object's is small by itself, and that
+/// one is to be. In a guest of at most 2^20 pages.
+pub fn wide_events()
+    ensures { (pages harts : ℕ) (g : Guest) (event : Event) (e : Entry) (h : Guest) → pages ≤ 2 ^ 20 →
+        IsSound g → HasWidths pages harts g → FlatStep g event e h → IsSmallGiven event.given → HasWidths pages harts h }
 {}

@@ -10,5 +10,5 @@ mod law;
 mod places;
 
 pub use boot::MOST_MIB;
-pub use law::{one_step, same_events, same_shape, some_step};
+pub use law::{one_step, same_events, same_shape, some_step, wide_events};
 pub use places::{Layout, place};

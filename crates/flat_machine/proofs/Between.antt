@@ -223,7 +223,7 @@ retimed_keeps g (Some b) number guest is = told_keeps g number (interval_told b)
 create_on : (g : Guest) (guest : Option Guest) (m : Machine) (it : SnapshotCreate) (kept : List Device) (n : Machine) → guest ≡ Some g
     → Creates guest m it kept n → GoesOn g m n
 create_on g None m it kept n there x = absurd cc
-create_on g (Some q) m it kept n there (copy, of, tells, is) = record {
+create_on g (Some q) m it kept n there (copy, of, tells, saved, is) = record {
   guest = unwritten (reset_guest q);
   there = ap (λ (k : Machine). k.guest) is;
   devices = reset_many q.devices ∙ ap (λ (x : Guest). length x.devices) (same_guest q g there);

@@ -71,7 +71,7 @@ both x y = (x.0 ∙ sym y.0, x.1 ∙ sym y.1)
 pub creates_one : (guest : Option Guest) (m : Machine) (it : SnapshotCreate) (kept : List Device) (n k : Machine)
     → Creates guest m it kept n → Creates guest m it kept k → n ≡ k
 creates_one None m it kept n k x y = x.1 ∙ sym y.1
-creates_one (Some g) m it kept n k (copy, of, tells, is) (other, same, says, be) =
+creates_one (Some g) m it kept n k (copy, of, tells, saved, is) (other, same, says, kept_too, be) =
     is
     ∙ ap (λ (c : StateCopy). created m (reset_guest g) it.files (parent_in m it) c)
     (same_copy m.config (reset_guest g) copy other (tells ∙ sym says) of same)

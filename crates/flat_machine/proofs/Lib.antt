@@ -3,6 +3,7 @@ pub mod Between
 pub mod Carries
 pub mod Determined
 pub mod Drives
+pub mod Fields
 pub mod Numbered
 pub mod OneReplay
 pub mod Plain
@@ -10,8 +11,12 @@ pub mod Pushed
 pub mod Ready
 pub mod Reconfigured
 pub mod Sizes
+pub mod Small
+pub mod SmallDevices
 pub mod SomeAnswer
 pub mod SomeReplay
 pub mod Taken
+pub mod TakenTexts
 pub mod Telling
 pub mod WholeLines
+pub mod Widths

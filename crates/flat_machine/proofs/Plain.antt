@@ -31,7 +31,7 @@ of_none (it ∷ kept) are = absurd are
 create_keeps : (guest : Option Guest) (m : Machine) (it : SnapshotCreate) (kept : List Device) (n : Machine) → devices_of guest ≡ []
     → Creates guest m it kept n → kept ≡ []
 create_keeps None m it kept n none x = x.0
-create_keeps (Some g) m it kept n none (copy, of, tells, is) =
+create_keeps (Some g) m it kept n none (copy, of, tells, saved, is) =
     sym tells ∙ of_none copy.devices (subst (λ (l : List FlatDevice). AreKept copy.devices (map device_reset l)) none of.2)
 
 result_keeps : (r : Result Change Refusal) (m : Machine) (kept : List Device) (n : Machine) → devices_of m.guest ≡ [] → LeavesBy m r kept n

@@ -248,7 +248,7 @@ start_ready (Some image) m ready there none new = record {
 create_ready : (guest : Option Guest) (m : Machine) (it : SnapshotCreate) (kept : List Device) (n : Machine) → Ready m
     → ReadyBy m.config m.paused guest → Creates guest m it kept n → Ready n
 create_ready None m it kept n ready own x = ready_is m n x.1 ready
-create_ready (Some g) m it kept n ready own (copy, of, tells, is) =
+create_ready (Some g) m it kept n ready own (copy, of, tells, saved, is) =
     ready_is (created m (reset_guest g) it.files (parent_in m it) copy) n is
     (record {
       taken = ready.taken;

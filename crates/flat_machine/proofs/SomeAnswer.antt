@@ -1,5 +1,6 @@
 -- A machine that is ready answers each request.
-use Rattle.std.proofs.Common.{◌≤◌, ◌^◌, ℕ, zero, suc, Bool, true, false, refl, List, [], ◌∷◌, Option, Some, None, Result, Ok, Err, arith}
+use Rattle.std.proofs.Common.{◌≡◌, ℕ, zero, suc, true, false, refl, List, [], ◌∷◌, Option, Some, None, Result, Ok, Err}
+use Rattle.std.specs.Prelude.{IsTrue}
 use Rattle.refusals.specs.declared.refusal.Refusal.{Refusal}
 use Rattle.serde_json.specs.Data.{Data}
 use Rattle.metadata_store.specs.Store.{patched, put}
@@ -10,7 +11,6 @@ use Rattle.http_stream.proofs.ConversationLemmas.{each, some_conversation}
 use Rattle.api_calls.specs.declared.call.SnapshotCreate.{SnapshotCreate}
 use Rattle.api_calls.specs.declared.call.SnapshotLoad.{SnapshotLoad}
 use Rattle.api_calls.specs.declared.call.VmState.TheVariants.{Paused, Resumed}
-use Rattle.vm_config.specs.declared.config.Config.{Config}
 use Rattle.vm_config.specs.Devices.{balloon_device}
 use Rattle.vm_config.specs.Texts.{Told}
 use Rattle.vm_config.specs.declared.change.Change.{Change}
@@ -19,19 +19,18 @@ use Rattle.api_rules.specs.declared.answer.Answer.{Answer}
 use Rattle.api_rules.specs.Answers.{accepted, refused}
 use Rattle.response_form.specs.Responses.{Response}
 use Rattle.guest_devices.specs.declared.device.Device.{Device}
+use Rattle.file_format.specs.Identities.{is_numbered}
 use Rattle.flat_guest.specs.Changes.{reset_guest}
-use Rattle.flat_guest.specs.Guest.{Guest, whole_pages}
-use Rattle.flat_guest.proofs.Soundness.{sound_reset}
+use Rattle.flat_guest.specs.Guest.{Guest}
 use Rattle.flat_snapshot.specs.Found.{Snapshot, found}
-use Rattle.flat_snapshot.proofs.Copied.{some_copy}
 use Rattle.flat_machine.specs.Outcome.{AreAnswered, Outcome}
 use Rattle.flat_machine.specs.Outcome.Outcome.{Answered}
 use Rattle.flat_machine.specs.Items.{TalkLines, response_lines}
 use Rattle.flat_machine.specs.Machine.{Machine, phase_of}
-use Rattle.flat_machine.specs.Ready.{IsReadyGuest, IsTaken, Ready, ReadyBy}
-use Rattle.flat_machine.specs.Requests.{AnswersBy, Creates, LeavesBy, Responds, Restores, RequestStep, Stores, allowed, carried, configured, created, disk_of, halted, image_of, parent_in, patched_balloon, patched_drive, patched_statistics, respond, started_from}
-use Rattle.flat_machine.proofs.Ready.{request_ready}
-use Rattle.flat_machine.proofs.Taken.{bounded}
+use Rattle.flat_machine.specs.Ready.{HasFields, Ready}
+use Rattle.flat_machine.specs.Requests.{AnswersBy, Creates, LeavesBy, Responds, Restores, RequestStep, Stores, allowed, carried, configured, created, disk_of, halted, image_of, next_identity, parent_in, patched_balloon, patched_drive, patched_statistics, respond, started_from}
+use Rattle.flat_machine.proofs.Numbered.{create_numbered}
+use Rattle.flat_machine.proofs.Ready.{can_be_copied, request_ready}
 use Rattle.flat_machine.proofs.Telling.{tells_some}
 
 -- ---- what a change leaves
@@ -44,19 +43,17 @@ AnsweredStep how given m text n = (kept : List Device) × RequestStep (Answered 
 abbrev Left : (List Device → Machine → Type 0) → Type 0
 Left Leaves = (kept : List Device) × (n : Machine) × Leaves kept n
 
--- its guest has no more pages than data of its devices can tell of
-few_pages : (config : Config) (paused : Bool) (g : Guest) → IsTaken config → IsReadyGuest config paused g → whole_pages g.memory ≤ 2 ^ 20
-few_pages config paused g taken own =
-    let mib = (bounded config taken).mib in
-    let whole = own.ready.shaped.memory.many_bytes in
-    omega (arith, mib, whole)
-
-some_create : (guest : Option Guest) (m : Machine) (it : SnapshotCreate) → ReadyBy m.config m.paused guest → Ready m → Left (Creates guest m it)
-some_create None m it own ready = ([], m, (refl, refl))
-some_create (Some g) m it own ready =
-    let h : Guest = reset_guest g in
-    let copy = some_copy m.config h (sound_reset g own.sound) (few_pages m.config m.paused g ready.taken own) in
-    (copy.0.devices, created m h it.files (parent_in m it) copy.0, (copy.0, copy.1, refl, refl))
+-- a create of a copy whose numbers fit, which passes each other test of a state file
+some_create : (guest : Option Guest) (m : Machine) (it : SnapshotCreate) → m.guest ≡ guest → IsTrue (is_numbered (next_identity m)) → Ready m
+    → HasFields m → Left (Creates guest m it)
+some_create None m it there own ready fields = ([], m, (refl, refl))
+some_create (Some g) m it there own ready fields =
+    let has = fields g there own in
+    let can = can_be_copied m ready g has.0 there has.1 in (
+      has.0.devices,
+      created m (reset_guest g) it.files (parent_in m it) has.0,
+      (has.0, has.1, refl, record { fits = has.2; valid = can.0; numbered = own }, refl),
+    )
 
 some_load : (it : Result Snapshot Refusal) (m : Machine) (load : SnapshotLoad) → (n : Machine) × Restores it m load n
 some_load (Ok it) m load = (carried m load it, refl)
@@ -66,27 +63,29 @@ some_store : (due : Result Data Refusal) (m : Machine) → (n : Machine) × Stor
 some_store (Ok kept) m = (record m { metadata = kept }, refl)
 some_store (Err why) m = (m, refl)
 
-some_change : (it : Change) (m : Machine) → Ready m → Left (LeavesBy m (Ok it))
-some_change (change.BootSource source) m ready = ([], configured m (change.BootSource source), (refl, refl))
-some_change (change.PutDrive drive) m ready = ([], configured m (change.PutDrive drive), (refl, refl))
-some_change (change.PatchDrive patch) m ready = ([], configured (patched_drive m patch) (change.PatchDrive patch), (refl, refl))
-some_change (change.MachineConfig machine) m ready = ([], configured m (change.MachineConfig machine), (refl, refl))
-some_change (change.PutBalloon balloon) m ready = ([], configured m (change.PutBalloon balloon), (refl, refl))
-some_change (change.PatchBalloon patch) m ready = ([], configured (patched_balloon m patch) (change.PatchBalloon patch), (refl, refl))
-some_change (change.PatchStatistics patch) m ready =
+some_change : (it : Change) (m : Machine) (given : Next) → allowed m given ≡ Ok it → Ready m → HasFields m → Left (LeavesBy m (Ok it))
+some_change (change.BootSource source) m given is ready fields = ([], configured m (change.BootSource source), (refl, refl))
+some_change (change.PutDrive drive) m given is ready fields = ([], configured m (change.PutDrive drive), (refl, refl))
+some_change (change.PatchDrive patch) m given is ready fields = ([], configured (patched_drive m patch) (change.PatchDrive patch), (refl, refl))
+some_change (change.MachineConfig machine) m given is ready fields = ([], configured m (change.MachineConfig machine), (refl, refl))
+some_change (change.PutBalloon balloon) m given is ready fields = ([], configured m (change.PutBalloon balloon), (refl, refl))
+some_change (change.PatchBalloon patch) m given is ready fields = ([], configured (patched_balloon m patch) (change.PatchBalloon patch), (refl, refl))
+some_change (change.PatchStatistics patch) m given is ready fields =
     ([], configured (patched_statistics m patch) (change.PatchStatistics patch), (refl, refl))
-some_change (change.PutMetadata body) m ready = let left = some_store (put body) m in ([], left.0, (refl, left.1))
-some_change (change.PatchMetadata patch) m ready = let left = some_store (patched m.metadata patch) m in ([], left.0, (refl, left.1))
-some_change change.Start m ready = ([], configured (started_from (image_of m) (disk_of m) m) change.Start, (refl, refl))
-some_change (change.State Paused) m ready = ([], record m { guest = halted m.paused m.guest; paused = true }, (refl, refl))
-some_change (change.State Resumed) m ready = ([], record m { paused = false }, (refl, refl))
-some_change (change.CreateSnapshot it) m ready = some_create m.guest m it ready.guest ready
-some_change (change.LoadSnapshot load) m ready = let left = some_load (found m.saved load.files) m load in ([], left.0, (refl, left.1))
-some_change (change.Tell part) m ready = ([], m, (refl, refl))
+some_change (change.PutMetadata body) m given is ready fields = let left = some_store (put body) m in ([], left.0, (refl, left.1))
+some_change (change.PatchMetadata patch) m given is ready fields = let left = some_store (patched m.metadata patch) m in ([], left.0, (refl, left.1))
+some_change change.Start m given is ready fields = ([], configured (started_from (image_of m) (disk_of m) m) change.Start, (refl, refl))
+some_change (change.State Paused) m given is ready fields = ([], record m { guest = halted m.paused m.guest; paused = true }, (refl, refl))
+some_change (change.State Resumed) m given is ready fields = ([], record m { paused = false }, (refl, refl))
+some_change (change.CreateSnapshot it) m given is ready fields =
+    some_create m.guest m it refl (create_numbered m given it is ready.next) ready fields
+some_change (change.LoadSnapshot load) m given is ready fields = let left = some_load (found m.saved load.files) m load in ([], left.0, (refl, left.1))
+some_change (change.Tell part) m given is ready fields = ([], m, (refl, refl))
 
-some_result : (made : Result Change Refusal) (m : Machine) → Ready m → Left (LeavesBy m made)
-some_result (Ok it) m ready = some_change it m ready
-some_result (Err why) m ready = ([], m, (refl, refl))
+some_result : (made : Result Change Refusal) (m : Machine) (given : Next) → allowed m given ≡ made → Ready m → HasFields m
+    → Left (LeavesBy m made)
+some_result (Ok it) m given is ready fields = some_change it m given is ready fields
+some_result (Err why) m given is ready fields = ([], m, (refl, refl))
 
 -- ---- what is due is answered
 
@@ -101,15 +100,6 @@ some_answer (Ok it) m ready =
       (told, record { id_is = refl; phase_is = refl; config_is = refl; metadata_is = refl; statistics_is = says.1 }, refl),
     )
 some_answer (Err why) m ready = (refused why, refl)
-
-some_request : (given : Next) (m : Machine) → Ready m
-    → (said : List Response) × (n : Machine) × AnsweredStep tt given m said n × Ready n
-some_request given m ready =
-    let left = some_result (allowed m given) m ready in
-    let answer = some_answer (allowed m given) m ready in
-    let said : List Response = respond given answer.0 in
-    let responds : Responds m given said = (answer.0, answer.1, refl) in
-    (said, left.1, (left.0, (responds, left.2)), request_ready (Answered left.0) given m said left.1 ready (responds, left.2))
 
 -- where each is answered by the machine, with something kept each time
 answered_each : (count : ℕ) (c d : Connection) (m n : Machine) (text : List Response)
@@ -128,13 +118,32 @@ pub record Said (bytes : List ℕ) (m : Machine) : Type 0 where
   pub talk : TalkLines bytes outcomes m text next
   pub good : AreAnswered outcomes
 
-pub some_talk : (bytes : List ℕ) (m : Machine) → Ready m → Said bytes m
-some_talk bytes m ready =
-    let all = some_conversation AnsweredStep tt Ready some_request (arrived m.connection bytes) m ready in
-    let said = answered_each all.0 (arrived m.connection bytes) all.2 m all.3 all.1 all.4 in record {
-      outcomes = said.0;
-      text = response_lines all.1;
-      next = record all.3 { connection = all.2 };
-      talk = (all.1, (all.2, all.3, said.2, refl), refl);
-      good = said.1;
-    }
+-- where a fact of machines gives that there is such a copy, and each request that is answered keeps it
+module _ (Narrow : Machine → Type 0) (fields : (m : Machine) → Ready m → Narrow m → HasFields m)
+    (keeps : (kept : List Device) (given : Next) (m : Machine) (said : List Response) (n : Machine) → Ready m → Narrow m
+    → RequestStep (Answered kept) given m said n → Narrow n) where
+  some_request : (given : Next) (m : Machine) → Ready m × Narrow m
+      → (said : List Response) × (n : Machine) × AnsweredStep tt given m said n × (Ready n × Narrow n)
+  some_request given m good =
+      let left = some_result (allowed m given) m given refl good.0 (fields m good.0 good.1) in
+      let answer = some_answer (allowed m given) m good.0 in
+      let said : List Response = respond given answer.0 in
+      let responds : Responds m given said = (answer.0, answer.1, refl) in
+      let step : RequestStep (Answered left.0) given m said left.1 = (responds, left.2) in (
+        said,
+        left.1,
+        (left.0, step),
+        (request_ready (Answered left.0) given m said left.1 good.0 step, keeps left.0 given m said left.1 good.0 good.1 step),
+      )
+
+  pub some_talk : (bytes : List ℕ) (m : Machine) → Ready m → Narrow m → Said bytes m
+  some_talk bytes m ready narrow =
+      let all =
+      some_conversation AnsweredStep tt (λ (q : Machine). Ready q × Narrow q) some_request (arrived m.connection bytes) m (ready, narrow) in
+      let said = answered_each all.0 (arrived m.connection bytes) all.2 m all.3 all.1 all.4 in record {
+        outcomes = said.0;
+        text = response_lines all.1;
+        next = record all.3 { connection = all.2 };
+        talk = (all.1, (all.2, all.3, said.2, refl), refl);
+        good = said.1;
+      }

@@ -31,10 +31,15 @@ use Rattle.flat_guest.specs.Steps.{is_given}
 use Rattle.gate_file.specs.Runs.{save_calls}
 use Rattle.flat_machine.specs.Given.{reply_given}
 use Rattle.flat_machine.specs.Outcome.{AreAnswered, Outcome}
+use Rattle.flat_machine.specs.Outcome.Outcome.{Answered}
+use Rattle.guest_devices.specs.declared.device.Device.{Device}
+use Rattle.http_stream.specs.declared.request.Next.{Next}
+use Rattle.response_form.specs.Responses.{Response}
 use Rattle.flat_machine.specs.Machine.{Machine, console_of, drained, is_off, new_machine, running_by}
 use Rattle.flat_machine.specs.Items.{Answers, ItemStep, MemoryLine, Misfits, Moves, RegisterLine, Replies, RepliesLine, Shows, ShowsFrom, StepsLine, steps_text}
 use Rattle.flat_machine.specs.Replay.{IsEnd, IsReplay, closed, closing, judged_script}
-use Rattle.flat_machine.specs.Ready.{Ready, ReadyBy}
+use Rattle.flat_machine.specs.Ready.{HasFields, Ready, ReadyBy}
+use Rattle.flat_machine.specs.Requests.{RequestStep}
 use Rattle.flat_machine.specs.Run.{Act, AllAnswered, OnBefore, Run, lines_done}
 use Rattle.flat_machine.proofs.Determined.{item_one}
 use Rattle.flat_machine.proofs.Ready.{item_ready, new_ready}
@@ -126,35 +131,6 @@ some_memory (Some g) at len m =
 quietly : (it : Item) (m : Machine) (text : List ℕ) (n : Machine) → ItemStep it [] m text n → Goes it m
 quietly it m text n step = record { outcomes = []; text = text; next = n; step = step; good = tt }
 
-some_item : (it : Item) (m : Machine) → Ready m → Goes it m
-some_item (item.Bytes bytes) m ready =
-    let said = some_talk bytes m ready in
-    record { outcomes = said.outcomes; text = said.text; next = said.next; step = said.talk; good = said.good }
-some_item (item.Api method path body) m ready =
-    let said = some_talk (sent method path body) m ready in
-    record { outcomes = said.outcomes; text = said.text; next = said.next; step = said.talk; good = said.good }
-some_item item.Nothing m ready = quietly item.Nothing m [] m (refl, (refl, refl))
-some_item (item.File name content) m ready =
-    quietly (item.File name content) m [] (record m { saved = insert m.saved name content; calls = m.calls ++ save_calls name content }) (refl, (refl, refl))
-some_item (item.Lineage lineage) m ready =
-    quietly (item.Lineage lineage) m [] (record m { ids = record m.ids { lineage = lineage } }) (refl, (refl, refl))
-some_item item.Connect m ready =
-    quietly item.Connect m [] (record m { connection = new_connection }) (refl, (refl, refl))
-some_item (item.Step actor count) m ready =
-    let line = some_steps m.guest m.paused actor count m ready.guest in
-    quietly (item.Step actor count) m line.0 line.1 (refl, line.2)
-some_item (item.Reply actor reply) m ready =
-    let line = some_reply m.guest m.paused actor (reply_given reply) m ready.guest in
-    quietly (item.Reply actor reply) m line.0 line.1 (refl, line.2)
-some_item item.Console m ready =
-    quietly item.Console m (console_line (console_of m)) (drained m) (refl, (refl, refl))
-some_item (item.Register hart number) m ready =
-    let line = some_register m.guest hart number m ready.guest in
-    quietly (item.Register hart number) m line.0 line.1 (refl, line.2)
-some_item (item.Memory at len) m ready =
-    let line = some_memory m.guest at len m in
-    quietly (item.Memory at len) m line.0 line.1 (refl, line.2)
-
 -- ---- and each script
 
 record Ends (judges : List (Option Item)) (m : Machine) (number : ℕ) : Type 0 where
@@ -185,46 +161,90 @@ at_once judges m exit number ends =
       ends = subst (λ (n : ℕ). IsEnd exit judges n m) none_before ends;
     }
 
-some_ends : (judges : List (Option Item)) (m : Machine) (number : ℕ) (off : Bool) → is_off m ≡ off → Ready m → Ends judges m number
-some_ends judges m number true off ready = at_once judges m Exit.Done number (inr off)
-some_ends [] m number false on ready = at_once [] m Exit.Done number (inl refl)
-some_ends (None ∷ more) m number false on ready = at_once (None ∷ more) m (Exit.Script number) number (refl, on, more, refl)
-some_ends (Some item ∷ more) m number false on ready =
-    let first = some_item item m ready in
-    let left = item_ready item first.outcomes m first.next first.text ready first.step in
-    let rest = some_ends more first.next (number + 1) (is_off first.next) refl left in
-    let act : Act = record { item = item; outcomes = first.outcomes } in
-    let count : length rest.acts + (number + 1) ≡ length (act ∷ rest.acts) + number = omega arith in
-    record {
-      acts = act ∷ rest.acts;
-      exit = rest.exit;
-      answers = first.text ++ rest.answers;
-      last = rest.last;
-      left = rest.left;
-      lines = ap (λ (xs : List (Option Item)). Some item ∷ xs) rest.lines;
-      on = (on, λ text n step. subst (λ (q : Machine). OnBefore rest.acts q) (item_one item first.outcomes m first.next n first.text text first.step step).1 rest.on);
-      ran = (first.text, first.next, rest.answers, first.step, rest.ran, refl);
-      good = (first.good, rest.good);
-      ends = subst (λ (n : ℕ). IsEnd rest.exit rest.left n rest.last) count rest.ends;
-    }
+-- each line that is one of a script is such a one
+abbrev pub AreFit : (Item → Type 0) → List (Option Item) → Type 0
+AreFit IsFit [] = Unit {0}
+AreFit IsFit (None ∷ judges) = AreFit IsFit judges
+AreFit IsFit (Some it ∷ judges) = IsFit it × AreFit IsFit judges
 
-pub replay_of : (script id : List ℕ) (saved : Saved) (calls : List FileCall)
-    → (acts : List Act) × (exit : Exit) × (text : List ℕ) × (end : Machine) × AllAnswered acts
-    × IsReplay script (new_machine id saved calls) acts exit text end
-replay_of script id saved calls =
-    let ran = some_ends (judged_script script) (new_machine id saved calls) 1 false refl (new_ready id saved calls) in (
-      ran.acts,
-      ran.exit,
-      ran.answers ++ closing ran.exit ran.last,
-      closed ran.exit ran.last,
-      ran.good,
+-- where a fact of machines gives that there is a copy that fits, and each request that is answered and each line that fits keep it
+module _ (Narrow : Machine → Type 0) (fields : (m : Machine) → Ready m → Narrow m → HasFields m)
+    (keeps : (kept : List Device) (given : Next) (m : Machine) (said : List Response) (n : Machine) → Ready m → Narrow m
+    → RequestStep (Answered kept) given m said n → Narrow n)
+    (IsFit : Item → Type 0)
+    (goes_on : (it : Item) (outcomes : List Outcome) (m n : Machine) (text : List ℕ) → Ready m → Narrow m → IsFit it
+    → AreAnswered outcomes → ItemStep it outcomes m text n → Narrow n) where
+  some_item : (it : Item) (m : Machine) → Ready m → Narrow m → Goes it m
+  some_item (item.Bytes bytes) m ready narrow =
+      let said = some_talk Narrow fields keeps bytes m ready narrow in
+      record { outcomes = said.outcomes; text = said.text; next = said.next; step = said.talk; good = said.good }
+  some_item (item.Api method path body) m ready narrow =
+      let said = some_talk Narrow fields keeps (sent method path body) m ready narrow in
+      record { outcomes = said.outcomes; text = said.text; next = said.next; step = said.talk; good = said.good }
+  some_item item.Nothing m ready narrow = quietly item.Nothing m [] m (refl, (refl, refl))
+  some_item (item.File name content) m ready narrow =
+      quietly (item.File name content) m [] (record m { saved = insert m.saved name content; calls = m.calls ++ save_calls name content }) (refl, (refl, refl))
+  some_item (item.Lineage lineage) m ready narrow =
+      quietly (item.Lineage lineage) m [] (record m { ids = record m.ids { lineage = lineage } }) (refl, (refl, refl))
+  some_item item.Connect m ready narrow =
+      quietly item.Connect m [] (record m { connection = new_connection }) (refl, (refl, refl))
+  some_item (item.Step actor count) m ready narrow =
+      let line = some_steps m.guest m.paused actor count m ready.guest in
+      quietly (item.Step actor count) m line.0 line.1 (refl, line.2)
+  some_item (item.Reply actor reply) m ready narrow =
+      let line = some_reply m.guest m.paused actor (reply_given reply) m ready.guest in
+      quietly (item.Reply actor reply) m line.0 line.1 (refl, line.2)
+  some_item item.Console m ready narrow =
+      quietly item.Console m (console_line (console_of m)) (drained m) (refl, (refl, refl))
+  some_item (item.Register hart number) m ready narrow =
+      let line = some_register m.guest hart number m ready.guest in
+      quietly (item.Register hart number) m line.0 line.1 (refl, line.2)
+  some_item (item.Memory at len) m ready narrow =
+      let line = some_memory m.guest at len m in
+      quietly (item.Memory at len) m line.0 line.1 (refl, line.2)
+
+  some_ends : (judges : List (Option Item)) (m : Machine) (number : ℕ) (off : Bool) → AreFit IsFit judges → is_off m ≡ off → Ready m → Narrow m
+      → Ends judges m number
+  some_ends judges m number true fit off ready narrow = at_once judges m Exit.Done number (inr off)
+  some_ends [] m number false fit on ready narrow = at_once [] m Exit.Done number (inl refl)
+  some_ends (None ∷ more) m number false fit on ready narrow = at_once (None ∷ more) m (Exit.Script number) number (refl, on, more, refl)
+  some_ends (Some item ∷ more) m number false fit on ready narrow =
+      let first = some_item item m ready narrow in
+      let left = item_ready item first.outcomes m first.next first.text ready first.step in
+      let after = goes_on item first.outcomes m first.next first.text ready narrow fit.0 first.good first.step in
+      let rest = some_ends more first.next (number + 1) (is_off first.next) fit.1 refl left after in
+      let act : Act = record { item = item; outcomes = first.outcomes } in
+      let count : length rest.acts + (number + 1) ≡ length (act ∷ rest.acts) + number = omega arith in
       record {
-        answers = ran.answers;
-        last = ran.last;
-        left = ran.left;
-        plays = record { lines = ran.lines; on = ran.on; ran = ran.ran };
-        ends = ran.ends;
-        writes = refl;
-        leaves = refl;
-      },
-    )
+        acts = act ∷ rest.acts;
+        exit = rest.exit;
+        answers = first.text ++ rest.answers;
+        last = rest.last;
+        left = rest.left;
+        lines = ap (λ (xs : List (Option Item)). Some item ∷ xs) rest.lines;
+        on = (on, λ text n step. subst (λ (q : Machine). OnBefore rest.acts q) (item_one item first.outcomes m first.next n first.text text first.step step).1 rest.on);
+        ran = (first.text, first.next, rest.answers, first.step, rest.ran, refl);
+        good = (first.good, rest.good);
+        ends = subst (λ (n : ℕ). IsEnd rest.exit rest.left n rest.last) count rest.ends;
+      }
+
+  pub replay_of : (script id : List ℕ) (saved : Saved) (calls : List FileCall) → AreFit IsFit (judged_script script)
+      → Narrow (new_machine id saved calls) → (acts : List Act) × (exit : Exit) × (text : List ℕ) × (end : Machine) × AllAnswered acts
+      × IsReplay script (new_machine id saved calls) acts exit text end
+  replay_of script id saved calls fit narrow =
+      let ran = some_ends (judged_script script) (new_machine id saved calls) 1 false fit refl (new_ready id saved calls) narrow in (
+        ran.acts,
+        ran.exit,
+        ran.answers ++ closing ran.exit ran.last,
+        closed ran.exit ran.last,
+        ran.good,
+        record {
+          answers = ran.answers;
+          last = ran.last;
+          left = ran.left;
+          plays = record { lines = ran.lines; on = ran.on; ran = ran.ran };
+          ends = ran.ends;
+          writes = refl;
+          leaves = refl;
+        },
+      )

@@ -1,6 +1,7 @@
 -- What the API takes is as a state file has it, and stays so with every change that is allowed.
 use Rattle.std.proofs.Common.{◌≡◌, ◌≤◌, ◌*◌, ◌^◌, ℕ, Bool, true, false, ◌&&◌, nat_le, if◌then◌else◌, refl, sym, subst, ◌∙◌, ◌<◌, List, length, replicate, Option, Some, None, Ok, arith}
 use Rattle.std.specs.Prelude.{IsTrue, is_none, nat_lt, unwrap_or}
+use Rattle.std.specs.Str.{is_utf8}
 use Rattle.std.proofs.lemmas.Bool.{and_from, and_parts, le-leb, leb-false, leb-true, lt-ltb, ltb-false}
 use Rattle.std.proofs.lemmas.List.{length-replicate}
 use Rattle.refusals.specs.declared.refusal.Refusal.{Refusal}
@@ -15,7 +16,7 @@ use Rattle.api_calls.specs.declared.call.BootSource.{BootSource}
 use Rattle.api_calls.specs.declared.call.Drive.{Drive}
 use Rattle.api_calls.specs.declared.call.MachineConfig.{MachineConfig}
 use Rattle.api_calls.specs.Call.{call_of}
-use Rattle.api_calls.specs.Form.{holds, is_path}
+use Rattle.api_calls.specs.Form.{holds, is_path, is_short_text}
 use Rattle.api_calls.proofs.Asked.{IsAsked, asked_is}
 use Rattle.api_calls.proofs.Ranges.{IsWithin}
 use Rattle.vm_config.specs.declared.config.Config.{Config}
@@ -64,7 +65,9 @@ machine_within m is =
 
 args_few : (source : Option BootSource) → IsSourceBy source → length (args_by source) ≤ 2048
 args_few None taken = omega arith
-args_few (Some source) taken = leb-true (length source.boot_args) 2048 (and_parts _ (nat_le (length source.boot_args) 2048) taken).1
+args_few (Some source) taken =
+    leb-true (length source.boot_args) 2048
+    (and_parts (nat_le (length source.boot_args) 2048) (is_utf8 source.boot_args) (and_parts _ (is_short_text 2048 source.boot_args) taken).1).0
 
 pub bounded : (config : Config) → IsTaken config → IsBounded config
 bounded config taken =
@@ -150,9 +153,9 @@ given_within (Some k) n least most old new = new k refl
 module _ (p : Phase) (config : Config) (ids : Ids) (taken : IsTaken config) where
   call_fits : (c : ApiCall) → IsAsked c → own_refusal p config ids c ≡ None → IsFitting config (change_of config c)
   call_fits (call.PutBootSource source) asked own =
-      and_from _ (nat_le (length source.boot_args) 2048)
+      and_from _ (is_short_text 2048 source.boot_args)
       (and_from (is_path source.kernel_image_path) (are_paths source.initrd_path) asked.0 (paths_are source.initrd_path asked.1))
-      (le-leb (length source.boot_args) 2048 asked.2)
+      (and_from (nat_le (length source.boot_args) 2048) (is_utf8 source.boot_args) (le-leb (length source.boot_args) 2048 asked.2) asked.3)
   call_fits (call.PutDrive drive) asked own =
       put_told drive config.drives config.balloon taken.drives taken.room (and_from _ _ (and_from _ _ asked.0 asked.1) asked.2)
       (first_row _ _ _ _ own) (second_row _ _ _ _ own)

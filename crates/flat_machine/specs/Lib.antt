@@ -10,3 +10,4 @@ pub mod Replay
 pub mod Requests
 pub mod Run
 pub mod Stops
+pub mod Widths

@@ -17,9 +17,13 @@ use Rattle.flat_guest.specs.Guest.{Guest}
 use Rattle.flat_guest.specs.Sound.{IsSound}
 use Rattle.snap_state.specs.Valid.{are_drives, has_room, is_balloon, is_machine, is_source, is_valid}
 use Rattle.snap_state.specs.declared.copy.StateCopy.{StateCopy}
+use Rattle.file_format.specs.Identities.{is_numbered}
+use Rattle.file_format.specs.Versions.{current_version}
+use Rattle.snap_state.specs.Files.{contents, contents_of}
 use Rattle.flat_snapshot.specs.Copies.{IsCopyOf, source_of}
 use Rattle.flat_snapshot.specs.Ready.{IsReady}
 use Rattle.flat_machine.specs.Machine.{Machine}
+use Rattle.flat_machine.specs.Requests.{next_identity}
 
 -- a boot source that is configured is one that the API takes
 abbrev pub IsSourceBy : Option BootSource → Type 0
@@ -81,3 +85,10 @@ abbrev pub CanBeCopied : Machine → Type 0
 CanBeCopied m =
     (g : Guest) (copy : StateCopy) → m.guest ≡ Some g → IsCopyOf m.config (reset_guest g) copy
     → IsTrue (is_valid copy) × (length g.memory.bytes ≡ page_size * copy.pages)
+
+-- there is a copy of its guest, once it has started, as it is behind a Reset, each number of which fits its field of a state file
+abbrev pub HasFields : Machine → Type 0
+HasFields m =
+    (g : Guest) → m.guest ≡ Some g → IsTrue (is_numbered (next_identity m))
+    → (copy : StateCopy) × IsCopyOf m.config (reset_guest g) copy
+    × (contents current_version).Fits (contents_of current_version (record { identity = next_identity m; copy = copy }))

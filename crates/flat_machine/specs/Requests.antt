@@ -56,6 +56,8 @@ use Rattle.flat_guest.specs.Changes.{reset_guest, told}
 use Rattle.flat_guest.specs.Guest.{Guest, unwritten}
 use Rattle.flat_guest.specs.Start.{started, timer_restarted}
 use Rattle.snap_state.specs.declared.copy.StateCopy.{StateCopy}
+use Rattle.snap_state.specs.Files.{IsSaved}
+use Rattle.file_format.specs.Versions.{current_version}
 use Rattle.flat_snapshot.specs.Carried.{carried_config, carried_guest}
 use Rattle.flat_snapshot.specs.Copies.{IsCopyOf}
 use Rattle.flat_snapshot.specs.Files.{calls_of, head_of, saved_pages, state_file}
@@ -292,10 +294,11 @@ created m g files parent copy = record m {
   guest = Some (unwritten g);
 }
 
--- of a copy of the guest, which has these devices
+-- of a copy of the guest, which has these devices, and which a state file can have under the next identity
 abbrev pub CreatesOf : Guest → Machine → SnapshotCreate → List Device → Machine → Type 0
 CreatesOf g m it kept n =
     (copy : StateCopy) × IsCopyOf m.config g copy × (copy.devices ≡ kept)
+    × IsSaved current_version (record { identity = next_identity m; copy = copy })
     × (n ≡ created m g it.files (parent_in m it) copy)
 
 -- The machine's guest is reset first, and so it is copied, and goes on.
@@ -354,13 +357,14 @@ abbrev pub calls_in : Machine → Guest → SnapshotCreate → StateCopy → Lis
 calls_in m g it copy =
     calls_of it.files.mem_file_path it.files.snapshot_path (parent_in m it) (next_identity m) copy g
 
--- A create of a copy of the guest as it is behind a Reset, which has these devices: so many of its calls were begun, and not all.
--- Its two names hold what is left under them, and each other name what it held. Its number is spent, the pages that were written
--- stay so, and the guest was not reset.
+-- A create of such a copy of the guest as it is behind a Reset, which has these devices: so many of its calls were begun, and not
+-- all. Its two names hold what is left under them, and each other name what it held. Its number is spent, the pages that were
+-- written stay so, and the guest was not reset.
 pub record IsCutShort (g : Guest) (m : Machine) (it : SnapshotCreate) (left : Left) (n : Machine) : Type 0 where
   pub copy : StateCopy
   pub is_copy : IsCopyOf m.config (reset_guest g) copy
   pub tells : copy.devices ≡ left.kept
+  pub saved : IsSaved current_version (record { identity = next_identity m; copy = copy })
   pub lacks : left.begun < length (calls_in m (reset_guest g) it copy)
   pub begun : n.calls ≡ m.calls ++ take left.begun (calls_in m (reset_guest g) it copy)
   pub memory : get n.saved it.files.mem_file_path ≡ left.memory

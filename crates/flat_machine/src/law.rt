@@ -23,10 +23,8 @@ ghost use Rattle.guest_devices.specs.declared.device.Device.{Device};
 ghost use Rattle.flat_guest.specs.Changes.{reset_guest};
 ghost use Rattle.flat_guest.specs.Guest.{Guest};
 ghost use Rattle.response_form.specs.Responses.{Response};
-ghost use Rattle.snap_memory.specs.Headers.{header, new_header};
 ghost use Rattle.snap_state.specs.declared.copy.StateCopy.{StateCopy};
-ghost use Rattle.file_format.specs.Versions.{current_version};
-ghost use Rattle.snap_state.specs.Files.{IsSaved};
+ghost use Rattle.flat_snapshot.specs.Bytes.{AreBytes};
 ghost use Rattle.flat_snapshot.specs.Copies.{IsCopyOf};
 ghost use Rattle.flat_snapshot.specs.Found.{found};
 ghost use Rattle.flat_machine.specs.Requests.{Creates, Leaves, RequestStep, carried, next_identity};
@@ -63,10 +61,10 @@ pub fn no_devices()
         AllKeepNone acts }
 {}
 
-/// Every script has a replay from a machine that has not started, whatever the files hold and whatever calls were made
-/// on them: the flat machine is never stuck.
+/// Every script has a replay from a machine that has not started, whatever bytes the files hold and whatever calls were
+/// made on them: the flat machine is never stuck.
 pub fn some_replay()
-    ensures { (script id : List ℕ) (saved : Saved) (calls : List FileCall) →
+    ensures { (script id : List ℕ) (saved : Saved) (calls : List FileCall) → AreBytes saved →
         (acts : List Act) × (exit : Exit) × (text : List ℕ) × (end : Machine) × AllAnswered acts
         × IsReplay script (new_machine id saved calls) acts exit text end }
 {}
@@ -84,19 +82,17 @@ pub fn whole_lines()
 
 /// The two files that a full create wrote of a copy of the guest, as it is behind a Reset, are loaded as the machine of that copy,
 /// by any machine whose files hold what they held then: the load finds this snapshot, so that the files don't refuse it, and the
-/// machine's guest, its configuration and its identity are the copy's, and the rest is its own. The copy is one that the files can
-/// have, and its memory is all of its pages; of other copies, which keep their devices by other data, nothing is asked.
+/// machine's guest, its configuration and its identity are the copy's, and the rest is its own. The memory is all of the copy's
+/// pages.
 pub fn create_then_load()
     ensures finds { (m n k : Machine) (g : Guest) (it : SnapshotCreate) (load : SnapshotLoad) (copy : StateCopy) →
         it.snapshot_type ≡ snapshot.Full → m.guest ≡ Some g → it.files.mem_file_path ≢ it.files.snapshot_path →
-        IsCopyOf m.config (reset_guest g) copy → IsSaved current_version (record { identity = next_identity m; copy = copy }) →
-        header.Fits (new_header copy.pages (next_identity m)) → length g.memory.bytes ≡ page_size * copy.pages →
+        IsCopyOf m.config (reset_guest g) copy → length g.memory.bytes ≡ page_size * copy.pages →
         Creates m.guest m it copy.devices n → load.files ≡ it.files → k.saved ≡ n.saved →
         found k.saved load.files ≡ Ok (record { identity = next_identity m; copy = copy; bytes = g.memory.bytes }) }
     ensures loads { (m n k p : Machine) (g : Guest) (it : SnapshotCreate) (load : SnapshotLoad) (copy : StateCopy) →
         it.snapshot_type ≡ snapshot.Full → m.guest ≡ Some g → it.files.mem_file_path ≢ it.files.snapshot_path →
-        IsCopyOf m.config (reset_guest g) copy → IsSaved current_version (record { identity = next_identity m; copy = copy }) →
-        header.Fits (new_header copy.pages (next_identity m)) → length g.memory.bytes ≡ page_size * copy.pages →
+        IsCopyOf m.config (reset_guest g) copy → length g.memory.bytes ≡ page_size * copy.pages →
         Creates m.guest m it copy.devices n → load.files ≡ it.files → k.saved ≡ n.saved →
         Leaves k (change.LoadSnapshot load) p →
         p ≡ carried k load (record { identity = next_identity m; copy = copy; bytes = g.memory.bytes }) }

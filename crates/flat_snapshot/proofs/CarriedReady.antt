@@ -49,7 +49,7 @@ held_of pages (Some at) is =
     let parts = and_parts (at % 8 == 0) (is_ram (page_size * pages) at 8) is in
     (eqb-true (at % 8) 0 parts.0, parts.1)
 
-first_shaped : (pages : ℕ) (s : SavedHart) → is_hart pages s ≡ true → IsShaped (page_size * pages) (fresh (regs_of s))
+pub first_shaped : (pages : ℕ) (s : SavedHart) → is_hart pages s ≡ true → IsShaped (page_size * pages) (fresh (regs_of s))
 first_shaped pages s is =
     let p5 = and_parts _ (asks s.place (regs_of s)) is in
     let p4 = and_parts _ (is_placed s.is_look_due s.place) p5.0 in
@@ -186,7 +186,7 @@ module _ (copy : StateCopy) (bytes : List ℕ) (tracking : Bool) (valid : IsTrue
             (none_reserved harts 0 (hart_limit * copy.pages));
       }
 
-  shaped : guest.IsShaped copy.pages harts (kinds_of copy.configuration) (carried_guest copy bytes)
+  pub shaped : guest.IsShaped copy.pages harts (kinds_of copy.configuration) (carried_guest copy bytes)
   shaped =
       let rules = rules_of copy valid in record {
         few = few_harts copy rules;

@@ -67,7 +67,7 @@ same_guest config g first second bytes (harts, are, kept, is) (others, be, tell,
     ∙ (λ i. record (carried_guest (copy_of config g others first.devices) bytes) { devices = devices i })
     ∙ ap (λ (c : StateCopy). carried_guest c bytes) (sym equals)
 
-some_harts : (starts : List Regs) (k : ℕ) (steps : ActorId → List Step)
+pub some_harts : (starts : List Regs) (k : ℕ) (steps : ActorId → List Step)
     → ((i : ℕ) (start : Regs) → slice_get starts i ≡ Some start → IsPrefix start (steps (HartId (k + i))))
     → (harts : List Hart) × AreHarts k starts steps harts
 some_harts [] k steps sound = ([], refl)

@@ -3,9 +3,16 @@ pub mod Copied
 pub mod CopiedAgain
 pub mod GoesOn
 pub mod Finds
+pub mod Fits
 pub mod Loaded
 pub mod Refused
 pub mod Unwritten
 pub mod Diffs
 pub mod Ready
 pub mod CarriedReady
+pub mod CarriedSavable
+pub mod CarriedWidths
+pub mod CarriedSavable
+pub mod CarriedWidths
+pub mod Fitting
+pub mod FoundSaved

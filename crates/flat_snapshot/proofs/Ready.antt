@@ -210,6 +210,12 @@ kept_kinds (it ∷ kept) (d ∷ devices) are =
     let same : kind_of it ≡ number_of d.kind = ap (λ (x : DeviceLeft). number_of x.kind) are.0.2 in
     λ i. same i ∷ kept_kinds kept devices are.2 i
 
+pub many_kept : (kept : List Device) (devices : List FlatDevice) → AreKept kept devices → length kept ≡ length devices
+many_kept [] [] are = refl
+many_kept [] (d ∷ devices) are = absurd are
+many_kept (it ∷ kept) [] are = absurd are
+many_kept (it ∷ kept) (d ∷ devices) are = ap suc (many_kept kept devices are.2)
+
 -- ---- the board, and the machine
 
 board_valid : (harts : ℕ) (b : Board) → IsLong harts b → is_board harts (saved_board b) ≡ true

@@ -4,3 +4,4 @@ pub mod Files
 pub mod Found
 pub mod Unwritten
 pub mod Ready
+pub mod Bytes

@@ -1,5 +1,5 @@
 -- What files hold after one file is put there.
-use Rattle.std.proofs.Common.{◌≡◌, ◌≢◌, ℕ, Bool, true, false, cond, List, Option, Some, refl, sym, ◌∙◌, ap}
+use Rattle.std.proofs.Common.{◌≡◌, ◌≢◌, ℕ, Bool, true, false, cond, List, Option, Some, refl, sym, ◌∙◌, ap, subst}
 use Rattle.std.proofs.lemmas.Slice.Eq.{bytes_eq-Decides}
 use Rattle.std.specs.Ordering.{nat_cmp, eq_by_cmp}
 use Rattle.std.specs.Cmp.Lexicographic.{slice_cmp, nat_list_cmp_total}
@@ -17,6 +17,19 @@ name_is a b is = (bytes_eq-Decides a b).0 (sym (is_eq-slice_cmp a b) ∙ is)
 
 pub same_saved : (m n : Saved) → ((q : List ℕ) → get m q ≡ get n q) → m ≡ n
 same_saved m n same = same_map nat_list_cmp_total (slice_cmp-IsAntisymmetric nat_cmp-IsAntisymmetric) m n same
+
+-- what is there was put there, or was there
+put_or_was : (P : List ℕ → Type 0) (b : Bool) (text content : List ℕ) (old : Option (List ℕ)) → P text
+    → ((v : List ℕ) → old ≡ Some v → P v) → cond b (Some text) old ≡ Some content → P content
+put_or_was P true text content old put was is =
+    let same : text ≡ content = cc in
+    subst P same put
+put_or_was P false text content old put was is = was content is
+
+pub each_after : (P : List ℕ → Type 0) (m : Saved) (name text q content : List ℕ) → P text
+    → ((v : List ℕ) → get m q ≡ Some v → P v) → get (insert m name text) q ≡ Some content → P content
+each_after P m name text q content put was is =
+    put_or_was P (is_name q name) text content (get m q) put was (sym (got m name text q) ∙ is)
 
 pub inserted_others : (old new : Saved) (name text : List ℕ) → new ≡ insert old name text → SameOthers old name new
 inserted_others old new name text is other differs = ap (λ (m : Saved). get m other) is ∙ got_other old name text other differs

@@ -1,5 +1,6 @@
 pub mod Among
 pub mod Follows
+pub mod Narrow
 pub mod OfBalloon
 pub mod OfBlock
 pub mod Owed

@@ -1,5 +1,5 @@
 -- Data of which as much is left to do are of one port, and of a guest of as many pages.
-use Rattle.std.proofs.Common.{◌≡◌, ℕ, ◌<◌, ◌≤◌, ◌^◌, ◌&&◌, nat_le, nat_lt, true, refl, sym, ap, subst, arith, Option, Some, None, length}
+use Rattle.std.proofs.Common.{◌≡◌, ℕ, ◌<◌, ◌≤◌, ◌^◌, ◌&&◌, nat_le, nat_lt, true, false, refl, sym, ap, subst, arith, Option, Some, None, length}
 use Rattle.std.proofs.lemmas.Bool.{and_parts, ltb-true, lt-ltb, leb-true, le-leb}
 use Rattle.queue_device.specs.declared.lanes.Rounds.{Rounds}
 use Rattle.queue_device.specs.declared.phase.Phase.{Phase}
@@ -8,6 +8,7 @@ use Rattle.queue_device.specs.Kept.{is_state}
 use Rattle.queue_device.specs.Left.{left_at, queued}
 use Rattle.queue_device.specs.Resuming.{AreShort, IsShortChain}
 use Rattle.queue_device.proofs.KeptStays.{state_one}
+use Rattle.queue_device.proofs.Never.{never}
 use Rattle.guest_devices.specs.declared.device.Device.{Device}
 use Rattle.guest_devices.specs.Devices.{DataOf, DeviceLeft}
 use Rattle.guest_devices.specs.Kept.{IsBoundedDevice, KeptDevice, device_left, device_pages, device_port, is_device_state, is_kept}
@@ -17,15 +18,15 @@ use Rattle.guest_devices.proofs.Owed.{laws}
 
 -- ---- short chains, as a test and as a fact
 
-short_chain : (c : Option Chain) → is_short c ≡ true → IsShortChain c
+short_chain : (c : Option Chain) → is_short c ≡ true → IsShortChain false c
 short_chain None is = tt
 short_chain (Some c) is =
     let p1 =
     and_parts (nat_le (length c.parts) 256 && nat_le (length c.got.parts) 256) (nat_le (length c.got.bytes) 128) is in
     let p0 = and_parts (nat_le (length c.parts) 256) (nat_le (length c.got.parts) 256) p1.0 in
-    (leb-true _ _ p0.0, leb-true _ _ p0.1, leb-true _ _ p1.1)
+    (leb-true _ _ p0.0, leb-true _ _ p0.1, leb-true _ _ p1.1, never)
 
-short_test : (c : Option Chain) → IsShortChain c → is_short c ≡ true
+short_test : (c : Option Chain) → IsShortChain false c → is_short c ≡ true
 short_test None short = refl
 short_test (Some c) short =
     let parts = le-leb (length c.parts) 256 short.0 in
@@ -33,17 +34,17 @@ short_test (Some c) short =
     let bytes = le-leb (length c.got.bytes) 128 short.2 in
     rw (parts, more, bytes) refl
 
-short_rounds : (r : Rounds) → are_short r ≡ true → AreShort r
+short_rounds : (r : Rounds) → are_short r ≡ true → AreShort false r
 short_rounds r are =
     let p1 = and_parts (is_short r.first.waiting && is_short r.second.waiting) (is_short r.third.waiting) are in
     let p0 = and_parts (is_short r.first.waiting) (is_short r.second.waiting) p1.0 in
-    (short_chain r.first.waiting p0.0, short_chain r.second.waiting p0.1, short_chain r.third.waiting p1.1)
+    ((short_chain r.first.waiting p0.0, never), (short_chain r.second.waiting p0.1, never), (short_chain r.third.waiting p1.1, never))
 
-rounds_test : (r : Rounds) → AreShort r → are_short r ≡ true
+rounds_test : (r : Rounds) → AreShort false r → are_short r ≡ true
 rounds_test r short =
-    let first = short_test r.first.waiting short.0 in
-    let second = short_test r.second.waiting short.1 in
-    let third = short_test r.third.waiting short.2 in
+    let first = short_test r.first.waiting short.0.0 in
+    let second = short_test r.second.waiting short.1.0 in
+    let third = short_test r.third.waiting short.2.0 in
     rw (first, second, third) refl
 
 -- ---- what is kept, by its parts
@@ -55,7 +56,7 @@ record KeptParts (d : KeptDevice) : Type 0 where
   state : is_state_kept d ≡ true
   own : is_fine_of d.kind d.own ≡ true
   pages : d.rounds.pages < 2 ^ 32
-  short : AreShort d.rounds
+  short : AreShort false d.rounds
 
 kept_parts : (d : Device) → is_kept d ≡ true → KeptParts (kept_of d)
 kept_parts d is =

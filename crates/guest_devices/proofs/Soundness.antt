@@ -1,5 +1,5 @@
 -- A sound device keeps to its own, and stays sound: of any kind, by what is owed of each.
-use Rattle.std.proofs.Common.{◌≡◌, ℕ, ◌<◌, ◌≤◌, ◌^◌, refl, sym, subst, ap, ◌∙◌, Bool, true, if◌then◌else◌, inl, inr, Option, Some, None}
+use Rattle.std.proofs.Common.{◌≡◌, ℕ, ◌<◌, ◌≤◌, ◌^◌, refl, sym, subst, ap, ◌∙◌, Bool, true, false, if◌then◌else◌, inl, inr, Option, Some, None}
 use Rattle.vm_types.specs.declared.op.Op.{Op}
 use Rattle.vm_types.specs.declared.op.OutOp.{OutOp}
 use Rattle.vm_types.specs.declared.entry.Step.{Step}
@@ -13,6 +13,7 @@ use Rattle.queue_device.proofs.Confined.{act_confined, change_confined, step_con
 use Rattle.queue_device.proofs.GoesOn.{change_on, new_on, reply_on}
 use Rattle.queue_device.proofs.Keeping.{new_are}
 use Rattle.queue_device.proofs.KeptStays.{state_stays}
+use Rattle.queue_device.proofs.Never.{never}
 use Rattle.guest_devices.specs.declared.change.DeviceChange.{DeviceChange}
 use Rattle.guest_devices.specs.declared.device.Device.{Device}
 use Rattle.guest_devices.specs.declared.new_device.NewDevice.{NewDevice}
@@ -67,8 +68,8 @@ module _ (port pages : ℕ) where
             fit);
         kept = λ small.
             subst (λ (z : Script (DataOf k)). HasKept port pages (left_of k z)) is
-            (reply_on (service_of k) (changing_of k) (hand_of k) (is_work_of k) (IsFineOf k) (times_of k) (calls_of k) port pages
-            small owed.confines owed.resumes t reply (own.kept small) fit);
+            (reply_on (service_of k) (changing_of k) (hand_of k) (is_work_of k) (IsFineOf k) false (times_of k) (calls_of k) port pages
+            small owed.confines owed.resumes t reply (own.kept small) (fit, never));
       } in
       on _ (ap (λ (b : Bool). if b then stepped (device_rules k) t reply else t) (sym fit))
 
@@ -83,7 +84,7 @@ module _ (port pages : ℕ) where
             change_confined (service_of k) (changing_of k) (times_of k) (calls_of k) port pages owed.confines left.left c
             own.stays;
         kept = λ small.
-            change_on (service_of k) (changing_of k) (hand_of k) (is_work_of k) (IsFineOf k) (times_of k) (calls_of k) port pages
+            change_on (service_of k) (changing_of k) (hand_of k) (is_work_of k) (IsFineOf k) false (times_of k) (calls_of k) port pages
             small owed.confines owed.resumes left.left c (own.kept small) fine;
       }
 
@@ -119,7 +120,7 @@ new_sound port pages what fits =
       record {
         stays = (refl, λ few. new_are (service_of k) port pages);
         kept = λ small.
-            new_on (service_of k) (changing_of k) (hand_of k) (is_work_of k) (IsFineOf k) (times_of k) (calls_of k) port pages
+            new_on (service_of k) (changing_of k) (hand_of k) (is_work_of k) (IsFineOf k) false (times_of k) (calls_of k) port pages
             small owed.confines owed.resumes (own_at_start what) fits;
       },
     )
@@ -133,7 +134,7 @@ kept_sound d is bounded =
       at_start (left_by d),
       record {
         stays =
-            state_stays (service_of k) (changing_of k) (hand_of k) (is_work_of k) (IsFineOf k) (times_of k) (calls_of k) d.phase
+            state_stays (service_of k) (changing_of k) (hand_of k) (is_work_of k) (IsFineOf k) false (times_of k) (calls_of k) d.phase
             d.rounds d.own d.stage owed.confines owed.resumes is;
         kept = λ small. record {
           phase = d.phase;
@@ -143,6 +144,7 @@ kept_sound d is bounded =
           is = is;
           fine = bounded.fine;
           short = bounded.short;
+          narrow = never;
           at_port = refl;
           of_pages = refl;
           left = refl;

@@ -1,5 +1,5 @@
 -- What devices have still to do, by what the code keeps of them.
-use Rattle.std.specs.Prelude.{ℕ, ◌≤◌, ◌^◌, ◌&&◌, nat_le, nat_lt, Bool, true, Option, Some, None, List, length, map, slice_set}
+use Rattle.std.specs.Prelude.{ℕ, ◌≤◌, ◌^◌, ◌&&◌, nat_le, nat_lt, Bool, true, false, Option, Some, None, List, length, map, slice_set}
 use Rattle.vm_types.specs.declared.op.Op.{Op}
 use Rattle.vm_types.specs.declared.reply.Reply.{Reply}
 use Rattle.queue_device.specs.declared.lanes.Rounds.{Rounds}
@@ -57,7 +57,7 @@ is_device_state d = is_state_kept (kept_of d)
 pub record IsBounded (d : KeptDevice) : Type 0 where
   pub pages : d.rounds.pages ≤ 2 ^ 20
   pub fine : IsFineOf d.kind d.own
-  pub short : AreShort d.rounds
+  pub short : AreShort false d.rounds
 
 abbrev pub IsBoundedDevice : Device → Type 0
 IsBoundedDevice d = IsBounded (kept_of d)

@@ -12,8 +12,10 @@ use Rattle.block_device.specs.declared.kind.BlockChange.{BlockChange}
 use Rattle.block_device.specs.declared.kind.BlockChange.TheVariants.{Limits, Sectors}
 use Rattle.block_device.specs.Block.{block, changed}
 use Rattle.block_device.specs.Kept as block_kept
+use Rattle.block_device.specs.States as block_states
 use Rattle.block_device.specs.Working as block_working
 use Rattle.balloon_device.specs.declared.kind.BalloonChange.{BalloonChange}
+use Rattle.balloon_device.specs.declared.kind.BalloonChange.TheVariants.{Interval}
 use Rattle.balloon_device.specs.declared.kind.Stage.{Stage}
 use Rattle.balloon_device.specs.Balloon as balloons
 use Rattle.balloon_device.specs.Statistics.{no_statistics}
@@ -121,3 +123,43 @@ IsFineOf Balloon e = balloon_work.AnyBalloon e
 abbrev pub is_fine_of : (k : Kind) → OwnOf k → Bool
 is_fine_of Block e = nat_lt e.sectors (2 ^ 64)
 is_fine_of Balloon e = true
+
+-- ---- what it keeps where each reply was small
+
+-- its work, and what it may then be
+abbrev pub IsSmallOf : (k : Kind) → StageOf k → Type 0
+IsSmallOf Block g = block_working.IsSmallWork g
+IsSmallOf Balloon g = balloon_work.IsSmallStage g
+
+-- both
+abbrev pub SizedOf : Kind → Type 0
+SizedOf Block = block_working.SizedWork true
+SizedOf Balloon = balloon_work.SizedStage true
+
+abbrev pub sized_in : (k : Kind) (g : StageOf k) → IsSmallOf k g → SizedOf k
+sized_in Block g small = record { work = g; small = λ yes. small }
+sized_in Balloon g small = record { stage = g; small = λ yes. small }
+
+abbrev pub stage_in : (k : Kind) → SizedOf k → StageOf k
+stage_in Block g = g.work
+stage_in Balloon g = g.stage
+
+abbrev pub sized_hand_of : (k : Kind) → SizedOf k → Hand (OwnOf k)
+sized_hand_of Block = block_working.sized_hand true
+sized_hand_of Balloon = balloon_work.sized_hand true
+
+abbrev pub is_sized_work_of : (k : Kind) → Work → ℕ → SizedOf k → Bool
+is_sized_work_of Block = block_states.is_sized_work
+is_sized_work_of Balloon = balloon_work.is_sized_work true
+
+-- its data
+abbrev pub IsSizedOf : (k : Kind) → OwnOf k → Type 0
+IsSizedOf Block = block_working.IsSizedData true
+IsSizedOf Balloon = balloon_work.IsSizedData true
+
+-- and the numbers of a change that they don't fit by themselves
+abbrev pub IsSmallChange : DeviceChange → Type 0
+IsSmallChange (changes.Block (Sectors sectors)) = Unit {0}
+IsSmallChange (changes.Block (Limits bandwidth ops)) =
+    block_working.AreSmallOthers bandwidth × block_working.AreSmallOthers ops
+IsSmallChange (changes.Balloon (Interval seconds)) = seconds < 2 ^ 16

@@ -1,5 +1,6 @@
 pub mod Devices
 pub mod Kept
 pub mod Kinds
+pub mod Narrow
 pub mod Ports
 pub mod Sound

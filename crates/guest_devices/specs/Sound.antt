@@ -1,5 +1,5 @@
 -- A device that is never stuck, and keeps to what is its own; and what is owed of a kind.
-use Rattle.std.specs.Prelude.{ℕ, ◌≡◌, ◌≤◌, ◌^◌, true, Option, Some, None}
+use Rattle.std.specs.Prelude.{ℕ, ◌≡◌, ◌≤◌, ◌^◌, true, false, Option, Some, None}
 use Rattle.queue_device.specs.declared.lanes.Rounds.{Rounds}
 use Rattle.queue_device.specs.declared.phase.Phase.{Phase}
 use Rattle.queue_device.specs.Confined.{Confines, IsConfined}
@@ -15,7 +15,7 @@ use Rattle.guest_devices.specs.Kinds.{hand_of, is_fine_of, is_work_of, reset_for
 -- what is left of the device at this port, in a guest of so many pages, is told by kept data
 abbrev pub HasKept : ℕ → ℕ → DeviceLeft → Type 0
 HasKept port pages d =
-    resuming.HasKept (service_of d.kind) (hand_of d.kind) (is_work_of d.kind) (IsFineOf d.kind) (times_of d.kind) port pages d.left
+    resuming.HasKept (service_of d.kind) (hand_of d.kind) (is_work_of d.kind) (IsFineOf d.kind) false (times_of d.kind) port pages d.left
 
 -- from here on each act up to the end of the group is one of the device at this port, whatever is replied and changed; and in a
 -- guest of fewer than 2^32 pages none touches a byte outside RAM
@@ -41,7 +41,7 @@ LeavesFine k (Some c) =
 -- that it may have, which the test finds; and its code can keep a state that it may be in.
 pub record KindLaws (k : Kind) : Type 0 where
   pub confines : Confines (service_of k) (changing_of k) (times_of k) (calls_of k)
-  pub resumes : resuming.Resumes (service_of k) (hand_of k) (is_work_of k) (IsFineOf k) (changing_of k) (times_of k) (calls_of k)
+  pub resumes : resuming.Resumes (service_of k) (hand_of k) (is_work_of k) (IsFineOf k) false (changing_of k) (times_of k) (calls_of k)
   pub changed : (change : DeviceChange) → FitsChange change → LeavesFine k (change_for change k)
   pub reset : LeavesFine k (reset_for k)
   pub tested : (e : OwnOf k) → is_fine_of k e ≡ true → IsFineOf k e

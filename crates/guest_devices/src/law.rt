@@ -8,6 +8,7 @@ ghost use Rattle.device_trace.specs.Script.{Script, Ends};
 ghost use Rattle.device_trace.specs.States.{LeadsTo};
 ghost use Rattle.device_trace.specs.Traces.{Continues, Item};
 ghost use Rattle.vq_split.specs.Inside.{IsInside};
+ghost use Rattle.queue_device.specs.Sizes.{IsReplyTo, IsSmallWrite};
 ghost use Rattle.guest_devices.specs.declared.change.DeviceChange.{DeviceChange};
 ghost use Rattle.guest_devices.specs.declared.device.Device.{Device};
 ghost use Rattle.guest_devices.specs.declared.new_device.NewDevice.{NewDevice};
@@ -15,7 +16,8 @@ ghost use Rattle.guest_devices.specs.Devices.{DataOf, DeviceLeads, DeviceLeft, D
 ghost use Rattle.guest_devices.specs.Devices.{device_changed, device_did, device_next, device_reset, device_rules};
 ghost use Rattle.guest_devices.specs.Devices.{device_told, device_wants, left_reset, left_times, new_device};
 ghost use Rattle.guest_devices.specs.Kept.{IsBoundedDevice, device_left, device_pages, device_port, is_device_state, is_kept, kept_reset};
-ghost use Rattle.guest_devices.specs.Kinds.{ChangeOf, FitsChange, Kind};
+ghost use Rattle.guest_devices.specs.Narrow.{IsNarrowDevice, IsNarrowKept, IsNarrowNew};
+ghost use Rattle.guest_devices.specs.Kinds.{ChangeOf, FitsChange, IsSmallChange, Kind};
 ghost use Rattle.guest_devices.specs.Sound.{IsSoundDevice};
 
 /// The items of a device lead to one thing that is still to be done, and the act that this wants is the one that the
@@ -79,4 +81,24 @@ pub fn sound_devices()
         pages < 2 ^ 32 → IsSoundDevice port pages d → DeviceWants d op → IsInside pages op }
     ensures host { (port pages : ℕ) (d : FlatDevice) (op : Op) →
         IsSoundDevice port pages d → DeviceWants d op → AsksOnly (device_calls d) op }
+{}
+
+/// Where each reply is small, each number that is kept of a device has its width: from its start on, where its drive has an id of
+/// 20 bytes, with each such reply and each change that fits, and behind a Reset. What it writes are bytes, and some device keeps what
+/// its items lead to. All that in a guest of at most 2^20 pages.
+pub fn narrow_devices()
+    ensures begins { (port pages : ℕ) (what : NewDevice) → pages ≤ 2 ^ 20 → IsNarrowNew what →
+        IsNarrowDevice port pages (new_device port pages what) }
+    ensures stays { (port pages : ℕ) (d : FlatDevice) (s : Step) → pages ≤ 2 ^ 20 →
+        IsNarrowDevice port pages d → DeviceWants d s.op → IsReplyTo true s.op s.reply →
+        IsNarrowDevice port pages (device_did d s) }
+    ensures told { (port pages : ℕ) (d : FlatDevice) (c : DeviceChange) → pages ≤ 2 ^ 20 → FitsChange c →
+        IsSmallChange c → IsNarrowDevice port pages d → IsNarrowDevice port pages (device_told d c) }
+    ensures reset { (port pages : ℕ) (d : FlatDevice) → pages ≤ 2 ^ 20 →
+        IsNarrowDevice port pages d → IsNarrowDevice port pages (device_reset d) }
+    ensures writes { (port pages : ℕ) (d : FlatDevice) (op : Op) → pages ≤ 2 ^ 20 →
+        IsNarrowDevice port pages d → DeviceWants d op → IsSmallWrite op }
+    ensures copied { (port pages : ℕ) (d : FlatDevice) → pages ≤ 2 ^ 20 → IsNarrowDevice port pages d →
+        (it : Device) × DeviceLeads d (device_left it) × (is_device_state it ≡ true) × IsBoundedDevice it
+        × (device_port it ≡ port) × (device_pages it ≡ pages) × IsNarrowKept it }
 {}

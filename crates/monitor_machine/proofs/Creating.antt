@@ -36,6 +36,8 @@ use Rattle.flat_snapshot.specs.Files.{calls_of, head_of, saved_pages, state_body
 use Rattle.snap_writer.specs.Create.{create_calls}
 use Rattle.snap_writer.specs.Create as writes
 use Rattle.snap_writer.specs.Selected.{selected}
+use Rattle.file_format.specs.Versions.{current_version}
+use Rattle.snap_state.specs.Files.{IsSaved}
 use Rattle.monitor_plans.specs.Headings.{numbers_in}
 use Rattle.flat_machine.specs.Machine.{Machine}
 use Rattle.flat_machine.specs.Outcome as flat
@@ -98,6 +100,7 @@ create_task (task.Create c) live w it parent identity there since own gives = (
         copy = gives.copy;
         copied = subst (λ (k : Config). IsCopyOf k (reset_guest guest.0) gives.copy) is.own.config_is (gives.copied guest.0 guest.2);
         kept_is = refl;
+        saved = subst (λ (k : Identity). IsSaved current_version (record { identity = k; copy = gives.copy })) own_is gives.saved;
         identity_is = gives.identity_is ∙ own_is;
         next_is = gives.next_is ∙ ap (λ (k : Identity). k.number + 1) own_is;
         head_is = gives.head_is guest.0 guest.2 ∙ (λ i. head_of (since_is i) (own_is i) gives.copy.pages guest.0);
@@ -211,7 +214,7 @@ module _ (c : Creation) (live : LiveMachine) (w : WorldValue) (known left : File
   create_does tells wrote = (
     answered live known m end given (Ok (change.CreateSnapshot due.it)) no_content kept
         (ap (λ (r : Result Change Refusal). r >>= by_contents m) due.asks) (told_of live, tells_is live m tells is.own, refl)
-        (subst (λ (o : Option Guest). Creates o m due.it kept end) (sym due.there) (due.copy, due.copied, due.kept_is, refl)),
+        (subst (λ (o : Option Guest). Creates o m due.it kept end) (sym due.there) (due.copy, due.copied, due.kept_is, due.saved, refl)),
     record {
       own = record {
         id_is = is.own.id_is;
@@ -253,6 +256,7 @@ module _ (c : Creation) (live : LiveMachine) (w : WorldValue) (known left : File
             copy = due.copy;
             is_copy = due.copied;
             tells = due.kept_is;
+            saved = due.saved;
             lacks = front_lacks (calls_in m (reset_guest due.guest) due.it due.copy) known.calls left.calls (front part);
             begun =
                 front_begun (calls_in m (reset_guest due.guest) due.it due.copy) known.calls left.calls (front part)

@@ -21,6 +21,7 @@ use Rattle.flat_guest.specs.Guest.{Guest}
 use Rattle.flat_machine.specs.Machine.{Machine}
 use Rattle.flat_machine.specs.Machine as machine
 use Rattle.flat_machine.specs.Requests.{decided}
+use Rattle.flat_machine.proofs.Numbered.{last_row}
 use Rattle.vm_world.specs.Worlds.{WorldValue}
 use Rattle.monitor_plans.specs.Plans.{IsEarly}
 use Rattle.monitor_machine.specs.declared.machine.LiveMachine.{LiveMachine}
@@ -146,15 +147,6 @@ module _ (guest : Option WorldValue) (paused : Bool) (config : Config) (ids : Id
       let p = phase_by guest paused in
       subst (λ (x : Change). IsEarly x guest) (change_is p config ids it c is)
       (early_by it (first_none (misplaced (when_allowed it) p) (unless (own_refusal p config ids it) (Ok (change_of config it))) c is))
-
-  last_row : (first second third fourth : Bool) (why because last late : Refusal)
-      → (if first then Some why else (if second then Some because else (if third then Some last else (if fourth then Some late else None)))) ≡ None
-      → fourth ≡ false
-  last_row true second third fourth why because last late none = absurd cc
-  last_row false true third fourth why because last late none = absurd cc
-  last_row false false true fourth why because last late none = absurd cc
-  last_row false false false true why because last late none = absurd cc
-  last_row false false false false why because last late none = refl
 
   number_by : (it : ApiCall) → own_refusal (phase_by guest paused) config ids it ≡ None → HasNumber (change_of config it) ids
   number_by (call.PutBootSource source) is = tt

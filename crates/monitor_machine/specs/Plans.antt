@@ -26,7 +26,9 @@ use Rattle.guest_devices.specs.declared.device.Device.{Device}
 use Rattle.flat_guest.specs.Changes.{reset_guest}
 use Rattle.flat_guest.specs.Guest.{Guest}
 use Rattle.flat_guest.specs.Start.{started}
+use Rattle.file_format.specs.Versions.{current_version}
 use Rattle.snap_state.specs.declared.copy.StateCopy.{StateCopy}
+use Rattle.snap_state.specs.Files.{IsSaved}
 use Rattle.flat_snapshot.specs.Copies.{IsCopyOf}
 use Rattle.flat_snapshot.specs.Files.{head_of, saved_pages, state_body}
 use Rattle.snap_writer.specs.Selected.{can_select, selected}
@@ -97,6 +99,7 @@ pub record IsCreate (c : Creation) (m : Machine) (given : Next) (kept : List Dev
   pub copy : StateCopy
   pub copied : IsCopyOf m.config (reset_guest guest) copy
   pub kept_is : copy.devices ≡ kept
+  pub saved : IsSaved current_version (record { identity = next_identity m; copy = copy })
   pub identity_is : c.identity ≡ next_identity m
   pub next_is : c.next ≡ m.ids.next + 1
   pub head_is : c.head ≡ head_of (parent_in m it) (next_identity m) copy.pages guest

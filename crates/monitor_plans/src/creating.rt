@@ -4,6 +4,8 @@ ghost use Rattle.file_format.specs.Identities.{is_numbered};
 ghost use Rattle.flat_snapshot.specs.Files.{state_body};
 ghost use Rattle.guest_pages.specs.Pages.{flat_of};
 ghost use Rattle.snap_writer.specs.Selected.{can_select, selected};
+ghost use Rattle.file_format.specs.Versions.{current_version};
+ghost use Rattle.snap_state.specs.Files.{IsSaved};
 ghost use Rattle.snap_state.specs.Valid.{is_valid};
 ghost use Rattle.monitor_plans.specs.Creating.{CreateGives, IsCreation};
 ghost use Rattle.monitor_plans.specs.Headings.{HasParent, numbers_in};
@@ -102,7 +104,8 @@ fn prepare(
 fn body_of(alloc: Global, identity: Identity, copy: &StateCopy) -> Result<ByteList, AllocError>
     requires numbered { IsTrue (is_numbered identity) }
     requires valid { IsTrue (is_valid copy.now) }
-    ensures { IfOk result (λ body. body ≡ state_body identity copy.now) }
+    ensures body { IfOk result (λ body. body ≡ state_body identity copy.now) }
+    ensures saved { IfOk result (λ body. IsSaved current_version (record { identity = identity; copy = copy.now })) }
 {
     let body = encode_behind_gate(alloc, identity, copy)?;
     Ok(ByteList::from_vec(body))

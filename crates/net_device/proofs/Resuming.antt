@@ -27,7 +27,9 @@ use Rattle.queue_device.specs.Acting.{Acting, ActingKeeps, Comes, performing}
 use Rattle.queue_device.specs.Chains.{Chain}
 use Rattle.queue_device.specs.Confined.{IsChain, IsDeviceAct}
 use Rattle.queue_device.specs.Resuming.{Goes, IsShortChain, IsShortTaken, Resumes, answering_of, serving_of, taking_of}
+use Rattle.queue_device.specs.Sizes.{IsLength}
 use Rattle.queue_device.proofs.Acting.{keeps_when, led_keeps, performing_acts, performing_keeps}
+use Rattle.queue_device.proofs.Never.{never}
 use Rattle.queue_device.proofs.Pieces.{filter_few, past_few, put_asks}
 use Rattle.net_device.specs.declared.kind.Stage.{Stage}
 use Rattle.net_device.specs.declared.kind.Stage.TheVariants as stage
@@ -224,7 +226,7 @@ module _ (pages : ℕ) where
 
   abbrev Answers : Doing (Option (List ℕ)) → Net → Type 0
   Answers t e =
-      Goes net hand_of is_work AnyNet answering_of work.Answer pages Any (performing t e received)
+      Goes net hand_of is_work AnyNet false answering_of work.Answer pages Any (performing t e received)
 
   take_on : (n size index : ℕ) (bytes : List ℕ) (e : Net) → pieces size - index ≡ n → is_frame size ≡ true
       → (0 < n → length bytes ≡ header_size + 64 * index) → Answers (taking (pieces size - index) size index bytes) e
@@ -277,7 +279,7 @@ module _ (pages : ℕ) where
 
   answering : (s : Stage) (bytes : List ℕ) (e : Net) (reply : Reply)
       → is_work work.Answer pages (at_stage s bytes) ≡ true → Fits (hand_of (at_stage s bytes)).op reply
-      → Goes net hand_of is_work AnyNet answering_of work.Answer pages Any ((hand_of (at_stage s bytes)).answering e reply)
+      → Goes net hand_of is_work AnyNet false answering_of work.Answer pages Any ((hand_of (at_stage s bytes)).answering e reply)
   answering stage.Rest bytes e reply is fit = absurd (cc)
   answering (stage.Take size index) bytes e reply is fit =
       piece_next size index bytes e reply (takes_of pages size index bytes is) fit
@@ -287,7 +289,7 @@ module _ (pages : ℕ) where
   answering stage.End bytes e reply is fit = absurd (cc)
 
   answer : (e : Net) (reply : Reply) → Fits (Out LinkTake) reply
-      → Goes net hand_of is_work AnyNet answering_of work.Answer pages Any (answered_by reply e)
+      → Goes net hand_of is_work AnyNet false answering_of work.Answer pages Any (answered_by reply e)
   answer e (Frame size) fit =
       subst (λ (n : ℕ). Answers (taking n size 0 header) (emptied e)) (no_less (pieces size))
       (take_on (pieces size - 0) size 0 header (emptied e) refl fit (λ some. omega arith))
@@ -296,7 +298,7 @@ module _ (pages : ℕ) where
   -- ---- to the driver
 
   abbrev Serves : Which → Acting Net (Option ℕ) → Type 0
-  Serves k t = Goes net hand_of is_work AnyNet serving_of (work.Serve k) pages Any t
+  Serves k t = Goes net hand_of is_work AnyNet false serving_of (work.Serve k) pages (IsLength false) t
 
   abbrev Writes : List ℕ → Doing (List Part) → Net → Type 0
   Writes bytes t e = Serves First (performing t e (λ f left. written (length bytes) f))
@@ -308,7 +310,7 @@ module _ (pages : ℕ) where
         own = emptied e;
         result = Some (length bytes);
         fine = tt;
-        is = tt;
+        is = never;
         left =
             ap (λ (t : Doing (List Part)). performing t e (λ f left. written (length bytes) f))
             (put_done (drop at bytes) to (eq-eqb _ _ is));
@@ -382,7 +384,7 @@ module _ (pages : ℕ) where
       → Sends (if test then sending_all skip from else Gives tt) e
   sent_by true skip from e inside few = send_on (room from) skip from e refl inside few
   sent_by false skip from e inside few =
-      inr (record { own = e; result = Some 0; fine = tt; is = tt; left = refl })
+      inr (record { own = e; result = Some 0; fine = tt; is = never; left = refl })
 
   send_next : (piece : List ℕ) (skip : ℕ) (from : List Part) (e : Net) (reply : Reply) → Has pages (length piece) from
       → Sends (led (piece_sent piece (sending_all skip from)) reply) e
@@ -409,7 +411,7 @@ module _ (pages : ℕ) where
   serving Second (stage.Send piece skip from) bytes e reply small is =
       send_next piece skip from e reply (has_of pages (length piece) from is)
   serving Second stage.End bytes e reply small is =
-      inr (record { own = e; result = Some 0; fine = tt; is = tt; left = refl })
+      inr (record { own = e; result = Some 0; fine = tt; is = never; left = refl })
   serving Third s bytes e reply small is = absurd (no_third pages s bytes is)
 
   receive_by : (test : Bool) (c : Chain) (e : Net) → AreInside pages (writable c.parts) → length (writable c.parts) ≤ 256
@@ -418,16 +420,16 @@ module _ (pages : ℕ) where
   receive_by true c e inside few =
       fill_on (share (drop 0 e.text) (writable c.parts)) 0 e.text (writable c.parts) e refl inside few
   receive_by false c e inside few =
-      inr (record { own = emptied e; result = Some 0; fine = tt; is = tt; left = refl })
+      inr (record { own = emptied e; result = Some 0; fine = tt; is = never; left = refl })
 
   transmit_by : (test : Bool) (c : Chain) (e : Net) → AreInside pages (readable c.parts) → length (readable c.parts) ≤ 256
       → Serves Second (if test then performing (sending_all header_size (readable c.parts)) e (λ f done. Comes f (Some 0))
       else Comes e (Some 0))
   transmit_by true c e inside few = send_on (room (readable c.parts)) header_size (readable c.parts) e refl inside few
   transmit_by false c e inside few =
-      inr (record { own = e; result = Some 0; fine = tt; is = tt; left = refl })
+      inr (record { own = e; result = Some 0; fine = tt; is = never; left = refl })
 
-  serve : (k : Which) (c : Chain) (e : Net) → IsChain net pages k c → IsShortChain (Some c) → Serves k (served_by k c e)
+  serve : (k : Which) (c : Chain) (e : Net) → IsChain net pages k c → IsShortChain false (Some c) → Serves k (served_by k c e)
   serve First c e chain short =
       let count : length (writable c.parts) ≤ length c.parts = filter_few _ c.parts in
       receive_by (has_room c e) c e (filter_inside pages _ c.parts chain.parts) (omega (arith, count, short.0))
@@ -435,35 +437,36 @@ module _ (pages : ℕ) where
       let count : length (readable c.parts) ≤ length c.parts = filter_few _ c.parts in
       transmit_by (is_frame (sent_length c.parts)) c e (filter_inside pages _ c.parts chain.parts)
       (omega (arith, count, short.0))
-  serve Third c e chain short = inr (record { own = e; result = Some 0; fine = tt; is = tt; left = refl })
+  serve Third c e chain short = inr (record { own = e; result = Some 0; fine = tt; is = never; left = refl })
 
   take : (k : Which) (parts : List Part) (e : Net) → AreInside pages parts → length parts ≤ 256
-      → Goes net hand_of is_work AnyNet taking_of (work.Take k) pages (IsShortTaken net pages k)
+      → Goes net hand_of is_work AnyNet false taking_of (work.Take k) pages (IsShortTaken net false pages k)
       (Comes e (Some (kept_of parts)))
   take k parts e inside few =
       inr (record {
         own = e;
         result = Some (kept_of parts);
         fine = tt;
-        is = ((inside, tt, refl), (few, omega arith, omega arith));
+        is = ((inside, tt, refl), (few, omega arith, omega arith, never));
         left = refl;
       })
 
-pub resumes : Resumes net hand_of is_work AnyNet (setting limited) true is_link_call
+pub resumes : Resumes net hand_of is_work AnyNet false (setting limited) true is_link_call
 resumes = record {
   rest = at_stage stage.Rest [];
   rests = λ pages. refl;
   answering_stays = λ port pages g is. answering_stays port pages g.stage g.bytes is;
   taking_stays = λ port pages k g is. absurd (no_take pages k g.stage g.bytes is);
   serving_stays = λ port pages k g is. serving_stays port pages k g.stage g.bytes is;
-  answer = λ pages before e reply small fine fit. answer pages e reply fit;
-  answering = λ pages g e reply small fine is fit. answering pages g.stage g.bytes e reply is fit;
+  answer = λ pages before e reply small fine fit. answer pages e reply fit.0;
+  answering = λ pages g e reply small fine is fit. answering pages g.stage g.bytes e reply is fit.0;
   take = λ pages k parts e small fine inside few. take pages k parts e inside few;
   taking = λ pages k g e reply small fine is fit. absurd (no_take pages k g.stage g.bytes is);
   serve = λ pages k c e small fine chain short. serve pages k c e chain short;
   serving = λ pages k g e reply small fine is fit. serving pages k g.stage g.bytes e reply (omega (arith, small)) is;
   begun = λ k e fine. tt;
-  passes = λ k c now e f fine is. tt;
+  passes = λ pages k c now e f small early fine chain short is. tt;
   over = λ k e fine. tt;
   reset = λ e fine. tt;
+  cut = λ c e op reply is. never;
 }

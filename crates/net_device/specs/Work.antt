@@ -116,4 +116,4 @@ AnyNet e = Unit {0}
 
 -- what is kept where this is left
 abbrev pub NetKept : ℕ → ℕ → Script (Queued Net) → Type 0
-NetKept port pages t = HasKept net hand_of is_work AnyNet true port pages t
+NetKept port pages t = HasKept net hand_of is_work AnyNet false true port pages t

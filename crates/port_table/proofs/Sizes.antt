@@ -511,3 +511,10 @@ new_stays kind offered bytes small all =
           port_sized kind offered (with_config kind (replicate 8 0) bytes) small (put_over_long (replicate 8 0) 0 front)
           (put_over_bytes (replicate 8 0) 0 front (zeros 8) (All-take IsByte (config_length kind) bytes all));
     }
+
+-- the queues that a look shows
+pub queues_sized : (kind : DeviceKind) (p : PortState) → IsKept kind p → (k : ℕ) → IsSizedQueue (queue p k)
+queues_sized kind p is k = queue_sized kind p (part kind p is) k
+
+pub new_queues_sized : (kind : DeviceKind) (p : PortState) → IsKept kind p → (k : ℕ) → IsSizedQueue (queue (as_new p) k)
+new_queues_sized kind p is k = queue_sized kind (as_new p) (new_is kind p (part kind p is)) k

@@ -77,7 +77,7 @@ module _ {E G : Type 0} (s : Service E) (times : Bool) (is_work : Work → ℕ �
       next_state o one g
       (subst (λ (t : Rounds). are_kept s times t ≡ true) (sym is)
       (busy_kept s times (in_lane k lane_given r) (given_kept s times k r test some)
-      (at_in s times r.port r.pages k lane_given r (and_parts (are_kept s times r) (is_at_lane r.due) test).1)))
+      (at_in s times false r.port r.pages k lane_given r (and_parts (are_kept s times r) (is_at_lane r.due) test).1)))
       (subst (λ (w : Option Which). IsWorked one w) (sym due) (from_worked s times k (queued one e)))
       (subst (λ (t : Rounds). is_work work.Rest t.pages g ≡ true) (sym is)
       (subst (λ (n : ℕ). is_work work.Rest n g ≡ true) (sym (pages_in k lane_given r)) works))
@@ -100,7 +100,7 @@ module _ {E G : Type 0} (s : Service E) (times : Bool) (is_work : Work → ℕ �
       let w = and_parts (are_kept s times r) (is_at_lane r.due) h.0 in
       let p1 = and_parts _ (is_taken_of times (lane_of c.which r).queue c.queue) h.1 in
       let p0 = and_parts (is_sound c.queue) (c.queue.pages == r.pages) p1.0 in
-      and_from _ _ (and_from _ _ kept (at_in s times r.port r.pages c.which change r w.1))
+      and_from _ _ (and_from _ _ kept (at_in s times false r.port r.pages c.which change r w.1))
       (and_from _ _
       (and_from _ _ p0.0 (subst (λ (n : ℕ). c.queue.pages == n ≡ true) (sym (pages_in c.which change r)) p0.1))
       (subst (λ (q : Option Queue). is_taken_of times q c.queue ≡ true) (sym (queue_in change r c.which c.which same)) p1.1))
@@ -179,7 +179,7 @@ module _ {E G : Type 0} (s : Service E) (times : Bool) (is_work : Work → ℕ �
       let h2 = and_parts _ (are_inside (in_lane k lane_freed r).pages c.parts) h3.0 in
       let h1 = and_parts (c.queue.pages == (in_lane k lane_freed r).pages) (is_sound c.queue) h2.0 in
       and_from _ _
-      (and_from _ _ (freed_kept s times k r (and_from _ _ kept at) some) (at_in s times r.port r.pages k lane_freed r at))
+      (and_from _ _ (freed_kept s times k r (and_from _ _ kept at) some) (at_in s times false r.port r.pages k lane_freed r at))
       (and_from _ _ (and_from _ _ h1.1 h1.0)
       (subst (λ (b : Bool). is_taken_of b (lane_of k (in_lane k lane_freed r)).queue c.queue ≡ true) (sym may)
       (subst (λ (q : Option Queue). is_some q ≡ true) (sym (queue_in lane_freed r k k refl)) some)))

@@ -72,7 +72,7 @@ module _ {E : Type 0} (s : Service E) (times : Bool) where
   over_from r are own =
       and_from _ _
       (and_from _ _ (lanes_of r.port r.pages (round_over r) (over_are s r.port r.pages r are)) (own_over s times r own))
-      (over_next s times r.port r.pages r)
+      (over_next s times false r.port r.pages r)
 
   next_from : (o : Option Which) (r : Rounds) → are_rounds s r.port r.pages r ≡ true → are_own_lanes s times r ≡ true
       → IsWorked r o → are_kept s times (next_rounds o r) ≡ true
@@ -134,7 +134,7 @@ module _ {E : Type 0} (s : Service E) (times : Bool) where
       and_from _ _
       (and_from _ _ (subst (λ (n : ℕ). are_lanes s n (in_lane k change r) ≡ true) (sym (pages_in k change r)) are)
       (own_in s times k change r _ refl v.own some own))
-      (next_in s times r.port r.pages k change r w.1 same v.next)
+      (next_in s times false r.port r.pages k change r w.1 same v.next)
 
   -- a chain waits no longer
   pub freed_kept : (k : Which) (r : Rounds) → is_working s times r ≡ true → is_some (lane_of k r).queue ≡ true

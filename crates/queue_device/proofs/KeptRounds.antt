@@ -1,9 +1,12 @@
 -- Rounds that may be kept: what a look, a chain and a round's end leave of them.
-use Rattle.std.proofs.Common.{◌≡◌, ℕ, ◌==◌, refl, sym, subst, ◌∙◌, Bool, true, false, ◌||◌, not, if◌then◌else◌, Option, Some, None, is_some}
+use Rattle.std.proofs.Common.{◌≡◌, ℕ, ◌==◌, refl, sym, subst, ◌∙◌, Bool, true, false, ◌||◌, not, if◌then◌else◌, Option, Some, None, is_some, arith}
+use Rattle.std.specs.Prelude.{IfSome}
 use Rattle.std.proofs.lemmas.Bool.{and_from, and_parts}
 use Rattle.vm_types.specs.declared.port_look.PortLook.{PortLook}
 use Rattle.vm_types.specs.declared.port_look.QueueShown.{QueueShown}
+use Rattle.vm_types.specs.declared.reply.Reply.{Reply}
 use Rattle.vq_split.specs.declared.queue.Queue.{Queue}
+use Rattle.dev_core.specs.Looks.{is_workable, queue_shown}
 use Rattle.queue_device.specs.declared.lanes.Due.{Due}
 use Rattle.queue_device.specs.declared.lanes.Due.TheVariants as due
 use Rattle.queue_device.specs.declared.lanes.Lane.{Lane}
@@ -12,11 +15,12 @@ use Rattle.queue_device.specs.declared.lanes.Which.{Which}
 use Rattle.queue_device.specs.declared.lanes.Which.TheVariants.{First, Second, Third}
 use Rattle.queue_device.specs.Confined.{are_lanes, are_rounds, is_lane}
 use Rattle.queue_device.specs.Kept.{are_kept, are_own_lanes, is_at_lane, is_next, is_own_lane}
-use Rattle.queue_device.specs.Lanes.{after_round, in_lane, is_up_to, lane_closed, lane_of, lane_reset, lane_seen}
+use Rattle.queue_device.specs.Lanes.{after_round, in_lane, is_up_to, lane_closed, lane_looked, lane_of, lane_reset, lane_seen}
 use Rattle.queue_device.specs.Lanes.{new_lane, new_rounds, next_rounds, round_begun, round_over, with_due, with_lane}
-use Rattle.queue_device.specs.Resuming.{AreShort, IsShortChain}
+use Rattle.queue_device.specs.Resuming.{AreShort, IsShortLane}
 use Rattle.queue_device.specs.Rounds.{due_behind, due_from, is_due, second_due, third_due}
 use Rattle.queue_device.specs.Service.{Queued, Service}
+use Rattle.queue_device.specs.Sizes.{IsNarrowQueue, IsSmallReply, IsSmallShown}
 use Rattle.queue_device.proofs.Keeping.{begun_are, lane_in, over_are, rounds_of, test_of}
 
 -- ---- lanes
@@ -44,14 +48,38 @@ own_seen : (times has : Bool) (pages : ℕ) (look : PortLook) (shown : QueueShow
 own_seen times true pages look shown l is = own_reset times look.was_reset l is
 own_seen times false pages look shown l is = is
 
-short_reset : (was_reset : Bool) (l : Lane) → IsShortChain l.waiting → IsShortChain (lane_reset was_reset l).waiting
-short_reset true l is = tt
-short_reset false l is = is
+-- ---- lanes that are short
 
-short_seen : (has : Bool) (pages : ℕ) (look : PortLook) (shown : QueueShown) (l : Lane)
-    → IsShortChain l.waiting → IsShortChain (lane_seen has pages look shown l).waiting
-short_seen true pages look shown l is = short_reset look.was_reset l is
-short_seen false pages look shown l is = is
+module _ (sized : Bool) where
+  pub short_new : IsShortLane sized new_lane
+  short_new = (tt, λ is. record { queue = tt; next = omega arith; used = omega arith })
+
+  short_closed : (l : Lane) → IsShortLane sized l → IsShortLane sized (lane_closed l)
+  short_closed l short = (short.0, λ is. let n = short.1 is in record { queue = tt; next = n.next; used = n.used })
+
+  short_reset : (was_reset : Bool) (l : Lane) → IsShortLane sized l → IsShortLane sized (lane_reset was_reset l)
+  short_reset true l short = short_new
+  short_reset false l short = short
+
+  shown_narrow : (test : Bool) (pages : ℕ) (shown : QueueShown) → IsSmallShown shown
+      → IfSome (if test then Some (queue_shown pages shown) else None) IsNarrowQueue
+  shown_narrow true pages shown is = record { descriptors = is.descriptors; available = is.available; used = is.used; size = is.size }
+  shown_narrow false pages shown is = tt
+
+  short_looked : (pages status : ℕ) (shown : QueueShown) (l : Lane) → (sized ≡ true → IsSmallShown shown) → IsShortLane sized l
+      → IsShortLane sized (lane_looked pages status shown l)
+  short_looked pages status shown l small short = (
+    short.0,
+    λ is.
+        let n = short.1 is in
+        record { queue = shown_narrow (is_workable status shown) pages shown (small is); next = n.next; used = n.used },
+  )
+
+  short_seen : (has : Bool) (pages : ℕ) (look : PortLook) (shown : QueueShown) (l : Lane) → (sized ≡ true → IsSmallShown shown)
+      → IsShortLane sized l → IsShortLane sized (lane_seen has pages look shown l)
+  short_seen true pages look shown l small short =
+      short_looked pages look.status shown (lane_reset look.was_reset l) small (short_reset look.was_reset l short)
+  short_seen false pages look shown l small short = short
 
 -- a queue that the round works on is one of the device's
 has_queue : (times has : Bool) (l : Lane) → is_own_lane times has l ≡ true → is_some l.queue ≡ true → has ≡ true
@@ -85,16 +113,16 @@ module _ (change : Lane → Lane) (r : Rounds) where
   queue_in Third Second same = refl
   queue_in Third Third same = same
 
-  short_in : (k : Which) → (IsShortChain (lane_of k r).waiting → IsShortChain (change (lane_of k r)).waiting)
-      → AreShort r → AreShort (in_lane k change r)
-  short_in First on short = (on short.0, short.1, short.2)
-  short_in Second on short = (short.0, on short.1, short.2)
-  short_in Third on short = (short.0, short.1, on short.2)
+  short_in : (sized : Bool) (k : Which) → (IsShortLane sized (lane_of k r) → IsShortLane sized (change (lane_of k r)))
+      → AreShort sized r → AreShort sized (in_lane k change r)
+  short_in sized First on short = (on short.0, short.1, short.2)
+  short_in sized Second on short = (short.0, on short.1, short.2)
+  short_in sized Third on short = (short.0, short.1, on short.2)
 
-pub short_of : (k : Which) (r : Rounds) → AreShort r → IsShortChain (lane_of k r).waiting
-short_of First r short = short.0
-short_of Second r short = short.1
-short_of Third r short = short.2
+pub short_of : (sized : Bool) (k : Which) (r : Rounds) → AreShort sized r → IsShortLane sized (lane_of k r)
+short_of sized First r short = short.0
+short_of sized Second r short = short.1
+short_of sized Third r short = short.2
 
 -- the round works on the queue that is named
 abbrev pub IsWorked : Rounds → Option Which → Type 0
@@ -185,9 +213,9 @@ module _ {E : Type 0} (s : Service E) (times : Bool) where
 
   -- ---- rounds of the device at this port, of a guest of so many pages
 
-  module _ (port pages : ℕ) where
+  module _ (sized : Bool) (port pages : ℕ) where
     abbrev pub IsRound : Rounds → Type 0
-    IsRound r = (are_rounds s port pages r ≡ true) × (are_own_lanes s times r ≡ true) × AreShort r
+    IsRound r = (are_rounds s port pages r ≡ true) × (are_own_lanes s times r ≡ true) × AreShort sized r
 
     abbrev pub IsNext : Rounds → Type 0
     IsNext r = is_next s.may_ask r.due r ≡ true
@@ -195,25 +223,30 @@ module _ {E : Type 0} (s : Service E) (times : Bool) where
     pub round_in : (k : Which) (change : Lane → Lane) (r : Rounds) → IsRound r → is_some (lane_of k r).queue ≡ true
         → (is_lane s pages k (lane_of k r) ≡ true → is_lane s pages k (change (lane_of k r)) ≡ true)
         → (is_own_lane times true (lane_of k r) ≡ true → is_own_lane times true (change (lane_of k r)) ≡ true)
-        → (IsShortChain (lane_of k r).waiting → IsShortChain (change (lane_of k r)).waiting)
+        → (IsShortLane sized (lane_of k r) → IsShortLane sized (change (lane_of k r)))
         → IsRound (in_lane k change r)
     round_in k change r it some lanes own short = (
       lane_in s port pages k change r it.0 lanes,
       own_in k change r (is_up_to s.last k) refl it.1 some own,
-      short_in change r k short it.2,
+      short_in change r sized k short it.2,
     )
 
     pub round_over_is : (r : Rounds) → IsRound r → IsRound (round_over r)
-    round_over_is r it = (over_are s port pages r it.0, own_over r it.1, it.2)
+    round_over_is r it = (
+      over_are s port pages r it.0,
+      own_over r it.1,
+      (short_closed sized r.first it.2.0, short_closed sized r.second it.2.1, short_closed sized r.third it.2.2),
+    )
 
-    pub round_begun_is : (look : PortLook) (r : Rounds) → IsRound r → IsRound (round_begun s.last look r)
-    round_begun_is look r it = (
+    pub round_begun_is : (look : PortLook) (r : Rounds) → (sized ≡ true → IsSmallReply (Reply.Port look)) → IsRound r
+        → IsRound (round_begun s.last look r)
+    round_begun_is look r small it = (
       begun_are s port pages s.last look r it.0,
       own_begun look r it.1,
       (
-        short_seen (is_up_to s.last First) r.pages look look.first r.first it.2.0,
-        short_seen (is_up_to s.last Second) r.pages look look.second r.second it.2.1,
-        short_seen (is_up_to s.last Third) r.pages look look.third r.third it.2.2,
+        short_seen sized (is_up_to s.last First) r.pages look look.first r.first (λ is. (small is).0) it.2.0,
+        short_seen sized (is_up_to s.last Second) r.pages look look.second r.second (λ is. (small is).1) it.2.1,
+        short_seen sized (is_up_to s.last Third) r.pages look look.third r.third (λ is. (small is).2) it.2.2,
       ),
     )
 
@@ -265,9 +298,9 @@ module _ {E : Type 0} (s : Service E) (times : Bool) where
         and_from _ _
         (and_from _ _ (subst (λ (n : ℕ). are_lanes s n r ≡ true) (sym facts.pages_are) lanes) it.1) next
 
-  pub round_of : (r : Rounds) → are_kept s times r ≡ true → AreShort r
-      → IsRound r.port r.pages r × (is_next s.may_ask r.due r ≡ true)
-  round_of r test short =
+  pub round_of : (sized : Bool) (r : Rounds) → are_kept s times r ≡ true → AreShort sized r
+      → IsRound sized r.port r.pages r × (is_next s.may_ask r.due r ≡ true)
+  round_of sized r test short =
       let p1 = and_parts _ (is_next s.may_ask r.due r) test in
       let p0 = and_parts (are_lanes s r.pages r) (are_own_lanes s times r) p1.0 in
       let l2 = and_parts _ (is_lane s r.pages Third r.third) p0.0 in

@@ -53,8 +53,8 @@ return_keeps returning.Interrupt c sound = (tt, λ a b. (tt, λ e f. tt))
 return_keeps returning.Line c sound = (tt, λ a b. tt)
 
 module _ {E G C : Type 0} (s : Service E) (changing : Changing E C) (hand : G → Hand E) (is_work : Work → ℕ → G → Bool)
-    (IsFine : E → Type 0) (times : Bool) (calls : OutOp → Bool) (port pages : ℕ)
-    (kind : Confines s changing times calls) (owes : Resumes s hand is_work IsFine changing times calls) where
+    (IsFine : E → Type 0) (sized times : Bool) (calls : OutOp → Bool) (port pages : ℕ)
+    (kind : Confines s changing times calls) (owes : Resumes s hand is_work IsFine sized changing times calls) where
   abbrev D : Type 0
   D = Queued E
 
@@ -143,14 +143,14 @@ module _ {E G C : Type 0} (s : Service E) (changing : Changing E C) (hand : G �
 
 pub record TestParts {E G : Type 0} (s : Service E) (times : Bool) (is_work : Work → ℕ → G → Bool) (p : Phase) (r : Rounds)
     (g : G) : Type 0 where
-  are : are_rounds s r.port r.pages r ≡ true
-  place : is_place times p r ≡ true
-  works : is_work (work_of p) r.pages g ≡ true
+  pub are : are_rounds s r.port r.pages r ≡ true
+  pub place : is_place times p r ≡ true
+  pub works : is_work (work_of p) r.pages g ≡ true
 
 lanes_are : {E : Type 0} (s : Service E) (r : Rounds) → are_lanes s r.pages r ≡ true → are_rounds s r.port r.pages r ≡ true
 lanes_are s r is = and_from _ _ (and_from _ _ (is_eq r.port r.port refl) (is_eq r.pages r.pages refl)) is
 
-test_parts : {E G : Type 0} (s : Service E) (times : Bool) (is_work : Work → ℕ → G → Bool) (p : Phase) (r : Rounds)
+pub test_parts : {E G : Type 0} (s : Service E) (times : Bool) (is_work : Work → ℕ → G → Bool) (p : Phase) (r : Rounds)
     (g : G) → is_state s times is_work p r g ≡ true → TestParts s times is_work p r g
 test_parts s times is_work p r g is =
     let p1 = and_parts _ (is_work (work_of p) r.pages g) is in
@@ -160,13 +160,13 @@ test_parts s times is_work p r g is =
     record { are = lanes_are s r k0.0; place = p0.1; works = p1.1 }
 
 pub state_stays : {E G C : Type 0} (s : Service E) (changing : Changing E C) (hand : G → Hand E)
-    (is_work : Work → ℕ → G → Bool) (IsFine : E → Type 0) (times : Bool) (calls : OutOp → Bool) (p : Phase) (r : Rounds)
+    (is_work : Work → ℕ → G → Bool) (IsFine : E → Type 0) (sized times : Bool) (calls : OutOp → Bool) (p : Phase) (r : Rounds)
     (e : E) (g : G) → Confines s changing times calls
-    → Resumes s hand is_work IsFine changing times calls → is_state s times is_work p r g ≡ true
+    → Resumes s hand is_work IsFine sized changing times calls → is_state s times is_work p r g ≡ true
     → IsConfined s calls r.port r.pages (left_at s p (hand g) (queued r e))
-state_stays s changing hand is_work IsFine times calls p r e g kind owes is =
+state_stays s changing hand is_work IsFine sized times calls p r e g kind owes is =
     let v = test_parts s times is_work p r g is in
-    place_stays s changing hand is_work IsFine times calls r.port r.pages kind owes p r e g (refl, λ few. v.are)
+    place_stays s changing hand is_work IsFine sized times calls r.port r.pages kind owes p r e g (refl, λ few. v.are)
     v.place v.works
 
 -- ---- the data at the root of what is left

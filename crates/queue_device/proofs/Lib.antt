@@ -6,10 +6,12 @@ pub mod GoesOn
 pub mod Keeping
 pub mod KeptRounds
 pub mod KeptStays
+pub mod Never
 pub mod Owning
 pub mod PieceActs
 pub mod Pieces
 pub mod Places
+pub mod SmallActs
 pub mod Spilling
 pub mod Steps
 pub mod Timed

@@ -1,10 +1,12 @@
 -- Reading and writing in pieces, as kinds do it: what is wanted, and what is left behind a reply.
 use Rattle.std.proofs.Common.{◌≡◌, ℕ, ◌+◌, ◌-◌, ◌%◌, ◌^◌, ◌==◌, ◌<◌, ◌≤◌, ◌||◌, refl, ap, Bool, true, false, if◌then◌else◌, List, [], ◌∷◌, ◌++◌, length, length-append, drop, take, arith, Some}
-use Rattle.std.specs.List.{filter}
+use Rattle.std.specs.List.{All, filter}
+use Rattle.std.proofs.lemmas.List.Elements.{All-replicate}
 use Rattle.vm_types.specs.declared.op.Op.TheVariants.{Read, Write}
 use Rattle.vm_types.specs.declared.reply.Reply.{Reply}
 use Rattle.vm_types.specs.Fits.{Fits}
 use Rattle.device_trace.specs.Doing.{Doing, asked, led}
+use Rattle.le_fields.specs.Fields.{IsByte}
 use Rattle.vq_split.specs.declared.queue.Part.{Part}
 use Rattle.vq_split.specs.Chain.{read_bytes}
 use Rattle.vq_split.specs.Inside.{AreInside}
@@ -15,6 +17,7 @@ use Rattle.dev_core.specs.Collecting.{collect_left}
 use Rattle.dev_core.specs.Pieces.{Got, past, place, put_all, room, share}
 use Rattle.dev_core.proofs.Fuel.{bytes_fit, collect_led, collect_more, put_more}
 use Rattle.dev_core.proofs.Inside.{filter_inside, past_inside}
+use Rattle.queue_device.specs.Sizes.{IsSmallReply}
 use Rattle.queue_device.proofs.Spilling.{spill_on}
 
 pub is_some_of : (n : ℕ) → (n == 0) ≡ false → 0 < n
@@ -64,14 +67,15 @@ put_asks held to some = ap (asked {A = List Part}) (put_more held to some)
 
 -- ---- what is left behind a piece
 
-pub record Collected (need pages : ℕ) (t : Doing Got) : Type 0 where
+pub record Collected (need pages : ℕ) (held : List ℕ) (t : Doing Got) : Type 0 where
   pub now : Collect
+  pub held_is : now.held ≡ held
   pub inside : AreInside pages now.from
   pub few : length now.from ≤ 256
   pub most : length now.held < need + 64
   pub left : collect_left need now ≡ t
 
-room_most : (parts : List Part) → room parts ≤ 64
+pub room_most : (parts : List Part) → room parts ≤ 64
 room_most [] = omega arith
 room_most (part ∷ parts) = omega arith
 
@@ -82,18 +86,25 @@ held_most held piece parts need short long =
 
 pub collect_next : (need pages : ℕ) (from : Collect) (reply : Reply) → pages < 2 ^ 32 → length from.held < need
     → 0 < room from.from → AreInside pages from.from → length from.from ≤ 256
-    → Fits (Read (place from.from) (room from.from)) reply → Collected need pages (led (collect_left need from) reply)
+    → Fits (Read (place from.from) (room from.from)) reply
+    → Collected need pages (from.held ++ read_bytes (room from.from) reply) (led (collect_left need from) reply)
 collect_next need pages from reply small short space inside few fit =
     let n = room from.from in
     let piece = read_bytes n reply in
     record {
       now = record { from = past n from.from; held = from.held ++ piece };
+      held_is = refl;
       inside = past_inside pages n from.from small inside (omega arith);
       few = past_few n 256 from.from few;
       most = held_most from.held piece from.from need short (bytes_fit (place from.from) n reply fit);
       left =
           collect_led need from.held piece from.from reply short space refl (bytes_fit (place from.from) n reply fit);
     }
+
+-- the bytes that a small reply brings are bytes
+pub read_small : (n : ℕ) (reply : Reply) → IsSmallReply reply → All IsByte (read_bytes n reply)
+read_small n (Reply.Bytes piece) small = small
+read_small n reply small = All-replicate IsByte n 0 (omega arith)
 
 pub record Written (pages : ℕ) (t : Doing (List Part)) : Type 0 where
   pub held : List ℕ

@@ -19,97 +19,104 @@ use Rattle.vq_split.specs.Walking.{IsSound, IsStage, Walking, left_at, op_at, wa
 use Rattle.vq_split.proofs.Inside.{both, next_fits, part_inside}
 use Rattle.vq_split.proofs.Kept.{test_of_walking}
 use Rattle.vq_split.proofs.Steps.{told_link}
+use Rattle.queue_device.specs.Sizes.{IsHead, IsNarrowStage}
 
--- what a walk comes to in a guest of so many pages: a chain has at most 256 parts, which lie inside RAM
-abbrev pub IsCome : ℕ → Walk → Type 0
-IsCome pages (Chain head parts) = AreInside pages parts × (length parts ≤ 256)
-IsCome pages came = Unit {0}
+-- what a walk comes to in a guest of so many pages: a chain has at most 256 parts, which lie inside RAM, and the number of its
+-- first descriptor has its width
+abbrev pub IsCome : Bool → ℕ → Walk → Type 0
+IsCome sized pages (Chain head parts) = AreInside pages parts × (length parts ≤ 256) × (sized ≡ true → IsHead head)
+IsCome sized pages came = Unit {0}
 
 -- a walk of the same chain of the queue of which this is left
-pub record WalksOn (q : Queue) (next : ℕ) (t : Doing Walk) : Type 0 where
+pub record WalksOn (sized : Bool) (q : Queue) (next : ℕ) (t : Doing Walk) : Type 0 where
   pub walk : Walking
   pub is : IsWalking walk
+  pub narrow : sized ≡ true → IsNarrowStage walk.stage
   pub queue : walk.queue ≡ q
   pub number : walk.next ≡ next
   pub left : walk_left walk ≡ t
 
 -- or this is what it has come to
-pub record HasCome (pages : ℕ) (t : Doing Walk) : Type 0 where
+pub record HasCome (sized : Bool) (pages : ℕ) (t : Doing Walk) : Type 0 where
   pub came : Walk
-  pub is : IsCome pages came
+  pub is : IsCome sized pages came
   pub left : t ≡ Gives came
 
-abbrev pub WalkGoes : Queue → ℕ → Doing Walk → Type 0
-WalkGoes q next t = WalksOn q next t ⊎ HasCome q.pages t
+abbrev pub WalkGoes : Bool → Queue → ℕ → Doing Walk → Type 0
+WalkGoes sized q next t = WalksOn sized q next t ⊎ HasCome sized q.pages t
 
-comes : (q : Queue) (next : ℕ) (came : Walk) → IsCome q.pages came → WalkGoes q next (Gives came)
-comes q next came is = inr (record { came = came; is = is; left = refl })
+module _ (sized : Bool) (q : Queue) (next : ℕ) where
+  comes : (came : Walk) → IsCome sized q.pages came → WalkGoes sized q next (Gives came)
+  comes came is = inr (record { came = came; is = is; left = refl })
 
-walks : (q : Queue) (next : ℕ) (s : Stage) (parts : List Part) (t : Doing Walk) → IsSound q → IsStage s q parts
-    → AreInside q.pages parts → left_at s q next parts ≡ t → WalkGoes q next t
-walks q next s parts t sound staged inside same =
-    inl (record {
-      walk = record { queue = q; next = next; stage = s; parts = parts };
-      is = record { sound = sound; stage = staged; inside = inside };
-      queue = refl;
-      number = refl;
-      left = same;
-    })
+  walks : (s : Stage) (parts : List Part) (t : Doing Walk) → IsSound q → IsStage s q parts → (sized ≡ true → IsNarrowStage s)
+      → AreInside q.pages parts → left_at s q next parts ≡ t → WalkGoes sized q next t
+  walks s parts t sound staged narrow inside same =
+      inl (record {
+        walk = record { queue = q; next = next; stage = s; parts = parts };
+        is = record { sound = sound; stage = staged; inside = inside };
+        narrow = narrow;
+        queue = refl;
+        number = refl;
+        left = same;
+      })
 
-goes_if : (q : Queue) (next : ℕ) (test : Bool) (x y : Doing Walk) → (test ≡ true → WalkGoes q next x)
-    → (test ≡ false → WalkGoes q next y) → WalkGoes q next (if test then x else y)
-goes_if q next true x y on off = on refl
-goes_if q next false x y on off = off refl
+  goes_if : (test : Bool) (x y : Doing Walk) → (test ≡ true → WalkGoes sized q next x) → (test ≡ false → WalkGoes sized q next y)
+      → WalkGoes sized q next (if test then x else y)
+  goes_if true x y on off = on refl
+  goes_if false x y on off = off refl
 
-goes_unless : (q : Queue) (next : ℕ) (flaw : Option Why) (t : Doing Walk) → (flaw ≡ None → WalkGoes q next t)
-    → WalkGoes q next (unless_flawed flaw t)
-goes_unless q next (Some why) t fine = comes q next (Broken why) tt
-goes_unless q next None t fine = fine refl
+  goes_unless : (flaw : Option Why) (t : Doing Walk) → (flaw ≡ None → WalkGoes sized q next t)
+      → WalkGoes sized q next (unless_flawed flaw t)
+  goes_unless (Some why) t fine = comes (Broken why) tt
+  goes_unless None t fine = fine refl
 
-headed : (q : Queue) (next head : ℕ) → IsSound q → WalkGoes q next (headed_by q head)
-headed q next head sound =
-    goes_if q next (nat_le q.size head) _ _ (λ past. comes q next _ tt)
-    (λ below.
-    let size : q.size - 0 ≡ q.size = omega arith in
-    let there : head < q.size = grind (arith, below) in
-    walks q next (Link head head) [] _ sound (there, sound.some) tt
-    (ap (λ n. descriptors q head n head []) size))
+  headed : (head : ℕ) → IsSound q → WalkGoes sized q next (headed_by q head)
+  headed head sound =
+      goes_if (nat_le q.size head) _ _ (λ past. comes _ tt)
+      (λ below.
+      let size : q.size - 0 ≡ q.size = omega arith in
+      let there : head < q.size = grind (arith, below) in
+      let most = sound.most in
+      walks (Link head head) [] _ sound (there, sound.some) (λ is. omega (arith, there, most)) tt
+      (ap (λ n. descriptors q head n head []) size))
 
-indexed : (q : Queue) (next index : ℕ) → IsSound q → WalkGoes q next (indexed_by q next index)
-indexed q next index sound =
-    goes_if q next (index == next) _ _ (λ none. comes q next Empty tt)
-    (λ some. goes_if q next (nat_lt q.size ((index + 2 ^ 16 - next) % 2 ^ 16)) _ _ (λ ahead. comes q next _ tt)
-    (λ near. walks q next Ring [] _ sound refl tt refl))
+  indexed : (index : ℕ) → IsSound q → WalkGoes sized q next (indexed_by q next index)
+  indexed index sound =
+      goes_if (index == next) _ _ (λ none. comes Empty tt)
+      (λ some. goes_if (nat_lt q.size ((index + 2 ^ 16 - next) % 2 ^ 16)) _ _ (λ ahead. comes _ tt)
+      (λ near. walks Ring [] _ sound refl (λ is. tt) tt refl))
 
-described : (q : Queue) (next head : ℕ) (parts : List Part) (d : Descriptor) → IsSound q → length parts < q.size
-    → AreInside q.pages parts → WalkGoes q next (described_by q head (q.size - length parts - 1) parts d)
-described q next head parts d sound few inside =
-    let new : Part = record { at = d.at; len = d.len; writable = is_writable d } in
-    let longer = length-append parts (new ∷ []) in
-    goes_unless q next (descriptor_flaw q parts d) _ (λ none.
-    let all = part_inside q parts d (is_writable d) none inside in
-    goes_if q next (has_next d) _ _
-    (λ more.
-    let fits = next_fits q parts d none more in
-    let count : q.size - length (with_part parts d) ≡ q.size - length parts - 1 = omega (arith, longer) in
-    let room : length (with_part parts d) < q.size = omega (arith, longer, fits.1) in
-    walks q next (Link head d.next) (with_part parts d) _ sound (fits.0, room) all
-    (ap (λ n. descriptors q head n d.next (with_part parts d)) count))
-    (λ last. comes q next _ (all, omega (arith, longer, few, sound.most))))
+  described : (head : ℕ) (parts : List Part) (d : Descriptor) → IsSound q → (sized ≡ true → IsHead head) → length parts < q.size
+      → AreInside q.pages parts → WalkGoes sized q next (described_by q head (q.size - length parts - 1) parts d)
+  described head parts d sound narrow few inside =
+      let new : Part = record { at = d.at; len = d.len; writable = is_writable d } in
+      let longer = length-append parts (new ∷ []) in
+      goes_unless (descriptor_flaw q parts d) _ (λ none.
+      let all = part_inside q parts d (is_writable d) none inside in
+      goes_if (has_next d) _ _
+      (λ more.
+      let fits = next_fits q parts d none more in
+      let count : q.size - length (with_part parts d) ≡ q.size - length parts - 1 = omega (arith, longer) in
+      let room : length (with_part parts d) < q.size = omega (arith, longer, fits.1) in
+      walks (Link head d.next) (with_part parts d) _ sound (fits.0, room) narrow all
+      (ap (λ n. descriptors q head n d.next (with_part parts d)) count))
+      (λ last. comes _ (all, omega (arith, longer, few, sound.most), narrow)))
 
-goes_at : (s : Stage) (q : Queue) (next : ℕ) (parts : List Part) (reply : Reply) → IsSound q → IsStage s q parts
-    → AreInside q.pages parts → WalkGoes q next (led (left_at s q next parts) reply)
-goes_at Index q next parts reply sound is inside = indexed q next (field_at (read_bytes 2 reply) 0 2) sound
-goes_at Ring q next parts reply sound is inside = headed q next (field_at (read_bytes 2 reply) 0 2) sound
-goes_at (Link head at) q next parts reply sound is inside =
-    let w : Walking = record { queue = q; next = next; stage = Link head at; parts = parts } in
-    let d = descriptor_of (read_bytes 16 reply) in
-    subst (WalkGoes q next)
-    (told_link w head at reply More (described_by q head (q.size - length parts - 1) parts d) refl is refl)
-    (described q next head parts d sound is.1 inside)
+  goes_at : (s : Stage) (parts : List Part) (reply : Reply) → IsSound q → IsStage s q parts → (sized ≡ true → IsNarrowStage s)
+      → AreInside q.pages parts → WalkGoes sized q next (led (left_at s q next parts) reply)
+  goes_at Index parts reply sound is narrow inside = indexed (field_at (read_bytes 2 reply) 0 2) sound
+  goes_at Ring parts reply sound is narrow inside = headed (field_at (read_bytes 2 reply) 0 2) sound
+  goes_at (Link head at) parts reply sound is narrow inside =
+      let w : Walking = record { queue = q; next = next; stage = Link head at; parts = parts } in
+      let d = descriptor_of (read_bytes 16 reply) in
+      subst (WalkGoes sized q next)
+      (told_link w head at reply More (described_by q head (q.size - length parts - 1) parts d) refl is refl)
+      (described head parts d sound narrow is.1 inside)
 
-pub walk_goes : (w : Walking) (reply : Reply) → IsWalking w → WalkGoes w.queue w.next (led (walk_left w) reply)
-walk_goes w reply is = goes_at w.stage w.queue w.next w.parts reply is.sound is.stage is.inside
+pub walk_goes : (sized : Bool) (w : Walking) (reply : Reply) → IsWalking w → (sized ≡ true → IsNarrowStage w.stage)
+    → WalkGoes sized w.queue w.next (led (walk_left w) reply)
+walk_goes sized w reply is narrow = goes_at sized w.queue w.next w.stage w.parts reply is.sound is.stage narrow is.inside
 
 link_asks : (q : Queue) (head most at : ℕ) (parts : List Part) → 0 < most
     → asked (descriptors q head most at parts) ≡ Some (Read (q.descriptors + 16 * at) 16)

@@ -9,4 +9,5 @@ pub mod Resuming
 pub mod Rounds
 pub mod Timing
 pub mod Service
+pub mod Sizes
 pub mod Spilling

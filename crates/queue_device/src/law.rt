@@ -1,13 +1,13 @@
 // What holds of every kind of device with queues.
-ghost use Rattle.std.specs.Prelude.{◌≡◌, ◌<◌, ◌≤◌, ◌^◌, ℕ, true, List};
+ghost use Rattle.std.specs.Prelude.{◌≡◌, ◌<◌, ◌≤◌, ◌^◌, ℕ, Bool, true, List};
 ghost use Rattle.vm_types.specs.declared.reply.Reply.{Reply};
-ghost use Rattle.vm_types.specs.Fits.{Fits};
 ghost use Rattle.device_trace.specs.Script.{Ends, Script};
 ghost use Rattle.device_trace.specs.States.{Leads, changed_at, stepped, wants};
 ghost use Rattle.device_trace.specs.Traces.{Item};
 ghost use Rattle.queue_device.specs.Confined.{AreItsRounds, Confines, IsConfined, IsDeviceAct};
 ghost use Rattle.queue_device.specs.declared.lanes.Rounds.{Rounds};
 ghost use Rattle.queue_device.specs.declared.phase.Phase.{Phase};
+ghost use Rattle.queue_device.specs.declared.phase.Work.{Work};
 ghost use Rattle.queue_device.specs.Kept.{is_state};
 ghost use Rattle.queue_device.specs.Lanes.{new_rounds};
 ghost use Rattle.queue_device.specs.Left.{left_at, queued};
@@ -15,6 +15,7 @@ ghost use Rattle.queue_device.specs.Resuming.{HasKept, Resumes};
 ghost use Rattle.queue_device.specs.Rounds.{queue_rules};
 ghost use Rattle.queue_device.specs.Timing.{is_timed_left};
 ghost use Rattle.queue_device.specs.Service.{Queued};
+ghost use Rattle.queue_device.specs.Sizes.{IsReplyTo, IsSmallWrite};
 
 use crate::kind::Kind;
 
@@ -37,9 +38,9 @@ pub fn queue_stays<T: Kind>()
 /// What is left of a device in a state that it may be in is confined, where the kind keeps to its own: it asks for no act but
 /// its own inside RAM of so many pages, whatever is replied and changed, and no guest time inside a group.
 pub fn queue_kept<T: Kind>()
-    ensures { (p : Phase) (r : Rounds) (e : T.Own) (g : T.Stage) →
+    ensures { (sized : Bool) (p : Phase) (r : Rounds) (e : T.Own) (g : T.Stage) →
         Confines T.service T.changing T.times T.calls →
-        Resumes T.service T.hand T.is_work T.IsFine T.changing T.times T.calls →
+        Resumes T.service T.hand T.is_work T.IsFine sized T.changing T.times T.calls →
         is_state T.service T.times T.is_work p r g ≡ true →
         IsConfined T.service T.calls r.port r.pages (left_at T.service p (T.hand g) (queued r e)) }
 {}
@@ -53,24 +54,36 @@ pub fn queue_one<T: Kind>()
 {}
 
 /// What is kept of a device leads to what is kept of it, in a guest of at most 2^20 pages: behind each fitting reply, and behind
-/// each change that leaves the kind's data fine; and there is something for a device that has done nothing.
+/// each change that leaves the kind's data fine; and there is something for a device that has done nothing. Where each reply is
+/// small, `sized`, each number of what is kept has its width.
 pub fn queue_goes_on<T: Kind>()
-    ensures begins { (port pages : ℕ) (e : T.Own) → pages ≤ 2 ^ 20 →
+    ensures begins { (sized : Bool) (port pages : ℕ) (e : T.Own) → pages ≤ 2 ^ 20 →
         Confines T.service T.changing T.times T.calls →
-        Resumes T.service T.hand T.is_work T.IsFine T.changing T.times T.calls → T.IsFine e →
-        HasKept T.service T.hand T.is_work T.IsFine T.times port pages (Ends (queued (new_rounds port pages) e)) }
-    ensures reply { (port pages : ℕ) (t : Script (Queued T.Own)) (reply : Reply) →
+        Resumes T.service T.hand T.is_work T.IsFine sized T.changing T.times T.calls → T.IsFine e →
+        HasKept T.service T.hand T.is_work T.IsFine sized T.times port pages (Ends (queued (new_rounds port pages) e)) }
+    ensures reply { (sized : Bool) (port pages : ℕ) (t : Script (Queued T.Own)) (reply : Reply) →
         pages ≤ 2 ^ 20 → Confines T.service T.changing T.times T.calls →
-        Resumes T.service T.hand T.is_work T.IsFine T.changing T.times T.calls →
-        HasKept T.service T.hand T.is_work T.IsFine T.times port pages t →
-        Fits (wants (queue_rules T.service T.changing) t) reply →
-        HasKept T.service T.hand T.is_work T.IsFine T.times port pages
+        Resumes T.service T.hand T.is_work T.IsFine sized T.changing T.times T.calls →
+        HasKept T.service T.hand T.is_work T.IsFine sized T.times port pages t →
+        IsReplyTo sized (wants (queue_rules T.service T.changing) t) reply →
+        HasKept T.service T.hand T.is_work T.IsFine sized T.times port pages
         (stepped (queue_rules T.service T.changing) t reply) }
-    ensures change { (port pages : ℕ) (t : Script (Queued T.Own)) (c : T.Change) →
+    ensures change { (sized : Bool) (port pages : ℕ) (t : Script (Queued T.Own)) (c : T.Change) →
         pages ≤ 2 ^ 20 → Confines T.service T.changing T.times T.calls →
-        Resumes T.service T.hand T.is_work T.IsFine T.changing T.times T.calls →
-        HasKept T.service T.hand T.is_work T.IsFine T.times port pages t →
+        Resumes T.service T.hand T.is_work T.IsFine sized T.changing T.times T.calls →
+        HasKept T.service T.hand T.is_work T.IsFine sized T.times port pages t →
         ((e : T.Own) → T.IsFine e → T.IsFine (T.changing.between c e) × T.IsFine (T.changing.inside c e)) →
-        HasKept T.service T.hand T.is_work T.IsFine T.times port pages
+        HasKept T.service T.hand T.is_work T.IsFine sized T.times port pages
         (changed_at (queue_rules T.service T.changing) c t) }
+{}
+
+/// What a device writes are bytes, in a guest of at most 2^20 pages, where the kind's own acts and its question write bytes.
+pub fn queue_writes<T: Kind>()
+    ensures { (sized : Bool) (port pages : ℕ) (t : Script (Queued T.Own)) →
+        pages ≤ 2 ^ 20 → Confines T.service T.changing T.times T.calls →
+        Resumes T.service T.hand T.is_work T.IsFine sized T.changing T.times T.calls →
+        ((e : T.Own) → IsSmallWrite (T.service.question e)) →
+        ((w : Work) (g : T.Stage) → T.is_work w pages g ≡ true → IsSmallWrite (T.hand g).op) →
+        HasKept T.service T.hand T.is_work T.IsFine sized T.times port pages t →
+        IsSmallWrite (wants (queue_rules T.service T.changing) t) }
 {}

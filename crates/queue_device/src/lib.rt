@@ -25,7 +25,7 @@ pub use chain::{SoundQueue, TakenChain, TakenParts};
 pub use device::QueueRounds;
 pub use kind::{Begin, Kind};
 pub use lanes::{Due, Lane, Rounds, Which, is_running};
-pub use law::{queue_goes_on, queue_kept, queue_one, queue_stays};
+pub use law::{queue_goes_on, queue_kept, queue_one, queue_stays, queue_writes};
 pub use phase::{InHand, Phase, Work};
 pub use spill::Spill;
 pub use valid::is_state;

@@ -1,5 +1,5 @@
 -- The load of a chain is answered, and leaves a machine that is alike with the one that the last create left.
-use Rattle.std.proofs.Common.{◌≡◌, true, false, List, [], ◌∷◌, Option, is_some, Result, Ok, inl, inr, sym, ap, subst, ◌∙◌}
+use Rattle.std.proofs.Common.{◌≡◌, ◌<◌, ◌^◌, true, false, List, [], ◌∷◌, Option, is_some, Result, Ok, inl, inr, sym, ap, subst, ◌∙◌}
 use Rattle.refusals.specs.declared.refusal.Refusal.{Refusal}
 use Rattle.http_stream.specs.Stream.{Connection}
 use Rattle.http_stream.specs.Conversation.{arrived}
@@ -11,8 +11,6 @@ use Rattle.api_rules.specs.declared.answer.Answer.{Answer}
 use Rattle.vm_config.specs.declared.change.Change.{Change}
 use Rattle.vm_config.specs.declared.change.Change.TheVariants as change
 use Rattle.response_form.specs.Responses.{Response}
-use Rattle.file_format.specs.Versions.{current_version}
-use Rattle.snap_state.specs.Files.{contents, contents_of}
 use Rattle.snap_state.specs.declared.copy.StateCopy.{StateCopy}
 use Rattle.flat_guest.specs.Changes.{reset_guest}
 use Rattle.flat_guest.specs.Guest.{Guest, unwritten}
@@ -64,10 +62,6 @@ module _ (trace_ready : TraceReady) where
         IsSaving s.asked.snapshot_type (record { asked = s.asked; before = s.before; after = s.after; guest = reset_guest is.had; copy = copy })
         × AreAlike (unwritten (reset_guest is.had)) (carried_guest copy is.had.memory.bytes)
 
-    -- each number of such a copy fits its field
-    abbrev FitsOf : StateCopy → Type 0
-    FitsOf copy = (contents current_version).Fits (contents_of current_version (record { identity = next_identity s.before; copy = copy }))
-
     ready : Ready s.before
     ready = inside_ready is.between s.before is.inside (led_ready is.between is.led)
 
@@ -84,8 +78,8 @@ module _ (trace_ready : TraceReady) where
     chained : Chained s.copy
     chained =
         let some = some_saving s.before s.after is.had is.given s.asked s.copy.devices is.said ready is.there is.allows is.step in
-        let same : some.0 ≡ s.copy = same_copy s.before.config (reset_guest is.had) some.0 s.copy some.2 some.1 of_had in
-        subst (λ (copy : StateCopy). FitsOf copy → Chained copy) same (λ fits. let both = some.3 fits in (both.0, both.1 on)) is.fits
+        let same : some.0 ≡ s.copy = same_copy s.before.config (reset_guest is.had) some.0 s.copy some.1 some.2.is_copy of_had in
+        subst (λ (copy : StateCopy). Chained copy) same (some.2, some.3 on)
 
     pub saving_is : IsSaving type s
     saving_is =
@@ -93,14 +87,14 @@ module _ (trace_ready : TraceReady) where
         (subst (λ (g : Guest). IsSaving s.asked.snapshot_type (record { asked = s.asked; before = s.before; after = s.after; guest = g; copy = s.copy }))
         (sym is.guest_is) chained.0)
 
-    pub answered_alike : (k : Machine) (load : SnapshotLoad) (c : Connection)
+    pub answered_alike : (k : Machine) (load : SnapshotLoad) (c : Connection) → k.ids.lineage < 2 ^ 64
         → Alike [] (record (as_loaded s.after k load) { connection = c }) (record (carried k load (snapshot_of s)) { connection = c })
-    answered_alike k load c =
+    answered_alike k load c small =
         let saving = saving_is in
         subst (λ (g : Guest). Alike [] (record (as_loaded s.after k load) { connection = c })
         (record (carried k load (record { identity = next_identity s.before; copy = s.copy; bytes = g.memory.bytes })) { connection = c }))
         (sym is.guest_is)
-        (loaded_alike s.before s.after k is.had s.asked load s.copy c ready configured is.there of_had saving.leaves chained.1)
+        (loaded_alike s.before s.after k is.had s.asked load s.copy c ready configured small is.there of_had saving.leaves chained.1)
 
   pub diffs_lead : (first : Saving) (savings : List Saving) (last : Saving) → AnsweredLead first savings last → DiffsLead first savings last
   diffs_lead first [] last same = same
@@ -148,4 +142,4 @@ module _ (trace_ready : TraceReady) where
     restored_alike c =
         let at_last = last_answered snapshot.Full first savings last is.full is.leads in
         subst (λ (q : Machine). Alike [] (record (as_loaded last.after k load) { connection = c }) (record q { connection = c })) (sym carried_is)
-        (answered_alike at_last.0 last at_last.1 k load c)
+        (answered_alike at_last.0 last at_last.1 k load c is.lineage)

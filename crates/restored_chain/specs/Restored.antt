@@ -1,9 +1,8 @@
 -- A full snapshot and its later diffs, created by machines that run, merged by calls of the merge command, and loaded.
-use Rattle.std.specs.Prelude.{◌≡◌, ◌⊎◌, ◌≤◌, ℕ, false, List, [], ◌∷◌, length, map, Option, Some, Ok}
+use Rattle.std.specs.Prelude.{◌≡◌, ◌⊎◌, ◌<◌, ◌≤◌, ℕ, ◌^◌, false, List, [], ◌∷◌, length, map, Option, Some, Ok}
 use Rattle.std.specs.FinMap.{get}
 use Rattle.vm_types.specs.Saved.{Saved}
 use Rattle.vm_outside.specs.Calls.{FileCall}
-use Rattle.file_format.specs.Versions.{current_version}
 use Rattle.http_stream.specs.declared.request.Next.{Next}
 use Rattle.api_calls.specs.declared.call.SnapshotLoad.{SnapshotLoad}
 use Rattle.api_calls.specs.declared.call.SnapshotType.{SnapshotType}
@@ -11,7 +10,6 @@ use Rattle.api_calls.specs.declared.call.SnapshotType.TheVariants as snapshot
 use Rattle.vm_config.specs.declared.change.Change.TheVariants as change
 use Rattle.response_form.specs.Responses.{Response}
 use Rattle.guest_devices.specs.declared.device.Device.{Device}
-use Rattle.snap_state.specs.Files.{contents, contents_of}
 use Rattle.flat_guest.specs.Changes.{reset_guest}
 use Rattle.flat_guest.specs.Guest.{Guest}
 use Rattle.flat_snapshot.specs.Copies.{IsCopyOf}
@@ -21,7 +19,7 @@ use Rattle.flat_machine.specs.Requests.{RequestStep, allowed, decided}
 use Rattle.flat_machine.specs.Run.{Act, Run}
 use Rattle.flat_trace.specs.Showing as trace
 use Rattle.flat_trace.specs.Showing.{Out}
-use Rattle.snapshot_chain.specs.Chains.{Follows, IsInside, Saving, identity_of, memory_text, state_text}
+use Rattle.snapshot_chain.specs.Chains.{Follows, IsInside, Saving, memory_text, state_text}
 use Rattle.restored_chain.specs.Merged.{MergeCalls}
 
 -- a run, or a trace, leads to this machine from one that had not started
@@ -32,7 +30,7 @@ IsLedTo m =
     ⊎ ((outs : List Out) × trace.Run acts (new_machine id saved calls) outs m))
 
 -- A create of this type, inside an item of a run or of a trace, before which the guest is on; the machine answered it. The guest was
--- reset, and the copy of that has what was kept of its devices; each number of the copy fits its field of a state file.
+-- reset, and the copy of that has what was kept of its devices.
 pub record IsAnswered (type : SnapshotType) (s : Saving) : Type 0 where
   pub type_is : s.asked.snapshot_type ≡ type
   pub between : Machine
@@ -47,7 +45,6 @@ pub record IsAnswered (type : SnapshotType) (s : Saving) : Type 0 where
   pub allows : allowed s.before given ≡ Ok (change.CreateSnapshot s.asked)
   pub step : RequestStep (Answered s.copy.devices) given s.before said s.after
   pub is_copy : IsCopyOf s.before.config s.guest s.copy
-  pub fits : (contents current_version).Fits (contents_of current_version (record { identity = identity_of s; copy = s.copy }))
 
 -- diffs that were answered, each since the create before it, up to the last
 abbrev pub AnsweredLead : Saving → List Saving → Saving → Type 0
@@ -55,8 +52,8 @@ AnsweredLead first [] last = first ≡ last
 AnsweredLead first (s ∷ savings) last = IsAnswered snapshot.Diff s × Follows first s × AnsweredLead s savings last
 
 -- A full create, and diffs since it. Calls of the merge command merged what the diffs wrote into what the full one wrote, in
--- order. A machine in whose files stand what they left, and the last create's state file, is asked to load both, and answered
--- that so, and is this machine then.
+-- order. A machine whose lineage has 64 bits, in whose files stand what they left, and the last create's state file, is asked to
+-- load both, and answered that so, and is this machine then.
 pub record IsRestored (first : Saving) (savings : List Saving) (last : Saving) (k : Machine) (load : SnapshotLoad)
     (said : List Response) (p : Machine) : Type 0 where
   pub full : IsAnswered snapshot.Full first
@@ -69,6 +66,7 @@ pub record IsRestored (first : Saving) (savings : List Saving) (last : Saving) (
   pub name : List ℕ
   pub left : Option (List ℕ)
   pub merges : MergeCalls name files (Some base) left
+  pub lineage : k.ids.lineage < 2 ^ 64
   pub memory : get k.saved load.files.mem_file_path ≡ left
   pub state : get k.saved load.files.snapshot_path ≡ state_text last
   pub given : Next

@@ -1,5 +1,12 @@
-pub mod Lengths
+pub mod BalloonFits
+pub mod BalloonNarrow
+pub mod Fits
 pub mod Forms
+pub mod Held
+pub mod Lengths
+pub mod Narrow
+pub mod PieceFits
+pub mod Ports
 pub mod Reading
 pub mod Writing
 pub mod Three

@@ -22,7 +22,7 @@ use Rattle.std.specs.Option.{option_and_then, option_map}
 use Rattle.std.specs.Str.{bytes_eq}
 use Rattle.gate_file.specs.Reading.{start_of}
 use Rattle.flat_snapshot.specs.Found.{state_found, state_in, state_read}
-use Rattle.snap_finding.proofs.Longest.{accepted_short}
+use Rattle.snap_state.proofs.Longest.{accepted_short}
 use Rattle.snap_finding.specs.declared.finding.FindError.{FindError}
 use Rattle.snap_finding.specs.declared.finding.FindError.TheVariants.{Refused, Fault, OutOfMemory}
 use Rattle.snap_finding.specs.Finding.{Answers, most_bytes, said_length, size_found, size_judged, size_of, state_of}

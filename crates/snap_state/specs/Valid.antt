@@ -6,7 +6,7 @@ use Rattle.api_calls.specs.declared.balloon.Balloon as balloon
 use Rattle.api_calls.specs.declared.call.Drive.{Drive}
 use Rattle.api_calls.specs.declared.call.MachineConfig.{MachineConfig}
 use Rattle.api_calls.specs.Drives.{is_root}
-use Rattle.api_calls.specs.Form.{holds, is_id, is_path}
+use Rattle.api_calls.specs.Form.{holds, is_id, is_path, is_short_text}
 use Rattle.api_calls.specs.Limits.{is_limiter}
 use Rattle.vm_config.specs.Devices.{Configured, count_in, devices_in, of_balloon, of_drive}
 use Rattle.vm_config.specs.Drives.{id_of_drive}
@@ -45,7 +45,7 @@ are_paths (Some path) = is_path path
 
 -- paths of 1 to 4,095 bytes without a NUL, and at most 2,048 bytes of arguments
 abbrev pub is_source : BootSource → Bool
-is_source b = is_path b.kernel_image_path && are_paths b.initrd_path && nat_le (length b.boot_args) 2048
+is_source b = is_path b.kernel_image_path && are_paths b.initrd_path && is_short_text 2048 b.boot_args
 
 -- 1 to 32 harts, and 4 to 1,024 MiB
 abbrev pub is_machine : MachineConfig → Bool

@@ -1,8 +1,8 @@
 // Which copies there are.
-ghost use Rattle.std.specs.Prelude.{◌≡◌, ◌==◌, ◌&&◌, ◌≤◌, Option, List, ℕ, length};
+ghost use Rattle.std.specs.Prelude.{◌≡◌, ◌==◌, ◌&&◌, ◌≤◌, Option, List, ℕ, length, nat_le};
 ghost use Rattle.std.specs.List.{list_all};
 ghost use Rattle.std.specs.Option.{option_copied};
-ghost use Rattle.api_calls.specs.Form.{has_path_bytes, is_path};
+ghost use Rattle.api_calls.specs.Form.{has_path_bytes, is_path, is_short_text};
 ghost use Rattle.snap_state.specs.Valid.{are_paths, is_source, is_machine, is_board, is_counted, is_aligned};
 ghost use Rattle.snap_state.specs.Valid.{has_bits, is_granule, asks, is_placed, is_hart, is_reserved};
 ghost use Rattle.snap_state.specs.Valid.{is_before, is_rising, has_machine, has_devices, is_valid};
@@ -24,11 +24,23 @@ use vm_types::TextList;
 
 const RING_SIZE: usize = 4096;
 
-fn has_path_bytes(path: &str) -> bool
-    ensures { result ≡ has_path_bytes path.now }
+fn has_path_bytes(text: &str) -> bool
+    ensures { result ≡ has_path_bytes text.now }
 {
-    let bytes = path.as_bytes();
+    let bytes = text.as_bytes();
     0 < bytes.len() && bytes.len() <= 4095 && !bytes.contains(&0)
+}
+
+fn is_within(most: usize, text: &str) -> bool
+    ensures { result ≡ nat_le (length text.now) most }
+{
+    text.len() <= most
+}
+
+fn is_short_text(most: usize, text: &str) -> bool
+    ensures { result ≡ is_short_text most text.now }
+{
+    is_within(most, text)
 }
 
 /// Whether this is the name of a file: 1 to 4,095 bytes of UTF-8 without a NUL.
@@ -52,7 +64,7 @@ fn is_source(source: &BootSource) -> bool
 {
     is_path(source.kernel_image_path.as_str())
         && are_paths(&source.initrd_path)
-        && source.boot_args.as_bytes().len() <= 2048
+        && is_short_text(2048, source.boot_args.as_str())
 }
 
 fn is_machine(machine: &MachineConfig) -> bool

@@ -15,6 +15,8 @@ use Rattle.snap_diff.specs.Copies.{IsDiffOf, LeadBy}
 use Rattle.snap_diff.specs.Diffs.{IsDiffFile}
 use Rattle.snap_diff.specs.Headers as diffs
 use Rattle.snapshot_merge.specs.Memories.{IsMemoryFile}
+use Rattle.file_format.specs.Versions.{current_version}
+use Rattle.snap_state.specs.Files.{IsSaved}
 use Rattle.flat_guest.specs.Changes.{reset_guest}
 use Rattle.flat_guest.specs.Guest.{Guest, unwritten}
 use Rattle.flat_snapshot.specs.Carried.{carried_guest}
@@ -28,7 +30,8 @@ use Rattle.flat_machine.specs.Between.{GoesOn, NoCreate, SomeCreate}
 use Rattle.flat_machine.specs.Machine.{Machine}
 use Rattle.flat_machine.specs.Requests.{created, parent_in, parent_of}
 use Rattle.flat_machine.proofs.Between.{front_on, joined, run_on}
-use Rattle.flat_machine.proofs.Carries.{created_is}
+use Rattle.flat_machine.proofs.Carries.{created_is, saved_is}
+use Rattle.flat_machine.proofs.Fields.{new_fits}
 use Rattle.snapshot_chain.specs.Chains.{DiffsLead, Follows, IsInside, IsLeft, IsLoaded, IsSaving, Saving, diff_since, identity_of, memory_of, memory_text, state_text, steps_of}
 
 -- ---- what stands under the two names
@@ -39,6 +42,15 @@ module _ (type : SnapshotType) (s : Saving) (is : IsSaving type s) where
       created_is s.before s.after is.had s.asked s.copy is.there
       (subst (λ (g : Guest). IsCopyOf s.before.config g s.copy) is.guest_is is.is_copy) is.leaves
       ∙ ap (λ (g : Guest). created s.before g s.asked.files (parent_in s.before s.asked) s.copy) (sym is.guest_is)
+
+  -- the copy is one that a state file can have, and so is the header of its memory
+  pub copy_saved : IsSaved current_version (record { identity = identity_of s; copy = s.copy })
+  copy_saved =
+      saved_is s.before s.after is.had s.asked s.copy is.there
+      (subst (λ (g : Guest). IsCopyOf s.before.config g s.copy) is.guest_is is.is_copy) is.leaves
+
+  pub fits : memory.header.Fits (memory.new_header s.copy.pages (identity_of s))
+  fits = new_fits (identity_of s) s.copy copy_saved
 
   pub state_is : state_text s ≡ Some (state_file (identity_of s) s.copy)
   state_is =
@@ -65,8 +77,8 @@ full_file s is = (
   record {
     head = memory.new_header s.copy.pages (identity_of s);
     holds = record {
-      fits = is.fits;
-      valid = new_valid s.copy.pages (identity_of s) is.saved.numbered;
+      fits = fits snapshot.Full s is;
+      valid = new_valid s.copy.pages (identity_of s) (copy_saved snapshot.Full s is).numbered;
       pages = refl;
       identity = refl;
       whole = is.whole;
@@ -94,10 +106,6 @@ header_fits pages count parent own of few fits =
     let small = fits.1.1.0 in
     (refl, (refl, (small, (of, (fits.1.1.1.0, (omega (arith, few, small), tt))))))
 
-pub identity_fits : (pages : ℕ) (own : Identity) → memory.header.Fits (memory.new_header pages own) → identity.Fits own
-unfolding memory.header
-identity_fits pages own fits = fits.1.1.1.0
-
 module _ (s : Saving) (parent : Identity) (is : IsSaving snapshot.Diff s) (base : s.before.ids.base ≡ Some parent) (of : identity.Fits parent)
     (numbered : IsTrue (is_numbered parent)) (other : parent ≢ identity_of s) where
   pub diff_text : memory_text s ≡ Some (diff_file (diff_since parent s))
@@ -106,8 +114,8 @@ module _ (s : Saving) (parent : Identity) (is : IsSaving snapshot.Diff s) (base 
   pub diff_is_file : IsDiffFile (diff_file (diff_since parent s)) (diff_since parent s)
   diff_is_file =
       is_file parent (identity_of s) s.copy.pages s.guest
-      (header_fits s.copy.pages (length (diff_since parent s).numbers) parent (identity_of s) of (written_few s.guest.written 0 s.copy.pages) is.fits)
-      (all_three (is_numbered parent) (is_numbered (identity_of s)) (is_same parent (identity_of s)) numbered is.saved.numbered (differs parent (identity_of s) other))
+      (header_fits s.copy.pages (length (diff_since parent s).numbers) parent (identity_of s) of (written_few s.guest.written 0 s.copy.pages) (fits snapshot.Diff s is))
+      (all_three (is_numbered parent) (is_numbered (identity_of s)) (is_same parent (identity_of s)) numbered (copy_saved snapshot.Diff s is).numbered (differs parent (identity_of s) other))
       is.whole
 
 -- ---- a machine that goes on from a create

@@ -15,7 +15,7 @@ use Rattle.create_lists.specs.Listed.{AreCreates, AreFilesOf, Create, IsAmong, d
 use Rattle.snapshot_chain.specs.Chains as chains
 use Rattle.snapshot_chain.specs.Chains.{DiffsLead, IsSaving, Saving, identity_of, memory_text, state_text}
 use Rattle.snapshot_chain.specs.Listed.{create_of, creates_of, diffs_from}
-use Rattle.snapshot_chain.proofs.Created.{diff_is_file, diff_text, full_file, full_text, is_diff, number_rises, state_is}
+use Rattle.snapshot_chain.proofs.Created.{copy_saved, diff_is_file, diff_text, full_file, full_text, is_diff, number_rises, state_is}
 
 -- ---- its files
 
@@ -24,7 +24,7 @@ same_text x y o first second = let same : ◌≡◌ {A = Option (List ℕ)} (Som
 
 state_encodes : (type : SnapshotType) (s : Saving) (base : Option Identity) → IsSaving type s → Encodes (state_file (identity_of s) s.copy) (saved_of (create_of base s))
 unfolding state_body
-state_encodes type s base is = record { saved = is.saved; bytes = refl }
+state_encodes type s base is = record { saved = copy_saved type s is; bytes = refl }
 
 module _ (s : Saving) (memory state : Target) (of_memory : memory_text s ≡ Some (text_of memory)) (of_state : state_text s ≡ Some (text_of state)) where
   state_of : (type : SnapshotType) (base : Option Identity) → IsSaving type s → Encodes (text_of state) (saved_of (create_of base s))

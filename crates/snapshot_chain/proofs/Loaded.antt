@@ -27,7 +27,7 @@ use Rattle.flat_snapshot.proofs.Loaded.{created, found_in}
 use Rattle.flat_machine.specs.Machine.{Machine}
 use Rattle.flat_machine.specs.Requests.{Leaves, Restores, allowed, by_contents, carried, decided}
 use Rattle.snapshot_chain.specs.Chains.{DiffsLead, IsSaving, Saving, diff_since, identity_of, memory_of, memory_text, snapshot_of, state_text, steps_of}
-use Rattle.snapshot_chain.proofs.Created.{diff_is_file, diff_text, full_file, full_text, identity_fits, is_other, lead, state_is}
+use Rattle.snapshot_chain.proofs.Created.{copy_saved, diff_is_file, diff_text, full_file, full_text, is_other, lead, state_is}
 
 -- ---- the files of the diffs
 
@@ -51,12 +51,13 @@ are_files type first last (s ∷ savings) [] of led texts = absurd cc
 are_files type first last (s ∷ savings) (file ∷ files) of (is, follows, rest) texts =
     let parent : Identity = identity_of first in
     let base = follows.base in
-    let fits = identity_fits first.copy.pages parent of.fits in
+    let own = copy_saved type first of in
+    let fits = own.fits.1.0 in
     let other = is_other type first s of is follows in
-    let text = diff_text s parent is base fits of.saved.numbered other in
+    let text = diff_text s parent is base fits own.numbered other in
     let same : diff_file (diff_since parent s) ≡ file =
     some_same (diff_file (diff_since parent s)) file (sym text ∙ heads_same (memory_text s) (Some file) (map (λ s. memory_text s) savings) (map (λ file. Some file) files) texts) in (
-      subst (λ (t : List ℕ). IsDiffFile t (diff_since parent s)) same (diff_is_file s parent is base fits of.saved.numbered other),
+      subst (λ (t : List ℕ). IsDiffFile t (diff_since parent s)) same (diff_is_file s parent is base fits own.numbered other),
       are_files snapshot.Diff s last savings files is rest (tails_same (memory_text s) (Some file) (map (λ s. memory_text s) savings) (map (λ file. Some file) files) texts),
     )
 
@@ -100,7 +101,7 @@ module _ (first last : Saving) (savings : List Saving) (base : List ℕ) (files 
         let of = last_type snapshot.Full first last savings is led in
         let file = merged_file in
         found_in saved names (identity_of last) last.copy (state_file (identity_of last) last.copy) last.guest.memory.bytes file.head
-        (created (identity_of last) last.copy of.1.saved) file.holds.fits file.holds.valid file.settled file.holds.pages
+        (created (identity_of last) last.copy (copy_saved of.0 last of.1)) file.holds.fits file.holds.valid file.settled file.holds.pages
         file.holds.identity file.holds.whole (state_there ∙ state_is of.0 last of.1) (memory_there ∙ ap (λ (t : List ℕ). Some t) file.holds.bytes)
 
     -- so a load that the machine allows is answered

@@ -102,7 +102,7 @@ started_on (Some image) disk m on = refl
 create_on : (guest : Option Guest) (m : Machine) (it : SnapshotCreate) (kept : List Device) (n : Machine) → off_by guest ≡ false → On m
     → Creates guest m it kept n → On n
 create_on None m it kept n own on x = on_is m n x.1 on
-create_on (Some g) m it kept n own on (copy, of, tells, is) = ap is_off is ∙ own
+create_on (Some g) m it kept n own on (copy, of, tells, saved, is) = ap is_off is ∙ own
 
 load_on : (it : Result Snapshot Refusal) (m : Machine) (load : SnapshotLoad) (n : Machine) → On m → Restores it m load n → On n
 load_on (Ok it) m load n on is = ap is_off is

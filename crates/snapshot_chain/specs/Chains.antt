@@ -11,11 +11,8 @@ use Rattle.api_calls.specs.declared.call.SnapshotType.TheVariants as snapshot
 use Rattle.guest_memory.specs.Ram.{page_size}
 use Rattle.flat_guest.specs.Changes.{reset_guest}
 use Rattle.flat_guest.specs.Guest.{Guest}
-use Rattle.snap_memory.specs.Headers.{header, new_header}
 use Rattle.snap_diff.specs.Copies.{DiffCopy, DiffStep, MemoryCopy}
 use Rattle.snap_state.specs.declared.copy.StateCopy.{StateCopy}
-use Rattle.file_format.specs.Versions.{current_version}
-use Rattle.snap_state.specs.Files.{IsSaved}
 use Rattle.flat_snapshot.specs.Copies.{IsCopyOf}
 use Rattle.flat_snapshot.specs.Files.{diff_in, memory_in}
 use Rattle.flat_snapshot.specs.Found.{Snapshot}
@@ -40,7 +37,7 @@ abbrev pub identity_of : Saving → Identity
 identity_of s = next_identity s.before
 
 -- It is of this type, it reset the guest that the machine had, it put the copy of that under two names, and it left the machine
--- after it. The copy is one that the files can have, and the memory is all of its pages.
+-- after it. The memory is all of the copy's pages.
 pub record IsSaving (type : SnapshotType) (s : Saving) : Type 0 where
   pub type_is : s.asked.snapshot_type ≡ type
   pub had : Guest
@@ -48,8 +45,6 @@ pub record IsSaving (type : SnapshotType) (s : Saving) : Type 0 where
   pub guest_is : s.guest ≡ reset_guest had
   pub names : s.asked.files.mem_file_path ≢ s.asked.files.snapshot_path
   pub is_copy : IsCopyOf s.before.config s.guest s.copy
-  pub saved : IsSaved current_version (record { identity = identity_of s; copy = s.copy })
-  pub fits : header.Fits (new_header s.copy.pages (identity_of s))
   pub whole : length s.guest.memory.bytes ≡ page_size * s.copy.pages
   pub leaves : Creates s.before.guest s.before s.asked s.copy.devices s.after
 

@@ -14,15 +14,12 @@ ghost use Rattle.file_format.specs.Identities.{identity, is_numbered};
 ghost use Rattle.snap_diff.specs.Copies.{LeadBy};
 ghost use Rattle.snap_diff.specs.Diffs.{IsDiffFile};
 ghost use Rattle.snap_state.specs.declared.copy.StateCopy.{StateCopy};
-ghost use Rattle.file_format.specs.Versions.{current_version};
-ghost use Rattle.snap_state.specs.Files.{contents, contents_of};
 ghost use Rattle.guest_devices.specs.declared.device.Device.{Device};
 ghost use Rattle.response_form.specs.Responses.{Response};
 ghost use Rattle.snapshot_merge.specs.InOrder.{MergeAll};
 ghost use Rattle.snapshot_merge.specs.Memories.{IsMemoryFile};
 ghost use Rattle.flat_snapshot.specs.Files.{state_file};
 ghost use Rattle.flat_snapshot.specs.Found.{found};
-ghost use Rattle.flat_snapshot.specs.Copies.{IsCopyOf};
 ghost use Rattle.flat_guest.specs.Changes.{reset_guest};
 ghost use Rattle.flat_guest.specs.Guest.{Guest, unwritten};
 ghost use Rattle.flat_guest.specs.Same.{AreAlike};
@@ -32,7 +29,7 @@ ghost use Rattle.flat_machine.specs.Items.{Talks};
 ghost use Rattle.flat_machine.specs.Outcome.{Outcome};
 ghost use Rattle.flat_machine.specs.Outcome.Outcome.{Answered};
 ghost use Rattle.flat_machine.specs.Ready.{Ready};
-ghost use Rattle.flat_machine.specs.Requests.{Leaves, RequestStep, allowed, carried, decided, next_identity};
+ghost use Rattle.flat_machine.specs.Requests.{Leaves, RequestStep, allowed, carried, decided};
 ghost use Rattle.snapshot_chain.specs.Chains.{
   DiffsLead,
   IsInside,
@@ -60,18 +57,16 @@ pub fn created_files()
         state_text s ≡ Some (state_file (identity_of s) s.copy) }
 {}
 
-/// A create that a ready machine answers is one of a chain, where each number of its copy fits its field of a state file: the
-/// copy, with the devices as they were kept, passes every test of a load, its memory is all of its pages, its number is one that
-/// files can have, and its two names differ. The guest is reset first, and so it is saved. If it is on, the guest that goes on from
-/// the snapshot is alike with the one that was saved, as it went on.
+/// A create that a ready machine answers is one of a chain: the copy, with the devices as they were kept, is one that a state file
+/// can have, its memory is all of its pages, and its two names differ. The guest is reset first, and so it is saved. If it is on, the
+/// guest that goes on from the snapshot is alike with the one that was saved, as it went on.
 pub fn answered_creates()
     ensures { (m n : Machine) (g : Guest) (given : Next) (it : SnapshotCreate) (kept : List Device) (said : List Response) →
         Ready m → m.guest ≡ Some g → allowed m given ≡ Ok (change.CreateSnapshot it) →
         RequestStep (Answered kept) given m said n →
-        (copy : StateCopy) × IsCopyOf m.config (reset_guest g) copy × (copy.devices ≡ kept)
-        × ((contents current_version).Fits (contents_of current_version (record { identity = next_identity m; copy = copy })) →
-        IsSaving it.snapshot_type (record { asked = it; before = m; after = n; guest = reset_guest g; copy = copy })
-        × (g.board.off ≡ false → AreAlike (unwritten (reset_guest g)) (carried_guest copy g.memory.bytes))) }
+        (copy : StateCopy) × (copy.devices ≡ kept)
+        × IsSaving it.snapshot_type (record { asked = it; before = m; after = n; guest = reset_guest g; copy = copy })
+        × (g.board.off ≡ false → AreAlike (unwritten (reset_guest g)) (carried_guest copy g.memory.bytes)) }
 {}
 
 /// A machine that is ready before an item is ready inside it, and so at each create of it. No request turns a guest off: where
@@ -95,7 +90,7 @@ pub fn diffs_of_creates()
 /// create: its guest, its configuration and its identity, and the bytes of all its pages. The load finds the snapshot, and so
 /// where the machine allows it, it is answered, and not refused by its files. Each diff is of the machine that
 /// made the snapshot before it and went on, or of one in any process that loaded that, merged so far. Of each create it is
-/// asked that its copy is one that a state file can have, that its memory is all of its pages, and that its names differ.
+/// asked that its memory is all of its pages, and that its names differ.
 pub fn merged_then_load()
     ensures merges { (first last : Saving) (savings : List Saving) (base : List ℕ) (files : List (List ℕ)) →
         IsSaving snapshot.Full first → DiffsLead first savings last → length savings ≤ 100 →

@@ -22,7 +22,9 @@ use Rattle.queue_device.specs.Acting.{Acting, Comes, performing}
 use Rattle.queue_device.specs.Chains.{Chain}
 use Rattle.queue_device.specs.Confined.{IsChain}
 use Rattle.queue_device.specs.Resuming.{Goes, IsShortChain, IsShortTaken, Resumes, answering_of, serving_of, taking_of}
+use Rattle.queue_device.specs.Sizes.{IsLength}
 use Rattle.queue_device.proofs.Acting.{performing_acts}
+use Rattle.queue_device.proofs.Never.{never}
 use Rattle.queue_device.proofs.Pieces.{collect_asks, collect_next, filter_few, more_of, past_few, put_asks, put_next}
 use Rattle.vsock_packet.specs.declared.header.Header.{Header}
 use Rattle.vsock_packet.specs.declared.operation.Operation.{Operation}
@@ -54,16 +56,17 @@ use Rattle.vsock_device.proofs.StagesStay.{answering_stays, serving_stays}
 
 module _ (pages : ℕ) where
   abbrev Answers : Acting Vsock Bool → Type 0
-  Answers t = Goes vsock hand_of is_work AnyVsock answering_of work.Answer pages Any t
+  Answers t = Goes vsock hand_of is_work AnyVsock false answering_of work.Answer pages Any t
 
   abbrev Serves : Which → Acting Vsock (Option ℕ) → Type 0
-  Serves k t = Goes vsock hand_of is_work AnyVsock serving_of (work.Serve k) pages Any t
+  Serves k t = Goes vsock hand_of is_work AnyVsock false serving_of (work.Serve k) pages (IsLength false) t
 
   told_by : (e : Vsock) (received : Bool) → Answers (Comes e received)
   told_by e received = inr (record { own = e; result = received; fine = tt; is = tt; left = refl })
 
   comes : (k : Which) (e : Vsock) (len : Option ℕ) → Serves k (Comes e len)
-  comes k e len = inr (record { own = e; result = len; fine = tt; is = tt; left = refl })
+  comes k e None = inr (record { own = e; result = None; fine = tt; is = tt; left = refl })
+  comes k e (Some len) = inr (record { own = e; result = Some len; fine = tt; is = never; left = refl })
 
   answers_if : (test : Bool) (x y : Acting Vsock Bool) → Answers x → Answers y → Answers (if test then x else y)
   answers_if true x y on off = on
@@ -119,7 +122,7 @@ module _ (pages : ℕ) where
         own = delivered e;
         result = Some len;
         fine = tt;
-        is = tt;
+        is = never;
         left =
             ap (λ (t : Doing (List Part)). performing t e (λ f left. Comes (delivered f) (Some len)))
             (put_done held to (eq-eqb _ _ is));
@@ -141,7 +144,7 @@ module _ (pages : ℕ) where
         own = told e;
         result = Some 4;
         fine = tt;
-        is = tt;
+        is = never;
         left =
             ap (λ (t : Doing (List Part)). performing t e (λ f left. Comes (told f) (Some 4)))
             (put_done held to (eq-eqb _ _ is));
@@ -176,7 +179,7 @@ module _ (pages : ℕ) where
   forward_by : (n host : ℕ) (from : List Part) (e : Vsock) → room from ≡ n → AreInside pages from → length from ≤ 256
       → Serves Second (forwarding_all host from e)
   forward_by zero host from e is inside few =
-      inr (record { own = e; result = Some 0; fine = tt; is = tt; left = forward_done host from e is })
+      inr (record { own = e; result = Some 0; fine = tt; is = never; left = forward_done host from e is })
   forward_by (suc n) host from e is inside few =
       let some : 0 < room from = omega (arith, is) in
       inl (record {
@@ -372,7 +375,8 @@ module _ (pages : ℕ) where
       serves_if Second (nat_lt (total from) 44) _ _ (comes Second _ (Some 0))
       (fetch (record { from = from; held = [] }) (total from - 44) e inside few)
 
-  serve : (k : Which) (c : Chain) (e : Vsock) → IsChain vsock pages k c → IsShortChain (Some c) → Serves k (served_by k c e)
+  serve : (k : Which) (c : Chain) (e : Vsock) → IsChain vsock pages k c → IsShortChain false (Some c)
+      → Serves k (served_by k c e)
   serve First c e chain short =
       let count : length (writable c.parts) ≤ length c.parts = filter_few _ c.parts in
       receive_on (text_of e.guest_cid e.in_hand) (writable c.parts) e (filter_inside pages _ c.parts chain.parts)
@@ -385,18 +389,18 @@ module _ (pages : ℕ) where
       tell_on (writable c.parts) e (filter_inside pages _ c.parts chain.parts) (omega (arith, count, short.0))
 
   take_all : (k : Which) (parts : List Part) (e : Vsock) → AreInside pages parts → length parts ≤ 256
-      → Goes vsock hand_of is_work AnyVsock taking_of (work.Take k) pages (IsShortTaken vsock pages k)
+      → Goes vsock hand_of is_work AnyVsock false taking_of (work.Take k) pages (IsShortTaken vsock false pages k)
       (Comes e (Some (kept_of parts)))
   take_all k parts e inside few =
       inr (record {
         own = e;
         result = Some (kept_of parts);
         fine = tt;
-        is = ((inside, tt, refl), (few, omega arith, omega arith));
+        is = ((inside, tt, refl), (few, omega arith, omega arith, never));
         left = refl;
       })
 
-pub resumes : Resumes vsock hand_of is_work AnyVsock resetting false is_host_call
+pub resumes : Resumes vsock hand_of is_work AnyVsock false resetting false is_host_call
 resumes = record {
   rest = stage.Rest;
   rests = λ pages. refl;
@@ -408,9 +412,10 @@ resumes = record {
   take = λ pages k parts e small fine inside few. take_all pages k parts e inside few;
   taking = λ pages k g e reply small fine is fit. absurd (no_take pages k g is);
   serve = λ pages k c e small fine chain short. serve pages k c e chain short;
-  serving = λ pages k g e reply small fine is fit. serving pages k g e reply (omega (arith, small)) is fit;
+  serving = λ pages k g e reply small fine is fit. serving pages k g e reply (omega (arith, small)) is fit.0;
   begun = λ k e fine. tt;
-  passes = λ k c now e f fine is. tt;
+  passes = λ pages k c now e f small early fine chain short is. tt;
   over = λ k e fine. tt;
   reset = λ e fine. tt;
+  cut = λ c e op reply is. never;
 }

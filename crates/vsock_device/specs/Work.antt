@@ -98,4 +98,4 @@ AnyVsock e = Unit {0}
 
 -- what is kept where this is left
 abbrev pub VsockKept : ℕ → ℕ → Script (Queued Vsock) → Type 0
-VsockKept port pages t = HasKept vsock hand_of is_work AnyVsock false port pages t
+VsockKept port pages t = HasKept vsock hand_of is_work AnyVsock false false port pages t

@@ -1,17 +1,19 @@
+use Rattle.std.proofs.Common.{false}
 use Rattle.balloon_device.specs.Statistics.{no_statistics}
+use Rattle.queue_device.proofs.Never.{never}
 use Rattle.balloon_device.proofs.Balloon.{owes}
 use Rattle.balloon_device.proofs.Resuming.{resumes}
 use Rattle.balloon_device.proofs.law.balloon_goes_on.Goals as goal
 
 pub returns-clause-begins : goal.returns-clause-begins
 returns-clause-begins c port pages interval small =
-    c.queue_goes_on.ensures.begins port pages (record { interval = interval; last = 0; statistics = no_statistics }) small owes
+    c.queue_goes_on.ensures.begins false port pages (record { interval = interval; last = 0; statistics = no_statistics }) small owes
     resumes tt
 
 pub returns-clause-reply : goal.returns-clause-reply
 returns-clause-reply c port pages t reply small kept fit =
-    c.queue_goes_on.ensures.reply port pages t reply small owes resumes kept fit
+    c.queue_goes_on.ensures.reply false port pages t reply small owes resumes kept (fit, never)
 
 pub returns-clause-change : goal.returns-clause-change
 returns-clause-change c port pages t change small kept =
-    c.queue_goes_on.ensures.change port pages t change small owes resumes kept (λ e fine. (tt, tt))
+    c.queue_goes_on.ensures.change false port pages t change small owes resumes kept (λ e fine. (tt, tt))

@@ -5,5 +5,5 @@ pub returns-clause-finds : goal.returns-clause-finds
 returns-clause-finds c = finds_of
 
 pub returns-clause-loads : goal.returns-clause-loads
-returns-clause-loads c = λ m n k p g it load copy full there differ of saved fits whole creates names same loads.
-    loaded_of m n k g it load copy full there differ of saved fits whole creates names same p loads
+returns-clause-loads c = λ m n k p g it load copy full there differ of whole creates names same loads.
+    loaded_of m n k g it load copy full there differ of whole creates names same p loads

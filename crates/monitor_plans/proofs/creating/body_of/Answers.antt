@@ -1,6 +1,9 @@
 use Rattle.monitor_plans.proofs.Heads.{body_is}
 use Rattle.monitor_plans.proofs.creating.body_of.Goals as goal
 
-pub returns : goal.returns
-returns c =
+pub returns-clause-body : goal.returns-clause-body
+returns-clause-body c =
     body_is c.args.identity c.args.copy.now c.in_ok-body.body.items c.from_vec.result c.in_ok-body.ensures c.from_vec.ensures
+
+pub returns-clause-saved : goal.returns-clause-saved
+returns-clause-saved c = c.in_ok-body.ensures.saved

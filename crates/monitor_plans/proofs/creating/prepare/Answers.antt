@@ -10,7 +10,8 @@ returns c = record {
   there = c.in-Some.ensures.there;
   copy = c.in-Ok.copy;
   copied = c.in-Ok.ensures.copied;
+  saved = c.in-Ok-body_of.ensures.saved;
   head_is = c.in-Some.ensures.head_is;
   pages_are = c.in-Some.ensures.pages_are;
-  body_is = c.in-Ok-body_of.ensures;
+  body_is = c.in-Ok-body_of.ensures.body;
 }

@@ -1,5 +1,5 @@
 use Rattle.std.proofs.Common.{◌∙◌}
-use Rattle.snap_state.proofs.Utf8.{and_utf8}
+use Rattle.snap_state.proofs.Texts.{and_utf8}
 use Rattle.snap_state.proofs.valid.is_path.Goals as goal
 
 pub returns : goal.returns

@@ -1,3 +1,5 @@
+use Rattle.std.proofs.Common.{false}
+use Rattle.queue_device.proofs.Never.{never}
 use Rattle.vsock_device.specs.Data.{new_data}
 use Rattle.vsock_device.proofs.Resuming.{resumes}
 use Rattle.vsock_device.proofs.Owes.{owes}
@@ -5,12 +7,12 @@ use Rattle.vsock_device.proofs.law.vsock_goes_on.Goals as goal
 
 pub returns-clause-begins : goal.returns-clause-begins
 returns-clause-begins c port pages guest_cid small =
-    c.queue_goes_on.ensures.begins port pages (new_data guest_cid) small owes resumes tt
+    c.queue_goes_on.ensures.begins false port pages (new_data guest_cid) small owes resumes tt
 
 pub returns-clause-reply : goal.returns-clause-reply
 returns-clause-reply c port pages t reply small kept fit =
-    c.queue_goes_on.ensures.reply port pages t reply small owes resumes kept fit
+    c.queue_goes_on.ensures.reply false port pages t reply small owes resumes kept (fit, never)
 
 pub returns-clause-change : goal.returns-clause-change
 returns-clause-change c port pages t change small kept =
-    c.queue_goes_on.ensures.change port pages t change small owes resumes kept (λ e fine. (tt, tt))
+    c.queue_goes_on.ensures.change false port pages t change small owes resumes kept (λ e fine. (tt, tt))

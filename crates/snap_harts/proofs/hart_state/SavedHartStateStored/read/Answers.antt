@@ -1,3 +1,4 @@
+use Rattle.snap_harts.proofs.Fits.{hart_fits}
 use Rattle.std.proofs.Common.{rules}
 use Rattle.file_format.specs.Kinds.{byte}
 use Rattle.snap_harts.specs.HartStates.{hart_state}

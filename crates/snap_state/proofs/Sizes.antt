@@ -14,8 +14,8 @@ use Rattle.snap_devices.specs.Devices as devices
 use Rattle.snap_devices.specs.Ports as ports
 use Rattle.snap_harts.specs.HartStates as hart_states
 use Rattle.snap_harts.specs.Harts as harts
-use Rattle.snap_finding.proofs.Within.{Within, WithinList, chosen_list_within, ended_within, no_list_within, passing_list_within, standing_list_within, whole_within, wider_within}
-use Rattle.snap_finding.proofs.Within.{just_within, any_within, byte_within, within16, within32, within64, flag_within, constant_within, nothing_within, pair_within, then_within, made_within, passing_within, times_within, list_within, bytes_within, total-const}
+use Rattle.file_format.proofs.Within.{Within, WithinList, chosen_list_within, ended_within, no_list_within, passing_list_within, standing_list_within, whole_within, wider_within}
+use Rattle.file_format.proofs.Within.{just_within, any_within, byte_within, within16, within32, within64, flag_within, constant_within, nothing_within, pair_within, then_within, made_within, passing_within, times_within, list_within, bytes_within, total-const}
 
 -- ---- a queue, parts and a walk
 

@@ -1,5 +1,5 @@
 -- A state file has at most 2^27 bytes, by the rules of a copy.
-use Rattle.std.proofs.Common.{◌≡◌, ℕ, ◌+◌, ◌*◌, ◌≤◌, ◌<◌, Bool, true, false, ◌&&◌, ◌||◌, eqb, ltb, leb, if◌then◌else◌, List, [], ◌∷◌, length, Option, Some, None, refl, ap, arith, codes}
+use Rattle.std.proofs.Common.{◌≡◌, ℕ, ◌+◌, ◌*◌, ◌≤◌, ◌<◌, ◌^◌, Bool, true, false, ◌&&◌, ◌||◌, eqb, ltb, leb, if◌then◌else◌, List, [], ◌∷◌, ◌++◌, length, length-append, Option, Some, None, refl, ap, arith, codes}
 use Rattle.std.proofs.lemmas.Bool.{and_parts, eqb-true, leb-true, ltb-true}
 use Rattle.std.proofs.lemmas.Option.{option_and_then_some}
 use Rattle.std.proofs.lemmas.Slice.Eq.{bytes_eq-Decides}
@@ -9,7 +9,7 @@ use Rattle.vm_types.specs.declared.identity.Identity.{Identity}
 use Rattle.api_calls.specs.declared.call.CacheType.{CacheType}
 use Rattle.api_calls.specs.declared.call.CacheType.TheVariants.{Unsafe, Writeback}
 use Rattle.api_calls.specs.declared.call.Drive.{Drive}
-use Rattle.api_calls.specs.Form.{holds, is_id, is_path}
+use Rattle.api_calls.specs.Form.{holds, is_id, is_path, is_short_text}
 use Rattle.api_calls.specs.Limits.{is_limiter}
 use Rattle.vm_config.specs.Devices.{count_in}
 use Rattle.file_format.specs.Kinds.{fixed, flag, number16, number64, text}
@@ -35,8 +35,9 @@ use Rattle.snap_harts.specs.Harts.{hart}
 use Rattle.snap_harts.specs.HartStates.{hart_state}
 use Rattle.snap_state.specs.Valid.{are_drives, are_paths, are_sections, has_devices, has_machine, has_room, is_balloon, is_before, is_board, is_drive, is_machine, is_reserved, is_rising, is_source, is_valid, rises_from}
 use Rattle.snap_state.proofs.HasDevices.{has_parts, many_devices, many_ports}
-use Rattle.snap_finding.proofs.Sizes.{device_within, hart_state_within, hart_within, port_within}
-use Rattle.snap_finding.proofs.Within.{Within, any_within, within16, within32, within64, flag_within, zeros_within, constant_within, just_within, pair_within, made_within, passing_within, optional_most, optional_within, total, total-pass, list_within, each_within, counted_within, listed_within, bytes_within, text_within}
+use Rattle.snap_state.proofs.Texts.{args_short, id_short, path_short}
+use Rattle.snap_state.proofs.Sizes.{device_within, hart_state_within, hart_within, port_within}
+use Rattle.file_format.proofs.Within.{Within, any_within, within16, within32, within64, flag_within, zeros_within, constant_within, just_within, pair_within, made_within, passing_within, optional_most, optional_within, total, total-pass, list_within, each_within, counted_within, listed_within, bytes_within, text_within}
 
 -- ---- the configuration
 
@@ -196,21 +197,15 @@ few_reservations pages harts few (a ∷ others) all rises =
 
 -- ---- the other rules, part by part
 
-path_short : (path : List ℕ) → is_path path ≡ true → length path ≤ 4095
-path_short path is = leb-true _ _ (and_parts _ _ (and_parts _ _ (and_parts _ _ is).0).0).1
-
-id_short : (id : List ℕ) → is_id id ≡ true → length id ≤ 64
-id_short id is = leb-true _ _ (and_parts _ _ (and_parts _ _ is).0).1
-
 paths_short : (path : Option (List ℕ)) → are_paths path ≡ true → optional_most (λ p. 4 + length p) path ≤ 4100
 paths_short None is = omega arith
 paths_short (Some path) is = omega (arith, path_short path is)
 
 source_short : (b : BootSource) → is_source b ≡ true → source_most b ≤ 10251
 source_short b is =
-    let args = and_parts _ (leb (length b.boot_args) 2048) is in
-    let paths = and_parts (is_path b.kernel_image_path) (are_paths b.initrd_path) args.0 in
-    omega (arith, leb-true _ _ args.1, path_short b.kernel_image_path paths.0, paths_short b.initrd_path paths.1)
+    let parts = and_parts _ (is_short_text 2048 b.boot_args) is in
+    let paths = and_parts (is_path b.kernel_image_path) (are_paths b.initrd_path) parts.0 in
+    omega (arith, args_short b is, path_short b.kernel_image_path paths.0, paths_short b.initrd_path paths.1)
 
 drive_short : (d : Drive) → is_drive d ≡ true → drive_most d ≤ 4235
 drive_short d is =
@@ -282,6 +277,14 @@ copy_short c is =
       eqb-true _ _ count.1,
       few_reservations c.pages harts_there small.0 c.reservations reserved.1 rising.1,
     )
+
+-- the length of a body fits 32 bits
+pub body_short : (v : Version) (c : StateCopy) → (copies.state_copy v).Fits c → is_valid c ≡ true
+    → length ((copies.state_copy v).bytes c) < 2 ^ 32
+body_short v c fits valid =
+    let body = (copies.state_copy v).bytes c in
+    let takes = (copy_within v).at (body ++ []) c [] ((copies.state_copy v).again c [] fits) in
+    omega (arith, takes, copy_short c valid, length-append {A = ℕ} body [])
 
 -- what is behind gate and magic of a file that is accepted
 pub accepted_short : (v : Version) (rest : List ℕ) (read : (ℕ × (Identity × StateCopy)) × List ℕ) → (state.contents v).reads rest ≡ Some read

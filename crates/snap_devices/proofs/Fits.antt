@@ -1,0 +1,269 @@
+-- A device in the fields of a file: what is kept of it fits, where each number of it has its width.
+use Rattle.std.proofs.Common.{◌≡◌, ◌≤◌, ◌<◌, ◌^◌, ◌*◌, ◌/◌, ◌%◌, ◌+◌, ℕ, ◌==◌, Bool, true, false, if◌then◌else◌, refl, subst, arith, List, [], ◌∷◌, length, Option, Some, None}
+use Rattle.std.specs.Prelude.{IfSome}
+use Rattle.std.proofs.lemmas.Bool.{and_parts, eqb-true, leb-true, ltb-true}
+use Rattle.std.proofs.lemmas.Nat.{mul-le}
+use Rattle.le_fields.specs.Fields.{IsByte}
+use Rattle.file_format.specs.Ends.{ended}
+use Rattle.file_format.specs.Kinds.{byte, optional}
+use Rattle.file_format.proofs.Fitting.{every, fits8, fits16, fits32, fits64, fits_flag, fits_optional, fits_times}
+use Rattle.vq_split.specs.declared.queue.Part.{Part}
+use Rattle.vq_split.specs.declared.queue.Queue.{Queue}
+use Rattle.vq_split.proofs.Inside.{of_ram}
+use Rattle.dev_core.specs.declared.collect.Collect.{Collect}
+use Rattle.dev_core.specs.Looks.{no_queue}
+use Rattle.token_bucket.specs.Kept.{Kept}
+use Rattle.rate_gate.specs.Gate.{Buckets}
+use Rattle.queue_device.specs.declared.device.QueueRounds.{QueueRounds}
+use Rattle.queue_device.specs.declared.lanes.Which.TheVariants.{First}
+use Rattle.queue_device.specs.declared.phase.InHand.{InHand}
+use Rattle.queue_device.specs.declared.phase.Phase.{Phase}
+use Rattle.queue_device.specs.declared.phase.Phase.TheVariants as phase
+use Rattle.queue_device.specs.declared.phase.Work.TheVariants as work
+use Rattle.queue_device.specs.Confined.{is_queue}
+use Rattle.queue_device.specs.Kept.{is_at_lane, is_in_hand, is_place, is_same_queue, is_told, is_walked, work_of}
+use Rattle.queue_device.specs.Lanes.{lane_of}
+use Rattle.queue_device.specs.Resuming.{AreShort}
+use Rattle.queue_device.specs.Sizes.{IsNarrowPhase, IsNarrowQueue}
+use Rattle.queue_device.proofs.KeptRounds.{short_of}
+use Rattle.queue_device.proofs.KeptStays.{TestParts, test_parts}
+use Rattle.block_device.specs.declared.kind.BlockKind.{BlockKind}
+use Rattle.block_device.specs.declared.stage.ServiceStage.{ServiceStage}
+use Rattle.block_device.specs.declared.stage.ServiceStage.TheVariants as stage
+use Rattle.block_device.specs.declared.work.BlockStage.{BlockStage}
+use Rattle.block_device.specs.declared.work.BlockStage.TheVariants as at
+use Rattle.block_device.specs.Block.{block as service_of}
+use Rattle.block_device.specs.Kept.{has_place, is_work}
+use Rattle.block_device.specs.Serving.{IsStage as IsServing}
+use Rattle.block_device.specs.States.{is_state}
+use Rattle.block_device.specs.Working.{IsAt, IsSizedData, IsSmallAt, IsSmallBucket, IsSmallStage, IsSmallWork, Working}
+use Rattle.block_device.proofs.GoesOnBegin.{total_most}
+use Rattle.block_device.proofs.Kept.{work_of as work_parts}
+use Rattle.block_device.proofs.SmallLimits.{kept_parts}
+use Rattle.guest_devices.specs.declared.device.Device.{Device}
+use Rattle.guest_devices.specs.declared.device.Device.TheVariants as kept
+use Rattle.guest_devices.specs.Kept.{device_pages, device_port, is_kept, is_sized, kept_of, is_state_kept}
+use Rattle.guest_devices.specs.Narrow.{IsNarrowKept}
+use Rattle.snap_devices.specs.declared.file.FileDue.{FileDue}
+use Rattle.snap_devices.specs.declared.file.FileDue.TheVariants.{Look, Walk, Idle}
+use Rattle.snap_devices.specs.Blocks.{block, block_data, block_fields, due as due_format}
+use Rattle.snap_devices.specs.Devices.{device}
+use Rattle.snap_devices.specs.Forms.{data_filed, due_filed, hand_filed, more_filed, other_queue, phase_filed, queue_filed, served_filed, walk_filed}
+use Rattle.snap_devices.specs.Limits.{bucket, bucket_fields, joined, halves, limits, more, owed}
+use Rattle.snap_devices.specs.Phases.{phase as phase_format}
+use Rattle.snap_devices.specs.Queues.{queue, walk}
+use Rattle.snap_devices.specs.Serving.{service, units}
+use Rattle.snap_devices.proofs.BalloonFits.{balloon_fits}
+use Rattle.snap_devices.proofs.Forms.{stands}
+use Rattle.snap_devices.proofs.PieceFits.{begun_fits, break_fits, collect_fits, hand_fits, parts_fit, queue_fits, return_fits, shown_of, waiting_fits}
+
+-- ---- the phase
+
+units_fit : (sector unit more : ℕ) → sector < 2 ^ 64 → unit < 2 ^ 64 → more < 2 ^ 64 → units.Fits (sector, (unit, more))
+unfolding units
+units_fit sector unit more a b c = (fits64 sector a, (fits64 unit b, fits64 more c))
+
+service_fits : (s : ServiceStage) (from : Collect) (to : List Part) → IsServing s from to → IsSmallStage s → service.Fits s
+unfolding service
+service_fits (stage.Read sector unit more) from to is small =
+    let units = is.0.units in
+    let inside = is.0.inside in
+    (fits8 0 (omega arith), (refl, units_fit sector unit more (omega (arith, inside)) (omega (arith, units)) (omega (arith, units))))
+service_fits (stage.Put sector unit more) from to is small =
+    let units = is.0.units in
+    let inside = is.0.inside in
+    (fits8 1 (omega arith), (refl, units_fit sector unit more (omega (arith, inside)) (omega (arith, units)) (omega (arith, units))))
+service_fits stage.PutId from to is small = (fits8 2 (omega arith), refl)
+service_fits (stage.Gather sector part more) from to is small =
+    let units = is.0.units in
+    let inside = is.0.inside in
+    (fits8 3 (omega arith), (refl, units_fit sector part more (omega (arith, inside)) (omega (arith, units)) (omega (arith, units))))
+service_fits (stage.Disk sector part more) from to is small =
+    let units = is.0.units in
+    let inside = is.0.inside in
+    (fits8 4 (omega arith), (refl, units_fit sector part more (omega (arith, inside)) (omega (arith, units)) (omega (arith, units))))
+service_fits stage.Flush from to is small = (fits8 5 (omega arith), refl)
+service_fits (stage.Status status used) from to is small =
+    (fits8 6 (omega arith), (refl, (fits8 status small.0, fits32 used small.1)))
+
+at_fits : (pages head : ℕ) (s : BlockStage) (from : Collect) (to : List Part) → pages ≤ 2 ^ 18 → IsAt s from to
+    → has_place pages s ≡ true → IsSmallAt s → head < 2 ^ 16 → phase_format.Fits (served_filed head s)
+unfolding phase_format
+at_fits pages head at.Rest from to few is placed small narrow = (fits8 0 (omega arith), refl)
+at_fits pages head at.Header from to few is placed small narrow = (fits8 0 (omega arith), refl)
+at_fits pages head (at.Serve place s) from to few is placed small narrow =
+    let high = (of_ram pages place 1 placed).1 in
+    (fits8 3 (omega arith), (refl, (fits64 place (omega (arith, high, few)), (service_fits s from to is small, fits16 head narrow))))
+
+phase_fits : (pages : ℕ) (p : Phase) (w : Working) → pages ≤ 2 ^ 18 → is_work (work_of p) pages w ≡ true → IsNarrowPhase p
+    → IsSmallWork w → phase_format.Fits (phase_filed p w.stage w.from)
+unfolding phase_format
+phase_fits pages phase.Between w few works narrow small = (fits8 0 (omega arith), refl)
+phase_fits pages phase.Question w few works narrow small = (fits8 0 (omega arith), refl)
+phase_fits pages (phase.Walk k v) w few works narrow small = (fits8 0 (omega arith), refl)
+phase_fits pages (phase.Take c) w few works narrow small =
+    let own = work_parts (work.Take c.which) pages w works in
+    let most = own.from.1 in
+    let held_most = small.held.0 in
+    let left = total_most pages w.from.from (omega (arith, few)) own.from.0 in
+    (fits8 2 (omega arith), (refl, (fits64 _ (omega (arith, most, held_most, left)), fits16 c.head narrow)))
+phase_fits pages (phase.Serve c) w few works narrow small =
+    let own = work_parts (work.Serve c.which) pages w works in
+    at_fits pages c.head w.stage w.from w.to few own.is own.place small.stage narrow
+phase_fits pages (phase.Return c len stage) w few works narrow small =
+    (fits8 4 (omega arith), (refl, (fits32 len narrow.1, (fits16 c.head narrow.0, return_fits stage))))
+phase_fits pages (phase.Break k stage) w few works narrow small = (fits8 1 (omega arith), (refl, break_fits stage))
+
+-- ---- its limits
+
+owed_fits : (n : ℕ) → n < 2 ^ 128 → owed.Fits n
+unfolding owed
+owed_fits n small =
+    let back : n ≡ n % 2 ^ 64 + 2 ^ 64 * (n / 2 ^ 64) = omega arith in
+    (back, (fits64 (n % 2 ^ 64) (omega arith), fits64 (n / 2 ^ 64) (omega (arith, small))))
+
+bucket_fits : (k : Kept) → IsSmallBucket k → bucket.Fits k
+unfolding bucket bucket_fields
+bucket_fits k is =
+    let parts = kept_parts k is.kept in
+    let size = ltb-true _ _ parts.size in
+    let fast = ltb-true _ _ parts.fast in
+    let owes = leb-true _ _ parts.owes in
+    let whole = mul-le k.rate.size k.rate.refill (2 ^ 48) (2 ^ 52) (omega (arith, size)) (omega (arith, fast)) in (
+      (
+        fits64 k.rate.size (omega (arith, size)),
+        (
+          fits64 k.rate.refill (omega (arith, fast)),
+          (fits64 k.burst is.burst, (owed_fits k.owes (omega (arith, owes, whole)), fits64 k.moment is.moment)),
+        ),
+      ),
+      is.kept,
+    )
+
+bucket_by : (o : Option Kept) → IfSome o IsSmallBucket → (optional bucket).Fits o
+bucket_by None is = fits_optional bucket None tt
+bucket_by (Some k) is = fits_optional bucket (Some k) (bucket_fits k is)
+
+-- ---- its data
+
+due_fits : (o : FileDue) → due_format.Fits o
+unfolding due_format
+due_fits Look = (fits8 0 (omega arith), refl)
+due_fits Walk = (fits8 1 (omega arith), refl)
+due_fits Idle = (fits8 2 (omega arith), refl)
+
+shown_fits : (pages : ℕ) (o : Option Queue) → pages ≤ 2 ^ 18 → is_queue service_of pages o ≡ true → IfSome o IsNarrowQueue
+    → queue.Fits (queue_filed pages o)
+shown_fits pages None few of_pages narrow =
+    queue_fits (no_queue pages)
+    (record { descriptors = omega arith; available = omega arith; used = omega arith; size = omega arith }) few
+shown_fits pages (Some q) few of_pages narrow =
+    let same = eqb-true q.pages pages of_pages in
+    queue_fits q narrow (omega (arith, same, few))
+
+other_by : (test : Bool) (q : Queue) → queue.Fits q → (optional queue).Fits (if test then None else Some q)
+other_by true q fits = fits_optional queue None tt
+other_by false q fits = fits_optional queue (Some q) fits
+
+-- a block device of a guest of at most 2^18 pages, at a port whose number is a byte
+module _ (b : QueueRounds BlockKind) (is : is_state b ≡ true) (few : b.rounds.pages ≤ 2 ^ 18) (port : b.rounds.port < 2 ^ 8)
+    (short : AreShort true b.rounds) (narrow : IsNarrowPhase b.phase) (small : IsSmallWork b.kind.work)
+    (own : IsSizedData true b.kind.facts) where
+  facts : TestParts service_of true is_work b.phase b.rounds b.kind.work
+  facts = test_parts service_of true is_work b.phase b.rounds b.kind.work is
+
+  data_fits : block_data.Fits (data_filed b)
+  unfolding block_data
+  data_fits =
+      let lane = short.0.1 refl in
+      let id = own.1 refl in (
+        (
+          fits64 b.kind.facts.sectors own.0,
+          (
+            shown_fits b.rounds.pages b.rounds.first.queue few (shown_of service_of true b.rounds facts.are few short First) lane.queue,
+            (
+              fits_times byte 20 b.kind.facts.drive_id id.0 (every IsByte byte.Fits b.kind.facts.drive_id fits8 id.1),
+              (fits16 b.rounds.first.next lane.next, fits16 b.rounds.first.used lane.used),
+            ),
+          ),
+        ),
+        (
+          fits8 b.rounds.port port,
+          (
+            fits_flag b.kind.facts.is_read_only,
+            (fits_flag b.rounds.first.is_kicked, (fits_flag b.rounds.is_busy, due_fits (due_filed b.rounds.due))),
+          ),
+        ),
+      )
+
+  walk_by : (p : Phase) → is_place true p b.rounds ≡ true → IsNarrowPhase p → (optional walk).Fits (walk_filed p)
+  walk_by phase.Between place narrow = fits_optional walk None tt
+  walk_by phase.Question place narrow = fits_optional walk None tt
+  walk_by (phase.Take c) place narrow = fits_optional walk None tt
+  walk_by (phase.Serve c) place narrow = fits_optional walk None tt
+  walk_by (phase.Return c len stage) place narrow = fits_optional walk None tt
+  walk_by (phase.Break k stage) place narrow = fits_optional walk None tt
+  walk_by (phase.Walk k w) place narrow =
+      let at = and_parts (is_at_lane b.rounds.due) (is_walked (lane_of k b.rounds) w) place in
+      fits_optional walk (Some w) (begun_fits service_of true b.rounds facts.are few short k w at.1 narrow)
+
+  other_fits : (c : InHand) (q : Queue) → is_in_hand true c b.rounds ≡ true → (optional queue).Fits (other_queue q c.queue)
+  other_fits c q is =
+      other_by (is_same_queue q c.queue) c.queue (hand_fits service_of true b.rounds facts.are few short c is)
+
+  hand_by : (p : Phase) (q : Queue) → is_place true p b.rounds ≡ true → (optional queue).Fits (hand_filed p q)
+  hand_by phase.Between q place = fits_optional queue None tt
+  hand_by phase.Question q place = fits_optional queue None tt
+  hand_by (phase.Walk k w) q place = fits_optional queue None tt
+  hand_by (phase.Take c) q place = other_fits c q (and_parts (is_at_lane b.rounds.due) (is_in_hand true c b.rounds) place).1
+  hand_by (phase.Serve c) q place = other_fits c q (and_parts (is_at_lane b.rounds.due) (is_in_hand true c b.rounds) place).1
+  hand_by (phase.Return c len stage) q place =
+      let told = and_parts _ (is_told stage len c.head) place in
+      other_fits c q (and_parts (is_at_lane b.rounds.due) (is_in_hand true c b.rounds) told.0).1
+  hand_by (phase.Break k stage) q place = fits_optional queue None tt
+
+  -- its limits, a chain that waits, and the queue of the chain in hand
+  more_fits : more.Fits (more_filed b)
+  unfolding more limits
+  more_fits =
+      let buckets = (own.1 refl).2 in (
+        (bucket_by b.kind.facts.limits.bandwidth buckets.0, bucket_by b.kind.facts.limits.ops buckets.1),
+        (waiting_fits service_of true b.rounds facts.are few short First, hand_by b.phase _ facts.place),
+      )
+
+  pub block_fits : block.Fits b
+  unfolding block block_fields ended
+  block_fits =
+      let works = work_parts (work_of b.phase) b.rounds.pages b.kind.work facts.works in
+      let back = stands b is in (
+        back.0,
+        (
+          (
+            (
+              data_fits,
+              (
+                phase_fits b.rounds.pages b.phase b.kind.work few facts.works narrow small,
+                (
+                  walk_by b.phase facts.place narrow,
+                  (
+                    collect_fits b.rounds.pages b.kind.work.from few works.from small.held,
+                    parts_fit b.rounds.pages b.kind.work.to few works.to,
+                  ),
+                ),
+              ),
+            ),
+            λ has. more_fits,
+          ),
+          back.1,
+        ),
+      )
+
+-- a device that the code may keep, of such a guest
+pub device_fits : (d : Device) → is_kept d ≡ true → IsNarrowKept d → device_pages d ≤ 2 ^ 18 → device_port d < 2 ^ 8 → device.Fits d
+unfolding device
+device_fits (kept.Block b) is narrow few port =
+    let both = and_parts (is_state_kept (kept_of (kept.Block b))) (is_sized (kept_of (kept.Block b))) is in
+    (fits8 1 (omega arith), (refl, block_fits b both.0 few port narrow.0 narrow.1 narrow.2 narrow.3))
+device_fits (kept.Balloon b) is narrow few port =
+    let both = and_parts (is_state_kept (kept_of (kept.Balloon b))) (is_sized (kept_of (kept.Balloon b))) is in
+    (fits8 2 (omega arith), (refl, balloon_fits b both.0 few port narrow.0 narrow.1 narrow.2 narrow.3))

@@ -1,0 +1,143 @@
+-- The bytes that a device holds are bytes of its file.
+use Rattle.std.proofs.Common.{◌≡◌, ℕ, suc, Bool, true, false, if◌then◌else◌, refl, sym, subst, List, [], ◌∷◌, ◌++◌, length, Option, Some, None}
+use Rattle.std.specs.List.{All}
+use Rattle.std.specs.Int.{to_le_bytes, w32}
+use Rattle.std.proofs.lemmas.List.{take_at}
+use Rattle.std.proofs.lemmas.List.Elements.{All-cons, All-nil}
+use Rattle.le_fields.specs.Fields.{IsByte}
+use Rattle.file_format.specs.Ends.{ended}
+use Rattle.file_format.specs.Format.{IsBytes}
+use Rattle.file_format.specs.Kinds.{byte, byte_list, flag, number16, number32, number64, optional, ◌&◌}
+use Rattle.file_format.specs.Laws.{IsBytes-rest, IsBytes-take}
+use Rattle.dev_core.specs.declared.collect.Collect.{Collect}
+use Rattle.queue_device.specs.declared.device.QueueRounds.{QueueRounds}
+use Rattle.queue_device.specs.declared.lanes.Lane.{Lane}
+use Rattle.queue_device.specs.declared.lanes.Rounds.{Rounds}
+use Rattle.queue_device.specs.Chains.{Chain}
+use Rattle.block_device.specs.declared.kind.BlockKind.{BlockKind}
+use Rattle.balloon_device.specs.declared.kind.Stage.{Stage}
+use Rattle.balloon_device.specs.declared.kind.Stage.TheVariants as at
+use Rattle.balloon_device.specs.Work.{Kept}
+use Rattle.guest_devices.specs.declared.device.Device.{Device}
+use Rattle.guest_devices.specs.declared.device.Device.TheVariants as kept
+use Rattle.snap_devices.specs.declared.file.FileBlock.{FileBlock}
+use Rattle.snap_devices.specs.declared.file.FileMore.{FileMore}
+use Rattle.snap_devices.specs.Balloons.{balloon, balloon_fields, kind, kind_fields, stage as stage_format, statistics}
+use Rattle.snap_devices.specs.Blocks.{block, block_data, block_fields}
+use Rattle.snap_devices.specs.Devices.{device}
+use Rattle.snap_devices.specs.Forms.{block_filed, more_filed}
+use Rattle.snap_devices.specs.Limits.{chain, chain_fields, end_of_device, is_no_more, limits, more}
+use Rattle.snap_devices.specs.Phases.{phase}
+use Rattle.snap_devices.specs.Places.{place}
+use Rattle.snap_devices.specs.Queues.{collect, held, parts, queue, walk}
+use Rattle.snap_devices.specs.Rounds.{lane, next_due, rounds}
+use Rattle.snap_devices.proofs.BalloonNarrow.{AreAllHeld, HoldsBalloon, HoldsBytes, HoldsStage}
+use Rattle.snap_devices.proofs.Narrow.{AreHeld, HoldsBlock}
+
+pub front : (a b : List ℕ) → IsBytes (a ++ b) → IsBytes a
+front a b is = subst IsBytes (take_at a b (length a) refl) (IsBytes-take (length a) (a ++ b) is)
+
+pub behind : (a b : List ℕ) → IsBytes (a ++ b) → IsBytes b
+behind a b is = IsBytes-rest (a ++ b) a b refl is
+
+pub all_of : (xs : List ℕ) → IsBytes xs → All IsByte xs
+all_of [] is = All-nil IsByte
+all_of (x ∷ xs) is = All-cons IsByte x xs (is 0) (all_of xs (λ i. is (suc i)))
+
+-- ---- bytes that are held, and a chain that waits
+
+bytes_held : (bytes : List ℕ) → IsBytes (held.bytes bytes) → All IsByte bytes
+unfolding held byte_list
+bytes_held bytes is = all_of bytes (behind (to_le_bytes w32 (length bytes)) bytes is)
+
+collect_held : (c : Collect) → IsBytes (collect.bytes c) → All IsByte c.held
+unfolding collect
+collect_held c is = bytes_held c.held (behind (parts.bytes c.from) (held.bytes c.held) is)
+
+chain_held : (c : Chain) → IsBytes (chain.bytes c) → All IsByte c.got.bytes
+unfolding chain chain_fields
+chain_held c is =
+    let a = behind (queue.bytes c.queue) _ is in
+    let b = behind (number16.bytes c.head) _ a in
+    let d = behind (parts.bytes c.parts) _ b in
+    bytes_held c.got.bytes (behind (parts.bytes c.got.parts) _ d)
+
+waiting_held : (o : Option Chain) → IsBytes ((optional chain).bytes o) → AreHeld o
+unfolding optional
+waiting_held None is = tt
+waiting_held (Some c) is = chain_held c (behind (1 ∷ []) (chain.bytes c) is)
+
+-- ---- a block device
+
+form_held : (f : FileBlock) → IsBytes (block_fields.bytes f) → All IsByte f.from.held
+unfolding block_fields
+form_held f is =
+    let a = behind (block_data.bytes f.facts) _ is in
+    let b = behind (phase.bytes f.phase) _ a in
+    let c = behind ((optional walk).bytes f.walk) _ b in
+    collect_held f.from (front (collect.bytes f.from) (parts.bytes f.to) c)
+
+more_held : (m : FileMore) → IsBytes (more.bytes m) → AreHeld m.waiting
+unfolding more
+more_held m is =
+    let a = behind (limits.bytes m.limits) _ is in
+    waiting_held m.waiting (front ((optional chain).bytes m.waiting) ((optional queue).bytes m.in_hand) a)
+
+end_by : (test : Bool) (m : FileMore) → is_no_more m ≡ test → IsBytes (if test then [] else more.bytes m) → AreHeld m.waiting
+end_by true m none is =
+    subst (λ (x : FileMore). AreHeld x.waiting) (sym (end_of_device.only_none m none)) tt
+end_by false m none is = more_held m is
+
+block_held : (b : QueueRounds BlockKind) → IsBytes (block.bytes b) → HoldsBlock b
+unfolding block ended
+block_held b is =
+    let f : FileBlock = block_filed b in
+    let m : FileMore = more_filed b in
+    (form_held f (front (block_fields.bytes f) _ is), end_by (is_no_more m) m refl (behind (block_fields.bytes f) _ is))
+
+-- ---- a balloon
+
+lane_held : (l : Lane) → IsBytes (lane.bytes l) → AreHeld l.waiting
+unfolding lane
+lane_held l is =
+    let a = behind ((number16 & number16 & flag).bytes (l.next, (l.used, l.is_kicked))) _ is in
+    waiting_held l.waiting (behind ((optional queue).bytes l.queue) _ a)
+
+rounds_held : (r : Rounds) → IsBytes (rounds.bytes r) → AreAllHeld r
+unfolding rounds
+rounds_held r is =
+    let a = behind ((number32 & byte & next_due & flag).bytes (r.pages, (r.port, (r.due, r.is_busy)))) _ is in
+    let b = behind (lane.bytes r.first) _ a in (
+      lane_held r.first (front (lane.bytes r.first) _ a),
+      lane_held r.second (front (lane.bytes r.second) _ b),
+      lane_held r.third (behind (lane.bytes r.second) _ b),
+    )
+
+stage_held : (s : Stage) → IsBytes (stage_format.bytes s) → HoldsStage s
+unfolding stage_format
+stage_held at.Rest is = tt
+stage_held (at.List list pages) is =
+    let a = behind (byte.bytes 1) _ is in
+    collect_held list (behind (number32.bytes pages) _ a)
+stage_held (at.Zeros list pages left address) is =
+    let a = behind (byte.bytes 2) _ is in
+    let b = behind (number32.bytes pages) _ a in
+    let c = behind (number32.bytes left) _ b in
+    collect_held list (behind (number64.bytes address) _ c)
+stage_held (at.Tags from s) is =
+    let a = behind (byte.bytes 3) _ is in
+    collect_held from (behind (statistics.bytes s) _ a)
+
+balloon_held : (b : QueueRounds Kept) → IsBytes (balloon.bytes b) → HoldsBalloon b
+unfolding balloon balloon_fields kind kind_fields
+balloon_held b is =
+    let a = behind (rounds.bytes b.rounds) _ is in
+    let c = behind (place.bytes b.phase) _ a in
+    let d = behind (number16.bytes b.kind.own.interval) _ c in
+    let e = behind (number64.bytes b.kind.own.last) _ d in
+    (stage_held b.kind.stage (behind (statistics.bytes b.kind.own.statistics) _ e), rounds_held b.rounds (front (rounds.bytes b.rounds) _ is))
+
+pub device_held : (d : Device) → IsBytes (device.bytes d) → HoldsBytes d
+unfolding device
+device_held (kept.Block b) is = block_held b (behind (byte.bytes 1) (block.bytes b) is)
+device_held (kept.Balloon b) is = balloon_held b (behind (byte.bytes 2) (balloon.bytes b) is)

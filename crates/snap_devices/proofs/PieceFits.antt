@@ -1,0 +1,205 @@
+-- The parts of a device in the fields of a file: what is kept of a queue, a walk and a chain fits, where each number has its width.
+use Rattle.std.proofs.Common.{◌≡◌, ◌≤◌, ◌<◌, ◌^◌, ℕ, ◌==◌, Bool, true, false, if◌then◌else◌, refl, sym, subst, arith, List, [], ◌∷◌, length, Option, Some, None}
+use Rattle.std.specs.Prelude.{IfSome}
+use Rattle.std.specs.List.{All}
+use Rattle.std.proofs.lemmas.Bool.{and_parts, eqb-true, le-leb}
+use Rattle.std.proofs.lemmas.List.Elements.{All-cons, All-nil}
+use Rattle.file_format.specs.Kinds.{optional}
+use Rattle.file_format.proofs.Fitting.{fits8, fits16, fits32, fits64, fits_bytes, fits_flag, fits_list, fits_optional}
+use Rattle.vq_split.specs.declared.queue.Part.{Part}
+use Rattle.vq_split.specs.declared.queue.Queue.{Queue}
+use Rattle.vq_split.specs.declared.walk.Stage.{Stage}
+use Rattle.vq_split.specs.declared.walk.Stage.TheVariants.{Index, Ring, Link}
+use Rattle.vq_split.specs.Chain.{is_inside}
+use Rattle.vq_split.specs.Inside.{AreInside}
+use Rattle.vq_split.specs.Kept.{IsWalking}
+use Rattle.vq_split.specs.Walking.{IsSound, IsStage, Walking}
+use Rattle.vq_split.proofs.Inside.{of_ram}
+use Rattle.vq_split.proofs.Kept.{test_of_sound, test_of_walking}
+use Rattle.dev_core.specs.declared.breaking.BreakStage.{BreakStage}
+use Rattle.dev_core.specs.declared.breaking.BreakStage.TheVariants as breaking
+use Rattle.dev_core.specs.declared.collect.Collect.{Collect}
+use Rattle.dev_core.specs.declared.returning.ReturnStage.{ReturnStage}
+use Rattle.dev_core.specs.declared.returning.ReturnStage.TheVariants as returning
+use Rattle.queue_device.specs.declared.lanes.Lane.{Lane}
+use Rattle.queue_device.specs.declared.lanes.Rounds.{Rounds}
+use Rattle.queue_device.specs.declared.lanes.Which.{Which}
+use Rattle.queue_device.specs.declared.phase.InHand.{InHand}
+use Rattle.queue_device.specs.Chains.{Chain}
+use Rattle.queue_device.specs.Confined.{IsChain, are_rounds, is_queue, is_waiting}
+use Rattle.queue_device.specs.Kept.{is_at_lane, is_in_hand, is_walked}
+use Rattle.queue_device.specs.Lanes.{lane_of}
+use Rattle.queue_device.specs.Resuming.{AreShort, IsShortChain, IsShortLane}
+use Rattle.queue_device.specs.Service.{Service}
+use Rattle.queue_device.specs.Sizes.{IsNarrowLane, IsNarrowQueue, IsNarrowStage}
+use Rattle.queue_device.proofs.Keeping.{chain_of, lane_is}
+use Rattle.queue_device.proofs.KeptRounds.{short_of}
+use Rattle.queue_device.proofs.Places.{held_of, walking_is}
+use Rattle.block_device.specs.Working.{IsHeld}
+use Rattle.block_device.proofs.Kept.{ArePart}
+use Rattle.snap_devices.specs.Limits.{chain, chain_fields}
+use Rattle.snap_devices.specs.Phases.{break_stage, return_stage}
+use Rattle.snap_devices.specs.Queues.{collect, held, part, parts, queue, walk, walk_fields, walk_stage}
+
+-- ---- queues and parts, in a guest of at most 2^18 pages
+
+pub queue_fits : (q : Queue) → IsNarrowQueue q → q.pages ≤ 2 ^ 18 → queue.Fits q
+unfolding queue
+queue_fits q is few = (
+  fits64 q.descriptors is.descriptors,
+  (fits64 q.available is.available, (fits64 q.used is.used, (fits16 q.size is.size, fits32 q.pages (omega (arith, few))))),
+)
+
+pub sound_narrow : (q : Queue) → IsSound q → q.pages ≤ 2 ^ 18 → IsNarrowQueue q
+sound_narrow q is few =
+    let t = is.tables in
+    let most = is.most in
+    let descriptors = t.descriptors_in.1 in
+    let available = t.available_in.1 in
+    let used = t.used_in.1 in
+    record {
+      descriptors = omega (arith, descriptors, few);
+      available = omega (arith, available, few);
+      used = omega (arith, used, few);
+      size = omega (arith, most);
+    }
+
+part_fits : (pages : ℕ) (p : Part) → pages ≤ 2 ^ 18 → is_inside pages p.at p.len ≡ true → part.Fits p
+unfolding part
+part_fits pages p few inside =
+    let in_ram = of_ram pages p.at p.len inside in
+    let low = in_ram.0 in
+    let high = in_ram.1 in
+    (fits64 p.at (omega (arith, high, few)), (fits32 p.len (omega (arith, low, high, few)), fits_flag p.writable))
+
+each_fits : (pages : ℕ) (ps : List Part) → pages ≤ 2 ^ 18 → AreInside pages ps → All part.Fits ps
+each_fits pages [] few inside = All-nil part.Fits
+each_fits pages (p ∷ ps) few inside = All-cons part.Fits p ps (part_fits pages p few inside.1) (each_fits pages ps few inside.2)
+
+pub parts_fit : (pages : ℕ) (ps : List Part) → pages ≤ 2 ^ 18 → ArePart pages ps → parts.Fits ps
+unfolding parts
+parts_fit pages ps few are =
+    let most = are.1 in
+    (fits_list part ps (omega (arith, most)) (each_fits pages ps few are.0), le-leb (length ps) 256 most)
+
+pub held_fits : (bytes : List ℕ) → IsHeld bytes → held.Fits bytes
+unfolding held
+held_fits bytes is =
+    let most = is.0 in
+    (fits_bytes bytes (omega (arith, most)), le-leb (length bytes) 128 most)
+
+pub collect_fits : (pages : ℕ) (c : Collect) → pages ≤ 2 ^ 18 → ArePart pages c.from → IsHeld c.held → collect.Fits c
+unfolding collect
+collect_fits pages c few are is = (parts_fit pages c.from few are, held_fits c.held is)
+
+-- ---- a walk
+
+stage_fits : (s : Stage) (q : Queue) (ps : List Part) → IsStage s q ps → IsNarrowStage s → q.size ≤ 256 → walk_stage.Fits s
+unfolding walk_stage
+stage_fits Index q ps is narrow most = (fits8 0 (omega arith), refl)
+stage_fits Ring q ps is narrow most = (fits8 1 (omega arith), refl)
+stage_fits (Link head at) q ps is narrow most =
+    let below = is.0 in
+    (fits8 2 (omega arith), (refl, (fits16 head narrow, fits16 at (omega (arith, below, most)))))
+
+few_parts : (s : Stage) (q : Queue) (ps : List Part) → IsStage s q ps → q.size ≤ 256 → length ps ≤ 256
+few_parts Index q ps is most = subst (λ (xs : List Part). length xs ≤ 256) (sym is) (omega arith)
+few_parts Ring q ps is most = subst (λ (xs : List Part). length xs ≤ 256) (sym is) (omega arith)
+few_parts (Link head at) q ps is most =
+    let below = is.1 in
+    omega (arith, below, most)
+
+pub walk_fits : (w : Walking) → IsWalking w → IsNarrowStage w.stage → w.next < 2 ^ 16 → w.queue.pages ≤ 2 ^ 18 → walk.Fits w
+unfolding walk walk_fields
+walk_fits w is narrow next few =
+    let most = is.sound.most in (
+      (
+        queue_fits w.queue (sound_narrow w.queue is.sound few) few,
+        (
+          fits16 w.next next,
+          (
+            stage_fits w.stage w.queue w.parts is.stage narrow most,
+            parts_fit w.queue.pages w.parts few (is.inside, few_parts w.stage w.queue w.parts is.stage most),
+          ),
+        ),
+      ),
+      test_of_walking w is,
+    )
+
+-- ---- breaking a queue, and giving a chain back
+
+pub break_fits : (s : BreakStage) → break_stage.Fits s
+unfolding break_stage
+break_fits breaking.Port = (fits8 0 (omega arith), refl)
+break_fits breaking.Line = (fits8 1 (omega arith), refl)
+
+pub return_fits : (s : ReturnStage) → return_stage.Fits s
+unfolding return_stage
+return_fits returning.Pair = (fits8 0 (omega arith), refl)
+return_fits returning.Half = (fits8 1 (omega arith), refl)
+return_fits returning.Index = (fits8 2 (omega arith), refl)
+return_fits returning.Interrupt = (fits8 3 (omega arith), refl)
+return_fits returning.Line = (fits8 4 (omega arith), refl)
+
+-- ---- the queue and the chain of a lane, a walk that is begun, and a chain in hand, of any kind of device
+
+module _ {E : Type 0} (s : Service E) (times : Bool) (r : Rounds) (are : are_rounds s r.port r.pages r ≡ true) (few : r.pages ≤ 2 ^ 18)
+    (short : AreShort true r) where
+  low : r.pages < 2 ^ 32
+  low = omega (arith, few)
+
+  narrow_of : (k : Which) → IsNarrowLane (lane_of k r)
+  narrow_of k = (short_of true k r short).1 refl
+
+  pub shown_of : (k : Which) → is_queue s r.pages (lane_of k r).queue ≡ true
+  shown_of k = (and_parts (is_queue s r.pages (lane_of k r).queue) (is_waiting s r.pages k (lane_of k r).waiting) (lane_is s r.port r.pages k r are)).0
+
+  queue_by : (o : Option Queue) → is_queue s r.pages o ≡ true → IfSome o IsNarrowQueue → (optional queue).Fits o
+  queue_by None of_pages narrow = fits_optional queue None tt
+  queue_by (Some q) of_pages narrow =
+      let same = eqb-true q.pages r.pages of_pages in
+      fits_optional queue (Some q) (queue_fits q narrow (omega (arith, same, few)))
+
+  pub lane_queue_fits : (k : Which) → (optional queue).Fits (lane_of k r).queue
+  lane_queue_fits k = queue_by (lane_of k r).queue (shown_of k) (narrow_of k).queue
+
+  chain_fits : (k : Which) (c : Chain) → IsChain s r.pages k c → IsShortChain true (Some c) → chain.Fits c
+  unfolding chain chain_fields
+  chain_fits k c is most =
+      let same = is.pages_are in (
+        (
+          queue_fits c.queue (sound_narrow c.queue is.sound (omega (arith, same, few))) (omega (arith, same, few)),
+          (
+            fits16 c.head (most.3 refl).0,
+            (
+              parts_fit r.pages c.parts few (is.parts, most.0),
+              (parts_fit r.pages c.got.parts few (is.got, most.1), held_fits c.got.bytes (most.2, (most.3 refl).1)),
+            ),
+          ),
+        ),
+        test_of_sound c.queue is.sound,
+      )
+
+  waiting_by : (k : Which) (o : Option Chain) → is_waiting s r.pages k o ≡ true → IsShortChain true o → (optional chain).Fits o
+  waiting_by k None is most = fits_optional chain None tt
+  waiting_by k (Some c) is most = fits_optional chain (Some c) (chain_fits k c (chain_of s r.pages low k c is) most)
+
+  pub waiting_fits : (k : Which) → (optional chain).Fits (lane_of k r).waiting
+  waiting_fits k =
+      let own = and_parts (is_queue s r.pages (lane_of k r).queue) (is_waiting s r.pages k (lane_of k r).waiting)
+      (lane_is s r.port r.pages k r are) in
+      waiting_by k (lane_of k r).waiting own.1 (short_of true k r short).0
+
+  pub begun_fits : (k : Which) (w : Walking) → is_walked (lane_of k r) w ≡ true → IsNarrowStage w.stage → walk.Fits w
+  begun_fits k w is narrow =
+      let walks = walking_is s times r.port r.pages low k w r are is in
+      let same = eqb-true w.next (lane_of k r).next (and_parts _ (w.next == (lane_of k r).next) is).1 in
+      let of_pages = walks.1 in
+      let next = (narrow_of k).next in
+      walk_fits w walks.0 narrow (omega (arith, same, next)) (omega (arith, of_pages, few))
+
+  pub hand_fits : (c : InHand) → is_in_hand times c r ≡ true → queue.Fits c.queue
+  hand_fits c is =
+      let own = held_of s times r.port r.pages low c r are is in
+      let same = own.1 in
+      queue_fits c.queue (sound_narrow c.queue own.0 (omega (arith, same, few))) (omega (arith, same, few))

@@ -1,0 +1,242 @@
+-- A configuration in the fields of a file: what the API takes fits.
+use Rattle.std.proofs.Common.{◌≡◌, ◌≤◌, ◌<◌, ◌^◌, ℕ, ◌==◌, ◌||◌, ◌&&◌, not, nat_le, nat_lt, Bool, true, false, refl, arith, List, [], ◌∷◌, length, codes, Option, Some, None}
+use Rattle.std.specs.Prelude.{IsUtf8, count_by}
+use Rattle.std.specs.List.{All, list_all, list_any}
+use Rattle.std.specs.Char.{is_ascii_alphanumeric}
+use Rattle.std.specs.Str.{is_utf8}
+use Rattle.std.proofs.lemmas.Bool.{and_parts, leb-true, ltb-true}
+use Rattle.std.proofs.lemmas.List.Elements.{All-cons, All-nil}
+use Rattle.std.proofs.lemmas.Str.{IsUtf8-from_ascii, is_utf8-from_IsUtf8}
+use Rattle.std.proofs.lemmas.Str.Ascii.{IsAscii-from_all}
+use Rattle.file_format.specs.Kinds.{fixed, number64, optional, text}
+use Rattle.file_format.proofs.Fitting.{fits64, fits_flag, fits_list, fits_optional, fits_text, fits_zeros}
+use Rattle.api_calls.specs.declared.balloon.Balloon.{Balloon}
+use Rattle.api_calls.specs.declared.call.CacheType.{CacheType}
+use Rattle.api_calls.specs.declared.call.CacheType.TheVariants.{Unsafe, Writeback}
+use Rattle.api_calls.specs.declared.call.Drive.{Drive}
+use Rattle.api_calls.specs.declared.call.MachineConfig.{MachineConfig}
+use Rattle.api_calls.specs.declared.limiter.BucketConfig.{BucketConfig}
+use Rattle.api_calls.specs.declared.limiter.Limiter.{Limiter}
+use Rattle.api_calls.specs.Drives.{is_root}
+use Rattle.api_calls.specs.Form.{has_path_bytes, holds, is_id, is_id_byte, is_path, is_short_text}
+use Rattle.api_calls.specs.Limits.{is_bucket, is_limiter}
+use Rattle.guest_memory.specs.Reserved.{hart_limit}
+use Rattle.port_table.specs.Window.{most_ports}
+use Rattle.snap_state.specs.declared.configuration.BootSource.{BootSource}
+use Rattle.snap_state.specs.declared.configuration.Configuration.{Configuration}
+use Rattle.snap_state.specs.Configured.{balloon, boot_source, configuration}
+use Rattle.snap_state.specs.Drives.{cache, drive}
+use Rattle.snap_state.specs.Limits.{bucket, limiter}
+use Rattle.snap_state.specs.Valid.{are_drives, are_paths, is_balloon, is_drive, is_machine, is_source}
+use Rattle.vm_config.specs.Drives.{id_of_drive}
+use Rattle.vm_config.specs.Named.{are_apart}
+
+-- ---- texts
+
+-- what is a text is UTF-8
+pub and_utf8 : (b : Bool) (t : List ℕ) → IsUtf8 t → b ≡ (b && is_utf8 t)
+and_utf8 b t text = rw (is_utf8-from_IsUtf8 t text) (and_true b)
+  where
+    and_true : (b : Bool) → b ≡ (b && true)
+    and_true true = refl
+    and_true false = refl
+
+pub path_short : (t : List ℕ) → is_path t ≡ true → length t ≤ 4095
+path_short t is =
+    let bytes = (and_parts (has_path_bytes t) (is_utf8 t) is).0 in
+    let p1 = and_parts _ (not (list_any (λ (b : ℕ). b == 0) t)) bytes in
+    leb-true (length t) 4095 (and_parts (nat_lt 0 (length t)) (nat_le (length t) 4095) p1.0).1
+
+path_fits : (t : List ℕ) → is_path t ≡ true → text.Fits t
+path_fits t is =
+    let short = path_short t is in
+    fits_text t (omega (arith, short)) (and_parts (has_path_bytes t) (is_utf8 t) is).1
+
+paths_fit : (o : Option (List ℕ)) → are_paths o ≡ true → (optional text).Fits o
+paths_fit None is = fits_optional text None tt
+paths_fit (Some t) is = fits_optional text (Some t) (path_fits t is)
+
+id_ascii : (b : ℕ) → is_id_byte b ≡ true → b < 128
+id_ascii b is = grind (arith, is)
+
+pub all_ascii : (t : List ℕ) → list_all is_id_byte t ≡ true → All (λ (b : ℕ). b < 128) t
+all_ascii [] is = All-nil (λ (b : ℕ). b < 128)
+all_ascii (b ∷ t) is =
+    let p = and_parts (is_id_byte b) (list_all is_id_byte t) is in
+    All-cons (λ (b : ℕ). b < 128) b t (id_ascii b p.0) (all_ascii t p.1)
+
+pub id_short : (t : List ℕ) → is_id t ≡ true → length t ≤ 64
+id_short t is =
+    let p1 = and_parts _ (list_all is_id_byte t) is in
+    leb-true (length t) 64 (and_parts (nat_lt 0 (length t)) (nat_le (length t) 64) p1.0).1
+
+id_fits : (t : List ℕ) → is_id t ≡ true → text.Fits t
+id_fits t is =
+    let short = id_short t is in
+    let p1 = and_parts _ (list_all is_id_byte t) is in
+    fits_text t (omega (arith, short)) (is_utf8-from_IsUtf8 t (IsUtf8-from_ascii t (IsAscii-from_all t (all_ascii t p1.1))))
+
+-- ---- the limits of a drive
+
+module _ (b : BucketConfig) (is : is_bucket b ≡ true) where
+  pub bucket_parts : (b.size < 2 ^ 48) × (b.refill_time < 2 ^ 32) × (holds (λ (n : ℕ). nat_lt n (2 ^ 48)) b.one_time_burst ≡ true)
+  bucket_parts =
+      let p1 = and_parts _ (holds (λ (n : ℕ). nat_lt n (2 ^ 48)) b.one_time_burst) is in
+      let p0 = and_parts (nat_lt b.size (2 ^ 48)) (nat_lt b.refill_time (2 ^ 32)) p1.0 in
+      (ltb-true b.size (2 ^ 48) p0.0, ltb-true b.refill_time (2 ^ 32) p0.1, p1.1)
+
+  bucket_fits : bucket.Fits b
+  unfolding bucket
+  bucket_fits =
+      let size = bucket_parts.0 in
+      let time = bucket_parts.1 in
+      (fits64 b.size (omega (arith, size)), (fits64 b.refill_time (omega (arith, time)), burst_fits b.one_time_burst bucket_parts.2))
+    where
+      burst_fits : (o : Option ℕ) → holds (λ (n : ℕ). nat_lt n (2 ^ 48)) o ≡ true → (optional number64).Fits o
+      burst_fits None small = fits_optional number64 None tt
+      burst_fits (Some n) small =
+          let few = ltb-true n (2 ^ 48) small in
+          fits_optional number64 (Some n) (fits64 n (omega (arith, few)))
+
+buckets_fit : (o : Option BucketConfig) → holds is_bucket o ≡ true → (optional bucket).Fits o
+buckets_fit None is = fits_optional bucket None tt
+buckets_fit (Some b) is = fits_optional bucket (Some b) (bucket_fits b is)
+
+limiter_fits : (l : Limiter) → is_limiter l ≡ true → limiter.Fits l
+unfolding limiter
+limiter_fits l is =
+    let p = and_parts (holds is_bucket l.bandwidth) (holds is_bucket l.ops) is in
+    (buckets_fit l.bandwidth p.0, buckets_fit l.ops p.1)
+
+limiters_fit : (o : Option Limiter) → holds is_limiter o ≡ true → (optional limiter).Fits o
+limiters_fit None is = fits_optional limiter None tt
+limiters_fit (Some l) is = fits_optional limiter (Some l) (limiter_fits l is)
+
+-- ---- a drive
+
+cache_fits : (it : CacheType) → cache.Fits it
+unfolding cache
+cache_fits Unsafe = (id_fits (codes "Unsafe") refl, refl)
+cache_fits Writeback = (id_fits (codes "Writeback") refl, refl)
+
+-- what a drive is asked
+pub record IsDrive (d : Drive) : Type 0 where
+  pub id : is_id d.drive_id ≡ true
+  pub path : is_path d.path_on_host ≡ true
+  pub limits : holds is_limiter d.rate_limiter ≡ true
+
+pub drive_parts : (d : Drive) → is_drive d ≡ true → IsDrive d
+drive_parts d is =
+    let p1 = and_parts _ (holds is_limiter d.rate_limiter) is in
+    let p0 = and_parts (is_id d.drive_id) (is_path d.path_on_host) p1.0 in
+    record { id = p0.0; path = p0.1; limits = p1.1 }
+
+drive_fits : (d : Drive) → is_drive d ≡ true → drive.Fits d
+unfolding drive
+drive_fits d is =
+    let own = drive_parts d is in (
+      id_fits d.drive_id own.id,
+      (
+        path_fits d.path_on_host own.path,
+        (
+          fits_flag d.is_root_device,
+          (fits_flag d.is_read_only, (cache_fits d.cache_type, limiters_fit d.rate_limiter own.limits)),
+        ),
+      ),
+    )
+
+each_fits : (ds : List Drive) → list_all is_drive ds ≡ true → All drive.Fits ds
+each_fits [] are = All-nil drive.Fits
+each_fits (d ∷ ds) are =
+    let p = and_parts (is_drive d) (list_all is_drive ds) are in
+    All-cons drive.Fits d ds (drive_fits d p.0) (each_fits ds p.1)
+
+pub record Drives (ds : List Drive) : Type 0 where
+  pub few : length ds ≤ most_ports
+  pub each : list_all is_drive ds ≡ true
+
+pub drives_of : (ds : List Drive) → are_drives ds ≡ true → Drives ds
+drives_of ds are =
+    let d2 = and_parts _ (nat_le (count_by is_root ds) 1) are in
+    let d1 = and_parts _ (are_apart id_of_drive ds) d2.0 in
+    let d0 = and_parts (nat_le (length ds) most_ports) (list_all is_drive ds) d1.0 in
+    record { few = leb-true _ _ d0.0; each = d0.1 }
+
+-- ---- all of it
+
+pub args_short : (b : BootSource) → is_source b ≡ true → length b.boot_args ≤ 2048
+args_short b is =
+    leb-true _ _ (and_parts (nat_le (length b.boot_args) 2048) (is_utf8 b.boot_args) (and_parts _ (is_short_text 2048 b.boot_args) is).1).0
+
+source_fits : (b : BootSource) → is_source b ≡ true → boot_source.Fits b
+unfolding boot_source
+source_fits b is =
+    let p1 = and_parts _ (is_short_text 2048 b.boot_args) is in
+    let p0 = and_parts (is_path b.kernel_image_path) (are_paths b.initrd_path) p1.0 in
+    let short = args_short b is in (
+      path_fits b.kernel_image_path p0.0,
+      (
+        paths_fit b.initrd_path p0.1,
+        fits_text b.boot_args (omega (arith, short)) (and_parts _ (is_utf8 b.boot_args) p1.1).1,
+      ),
+    )
+
+pub record Machine (m : MachineConfig) : Type 0 where
+  pub harts : m.vcpu_count ≤ hart_limit
+  pub mib : m.mem_size_mib ≤ 1024
+
+pub machine_of : (m : MachineConfig) → is_machine m ≡ true → Machine m
+machine_of m is =
+    let large = and_parts _ (nat_le m.mem_size_mib 1024) is in
+    let some = and_parts _ (nat_le 4 m.mem_size_mib) large.0 in
+    let few = and_parts (nat_le 1 m.vcpu_count) (nat_le m.vcpu_count hart_limit) some.0 in
+    record { harts = leb-true _ _ few.1; mib = leb-true _ _ large.1 }
+
+balloon_fits : (mib : ℕ) (b : Balloon) → mib ≤ 1024 → is_balloon mib b ≡ true → balloon.Fits b
+unfolding balloon
+balloon_fits mib b few is =
+    let p = and_parts (nat_le b.amount_mib mib) (nat_lt b.stats_polling_interval_s (2 ^ 16)) is in
+    let amount = leb-true b.amount_mib mib p.0 in
+    let interval = ltb-true b.stats_polling_interval_s (2 ^ 16) p.1 in (
+      fits64 b.amount_mib (omega (arith, few, amount)),
+      (fits_flag b.deflate_on_oom, fits64 b.stats_polling_interval_s (omega (arith, interval))),
+    )
+
+balloons_fit : (mib : ℕ) (o : Option Balloon) → mib ≤ 1024 → holds (is_balloon mib) o ≡ true → (optional balloon).Fits o
+balloons_fit mib None few is = fits_optional balloon None tt
+balloons_fit mib (Some b) few is = fits_optional balloon (Some b) (balloon_fits mib b few is)
+
+front_fits : (fixed (1 ∷ [])).Fits tt
+unfolding fixed
+front_fits = refl
+
+pub configuration_fits : (c : Configuration) → is_source c.boot_source ≡ true → are_drives c.drives ≡ true → is_machine c.machine ≡ true
+    → holds (is_balloon c.machine.mem_size_mib) c.balloon ≡ true → configuration.Fits c
+unfolding configuration
+configuration_fits c source drives machine balloons =
+    let ds = drives_of c.drives drives in
+    let few = ds.few in
+    let m = machine_of c.machine machine in
+    let harts = m.harts in
+    let mib = m.mib in (
+      (
+        front_fits,
+        (
+          source_fits c.boot_source source,
+          (fits_list drive c.drives (omega (arith, few)) (each_fits c.drives ds.each), fits_zeros 5),
+        ),
+      ),
+      (
+        fits64 c.machine.vcpu_count (omega (arith, harts)),
+        (
+          fits64 c.machine.mem_size_mib (omega (arith, mib)),
+          (
+            fits_zeros 1,
+            (
+              fits_flag c.machine.track_dirty_pages,
+              (balloons_fit c.machine.mem_size_mib c.balloon mib balloons, fits_zeros 1),
+            ),
+          ),
+        ),
+      ),
+    )
