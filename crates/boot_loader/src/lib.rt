@@ -9,5 +9,5 @@ mod loading;
 mod loads;
 
 pub use booting::{BootError, Booted, boot};
-pub use loading::{NoRoom, Start, load};
+pub use loading::{Start, load};
 pub use loads::Loads;

@@ -1,9 +1,12 @@
+pub mod Blanks
 pub mod Copying
+pub mod Each
 pub mod Ending
 pub mod Here
 pub mod Holding
 pub mod Joined
 pub mod Loading
+pub mod Making
 pub mod Marking
 pub mod Sets
 pub mod Slotted

@@ -31,7 +31,7 @@ same_joined part (p ∷ ps) zero d q lt same = ap (λ l. l ++ flat_map part ps) 
 same_joined part (p ∷ ps) (suc i) d q lt same = ap (λ l. part p ++ l) (same_joined part ps i d q (omega arith) same)
 
 -- a piece inside one page
-module _ (value pages : List PageValue) (i offset : ℕ) (piece : List ℕ) (old new : PageValue) (view : value ≡ pages) (are : ArePages 0 pages) (lt : i < length value) (was : old ≡ get_or pages i old) (now : new ≡ patched offset piece old) (room : offset + length piece ≤ 4096) where
+module _ (value pages : List PageValue) (i offset : ℕ) (piece : List ℕ) (old new : PageValue) (view : value ≡ pages) (are : ArePages 0 pages) (lt : i < length value) (was : old ≡ get_or pages i old) (now : new ≡ record (patched offset piece old) { made = new.made }) (room : offset + length piece ≤ 4096) where
   below : i < length pages
   below = let e = ap length view in omega arith
 

@@ -10,7 +10,7 @@ use Rattle.vm_types.specs.declared.reply.Reply.TheVariants.{Done, Bytes, Word, A
 use Rattle.amo_table.specs.Amo.{amo_value}
 use Rattle.guest_memory.specs.Reserved.{granule_of, held_by, is_granule}
 use Rattle.guest_memory.specs.Words.{width_of, word_bytes}
-use Rattle.guest_pages.specs.Pages.{PageValue, is_within, page_read, page_word, page_written, page_reserving, page_touch, page_holding, cleared, flat_of, marks_of}
+use Rattle.guest_pages.specs.Pages.{PageValue, is_within, page_read, page_word, page_written, page_reserving, page_made, page_touch, page_holding, cleared, flat_of, marks_of}
 use Rattle.guest_pages.specs.Marks.{is_written, page_after, is_written_by, marked_from, marks_after}
 
 or_right : (a : Bool) → a ≡ (a || false)
@@ -40,7 +40,7 @@ marked_by p actor (Amo at value kind wide) = amo_case (is_within p.number (lengt
     amo_case false = or_right p.marked
 marked_by p actor (Lr at wide) = lr_case (is_within p.number (length p.bytes) at (width_of wide))
   where
-    lr_case : (b : Bool) → (let answer : Reply × PageValue = cond b (Word (page_word p at wide), page_reserving p actor (Some (granule_of at))) (AccessFault, p) in answer.1.marked ≡ (p.marked || is_written (Lr at wide) answer.0))
+    lr_case : (b : Bool) → (let answer : Reply × PageValue = cond b (Word (page_word p at wide), page_made (page_reserving p actor (Some (granule_of at)))) (AccessFault, p) in answer.1.marked ≡ (p.marked || is_written (Lr at wide) answer.0))
     lr_case true = or_right p.marked
     lr_case false = or_right p.marked
 marked_by p actor (Sc at value wide) = sc_case (is_within p.number (length p.bytes) at (width_of wide)) (is_granule (granule_of at) (held_by p.reserved 0 actor))

@@ -57,6 +57,11 @@ few Width.Half = refl
 few Width.Word = refl
 few Width.Double = refl
 
+-- a word that is written is where one of this width is found
+pub word_place : (value : List PageValue) (i at word : ℕ) (width : Width) → page_of (length (flat_of value).bytes) at (width_bytes width) ≡ PlaceId.Page i
+    → place_among value (write_of width at word) ≡ PlaceId.Page i
+word_place value i at word width found_at = ap (λ (len : ℕ). page_of (length (flat_of value).bytes) at len) (long (width_bytes width) word) ∙ found_at
+
 module _ (value pages : List PageValue) (i : ℕ) (old : PageValue) (view : value ≡ pages) (are : ArePages 0 pages) (lt : i < length value) (was : old ≡ get_or pages i old) where
   below : i < length pages
   below = let e = ap length view in omega arith

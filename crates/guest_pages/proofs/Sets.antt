@@ -1,5 +1,5 @@
 -- Pages as they are made, and after an act on one of them.
-use Rattle.std.proofs.Common.{◌≡◌, ℕ, zero, suc, ◌+◌, ◌*◌, ◌<◌, List, [], ◌∷◌, ◌++◌, Option, None, length, take, drop, get_or, set, replicate, false, refl, sym, ap, ◌∙◌, subst, arith}
+use Rattle.std.proofs.Common.{◌≡◌, ℕ, zero, suc, ◌+◌, ◌*◌, ◌<◌, List, [], ◌∷◌, ◌++◌, Option, None, length, get_or, set, replicate, Bool, true, false, refl, sym, ap, ◌∙◌, subst, arith}
 use Rattle.std.proofs.lemmas.List.{length-replicate, get_or_default}
 use Rattle.vm_types.specs.declared.ids.ActorId.{ActorId}
 use Rattle.vm_types.specs.declared.ids.PlaceId.{PlaceId}
@@ -10,16 +10,16 @@ use Rattle.guest_memory.specs.Route.{access_place, page_of}
 use Rattle.guest_memory.specs.Reserved.{unreserved}
 use Rattle.guest_memory.specs.Words.{width_of}
 use Rattle.guest_pages.specs.Flat.{AreInside, IsPage, ArePages}
-use Rattle.guest_pages.specs.Pages.{PageValue, page_touch, flat_of, new_page, new_pages, unmarked, cleared}
+use Rattle.guest_pages.specs.Pages.{PageValue, page_touch, flat_of, made_page, new_page, new_pages, cleared}
 use Rattle.guest_pages.proofs.Here.{here, size_of_pages, page_at, pages_set}
 use Rattle.guest_pages.proofs.Staying.{page_stays}
 use Rattle.guest_pages.proofs.Touching.{Touches, touches}
 
-pub page_made : (number : ℕ) (bytes : List ℕ) (reserved : List (Option ℕ)) → bytes ≡ replicate 4096 0
-    → reserved ≡ replicate 32 None
-    → ◌≡◌ {A = PageValue} (record { number = number; bytes = bytes; reserved = reserved; marked = false }) (new_page number)
+pub page_is : (n number : ℕ) (bytes : List ℕ) (reserved : List (Option ℕ)) (marked : Bool) → n ≡ number → bytes ≡ replicate 4096 0
+    → reserved ≡ replicate 32 None → marked ≡ false
+    → ◌≡◌ {A = PageValue} (record { number = n; bytes = bytes; reserved = reserved; marked = marked; made = true }) (made_page number)
 unfolding unreserved
-page_made number bytes reserved e r = λ i. record { number = number; bytes = e i; reserved = r i; marked = false }
+page_is n number bytes reserved marked s e r m = λ i. record { number = s i; bytes = e i; reserved = r i; marked = m i; made = true }
 
 one_more : (n : ℕ) → suc (n + 1) ≡ suc n + 1
 one_more n = omega arith
@@ -80,17 +80,9 @@ module _ (value pages : List PageValue) (i : ℕ) (actor : ActorId) (op : Op) (o
 pub size_of_value : (value pages : List PageValue) (n : ℕ) → value ≡ pages → ArePages 0 pages → n ≡ length pages → length (flat_of value).bytes ≡ 4096 * n
 size_of_value value pages n view are long = ap (λ (l : List PageValue). length (flat_of l).bytes) view ∙ size_of_pages pages are ∙ ap (λ (k : ℕ). 4096 * k) (sym long)
 
-pub clear_more : (xs : List PageValue) (i : ℕ) (d : PageValue) → i < length xs → set (cleared (take i xs) ++ drop i xs) i (unmarked (get_or xs i d)) ≡ cleared (take (suc i) xs) ++ drop (suc i) xs
-clear_more [] i d lt = absurd (omega arith)
-clear_more (x ∷ xs) zero d lt = refl
-clear_more (x ∷ xs) (suc i) d lt = ap (λ (l : List PageValue). unmarked x ∷ l) (clear_more xs i d (omega arith))
-
 pub cleared_are : (n : ℕ) (pages : List PageValue) → ArePages n pages → ArePages n (cleared pages)
 cleared_are n [] are = tt
 cleared_are n (p ∷ ps) are = (record { numbered = are.0.numbered; whole = are.0.whole; slotted = are.0.slotted; inside = are.0.inside }, cleared_are (suc n) ps are.1)
-
-pub cleared_view : (value pages items : List PageValue) → value ≡ pages → ArePages 0 pages → items ≡ cleared pages → ArePages 0 items
-cleared_view value pages items view are is = subst (ArePages 0) (sym is) (cleared_are 0 pages are)
 
 -- one page becomes another that has its number and its size
 pub changed_are : (value pages : List PageValue) (i : ℕ) (old new next : PageValue) → value ≡ pages → ArePages 0 pages → i < length value → old ≡ get_or pages i old → new ≡ next → (IsPage i old → IsPage i next) → ArePages 0 (set pages i new)
@@ -100,22 +92,6 @@ changed_are value pages i old new next view are lt was now keeps =
     let below : i < length pages = subst (λ (l : List PageValue). i < length l) view lt in
     let is : IsPage i old = subst (λ (k : ℕ). IsPage k old) e (subst (IsPage (0 + i)) (sym was) (page_at 0 pages i old are below)) in
     pages_set 0 pages i new are (subst (λ (k : ℕ). IsPage k new) b (subst (IsPage i) (sym now) (keeps is)))
-
-there : (xs : List PageValue) (i : ℕ) (d : PageValue) → i < length xs → get_or (cleared (take i xs) ++ drop i xs) i d ≡ get_or xs i d
-there [] i d lt = absurd (omega arith)
-there (x ∷ xs) zero d lt = refl
-there (x ∷ xs) (suc i) d lt = there xs i d (omega arith)
-
-next : (i : ℕ) → suc i ≡ i + 1
-next i = omega arith
-
-pub clear_step : (init now : List PageValue) (i : ℕ) (d new : PageValue) → i < length init → now ≡ cleared (take i init) ++ drop i init → new ≡ unmarked (get_or now i d) → set now i new ≡ cleared (take (i + 1) init) ++ drop (i + 1) init
-clear_step init now i d new lt so_far is =
-    let here : get_or now i d ≡ get_or init i d = ap (λ (l : List PageValue). get_or l i d) so_far ∙ there init i d lt in
-    ap (λ (l : List PageValue). set l i new) so_far
-    ∙ ap (λ (p : PageValue). set (cleared (take i init) ++ drop i init) i p) (is ∙ ap unmarked here)
-    ∙ clear_more init i d lt
-    ∙ ap (λ (k : ℕ). cleared (take k init) ++ drop k init) (next i)
 
 inside_all : (size at len i n : ℕ) → size ≡ 4096 * n → page_of size at len ≡ PlaceId.Page i → i < n
 inside_all size at len i n whole place =

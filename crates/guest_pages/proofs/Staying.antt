@@ -12,7 +12,7 @@ use Rattle.amo_table.specs.Amo.{amo_value}
 use Rattle.guest_memory.specs.Memory.{put_at}
 use Rattle.guest_memory.specs.Reserved.{hart_limit, granule_of, held_by, is_granule}
 use Rattle.guest_memory.specs.Words.{width_of, word_bytes}
-use Rattle.guest_pages.specs.Pages.{PageValue, page_start, is_within, page_read, page_word, page_written, page_reserving, page_touch, filled, unmarked, patched, page_holding}
+use Rattle.guest_pages.specs.Pages.{PageValue, page_start, is_within, page_read, page_word, page_written, page_reserving, page_touch, page_made, unmarked, patched, page_holding}
 use Rattle.guest_pages.specs.Flat.{AreInside, IsPage}
 use Rattle.guest_pages.proofs.Ending.{length-slots_after, inside_after, inside_set}
 use Rattle.guest_pages.proofs.Here.{and_right}
@@ -50,6 +50,9 @@ module _ (i : ℕ) (p : PageValue) (actor : ActorId) (is : IsPage i p) where
       by_test false = is
   reserving_stays by held fits = is
 
+made_stays : (i : ℕ) (p : PageValue) → IsPage i p → IsPage i (page_made p)
+made_stays i p is = record { numbered = is.numbered; whole = is.whole; slotted = is.slotted; inside = is.inside }
+
 granule_fits : (at : ℕ) → AreInside (Some (granule_of at) ∷ [])
 granule_fits at = (omega arith, tt)
 
@@ -71,8 +74,8 @@ page_stays i p actor (Amo at value kind wide) is = amo_stays (is_within p.number
     amo_stays false e = is
 page_stays i p actor (Lr at wide) is = lr_stays (is_within p.number (length p.bytes) at (width_of wide))
   where
-    lr_stays : (b : Bool) → IsPage i (let answer : Reply × PageValue = cond b (Word (page_word p at wide), page_reserving p actor (Some (granule_of at))) (AccessFault, p) in answer.1)
-    lr_stays true = reserving_stays i p actor is actor (Some (granule_of at)) (granule_fits at)
+    lr_stays : (b : Bool) → IsPage i (let answer : Reply × PageValue = cond b (Word (page_word p at wide), page_made (page_reserving p actor (Some (granule_of at)))) (AccessFault, p) in answer.1)
+    lr_stays true = made_stays i (page_reserving p actor (Some (granule_of at))) (reserving_stays i p actor is actor (Some (granule_of at)) (granule_fits at))
     lr_stays false = is
 page_stays i p actor (Sc at value wide) is = sc_stays (is_within p.number (length p.bytes) at (width_of wide)) (is_granule (granule_of at) (held_by p.reserved 0 actor)) refl
   where
@@ -86,14 +89,11 @@ page_stays i p actor (Sc at value wide) is = sc_stays (is_within p.number (lengt
 page_stays i p actor op is = is
 
 -- what is no act leaves it one too
-pub filled_stays : (i : ℕ) (p : PageValue) (bytes : List ℕ) → length bytes ≡ 4096 → IsPage i p → IsPage i (filled bytes p)
-filled_stays i p bytes whole is = record { numbered = is.numbered; whole = whole; slotted = is.slotted; inside = is.inside }
-
 pub unmarked_stays : (i : ℕ) (p : PageValue) → IsPage i p → IsPage i (unmarked p)
 unmarked_stays i p is = record { numbered = is.numbered; whole = is.whole; slotted = is.slotted; inside = is.inside }
 
-pub patched_stays : (i : ℕ) (p : PageValue) (offset : ℕ) (piece : List ℕ) → offset + length piece ≤ 4096 → IsPage i p → IsPage i (patched offset piece p)
-patched_stays i p offset piece room is =
+pub patched_stays : (i : ℕ) (p : PageValue) (offset : ℕ) (piece : List ℕ) (made : Bool) → offset + length piece ≤ 4096 → IsPage i p → IsPage i (record (patched offset piece p) { made = made })
+patched_stays i p offset piece made room is =
     let whole = is.whole in
     record { numbered = is.numbered; whole = length-put_at p.bytes piece offset (omega (arith, whole)) ∙ whole; slotted = is.slotted; inside = is.inside }
 

@@ -16,7 +16,7 @@ use Rattle.guest_memory.specs.Ram.{ram_start, is_ram}
 use Rattle.guest_memory.specs.Reserved.{hart_limit, first_slot, granule_of, held_by, holding, is_granule, slots_after}
 use Rattle.guest_memory.specs.Route.{access_place}
 use Rattle.guest_memory.specs.Words.{width_of, word_of, word_bytes}
-use Rattle.guest_pages.specs.Pages.{PageValue, page_start, is_within, page_read, page_word, page_written, page_reserving, page_touch, flat_of}
+use Rattle.guest_pages.specs.Pages.{PageValue, page_start, is_within, page_read, page_word, page_written, page_reserving, page_made, page_touch, flat_of}
 use Rattle.guest_pages.specs.Flat.{IsPage, ArePages}
 use Rattle.guest_pages.proofs.Here.{IsHere, here, within, page_at, pages_set}
 use Rattle.guest_pages.proofs.Joined.{read_joined, put_joined}
@@ -62,6 +62,18 @@ same_bytes : (pages : List PageValue) (i : ℕ) (d q : PageValue) → i < length
 same_bytes [] i d q lt same = absurd (omega arith)
 same_bytes (p ∷ ps) zero d q lt same = ap (λ (l : List ℕ). l ++ flat_map (λ p. p.bytes) ps) same
 same_bytes (p ∷ ps) (suc i) d q lt same = ap (λ (l : List ℕ). p.bytes ++ l) (same_bytes ps i d q (omega arith) same)
+
+-- a page that is made is another one with the same bytes and reservations
+made_joined : {A : Type 0} (part : PageValue → List A) (pages : List PageValue) (i : ℕ) (p q : PageValue) → part p ≡ part q → flat_map part (set pages i p) ≡ flat_map part (set pages i q)
+made_joined part [] i p q same = refl
+made_joined part (x ∷ xs) zero p q same = ap (λ l. l ++ flat_map part xs) same
+made_joined part (x ∷ xs) (suc i) p q same = ap (λ l. part x ++ l) (made_joined part xs i p q same)
+
+pub made_flat : (pages : List PageValue) (i : ℕ) (q : PageValue) → flat_of (set pages i (page_made q)) ≡ flat_of (set pages i q)
+made_flat pages i q =
+    let bytes = made_joined (λ (p : PageValue). p.bytes) pages i (page_made q) q refl in
+    let reserved = made_joined (λ (p : PageValue). p.reserved) pages i (page_made q) q refl in
+    λ k. record { bytes = bytes k; reserved = reserved k }
 
 first_is : (size i at len : ℕ) → IsHere size i at len → first_slot at ≡ 32 * i
 first_is size i at len h =
@@ -181,10 +193,11 @@ module _ (pages : List PageValue) (i : ℕ) (d : PageValue) (are : ArePages 0 pa
   touches actor (Lr at wide) place =
       let h = here (length (flat_of pages).bytes) at (width_of wide) i place in
       let first = first_is (length (flat_of pages).bytes) i at (width_of wide) h in
-      both_touch pages i here_page (page_reserving here_page actor (Some (granule_of at))) (reserving (flat_of pages) actor at (Some (granule_of at)))
+      both_touch pages i here_page (page_made (page_reserving here_page actor (Some (granule_of at)))) (reserving (flat_of pages) actor at (Some (granule_of at)))
       (Word (page_word here_page at wide)) (Word (word_at (flat_of pages) at wide)) (is_within here_page.number (length here_page.bytes) at (width_of wide)) (is_ram (length (flat_of pages).bytes) at (width_of wide)) (is_here_within pages i d are lt at (width_of wide) h) h.ram
       (ap (λ (bytes : List ℕ). Word (word_of wide bytes)) (read_is pages i d are lt at (width_of wide) h))
-      (reserving_is pages i d are lt actor at (Some (granule_of at)) first)
+      (made_flat pages i (page_reserving here_page actor (Some (granule_of at)))
+      ∙ reserving_is pages i d are lt actor at (Some (granule_of at)) first)
   touches actor (Sc at value wide) place =
       let h = here (length (flat_of pages).bytes) at (width_of wide) i place in
       let first = first_is (length (flat_of pages).bytes) i at (width_of wide) h in

@@ -12,7 +12,7 @@ use Rattle.guest_memory.specs.Fitting.{fits_either}
 use Rattle.guest_memory.specs.Memory.{is_access}
 use Rattle.guest_memory.specs.Reserved.{granule_of, held_by, is_granule}
 use Rattle.guest_memory.specs.Words.{width_of, word_bytes}
-use Rattle.guest_pages.specs.Pages.{PageValue, page_touch, page_start, page_read, page_word, page_written, page_reserving, page_stored, is_within}
+use Rattle.guest_pages.specs.Pages.{PageValue, page_touch, page_start, page_read, page_word, page_written, page_reserving, page_made, page_stored, is_within}
 
 and_right : (a b : Bool) → (a && b) ≡ true → b ≡ true
 and_right true b h = h
@@ -42,7 +42,7 @@ page_fits p actor (Amo at value kind wide) is =
     (Word old, page_written p actor at (word_bytes wide (amo_value kind wide old value))) (AccessFault, p) (λ test. refl) refl
 page_fits p actor (Lr at wide) is =
     fits_either (Lr at wide) (is_within p.number (length p.bytes) at (width_of wide))
-    (Word (page_word p at wide), page_reserving p actor (Some (granule_of at))) (AccessFault, p) (λ test. refl) refl
+    (Word (page_word p at wide), page_made (page_reserving p actor (Some (granule_of at)))) (AccessFault, p) (λ test. refl) refl
 page_fits p actor (Sc at value wide) is =
     let piece : List ℕ = word_bytes wide value in
     fits_either (Sc at value wide) (is_within p.number (length p.bytes) at (width_of wide))

@@ -2,6 +2,7 @@
 use Rattle.std.specs.Prelude.{ℕ, suc, ◌≡◌, ◌+◌, ◌≤◌, List, [], ◌∷◌, length, Option, Some, None}
 use Rattle.guest_memory.specs.Ram.{page_size}
 use Rattle.guest_memory.specs.Reserved.{hart_limit}
+use Rattle.guest_pages.specs.Made.{unmade}
 use Rattle.guest_pages.specs.Pages.{PageValue}
 
 -- granules that are inside a page
@@ -20,3 +21,8 @@ pub record IsPage (i : ℕ) (p : PageValue) : Type 0 where
 abbrev pub ArePages : ℕ → List PageValue → Type 0
 ArePages i [] = Unit {0}
 ArePages i (p ∷ ps) = IsPage i p × ArePages (suc i) ps
+
+-- and how many of them are made or spare
+pub record IsSet (pages : List PageValue) (spare owned : ℕ) : Type 0 where
+  pub are : ArePages 0 pages
+  pub owns : owned + unmade pages ≡ spare + length pages

@@ -4,7 +4,7 @@ use Rattle.vm_types.specs.declared.ids.ActorId.{ActorId}
 use Rattle.vm_types.specs.declared.entry.Entry.{Entry}
 use Rattle.vm_types.specs.declared.ids.PlaceId.{PlaceId}
 use Rattle.vm_types.specs.declared.op.Op.{Op}
-use Rattle.vm_types.specs.declared.op.Op.TheVariants.{Write, Amo, Sc}
+use Rattle.vm_types.specs.declared.op.Op.TheVariants.{Write, Amo, Lr, Sc}
 use Rattle.vm_types.specs.declared.reply.Reply.{Reply}
 use Rattle.vm_types.specs.declared.reply.Reply.TheVariants.{Done, Word}
 use Rattle.vm_types.specs.Ids.{same_place}
@@ -16,6 +16,11 @@ is_written (Write at piece) Done = true
 is_written (Amo at value kind wide) (Word old) = true
 is_written (Sc at value wide) (Word failed) = failed == 0
 is_written op reply = false
+
+-- it left something in its page: it wrote, or a hart has reserved something there
+abbrev pub leaves : Op → Reply → Bool
+leaves (Lr at wide) (Word old) = true
+leaves op reply = is_written op reply
 
 -- a page after acts one after another, and whether one of them wrote it
 abbrev pub page_after : PageValue → List (ActorId × Op) → PageValue

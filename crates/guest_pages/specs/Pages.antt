@@ -12,12 +12,14 @@ use Rattle.guest_memory.specs.Ram.{ram_start, page_size}
 use Rattle.guest_memory.specs.Reserved.{hart_limit, unreserved, granule_of, held_by, holding, is_granule, slots_after}
 use Rattle.guest_memory.specs.Words.{width_of, word_of, word_bytes}
 
--- a page: its number, its bytes, for each hart what it has reserved here, and whether it is marked
+-- a page: its number, its bytes, for each hart what it has reserved here, whether it is marked, and whether it is made, which takes
+-- memory: one that isn't reads as zeros
 pub record PageValue : Type 0 where
   pub number : ℕ
   pub bytes : List ℕ
   pub reserved : List (Option ℕ)
   pub marked : Bool
+  pub made : Bool
 
 -- the guest address of a page
 abbrev pub page_start : ℕ → ℕ
@@ -33,16 +35,21 @@ page_read p at len = take len (drop (at - page_start p.number) p.bytes)
 abbrev pub page_word : PageValue → ℕ → Bool → ℕ
 page_word p at wide = word_of wide (page_read p at (width_of wide))
 
--- a write also marks the page, whatever the bytes
+-- a write also marks the page, whatever the bytes, and makes it
 abbrev pub page_written : PageValue → ActorId → ℕ → List ℕ → PageValue
 page_written p writer at piece = record p {
   bytes = put_at p.bytes (at - page_start p.number) piece;
   reserved = slots_after writer at (length piece) (hart_limit * p.number) p.reserved;
   marked = true;
+  made = true;
 }
 
 abbrev pub page_reserving : PageValue → ActorId → Option ℕ → PageValue
 page_reserving p actor held = record p { reserved = holding p.reserved 0 actor held }
+
+-- what is reserved is kept in a page that is made
+abbrev pub page_made : PageValue → PageValue
+page_made p = record p { made = true }
 
 abbrev pub page_stored : PageValue → ActorId → ℕ → List ℕ → Reply × PageValue
 page_stored p actor at piece =
@@ -67,15 +74,20 @@ page_touch p actor (Amo at value kind wide) =
     else (AccessFault, p)
 page_touch p actor (Lr at wide) =
     if is_within p.number (length p.bytes) at (width_of wide)
-    then (Word (page_word p at wide), page_reserving p actor (Some (granule_of at))) else (AccessFault, p)
+    then (Word (page_word p at wide), page_made (page_reserving p actor (Some (granule_of at)))) else (AccessFault, p)
 page_touch p actor (Sc at value wide) =
     if is_within p.number (length p.bytes) at (width_of wide)
     then page_stored p actor at (word_bytes wide value) else (AccessFault, p)
 page_touch p actor op = (AccessFault, p)
 
--- a page of zeros, in which nothing is reserved
+-- a page of zeros that isn't made, in which nothing is reserved
 abbrev pub new_page : ℕ → PageValue
-new_page i = record { number = i; bytes = replicate page_size 0; reserved = unreserved 1; marked = false }
+new_page i =
+    record { number = i; bytes = replicate page_size 0; reserved = unreserved 1; marked = false; made = false }
+
+-- the same, made
+abbrev pub made_page : ℕ → PageValue
+made_page i = page_made (new_page i)
 
 -- so many of them from this number on
 abbrev pub new_pages : ℕ → ℕ → List PageValue
@@ -96,7 +108,7 @@ abbrev pub cleared : List PageValue → List PageValue
 cleared pages = map unmarked pages
 
 abbrev pub page_holding : ℕ → ℕ → PageValue → PageValue
-page_holding hart offset p = record p { reserved = slice_set p.reserved hart (Some offset) }
+page_holding hart offset p = record p { reserved = slice_set p.reserved hart (Some offset); made = true }
 
 -- the one memory that pages are: their bytes and their slots, one page's after the other's
 abbrev pub flat_of : List PageValue → Memory

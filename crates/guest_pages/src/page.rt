@@ -1,12 +1,12 @@
 // One page of guest memory.
-ghost use Rattle.std.specs.Prelude.{◌≡◌, ◌≤◌, ◌<◌, ◌+◌, ◌-◌, ◌*◌, ◌%◌, true, drop, length, replicate, take, IfOk, is_some};
+ghost use Rattle.std.specs.Prelude.{◌≡◌, ◌≤◌, ◌<◌, ◌+◌, ◌-◌, ◌*◌, ◌%◌, true, false, drop, length, replicate, take, IfOk, is_some};
 ghost use Rattle.std.specs.List.{count_by};
 ghost use Rattle.vm_types.specs.declared.op.Op.{Op};
 ghost use Rattle.guest_memory.specs.Reserved.{slots_after};
 ghost use Rattle.guest_memory.specs.Words.{width_of};
 ghost use Rattle.le_fields.specs.Fields.{bytes_of};
 ghost use Rattle.rv_rows.specs.Loads.{width_bytes};
-ghost use Rattle.guest_pages.specs.Pages.{PageValue, filled, is_within, new_page, page_holding, page_read, page_reserving, page_start, page_touch, page_word, page_written, patched, unmarked};
+ghost use Rattle.guest_pages.specs.Pages.{PageValue, filled, is_within, made_page, page_holding, page_read, page_reserving, page_start, page_touch, page_word, page_written, patched, unmarked};
 
 use crate::word_bytes::{put_word, single_at, word_in};
 use amo_table::amo_value;
@@ -19,63 +19,76 @@ use std::alloc::{AllocError, Global};
 use std::marker::Model;
 use vm_types::{ActorId, AmoKind, GuestAddr, Op, Piece, Place, Reply};
 
-// The bytes, and for each hart what it has reserved of them.
+// The bytes, and for each hart what it has reserved of them; how many harts have reserved something, mostly none: a write tests
+// that before it looks at harts.
 #[derive(Drop)]
 struct Held {
     bytes: [u8; 4096],
     reserved: [Option<u16>; 32],
-}
-
-/// 4,096 bytes, for each hart what it has reserved of them, and a mark that a write sets.
-///
-/// A page is moved into a table of turns and back for each slice, so what is large of it lies in a box. `holders` is how many
-/// harts have reserved something here, mostly none: a write tests it before it looks at harts.
-#[derive(Drop)]
-pub struct Page {
-    held: Box<Held>,
     number: u32,
     holders: u32,
     marked: bool,
 }
 
+/// A page that is made: 4,096 bytes, for each hart what it has reserved of them, and a mark that a write sets.
+///
+/// It is moved into a table of turns and back for each slice, so all of it lies in a box.
+#[derive(Drop)]
+pub struct Page {
+    held: Box<Held>,
+}
+
 impl Model for Page {
-    ghost use Rattle.std.specs.Prelude.{◌≡◌, length, is_some};
+    ghost use Rattle.std.specs.Prelude.{◌≡◌, length, is_some, true};
     ghost use Rattle.std.specs.List.{count_by};
     ghost use Rattle.guest_pages.specs.Pages.{PageValue};
 
     ghost Value = { PageValue };
 
     ghost view = { λ p. record {
-      number = p.number;
+      number = p.held.value.number;
       bytes = p.held.value.bytes;
       reserved = p.held.value.reserved;
-      marked = p.marked;
+      marked = p.held.value.marked;
+      made = true;
     } };
 
     ghost invariant = { λ p.
         (length p.held.value.bytes ≡ 4096) × (length p.held.value.reserved ≡ 32)
-        × (p.holders ≡ count_by is_some p.held.value.reserved) };
+        × (p.held.value.holders ≡ count_by is_some p.held.value.reserved) };
 }
 
 impl Page {
     /// Zeros, with nothing reserved and no mark.
     pub fn new(alloc: Global, number: u32) -> Result<Page, AllocError>
-        ensures { IfOk result (λ page. page ≡ new_page number) }
+        ensures { IfOk result (λ page. page ≡ made_page number) }
     {
-        let held = nothing_held(alloc)?;
-        Ok(Page {
-            held,
-            number,
-            holders: 0,
-            marked: false,
-        })
+        let held = nothing_held(alloc, number)?;
+        Ok(Page { held })
+    }
+
+    // The same page by another number.
+    pub(crate) fn renumber(&mut self, number: u32)
+        ensures { self.new ≡ record self.old { number = number } }
+    {
+        self.held.number = number;
     }
 
     /// The number of this page, from 0.
     pub fn number(&self) -> u32
         ensures { result ≡ self.now.number }
     {
-        self.number
+        self.held.number
+    }
+
+    // It is made, as each page of this kind.
+    #[inline(always)]
+    pub(crate) fn is_made(&self) -> bool
+        ensures value { result ≡ self.now.made }
+        ensures made { result ≡ true }
+    {
+        let _held = &self.held;
+        true
     }
 
     pub fn bytes(&self) -> &[u8]
@@ -90,13 +103,13 @@ impl Page {
     pub fn is_marked(&self) -> bool
         ensures { result ≡ self.now.marked }
     {
-        self.marked
+        self.held.marked
     }
 
     pub fn clear_mark(&mut self)
         ensures { self.new ≡ unmarked self.old }
     {
-        self.marked = false;
+        self.held.marked = false;
     }
 
     /// Puts these bytes in the place of all that there are, and marks nothing.
@@ -133,17 +146,23 @@ impl Page {
         ensures { self.new ≡ page_holding hart offset self.old }
     {
         self.held.reserved[hart as usize] = Some(offset);
-        self.holders = count_holders(&self.held.reserved);
+        self.held.holders = count_holders(&self.held.reserved);
     }
 }
 
-fn nothing_held(alloc: Global) -> Result<Box<Held>, AllocError>
+fn nothing_held(alloc: Global, number: u32) -> Result<Box<Held>, AllocError>
     ensures bytes { IfOk result (λ held. held.value.bytes ≡ replicate 4096 0) }
     ensures reserved { IfOk result (λ held. held.value.reserved ≡ replicate 32 None) }
+    ensures number { IfOk result (λ held. held.value.number ≡ number) }
+    ensures free { IfOk result (λ held. held.value.holders ≡ 0) }
+    ensures unmarked { IfOk result (λ held. held.value.marked ≡ false) }
 {
     let held = Held {
         bytes: [0; 4096],
         reserved: [None; 32],
+        number,
+        holders: 0,
+        marked: false,
     };
     let Ok(held) = Box::new(alloc, held) else {
         return Err(AllocError);
@@ -208,7 +227,7 @@ impl Page {
         requires inside { is_within self.now.number 4096 at len ≡ true }
         ensures { result ≡ page_read self.now at len }
     {
-        let offset = (at - page_start(self.number)) as usize;
+        let offset = (at - page_start(self.held.number)) as usize;
         Piece::from_slice(&self.held.bytes[offset..offset + len])
     }
 
@@ -217,7 +236,7 @@ impl Page {
         ensures { result ≡ page_word self.now at wide }
     {
         let bytes: &[u8; 4096] = &self.held.bytes;
-        word_at(bytes, (at - page_start(self.number)) as usize, wide)
+        word_at(bytes, (at - page_start(self.held.number)) as usize, wide)
     }
 
     // What a write of so many bytes does beside them: it ends what other harts have reserved there, and marks the page.
@@ -226,13 +245,15 @@ impl Page {
         ensures { self.new ≡ record self.old {
           reserved = slots_after writer at len (32 * self.old.number) self.old.reserved;
           marked = true;
+          made = true;
         } }
     {
-        self.marked = true;
-        if self.holders == 0 {
+        self.held.marked = true;
+        if self.held.holders == 0 {
             return;
         }
-        self.holders = end_reserved(&mut self.held.reserved, self.number, writer, at, len);
+        let number = self.held.number;
+        self.held.holders = end_reserved(&mut self.held.reserved, number, writer, at, len);
     }
 
     // Writes these bytes, which are the page's, and marks it.
@@ -241,7 +262,7 @@ impl Page {
         ensures { self.new ≡ page_written self.old writer at piece.now }
     {
         self.begin_write(writer, at, piece.len());
-        let offset = (at - page_start(self.number)) as usize;
+        let offset = (at - page_start(self.held.number)) as usize;
         let bytes: &mut [u8; 4096] = &mut self.held.bytes;
         put(bytes, offset, piece);
     }
@@ -263,7 +284,7 @@ impl Page {
         ensures { bytes_of (width_bytes width) result ≡ page_read self.now at (width_bytes width) }
     {
         let bytes: &[u8; 4096] = &self.held.bytes;
-        word_in(bytes, offset_in(self.number, at), width)
+        word_in(bytes, offset_in(self.held.number, at), width)
     }
 
     /// Writes the low bytes of a word, the lowest first, and marks the page.
@@ -273,7 +294,7 @@ impl Page {
         ensures { self.new ≡ page_written self.old writer at (bytes_of (width_bytes width) word) }
     {
         self.begin_write(writer, at, width.bytes());
-        let offset = offset_in(self.number, at);
+        let offset = offset_in(self.held.number, at);
         let bytes: &mut [u8; 4096] = &mut self.held.bytes;
         put_word(bytes, offset, word, width);
     }
@@ -282,7 +303,7 @@ impl Page {
         ensures { self.new ≡ page_reserving self.old actor held }
     {
         hold(&mut self.held.reserved, 0, actor, held);
-        self.holders = count_holders(&self.held.reserved);
+        self.held.holders = count_holders(&self.held.reserved);
     }
 
     fn atomic_operation(
@@ -296,7 +317,7 @@ impl Page {
         ensures reply { result ≡ (page_touch self.old actor (Op.Amo at value kind wide)).0 }
         ensures page { self.new ≡ (page_touch self.old actor (Op.Amo at value kind wide)).1 }
     {
-        if !is_within(self.number, at, width_of(wide)) {
+        if !is_within(self.held.number, at, width_of(wide)) {
             return Reply::AccessFault;
         }
         let old = self.word(at, wide);
@@ -309,7 +330,7 @@ impl Page {
         ensures reply { result ≡ (page_touch self.old actor (Op.Lr at wide)).0 }
         ensures page { self.new ≡ (page_touch self.old actor (Op.Lr at wide)).1 }
     {
-        if !is_within(self.number, at, width_of(wide)) {
+        if !is_within(self.held.number, at, width_of(wide)) {
             return Reply::AccessFault;
         }
         let word = self.word(at, wide);
@@ -321,7 +342,7 @@ impl Page {
         ensures reply { result ≡ (page_touch self.old actor (Op.Sc at value wide)).0 }
         ensures page { self.new ≡ (page_touch self.old actor (Op.Sc at value wide)).1 }
     {
-        if !is_within(self.number, at, width_of(wide)) {
+        if !is_within(self.held.number, at, width_of(wide)) {
             return Reply::AccessFault;
         }
         if !is_granule(granule_of(at), held_by(&self.held.reserved, 0, actor)) {
@@ -353,14 +374,14 @@ impl Place for Page {
     fn act(&mut self, actor: ActorId, op: &Op) -> Reply {
         match op {
             Op::Read { at, len } => {
-                if *len <= Piece::MOST && is_within(self.number, *at, *len) {
+                if *len <= Piece::MOST && is_within(self.held.number, *at, *len) {
                     Reply::Bytes(self.read(*at, *len))
                 } else {
                     Reply::AccessFault
                 }
             }
             Op::Write { at, piece } => {
-                if is_within(self.number, *at, piece.len()) {
+                if is_within(self.held.number, *at, piece.len()) {
                     self.write(actor, *at, piece.as_slice());
                     Reply::Done
                 } else {

@@ -8,9 +8,9 @@ use guest_memory::PAGE_SIZE;
 impl PageSet {
     /// The bytes of memory from an offset on, as many as `out` has, over as many pages as they are in.
     pub fn copy_out(&self, offset: usize, out: &mut [u8])
-        requires inside { offset + length out.old ≤ 4096 * length self.now }
-        requires small { length self.now < 2 ^ 52 }
-        ensures { out.new ≡ take (length out.old) (drop offset (flat_of self.now).bytes) }
+        requires inside { offset + length out.old ≤ 4096 * length self.now.pages }
+        requires small { length self.now.pages < 2 ^ 52 }
+        ensures { out.new ≡ take (length out.old) (drop offset (flat_of self.now.pages).bytes) }
     {
         let _pages = self.len();
         copy_pages(self, offset, out);
@@ -18,10 +18,10 @@ impl PageSet {
 }
 
 fn copy_pages(pages: &PageSet, offset: usize, out: &mut [u8])
-    requires small { length pages.now < 2 ^ 52 }
-    requires whole { length (flat_of pages.now).bytes ≡ 4096 * length pages.now }
-    requires inside { offset + length out.old ≤ 4096 * length pages.now }
-    ensures { out.new ≡ take (length out.old) (drop offset (flat_of pages.now).bytes) }
+    requires small { length pages.now.pages < 2 ^ 52 }
+    requires whole { length (flat_of pages.now.pages).bytes ≡ 4096 * length pages.now.pages }
+    requires inside { offset + length out.old ≤ 4096 * length pages.now.pages }
+    ensures { out.new ≡ take (length out.old) (drop offset (flat_of pages.now.pages).bytes) }
 {
     let mut done = 0;
     while done < out.len() {
@@ -34,11 +34,11 @@ fn copy_pages(pages: &PageSet, offset: usize, out: &mut [u8])
 
 // These bytes of memory, which are in one page.
 fn piece(pages: &PageSet, from: usize, count: usize) -> &[u8]
-    requires page { from / 4096 < length pages.now }
+    requires page { from / 4096 < length pages.now.pages }
     requires inside { from % 4096 + count ≤ 4096 }
-    ensures bytes { result.now ≡ take count (drop from (flat_of pages.now).bytes) }
+    ensures bytes { result.now ≡ take count (drop from (flat_of pages.now.pages).bytes) }
     ensures size { length result.now ≡ count }
 {
     let inner = from % PAGE_SIZE;
-    &pages.page(from / PAGE_SIZE).bytes()[inner..inner + count]
+    &pages.page_bytes(from / PAGE_SIZE)[inner..inner + count]
 }

@@ -23,8 +23,9 @@ use Rattle.flat_machine.specs.Machine.{Machine, running, running_by}
 use Rattle.flat_machine.specs.Items.{Answers, Misfits, Moves, RegisterLine, Replies, RepliesLine, Shows, ShowsFrom, StepsLine, steps_text}
 use Rattle.vm_world.specs.declared.step_error.StepError.{StepError}
 use Rattle.vm_world.specs.Refusing.{refusal_of}
-use Rattle.vm_world.specs.Worlds.{IsWorld, MakesEvent, Runs, WorldValue, want_in}
-use Rattle.vm_world.proofs.Events.{is_there, not_there, wanted}
+use Rattle.guest_pages.specs.Made.{is_ready}
+use Rattle.vm_world.specs.Worlds.{IsWorld, MakesEvent, Runs, WorldValue, pages_of, place_in, want_in}
+use Rattle.vm_world.proofs.Events.{host_ready, is_there, not_there, wanted}
 use Rattle.monitor_machine.specs.Answering.{TakesReply}
 use Rattle.monitor_machine.specs.declared.machine.LiveMachine.{LiveMachine}
 use Rattle.monitor_machine.specs.State.{IsGuestBy, IsLive, IsMachine}
@@ -119,6 +120,16 @@ step_moves live known m world left actor count made off text is moving some here
       with_guest live known m left (Some run.1) is run.4,
       refl,
     )
+
+-- the events of a world that has more spare pages are those of the world
+pub runs_reserved : (world more left : WorldValue) (actor : ActorId) (count made : ℕ) → more ≡ record world { spare = more.spare }
+    → Runs more actor count made left → Runs world actor count made left
+runs_reserved world more left actor count made same runs = subst (λ (w : WorldValue). Runs w actor count made left) same runs
+
+pub never_reserved : (world more : WorldValue) (actor : ActorId) (op : Op) → more ≡ record world { spare = more.spare }
+    → want_in world actor ≡ Some op → want_in more actor ≡ None → ⊥
+never_reserved world more actor op same want none =
+    let both : Some op ≡ None = sym want ∙ ap (λ (w : WorldValue). want_in w actor) (sym same) ∙ none in cc
 
 -- ---- replies
 
@@ -306,13 +317,14 @@ world_takes w after actor op given e want host fit made = λ g world. record {
 
 -- where it fits the event is made
 pub world_never : (w after : WorldValue) (actor : ActorId) (op : Op) (given : Option Reply) (made : Bool) → after ≡ w → want_in w actor ≡ Some op
-    → is_given op (as_given given) ≡ true → made ≡ false
-    → ((g : Guest) (o : Op) → IsWorld w g → Wants g actor o → refusal_of o given ≡ None → made ≡ true)
+    → is_host_op op ≡ true → is_given op (as_given given) ≡ true → made ≡ false
+    → ((g : Guest) (o : Op) → IsWorld w g → Wants g actor o → refusal_of o given ≡ None
+    → is_ready (pages_of w) (place_in w o) ≡ true → made ≡ true)
     → TakesReply (Some misfit.Unfit) w actor (as_given given) after
-world_never w after actor op given made same want fit failed promised = (
+world_never w after actor op given made same want host fit failed promised = (
   same,
   λ g world.
-      let both : true ≡ false = sym (promised g op world (wanted w g actor op world want) (given_not_refused op given fit)) ∙ failed in absurd_bool both,
+      let both : true ≡ false = sym (promised g op world (wanted w g actor op world want) (given_not_refused op given fit) (host_ready w op host)) ∙ failed in absurd_bool both,
 )
   where
     absurd_bool : {A : Type 0} → true ≡ false → A

@@ -1,11 +1,12 @@
 -- One event more of a device.
-use Rattle.std.proofs.Common.{◌≡◌, ◌<◌, ℕ, refl, sym, subst, List, [], ◌∷◌, ◌++◌, MatchBool, Option, Some, None}
+use Rattle.std.proofs.Common.{◌≡◌, ◌<◌, ℕ, true, refl, sym, subst, List, [], ◌∷◌, ◌++◌, MatchBool, Option, Some, None}
 use Rattle.std.proofs.lemmas.List.Elements.{All-push, All-from_recursion}
 use Rattle.vm_types.specs.declared.ids.ActorId.{ActorId}
 use Rattle.vm_types.specs.declared.ids.PlaceId.{PlaceId}
 use Rattle.vm_types.specs.declared.entry.Entry.{Entry}
 use Rattle.vm_types.specs.declared.op.Op.{Op}
 use Rattle.vm_types.specs.declared.reply.Reply.{Reply}
+use Rattle.guest_pages.specs.Made.{is_ready}
 use Rattle.vm_host.specs.Storing.{DiskKnown}
 use Rattle.port_table.specs.Window.{most_ports}
 use Rattle.flat_guest.specs.Given.{Event, as_given}
@@ -14,7 +15,7 @@ use Rattle.flat_guest.specs.Guest.{Guest, Wants, layout_of}
 use Rattle.flat_guest.specs.Steps.{Answers, FlatStep, guest_after}
 use Rattle.flat_guest.proofs.Determined.{wants_one}
 use Rattle.vm_world.specs.Refusing.{refusal_of}
-use Rattle.vm_world.specs.Worlds.{IsWorld, MakesEvent, WorldValue}
+use Rattle.vm_world.specs.Worlds.{IsWorld, MakesEvent, WorldValue, pages_of, place_in}
 use Rattle.slice_runner.specs.Slices.{given_of}
 use Rattle.monitor_running.specs.Devices.{AsksDisk, DiskReplies, DiskRests, HaveActed, IsDevices, IsGivenByDisk}
 use Rattle.monitor_running.proofs.Disks.{asked_more, rests_of, rests_same}
@@ -27,6 +28,18 @@ acted_none w disk = record {
   made = λ g is. All-from_recursion IsDevices [] tt;
   answered = λ g is. rests_same disk;
 }
+
+-- but that more pages are spare, of which no guest knows
+pub acted_reserved : (w more : WorldValue) (disk : DiskKnown) (es : List Entry) → es ≡ [] → more ≡ record w { spare = more.spare }
+    → HaveActed es w more disk disk
+acted_reserved w more disk es none same =
+    subst (λ (l : List Entry). HaveActed l w more disk disk) (sym none)
+    (subst (λ (v : WorldValue). HaveActed [] w v disk disk) (sym same)
+    (record {
+      serial = λ g is. (g, refl, is);
+      made = λ g is. All-from_recursion IsDevices [] tt;
+      answered = λ g is. rests_same disk;
+    }))
 
 host_same : (x y : Reply) → Host x ≡ Host y → x ≡ y
 host_same x y is = cc
@@ -78,13 +91,15 @@ module _ (first w : WorldValue) (asked old now : DiskKnown) (es : List Entry) (k
   }
 
   unasked : (given : Option Reply) (op : Op) → IsGivenByDisk k op old given now
-      → ((h : Guest) → IsWorld w h → refusal_of op given ≡ None → ⊥) → (h : Guest) → IsWorld w h → now ≡ old
+      → ((h : Guest) → IsWorld w h → refusal_of op given ≡ None → is_ready (pages_of w) (place_in w op) ≡ true → ⊥)
+      → (h : Guest) → IsWorld w h → now ≡ old
   unasked None op it never h is = it
-  unasked (Some r) (Op.Out act) it never h is = absurd (never h is (rw it.1 refl))
+  unasked (Some r) (Op.Out act) it never h is = absurd (never h is (rw it.1 refl) refl)
   unasked (Some r) op it never h is = absurd it
 
-  -- where it is refused no disk was asked
-  pub acted_still : (v : WorldValue) → v ≡ w → ((h : Guest) → IsWorld w h → refusal_of op given ≡ None → ⊥)
+  -- where it is refused, or lacks a page, no disk was asked
+  pub acted_still : (v : WorldValue) → v ≡ w
+      → ((h : Guest) → IsWorld w h → refusal_of op given ≡ None → is_ready (pages_of w) (place_in w op) ≡ true → ⊥)
       → HaveActed es first v asked now
   acted_still v same never = record {
     serial = λ g is. rw same (acted.serial g is);

@@ -103,6 +103,16 @@ run_more k made next count w v u run runs g is =
           ∙ ap (λ (n : ℕ). replicate (made + n) step) (counted (length two.0) count next _ two.3 two.2.all),
     )
 
+-- more pages are spare, of which no guest knows
+pub run_to_reserved : (k made : ℕ) (w v more : WorldValue) → more ≡ record v { spare = more.spare } → HasRun k made w v → HasRun k made w more
+run_to_reserved k made w v more same run = subst (λ (x : WorldValue). HasRun k made w x) (sym same) run
+
+pub run_from_reserved : (k made : ℕ) (w more v : WorldValue) → more ≡ record w { spare = more.spare } → HasRun k made more v → HasRun k made w v
+run_from_reserved k made w more v same run = subst (λ (x : WorldValue). HasRun k made x v) same run
+
+pub run_same : (k made : ℕ) (w v u : WorldValue) → u ≡ v → HasRun k made w v → HasRun k made w u
+run_same k made w v u same run = subst (λ (x : WorldValue). HasRun k made w x) (sym same) run
+
 -- ---- which hart is alone
 
 same_or_not : (a b : ℕ) (t : Bool) → nat_eq a b ≡ t → (a ≡ b) ⊎ (a ≡ b → ⊥)

@@ -1,5 +1,5 @@
 -- Who made the events of a wait.
-use Rattle.std.proofs.Common.{◌≡◌, ◌<◌, ◌+◌, ℕ, suc, nat_lt, ltb-false, Bool, true, false, arith, refl, sym, ap, ◌∙◌, subst, List, [], ◌∷◌, ◌++◌, length, Option, None, append_assoc, append-nil, if◌then◌else◌}
+use Rattle.std.proofs.Common.{◌≡◌, ◌<◌, ◌+◌, ◌-◌, ◌*◌, ℕ, suc, nat_lt, ltb-false, Bool, true, false, arith, refl, sym, ap, ◌∙◌, subst, List, [], ◌∷◌, ◌++◌, length, Option, None, append_assoc, append-nil, if◌then◌else◌}
 use Rattle.std.proofs.lemmas.List.{map-append}
 use Rattle.vm_types.specs.declared.ids.ActorId.{ActorId}
 use Rattle.vm_types.specs.declared.entry.Entry.{Entry}
@@ -11,6 +11,8 @@ use Rattle.vm_host.specs.Telling.{ClockKnown}
 use Rattle.flat_guest.specs.Given.{Given}
 use Rattle.flat_guest.specs.Guest.{Guest, Wants, is_actor}
 use Rattle.flat_guest.specs.Steps.{guest_after}
+use Rattle.guest_pages.specs.Made.{HasRoom, PagesValue, Spends}
+use Rattle.guest_pages.proofs.Making.{less_room, room_left}
 use Rattle.vm_world.specs.Refusing.{refusal_of}
 use Rattle.vm_world.specs.Worlds.{IsWorld, MakesEvent, WorldValue}
 use Rattle.slice_runner.specs.Runs.{IsAsked}
@@ -117,3 +119,18 @@ pub made_in : (but : Option ℕ) (k : ℕ) (actors : List ActorId) (es : List En
     → HasMade (actors ++ ActorId.Hart k ∷ ActorId.Hart k ∷ []) es first w → HasMade (actors ++ hart_turn but k) es first w
 made_in but k actors es first w out made =
     subst (λ (b : Bool). HasMade (actors ++ (if b then [] else ActorId.Hart k ∷ ActorId.Hart k ∷ [])) es first w) (sym out) made
+
+-- ---- room for a round: two events of the timer, and two of each hart
+
+pub left_first : (harts : ℕ) (old new : PagesValue) → HasRoom (2 * harts + 2) old → Spends 2 old new → HasRoom (2 * (harts - 0)) new
+left_first harts old new room spends =
+    room_left 2 (2 * (harts - 0)) old new (less_room (2 + 2 * (harts - 0)) (2 * harts + 2) old (omega arith) room) spends
+
+pub room_for : (k harts : ℕ) (old : PagesValue) → k < harts → HasRoom (2 * (harts - k)) old → HasRoom 2 old
+room_for k harts old less room = less_room 2 (2 * (harts - k)) old (omega (arith, less)) room
+
+pub left_next : (k harts : ℕ) (old new : PagesValue) → k < harts → HasRoom (2 * (harts - k)) old → Spends 2 old new
+    → HasRoom (2 * (harts - (k + 1))) new
+left_next k harts old new less room spends =
+    room_left 2 (2 * (harts - (k + 1))) old new
+    (less_room (2 + 2 * (harts - (k + 1))) (2 * (harts - k)) old (omega (arith, less)) room) spends

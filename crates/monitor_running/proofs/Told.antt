@@ -13,7 +13,8 @@ use Rattle.vm_host.specs.Telling.{ClockKnown}
 use Rattle.board_table.specs.Board.{Board}
 use Rattle.flat_guest.specs.Guest.{Guest}
 use Rattle.flat_machine.specs.Machine.{Machine, running}
-use Rattle.vm_world.specs.Worlds.{IsWorld, WorldValue}
+use Rattle.vm_world.specs.Worlds.{IsSameGuest, IsWorld, WorldValue}
+use Rattle.vm_world.proofs.Events.{same_world}
 use Rattle.slice_runner.specs.Runs.{HasAnswered}
 use Rattle.slice_runner.specs.Slices.{ClockWasAsked, IsSerial, IsThere, Leads}
 use Rattle.monitor_running.specs.declared.ran.Ran.{Ran}
@@ -412,6 +413,25 @@ pub went_failed : (trace : TraceKnown) (sink : SinkKnown) (asked now : HostKnown
     → Went IsRunning (Some ran.OutOfMemory) (known trace sink asked) w (known trace sink now) v
 went_failed trace sink asked now w v disk world clock = record {
   ran = λ t k. slice_none trace.took sink.taken asked now w v world (λ j. record { clock = clock j; disk = disk j });
+  fault = tt;
+  trace_lasts = lasts_same trace.health;
+  trace_stays = λ tells. refl;
+  sink_lasts = lasts_same sink.health;
+}
+
+-- a slice that wasn't made, before which pages were
+pub went_unmade : (trace : TraceKnown) (sink : SinkKnown) (asked now : HostKnown) (w v : WorldValue) → now.disk ≡ asked.disk
+    → IsSameGuest w v → now.clock ≡ asked.clock
+    → Went IsRunning (Some ran.OutOfMemory) (known trace sink asked) w (known trace sink now) v
+went_unmade trace sink asked now w v disk same clock = record {
+  ran = λ t k s m talk is f r.
+      let unasked : now ≡ asked = λ j. record { clock = clock j; disk = disk j } in record {
+        flat = m;
+        is = (is.0, is.1, same_world w v is.0 same is.2);
+        beside = refl;
+        files = subst (λ (k : HostKnown). AreFiles s m (seen_by trace.took sink.taken k)) (sym unasked) f;
+        reached = subst (λ (k : HostKnown). Reached s (seen_by trace.took sink.taken k) m talk) (sym unasked) r;
+      };
   fault = tt;
   trace_lasts = lasts_same trace.health;
   trace_stays = λ tells. refl;

@@ -101,6 +101,7 @@ fn is_to_end(world: &World, hart: u8) -> bool {
 // Events of the hart until it waits or stops, or a device has something to do, or the gate is closed, or it has made as many as its
 // turn has, and how many there were.
 fn run_hart<Q, G: Gate<Pass = Q>>(
+    alloc: Global,
     world: &mut World,
     turn: Turn,
     gate: &G,
@@ -116,6 +117,9 @@ fn run_hart<Q, G: Gate<Pass = Q>>(
     let mut made = 0;
     while made < most {
         let next = at_once(most - made);
+        let Ok(()) = world.reserve(alloc, next) else {
+            return made;
+        };
         let Ok(count) = world.run(ActorId::Hart(turn.hart), next) else {
             return made;
         };
@@ -157,7 +161,10 @@ pub fn run_alone<Q, W: TurnObjects, G: Gate<Pass = Q>, K: Sink>(
     if world.hart_count() > HART_LIMIT || !others_wait(world, turn.hart) {
         return None;
     }
-    let made = run_hart(world, turn, gate, passes);
+    let Ok(()) = world.reserve(alloc, EVENTS_AT_ONCE) else {
+        return Some(Ran::OutOfMemory);
+    };
+    let made = run_hart(alloc, world, turn, gate, passes);
     if let Err(why) = tell_steps(ActorId::Hart(turn.hart), made, world, with, sink) {
         return Some(end_by(why));
     }

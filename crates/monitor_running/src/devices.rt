@@ -11,6 +11,7 @@ ghost use Rattle.std.specs.Prelude.{
   All,
   IfOk,
   IfSome,
+  IsOk,
   IsOkAnd,
   IsSome,
   OnErr,
@@ -36,6 +37,9 @@ use vm_world::World;
 
 /// A guest has at most so many devices, one at each port.
 pub const MOST_DEVICES: usize = 16;
+
+/// There is room for so many pages at least, before the devices act, that they make.
+const ROOM: u64 = 256;
 
 /// A sector of a disk has so many parts.
 const PARTS: u64 = 8;
@@ -172,9 +176,23 @@ fn run_device<D: Disk>(
     }
 }
 
+// Room for pages that so many devices make.
+fn make_room(alloc: Global, world: &mut World, devices: usize) -> Result<(), AllocError>
+    ensures ok { world.new ≡ record world.old { spare = world.new.spare } }
+    ensures none { devices ≡ 0 → IsOk result }
+    ensures err { OnErr result (world.new ≡ world.old) }
+{
+    if devices == 0 {
+        return Ok(());
+    }
+    world.reserve(alloc, ROOM)?;
+    Ok(())
+}
+
 /// Events of each device, in order of their numbers: of each until it has waited, which is made too, or `most` are made.
 /// What a device asks of its disk is answered by that, `Failed` where the call fails; at the end the disks settle. Room for all
-/// events is made first; where there is no device none is needed. Nothing is said of how far a device gets.
+/// events is made first, and for pages that they make; where there is no device none is needed. Nothing is said of how far a device
+/// gets: one that lacks a page goes on in the next turn.
 ///
 /// Errors: want of memory, which leaves everything as it was.
 pub fn run_devices<D: Disk>(
@@ -194,6 +212,7 @@ pub fn run_devices<D: Disk>(
 {
     let devices = world.devices().len().min(MOST_DEVICES);
     let mut events = Vec::with_capacity(alloc, devices * most as usize)?;
+    make_room(alloc, world, devices)?;
     for number in 0..devices {
         run_device(world, number as u8, disk, most, &mut events);
     }

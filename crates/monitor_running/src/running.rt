@@ -2,7 +2,7 @@
 ghost use Rattle.std.specs.Prelude.{◌≡◌, ◌≢◌, ◌⊎◌, ◌↔◌, ◌≤◌, ◌<◌, ◌+◌, true, length, All, IfOk, OnErr, Some};
 ghost use Rattle.vm_host.specs.Telling as clocks;
 ghost use Rattle.flat_guest.specs.Guest.{Guest};
-ghost use Rattle.vm_world.specs.Worlds.{IsWorld};
+ghost use Rattle.vm_world.specs.Worlds.{IsSameGuest, IsWorld};
 ghost use Rattle.slice_runner.specs.Slices.{ClockWasAsked, IsSerial, IsThere};
 ghost use Rattle.slice_runner.specs.Stops.{AreStopped};
 ghost use Rattle.monitor_machine.specs.State.{IsLive};
@@ -80,7 +80,7 @@ fn slice_by<Q: Send + Drop, W: TurnObjects, G: Gate<Pass = Q> + Sync, R: Threads
         AreStopped G.tally steps slice.events.items world.new slice.stops.items passes.old.items passes.new.items) }
     ensures clock { IfOk result (λ slice.
         ClockWasAsked (W.known with.old).host.clock slice.events.items (W.known with.new).host.clock) }
-    ensures failed { OnErr result ((world.new ≡ world.old)
+    ensures failed { OnErr result (IsSameGuest world.old world.new
         × ((W.known with.new).host.clock ≡ (W.known with.old).host.clock) × (passes.new.items ≡ passes.old.items)) }
     ensures serve { All (G.serves gate.now) passes.new.items }
     ensures same { length passes.new.items ≡ length passes.old.items }

@@ -24,7 +24,8 @@ ghost use Rattle.std.specs.Prelude.{
 ghost use Rattle.vm_types.specs.declared.op.Op.TheVariants.{Idle};
 ghost use Rattle.vm_host.specs.Telling.{ClockKnown};
 ghost use Rattle.flat_guest.specs.Guest.{Guest};
-ghost use Rattle.vm_world.specs.Worlds.{IsWorld, WorldValue, want_in};
+ghost use Rattle.guest_pages.specs.Made.{HasRoom, Spends};
+ghost use Rattle.vm_world.specs.Worlds.{IsWorld, WorldValue, pages_of, want_in};
 ghost use Rattle.monitor_running.specs.declared.ran.Ran.TheVariants as ran;
 ghost use Rattle.monitor_running.specs.Objects.{known_with, with_clock};
 ghost use Rattle.monitor_running.specs.Ran.{IsRunning, Went};
@@ -108,7 +109,8 @@ fn left_until(left: u64, now: u64, moment: u64) -> u64
 
 // The next event of an actor, which is given the clock's answer where it asks for that.
 fn step_once<C: Clock>(world: &mut World, actor: ActorId, clock: &mut C, events: &mut Vec<Entry>)
-    requires { vec_len events.old + 1 ≤ vec_capacity events.old }
+    requires list { vec_len events.old + 1 ≤ vec_capacity events.old }
+    requires room { HasRoom 1 (pages_of world.old) }
     ensures gone { (first : WorldValue) (asked : ClockKnown) →
         HasGone events.old.items first world.old asked (C.known clock.old) →
         HasGone events.new.items first world.new asked (C.known clock.new) }
@@ -118,6 +120,7 @@ fn step_once<C: Clock>(world: &mut World, actor: ActorId, clock: &mut C, events:
         HasMade (actors ++ actor ∷ []) events.new.items first world.new }
     ensures room { vec_capacity events.new ≡ vec_capacity events.old }
     ensures most { vec_len events.new ≤ vec_len events.old + 1 }
+    ensures spends { Spends 1 (pages_of world.old) (pages_of world.new) }
 {
     let Some(op) = world.want(actor) else {
         return;
@@ -131,7 +134,8 @@ fn step_once<C: Clock>(world: &mut World, actor: ActorId, clock: &mut C, events:
 
 // Its next two events: a question to the clock and an advance, or a wait and a look.
 fn step_twice<C: Clock>(world: &mut World, actor: ActorId, clock: &mut C, events: &mut Vec<Entry>)
-    requires { vec_len events.old + 2 ≤ vec_capacity events.old }
+    requires list { vec_len events.old + 2 ≤ vec_capacity events.old }
+    requires room { HasRoom 2 (pages_of world.old) }
     ensures gone { (first : WorldValue) (asked : ClockKnown) →
         HasGone events.old.items first world.old asked (C.known clock.old) →
         HasGone events.new.items first world.new asked (C.known clock.new) }
@@ -141,6 +145,7 @@ fn step_twice<C: Clock>(world: &mut World, actor: ActorId, clock: &mut C, events
         HasMade (actors ++ actor ∷ actor ∷ []) events.new.items first world.new }
     ensures room { vec_capacity events.new ≡ vec_capacity events.old }
     ensures most { vec_len events.new ≤ vec_len events.old + 2 }
+    ensures spends { Spends 2 (pages_of world.old) (pages_of world.new) }
 {
     step_once(world, actor, clock, events);
     step_once(world, actor, clock, events);
@@ -163,7 +168,8 @@ fn step_hart<C: Clock>(
     clock: &mut C,
     events: &mut Vec<Entry>,
 )
-    requires { vec_len events.old + 2 ≤ vec_capacity events.old }
+    requires list { vec_len events.old + 2 ≤ vec_capacity events.old }
+    requires room { HasRoom 2 (pages_of world.old) }
     ensures gone { (first : WorldValue) (asked : ClockKnown) →
         HasGone events.old.items first world.old asked (C.known clock.old) →
         HasGone events.new.items first world.new asked (C.known clock.new) }
@@ -173,6 +179,7 @@ fn step_hart<C: Clock>(
         HasMade (actors ++ hart_turn but hart) events.new.items first world.new }
     ensures room { vec_capacity events.new ≡ vec_capacity events.old }
     ensures most { vec_len events.new ≤ vec_len events.old + 2 }
+    ensures spends { Spends 2 (pages_of world.old) (pages_of world.new) }
 {
     if !is_left_out(but, hart) {
         step_twice(world, ActorId::Hart(hart), clock, events);
@@ -197,6 +204,7 @@ fn pass_time<C: Clock>(
 {
     let harts = world.hart_count();
     let mut events = Vec::with_capacity(alloc, 2 * harts + 2)?;
+    world.reserve(alloc, 2 * harts as u64 + 2)?;
     step_twice(world, ActorId::Timer, clock, &mut events);
     for number in 0..harts {
         step_hart(world, but, number as u8, clock, &mut events);

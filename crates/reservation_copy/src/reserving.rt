@@ -1,6 +1,7 @@
 // What is reserved in memory, as a copy has it, and back.
 ghost use Rattle.std.specs.Prelude.{◌≡◌, ◌≤◌, ◌^◌, true, IfOk, length};
 ghost use Rattle.std.specs.List.{list_all};
+ghost use Rattle.guest_pages.specs.Made.{HasRoom};
 ghost use Rattle.guest_pages.specs.Pages.{flat_of, marks_of};
 ghost use Rattle.snap_state.specs.Valid.{is_reserved};
 ghost use Rattle.flat_snapshot.specs.Carried.{slots_with};
@@ -14,8 +15,8 @@ use std::alloc::{AllocError, Global};
 
 /// What is reserved in the pages, by page and then by hart: a page has a slot for each hart that there can be.
 pub fn reservations_of(alloc: Global, pages: &PageSet) -> Result<Items<Reservation>, AllocError>
-    requires { length pages.now ≤ 2 ^ 28 }
-    ensures { IfOk result (λ items. items ≡ reservations_from 0 (flat_of pages.now).reserved) }
+    requires { length pages.now.pages ≤ 2 ^ 28 }
+    ensures { IfOk result (λ items. items ≡ reservations_from 0 (flat_of pages.now.pages).reserved) }
 {
     let mut items = Items::new(alloc);
     for slot in 0..HART_LIMIT * pages.len() {
@@ -30,14 +31,17 @@ pub fn reservations_of(alloc: Global, pages: &PageSet) -> Result<Items<Reservati
     Ok(items)
 }
 
-/// Reserves all of these in the pages, and marks none. They are of pages and harts that are there, of which there are at most 32.
+/// Reserves all of these in the pages, and marks none. They are of pages and harts that are there, of which there are at most 32. For
+/// each of them there is room: it takes no memory but spare pages.
+#[tactic(auto, using(crate::proofs::Rooms::room_first, crate::proofs::Rooms::room_next))]
 pub fn reserve(pages: &mut PageSet, harts: u64, reservations: &[Reservation])
     requires few { harts ≤ 32 }
-    requires there { list_all (is_reserved (length pages.old) harts) reservations.now ≡ true }
-    ensures bytes { (flat_of pages.new).bytes ≡ (flat_of pages.old).bytes }
-    ensures reserved { (flat_of pages.new).reserved ≡ slots_with reservations.now (flat_of pages.old).reserved }
-    ensures marks { marks_of pages.new ≡ marks_of pages.old }
-    ensures count { length pages.new ≡ length pages.old }
+    requires there { list_all (is_reserved (length pages.old.pages) harts) reservations.now ≡ true }
+    requires room { HasRoom (length reservations.now) pages.old }
+    ensures bytes { (flat_of pages.new.pages).bytes ≡ (flat_of pages.old.pages).bytes }
+    ensures reserved { (flat_of pages.new.pages).reserved ≡ slots_with reservations.now (flat_of pages.old.pages).reserved }
+    ensures marks { marks_of pages.new.pages ≡ marks_of pages.old.pages }
+    ensures count { length pages.new.pages ≡ length pages.old.pages }
 {
     let mut left = reservations;
     while let Some((first, others)) = left.split_first() {

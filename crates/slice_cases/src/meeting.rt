@@ -22,6 +22,7 @@ pub fn print<R: Threads + Wait + Print + AllocGlobal + Sync>(rt: &R) -> io::Resu
     let Some(mut world) = two_harts(rt.alloc(), &GO_THEIR_WAYS) else {
         return println!(rt; "no world");
     };
+    world.reserve(rt.alloc(), 9)?;
     let made = world.run(ActorId::Hart(0), 9).is_ok();
     println!(rt; "meeting: nine steps are made => {made}")?;
     print_meeting(rt, &mut world)

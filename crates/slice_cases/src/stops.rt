@@ -34,6 +34,7 @@ fn print_off<R: Print + AllocGlobal>(rt: &R) -> io::Result<()> {
     let Some(mut world) = two_harts(rt.alloc(), &ENDS) else {
         return println!(rt; "no world");
     };
+    world.reserve(rt.alloc(), 100)?;
     let made = world.run(ActorId::Hart(0), 100).ok();
     println!(rt; "off: events of a hundred => {made:?}")
 }
@@ -124,7 +125,7 @@ fn port_of(world: &World, number: usize) -> Option<u8> {
 
 fn is_marked(world: &World) -> bool {
     let pages = world.pages();
-    pages.len() > 0 && pages.page(0).is_marked()
+    pages.len() > 0 && pages.is_marked(0)
 }
 
 // The lowest byte of its capacity.

@@ -63,7 +63,9 @@ pub fn print<R: Threads + Wait + Print + AllocGlobal + Sync>(rt: &R) -> io::Resu
 fn table_of_places(alloc: Global) -> Option<Rested> {
     let mut world = two_drives(alloc, &[])?;
     let board = Board::new(alloc, 2).ok()?;
-    let parts = world.take(alloc, board);
+    let list = Vec::with_capacity(alloc, world.pages().len()).ok()?;
+    world.make_pages(alloc).ok()?;
+    let parts = world.take(alloc, board, list);
     let count = parts.pages.len() + parts.ports.len() + 1;
     let mut places = Vec::with_capacity(alloc, count).ok()?;
     place_all(parts.pages, parts.ports, parts.board, &mut places);

@@ -104,9 +104,9 @@ abbrev hart_in : ActorState → Hart → Hart
 hart_in (TimerIs t) d = d
 hart_in (HartIs h) d = h
 
--- a world is known by its places and its actors
+-- a world is known by its places and its actors, but for its spare pages
 pub same_world : (w v : WorldValue) → layout_in w ≡ layout_in v → length w.harts ≡ length v.harts → w.devices ≡ v.devices
-    → ((p : PlaceId) → is_out p ≡ false → places_of w p ≡ places_of v p) → ((a : ActorId) → actors_of w a ≡ actors_of v a) → w ≡ v
+    → ((p : PlaceId) → is_out p ≡ false → places_of w p ≡ places_of v p) → ((a : ActorId) → actors_of w a ≡ actors_of v a) → record w { spare = v.spare } ≡ v
 same_world w v layout harts devices places actors =
     let pages_are : w.pages ≡ v.pages =
     same_lists w.pages v.pages (new_page 0) (ap (λ (l : Layout). l.pages) layout) (λ i. ap (λ (x : MachinePlace). page_in x (new_page 0)) (places (PlaceId.Page i) refl)) in
@@ -116,4 +116,4 @@ same_world w v layout harts devices places actors =
     let timer_is : w.timer ≡ v.timer = ap (λ (x : ActorState). timer_in x w.timer) (actors ActorId.Timer) in
     let harts_are : w.harts ≡ v.harts =
     same_lists w.harts v.harts (fresh stopped_regs) harts (λ k. ap (λ (x : ActorState). hart_in x (fresh stopped_regs)) (actors (ActorId.Hart k))) in
-    λ j. record { pages = pages_are j; board = board_is j; ports = ports_are j; timer = timer_is j; harts = harts_are j; devices = devices j }
+    λ j. record { pages = pages_are j; spare = v.spare; board = board_is j; ports = ports_are j; timer = timer_is j; harts = harts_are j; devices = devices j }

@@ -1,3 +1,4 @@
+pub mod Around
 pub mod Answers
 pub mod Crew
 pub mod Joined

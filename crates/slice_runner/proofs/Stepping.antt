@@ -47,6 +47,7 @@ pages_after place pages actor op = pages
 abbrev pub world_after : WorldValue → Entry → WorldValue
 world_after w e = record {
   pages = pages_after e.place w.pages e.actor e.op;
+  spare = w.spare;
   board = board_after e.place w.board e.actor e.op;
   ports = ports_after e.place w.ports e.actor e.op;
   timer = timer_after e.actor w.timer e.reply;

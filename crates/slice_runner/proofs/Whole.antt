@@ -203,7 +203,7 @@ module _ {Q : Type 0} (serves : Q → Type 0) (tally : Q → Tally) (n : ℕ) (a
   came : layout_in new ≡ layout_in old
   came = λ i. record { pages = pages_count i; ports = ports_count i }
 
-  arrived : reached.end ≡ new
+  arrived : record reached.end { spare = new.spare } ≡ new
   arrived =
       same_world reached.end new (reached.layout ∙ sym came) (reached.harts ∙ sym harts_long) reached.devices
       (λ p inner. sym (ap (λ (f : PlaceId → _). f p) reached.places) ∙ run.places p inner)

@@ -1,6 +1,7 @@
 // A slice of a world.
 ghost use Rattle.std.specs.Prelude.{◌≡◌, ◌+◌, ◌≤◌, length, All, IfOk, OnErr, OnOk};
 ghost use Rattle.slice_runner.specs.Slices.{AreStamps, ClockWasAsked, IsSerial, IsThere, MarksFollow};
+ghost use Rattle.vm_world.specs.Worlds.{IsSameGuest};
 ghost use Rattle.slice_runner.specs.Stops.{AreStopped};
 
 use crate::room::Room;
@@ -56,7 +57,7 @@ pub fn run_slice<Q: Send + Drop, C: Clock, G: Gate<Pass = Q> + Sync, R: Threads 
     ensures clock { IfOk result (λ slice.
         ClockWasAsked (C.known clock.old) slice.events.items (C.known clock.new)) }
     ensures devices { OnOk result (world.new.devices ≡ world.old.devices) }
-    ensures failed { OnErr result ((world.new ≡ world.old)
+    ensures failed { OnErr result (IsSameGuest world.old world.new
         × (C.known clock.new ≡ C.known clock.old) × (passes.new.items ≡ passes.old.items)) }
     ensures serve { All (G.serves gate.now) passes.new.items }
     ensures same { length passes.new.items ≡ length passes.old.items }
@@ -66,7 +67,9 @@ pub fn run_slice<Q: Send + Drop, C: Clock, G: Gate<Pass = Q> + Sync, R: Threads 
     let harts = world.hart_count();
     let room = Room::<Q>::new(alloc, pages, ports, harts, passes.len(), steps)?;
     let board = Board::new(alloc, 0)?;
-    let parts = world.take(alloc, board);
+    let list = Vec::with_capacity(alloc, pages)?;
+    world.make_pages(alloc)?;
+    let parts = world.take(alloc, board, list);
     match share(rt, alloc, gate, clock, passes, parts, room, steps) {
         Ok(shared) => {
             let Shared {
@@ -74,11 +77,11 @@ pub fn run_slice<Q: Send + Drop, C: Clock, G: Gate<Pass = Q> + Sync, R: Threads 
                 events,
                 stops,
             } = shared;
-            *world = World::with_parts(parts);
+            world.put_back(parts);
             Ok(Slice { events, stops })
         }
         Err(parts) => {
-            *world = World::with_parts(parts);
+            world.put_back(parts);
             Err(AllocError)
         }
     }

@@ -60,7 +60,7 @@ front_found identity pages None = Err refusal.NoSuchFile
 front_found identity pages (Some given) = memory_front identity pages (length given) (take 4096 given)
 
 abbrev pub snapshot_of : FoundSnapshot → Snapshot
-snapshot_of f = record { identity = f.identity; copy = f.copy; bytes = (flat_of f.pages).bytes }
+snapshot_of f = record { identity = f.identity; copy = f.copy; bytes = (flat_of f.pages.pages).bytes }
 
 -- the refusal of bytes that are no file of theirs
 abbrev pub refused_by : DecodeError → FindError

@@ -110,9 +110,9 @@ pub fn find<F: Files>(
     ensures finds { Tells (F.known files.old).health →
         Answers snapshot_of result (found (F.known files.old).saved names.now) }
     ensures saved { IfOk result (λ it. HasFile (record { identity = it.identity; copy = it.copy })) }
-    ensures reserved { IfOk result (λ it. (flat_of it.pages).reserved ≡ unreserved it.copy.pages) }
-    ensures count { IfOk result (λ it. length it.pages ≡ it.copy.pages) }
-    ensures marks { IfOk result (λ it. marks_of it.pages ≡ replicate it.copy.pages false) }
+    ensures reserved { IfOk result (λ it. (flat_of it.pages.pages).reserved ≡ unreserved it.copy.pages) }
+    ensures count { IfOk result (λ it. length it.pages.pages ≡ it.copy.pages) }
+    ensures marks { IfOk result (λ it. marks_of it.pages.pages ≡ replicate it.copy.pages false) }
     ensures same { Tells (F.known files.old).health → SameFiles (F.known files.old) (F.known files.new) }
     ensures cause { FindCause result (F.known files.old).health.faults (F.known files.new).health.faults }
     ensures lasts { Lasts (F.known files.old).health (F.known files.new).health }

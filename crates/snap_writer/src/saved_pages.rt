@@ -23,17 +23,17 @@ impl<'a> Model for SavedPages<'a> {
 
     ghost Value = { List ℕ };
 
-    ghost view = { λ s. selected (option_map (λ t. t.now) s.numbers) (flat_of s.memory.now).bytes };
+    ghost view = { λ s. selected (option_map (λ t. t.now) s.numbers) (flat_of s.memory.now.pages).bytes };
 
-    ghost invariant = { λ s. (length s.memory.now < 2 ^ 32)
-        × (can_select (option_map (λ t. t.now) s.numbers) (length s.memory.now) ≡ true) };
+    ghost invariant = { λ s. (length s.memory.now.pages < 2 ^ 32)
+        × (can_select (option_map (λ t. t.now) s.numbers) (length s.memory.now.pages) ≡ true) };
 }
 
 impl<'a> SavedPages<'a> {
     /// All of them.
     pub fn all(memory: &'a PageSet) -> SavedPages<'a>
-        requires { length memory.now < 2 ^ 32 }
-        ensures { result ≡ (flat_of memory.now).bytes }
+        requires { length memory.now.pages < 2 ^ 32 }
+        ensures { result ≡ (flat_of memory.now.pages).bytes }
     {
         SavedPages {
             memory,
@@ -43,9 +43,9 @@ impl<'a> SavedPages<'a> {
 
     /// Those of these numbers. `None` where one is no page's, or there are more of them than pages.
     pub fn some(memory: &'a PageSet, numbers: &'a [u32]) -> Option<SavedPages<'a>>
-        requires { length memory.now < 2 ^ 32 }
-        ensures pages { IfSome result (λ pages. pages ≡ pages_at numbers.now (flat_of memory.now).bytes) }
-        ensures there { is_some result ≡ are_there numbers.now (length memory.now) }
+        requires { length memory.now.pages < 2 ^ 32 }
+        ensures pages { IfSome result (λ pages. pages ≡ pages_at numbers.now (flat_of memory.now.pages).bytes) }
+        ensures there { is_some result ≡ are_there numbers.now (length memory.now.pages) }
     {
         if are_there(numbers, memory.len()) {
             Some(SavedPages {
@@ -99,13 +99,13 @@ fn are_below(numbers: &[u32], count: usize) -> bool
 
 // The pages of these numbers, from one of them on, as many as `out` has.
 fn copy_pages(memory: &PageSet, numbers: &[u32], first: usize, out: &mut [u8])
-    requires small { length memory.now < 2 ^ 32 }
-    requires bytes { length (flat_of memory.now).bytes ≡ 4096 * length memory.now }
-    requires there { list_all (λ n. nat_lt n (length memory.now)) numbers.now ≡ true }
+    requires small { length memory.now.pages < 2 ^ 32 }
+    requires bytes { length (flat_of memory.now.pages).bytes ≡ 4096 * length memory.now.pages }
+    requires there { list_all (λ n. nat_lt n (length memory.now.pages)) numbers.now ≡ true }
     requires whole { length out.old % 4096 ≡ 0 }
     requires inside { 4096 * first + length out.old ≤ 4096 * length numbers.now }
     requires few { length numbers.now ≤ 2 ^ 32 }
-    ensures { out.new ≡ take (length out.old) (drop (4096 * first) (pages_at numbers.now (flat_of memory.now).bytes)) }
+    ensures { out.new ≡ take (length out.old) (drop (4096 * first) (pages_at numbers.now (flat_of memory.now.pages).bytes)) }
 {
     for page in 0..out.len() / PAGE_SIZE {
         let at = PAGE_SIZE * page;

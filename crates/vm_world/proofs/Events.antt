@@ -8,9 +8,11 @@ use Rattle.vm_types.specs.declared.op.Op.{Op}
 use Rattle.vm_types.specs.declared.reply.Reply.{Reply}
 use Rattle.vm_types.specs.declared.entry.Entry.{Entry}
 use Rattle.guest_memory.specs.Route.{access_place}
+use Rattle.guest_pages.specs.Made.{is_ready}
 use Rattle.guest_pages.specs.Marks.{AreMarks, marks_after}
 use Rattle.guest_pages.specs.Pages.{PageValue, flat_of, marks_of}
 use Rattle.rv_supervisor.specs.declared.regs.Regs.{Regs}
+use Rattle.hart_trace.specs.Asks.{is_host_op}
 use Rattle.hart_trace.specs.States.{Hart, hart_wants, hart_next}
 use Rattle.timer_trace.specs.declared.timer.Timer.{Timer}
 use Rattle.timer_trace.specs.States.{new_timer}
@@ -40,8 +42,8 @@ use Rattle.flat_guest.proofs.Determined.{wants_one}
 use Rattle.flat_guest.proofs.Marked.{none_marked}
 use Rattle.flat_guest.proofs.Stepping.{HasMade, HasStopped, entry_of, has_made_more, ran, step_is, stays}
 use Rattle.vm_world.specs.declared.step_error.StepError.{StepError}
-use Rattle.vm_world.specs.Refusing.{refusal_of}
-use Rattle.vm_world.specs.Worlds.{IsWorld, MakesEvent, Runs, WorldValue, body_of, place_in, want_in, world_reset}
+use Rattle.vm_world.specs.Refusing.{IsRefused, refusal_of}
+use Rattle.vm_world.specs.Worlds.{IsSameGuest, IsWorld, MakesEvent, Runs, WorldValue, body_of, pages_of, place_in, want_in, world_reset}
 
 -- an op that acts on a page is an access
 port_page : (b : Bool) (port i : ℕ) → (let place : PlaceId = if b then PlaceId.Port port else PlaceId.Out in place) ≡ PlaceId.Page i → ⊥
@@ -237,6 +239,30 @@ not_refused w g actor op mine given why is want wants none some =
     let both : Some why ≡ None = sym some ∙ ap (λ (o : Op). refusal_of o given) (sym same) ∙ none in
     cc
 
+-- why an act is refused is never that its actor is absent, or that it lacks a spare page
+unfit_other : (fit : Bool) (why : StepError) → (StepError.Unfit ≡ why → ⊥) → (if fit then None else Some StepError.Unfit) ≡ Some why → ⊥
+unfit_other true why other some = cc
+unfit_other false why other some = let same : StepError.Unfit ≡ why = cc in other same
+
+pub never_absent : (op : Op) (given : Option Reply) → refusal_of op given ≡ Some StepError.NoActor → ⊥
+never_absent (Op.Out act) None some = cc
+never_absent (Op.Out act) (Some reply) some = unfit_other (out_fits act reply) StepError.NoActor (λ is. cc) some
+never_absent op None some = cc
+never_absent op (Some reply) some = cc
+
+pub never_spare : (op : Op) (given : Option Reply) → refusal_of op given ≡ Some StepError.NoSpare → ⊥
+never_spare (Op.Out act) None some = cc
+never_spare (Op.Out act) (Some reply) some = unfit_other (out_fits act reply) StepError.NoSpare (λ is. cc) some
+never_spare op None some = cc
+never_spare op (Some reply) some = cc
+
+-- so it is its want that is refused
+pub refused_by : (w : WorldValue) (g : Guest) (actor : ActorId) (op : Op) (given : Option Reply) (why : StepError) → IsWorld w g
+    → want_in w actor ≡ Some op → refusal_of op given ≡ Some why → IsRefused g actor given why
+refused_by w g actor op given StepError.NoActor is want some = absurd (never_absent op given some)
+refused_by w g actor op given StepError.NoSpare is want some = absurd (never_spare op given some)
+refused_by w g actor op given why is want some = (op, wanted w g actor op is want, some)
+
 -- the timer at its start
 pub restarted : (w : WorldValue) (g : Guest) → IsWorld w g → IsWorld (record w { timer = new_timer }) (timer_restarted g)
 restarted w g is = record {
@@ -284,6 +310,22 @@ reset_is w g is =
     let after : body_of (world_reset w) ≡ body_reset (body_of w) =
     λ i. record (body_of w) { devices = lefts_reset w.devices i } in
     subst (λ (n : Body). IsGuest n (reset_guest g)) (sym after) (changing.reset_is (body_of w) g is)
+
+-- an act on a host object takes no page
+pub host_ready : (w : WorldValue) (op : Op) → is_host_op op ≡ true → is_ready (pages_of w) (place_in w op) ≡ true
+host_ready w (Op.Out act) is = refl
+host_ready w op is = cc
+
+-- and with other pages made, or spare
+pub same_body : (old new : WorldValue) → IsSameGuest old new → body_of new ≡ body_of old
+same_body old new same =
+    let rest = ap body_of same.rest in
+    let memory = same.memory in
+    let marks = same.marks in
+    rest ∙ (λ i. record (body_of old) { memory = memory i; marks = marks i })
+
+pub same_world : (old new : WorldValue) (g : Guest) → IsSameGuest old new → IsWorld old g → IsWorld new g
+same_world old new g same is = subst (λ (n : Body). IsGuest n g) (sym (same_body old new same)) is
 
 -- events of an actor, one after another
 abbrev pub HasRun : ActorId → WorldValue → ℕ → WorldValue → Type 0

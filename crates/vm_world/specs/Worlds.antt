@@ -6,6 +6,7 @@ use Rattle.vm_types.specs.declared.ids.ActorId.{ActorId}
 use Rattle.vm_types.specs.declared.ids.PlaceId.{PlaceId}
 use Rattle.board_table.specs.Board.{Board}
 use Rattle.port_table.specs.declared.state.PortState.{PortState}
+use Rattle.guest_pages.specs.Made.{PagesValue}
 use Rattle.guest_pages.specs.Pages.{PageValue, flat_of, marks_of}
 use Rattle.hart_trace.specs.States.{Hart}
 use Rattle.timer_trace.specs.declared.timer.Timer.{Timer}
@@ -17,18 +18,30 @@ use Rattle.flat_guest.specs.Body.{Body, IsGuest, body_layout, wants}
 use Rattle.flat_guest.specs.Places.{place_of}
 use Rattle.flat_guest.specs.Steps.{FlatStep, IsUnstamped, StepsBy, guest_after}
 
--- pages, the board, the ports, the timer, and the harts and the devices by their numbers
+-- pages, how many spare ones there are, the board, the ports, the timer, and the harts and the devices by their numbers
 pub record WorldValue : Type 0 where
   pub pages : List PageValue
+  pub spare : ℕ
   pub board : Board
   pub ports : List PortState
   pub timer : Timer
   pub harts : List Hart
   pub devices : List Device
 
+-- no page is spare
 abbrev pub world_with : List PageValue → Board → List PortState → Timer → List Hart → List Device → WorldValue
 world_with pages board ports timer harts devices =
-    record { pages = pages; board = board; ports = ports; timer = timer; harts = harts; devices = devices }
+    record { pages = pages; spare = 0; board = board; ports = ports; timer = timer; harts = harts; devices = devices }
+
+-- its pages, and how many are spare
+abbrev pub pages_of : WorldValue → PagesValue
+pages_of w = record { pages = w.pages; spare = w.spare }
+
+-- it differs in which pages are made and in how many are spare alone, of which no guest of it knows
+pub record IsSameGuest (old new : WorldValue) : Type 0 where
+  pub memory : flat_of new.pages ≡ flat_of old.pages
+  pub marks : marks_of new.pages ≡ marks_of old.pages
+  pub rest : new ≡ record old { pages = new.pages; spare = new.spare }
 
 -- the pages as one memory, which of them are marked, what the devices have still to do, and the rest as it is
 abbrev pub body_of : WorldValue → Body

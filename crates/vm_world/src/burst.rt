@@ -3,6 +3,7 @@
 ghost use Rattle.std.specs.Prelude.{◌≡◌, ◌≤◌, ◌<◌, ◌+◌, ◌*◌, ◌^◌, false, true, None, Some, IfSome, length};
 ghost use Rattle.guest_memory.specs.Ram.{ram_start};
 ghost use Rattle.guest_pages.specs.Code.{IsCode};
+ghost use Rattle.guest_pages.specs.Made.{HasRoom, Spends};
 ghost use Rattle.hart_trace.specs.States.{fresh};
 ghost use Rattle.rv_rows.specs.Loads.{load_width};
 ghost use Rattle.rv_supervisor.specs.declared.regs.Turn.TheVariants as turn;
@@ -37,7 +38,7 @@ enum Ended {
 #[inline(always)]
 fn load_as(pages: &PageSet, kind: LoadKind, width: Width, at: u64) -> Option<u64>
     requires { load_width kind ≡ width }
-    ensures { IfSome result (λ value. Loads pages.now kind at value) }
+    ensures { IfSome result (λ value. Loads pages.now.pages kind at value) }
 {
     if at % width.bytes() as u64 != 0 || at < RAM_START {
         return None;
@@ -46,10 +47,13 @@ fn load_as(pages: &PageSet, kind: LoadKind, width: Width, at: u64) -> Option<u64
 }
 
 // Makes a store of this width, where it is aligned and RAM has its bytes. Answers whether it is made.
+#[tactic(auto, using(guest_pages::proofs::Making::no_spends, guest_pages::proofs::Making::room_ready))]
 #[inline(always)]
 fn store_as(pages: &mut PageSet, number: u8, width: Width, at: u64, value: u64) -> bool
-    ensures made { result ≡ true → Stores pages.old (Actor.Hart number) width at value pages.new }
+    requires { HasRoom 1 pages.old }
+    ensures made { result ≡ true → Stores pages.old.pages (Actor.Hart number) width at value pages.new.pages }
     ensures left { result ≡ false → pages.new ≡ pages.old }
+    ensures spends { Spends 1 pages.old pages.new }
 {
     if at % width.bytes() as u64 != 0 || at < RAM_START {
         return false;
@@ -59,14 +63,17 @@ fn store_as(pages: &mut PageSet, number: u8, width: Width, at: u64, value: u64) 
 
 // Makes the instruction whose word was read at this pc, with its load or store, where RAM has that. `None` where it is any
 // other, and then nothing is changed.
+#[tactic(auto, using(guest_pages::proofs::Making::no_spends))]
 #[inline(always)]
 fn go_on(pages: &mut PageSet, regs: &mut Regs, number: u8, word: u32, pc: u64) -> Option<Ended>
     requires ram { ram_start ≤ pc }
-    requires read { HaveWord pages.old pc word }
-    ensures goes { IfSome result (λ ended. EndsSo pages.old pc regs.old (Actor.Hart number) ended pages.new regs.new) }
+    requires read { HaveWord pages.old.pages pc word }
+    requires room { HasRoom 1 pages.old }
+    ensures goes { IfSome result (λ ended. EndsSo pages.old.pages pc regs.old (Actor.Hart number) ended pages.new.pages regs.new) }
     ensures kept { regs.new ≡ record regs.old { x = regs.new.x } }
     ensures none { result ≡ None → (pages.new ≡ pages.old) × (regs.new ≡ regs.old) }
-    ensures count { length pages.new ≡ length pages.old }
+    ensures count { length pages.new.pages ≡ length pages.old.pages }
+    ensures spends { Spends 1 pages.old pages.new }
 {
     let a = regs.get(rs1(word));
     match opcode(word) {
@@ -102,11 +109,13 @@ fn step(
     pc: u64,
 ) -> Option<Ended>
     requires ram { ram_start ≤ pc }
-    requires read { HaveWord pages.old pc word }
-    ensures goes { IfSome result (λ ended. EndsSo pages.old pc regs.old (Actor.Hart number) ended pages.new regs.new) }
+    requires read { HaveWord pages.old.pages pc word }
+    requires room { HasRoom 1 pages.old }
+    ensures goes { IfSome result (λ ended. EndsSo pages.old.pages pc regs.old (Actor.Hart number) ended pages.new.pages regs.new) }
     ensures kept { regs.new ≡ record regs.old { x = regs.new.x } }
     ensures none { result ≡ None → (pages.new ≡ pages.old) × (regs.new ≡ regs.old) }
-    ensures count { length pages.new ≡ length pages.old }
+    ensures count { length pages.new.pages ≡ length pages.old.pages }
+    ensures spends { Spends 1 pages.old pages.new }
 {
     match words.find(pc, word) {
         Some(it) => {
@@ -122,10 +131,10 @@ fn step(
 // The word at this pc, by the page that the last one was in where it is there too.
 #[inline(always)]
 fn fetch(pages: &PageSet, code: &mut CodePage, pc: u64) -> Option<u32>
-    requires { IsCode code.old (length pages.now) }
-    ensures code { IsCode code.new (length pages.now) }
+    requires { IsCode code.old pages.now.pages }
+    ensures code { IsCode code.new pages.now.pages }
     ensures ram { IfSome result (λ word. ram_start ≤ pc) }
-    ensures word { IfSome result (λ word. HaveWord pages.now pc word) }
+    ensures word { IfSome result (λ word. HaveWord pages.now.pages pc word) }
 {
     if let Some(word) = pages.code_word(*code, pc) {
         return Some(word);
@@ -150,6 +159,7 @@ fn settle(regs: &mut Regs, pc: u64, done: u64)
 
 // Instructions of the hart with these registers, which is to fetch, one after another, so many at most, as long as the next
 // one is in RAM and so is what it loads or stores: how many events they are.
+#[tactic(auto, using(guest_pages::proofs::Making::no_spends))]
 #[inline(never)]
 fn run_in_ram(
     pages: &mut PageSet,
@@ -162,9 +172,11 @@ fn run_in_ram(
     requires some { 1 ≤ most }
     requires before_look { most ≤ regs.old.count }
     requires few { 2 * most < 2 ^ 64 }
-    ensures events { Bursts pages.old (fresh regs.old) (Actor.Hart number) result pages.new (fresh regs.new) }
+    requires room { HasRoom most pages.old }
+    ensures events { Bursts pages.old.pages (fresh regs.old) (Actor.Hart number) result pages.new.pages (fresh regs.new) }
     ensures within { result ≤ 2 * most }
-    ensures count { length pages.new ≡ length pages.old }
+    ensures count { length pages.new.pages ≡ length pages.old.pages }
+    ensures spends { Spends result pages.old pages.new }
 {
     let mut pc = regs.pc;
     let Some(mut code) = pages.code_page(pc) else {
@@ -202,9 +214,11 @@ pub fn run_burst(
     number: u8,
     left: u64,
 ) -> u64
-    ensures events { Bursts pages.old hart.old (Actor.Hart number) result pages.new hart.new }
+    requires { HasRoom left pages.old }
+    ensures events { Bursts pages.old.pages hart.old (Actor.Hart number) result pages.new.pages hart.new }
     ensures within { result ≤ left }
-    ensures count { length pages.new ≡ length pages.old }
+    ensures count { length pages.new.pages ≡ length pages.old.pages }
+    ensures spends { Spends result pages.old pages.new }
 {
     if !hart.fetches() {
         return 0;

@@ -3,6 +3,7 @@
 ghost use Rattle.std.specs.Prelude.{◌≡◌, ◌≤◌, ◌^◌, nat_lt, true, false, List, Some, IfSome, length, slice_get, slice_set};
 ghost use Rattle.vm_types.specs.declared.ids.ActorId.{ActorId};
 ghost use Rattle.guest_memory.specs.Ram.{ram_start};
+ghost use Rattle.guest_pages.specs.Made.{HasRoom, Spends};
 ghost use Rattle.guest_pages.specs.Words.{read_of, read_reply, served, write_of};
 ghost use Rattle.rv_rows.specs.Loads.{load_width};
 ghost use Rattle.hart_trace.specs.Asks.{is_hart_op};
@@ -28,7 +29,7 @@ use vm_types::{ActorId, BoardOp, Op, Place, PlaceId, Reply};
 
 #[inline]
 fn read(pages: &PageSet, at: u64, width: Width) -> HartReply
-    ensures { (actor : ActorId) → reply_of result ≡ (served pages.now actor (read_of width at)).0 }
+    ensures { (actor : ActorId) → reply_of result ≡ (served pages.now.pages actor (read_of width at)).0 }
 {
     match pages.read_word(at, width) {
         Some(word) => HartReply::Bytes { word, width },
@@ -60,6 +61,7 @@ pub fn act_on_port(ports: &mut Vec<Port>, number: u8, actor: ActorId, op: &Op) -
 }
 
 // What an act is answered by its place, or where it has none.
+#[tactic(auto, using(guest_pages::proofs::Making::no_spends, guest_pages::proofs::Making::room_ready))]
 fn act(
     pages: &mut PageSet,
     board: &mut Board,
@@ -67,9 +69,11 @@ fn act(
     actor: ActorId,
     op: &Op,
 ) -> Reply
-    requires small { length pages.old ≤ 2 ^ 28 }
+    requires small { length pages.old.pages ≤ 2 ^ 28 }
     requires few { length ports.old.items ≤ 16 }
-    ensures { IsAnswered pages.old board.old ports.old.items actor op.now result pages.new board.new ports.new.items }
+    requires room { HasRoom 1 pages.old }
+    ensures answered { IsAnswered pages.old.pages board.old ports.old.items actor op.now result pages.new.pages board.new ports.new.items }
+    ensures spends { Spends 1 pages.old pages.new }
 {
     let there = Layout {
         memory_size: PAGE_SIZE * pages.len(),
@@ -95,10 +99,12 @@ fn answer_rare(
     actor: ActorId,
     op: HartOp,
 ) -> HartReply
-    requires small { length pages.old ≤ 2 ^ 28 }
+    requires small { length pages.old.pages ≤ 2 ^ 28 }
     requires few { length ports.old.items ≤ 16 }
     requires own { is_hart_op (op_of op) ≡ true }
-    ensures { IsAnswered pages.old board.old ports.old.items actor (op_of op) (reply_of result) pages.new board.new ports.new.items }
+    requires room { HasRoom 1 pages.old }
+    ensures answered { IsAnswered pages.old.pages board.old ports.old.items actor (op_of op) (reply_of result) pages.new.pages board.new ports.new.items }
+    ensures spends { Spends 1 pages.old pages.new }
 {
     let reply = act(pages, board, ports, actor, &op.op());
     match HartReply::of(&reply) {
@@ -107,6 +113,7 @@ fn answer_rare(
     }
 }
 
+#[tactic(auto, using(guest_pages::proofs::Making::no_spends, guest_pages::proofs::Making::room_ready))]
 #[inline]
 fn answer(
     pages: &mut PageSet,
@@ -115,10 +122,12 @@ fn answer(
     actor: ActorId,
     op: HartOp,
 ) -> HartReply
-    requires small { length pages.old ≤ 2 ^ 28 }
+    requires small { length pages.old.pages ≤ 2 ^ 28 }
     requires few { length ports.old.items ≤ 16 }
     requires own { is_hart_op (op_of op) ≡ true }
-    ensures { IsAnswered pages.old board.old ports.old.items actor (op_of op) (reply_of result) pages.new board.new ports.new.items }
+    requires room { HasRoom 1 pages.old }
+    ensures answered { IsAnswered pages.old.pages board.old ports.old.items actor (op_of op) (reply_of result) pages.new.pages board.new ports.new.items }
+    ensures spends { Spends 1 pages.old pages.new }
 {
     if is_low(op) {
         return answer_rare(pages, board, ports, actor, op);
@@ -148,18 +157,20 @@ fn advance(
     hart: &mut Hart,
     number: u8,
 )
-    requires small { length pages.old ≤ 2 ^ 28 }
+    requires small { length pages.old.pages ≤ 2 ^ 28 }
     requires few { length ports.old.items ≤ 16 }
-    ensures event { Advances pages.old board.old ports.old.items hart.old (ActorId.Hart number)
-        pages.new board.new ports.new.items hart.new }
-    ensures count { length pages.new ≡ length pages.old }
+    requires room { HasRoom 1 pages.old }
+    ensures event { Advances pages.old.pages board.old ports.old.items hart.old (ActorId.Hart number)
+        pages.new.pages board.new ports.new.items hart.new }
+    ensures count { length pages.new.pages ≡ length pages.old.pages }
     ensures many { length ports.new.items ≡ length ports.old.items }
+    ensures spends { Spends 1 pages.old pages.new }
 {
     let reply = answer(pages, board, ports, ActorId::Hart(number), hart.asks());
     hart.goes_on(reply);
 }
 
-/// Events of the hart of this number, and how many there were. Whatever the timer, the other harts and the devices are, they
+/// Events of the hart of this number, and how many there were. They take no memory but spare pages. Whatever the timer, the other harts and the devices are, they
 /// stay. Words that are kept decoded change nothing but how long it takes.
 #[inline(never)]
 pub fn run_hart(
@@ -171,14 +182,16 @@ pub fn run_hart(
     number: u8,
     count: u64,
 ) -> u64
-    requires small { length pages.old ≤ 2 ^ 28 }
+    requires small { length pages.old.pages ≤ 2 ^ 28 }
     requires few { length ports.old.items ≤ 16 }
+    requires room { HasRoom count pages.old }
     ensures runs { (timer : Timer) (harts : List HartValue) (devices : List Device) →
         slice_get harts number ≡ Some hart.old →
-        Runs (world_with pages.old board.old ports.old.items timer harts devices) (ActorId.Hart number) count result
-        (world_with pages.new board.new ports.new.items timer (slice_set harts number hart.new) devices) }
-    ensures count { length pages.new ≡ length pages.old }
+        Runs (world_with pages.old.pages board.old ports.old.items timer harts devices) (ActorId.Hart number) count result
+        (world_with pages.new.pages board.new ports.new.items timer (slice_set harts number hart.new) devices) }
+    ensures count { length pages.new.pages ≡ length pages.old.pages }
     ensures many { length ports.new.items ≡ length ports.old.items }
+    ensures spends { Spends result pages.old pages.new }
 {
     let mut made = 0;
     if board.is_off() {

@@ -12,9 +12,9 @@ use vm_types::GuestAddr;
 
 /// Reads as many bytes as `out` has, from this address on, over as many pages as they are in.
 pub fn read_pages(pages: &PageSet, at: GuestAddr, out: &mut [u8]) -> Result<(), NotRam>
-    requires { length pages.now ≤ 2 ^ 28 }
-    ensures ram { is_ok result ≡ is_ram (length (flat_of pages.now).bytes) at (length out.old) }
-    ensures ok { OnOk result (out.new ≡ read_from (flat_of pages.now) at (length out.old)) }
+    requires { length pages.now.pages ≤ 2 ^ 28 }
+    ensures ram { is_ok result ≡ is_ram (length (flat_of pages.now.pages).bytes) at (length out.old) }
+    ensures ok { OnOk result (out.new ≡ read_from (flat_of pages.now.pages) at (length out.old)) }
     ensures err { OnErr result (out.new ≡ out.old) }
 {
     if !is_ram(PAGE_SIZE * pages.len(), at, out.len()) {

@@ -15,6 +15,8 @@ pub enum StepError {
     Waits,
     /// The reply that is given doesn't fit the act on a host object that the actor wants.
     Unfit,
+    /// The page of the actor's want isn't made, and none is spare.
+    NoSpare,
 }
 
 /// There is no such actor.

@@ -7,6 +7,7 @@ ghost use Rattle.vm_types.specs.declared.entry.Entry.{Entry};
 ghost use Rattle.vm_types.specs.declared.op.Op.{Op};
 ghost use Rattle.guest_memory.specs.Memory.{read_from};
 ghost use Rattle.guest_memory.specs.Ram.{is_ram};
+ghost use Rattle.guest_pages.specs.Made.{HasRoom, Spends, is_ready};
 ghost use Rattle.guest_pages.specs.Marks.{marks_after};
 ghost use Rattle.guest_pages.specs.Pages.{cleared, flat_of, marks_of};
 ghost use Rattle.boot_loader.specs.declared.booting.BootError as boot_error;
@@ -22,7 +23,8 @@ ghost use Rattle.flat_guest.specs.Given.Given.{Nothing};
 ghost use Rattle.flat_guest.specs.Start.{started, timer_restarted};
 ghost use Rattle.flat_guest.specs.Steps.{board_after, is_given, memory_after, ports_after};
 ghost use Rattle.vm_world.specs.Refusing.{IsRefused, refusal_of};
-ghost use Rattle.vm_world.specs.Worlds.{IsWorld, MakesEvent, Runs, place_in, want_in, world_with};
+ghost use Rattle.vm_world.specs.declared.step_error.StepError.TheVariants as step_error;
+ghost use Rattle.vm_world.specs.Worlds.{IsWorld, MakesEvent, Runs, pages_of, place_in, want_in, world_with};
 
 mod changing;
 mod parting;
@@ -71,7 +73,8 @@ impl Model for World {
     ghost Value = { WorldValue };
 
     ghost view = { λ w. record {
-      pages = w.pages;
+      pages = w.pages.pages;
+      spare = w.pages.spare;
       board = w.board;
       ports = w.ports.items;
       timer = w.timer;
@@ -79,7 +82,7 @@ impl Model for World {
       devices = w.devices.items;
     } };
 
-    ghost invariant = { λ w. (length w.pages ≤ 2 ^ 28) × (length w.ports.items ≤ 16) };
+    ghost invariant = { λ w. (length w.pages.pages ≤ 2 ^ 28) × (length w.ports.items ≤ 16) };
 }
 
 impl World {
@@ -129,9 +132,11 @@ impl World {
         ports: Vec<Port>,
         devices: Vec<Device>,
     ) -> World
-        requires few { length pages ≤ 2 ^ 28 }
+        requires few { length pages.pages ≤ 2 ^ 28 }
         requires few_ports { length ports.items ≤ 16 }
-        ensures { result ≡ world_with pages board ports.items new_timer harts.items devices.items }
+        ensures { result ≡ record (world_with pages.pages board ports.items new_timer harts.items devices.items) {
+          spare = pages.spare;
+        } }
     {
         World {
             pages,
@@ -146,8 +151,9 @@ impl World {
 
     /// Guest memory.
     pub fn pages(&self) -> &PageSet
-        ensures pages { result.now ≡ self.now.pages }
-        ensures few { length result.now ≤ 2 ^ 28 }
+        ensures pages { result.now.pages ≡ self.now.pages }
+        ensures spare { result.now.spare ≡ self.now.spare }
+        ensures few { length result.now.pages ≤ 2 ^ 28 }
     {
         &self.pages
     }
@@ -213,7 +219,8 @@ impl World {
 
     // What an act is answered by its place, or where it has none.
     fn answer(&mut self, actor: ActorId, place: PlaceId, op: &Op, given: Option<Reply>) -> Reply
-        requires { place ≡ place_in self.old op.now }
+        requires place { place ≡ place_in self.old op.now }
+        requires ready { is_ready (pages_of self.old) place ≡ true }
         ensures reply { result ≡ reply_at place (flat_of self.old.pages) self.old.board self.old.ports actor op.now (as_given given) }
         ensures memory { flat_of self.new.pages ≡ memory_after place (flat_of self.old.pages) actor op.now }
         ensures marks { marks_of self.new.pages ≡ marks_after place (marks_of self.old.pages) op.now result }
@@ -222,6 +229,7 @@ impl World {
         ensures timer { self.new.timer ≡ self.old.timer }
         ensures harts { self.new.harts ≡ self.old.harts }
         ensures devices { self.new.devices ≡ self.old.devices }
+        ensures spends { Spends 1 (pages_of self.old) (pages_of self.new) }
     {
         match place {
             PlaceId::Page(number) => self.pages.act(number as usize, actor, op),
@@ -237,6 +245,7 @@ impl World {
         ensures harts { self.new.harts ≡ harts_after actor self.old.harts reply }
         ensures devices { devices_left self.new.devices ≡ lefts_after actor (devices_left self.old.devices) reply }
         ensures pages { self.new.pages ≡ self.old.pages }
+        ensures spare { self.new.spare ≡ self.old.spare }
         ensures board { self.new.board ≡ self.old.board }
         ensures ports { self.new.ports ≡ self.old.ports }
     {
@@ -251,8 +260,10 @@ impl World {
     fn event(&mut self, actor: ActorId, op: Op, given: Option<Reply>) -> Entry
         requires want { want_in self.old actor ≡ Some op }
         requires given { is_given op (as_given given) ≡ true }
+        requires ready { is_ready (pages_of self.old) (place_in self.old op) ≡ true }
         ensures made { MakesEvent self.old (record { actor = actor; given = as_given given }) result self.new }
         ensures there { (next : Op) × (want_in self.new actor ≡ Some next) }
+        ensures spends { Spends 1 (pages_of self.old) (pages_of self.new) }
     {
         let place = self.route(&op);
         let reply = self.answer(actor, place, &op, given);
@@ -271,14 +282,17 @@ impl World {
     /// where the actor wants an act on one. An error leaves everything as it was.
     ///
     /// Errors: `NoActor` where there is no such actor; `NotWaiting` where a reply is given and no host object is
-    /// wanted; `Waits` where one is wanted and no reply is given; `Unfit` where the reply doesn't fit. There is an
-    /// event wherever none of these holds.
+    /// wanted; `Waits` where one is wanted and no reply is given; `Unfit` where the reply doesn't fit; `NoSpare` where the page
+    /// of the want isn't made and none is spare. There is an event wherever none of these holds.
     pub fn step(&mut self, actor: ActorId, reply: Option<Reply>) -> Result<Entry, StepError>
         ensures made { IfOk result (λ e.
             MakesEvent self.old (record { actor = actor; given = as_given reply }) e self.new) }
         ensures refused { IfErr result (λ why. (g : Guest) → IsWorld self.old g → IsRefused g actor reply why) }
+        ensures spare { IfErr result (λ why. why ≡ step_error.NoSpare → (op : Op) ×
+            (want_in self.old actor ≡ Some op) × (is_ready (pages_of self.old) (place_in self.old op) ≡ false)) }
         ensures promised { (g : Guest) (op : Op) → IsWorld self.old g → Wants g actor op →
-            refusal_of op reply ≡ None → is_ok result ≡ true }
+            refusal_of op reply ≡ None → is_ready (pages_of self.old) (place_in self.old op) ≡ true → is_ok result ≡ true }
+        ensures spends { OnOk result (Spends 1 (pages_of self.old) (pages_of self.new)) }
         ensures err { OnErr result (self.new ≡ self.old) }
     {
         let Some(op) = self.want(actor) else {
@@ -287,17 +301,35 @@ impl World {
         if let Some(why) = refusal_of(&op, &reply) {
             return Err(why);
         }
+        if !self.is_ready(&op) {
+            return Err(StepError::NoSpare);
+        }
         Ok(self.event(actor, op, reply))
     }
 
+    // Whether the page where an op acts is made, or one is spare.
+    fn is_ready(&self, op: &Op) -> bool
+        ensures { result ≡ is_ready (pages_of self.now) (place_in self.now op.now) }
+    {
+        match self.route(op) {
+            PlaceId::Page(number) => self.pages.is_ready(number as usize),
+            PlaceId::Board => true,
+            PlaceId::Port(_) => true,
+            PlaceId::Out => true,
+        }
+    }
+
     // The actor's next event, of which nothing is told. False where it waits for a host object's reply.
+    #[tactic(auto, using(guest_pages::proofs::Making::no_spends, guest_pages::proofs::Making::room_ready))]
     fn advance(&mut self, actor: ActorId) -> bool
-        requires { (op : Op) × (want_in self.old actor ≡ Some op) }
+        requires want { (op : Op) × (want_in self.old actor ≡ Some op) }
+        requires room { HasRoom 1 (pages_of self.old) }
         ensures made { result ≡ true → (e : Entry)
             × MakesEvent self.old (record { actor = actor; given = Nothing }) e self.new }
         ensures waits { result ≡ false → (op : Op) × (want_in self.old actor ≡ Some op) × (is_host_op op ≡ true) }
         ensures stays { result ≡ false → self.new ≡ self.old }
         ensures there { (op : Op) × (want_in self.new actor ≡ Some op) }
+        ensures spends { Spends 1 (pages_of self.old) (pages_of self.new) }
     {
         let Some(op) = self.want(actor) else {
             return false;
@@ -311,7 +343,8 @@ impl World {
 
     // Events of an actor that is there, and how many there were.
     fn run_actor(&mut self, actor: ActorId, count: u64) -> u64
-        requires { (op : Op) × (want_in self.old actor ≡ Some op) }
+        requires want { (op : Op) × (want_in self.old actor ≡ Some op) }
+        requires room { HasRoom count (pages_of self.old) }
         ensures { Runs self.old actor count result self.new }
     {
         let mut made = 0;
@@ -328,12 +361,14 @@ impl World {
     }
 
     /// So many events of an actor, or as many as there are before the guest is off or the actor waits for a host
-    /// object's reply. The answer is how many.
+    /// object's reply. The answer is how many. There is room for as many (`reserve`); they take no memory but spare pages.
     ///
     /// Errors: `NoActor` where there is no such actor, and then everything is as it was.
     pub fn run(&mut self, actor: ActorId, count: u64) -> Result<u64, NoActor>
+        requires { HasRoom count (pages_of self.old) }
         ensures made { IfOk result (λ made. Runs self.old actor count made self.new) }
         ensures there { (g : Guest) → IsWorld self.old g → is_ok result ≡ is_actor g actor }
+        ensures none { OnErr result (want_in self.old actor ≡ None) }
         ensures err { OnErr result (self.new ≡ self.old) }
     {
         if self.want(actor).is_none() {
@@ -347,7 +382,8 @@ impl World {
 
     // Events of the hart of this number, and how many there were.
     fn run_one(&mut self, number: u8, count: u64) -> u64
-        requires { (op : Op) × (want_in self.old (ActorId.Hart number) ≡ Some op) }
+        requires want { (op : Op) × (want_in self.old (ActorId.Hart number) ≡ Some op) }
+        requires room { HasRoom count (pages_of self.old) }
         ensures { Runs self.old (ActorId.Hart number) count result self.new }
     {
         let at = number as usize;
@@ -363,6 +399,18 @@ impl World {
             number,
             count,
         )
+    }
+
+    /// Makes room for so many events, whatever their pages: as many pages spare as there are events, or pages that aren't made.
+    ///
+    /// Errors: want of memory, and then everything is as it was.
+    pub fn reserve(&mut self, alloc: Global, events: u64) -> Result<(), AllocError>
+        ensures room { OnOk result (HasRoom events (pages_of self.new)) }
+        ensures ok { self.new ≡ record self.old { spare = self.new.spare } }
+        ensures err { OnErr result (self.new ≡ self.old) }
+    {
+        self.pages.reserve_for(alloc, events)?;
+        Ok(())
     }
 
     /// Puts the timer back to its start, an advance that isn't made yet included.

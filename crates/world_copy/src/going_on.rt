@@ -94,19 +94,21 @@ pub struct Carried {
 /// marked. The copy's ports and devices are the world's.
 pub fn world_of(alloc: Global, copy: StateCopy, pages: PageSet) -> Result<Carried, AllocError>
     requires valid { IsTrue (is_valid copy) }
-    requires count { length pages ≡ copy.pages }
-    requires free { (flat_of pages).reserved ≡ unreserved copy.pages }
-    requires unmarked { marks_of pages ≡ replicate copy.pages false }
-    ensures world { IfOk result (λ it. IsWorld it.world (carried_guest copy (flat_of pages).bytes)) }
+    requires count { length pages.pages ≡ copy.pages }
+    requires free { (flat_of pages.pages).reserved ≡ unreserved copy.pages }
+    requires unmarked { marks_of pages.pages ≡ replicate copy.pages false }
+    ensures world { IfOk result (λ it. IsWorld it.world (carried_guest copy (flat_of pages.pages).bytes)) }
     ensures configuration { IfOk result (λ it. it.configuration ≡ copy.configuration) }
-    ensures whole { length (flat_of pages).bytes ≡ page_size * copy.pages }
+    ensures whole { length (flat_of pages.pages).bytes ≡ page_size * copy.pages }
 {
     let mut pages = pages;
     // Their bytes are so many whole pages.
     let _size = pages.len();
     let count = copy.configuration.machine.vcpu_count;
     let harts = harts_of(alloc, copy.pages, copy.harts.as_slice())?;
-    reserve(&mut pages, count, copy.reservations.as_slice());
+    let reservations = copy.reservations.as_slice();
+    pages.reserve_for(alloc, reservations.len() as u64)?;
+    reserve(&mut pages, count, reservations);
     let board = board_of(alloc, count, copy.guest_time, copy.board)?;
     let ports = ports_of(alloc, copy.ports.into_vec())?;
     let devices = devices_of(alloc, copy.devices.into_vec())?;

@@ -24,7 +24,7 @@ const PART: usize = 256;
 impl LiveMachine {
     ghost use Rattle.monitor_machine.specs.State.{IsMachine};
 
-    /// A step line: events of a guest that runs. An `Err` changes nothing.
+    /// A step line: events of a guest that runs, for which there is room before the first. An `Err` changes nothing.
     pub fn step(&mut self, actor: ActorId, count: u64) -> Result<ByteList, AllocError>
         ensures ok { IfOk result (λ text. (known : FilesKnown) (m : Machine) → IsMachine self.old known m →
             (n : Machine) × StepsLine (running m) actor count m text n × IsMachine self.new known n
@@ -38,8 +38,12 @@ impl LiveMachine {
         let Some(guest) = &mut self.guest else {
             return Ok(misfit_line(self.alloc, Misfit::NotRunning)?);
         };
-        let Ok(made) = guest.run(actor, count) else {
+        let Some(_) = guest.want(actor) else {
             return Ok(misfit_line(self.alloc, Misfit::NoActor)?);
+        };
+        guest.reserve(self.alloc, count)?;
+        let Ok(made) = guest.run(actor, count) else {
+            unreachable!()
         };
         Ok(steps_line(self.alloc, room, count, made, guest.is_off()))
     }

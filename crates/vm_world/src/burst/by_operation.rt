@@ -2,6 +2,7 @@
 ghost use Rattle.std.specs.Prelude.{◌≡◌, ◌≤◌, ◌<◌, ◌^◌, ℕ, None, Some, IfSome, length};
 ghost use Rattle.decoded_words.specs.Decoded.{IsDecoded};
 ghost use Rattle.guest_memory.specs.Ram.{ram_start};
+ghost use Rattle.guest_pages.specs.Made.{HasRoom, Spends};
 ghost use Rattle.rv_rows.specs.Table.{instr_of};
 ghost use Rattle.rv_rows.specs.declared.instr.Instr.TheVariants as instr;
 ghost use Rattle.vm_types.specs.declared.ids.ActorId.{ActorId as Actor};
@@ -26,8 +27,8 @@ fn load_decoded(
     requires is { instr_of it.now.word ≡ Some (instr.Load kind it.now.rd it.now.rs1 it.now.value) }
     requires word { it.now.word < 2 ^ 32 }
     requires ram { ram_start ≤ pc }
-    requires read { HaveWord pages.now pc it.now.word }
-    ensures goes { IfSome result (λ ended. (k : ℕ) → EndsSo pages.now pc regs.old (Actor.Hart k) ended pages.now regs.new) }
+    requires read { HaveWord pages.now.pages pc it.now.word }
+    ensures goes { IfSome result (λ ended. (k : ℕ) → EndsSo pages.now.pages pc regs.old (Actor.Hart k) ended pages.now.pages regs.new) }
     ensures kept { regs.new ≡ record regs.old { x = regs.new.x } }
     ensures none { result ≡ None → regs.new ≡ regs.old }
 {
@@ -51,10 +52,12 @@ fn store_decoded(
     requires is { instr_of it.now.word ≡ Some (instr.Store width it.now.rs1 it.now.other it.now.value) }
     requires word { it.now.word < 2 ^ 32 }
     requires ram { ram_start ≤ pc }
-    requires read { HaveWord pages.old pc it.now.word }
-    ensures goes { IfSome result (λ ended. EndsSo pages.old pc regs.now (Actor.Hart number) ended pages.new regs.now) }
+    requires read { HaveWord pages.old.pages pc it.now.word }
+    requires room { HasRoom 1 pages.old }
+    ensures goes { IfSome result (λ ended. EndsSo pages.old.pages pc regs.now (Actor.Hart number) ended pages.new.pages regs.now) }
     ensures none { result ≡ None → pages.new ≡ pages.old }
-    ensures count { length pages.new ≡ length pages.old }
+    ensures spends { Spends 1 pages.old pages.new }
+    ensures count { length pages.new.pages ≡ length pages.old.pages }
 {
     let at = value_of_rs1(it, regs).wrapping_add(it.value);
     if store_as(pages, number, width, at, regs.get(it.other)) {
@@ -66,6 +69,7 @@ fn store_decoded(
 
 /// Makes the instruction of this decoded word, which was read at this pc, with its load or store, where RAM has that. `None`
 /// where it is any other, and then nothing is changed.
+#[tactic(auto, using(guest_pages::proofs::Making::no_spends))]
 #[inline(always)]
 pub(super) fn go_on_decoded(
     pages: &mut PageSet,
@@ -77,11 +81,13 @@ pub(super) fn go_on_decoded(
     requires decoded { IsDecoded it.now }
     requires word { it.now.word < 2 ^ 32 }
     requires ram { ram_start ≤ pc }
-    requires read { HaveWord pages.old pc it.now.word }
-    ensures goes { IfSome result (λ ended. EndsSo pages.old pc regs.old (Actor.Hart number) ended pages.new regs.new) }
+    requires read { HaveWord pages.old.pages pc it.now.word }
+    requires room { HasRoom 1 pages.old }
+    ensures goes { IfSome result (λ ended. EndsSo pages.old.pages pc regs.old (Actor.Hart number) ended pages.new.pages regs.new) }
     ensures kept { regs.new ≡ record regs.old { x = regs.new.x } }
     ensures none { result ≡ None → (pages.new ≡ pages.old) × (regs.new ≡ regs.old) }
-    ensures count { length pages.new ≡ length pages.old }
+    ensures spends { Spends 1 pages.old pages.new }
+    ensures count { length pages.new.pages ≡ length pages.old.pages }
 {
     match it.operation {
         Operation::LoadByte => load_decoded(pages, regs, it, LoadKind::Byte, pc),

@@ -8,11 +8,11 @@ load-requires-clause-pages c =
     let size = c.in-Ok.ensures.count in
     omega (arith, size, c.requires)
 
-pub returns-clause-few : goal.returns-clause-few
-returns-clause-few c =
+pub returns-in-Ok-load-clause-few : goal.returns-in-Ok-load-clause-few
+returns-in-Ok-load-clause-few c =
     let size = c.in-Ok.ensures.count in
-    omega (arith, size, c.requires, c.in-Ok-load.ensures.pages)
+    omega (arith, size, c.requires, c.load.ensures.pages)
 
-pub returns-clause-memory : goal.returns-clause-memory
-returns-clause-memory c =
+pub returns-in-Ok-load-clause-memory : goal.returns-in-Ok-load-clause-memory
+returns-in-Ok-load-clause-memory c =
     booted _ c.args.mem_size_mib _ (loads_of c.args.loads.now) _ (omega (arith, c.requires)) c.in-Ok.ensures.memory c.in-Ok-load.ensures.memory

@@ -7,7 +7,7 @@ pub loop-done-preserved : goal.loop-done-preserved
 loop-done-preserved c =
     let done : ℕ = c.loop-done.done in
     let count : ℕ = c.min-count.result in
-    let all = (flat_of c.args.pages.now).bytes in
+    let all = (flat_of c.args.pages.now.pages).bytes in
     let from = drop c.args.offset all in
     let size = length-drop c.args.offset all in
     let piece_is = c.copy_from_slice.ensures.after ∙ c.piece.ensures.bytes ∙ ap (take count) (sym (drop-drop done c.args.offset all)) in

@@ -5,7 +5,7 @@ use Rattle.guest_pages.proofs.reading.copy_pages.Given as goal
 abbrev pub invariant-loop-done : goal.invariant-loop-done
 invariant-loop-done l = record {
   some : l.done ≤ length l.initial.out;
-  copied : l.out ≡ take l.done (drop l.offset (flat_of l.pages).bytes) ++ drop l.done l.initial.out;
+  copied : l.out ≡ take l.done (drop l.offset (flat_of l.pages.pages).bytes) ++ drop l.done l.initial.out;
 }
 
 abbrev pub decreases-loop-done : goal.decreases-loop-done

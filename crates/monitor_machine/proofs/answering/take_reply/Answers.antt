@@ -1,12 +1,16 @@
-use Rattle.std.proofs.Common.{refl, sym, ◌∙◌}
+use Rattle.std.proofs.Common.{false, refl, sym, ◌∙◌}
 use Rattle.flat_guest.specs.Given.{as_given}
 use Rattle.vm_world.proofs.Events.{is_there}
-use Rattle.monitor_machine.proofs.Lines.{world_takes}
+use Rattle.monitor_machine.proofs.Lines.{world_never, world_takes}
 use Rattle.monitor_machine.proofs.answering.take_reply.Goals as goal
 
 pub returns-in-Ok : goal.returns-in-Ok
 returns-in-Ok c =
     world_takes c.args.guest.now c.step.new.self c.args.actor c.in-Some.op (as_given c.args.given) c.in-Ok.field-0 (sym c.in-Some.ensures.state) (sym c.is_host_op.ensures ∙ c.if-not-is_host_op.false) (sym c.is_given.ensures ∙ c.if-not-is_given.false) c.in-Ok.ensures.made
+
+pub returns-in-Err : goal.returns-in-Err
+returns-in-Err c =
+    world_never c.args.guest.now c.step.new.self c.args.actor c.in-Some.op c.args.given false c.in-Err.ensures.err (sym c.in-Some.ensures.state) (sym c.is_host_op.ensures ∙ c.if-not-is_host_op.false) (sym c.is_given.ensures ∙ c.if-not-is_given.false) refl c.in-Err.ensures.promised
 
 pub returns-then-not-is_host_op : goal.returns-then-not-is_host_op
 returns-then-not-is_host_op c = (

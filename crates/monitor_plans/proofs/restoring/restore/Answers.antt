@@ -30,7 +30,7 @@ returns-in-Ok-world_of-clause-keeps g c = λ config world. (
   tt,
   tt,
   (
-    load_ready c.in-Ok.found.copy c.in-Ok.found.pages c.args.load.now.track_dirty_pages c.of.result c.in-Ok-world_of.carried.world
+    load_ready c.in-Ok.found.copy c.in-Ok.found.pages.pages c.args.load.now.track_dirty_pages c.of.result c.in-Ok-world_of.carried.world
         c.in-Ok.ensures.saved.valid c.in-Ok-world_of.ensures.whole
         (c.of.ensures ∙ c.config_of-config.ensures ∙ ap (carried_config c.args.load.now.track_dirty_pages) c.in-Ok-world_of.ensures.configuration)
         c.in-Ok-world_of.ensures.world,

@@ -1,5 +1,6 @@
 use Rattle.std.proofs.Common.{arith}
-use Rattle.monitor_running.proofs.Disks.{lasts_more}
+use Rattle.monitor_running.proofs.Acting.{acted_reserved}
+use Rattle.monitor_running.proofs.Disks.{lasts_more, lasts_same}
 use Rattle.monitor_running.proofs.devices.run_devices.Goals as goal
 
 pub loop-number-preserved : goal.loop-number-preserved
@@ -12,4 +13,16 @@ loop-number-preserved g c =
       none = λ is. let less = c.loop-number-test.true in absurd (omega (arith, is, less));
       most = omega (arith, after.most, before.most);
       room = omega (arith, after.room, before.room);
+    }
+
+pub loop-number-init : goal.loop-number-init
+loop-number-init g c =
+    let made = c.in_ok-events.ensures in record {
+      acted =
+          acted_reserved c.args.world.now c.make_room.new.world (g.D.Disk.known c.args.disk.now) c.in_ok-events.events.items made.items
+          c.make_room.ensures.ok;
+      lasts = lasts_same _;
+      none = λ is. made.items;
+      most = omega (arith, made.len);
+      room = omega (arith, made.capacity);
     }

@@ -17,4 +17,4 @@ returns-in-Err-clause-acted g c = λ first asked less acted.
     acted_still first c.args.world.now asked (g.D.Disk.known c.args.disk.now) (g.D.Disk.known c.ask_disk-given.new.disk)
     c.args.events.now.items c.args.device c.in-Some.op c.ask_disk-given.result less c.in-Some.ensures.wants c.ask_disk-given.ensures.given
     acted c.step.new.self c.in-Err.ensures.err
-    (λ h is none. let no = c.in-Err.ensures.promised h c.in-Some.op is (c.in-Some.ensures.wants h is) none in cc)
+    (λ h is none ready. let no = c.in-Err.ensures.promised h c.in-Some.op is (c.in-Some.ensures.wants h is) none ready in cc)

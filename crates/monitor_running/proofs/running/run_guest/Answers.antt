@@ -4,8 +4,8 @@ use Rattle.monitor_running.specs.Ran.{IsRunning}
 use Rattle.monitor_running.proofs.Joins.{host_same}
 use Rattle.monitor_running.proofs.Lent.{by_clock}
 use Rattle.monitor_running.proofs.Passing.{passed_slice}
-use Rattle.monitor_running.proofs.Told.{slice_gone, went_failed, went_told, went_untold}
-use Rattle.monitor_running.proofs.Staying.{stays_drained, stays_same, stays_serial, stays_then}
+use Rattle.monitor_running.proofs.Told.{slice_gone, went_told, went_unmade, went_untold}
+use Rattle.monitor_running.proofs.Staying.{stays_drained, stays_made, stays_serial, stays_then}
 use Rattle.monitor_running.proofs.running.run_guest.Goals as goal
 
 pub returns-in_default-clause-went : goal.returns-in_default-clause-went
@@ -13,7 +13,7 @@ returns-in_default-clause-went g c =
     let all = g.W.TurnObjects.known in
     let failed = c.in_default.ensures.failed in
     by_clock IsRunning (Some ran.OutOfMemory) (all c.args.with.now) (all c.slice_by.new.with) (all c.slice_by.new.with) _ _ _ _ refl
-    c.slice_by.ensures.beside (went_failed _ _ _ _ _ _ refl failed.0 failed.1)
+    c.slice_by.ensures.beside (went_unmade _ _ _ _ _ _ refl failed.0 failed.1)
 
 pub returns-in-Err-clause-went : goal.returns-in-Err-clause-went
 returns-in-Err-clause-went g c =
@@ -40,7 +40,7 @@ pub returns-clause-passes : goal.returns-clause-passes
 returns-clause-passes g c = passed_slice _ _ _ _ _ _ _ _ c.in-Ok.ensures.stops c.slice_by.ensures.serve c.slice_by.ensures.same
 
 pub returns-in_default-clause-ready : goal.returns-in_default-clause-ready
-returns-in_default-clause-ready g c = stays_same _ _ c.in_default.ensures.failed.0
+returns-in_default-clause-ready g c = stays_made _ _ c.in_default.ensures.failed.0
 
 pub returns-in-Err-clause-ready : goal.returns-in-Err-clause-ready
 returns-in-Err-clause-ready g c =

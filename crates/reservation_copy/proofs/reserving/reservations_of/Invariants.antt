@@ -5,4 +5,4 @@ use Rattle.reservation_copy.proofs.reserving.reservations_of.Given as goal
 
 abbrev pub invariant-loop-slot : goal.invariant-loop-slot
 invariant-loop-slot l =
-    l.items ++ reservations_from l.slot (drop l.slot (flat_of l.pages).reserved) ≡ reservations_from 0 (flat_of l.pages).reserved
+    l.items ++ reservations_from l.slot (drop l.slot (flat_of l.pages.pages).reserved) ≡ reservations_from 0 (flat_of l.pages.pages).reserved

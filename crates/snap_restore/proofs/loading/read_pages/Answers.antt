@@ -20,13 +20,13 @@ loop-done-preserved g c =
       some = omega (arith, c.min-count.ensures, c.loop-done-test.true);
       room = length-append buf (drop count block) ∙ omega (arith, size, most, so_far.room, length-drop count block);
       count = c.load.ensures.pages ∙ so_far.count;
-      reserved = slots_kept done _ _ _ c.load.ensures.memory ∙ so_far.reserved;
+      reserved = slots_kept done _ _ _ c.in-Ok-load.ensures.memory ∙ so_far.reserved;
       marks = c.load.ensures.marks ∙ so_far.marks;
       still = λ t. c.read_at.ensures.called.lasts.still (so_far.still t);
-      kept = c.in_ok-read_at.ensures.called.kept ∙ so_far.kept;
+      kept = c.in-Ok.ensures.called.kept ∙ so_far.kept;
       same = λ t. same_then _ _ _ (so_far.same t) (c.read_at.ensures.same (so_far.still t));
       read = λ t content there.
-          read_more _ content (flat_of c.args.pages.now).bytes buf block (take count (buf ++ drop count block)) c.args.at (c.args.at + done) done count (flat_of c.loop-done.pages) (flat_of c.load.new.self)
+          read_more _ content (flat_of c.args.pages.now.pages).bytes buf block (take count (buf ++ drop count block)) c.args.at (c.args.at + done) done count (flat_of c.loop-done.pages.pages) (flat_of c.load.new.self.pages)
           (ap (λ (m : Saved). get m c.args.name.now) (so_far.same t).saved ∙ there)
-          (c.in_ok-read_at.ensures.bytes (so_far.still t)) refl size refl (so_far.read t content there) c.load.ensures.memory;
+          (c.in-Ok.ensures.bytes (so_far.still t)) refl size refl (so_far.read t content there) c.in-Ok-load.ensures.memory;
     }

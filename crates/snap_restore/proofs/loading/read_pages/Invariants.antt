@@ -12,14 +12,14 @@ invariant-loop-done g l =
     record {
       some : l.done ≤ l.size;
       room : length l.block ≡ block_size;
-      count : length l.pages ≡ length l.initial.pages;
-      reserved : (flat_of l.pages).reserved ≡ (flat_of l.initial.pages).reserved;
-      marks : marks_of l.pages ≡ marks_of l.initial.pages;
+      count : length l.pages.pages ≡ length l.initial.pages.pages;
+      reserved : (flat_of l.pages.pages).reserved ≡ (flat_of l.initial.pages.pages).reserved;
+      marks : marks_of l.pages.pages ≡ marks_of l.initial.pages.pages;
       still : Tells (known l.initial.files).health → Tells (known l.files).health;
       kept : (known l.files).health.faults ≡ (known l.initial.files).health.faults;
       same : Tells (known l.initial.files).health → SameFiles (known l.initial.files) (known l.files);
       read : Tells (known l.initial.files).health → (content : List ℕ) → get (known l.initial.files).saved l.name ≡ Some content
-          → (flat_of l.pages).bytes ≡ take l.done (drop l.at content) ++ drop l.done (flat_of l.initial.pages).bytes;
+          → (flat_of l.pages.pages).bytes ≡ take l.done (drop l.at content) ++ drop l.done (flat_of l.initial.pages.pages).bytes;
     }
 
 abbrev pub decreases-loop-done : goal.decreases-loop-done

@@ -8,9 +8,9 @@ use Rattle.snap_writer.proofs.saved_pages.copy_pages.Goals as goal
 
 pub loop-page-preserved : goal.loop-page-preserved
 loop-page-preserved c =
-    let bytes : List ℕ = (flat_of c.args.memory.now).bytes in
+    let bytes : List ℕ = (flat_of c.args.memory.now.pages).bytes in
     let numbers : List ℕ = c.args.numbers.now in
-    let count : ℕ = length c.args.memory.now in
+    let count : ℕ = length c.args.memory.now.pages in
     let all : List ℕ = pages_at numbers bytes in
     let first : ℕ = c.args.first in
     let page : ℕ = c.loop-page.page in

@@ -1,6 +1,7 @@
 use Rattle.std.proofs.Common.{◌+◌, ◌-◌, ◌≤◌, ◌≡◌, length}
 use Rattle.vm_types.specs.declared.ids.ActorId.{ActorId}
 use Rattle.guest_pages.specs.Code.{IsCode}
+use Rattle.guest_pages.specs.Made.{Spends}
 use Rattle.hart_trace.specs.States.{fresh}
 use Rattle.vm_world.specs.Bursts.{Bursts, counted}
 use Rattle.vm_world.proofs.burst.run_in_ram.Given as goal
@@ -10,9 +11,11 @@ invariant-loop-done l = record {
   within : l.done ≤ l.most;
   few : l.accesses ≤ l.done;
   kept : l.regs ≡ record l.fn.regs { x = l.regs.x };
-  code : IsCode l.code (length l.pages);
-  gone : Bursts l.fn.pages (fresh l.fn.regs) (ActorId.Hart l.number) (l.done + l.accesses) l.pages (fresh (counted l.done l.pc l.regs));
-  many : length l.pages ≡ length l.fn.pages;
+  code : IsCode l.code l.pages.pages;
+  gone : Bursts l.fn.pages.pages (fresh l.fn.regs) (ActorId.Hart l.number) (l.done + l.accesses) l.pages.pages (fresh (counted l.done l.pc l.regs));
+  many : length l.pages.pages ≡ length l.fn.pages.pages;
+  spent : Spends l.done l.fn.pages l.pages;
+  spends : Spends (l.done + l.accesses) l.fn.pages l.pages;
 }
 
 abbrev pub decreases-loop-done : goal.decreases-loop-done

@@ -11,4 +11,4 @@ answer-reply-requires-clause-own c = ap is_hart_op c.asks.ensures ∙ hart_asks 
 
 pub goes_on-requires : goal.goes_on-requires
 goes_on-requires c =
-    answer_fits_want c.args.pages.now c.args.board.now c.args.ports.now.items (ActorId.Hart c.args.number) c.args.hart.now (op_of c.asks.result) (reply_of c.answer-reply.result) c.asks.ensures c.answer-reply.ensures.reply_is
+    answer_fits_want c.args.pages.now.pages c.args.board.now c.args.ports.now.items (ActorId.Hart c.args.number) c.args.hart.now (op_of c.asks.result) (reply_of c.answer-reply.result) c.asks.ensures c.answer-reply.ensures.answered.reply_is

@@ -6,11 +6,11 @@ use Rattle.guest_pages.proofs.page_set.PageSet.find.Goals as goal
 
 pub returns-then-offset-len-le4096 : goal.returns-then-offset-len-le4096
 returns-then-offset-len-le4096 c =
-    found (length (flat_of c.args.self.now).bytes) c.len.result c.args.at c.args.len c.len.ensures.bytes (omega arith) c.requires.some (omega arith) (omega arith)
+    found (length (flat_of c.args.self.now.pages).bytes) c.len.result c.args.at c.args.len c.len.ensures.bytes (omega arith) c.requires.some (omega arith) (omega arith)
 
 pub returns-else-number-len : goal.returns-else-number-len
 returns-else-number-len c =
-    missed (length (flat_of c.args.self.now).bytes) c.len.result c.args.at c.args.len c.len.ensures.bytes c.requires.some
+    missed (length (flat_of c.args.self.now.pages).bytes) c.len.result c.args.at c.args.len c.len.ensures.bytes c.requires.some
     (elim c.else-number-len.branch [
       | else-number-len-via-then-number-len+else-offset-len-le4096 w ↦ inr (omega arith)
       | else-number-len-via-else-number-len w ↦ inl (omega arith)

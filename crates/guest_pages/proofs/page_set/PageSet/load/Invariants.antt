@@ -5,9 +5,10 @@ use Rattle.guest_pages.proofs.page_set.PageSet.load.Given as goal
 abbrev pub invariant-loop-done : goal.invariant-loop-done
 invariant-loop-done l = record {
   some : l.done ≤ length l.block;
-  memory : flat_of l.self ≡ loaded l.offset (take l.done l.block) (flat_of l.initial.self);
-  marks : marks_of l.self ≡ marks_of l.initial.self;
-  pages : length l.self ≡ length l.initial.self;
+  memory : flat_of l.self.pages ≡ loaded l.offset (take l.done l.block) (flat_of l.initial.self.pages);
+  marks : marks_of l.self.pages ≡ marks_of l.initial.self.pages;
+  pages : length l.self.pages ≡ length l.initial.self.pages;
+  spare : l.self.spare ≡ l.initial.self.spare;
 }
 
 abbrev pub decreases-loop-done : goal.decreases-loop-done

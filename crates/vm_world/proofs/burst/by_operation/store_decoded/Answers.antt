@@ -3,6 +3,6 @@ use Rattle.vm_world.proofs.burst.by_operation.store_decoded.Goals as goal
 
 pub returns-then-store_as-clause-goes : goal.returns-then-store_as-clause-goes
 returns-then-store_as-clause-goes c =
-    store_ends_so c.args.pages.now c.args.it.now c.args.pc c.args.regs.now c.requires.word c.requires.ram c.requires.read c.args.number
-    c.args.width c.value_of_rs1.result c.get.result c.store_as.new.pages c.requires.is c.value_of_rs1.ensures c.get.ensures
+    store_ends_so c.args.pages.now.pages c.args.it.now c.args.pc c.args.regs.now c.requires.word c.requires.ram c.requires.read c.args.number
+    c.args.width c.value_of_rs1.result c.get.result c.store_as.new.pages.pages c.requires.is c.value_of_rs1.ensures c.get.ensures
     c.get.type_inv (c.store_as.ensures.made c.if-store_as.true)

@@ -14,5 +14,5 @@ returns-clause-guest c = λ g is.
     let long = c.reset_all.auto.devices in
     let after = with_items_is w.devices c.reset_all.new.devices (omega (arith, long, ap length same, w.devices.ok))
     ∙ c.reset_all.ensures ∙ ap (map kept_reset) same in
-    subst (λ (devices : List Device). IsWorld (world_with w.pages w.board w.ports.items w.timer w.harts.items devices) (reset_guest g))
-    (sym after) (reset_is _ g (subst (λ (v : WorldValue). IsWorld v g) (sym c.self.view_is) is))
+    subst (λ (devices : List Device). IsWorld (world_with w.pages.pages w.board w.ports.items w.timer w.harts.items devices) (reset_guest g))
+    (sym after) (reset_is (record (world_with w.pages.pages w.board w.ports.items w.timer w.harts.items w.devices.items) { spare = w.pages.spare }) g (subst (λ (v : WorldValue). IsWorld v g) (sym c.self.view_is) is))

@@ -2,8 +2,8 @@ use Rattle.std.proofs.Common.{sym, ◌∙◌}
 use Rattle.vm_world.proofs.Events.{is_there, something}
 use Rattle.vm_world.proofs.world.World.run.Goals as goal
 
-pub run_actor-requires : goal.run_actor-requires
-run_actor-requires c =
+pub run_actor-requires-clause-want : goal.run_actor-requires-clause-want
+run_actor-requires-clause-want c =
     let some = something c.want.result c.if-is_none.ensures in
     (some.0, sym c.want.ensures.state ∙ some.1)
 

@@ -1,0 +1,68 @@
+-- A slice of a world's parts is one of the world, whose pages were made before it.
+use Rattle.std.proofs.Common.{◌≡◌, ℕ, All, Bool, List, length, sym, ap, ◌∙◌, subst}
+use Rattle.pause_gate.specs.Tally.{Tally}
+use Rattle.vm_types.specs.declared.entry.Entry.{Entry}
+use Rattle.guest_pages.specs.Marks.{AreMarks}
+use Rattle.guest_pages.specs.Pages.{marks_of, new_pages}
+use Rattle.guest_pages.proofs.Loading.{made_count}
+use Rattle.vm_world.specs.declared.world.parting.WorldParts.{WorldParts}
+use Rattle.vm_world.specs.Worlds.{IsSameGuest, IsWorld, WorldValue}
+use Rattle.vm_world.proofs.Events.{same_world}
+use Rattle.slice_runner.specs.declared.stop.Stopped.{Stopped}
+use Rattle.slice_runner.specs.Opened.{AreBackParts, world_of}
+use Rattle.slice_runner.specs.Slices.{IsSerial, IsThere, MarksFollow, written_by}
+use Rattle.slice_runner.specs.Stops.{AreStopped}
+
+module _ (old made : WorldValue) (p : WorldParts) (n : ℕ) (same : IsSameGuest old made) (taken : record (world_of p) { spare = n } ≡ made) where
+  -- as many harts
+  pub harts_around : length p.harts.items ≡ length old.harts
+  harts_around = ap (λ (w : WorldValue). length w.harts) taken ∙ ap (λ (w : WorldValue). length w.harts) same.rest
+
+  pub there_around : (es : List Entry) → All (λ (e : Entry). IsThere (length (world_of p).harts) e.actor) es
+      → All (λ (e : Entry). IsThere (length old.harts) e.actor) es
+  there_around es there = subst (λ (k : ℕ). All (λ (e : Entry). IsThere k e.actor) es) harts_around there
+
+  module _ (back : WorldValue) (q : WorldParts) (m : ℕ) (put : back ≡ record (world_of q) { spare = m }) where
+    pub serial_around : (es : List Entry) → IsSerial (world_of p) es (world_of q) → IsSerial old es back
+    serial_around es serial g is =
+        let is_made : IsWorld made g = same_world old made g same is in
+        let is_parts : IsWorld (record (world_of p) { spare = n }) g = subst (λ (w : WorldValue). IsWorld w g) (sym taken) is_made in
+        let to = serial g is_parts in
+        (to.0, to.1, subst (λ (w : WorldValue). IsWorld w to.0) (sym put) to.2)
+
+    pub marks_around : (es : List Entry) → MarksFollow p.pages.items es q.pages.items → MarksFollow old.pages es back.pages
+    marks_around es follow written are =
+        let before : marks_of p.pages.items ≡ marks_of old.pages = ap (λ (w : WorldValue). marks_of w.pages) taken ∙ same.marks in
+        subst (λ (l : List Bool). AreMarks l (written_by written es)) (ap (λ (w : WorldValue). marks_of w.pages) (sym put))
+        (follow written (subst (λ (l : List Bool). AreMarks l written) (sym before) are))
+
+    pub devices_around : (world_of q).devices ≡ (world_of p).devices → back.devices ≡ old.devices
+    devices_around kept =
+        ap (λ (w : WorldValue). w.devices) put ∙ kept ∙ ap (λ (w : WorldValue). w.devices) taken
+        ∙ ap (λ (w : WorldValue). w.devices) same.rest
+
+    pub back_around : AreBackParts p q → n ≡ m → IsSameGuest old back
+    back_around are spare =
+        let whole : back ≡ made =
+        put ∙ ap (λ (w : WorldValue). record w { spare = m }) are.world ∙ ap (λ (k : ℕ). record (world_of p) { spare = k }) (sym spare)
+        ∙ taken in
+        subst (λ (w : WorldValue). IsSameGuest old w) (sym whole) same
+
+  -- and as many pages come back
+  pub all_around : (left : WorldValue) (q : WorldParts) → left.pages ≡ new_pages 0 (length made.pages)
+      → length q.pages.items ≡ length p.pages.items → length q.pages.items ≡ length left.pages
+  all_around left q is count =
+      count ∙ ap (λ (w : WorldValue). length w.pages) taken ∙ sym (made_count left.pages (length made.pages) is)
+
+-- the stops say nothing of spare pages
+pub stopped_around : {Q : Type 0} (tally : Q → Tally) (steps : ℕ) (es : List Entry) (back : WorldValue) (q : WorldParts) (m : ℕ)
+    (stops : List Stopped) (before after : List Q) → back ≡ record (world_of q) { spare = m }
+    → AreStopped tally steps es (world_of q) stops before after → AreStopped tally steps es back stops before after
+stopped_around tally steps es back q m stops before after put stopped =
+    subst (λ (w : WorldValue). AreStopped tally steps es w stops before after) (sym put)
+    (record {
+      count = stopped.count;
+      each = λ i s a b at first last.
+          let one = stopped.each i s a b at first last in
+          record { actor_is = one.actor_is; want = one.want; wants = one.wants; cause = one.cause };
+    })
