@@ -1,5 +1,5 @@
 -- What an identity of a file says of a lineage.
-use Rattle.std.proofs.Common.{◌≡◌, ◌<◌, ◌^◌, ℕ, arith}
+use Rattle.std.proofs.Common.{◌≡◌, ◌<◌, ◌^◌, arith}
 use Rattle.vm_types.specs.declared.identity.Identity.{Identity}
 use Rattle.file_format.specs.Kinds.{number64}
 use Rattle.file_format.specs.Identities.{identity}

@@ -50,11 +50,13 @@ pub fn started_is_configured()
 {}
 
 /// A machine that saved its guest, and one that loads what it saved, are alike, on one connection; with what a load doesn't
-/// carry as the load has it, where the lineage of the one that loads has 64 bits. The machine is one that a run or a trace leads to, and so it is ready and configured; and its guest
-/// goes on as the one that was saved, which `snapshot_chain::answered_creates` says where the guest is on.
+/// carry as the load has it, where the lineage of the one that loads has 64 bits. The machine is one that a run or a trace
+/// leads to, and so it is ready and configured; and its guest goes on as the one that was saved, which
+/// `snapshot_chain::answered_creates` says where the guest is on.
 pub fn saved_is_loaded()
     ensures { (m n k : Machine) (g : Guest) (it : SnapshotCreate) (load : SnapshotLoad) (copy : StateCopy) (c : Connection) →
-        Ready m → m.config.configured ≡ true → k.ids.lineage < 2 ^ 64 → m.guest ≡ Some g → IsCopyOf m.config (reset_guest g) copy → Creates m.guest m it copy.devices n →
+        Ready m → m.config.configured ≡ true → k.ids.lineage < 2 ^ 64 → m.guest ≡ Some g →
+        IsCopyOf m.config (reset_guest g) copy → Creates m.guest m it copy.devices n →
         AreAlike (unwritten (reset_guest g)) (carried_guest copy g.memory.bytes) →
         Alike [] (record (as_loaded n k load) { connection = c })
         (record (carried k load (record { identity = next_identity m; copy = copy; bytes = g.memory.bytes })) { connection = c }) }

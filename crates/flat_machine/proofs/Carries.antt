@@ -1,5 +1,5 @@
 -- The files of a create are loaded as the machine of its copy.
-use Rattle.std.proofs.Common.{◌≡◌, ◌≢◌, ◌*◌, refl, ap, subst, ◌∙◌, length, Option, Some, None, Result, Ok}
+use Rattle.std.proofs.Common.{◌≡◌, ◌≢◌, ◌*◌, ap, subst, ◌∙◌, length, Option, Some, None, Result, Ok}
 use Rattle.vm_types.specs.Saved.{Saved}
 use Rattle.refusals.specs.declared.refusal.Refusal.{Refusal}
 use Rattle.api_calls.specs.declared.call.SnapshotFiles.{SnapshotFiles}

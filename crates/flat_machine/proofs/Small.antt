@@ -1,11 +1,10 @@
 -- The lines of a script are small: a file's content and a host object's bytes are bytes, and numbers have 64 bits.
-use Rattle.std.proofs.Common.{◌≡◌, ◌<◌, ◌++◌, ℕ, suc, zero, Bool, true, false, refl, if◌then◌else◌, List, [], ◌∷◌, length, map, take, Option, Some, None, slice_index, arith}
+use Rattle.std.proofs.Common.{◌≡◌, ◌<◌, ◌++◌, ℕ, suc, zero, Bool, true, false, refl, if◌then◌else◌, List, [], ◌∷◌, length, map, take, Option, Some, None, arith}
 use Rattle.std.specs.Prelude.{nat_le}
 use Rattle.std.specs.List.{All}
 use Rattle.std.proofs.lemmas.List.Elements.{All-head, All-tail}
 use Rattle.vm_types.specs.declared.reply.Reply.{Reply}
 use Rattle.file_format.specs.Format.{IsBytes}
-use Rattle.flat_guest.specs.Given.{Given}
 use Rattle.flat_guest.specs.Given.Given.{Host, Nothing}
 use Rattle.flat_guest.specs.Narrow.{IsSmallGiven}
 use Rattle.script_words.specs.Lines.{lines_of}

@@ -1,5 +1,5 @@
 -- What is configured gives devices numbers of their widths: at a start, and by what a PATCH tells them.
-use Rattle.std.proofs.Common.{◌≡◌, ◌≤◌, ◌<◌, ◌*◌, ◌+◌, ◌^◌, ◌++◌, ◌&&◌, ◌||◌, ℕ, zero, suc, nat_eq, nat_le, nat_lt, Bool, true, false, not, if◌then◌else◌, refl, List, [], ◌∷◌, drop, length, map, replicate, Option, Some, None, slice_get, arith, length-append}
+use Rattle.std.proofs.Common.{◌≡◌, ◌≤◌, ◌<◌, ◌*◌, ◌+◌, ◌^◌, ◌++◌, ◌||◌, ℕ, zero, suc, nat_eq, nat_le, nat_lt, Bool, true, false, not, if◌then◌else◌, refl, List, [], ◌∷◌, drop, length, map, replicate, Option, Some, None, slice_get, arith, length-append}
 use Rattle.std.specs.Prelude.{IfSome, option_and_then, option_map, unwrap_or}
 use Rattle.std.specs.FinMap.{get}
 use Rattle.std.specs.List.{All, filter, list_all}
@@ -10,6 +10,7 @@ use Rattle.vm_types.specs.Saved.{Saved}
 use Rattle.le_fields.specs.Fields.{IsByte, bytes_of}
 use Rattle.le_fields.proofs.Values.{all_bytes}
 use Rattle.file_format.proofs.Fitting.{every}
+use Rattle.token_bucket.specs.Kept.{Kept}
 use Rattle.token_bucket.specs.Rate.{rate_of}
 use Rattle.port_table.specs.declared.state.PortState.{PortState}
 use Rattle.api_calls.specs.declared.balloon.Balloon.{Balloon}
@@ -29,6 +30,7 @@ use Rattle.guest_devices.specs.declared.new_device.NewDevice.TheVariants as kind
 use Rattle.guest_devices.specs.Kinds.{FitsChange, IsSmallChange, sectors_change}
 use Rattle.guest_devices.specs.Narrow.{IsNarrowNew}
 use Rattle.flat_guest.specs.Guest.{Guest}
+use Rattle.flat_guest.specs.Narrow as narrow
 use Rattle.flat_guest.proofs.Savable.{AreShown, get_all}
 use Rattle.flat_guest.specs.Savable.{IsSizedPort}
 use Rattle.flat_guest.proofs.Widths.{widths_told}
@@ -47,23 +49,29 @@ some_of : (n : ℕ) → nat_eq n 0 ≡ false → 0 < n
 some_of zero is = absurd cc
 some_of (suc n) is = omega arith
 
-bucket_by : (size burst ms : ℕ) (none other : Bool) → nat_eq size 0 ≡ none → nat_eq ms 0 ≡ other → size < 2 ^ 48 → ms < 2 ^ 32
-    → burst < 2 ^ 64
-    → IfSome (if none || other then None else Some (record { rate = rate_of size ms; burst = burst; owes = 0; moment = 0 })) IsSmallBucket
-bucket_by size burst ms true other is also few short low = tt
-bucket_by size burst ms false true is also few short low = tt
-bucket_by size burst ms false false is also few short low =
+-- a new one
+abbrev bucket_with : ℕ → ℕ → ℕ → Kept
+bucket_with size burst ms = record { rate = rate_of size ms; burst = burst; owes = 0; moment = 0 }
+
+with_small : (size burst ms : ℕ) → 0 < size → size < 2 ^ 48 → ms < 2 ^ 32 → burst < 2 ^ 64 → IsSmallBucket (bucket_with size burst ms)
+with_small size burst ms some few short low =
     let debt : ℕ = size * (ms * 1000000) + 2 ^ 127 in
     record {
       kept =
           and_from _ (nat_le 0 debt)
           (and_from _ (nat_lt (ms * 1000000) (2 ^ 52))
-          (and_from (nat_lt 0 size) (nat_lt size (2 ^ 48)) (lt-ltb 0 size (some_of size is)) (lt-ltb size (2 ^ 48) few))
+          (and_from (nat_lt 0 size) (nat_lt size (2 ^ 48)) (lt-ltb 0 size some) (lt-ltb size (2 ^ 48) few))
           (lt-ltb (ms * 1000000) (2 ^ 52) (omega (arith, short))))
           (le-leb 0 debt (omega arith));
       burst = low;
       moment = omega arith;
     }
+
+bucket_by : (size burst ms : ℕ) (none other : Bool) → nat_eq size 0 ≡ none → size < 2 ^ 48 → ms < 2 ^ 32 → burst < 2 ^ 64
+    → IfSome (if none || other then None else Some (bucket_with size burst ms)) IsSmallBucket
+bucket_by size burst ms true other is few short low = tt
+bucket_by size burst ms false true is few short low = tt
+bucket_by size burst ms false false is few short low = with_small size burst ms (some_of size is) few short low
 
 burst_small : (o : Option ℕ) → holds (λ (n : ℕ). nat_lt n (2 ^ 48)) o ≡ true → unwrap_or o 0 < 2 ^ 64
 burst_small None is = omega arith
@@ -72,7 +80,7 @@ burst_small (Some n) is = let few = ltb-true n (2 ^ 48) is in omega (arith, few)
 bucket_small : (b : BucketConfig) → is_bucket b ≡ true → IfSome (bucket_of b) IsSmallBucket
 bucket_small b is =
     let own = bucket_parts b is in
-    bucket_by b.size (unwrap_or b.one_time_burst 0) b.refill_time (nat_eq b.size 0) (nat_eq b.refill_time 0) refl refl own.0 own.1
+    bucket_by b.size (unwrap_or b.one_time_burst 0) b.refill_time (nat_eq b.size 0) (nat_eq b.refill_time 0) refl own.0 own.1
     (burst_small b.one_time_burst own.2)
 
 buckets_small : (o : Option BucketConfig) → holds is_bucket o ≡ true → IfSome (option_and_then bucket_of o) IsSmallBucket
@@ -166,8 +174,10 @@ target_small b None bytes = tt
 target_small b (Some p) bytes =
     All-append IsByte (bytes_of 4 (target_of b)) (drop 4 p.config) (all_bytes 4 (target_of b)) (All-drop IsByte 4 p.config (bytes p refl))
 
-port_bytes : (ports : List PortState) (k : ℕ) → All IsSizedPort ports → HasBytes (slice_get ports k)
-port_bytes ports k all p there = (get_all IsSizedPort ports k p there all).sized.bytes
+port_bytes : (pages harts : ℕ) (g : Guest) (k : ℕ) → narrow.HasWidths pages harts g → HasBytes (slice_get g.ports k)
+port_bytes pages harts g k is p there =
+    let kept = get_all IsSizedPort g.ports k p there is.savable.ports in
+    kept.sized.bytes
 
 module _ (saved : Saved) (config : Config) (few : 256 * config.machine.mem_size_mib ≤ 2 ^ 20) where
   told_small : (number : Option ℕ) (change : DeviceChange) (shows : Option PortState → Option (List ℕ)) (guest : Option Guest)
@@ -175,7 +185,7 @@ module _ (saved : Saved) (config : Config) (few : 256 * config.machine.mem_size_
       → WidthsBy saved config guest → WidthsBy saved config (told_at number change shows guest)
   told_small (Some k) change shows (Some g) fits small shown is =
       widths_told _ _ few g is k change (shows (slice_get g.ports k)) fits small
-      (shown (slice_get g.ports k) (port_bytes g.ports k is.savable.ports))
+      (shown (slice_get g.ports k) (port_bytes _ _ g k is))
   told_small (Some k) change shows None fits small shown is = is
   told_small None change shows (Some g) fits small shown is = is
   told_small None change shows None fits small shown is = is

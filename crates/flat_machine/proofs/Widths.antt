@@ -1,6 +1,6 @@
 -- A machine of which each number has its width stays so with each request that is answered and with each line that is small, and
 -- there is a copy of its guest that a state file can have.
-use Rattle.std.proofs.Common.{◌≡◌, ◌≤◌, ◌<◌, ◌+◌, ◌*◌, ◌++◌, ◌==◌, ◌^◌, ℕ, Bool, true, false, refl, sym, subst, List, [], ◌∷◌, length, Option, Some, None, Result, Ok, Err, arith}
+use Rattle.std.proofs.Common.{◌≡◌, ◌≤◌, ◌+◌, ◌*◌, ◌++◌, ◌==◌, ◌^◌, ℕ, Bool, true, false, refl, sym, subst, List, [], ◌∷◌, length, Option, Some, None, Result, Ok, Err, arith}
 use Rattle.std.specs.Prelude.{IfSome, IsTrue}
 use Rattle.std.specs.FinMap.{get, insert}
 use Rattle.std.specs.List.{All}
@@ -220,9 +220,9 @@ pages_of c valid =
 
 load_widths : (it : Result Snapshot Refusal) (m : Machine) (load : SnapshotLoad) (n : Machine) → found m.saved load.files ≡ it
     → HasWidths m → AreBytes m.saved → Restores it m load n → HasWidths n
-load_widths (Ok it) m load n there widths files is =
+load_widths (Ok it) m load n there widths held is =
     let good = finds m.saved load.files it there in
-    let all = found_saved m.saved load.files it files there in
+    let all = found_saved m.saved load.files it held there in
     let pages = pages_of it.copy good.0 in
     let own : narrow.HasWidths it.copy.pages it.copy.configuration.machine.vcpu_count (carried_guest it.copy it.bytes) =
     carried_widths all.state.version (record { identity = it.identity; copy = it.copy }) it.bytes all.state.saved all.state.bytes good.1
@@ -233,7 +233,7 @@ load_widths (Ok it) m load n there widths files is =
       guest =
           subst (λ (k : ℕ). narrow.HasWidths k it.copy.configuration.machine.vcpu_count (carried_guest it.copy it.bytes)) pages own;
     })
-load_widths (Err why) m load n there widths files is = widths_is m n is widths
+load_widths (Err why) m load n there widths held is = widths_is m n is widths
 
 store_widths : (due : Result Data Refusal) (m n : Machine) → HasWidths m → Stores due m n → HasWidths n
 store_widths (Ok kept) m n widths is =
@@ -280,8 +280,8 @@ leaves_widths (change.State Resumed) m n ready widths known is =
 leaves_widths (change.CreateSnapshot it) m n ready widths known (kept, x) =
     create_widths m.guest m it kept n ready widths widths.guest x
 leaves_widths (change.LoadSnapshot load) m n ready widths known x =
-    let files = files_by m m.guest refl (λ on. allowed_later m (change.LoadSnapshot load) on known) widths.guest in
-    load_widths (found m.saved load.files) m load n refl widths files x
+    let held = files_by m m.guest refl (λ on. allowed_later m (change.LoadSnapshot load) on known) widths.guest in
+    load_widths (found m.saved load.files) m load n refl widths held x
 leaves_widths (change.PutMetadata body) m n ready widths known x = store_widths (put body) m n widths x
 leaves_widths (change.PatchMetadata patch) m n ready widths known x = store_widths (patched m.metadata patch) m n widths x
 leaves_widths (change.Tell part) m n ready widths known is = widths_is m n is widths

@@ -8,7 +8,6 @@ use Rattle.port_table.specs.declared.state.PortState.{PortState}
 use Rattle.balloon_device.specs.declared.kind.BalloonChange.TheVariants.{Interval}
 use Rattle.balloon_device.specs.declared.new_balloon.NewBalloon.{NewBalloon}
 use Rattle.balloon_device.specs.declared.statistics.Statistics.{Statistics}
-use Rattle.balloon_device.specs.Balloon as device
 use Rattle.balloon_device.specs.Port.{target_shown}
 use Rattle.guest_devices.specs.declared.change.DeviceChange.{DeviceChange}
 use Rattle.guest_devices.specs.declared.change.DeviceChange.TheVariants as changes

@@ -1,12 +1,11 @@
 -- The guest that goes on from a snapshot whose copy fits a state file has numbers of their widths again.
-use Rattle.std.proofs.Common.{◌≡◌, ◌<◌, ◌^◌, ℕ, zero, suc, ◌*◌, ◌%◌, ◌&&◌, Bool, true, refl, sym, ap, subst, List, [], ◌∷◌, length, map, Option, Some, slice_get, arith}
+use Rattle.std.proofs.Common.{◌≡◌, ◌<◌, ◌^◌, ℕ, zero, suc, ◌*◌, ◌%◌, true, refl, sym, ap, subst, List, [], ◌∷◌, length, map, Option, Some, slice_get, arith}
 use Rattle.std.specs.Prelude.{IsTrue}
 use Rattle.std.specs.List.{All, list_all}
 use Rattle.std.proofs.lemmas.Bool.{and_parts}
 use Rattle.std.proofs.lemmas.List.Elements.{All-head, All-tail}
 use Rattle.vm_types.specs.declared.op.Op.{Op}
 use Rattle.vm_types.specs.declared.reply.Reply.{Reply}
-use Rattle.vm_types.specs.declared.entry.Step.{Step}
 use Rattle.vm_types.specs.Fits.{fits}
 use Rattle.le_fields.specs.Fields.{IsByte, bytes_of}
 use Rattle.le_fields.proofs.Values.{all_bytes}
@@ -31,9 +30,7 @@ use Rattle.hart_trace.proofs.Keeping.{hart_kept}
 use Rattle.hart_trace.proofs.Leads.{leads_next}
 use Rattle.hart_trace.proofs.OneHart.{one_hart}
 use Rattle.hart_trace.proofs.Traces.{leads_start}
-use Rattle.flat_guest.specs.Guest.{Guest}
 use Rattle.flat_guest.specs.Savable.{IsSavable, IsSizedPort}
-use Rattle.flat_guest.specs.Shaped.{IsShaped}
 use Rattle.snap_devices.specs.Ports.{port, port_fields, port_queue}
 use Rattle.snap_harts.specs.declared.hart.SavedHart.{SavedHart}
 use Rattle.snap_harts.specs.declared.hart.HartPlace.{HartPlace}

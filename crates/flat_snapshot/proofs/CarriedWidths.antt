@@ -1,6 +1,5 @@
 -- The guest that goes on from a snapshot has its widths: by the fields of the file, and its bytes.
-use Rattle.std.proofs.Common.{◌≡◌, ◌≤◌, ◌^◌, ℕ, zero, suc, ◌+◌, ◌*◌, true, refl, sym, subst, List, [], ◌∷◌, ◌∙◌, length, map, Some, slice_get, arith}
-use Rattle.std.specs.Prelude.{IsTrue}
+use Rattle.std.proofs.Common.{◌≡◌, ◌≤◌, ◌^◌, ℕ, zero, suc, ◌+◌, ◌*◌, true, subst, List, [], ◌∷◌, ◌∙◌, length, map, Some, slice_get, arith}
 use Rattle.std.specs.List.{All}
 use Rattle.std.proofs.lemmas.Bool.{and_parts}
 use Rattle.std.proofs.lemmas.List.Elements.{All-head, All-tail}
@@ -12,7 +11,7 @@ use Rattle.file_format.proofs.Fitting.{of_list}
 use Rattle.guest_memory.specs.Ram.{page_size}
 use Rattle.guest_devices.specs.declared.device.Device.{Device}
 use Rattle.guest_devices.specs.Devices.{FlatDevice}
-use Rattle.guest_devices.specs.Kept.{device_pages, device_port}
+use Rattle.guest_devices.specs.Kept.{device_port}
 use Rattle.guest_devices.specs.Narrow.{IsNarrowDevice}
 use Rattle.guest_devices.proofs.Narrow.{narrow_at}
 use Rattle.guest_devices.proofs.Placed.{kept_bounded, kept_state}
@@ -23,7 +22,7 @@ use Rattle.snap_state.specs.declared.copy.StateCopy.{StateCopy}
 use Rattle.snap_state.specs.declared.file.Saved.{Saved}
 use Rattle.snap_state.specs.Copies.{devices, state_copy}
 use Rattle.snap_state.specs.Files.{IsSaved, contents, contents_of}
-use Rattle.snap_state.specs.Valid.{are_devices, is_device, is_valid}
+use Rattle.snap_state.specs.Valid.{are_devices, is_device}
 use Rattle.snap_state.proofs.Held.{saved_held}
 use Rattle.snap_state.proofs.Rules.{attached, device_of, few_pages, rules_of}
 use Rattle.flat_snapshot.specs.Carried.{carried_guest, resumed}

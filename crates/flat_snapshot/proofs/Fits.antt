@@ -15,7 +15,6 @@ use Rattle.file_format.specs.Ends.{listed}
 use Rattle.file_format.specs.Whole.{counted}
 use Rattle.file_format.proofs.Fitting.{fits32, fits64, fits_bytes, fits_flag, fits_list}
 use Rattle.guest_memory.specs.Ram.{page_size}
-use Rattle.guest_memory.specs.Reserved.{hart_limit}
 use Rattle.port_table.specs.declared.state.PortState.{PortState}
 use Rattle.port_table.specs.Window.{most_ports}
 use Rattle.rv_supervisor.specs.declared.regs.Regs.{Regs}

@@ -9,7 +9,6 @@ use Rattle.vm_config.specs.declared.config.Config.{Config}
 use Rattle.file_format.specs.Identities.{is_numbered}
 use Rattle.file_format.specs.Versions.{current_version}
 use Rattle.guest_memory.specs.Ram.{page_size}
-use Rattle.rv_supervisor.specs.declared.regs.Regs.{Regs}
 use Rattle.hart_trace.specs.Traces.{IsPrefix}
 use Rattle.guest_devices.specs.declared.device.Device.{Device}
 use Rattle.guest_devices.specs.Devices.{DeviceLeads, FlatDevice}

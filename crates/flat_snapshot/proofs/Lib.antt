@@ -12,7 +12,5 @@ pub mod Ready
 pub mod CarriedReady
 pub mod CarriedSavable
 pub mod CarriedWidths
-pub mod CarriedSavable
-pub mod CarriedWidths
 pub mod Fitting
 pub mod FoundSaved

@@ -1,5 +1,5 @@
 -- Room for each of a list, one after another.
-use Rattle.std.proofs.Common.{◌≡◌, ℕ, ◌+◌, ◌≤◌, true, List, ◌∷◌, length, ap, arith}
+use Rattle.std.proofs.Common.{◌≡◌, ◌+◌, true, List, ◌∷◌, length, ap, arith}
 use Rattle.vm_types.specs.declared.ids.PlaceId.{PlaceId}
 use Rattle.guest_pages.specs.Made.{HasRoom, PagesValue, Spends, is_ready}
 use Rattle.guest_pages.proofs.Making.{less_room, room_left, room_ready}

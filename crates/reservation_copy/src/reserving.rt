@@ -33,7 +33,7 @@ pub fn reservations_of(alloc: Global, pages: &PageSet) -> Result<Items<Reservati
 
 /// Reserves all of these in the pages, and marks none. They are of pages and harts that are there, of which there are at most 32. For
 /// each of them there is room: it takes no memory but spare pages.
-#[tactic(auto, using(crate::proofs::Rooms::room_first, crate::proofs::Rooms::room_next))]
+#[tactic(auto, using(crate::proofs::Rooms::room_next))]
 pub fn reserve(pages: &mut PageSet, harts: u64, reservations: &[Reservation])
     requires few { harts ≤ 32 }
     requires there { list_all (is_reserved (length pages.old.pages) harts) reservations.now ≡ true }

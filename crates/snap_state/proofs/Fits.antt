@@ -1,10 +1,8 @@
 -- What a copy keeps of a board, of reservations and of the rest, in the fields of a file.
-use Rattle.std.proofs.Common.{◌≡◌, ◌≤◌, ◌<◌, ◌^◌, ◌*◌, ℕ, Bool, true, refl, sym, subst, ap, arith, List, [], ◌∷◌, length}
+use Rattle.std.proofs.Common.{◌≡◌, ◌≤◌, ◌^◌, ℕ, true, arith, List, [], ◌∷◌}
 use Rattle.std.specs.List.{All, list_all}
 use Rattle.std.proofs.lemmas.List.Elements.{All-cons, All-nil}
-use Rattle.std.proofs.lemmas.Bool.{and_parts, eqb-true, ltb-true}
-use Rattle.le_fields.specs.Fields.{IsByte}
-use Rattle.board_table.specs.declared.hart_state.HartState.{HartState}
+use Rattle.std.proofs.lemmas.Bool.{and_parts, ltb-true}
 use Rattle.board_table.specs.Board.{Board}
 use Rattle.board_table.specs.Kept.{AreLines, IsKept, IsSmallState, IsWord}
 use Rattle.guest_memory.specs.Ram.{page_size}

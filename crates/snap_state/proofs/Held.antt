@@ -1,5 +1,5 @@
 -- The bytes that the devices of a copy hold are bytes of its file.
-use Rattle.std.proofs.Common.{◌≡◌, ℕ, List, [], ◌∷◌, ◌++◌, length}
+use Rattle.std.proofs.Common.{List, [], ◌∷◌, length}
 use Rattle.std.specs.Int.{to_le_bytes, w32}
 use Rattle.std.specs.List.{All, flat_map}
 use Rattle.std.proofs.lemmas.List.Elements.{All-cons, All-nil}
@@ -19,7 +19,7 @@ use Rattle.snap_state.specs.declared.copy.StateCopy.{StateCopy}
 use Rattle.snap_state.specs.declared.file.Saved.{Saved}
 use Rattle.snap_state.specs.Boards.{board}
 use Rattle.snap_state.specs.Configured.{configuration}
-use Rattle.snap_state.specs.Copies.{devices, reservation, sections_in, state_copy}
+use Rattle.snap_state.specs.Copies.{devices, state_copy}
 use Rattle.snap_state.specs.Files.{contents, contents_of}
 
 one_held : (d : Device) → IsBytes ((listed device).bytes d) → HoldsBytes d

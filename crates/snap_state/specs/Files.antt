@@ -1,5 +1,5 @@
 -- What a state file is: 32 bytes of header, and the body. Numbers are little-endian.
-use Rattle.std.specs.Prelude.{◌≡◌, ℕ, ◌+◌, ◌==◌, ◌&&◌, Bool, IsTrue, List, [], ◌∷◌, ◌++◌, length, Result, Ok, Err}
+use Rattle.std.specs.Prelude.{◌≡◌, ℕ, ◌+◌, ◌==◌, ◌&&◌, Bool, IsTrue, List, ◌∷◌, ◌++◌, length, Result, Ok, Err}
 use Rattle.vm_types.specs.declared.identity.Identity.{Identity}
 use Rattle.file_format.specs.Format.{Format}
 use Rattle.file_format.specs.Kinds.{number32, ◌&◌}

@@ -7,7 +7,6 @@ ghost use Rattle.vm_config.specs.Devices.{balloon_count};
 ghost use Rattle.vm_config.specs.Named.{are_apart, has_named};
 ghost use Rattle.snap_state.specs.Valid.{are_devices, are_drives, has_room, is_device, is_drive};
 
-use crate::configuration::Configuration;
 use crate::limits::holds_limiter;
 use crate::valid::is_path;
 use api_calls::{Balloon, Drive};
@@ -100,11 +99,10 @@ fn balloon_count(balloon: &Option<Balloon>) -> usize
 }
 
 /// Whether there are no more devices than there may be.
-pub fn has_room(configuration: &Configuration) -> bool
-    ensures { result ≡ has_room configuration.now.drives configuration.now.balloon }
+pub fn has_room(drives: &[Drive], balloon: &Option<Balloon>) -> bool
+    ensures { result ≡ has_room drives.now balloon.now }
 {
-    let drives = configuration.drives.count();
-    drives + balloon_count(&configuration.balloon) <= MOST_DEVICES
+    drives.len() + balloon_count(balloon) <= MOST_DEVICES
 }
 
 fn is_device(pages: u32, port: usize, item: &Listed<Saved<Device>>) -> bool

@@ -225,7 +225,10 @@ pub fn is_valid(copy: &StateCopy) -> bool
         && are_drives(&copy.configuration.drives.drives)
         && has_machine(copy, machine)
         && holds_balloon(machine.mem_size_mib, &copy.configuration.balloon)
-        && has_room(&copy.configuration)
+        && has_room(
+            &copy.configuration.drives.drives,
+            &copy.configuration.balloon,
+        )
         && is_board(harts, &copy.board)
         && copy.harts.as_slice().len() as u64 == harts
         && are_harts(copy.pages, copy.harts.as_slice())

@@ -1,8 +1,9 @@
 -- A create that a ready machine answers is one of a chain.
+use Rattle.std.proofs.Common.{◌≡◌, ◌≢◌, ◌^◌, Bool, true, false, not, nat_le, ◌&&◌, if◌then◌else◌, refl, sym, subst, List, Option, Some, None, Result, Ok, arith}
 use Rattle.std.specs.Prelude.{is_none}
-use Rattle.std.proofs.Common.{◌≡◌, ◌≢◌, ◌<◌, ◌≤◌, ◌^◌, ℕ, zero, suc, nat_lt, Bool, true, false, not, nat_le, ◌&&◌, if◌then◌else◌, refl, sym, subst, List, replicate, Option, Some, None, Result, Ok, arith}
 use Rattle.refusals.specs.declared.refusal.Refusal.{Refusal}
 use Rattle.refusals.specs.declared.refusal.Refusal.TheVariants as refusal
+use Rattle.file_format.specs.Versions.{current_version}
 use Rattle.http_stream.specs.declared.request.Next.{Next}
 use Rattle.api_calls.specs.declared.call.ApiCall.{ApiCall}
 use Rattle.api_calls.specs.declared.call.ApiCall.TheVariants as call

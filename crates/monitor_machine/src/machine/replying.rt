@@ -51,7 +51,7 @@ impl LiveMachine {
     ) -> Result<(), AllocError>
         ensures ok { OnOk result
             (text.new ≡ text.old ++ written_as form (plan_response plan.now closes self.now)) }
-        ensures tells { OnOk result (TellsOwn self.now) }
+        ensures tells { TellsOwn self.now }
         ensures err { OnErr result (text.new ≡ text.old) }
     {
         let answer = plan.answer(
@@ -77,7 +77,7 @@ impl LiveMachine {
         ensures which { IfOk result (λ done. (done ≡ plan) ⊎ (done ≡ Plan.NoMemory)) }
         ensures response { IfOk result (λ done.
             text.new ≡ text.old ++ written_as form (plan_response done closes self.now)) }
-        ensures tells { IfOk result (λ done. TellsOwn self.now) }
+        ensures tells { TellsOwn self.now }
         ensures keeps { IfOk result (λ done. KeepsReady plan self.now.config self.now.guest →
             KeepsReady done self.now.config self.now.guest) }
     {

@@ -1,6 +1,3 @@
-use Rattle.flat_snapshot.proofs.FoundSaved.{found_saved}
-use Rattle.flat_snapshot.proofs.CarriedWidths.{carried_widths}
-use Rattle.flat_snapshot.proofs.Fitting.{fitting_copy}
 use Rattle.flat_snapshot.proofs.CarriedReady.{carried_ready}
 use Rattle.flat_snapshot.proofs.Ready.{valid_copy, whole_copy}
 use Rattle.flat_snapshot.proofs.law.valid_copies.Goals as goal

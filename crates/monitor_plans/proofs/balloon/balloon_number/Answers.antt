@@ -1,6 +1,5 @@
-use Rattle.std.proofs.Common.{arith, ap, sym, ◌∙◌}
+use Rattle.std.proofs.Common.{arith}
 use Rattle.vm_config.specs.declared.config.Config.{Config}
-use Rattle.vm_config.specs.Devices.{balloon_device}
 use Rattle.monitor_plans.proofs.DevicesMade.{number_below}
 use Rattle.monitor_plans.proofs.balloon.balloon_number.Goals as goal
 

@@ -16,8 +16,8 @@ returns-in-Err-clause-went g c =
     went_on IsRunning (Some c.end_by.result) _ _ _ _ _ _ c.in_default.ensures.went
     (by_trace IsRunning (Some c.end_by.result) mid mid (all c.tell_steps.new.with) _ _ _ _ told.beside
     (went_items_untold c.end_by.result c.in-Err.why _ _ _ _ _ _ _ _ _ _ c.end_by.ensures
-    (steps_gone c.args.turn.hart c.run_hart-made.result _ _ _
-    (run_from_reserved c.args.turn.hart c.run_hart-made.result _ _ _ c.reserve.ensures.ok c.run_hart-made.ensures.run))
+    (steps_gone c.args.turn.hart c.run_hart-made.result c.pass_round.new.world c.run_hart-made.new.world _
+    (run_from_reserved c.args.turn.hart c.run_hart-made.result c.pass_round.new.world c.reserve.new.self c.run_hart-made.new.world c.reserve.ensures.ok c.run_hart-made.ensures.run))
     told.told told.trace_cause told.sink_cause told.trace_lasts told.trace_stays told.sink_lasts))
 
 pub returns-clause-went : goal.returns-clause-went
@@ -28,22 +28,22 @@ returns-clause-went g c =
     went_on IsRunning None _ _ _ _ _ _ c.in_default.ensures.went
     (by_trace IsRunning None mid mid (all c.tell_steps.new.with) _ _ _ _ told.beside
     (went_items_told _ _ _ _ _ _ _ _ _ _ _
-    (steps_gone c.args.turn.hart c.run_hart-made.result _ _ _
-    (run_from_reserved c.args.turn.hart c.run_hart-made.result _ _ _ c.reserve.ensures.ok c.run_hart-made.ensures.run))
+    (steps_gone c.args.turn.hart c.run_hart-made.result c.pass_round.new.world c.run_hart-made.new.world _
+    (run_from_reserved c.args.turn.hart c.run_hart-made.result c.pass_round.new.world c.reserve.new.self c.run_hart-made.new.world c.reserve.ensures.ok c.run_hart-made.ensures.run))
     told.told told.trace_lasts told.trace_stays told.sink_lasts (host_same _)))
 
 pub returns-in-Err-clause-ready : goal.returns-in-Err-clause-ready
 returns-in-Err-clause-ready g c =
     stays_then _ _ _ c.in_default.ensures.ready
     (stays_then _ _ _ (stays_run c.args.turn.hart c.run_hart-made.result _ _
-    (run_from_reserved c.args.turn.hart c.run_hart-made.result _ _ _ c.reserve.ensures.ok c.run_hart-made.ensures.run))
+    (run_from_reserved c.args.turn.hart c.run_hart-made.result c.pass_round.new.world c.reserve.new.self c.run_hart-made.new.world c.reserve.ensures.ok c.run_hart-made.ensures.run))
     (stays_drained _ _ c.in-Err.ensures.world))
 
 pub returns-clause-ready : goal.returns-clause-ready
 returns-clause-ready g c =
     stays_then _ _ _ c.in_default.ensures.ready
     (stays_then _ _ _ (stays_run c.args.turn.hart c.run_hart-made.result _ _
-    (run_from_reserved c.args.turn.hart c.run_hart-made.result _ _ _ c.reserve.ensures.ok c.run_hart-made.ensures.run))
+    (run_from_reserved c.args.turn.hart c.run_hart-made.result c.pass_round.new.world c.reserve.new.self c.run_hart-made.new.world c.reserve.ensures.ok c.run_hart-made.ensures.run))
     (stays_drained _ _ c.in_default-tell_steps.ensures.world))
 
 pub returns-in_default-reserve-clause-went : goal.returns-in_default-reserve-clause-went

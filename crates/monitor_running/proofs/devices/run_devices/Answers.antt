@@ -1,6 +1,7 @@
 use Rattle.std.proofs.Common.{arith}
 use Rattle.monitor_running.proofs.Acting.{acted_reserved}
-use Rattle.monitor_running.proofs.Disks.{lasts_more, lasts_same}
+use Rattle.monitor_running.proofs.Disks.{lasts_more}
+use Rattle.monitor_running.proofs.Lifts.{lasts_same}
 use Rattle.monitor_running.proofs.devices.run_devices.Goals as goal
 
 pub loop-number-preserved : goal.loop-number-preserved

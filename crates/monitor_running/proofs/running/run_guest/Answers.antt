@@ -23,7 +23,7 @@ returns-in-Err-clause-went g c =
     c.slice_by.ensures.beside
     (went_untold c.end_by.result c.in-Err.why _ _ _ _ _ _ _ _ _ c.in-Ok.slice.events.items _ c.end_by.ensures
     c.as_slice.ensures.value
-    (slice_gone _ _ _ _ _ c.in-Ok.ensures.serial c.in-Ok.ensures.actors c.in-Ok.ensures.clock refl)
+    (slice_gone c.in-Ok.slice.events.items c.args.world.now c.slice_by.new.world _ _ c.in-Ok.ensures.serial c.in-Ok.ensures.actors c.in-Ok.ensures.clock refl)
     told.told told.trace_cause told.sink_cause told.trace_lasts told.trace_stays told.sink_lasts)
 
 pub returns-clause-went : goal.returns-clause-went
@@ -33,7 +33,7 @@ returns-clause-went g c =
     by_clock IsRunning None (all c.args.with.now) (all c.slice_by.new.with) (all c.tell_slice.new.with) _ _ _ _ told.beside
     c.slice_by.ensures.beside
     (went_told _ _ _ _ _ _ _ _ _ _ c.in-Ok.slice.events.items _ c.as_slice.ensures.value
-    (slice_gone _ _ _ _ _ c.in-Ok.ensures.serial c.in-Ok.ensures.actors c.in-Ok.ensures.clock refl)
+    (slice_gone c.in-Ok.slice.events.items c.args.world.now c.slice_by.new.world _ _ c.in-Ok.ensures.serial c.in-Ok.ensures.actors c.in-Ok.ensures.clock refl)
     told.told told.trace_lasts told.trace_stays told.sink_lasts (host_same _))
 
 pub returns-clause-passes : goal.returns-clause-passes

@@ -21,7 +21,7 @@ returns-in-Err-clause-went g c =
     by_clock IsRunning (Some c.end_by.result) (all c.args.with.now) (all c.pass_by.new.with) (all c.tell_slice.new.with) _ _ _ _ told.beside
     c.pass_by.ensures.beside
     (went_untold c.end_by.result c.in-Err.why _ _ _ _ _ _ _ _ _ c.in-Ok.events.items _ c.end_by.ensures
-    c.as_slice.ensures.value (round_gone c.args.but _ _ _ _ _ _ c.in-Ok.ensures.gone c.in-Ok.ensures.made)
+    c.as_slice.ensures.value (round_gone c.args.but c.in-Ok.events.items c.args.world.now c.pass_by.new.world _ _ _ c.in-Ok.ensures.gone c.in-Ok.ensures.made)
     told.told told.trace_cause told.sink_cause told.trace_lasts told.trace_stays told.sink_lasts)
 
 pub returns-clause-went : goal.returns-clause-went
@@ -31,7 +31,7 @@ returns-clause-went g c =
     by_clock IsRunning None (all c.args.with.now) (all c.pass_by.new.with) (all c.tell_slice.new.with) _ _ _ _ told.beside
     c.pass_by.ensures.beside
     (went_told _ _ _ _ _ _ _ _ _ _ c.in-Ok.events.items _ c.as_slice.ensures.value
-    (round_gone c.args.but _ _ _ _ _ _ c.in-Ok.ensures.gone c.in-Ok.ensures.made) told.told told.trace_lasts told.trace_stays told.sink_lasts
+    (round_gone c.args.but c.in-Ok.events.items c.args.world.now c.pass_by.new.world _ _ _ c.in-Ok.ensures.gone c.in-Ok.ensures.made) told.told told.trace_lasts told.trace_stays told.sink_lasts
     (host_same _))
 
 pub returns-in_default-clause-ready : goal.returns-in_default-clause-ready

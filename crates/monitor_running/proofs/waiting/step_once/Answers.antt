@@ -31,7 +31,7 @@ returns-in-Err-clause-made g c = λ first actors there made.
     (λ h is wants none.
     let no =
     c.in-Err.ensures.promised h c.in-Some.op is wants none
-    (room_ready (pages_of c.args.world.now) (place_in c.args.world.now c.in-Some.op) c.requires.room) in cc) _ _
+    (room_ready (pages_of c.args.world.now) (place_in c.args.world.now c.in-Some.op) c.requires.room) in cc) c.step.new.self _
 
 pub returns-in-Err-clause-gone : goal.returns-in-Err-clause-gone
 returns-in-Err-clause-gone g c = λ first asked gone.

@@ -13,8 +13,8 @@ returns-clause-made g c = λ first actors there made.
     made_twice actors c.args.actor c.step_once-2.new.events.items first c.step_once-2.new.world
     (c.step_once-2.ensures.made first (actors ++ c.args.actor ∷ []) there (c.step_once.ensures.made first actors there made))
 
-pub step_once-2-requires-clause-room : goal.step_once-2-requires-clause-room
-step_once-2-requires-clause-room g c =
+pub step_once-requires-2-clause-room : goal.step_once-requires-2-clause-room
+step_once-requires-2-clause-room g c =
     room_left 1 1 (pages_of c.args.world.now) (pages_of c.step_once.new.world) c.requires.room c.step_once.ensures.spends
 
 pub returns-clause-spends : goal.returns-clause-spends

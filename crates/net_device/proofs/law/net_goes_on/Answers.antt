@@ -1,4 +1,4 @@
-use Rattle.std.proofs.Common.{[]}
+use Rattle.std.proofs.Common.{false, []}
 use Rattle.queue_device.proofs.Never.{never}
 use Rattle.net_device.proofs.Net.{owes}
 use Rattle.net_device.proofs.Resuming.{resumes}

@@ -1,7 +1,3 @@
-use Rattle.snap_devices.proofs.Fits.{device_fits}
-use Rattle.snap_state.proofs.Held.{saved_held}
-use Rattle.snap_state.proofs.Fits.{board_fits}
-use Rattle.snap_state.proofs.Texts.{configuration_fits}
 use Rattle.snap_state.proofs.Copies.{one, one_file, opened, known}
 use Rattle.snap_state.proofs.law.one_copy.Goals as goal
 

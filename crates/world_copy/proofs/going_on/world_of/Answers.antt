@@ -69,4 +69,4 @@ returns-clause-world c =
 
 pub reserve-requires-clause-room : goal.reserve-requires-clause-room
 reserve-requires-clause-room c =
-    subst (λ (n : ℕ). HasRoom n c.reserve_for.new.self) c.len.ensures c.in_ok-reserve_for.ensures.room
+    c.in_ok-reserve_for.ensures.room

@@ -27,8 +27,14 @@ pub invariant_of-self-in_err-reserve : goal.invariant_of-self-in_err-reserve
 invariant_of-self-in_err-reserve c =
     same_stays (live_of c.self.inside) (Some c.reserve.new.self) (c.in-Some.is ∙ ap Some (sym c.in_err-reserve.ensures.err)) c.self.invariant
 
-pub invariant_of-self : goal.invariant_of-self
-invariant_of-self c =
+pub invariant_of-self-in_err-misfit_line-3 : goal.invariant_of-self-in_err-misfit_line-3
+invariant_of-self-in_err-misfit_line-3 c = same_stays (live_of c.self.inside) (Some c.in-Some.guest) c.in-Some.is c.self.invariant
+
+pub invariant_of-self-in_default-want : goal.invariant_of-self-in_default-want
+invariant_of-self-in_default-want c = same_stays (live_of c.self.inside) (Some c.in-Some.guest) c.in-Some.is c.self.invariant
+
+pub invariant_of-self-2 : goal.invariant_of-self-2
+invariant_of-self-2 c =
     run_stays (live_of c.self.inside) c.in-Some.guest c.run.new.self c.args.actor c.args.count c.in-Ok.made c.if-self.false c.in-Some.is
     (runs_reserved c.in-Some.guest c.reserve.new.self c.run.new.self c.args.actor c.args.count c.in-Ok.made c.reserve.ensures.ok c.in-Ok.ensures.made)
     c.self.invariant
