@@ -47,6 +47,12 @@ passed_end {Q} serves tally end before after other serve same =
     unseen ran.SinkFailed not = tt
     unseen ran.OutOfMemory not = tt
 
+-- whatever was made behind it, in which the gate was not asked
+pub passed_by : {Q : Type 0} (serves : Q → Type 0) (tally : Q → Tally) (end : Option Ran) (before after : List Q)
+    → (end ≡ Some ran.Closed → ⊥) → ArePassed serves tally None before after → ArePassed serves tally end before after
+passed_by serves tally None before after other are = are
+passed_by serves tally (Some end) before after other are = passed_end serves tally end before after other are.serve are.same
+
 -- a closed gate was found, and that is the end or the guest was off
 pub passed_closed : {Q : Type 0} (serves : Q → Type 0) (tally : Q → Tally) (end : Ran) (before after : List Q)
     → ArePassed serves tally (Some ran.Closed) before after → ArePassed serves tally (Some end) before after

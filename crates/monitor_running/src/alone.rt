@@ -32,11 +32,22 @@ const EVENTS_AT_ONCE: u64 = 1_023;
 /// A turn of one hart has at most so many events, so that it takes less than a millisecond.
 pub const MOST_ALONE: u32 = 49_152;
 
-/// A turn of this hart, of so many events at most.
+/// A turn of this hart, of so many events at most, or of one hart after another; and how many were made.
 #[derive(Clone, Copy, Drop)]
 pub struct Turn {
     pub hart: u8,
     pub most: u32,
+    pub made: u64,
+}
+
+impl Turn {
+    pub fn new(hart: u8, most: u32) -> Turn {
+        Turn {
+            hart,
+            most,
+            made: 0,
+        }
+    }
 }
 
 // Whether each hart but this one waits.
@@ -134,6 +145,37 @@ fn run_hart<Q, G: Gate<Pass = Q>>(
     made
 }
 
+/// A burst of this hart: its events, which are told, and then a drain.
+pub fn run_burst<Q, W: TurnObjects, G: Gate<Pass = Q>, K: Sink>(
+    alloc: Global,
+    world: &mut World,
+    with: &mut W,
+    gate: &G,
+    passes: &mut Vec<Q>,
+    turn: &mut Turn,
+    sink: &mut K,
+) -> Option<Ran>
+    requires some { 0 < length passes.old.items }
+    requires serve { All (G.serves gate.now) passes.old.items }
+    ensures went { Went IsRunning result
+        (known_with (W.known with.old) (K.known sink.old)) world.old
+        (known_with (W.known with.new) (K.known sink.new)) world.new }
+    ensures passes { ArePassed (G.serves gate.now) G.tally result passes.old.items passes.new.items }
+    ensures ready { StaysReady world.old world.new }
+    ensures unclosed { result ≢ Some ran.Closed }
+{
+    let Ok(()) = world.reserve(alloc, EVENTS_AT_ONCE) else {
+        return Some(Ran::OutOfMemory);
+    };
+    let hart = turn.hart;
+    let made = run_hart(alloc, world, *turn, gate, passes);
+    turn.made = turn.made.saturating_add(made);
+    if let Err(why) = tell_steps(ActorId::Hart(hart), made, world, with, sink) {
+        return Some(end_by(why));
+    }
+    None
+}
+
 /// A turn of one hart. Before it two events of the timer and of each other hart are made, and where another one waits no more after
 /// them, this turn has no event of the hart. They are told, and drained, and so are then the hart's.
 pub fn run_alone<Q, W: TurnObjects, G: Gate<Pass = Q>, K: Sink>(
@@ -142,7 +184,7 @@ pub fn run_alone<Q, W: TurnObjects, G: Gate<Pass = Q>, K: Sink>(
     with: &mut W,
     gate: &G,
     passes: &mut Vec<Q>,
-    turn: Turn,
+    turn: &mut Turn,
     sink: &mut K,
 ) -> Option<Ran>
     requires harts { length world.old.harts ≤ 32 }
@@ -161,12 +203,5 @@ pub fn run_alone<Q, W: TurnObjects, G: Gate<Pass = Q>, K: Sink>(
     if world.hart_count() > HART_LIMIT || !others_wait(world, turn.hart) {
         return None;
     }
-    let Ok(()) = world.reserve(alloc, EVENTS_AT_ONCE) else {
-        return Some(Ran::OutOfMemory);
-    };
-    let made = run_hart(alloc, world, turn, gate, passes);
-    if let Err(why) = tell_steps(ActorId::Hart(turn.hart), made, world, with, sink) {
-        return Some(end_by(why));
-    }
-    None
+    run_burst(alloc, world, with, gate, passes, turn, sink)
 }

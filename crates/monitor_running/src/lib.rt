@@ -1,8 +1,8 @@
 //! A machine that runs in turns, with all that happens in a trace.
 //!
-//! `run_once` makes one turn of a machine, and `run_while` one after another until a gate is closed. A turn is a slice
-//! (`slice_runner`) where two harts or more have something to do, and events of one hart, in one thread, where it alone has
-//! (`alone`). Each event goes to the trace as an item, in the order of the turn, and what the console holds after it goes to
+//! `run_once` makes one turn of a machine, and `run_while` one after another until a gate is closed. Where two harts or more have
+//! something to do a turn is a slice (`slice_runner`), or their events one hart after another, in one thread, where that costs less
+//! (`rotating`, by `pacing`); and where one hart alone has, it is events of that one, in one thread (`alone`). Each event goes to the trace as an item, in the order of the turn, and what the console holds after it goes to
 //! the sink, its item to the trace first, unless the sink isn't ready: then the console keeps it. Before each turn the devices act, and their disks answer them (`devices`); where
 //! every hart waits a few events are made in place of a slice (`waiting`). So what the trace took is a run of the flat
 //! machine that leaves the machine and shows what the sink took, and where turns end early the sink took a front of what
@@ -14,7 +14,9 @@ mod alone;
 mod devices;
 mod gating;
 mod objects;
+mod pacing;
 mod ran;
+mod rotating;
 mod running;
 mod telling;
 mod waiting;
@@ -22,6 +24,7 @@ mod working;
 
 pub use devices::run_devices;
 pub use objects::{TracedHost, TurnObjects};
+pub use pacing::Pace;
 pub use ran::Ran;
 pub use running::{end_of_closed, run_once, run_while};
 pub use waiting::is_quiet;

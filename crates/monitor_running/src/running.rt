@@ -18,7 +18,9 @@ use crate::alone::{MOST_ALONE, Turn, lone_hart, run_alone};
 use crate::devices::{MOST_DEVICES, run_devices};
 use crate::gating::is_open;
 use crate::objects::TurnObjects;
+use crate::pacing::Pace;
 use crate::ran::Ran;
+use crate::rotating::run_in_rotation;
 use crate::telling::{end_by, tell_slice};
 use crate::waiting::{all_wait, pass_round, time_left};
 use crate::working::device_works;
@@ -103,7 +105,7 @@ fn run_guest<
     with: &mut W,
     gate: &G,
     passes: &mut Vec<Q>,
-    steps: u32,
+    pace: &mut Pace,
     sink: &mut K,
 ) -> Option<Ran>
     requires harts { length world.old.harts ≤ 32 }
@@ -116,13 +118,15 @@ fn run_guest<
     ensures ready { StaysReady world.old world.new }
     ensures unclosed { result ≢ Some ran.Closed }
 {
-    let each = steps_each(world, steps);
+    let began = world.board().now();
+    let each = steps_each(world, pace.steps);
     let Ok(slice) = slice_by(rt, alloc, world, with, gate, passes, each) else {
         return Some(Ran::OutOfMemory);
     };
     if let Err(why) = tell_slice(slice.events.as_slice(), world, with, sink) {
         return Some(end_by(why));
     }
+    pace.told_slice(slice.events.len() as u64, began, world.board().now());
     None
 }
 
@@ -134,11 +138,12 @@ fn events_each(world: &World) -> u32
     MOST_EVENTS.min(MOST_EVENTS_OF_ALL / devices)
 }
 
-// The devices act, for which the disks are lent.
+// The devices act, for which the disks are lent, and the pace is told.
 fn devices_by<W: TurnObjects>(
     alloc: Global,
     world: &mut World,
     with: &mut W,
+    pace: &mut Pace,
     most: u32,
 ) -> Result<Vec<Entry>, AllocError>
     ensures gone { IfOk result (λ events. IsSerial world.old events.items world.new) }
@@ -149,7 +154,13 @@ fn devices_by<W: TurnObjects>(
     ensures disk { OnErr result ((W.known with.new).host.disk ≡ (W.known with.old).host.disk) }
     ensures beside { W.known with.new ≡ with_disk (W.known with.old) (W.known with.new).host.disk }
 {
-    run_devices(alloc, world, with.disk(), most)
+    match run_devices(alloc, world, with.disk(), most) {
+        Ok(events) => {
+            pace.told_devices(events.as_slice());
+            Ok(events)
+        }
+        Err(error) => Err(error),
+    }
 }
 
 // The devices act, and a drain.
@@ -157,6 +168,7 @@ fn act<W: TurnObjects, K: Sink>(
     alloc: Global,
     world: &mut World,
     with: &mut W,
+    pace: &mut Pace,
     sink: &mut K,
 ) -> Option<Ran>
     ensures went { Went IsRunning result
@@ -166,7 +178,7 @@ fn act<W: TurnObjects, K: Sink>(
     ensures unclosed { result ≢ Some ran.Closed }
 {
     let each = events_each(world);
-    let Ok(events) = devices_by(alloc, world, with, each) else {
+    let Ok(events) = devices_by(alloc, world, with, pace, each) else {
         return Some(Ran::OutOfMemory);
     };
     if let Err(why) = tell_slice(events.as_slice(), world, with, sink) {
@@ -175,13 +187,15 @@ fn act<W: TurnObjects, K: Sink>(
     None
 }
 
-// The clock rests, where every hart waits still and no device has something to do, until the next timer interrupt is due at most.
-fn rest_where_all_wait<W: TurnObjects>(world: &World, with: &mut W)
+// The clock rests, where every hart waits still and no device has something to do, until the next timer interrupt is due at most, and
+// no longer than the pace has it.
+fn rest_where_all_wait<W: TurnObjects>(world: &World, with: &mut W, pace: &Pace)
     ensures rests { clocks.Lasts (W.known with.old).host.clock (W.known with.new).host.clock }
     ensures beside { W.known with.new ≡ with_clock (W.known with.old) (W.known with.new).host.clock }
 {
     if world.hart_count() <= HART_LIMIT && all_wait(world) && !device_works(world) {
-        with.clock().rest(time_left(world.board()));
+        let most = pace.most_rest(time_left(world.board()));
+        with.clock().rest(most);
     }
 }
 
@@ -198,6 +212,7 @@ fn wait<W: TurnObjects, K: Sink>(
     alloc: Global,
     world: &mut World,
     with: &mut W,
+    pace: &Pace,
     sink: &mut K,
 ) -> Option<Ran>
     requires { length world.old.harts ≤ 32 }
@@ -210,12 +225,12 @@ fn wait<W: TurnObjects, K: Sink>(
     if let Some(end) = pass_round(alloc, world, with, None, sink) {
         return Some(end);
     }
-    rest_where_all_wait(world, with);
+    rest_where_all_wait(world, with, pace);
     None
 }
 
-// One slice, where each hart and the timer has a pass and two harts have something to do. A turn of one hart, where it alone has;
-// and else time passes.
+// One slice, or a turn in rotation, where each hart and the timer has a pass and two harts have something to do. A turn of one hart,
+// where it alone has; and else time passes.
 fn run_or_wait<
     Q: Send + Drop,
     W: TurnObjects,
@@ -229,7 +244,7 @@ fn run_or_wait<
     with: &mut W,
     gate: &G,
     passes: &mut Vec<Q>,
-    steps: u32,
+    pace: &mut Pace,
     sink: &mut K,
 ) -> Option<Ran>
     requires { All (G.serves gate.now) passes.old.items }
@@ -245,14 +260,16 @@ fn run_or_wait<
         return None;
     }
     if all_wait(world) {
-        return wait(alloc, world, with, sink);
+        return wait(alloc, world, with, pace, sink);
     }
     if let Some(hart) = lone_hart(world) {
-        let most = steps.min(MOST_ALONE);
-        let turn = Turn { hart, most };
-        return run_alone(alloc, world, with, gate, passes, turn, sink);
+        let mut turn = Turn::new(hart, pace.steps.min(MOST_ALONE));
+        return run_alone(alloc, world, with, gate, passes, &mut turn, sink);
     }
-    run_guest(rt, alloc, world, with, gate, passes, steps, sink)
+    if !pace.is_slice_due() {
+        return run_in_rotation(alloc, world, with, gate, passes, pace, sink);
+    }
+    run_guest(rt, alloc, world, with, gate, passes, pace, sink)
 }
 
 // The devices act, and then the harts and the timer.
@@ -269,7 +286,7 @@ fn run_world<
     with: &mut W,
     gate: &G,
     passes: &mut Vec<Q>,
-    steps: u32,
+    pace: &mut Pace,
     sink: &mut K,
 ) -> Option<Ran>
     requires { All (G.serves gate.now) passes.old.items }
@@ -280,21 +297,25 @@ fn run_world<
     ensures ready { StaysReady world.old world.new }
     ensures unclosed { result ≢ Some ran.Closed }
 {
-    if let Some(end) = act(alloc, world, with, sink) {
+    if let Some(end) = act(alloc, world, with, pace, sink) {
         return Some(end);
     }
-    run_or_wait(rt, alloc, world, with, gate, passes, steps, sink)
+    run_or_wait(rt, alloc, world, with, gate, passes, pace, sink)
 }
 
 /// One turn of a machine. Before it the devices act without the gate (`run_devices`), each of them 4,096 events at most, and all of
 /// them 16,384. Answers why turns end, or `None` where they may go on; it is `Off` where the guest is off, of which no turn is made.
 /// That the gate is closed is no end here.
 ///
-/// Where two harts or more have something to do the turn is a slice, of `steps` steps at most of each actor, and 65,536 of all of them.
-/// An actor asks the gate with a pass of its own before each step. Where one hart alone has, and each other one waits, it is two
-/// events of the timer and of each other hart, and then, where these wait still, events of that hart until it waits or the gate is
-/// closed, which is asked with the first pass after every 1,023 of them, `steps` and 49,152 at most: no slice is opened. Where every hart waits it is two events of the timer and of each
-/// hart, without the gate, and where all of them wait still, the clock rests, until the next timer interrupt is due at most. It rests
+/// Where two harts or more have something to do the turn is a slice, of the pace's `steps` at most of each actor, and 65,536 of all of
+/// them. An actor asks the gate with a pass of its own before each step. Or it is a rotation, in one thread: two events of the timer
+/// and of each hart, then events of one hart after another, and the two events of each once more. The pace says which (`Pace`): a
+/// rotation where it made its events in less time than a slice when both were made last, and a slice the first time, and once in a
+/// hundred turns at least. Where one hart alone has something to do, and each other one waits, it is two events of the timer and of each
+/// other hart, and then, where these wait still, events of that hart. In one thread a hart has events until it waits or the gate is
+/// closed, which is asked with the first pass after every 1,023 of them, `steps` at most, and 49,152 of all harts: no slice is opened. Where every hart waits it is two events of the timer and of each
+/// hart, without the gate, and where all of them wait still, the clock rests, until the next timer interrupt is due at most, and a
+/// millisecond where a device asked guest time, as one does whose chain waits for it. It rests
 /// too where no guest runs, and where there are fewer passes than actors or more harts than a slice has (no start and no load makes so
 /// many). Nothing is said of time.
 ///
@@ -314,7 +335,7 @@ pub fn run_once<
     with: &mut W,
     gate: &G,
     passes: &mut Vec<Q>,
-    steps: u32,
+    pace: &mut Pace,
     sink: &mut K,
 ) -> Option<Ran>
     requires { All (G.serves gate.now) passes.old.items }
@@ -334,7 +355,7 @@ pub fn run_once<
         rest_long(with);
         return None;
     };
-    let end = run_world(rt, alloc, &mut world, with, gate, passes, steps, sink);
+    let end = run_world(rt, alloc, &mut world, with, gate, passes, pace, sink);
     machine.put_guest(world);
     end
 }
@@ -352,7 +373,8 @@ pub fn end_of_closed(machine: &LiveMachine) -> Ran
     }
 }
 
-/// Turns of a machine, each by `run_once`, until the gate is closed, which is asked with the first pass before each.
+/// Turns of a machine, each by `run_once`, until the gate is closed, which is asked with the first pass before each. The first turn in
+/// which two harts have something to do is a slice.
 /// `Closed` is answered where the guest is on, and `Off` where it is off.
 pub fn run_while<
     Q: Send + Drop,
@@ -378,11 +400,12 @@ pub fn run_while<
     ensures off { IsOff machine.old → result ≡ ran.Off }
     ensures passes { ArePassed (G.serves gate.now) G.tally (Some result) passes.old.items passes.new.items }
 {
+    let mut pace = Pace::new(steps);
     for _ in rt.forever() {
         if !is_open(gate, passes) {
             return end_of_closed(machine);
         }
-        if let Some(end) = run_once(rt, alloc, machine, with, gate, passes, steps, sink) {
+        if let Some(end) = run_once(rt, alloc, machine, with, gate, passes, &mut pace, sink) {
             return end;
         }
     }

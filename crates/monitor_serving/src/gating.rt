@@ -2,6 +2,7 @@
 ghost use Rattle.std.specs.Prelude.{◌≡◌, IfOk};
 ghost use Rattle.monitor_serving.specs.Gating.{IsGated};
 
+use monitor_running::Pace;
 use pause_gate::{FlagGate, Pass};
 use std::alloc::{AllocError, Global};
 
@@ -9,12 +10,14 @@ use std::alloc::{AllocError, Global};
 const PASSES: usize = 35;
 
 /// A gate with its passes: those of slices, and that of the reader, who closes it. In a slice each actor makes so many steps at most.
+/// The pace is that of turns that are made one by one, while nobody says anything.
 #[derive(Drop)]
 pub struct Gating {
     pub gate: FlagGate,
     pub passes: Vec<Pass>,
     pub reader: Pass,
     pub steps: u32,
+    pub pace: Pace,
 }
 
 impl Gating {
@@ -32,6 +35,7 @@ impl Gating {
             passes,
             reader,
             steps,
+            pace: Pace::new(steps),
         })
     }
 }

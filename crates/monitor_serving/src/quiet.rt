@@ -60,8 +60,8 @@ pub fn run_quiet<W: TurnObjects + Send, N: Conn, K: Sink + Send, R: Threads + Wa
 {
     let gate = &gating.gate;
     let passes = &mut gating.passes;
-    let steps = gating.steps;
-    let end = run_once(rt, alloc, machine, with, gate, passes, steps, sink);
+    let pace = &mut gating.pace;
+    let end = run_once(rt, alloc, machine, with, gate, passes, pace, sink);
     match end {
         Some(end) => (Heard::Nothing, end),
         None => {

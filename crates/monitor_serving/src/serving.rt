@@ -87,17 +87,8 @@ fn run_alone<W: TurnObjects, K: Sink, R: Threads + Wait + Sync>(
 {
     let gate = &gating.gate;
     let passes = &mut gating.passes;
-    let steps = gating.steps;
-    alone_end(run_once(
-        rt,
-        alloc,
-        monitor.machine(),
-        with,
-        gate,
-        passes,
-        steps,
-        sink,
-    ))
+    let pace = &mut gating.pace;
+    alone_end(run_once(rt, alloc, monitor.machine(), with, gate, passes, pace, sink))
 }
 
 // A connection, where one has come, or a slice.

@@ -1,53 +1,10 @@
-use Rattle.std.proofs.Common.{None, Some}
 use Rattle.monitor_running.specs.Ran.{IsRunning}
-use Rattle.monitor_running.proofs.Joins.{host_same}
-use Rattle.monitor_running.proofs.Lifts.{went_on, went_wanting}
-use Rattle.monitor_running.proofs.Lone.{run_from_reserved, steps_gone}
-use Rattle.monitor_running.proofs.Lent.{by_trace}
-use Rattle.monitor_running.proofs.Told.{went_items_told, went_items_untold}
-use Rattle.monitor_running.proofs.Staying.{stays_drained, stays_run, stays_same, stays_then}
+use Rattle.monitor_running.proofs.Lifts.{went_on}
+use Rattle.monitor_running.proofs.Staying.{stays_then}
 use Rattle.monitor_running.proofs.alone.run_alone.Goals as goal
 
-pub returns-in-Err-clause-went : goal.returns-in-Err-clause-went
-returns-in-Err-clause-went g c =
-    let all = g.W.TurnObjects.known in
-    let told = c.in-Err.ensures in
-    let mid = all c.pass_round.new.with in
-    went_on IsRunning (Some c.end_by.result) _ _ _ _ _ _ c.in_default.ensures.went
-    (by_trace IsRunning (Some c.end_by.result) mid mid (all c.tell_steps.new.with) _ _ _ _ told.beside
-    (went_items_untold c.end_by.result c.in-Err.why _ _ _ _ _ _ _ _ _ _ c.end_by.ensures
-    (steps_gone c.args.turn.hart c.run_hart-made.result c.pass_round.new.world c.run_hart-made.new.world _
-    (run_from_reserved c.args.turn.hart c.run_hart-made.result c.pass_round.new.world c.reserve.new.self c.run_hart-made.new.world c.reserve.ensures.ok c.run_hart-made.ensures.run))
-    told.told told.trace_cause told.sink_cause told.trace_lasts told.trace_stays told.sink_lasts))
-
 pub returns-clause-went : goal.returns-clause-went
-returns-clause-went g c =
-    let all = g.W.TurnObjects.known in
-    let told = c.in_default-tell_steps.ensures in
-    let mid = all c.pass_round.new.with in
-    went_on IsRunning None _ _ _ _ _ _ c.in_default.ensures.went
-    (by_trace IsRunning None mid mid (all c.tell_steps.new.with) _ _ _ _ told.beside
-    (went_items_told _ _ _ _ _ _ _ _ _ _ _
-    (steps_gone c.args.turn.hart c.run_hart-made.result c.pass_round.new.world c.run_hart-made.new.world _
-    (run_from_reserved c.args.turn.hart c.run_hart-made.result c.pass_round.new.world c.reserve.new.self c.run_hart-made.new.world c.reserve.ensures.ok c.run_hart-made.ensures.run))
-    told.told told.trace_lasts told.trace_stays told.sink_lasts (host_same _)))
-
-pub returns-in-Err-clause-ready : goal.returns-in-Err-clause-ready
-returns-in-Err-clause-ready g c =
-    stays_then _ _ _ c.in_default.ensures.ready
-    (stays_then _ _ _ (stays_run c.args.turn.hart c.run_hart-made.result _ _
-    (run_from_reserved c.args.turn.hart c.run_hart-made.result c.pass_round.new.world c.reserve.new.self c.run_hart-made.new.world c.reserve.ensures.ok c.run_hart-made.ensures.run))
-    (stays_drained _ _ c.in-Err.ensures.world))
+returns-clause-went g c = went_on IsRunning c.run_burst.result _ _ _ _ _ _ c.in_default.ensures.went c.run_burst.ensures.went
 
 pub returns-clause-ready : goal.returns-clause-ready
-returns-clause-ready g c =
-    stays_then _ _ _ c.in_default.ensures.ready
-    (stays_then _ _ _ (stays_run c.args.turn.hart c.run_hart-made.result _ _
-    (run_from_reserved c.args.turn.hart c.run_hart-made.result c.pass_round.new.world c.reserve.new.self c.run_hart-made.new.world c.reserve.ensures.ok c.run_hart-made.ensures.run))
-    (stays_drained _ _ c.in_default-tell_steps.ensures.world))
-
-pub returns-in_default-reserve-clause-went : goal.returns-in_default-reserve-clause-went
-returns-in_default-reserve-clause-went g c = went_wanting IsRunning _ _ _ _ _ c.in_default-reserve.ensures.err c.in_default.ensures.went
-
-pub returns-in_default-reserve-clause-ready : goal.returns-in_default-reserve-clause-ready
-returns-in_default-reserve-clause-ready g c = stays_then _ _ _ c.in_default.ensures.ready (stays_same _ _ c.in_default-reserve.ensures.err)
+returns-clause-ready g c = stays_then _ _ _ c.in_default.ensures.ready c.run_burst.ensures.ready

@@ -1,0 +1,184 @@
+// Which turns of several harts are slices, and how long a turn in which all harts wait may rest.
+ghost use Rattle.std.specs.Prelude.{◌≡◌, ◌≤◌, ◌+◌, true, false};
+
+use vm_types::{BoardOp, Entry, Op};
+
+/// Behind a slice so many turns are made in rotation at most, so that of a hundred turns one is a slice at least.
+const MOST_ROTATIONS: u32 = 99;
+
+/// Behind so many slices in a row rotations are tried again.
+const MOST_SLICES: u32 = 99;
+
+/// So many rotations show what slices and rotations cost.
+const TRIED: u32 = 2;
+
+/// A turn that takes longer counts as one of some eighteen minutes, in nanoseconds.
+const MOST_TIME: u64 = 0x100_0000_0000;
+
+/// The clock rests no longer where a device asks guest time, in nanoseconds.
+const MOST_TIMED_REST: u64 = 1_000_000;
+
+/// So many events, from this moment of guest time on.
+#[derive(Clone, Copy, Drop)]
+struct Made {
+    events: u64,
+    began: u64,
+}
+
+// What a thousand events cost in nanoseconds, where they were over at this moment.
+fn cost(made: Made, ended: u64) -> u64 {
+    ended.saturating_sub(made.began).min(MOST_TIME) * 1_000 / made.events.max(1)
+}
+
+// Whether guest time was asked in one of these.
+fn ask_time(events: &[Entry]) -> bool {
+    for event in events {
+        if matches!(event.op, Op::Board(BoardOp::Time)) {
+            return true;
+        }
+    }
+    false
+}
+
+/// How turns of several harts are made: as slices, or in rotation where that cost less when it was tried last. Time is guest time,
+/// which follows the clock, and of which the timer is told in each turn.
+#[derive(Drop)]
+pub struct Pace {
+    /// An actor makes so many steps in a turn at most.
+    pub steps: u32,
+    /// How many turns may be made in rotation until the next slice.
+    pub left: u32,
+    /// Whether a device asked guest time when the devices acted last: if it does nothing else, a chain of it waits for that.
+    pub is_timed: bool,
+    // How many slices were made since the last rotation.
+    slices: u32,
+    // What they cost.
+    slice: Option<u64>,
+    rotation: Option<u64>,
+    // The last slice, whose end is known by the next reading of the clock.
+    made: Option<Made>,
+    // The moment at which the last turn of several harts ended.
+    ended: Option<u64>,
+}
+
+impl Pace {
+    /// The first turn of several harts is a slice.
+    pub fn new(steps: u32) -> Pace
+        ensures { result.left ≡ 0 }
+    {
+        Pace {
+            steps,
+            left: 0,
+            is_timed: false,
+            slices: 0,
+            slice: None,
+            rotation: None,
+            made: None,
+            ended: None,
+        }
+    }
+
+    /// Whether the next turn of several harts is a slice. One in rotation is counted.
+    pub(crate) fn is_slice_due(&mut self) -> bool
+        ensures due { self.old.left ≡ 0 → result ≡ true }
+        ensures counted { result ≡ false → self.new.left + 1 ≡ self.old.left }
+    {
+        if self.left == 0 {
+            return true;
+        }
+        self.left -= 1;
+        false
+    }
+
+    /// The devices made these events.
+    pub(crate) fn told_devices(&mut self, events: &[Entry])
+        ensures { self.new.left ≡ self.old.left }
+    {
+        self.is_timed = ask_time(events);
+    }
+
+    /// So long the clock rests at most, in nanoseconds, where so much is left until a timer interrupt is due: a chain that waits for
+    /// guest time is tried again soon.
+    pub(crate) fn most_rest(&self, left: u64) -> u64
+        ensures left { result ≤ left }
+        ensures timed { self.now.is_timed ≡ true → result ≤ 1000000 }
+    {
+        if self.is_timed {
+            left.min(MOST_TIMED_REST)
+        } else {
+            left
+        }
+    }
+
+    /// A slice of so many events was made, and guest time was read at these moments.
+    pub(crate) fn told_slice(&mut self, events: u64, began: u64, ended: u64)
+        ensures { self.new.left ≤ 99 }
+    {
+        self.made = self.made_from(events, began);
+        self.ended = Some(ended);
+        self.slices = self.slices.saturating_add(1);
+        self.left = self.rotations();
+    }
+
+    /// A rotation of so many events was made. Guest time was read before its turn, before its events, and behind them.
+    pub(crate) fn told_rotation(&mut self, events: u64, before: u64, began: u64, ended: u64)
+        ensures { self.new.left ≡ self.old.left }
+    {
+        self.slice = self.slice_until(before, began);
+        self.made = None;
+        self.rotation = Some(cost(Made { events, began }, ended));
+        self.slices = 0;
+        self.ended = Some(ended);
+    }
+
+    // Whether guest time is still that of the last turn's end, so that no other turn was made since.
+    fn is_at(&self, moment: u64) -> bool {
+        match self.ended {
+            Some(ended) => ended == moment,
+            None => false,
+        }
+    }
+
+    fn made_from(&self, events: u64, began: u64) -> Option<Made> {
+        if self.is_at(began) {
+            Some(Made { events, began })
+        } else {
+            None
+        }
+    }
+
+    // What the last slice cost, if it was made before this turn and over when the turn's events began. Where that isn't known, what
+    // one cost before it.
+    fn slice_until(&self, before: u64, ended: u64) -> Option<u64> {
+        if !self.is_at(before) {
+            return self.slice;
+        }
+        match self.made {
+            Some(made) => Some(cost(made, ended)),
+            None => self.slice,
+        }
+    }
+
+    // How many rotations may follow a slice.
+    fn rotations(&self) -> u32
+        ensures { result ≤ 99 }
+    {
+        match (self.slice, self.rotation) {
+            (Some(slice), Some(rotation)) => self.rotations_by(slice, rotation),
+            _ => TRIED,
+        }
+    }
+
+    // By what both cost.
+    fn rotations_by(&self, slice: u64, rotation: u64) -> u32
+        ensures { result ≤ 99 }
+    {
+        if slice > rotation {
+            return MOST_ROTATIONS;
+        }
+        if self.slices < MOST_SLICES {
+            return 0;
+        }
+        TRIED
+    }
+}

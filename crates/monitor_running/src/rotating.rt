@@ -1,0 +1,147 @@
+// Where several harts have something to do: a burst of each of them, one after another, and no slice.
+ghost use Rattle.std.specs.Prelude.{◌≢◌, ◌≤◌, ◌<◌, length, All, Some};
+ghost use Rattle.monitor_running.specs.declared.ran.Ran.TheVariants as ran;
+ghost use Rattle.monitor_running.specs.Objects.{known_with};
+ghost use Rattle.monitor_running.specs.Passes.{ArePassed};
+ghost use Rattle.monitor_running.specs.Ran.{IsRunning, Went};
+ghost use Rattle.monitor_running.specs.Staying.{StaysReady};
+
+use crate::alone::{MOST_ALONE, Turn, run_burst};
+use crate::objects::TurnObjects;
+use crate::pacing::Pace;
+use crate::ran::Ran;
+use crate::waiting::{pass_round, waits};
+use guest_memory::HART_LIMIT;
+use pause_gate::Gate;
+use std::alloc::Global;
+use vm_outside::Sink;
+use vm_world::World;
+
+// A burst has so many events at most. All together take less than a millisecond.
+fn most_each(world: &World, steps: u32) -> u32
+    requires { length world.now.harts ≤ 32 }
+    ensures { result ≤ steps }
+{
+    let harts = world.hart_count() as u32;
+    steps.min(MOST_ALONE / harts.max(1))
+}
+
+// A burst of the hart whose turn it is, unless it waits.
+fn run_unless_waits<Q, W: TurnObjects, G: Gate<Pass = Q>, K: Sink>(
+    alloc: Global,
+    world: &mut World,
+    with: &mut W,
+    gate: &G,
+    passes: &mut Vec<Q>,
+    turn: &mut Turn,
+    sink: &mut K,
+) -> Option<Ran>
+    requires some { 0 < length passes.old.items }
+    requires serve { All (G.serves gate.now) passes.old.items }
+    ensures went { Went IsRunning result
+        (known_with (W.known with.old) (K.known sink.old)) world.old
+        (known_with (W.known with.new) (K.known sink.new)) world.new }
+    ensures passes { ArePassed (G.serves gate.now) G.tally result passes.old.items passes.new.items }
+    ensures ready { StaysReady world.old world.new }
+    ensures unclosed { result ≢ Some ran.Closed }
+{
+    if waits(world, turn.hart) {
+        return None;
+    }
+    run_burst(alloc, world, with, gate, passes, turn, sink)
+}
+
+// A burst of each hart that doesn't wait, in order.
+fn run_bursts<Q, W: TurnObjects, G: Gate<Pass = Q>, K: Sink>(
+    alloc: Global,
+    world: &mut World,
+    with: &mut W,
+    gate: &G,
+    passes: &mut Vec<Q>,
+    turn: &mut Turn,
+    sink: &mut K,
+) -> Option<Ran>
+    requires harts { length world.old.harts ≤ 32 }
+    requires some { 0 < length passes.old.items }
+    requires serve { All (G.serves gate.now) passes.old.items }
+    ensures went { Went IsRunning result
+        (known_with (W.known with.old) (K.known sink.old)) world.old
+        (known_with (W.known with.new) (K.known sink.new)) world.new }
+    ensures passes { ArePassed (G.serves gate.now) G.tally result passes.old.items passes.new.items }
+    ensures ready { StaysReady world.old world.new }
+    ensures unclosed { result ≢ Some ran.Closed }
+{
+    let harts = world.hart_count();
+    for number in 0..harts {
+        turn.hart = number as u8;
+        if let Some(end) = run_unless_waits(alloc, world, with, gate, passes, turn, sink) {
+            return Some(end);
+        }
+    }
+    None
+}
+
+// Bursts, and behind them two events of the timer and of each hart. They are told, and drained.
+fn run_and_pass<Q, W: TurnObjects, G: Gate<Pass = Q>, K: Sink>(
+    alloc: Global,
+    world: &mut World,
+    with: &mut W,
+    gate: &G,
+    passes: &mut Vec<Q>,
+    turn: &mut Turn,
+    sink: &mut K,
+) -> Option<Ran>
+    requires harts { length world.old.harts ≤ 32 }
+    requires some { 0 < length passes.old.items }
+    requires serve { All (G.serves gate.now) passes.old.items }
+    ensures went { Went IsRunning result
+        (known_with (W.known with.old) (K.known sink.old)) world.old
+        (known_with (W.known with.new) (K.known sink.new)) world.new }
+    ensures passes { ArePassed (G.serves gate.now) G.tally result passes.old.items passes.new.items }
+    ensures ready { StaysReady world.old world.new }
+    ensures unclosed { result ≢ Some ran.Closed }
+{
+    if let Some(end) = run_bursts(alloc, world, with, gate, passes, turn, sink) {
+        return Some(end);
+    }
+    if world.hart_count() > HART_LIMIT {
+        return None;
+    }
+    pass_round(alloc, world, with, None, sink)
+}
+
+/// A turn of several harts, one after another: two events of the timer and of each hart, then a burst of each hart that doesn't wait,
+/// and then two events of the timer and of each hart again. Each part is told, and drained.
+pub fn run_in_rotation<Q, W: TurnObjects, G: Gate<Pass = Q>, K: Sink>(
+    alloc: Global,
+    world: &mut World,
+    with: &mut W,
+    gate: &G,
+    passes: &mut Vec<Q>,
+    pace: &mut Pace,
+    sink: &mut K,
+) -> Option<Ran>
+    requires harts { length world.old.harts ≤ 32 }
+    requires some { 0 < length passes.old.items }
+    requires serve { All (G.serves gate.now) passes.old.items }
+    ensures went { Went IsRunning result
+        (known_with (W.known with.old) (K.known sink.old)) world.old
+        (known_with (W.known with.new) (K.known sink.new)) world.new }
+    ensures passes { ArePassed (G.serves gate.now) G.tally result passes.old.items passes.new.items }
+    ensures ready { StaysReady world.old world.new }
+    ensures unclosed { result ≢ Some ran.Closed }
+{
+    let before = world.board().now();
+    if let Some(end) = pass_round(alloc, world, with, None, sink) {
+        return Some(end);
+    }
+    if world.hart_count() > HART_LIMIT {
+        return None;
+    }
+    let began = world.board().now();
+    let most = most_each(world, pace.steps);
+    let mut turn = Turn::new(0, most);
+    let end = run_and_pass(alloc, world, with, gate, passes, &mut turn, sink);
+    pace.told_rotation(turn.made, before, began, world.board().now());
+    end
+}
