@@ -37,19 +37,25 @@ def answer(conn, rest=b""):
     return head, body
 
 
-def put(conn, path, body):
+def ask(conn, method, path, body):
+    """A call that is to be accepted."""
     text = body.encode()
-    conn.sendall(f"PUT {path} HTTP/1.1\r\nContent-Length: {len(text)}\r\n\r\n".encode() + text)
-    head, _ = answer(conn)
-    assert head.startswith(b"HTTP/1.1 204"), head
+    conn.sendall(f"{method} {path} HTTP/1.1\r\nContent-Length: {len(text)}\r\n\r\n".encode() + text)
+    head, rest = answer(conn)
+    assert head.startswith(b"HTTP/1.1 204"), (path, head, rest)
 
 
-def calls(image, mib, drive=None):
-    """The calls that start a machine of one hart, as paths and bodies."""
+def put(conn, path, body):
+    ask(conn, "PUT", path, body)
+
+
+def calls(image, mib, drive=None, limits="null"):
+    """The calls that start a machine of one hart, as paths and bodies; with a drive, if one is named, that has these limits."""
     yield "/boot-source", f'{{"kernel_image_path":"{image}"}}'
     yield "/machine-config", f'{{"vcpu_count":1,"mem_size_mib":{mib}}}'
     if drive:
-        yield "/drives/root", f'{{"drive_id":"root","path_on_host":"{drive}","is_root_device":true,"cache_type":"Writeback"}}'
+        fields = f'"drive_id":"root","path_on_host":"{drive}","is_root_device":true,"cache_type":"Writeback","rate_limiter":{limits}'
+        yield "/drives/root", f"{{{fields}}}"
     yield "/actions", '{"action_type":"InstanceStart"}'
 
 
