@@ -1,5 +1,5 @@
 -- A page that isn't made reads as zeros, and what an act does with one.
-use Rattle.std.proofs.Common.{◌≡◌, ℕ, zero, suc, ◌+◌, ◌-◌, ◌≤◌, ◌==◌, nat_le, nat_lt, Bool, true, false, cond, not, ◌&&◌, List, [], ◌∷◌, ◌++◌, Option, Some, None, length, take, drop, get_or, set, replicate, refl, sym, ap, ◌∙◌, arith}
+use Rattle.std.proofs.Common.{◌≡◌, ℕ, zero, suc, ◌+◌, ◌-◌, ◌≤◌, ◌==◌, nat_le, nat_lt, Bool, true, false, cond, not, ◌&&◌, List, [], ◌∷◌, ◌++◌, Option, Some, None, length, take, drop, set, replicate, refl, sym, ap, ◌∙◌, arith}
 use Rattle.std.proofs.lemmas.Bool.{eqb-true, leb-true}
 use Rattle.std.proofs.lemmas.List.{take-replicate, drop-replicate, replicate-append-replicate}
 use Rattle.vm_types.specs.declared.ids.ActorId.{ActorId}
@@ -185,14 +185,9 @@ module _ (n : ℕ) (page new : PageValue) (actor : ActorId) (op : Op) (reply : R
       still ∙ ap made_page (sym (ap (λ (q : PageValue). q.number) still))
 
 -- nothing is reserved in it
-none_there : (k i : ℕ) → get_or (replicate {A = Option ℕ} k None) i None ≡ None
-none_there zero i = refl
-none_there (suc k) zero = refl
-none_there (suc k) (suc i) = none_there k i
-
-pub none_reserved : (number hart : ℕ) → get_or (new_page number).reserved hart None ≡ None
+pub none_reserved : (number : ℕ) → (new_page number).reserved ≡ replicate 32 None
 unfolding unreserved
-none_reserved number hart = none_there 32 hart
+none_reserved number = refl
 
 -- zeros that are put into it leave it
 pub zeros_patched : (number offset : ℕ) (piece : List ℕ) → are_zeros piece ≡ true → offset + length piece ≤ 4096

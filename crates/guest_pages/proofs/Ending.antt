@@ -1,5 +1,5 @@
 -- Where no hart has reserved anything, a write ends nothing; and what becomes of granules inside a page.
-use Rattle.std.proofs.Common.{◌≡◌, ℕ, zero, suc, ◌%◌, Bool, true, false, cond, ◌&&◌, not, List, [], ◌∷◌, Option, Some, None, is_some, length, set, zero-add, arith, refl, ap, ◌∙◌}
+use Rattle.std.proofs.Common.{◌≡◌, ℕ, zero, suc, ◌%◌, Bool, true, false, cond, ◌&&◌, not, List, [], ◌∷◌, Option, Some, None, is_some, length, replicate, set, zero-add, arith, refl, ap, ◌∙◌}
 use Rattle.std.specs.List.{count_by}
 use Rattle.std.proofs.lemmas.List.Sums.{sum_by-cons}
 use Rattle.vm_types.specs.declared.ids.ActorId.{ActorId}
@@ -18,6 +18,17 @@ nothing_ends writer at len slot (None ∷ rest) none =
     ap (λ (l : List (Option ℕ)). None ∷ l) (nothing_ends writer at len (suc slot) rest (none ∙ sum_by-cons {X = Option ℕ} (λ x. cond (is_some x) 1 0) None rest ∙ zero-add (count_by is_some rest)))
 nothing_ends writer at len slot (Some offset ∷ rest) none =
     let more = none ∙ sum_by-cons {X = Option ℕ} (λ x. cond (is_some x) 1 0) (Some offset) rest in absurd (omega (arith, more))
+
+-- so each of them holds nothing
+none_by : (slots : List (Option ℕ)) → 0 ≡ count_by is_some slots → slots ≡ replicate (length slots) None
+none_by [] none = refl
+none_by (None ∷ rest) none =
+    ap (λ (l : List (Option ℕ)). None ∷ l) (none_by rest (none ∙ sum_by-cons {X = Option ℕ} (λ x. cond (is_some x) 1 0) None rest ∙ zero-add (count_by is_some rest)))
+none_by (Some offset ∷ rest) none =
+    let more = none ∙ sum_by-cons {X = Option ℕ} (λ x. cond (is_some x) 1 0) (Some offset) rest in absurd (omega (arith, more))
+
+pub none_held : (slots : List (Option ℕ)) → length slots ≡ 32 → 0 ≡ count_by is_some slots → slots ≡ replicate 32 None
+none_held slots long none = none_by slots none ∙ ap (λ (n : ℕ). replicate n None) long
 
 pub inside_after : (writer : ActorId) (at len slot : ℕ) (slots : List (Option ℕ)) → AreInside slots → AreInside (slots_after writer at len slot slots)
 inside_after writer at len slot [] are = tt

@@ -1,10 +1,10 @@
--- A granule reserved in one page, and what is reserved in a slot of all.
-use Rattle.std.proofs.Common.{◌≡◌, ℕ, suc, ◌+◌, ◌*◌, ◌/◌, ◌%◌, ◌<◌, List, [], ◌∷◌, Some, None, length, get_or, set, refl, sym, ap, ◌∙◌, arith, length-append}
+-- A granule reserved in one page, and what is reserved in the slots of one.
+use Rattle.std.proofs.Common.{◌≡◌, ℕ, suc, ◌+◌, ◌*◌, ◌<◌, List, [], ◌∷◌, Some, length, take, drop, get_or, set, refl, sym, ap, ◌∙◌, arith, length-append}
 use Rattle.std.specs.List.{flat_map}
 use Rattle.guest_pages.specs.Flat.{ArePages}
 use Rattle.guest_pages.specs.Pages.{PageValue, flat_of, held_at, page_holding}
 use Rattle.guest_pages.proofs.Loading.{same_joined}
-use Rattle.guest_pages.proofs.Slotted.{get_joined, set_joined}
+use Rattle.guest_pages.proofs.Slotted.{set_joined, slots_joined}
 
 pub held_memory : (value pages : List PageValue) (i hart offset : ℕ) (old new : PageValue) → value ≡ pages → ArePages 0 pages
     → i < length value → hart < 32 → old ≡ get_or pages i old → new ≡ page_holding hart offset old
@@ -30,14 +30,7 @@ pub slots_of_value : (value pages : List PageValue) (n : ℕ) → value ≡ page
 slots_of_value value pages n view are long =
     ap (λ (l : List PageValue). length (flat_of l).reserved) view ∙ slots_count 0 pages are ∙ ap (λ (k : ℕ). 32 * k) (sym long)
 
-pub reserved_there : (value pages : List PageValue) (slot : ℕ) (page : PageValue) → value ≡ pages → ArePages 0 pages
-    → slot < 32 * length value → page ≡ get_or pages (slot / 32) page
-    → get_or page.reserved (slot % 32) None ≡ get_or (flat_of value).reserved slot None
-reserved_there value pages slot page view are lt was =
-    let long = ap length view in
-    let joined = get_joined 0 pages (slot / 32) (slot % 32) page None are (omega (arith, long, lt)) (omega arith) in
-    let split : 32 * (slot / 32) + slot % 32 ≡ slot = omega arith in
-    ap (λ (p : PageValue). get_or p.reserved (slot % 32) None) was
-    ∙ sym joined
-    ∙ ap (λ (k : ℕ). get_or (flat_of pages).reserved k None) split
-    ∙ ap (λ (l : List PageValue). get_or (flat_of l).reserved slot None) (sym view)
+pub slots_there : (value pages : List PageValue) (i : ℕ) (d : PageValue) → value ≡ pages → ArePages 0 pages → i < length pages
+    → (get_or pages i d).reserved ≡ take 32 (drop (32 * i) (flat_of value).reserved)
+slots_there value pages i d view are lt =
+    sym (slots_joined 0 pages i d are lt) ∙ ap (λ (l : List PageValue). take 32 (drop (32 * i) (flat_of l).reserved)) (sym view)

@@ -2,6 +2,7 @@ pub mod Blanks
 pub mod Copying
 pub mod Each
 pub mod Ending
+pub mod Greatest
 pub mod Here
 pub mod Holding
 pub mod Joined

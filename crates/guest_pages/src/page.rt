@@ -1,5 +1,5 @@
 // One page of guest memory.
-ghost use Rattle.std.specs.Prelude.{◌≡◌, ◌≤◌, ◌<◌, ◌+◌, ◌-◌, ◌*◌, ◌%◌, true, false, drop, length, replicate, take, IfOk, is_some};
+ghost use Rattle.std.specs.Prelude.{◌≡◌, ◌≤◌, ◌<◌, ◌+◌, ◌-◌, ◌*◌, ◌%◌, true, false, drop, length, replicate, take, IfOk, IfSome, MatchOption, is_some};
 ghost use Rattle.std.specs.List.{count_by};
 ghost use Rattle.vm_types.specs.declared.op.Op.{Op};
 ghost use Rattle.guest_memory.specs.Reserved.{slots_after};
@@ -136,6 +136,18 @@ impl Page {
         ensures harts { length result.now ≡ 32 }
     {
         &self.held.reserved
+    }
+
+    /// The same, or `None` where no hart has one.
+    pub fn some_reserved(&self) -> Option<&[Option<u16>]>
+        ensures slots { MatchOption result (self.now.reserved ≡ replicate 32 None) (λ slots. slots.now ≡ self.now.reserved) }
+        ensures harts { IfSome result (λ slots. length slots.now ≡ 32) }
+    {
+        let holders = self.held.holders;
+        if holders == 0 {
+            return None;
+        }
+        Some(&self.held.reserved)
     }
 
     /// The hart has the granule at this offset reserved, and what it had here before is gone. This marks nothing.

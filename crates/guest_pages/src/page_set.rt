@@ -1,6 +1,6 @@
 // All pages of guest memory.
 ghost use Rattle.std.specs.Prelude.{◌≡◌, ◌≤◌, ◌<◌, ◌+◌, ◌*◌, ◌%◌, ◌^◌, ℕ, false, true, length, max, replicate, take, drop};
-ghost use Rattle.std.specs.Prelude.{slice_set, slice_index_or, IfOk, MatchOption, None, OnErr, OnOk};
+ghost use Rattle.std.specs.Prelude.{slice_set, slice_index_or, IfOk, IfSome, MatchOption, None, OnErr, OnOk};
 ghost use Rattle.vm_types.specs.declared.ids.PlaceId.{PlaceId};
 ghost use Rattle.guest_memory.specs.Memory.{touch};
 ghost use Rattle.guest_memory.specs.Route.{access_place, page_of};
@@ -22,9 +22,6 @@ use rv_rows::Width;
 use std::alloc::{AllocError, Global};
 use std::marker::Model;
 use vm_types::{ActorId, GuestAddr, Op, Reply};
-
-/// A page has a slot for each hart that there can be.
-const HARTS: usize = 32;
 
 /// The pages in order, which contracts see as the list of their values, and by `flat_of` as the one memory; and how many spare
 /// ones there are, from which pages are made. `owned` is how many are made or spare, which acts don't change.
@@ -260,13 +257,16 @@ impl PageSet {
         self.pages[number].hold(&mut self.spare, hart, offset);
     }
 
-    /// What is reserved in the slot of this number: the offset of a granule in its page. A page has 32 slots, one for
-    /// each hart.
-    pub fn reserved(&self, slot: usize) -> Option<u16>
-        requires { slot < 32 * length self.now.pages }
-        ensures { result ≡ slice_index_or (flat_of self.now.pages).reserved slot None }
+    /// For each hart that there can be, the offset of the granule that it has reserved in the page of this number. `None` where no hart
+    /// has one.
+    pub fn some_reserved(&self, number: usize) -> Option<&[Option<u16>]>
+        requires { number < length self.now.pages }
+        ensures slots { MatchOption result
+            (take 32 (drop (32 * number) (flat_of self.now.pages).reserved) ≡ replicate 32 None)
+            (λ slots. slots.now ≡ take 32 (drop (32 * number) (flat_of self.now.pages).reserved)) }
+        ensures harts { IfSome result (λ slots. length slots.now ≡ 32) }
     {
-        self.pages[slot / HARTS].reserved(slot % HARTS)
+        self.pages[number].some_reserved()
     }
 }
 

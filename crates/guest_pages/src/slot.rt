@@ -1,5 +1,5 @@
 // A page of a set, which is made when something is first left in it.
-ghost use Rattle.std.specs.Prelude.{◌≡◌, ◌≤◌, ◌<◌, ◌+◌, ◌%◌, ◌||◌, ◌&&◌, not, if◌then◌else◌, true, None, IfOk, OnErr, OnOk, drop, false, length, slice_index_or, take};
+ghost use Rattle.std.specs.Prelude.{◌≡◌, ◌≤◌, ◌<◌, ◌+◌, ◌%◌, ◌||◌, ◌&&◌, not, if◌then◌else◌, true, None, IfOk, IfSome, MatchOption, OnErr, OnOk, drop, false, length, replicate, take};
 ghost use Rattle.le_fields.specs.Fields.{bytes_of};
 ghost use Rattle.rv_rows.specs.Loads.{width_bytes};
 ghost use Rattle.guest_pages.specs.Made.{CanMake, Takes, are_zeros};
@@ -85,13 +85,13 @@ impl Slot {
         }
     }
 
-    /// The offset of the granule that this hart has reserved here.
-    pub fn reserved(&self, hart: usize) -> Option<u16>
-        requires { hart < 32 }
-        ensures { result ≡ slice_index_or self.now.reserved hart None }
+    /// For each hart, the offset of the granule that it has reserved here. `None` where no hart has one.
+    pub fn some_reserved(&self) -> Option<&[Option<u16>]>
+        ensures slots { MatchOption result (self.now.reserved ≡ replicate 32 None) (λ slots. slots.now ≡ self.now.reserved) }
+        ensures harts { IfSome result (λ slots. length slots.now ≡ 32) }
     {
         match &self.state {
-            State::Made(page) => page.reservations()[hart],
+            State::Made(page) => page.some_reserved(),
             State::Unmade(_) => None,
         }
     }
@@ -282,10 +282,15 @@ impl Slot {
     }
 }
 
+// It looks at all of them, since a loop that ends early takes them one by one.
 fn are_zeros(piece: &[u8]) -> bool
     ensures { result ≡ are_zeros piece.now }
 {
-    piece.iter().all(|byte| *byte == 0)
+    let mut most = 0;
+    for byte in piece {
+        most = most.max(*byte);
+    }
+    most == 0
 }
 
 // Whether an act so answered left something in its page.

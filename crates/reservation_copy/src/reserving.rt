@@ -1,5 +1,5 @@
 // What is reserved in memory, as a copy has it, and back.
-ghost use Rattle.std.specs.Prelude.{◌≡◌, ◌≤◌, ◌^◌, true, IfOk, length};
+ghost use Rattle.std.specs.Prelude.{◌≡◌, ◌≤◌, ◌*◌, ◌^◌, ◌++◌, true, IfOk, OnOk, length};
 ghost use Rattle.std.specs.List.{list_all};
 ghost use Rattle.guest_pages.specs.Made.{HasRoom};
 ghost use Rattle.guest_pages.specs.Pages.{flat_of, marks_of};
@@ -8,27 +8,46 @@ ghost use Rattle.flat_snapshot.specs.Carried.{slots_with};
 ghost use Rattle.flat_snapshot.specs.Copies.{reservations_from};
 
 use file_format::Items;
-use guest_memory::HART_LIMIT;
 use guest_pages::PageSet;
 use snap_state::Reservation;
 use std::alloc::{AllocError, Global};
 
-/// What is reserved in the pages, by page and then by hart: a page has a slot for each hart that there can be.
+/// What is reserved in the pages, by page and then by hart: a page has a slot for each hart that there can be. It looks once at each page
+/// in which nothing is.
+#[tactic(auto, using(crate::proofs::Listed::page_free, crate::proofs::Listed::page_more))]
 pub fn reservations_of(alloc: Global, pages: &PageSet) -> Result<Items<Reservation>, AllocError>
     requires { length pages.now.pages ≤ 2 ^ 28 }
     ensures { IfOk result (λ items. items ≡ reservations_from 0 (flat_of pages.now.pages).reserved) }
 {
     let mut items = Items::new(alloc);
-    for slot in 0..HART_LIMIT * pages.len() {
-        if let Some(offset) = pages.reserved(slot) {
+    for page in 0..pages.len() {
+        if let Some(slots) = pages.some_reserved(page) {
+            add_page(&mut items, page as u32, slots)?;
+        }
+    }
+    Ok(items)
+}
+
+// What is reserved in the slots of this page, behind the others.
+#[tactic(auto, using(crate::proofs::Listed::slot_free, crate::proofs::Listed::slot_more))]
+fn add_page(
+    items: &mut Items<Reservation>,
+    page: u32,
+    slots: &[Option<u16>],
+) -> Result<(), AllocError>
+    requires { length slots.now ≡ 32 }
+    ensures { OnOk result (items.new ≡ items.old ++ reservations_from (32 * page) slots.now) }
+{
+    for hart in 0..slots.len() {
+        if let Some(offset) = slots[hart] {
             items.push(Reservation {
-                page: (slot / HART_LIMIT) as u32,
-                hart: (slot % HART_LIMIT) as u32,
+                page,
+                hart: hart as u32,
                 offset: offset as u32,
             })?;
         }
     }
-    Ok(items)
+    Ok(())
 }
 
 /// Reserves all of these in the pages, and marks none. They are of pages and harts that are there, of which there are at most 32. For
