@@ -76,7 +76,7 @@ pub fn take_reply(guest: &mut World, actor: ActorId, given: Option<Reply>) -> Op
     if !is_given(&op, &given) {
         return Some(Misfit::Unfit);
     }
-    match guest.step(actor, given) {
+    match guest.step_with(actor, op, given) {
         Ok(_) => None,
         Err(_) => Some(Misfit::Unfit),
     }

@@ -144,7 +144,7 @@ fn step_device<D: Disk>(
     };
     let waits = is_wait(&op);
     let given = ask_disk(disk, device, &op);
-    match world.step(actor, given) {
+    match world.step_with(actor, op, given) {
         Ok(entry) => {
             events.push_reserved(entry);
             !waits

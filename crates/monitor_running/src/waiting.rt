@@ -126,7 +126,7 @@ fn step_once<C: Clock>(world: &mut World, actor: ActorId, clock: &mut C, events:
         return;
     };
     let given = ask_clock(clock, &op);
-    match world.step(actor, given) {
+    match world.step_with(actor, op, given) {
         Ok(entry) => events.push_reserved(entry),
         Err(_) => {}
     }

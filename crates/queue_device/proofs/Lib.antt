@@ -13,6 +13,7 @@ pub mod Pieces
 pub mod Places
 pub mod SmallActs
 pub mod Spilling
+pub mod Stepping
 pub mod Steps
 pub mod Timed
 pub mod Walks

@@ -4,6 +4,7 @@ ghost use Rattle.vm_types.specs.declared.reply.Reply.{Reply};
 ghost use Rattle.vm_types.specs.Fits.{fits};
 ghost use Rattle.device_trace.specs.Traces.{root_next, root_op};
 ghost use Rattle.vq_split.specs.Chain.{queue_flaw, read_bytes};
+ghost use Rattle.queue_device.specs.declared.phase.Phase.TheVariants.{Between};
 ghost use Rattle.queue_device.specs.declared.phase.Work.TheVariants as work;
 ghost use Rattle.queue_device.specs.Chains.{Chain};
 ghost use Rattle.queue_device.specs.Kept.{RestsOn, are_kept, is_at_lane, is_state};
@@ -224,4 +225,34 @@ pub fn begun<K: Kind>(rounds: &mut Rounds, kind: &mut K, reply: Reply) -> Phase
             None => over_begun(rounds, kind, &reply),
         },
     }
+}
+
+// The same, where the group goes on. A function of its own, since each call clears the room for all that a function may move.
+#[inline(never)]
+fn begun_moved<K: Kind>(rounds: &mut Rounds, kind: &mut K, phase: &mut Phase, reply: Reply)
+    requires { fits (root_op (begins K.service (queued rounds.old (K.own kind.old)))) reply ≡ true }
+    ensures left { left_at K.service phase.new (K.hand (K.stage kind.new)) (queued rounds.new (K.own kind.new)) ≡
+        root_next (begins K.service (queued rounds.old (K.own kind.old))) reply }
+    ensures kept { are_kept K.service K.times rounds.old ≡ true →
+        K.is_work work.Rest rounds.old.pages (K.stage kind.old) ≡ true →
+        is_state K.service K.times K.is_work phase.new rounds.new (K.stage kind.new) ≡ true }
+{
+    *phase = begun(rounds, kind, reply);
+}
+
+/// The first reply of a group. What the device is at stays in its place behind a look, since it is large.
+pub fn begin_step<K: Kind>(rounds: &mut Rounds, kind: &mut K, phase: &mut Phase, reply: Reply)
+    requires between { phase.old ≡ Between }
+    requires fit { fits (root_op (begins K.service (queued rounds.old (K.own kind.old)))) reply ≡ true }
+    ensures left { left_at K.service phase.new (K.hand (K.stage kind.new)) (queued rounds.new (K.own kind.new)) ≡
+        root_next (begins K.service (queued rounds.old (K.own kind.old))) reply }
+    ensures kept { are_kept K.service K.times rounds.old ≡ true →
+        K.is_work work.Rest rounds.old.pages (K.stage kind.old) ≡ true →
+        is_state K.service K.times K.is_work phase.new rounds.new (K.stage kind.new) ≡ true }
+{
+    if let Due::Look = rounds.due {
+        look(rounds, kind, &reply);
+        return;
+    }
+    begun_moved(rounds, kind, phase, reply);
 }

@@ -9,7 +9,8 @@ ghost use Rattle.queue_device.specs.Lanes.{new_rounds};
 ghost use Rattle.queue_device.specs.Left.{left_at, queued};
 ghost use Rattle.queue_device.specs.Rounds.{queue_rules};
 
-use crate::begun::begun;
+use crate::begun::{begin_step, begun};
+use crate::in_place::{return_step, take_step, walk_step};
 use crate::inside::{inside_given, inside_op, serve_given};
 use crate::kind::Kind;
 use crate::lanes::Rounds;
@@ -50,16 +51,40 @@ impl<K: Kind> QueueRounds<K> {
         ensures kept { is_state K.service K.times K.is_work self.old.phase self.old.rounds (K.stage self.old.kind) ≡ true →
             is_state K.service K.times K.is_work self.new.phase self.new.rounds (K.stage self.new.kind) ≡ true }
     {
-        if let Phase::Serve { chain } = &self.phase {
-            let chain = *chain;
-            serve_given(&self.rounds, &mut self.kind, &mut self.phase, chain, &reply);
-            return;
+        match &self.phase {
+            Phase::Between => {
+                begin_step(&mut self.rounds, &mut self.kind, &mut self.phase, reply);
+            }
+            Phase::Walk { which: _, walk: _ } => {
+                walk_step(&mut self.rounds, &mut self.kind, &mut self.phase, reply);
+            }
+            Phase::Take { chain } => {
+                let chain = *chain;
+                take_step(
+                    &mut self.rounds,
+                    &mut self.kind,
+                    &mut self.phase,
+                    chain,
+                    &reply,
+                );
+            }
+            Phase::Serve { chain } => {
+                let chain = *chain;
+                serve_given(&self.rounds, &mut self.kind, &mut self.phase, chain, &reply);
+            }
+            Phase::Return {
+                chain: _,
+                len: _,
+                stage: _,
+            } => {
+                return_step(&mut self.rounds, &mut self.kind, &mut self.phase, &reply);
+            }
+            _ => self.step_moved(reply),
         }
-        self.step_moved(reply);
     }
 
-    // The same where no chain is served: what the device is at is moved. A function of its own, since each call clears the room
-    // for all that a function may move.
+    // The same where what the device is at is moved. A function of its own, since each call clears the room for all that a
+    // function may move.
     #[inline(never)]
     fn step_moved(&mut self, reply: Reply)
         requires { fits (wants (queue_rules K.service K.changing)
@@ -119,6 +144,7 @@ impl<K: Kind> Actor for QueueRounds<K> {
     fn want(&self) -> Op {
         match &self.phase {
             Phase::Between => opening(&self.rounds, &self.kind),
+            Phase::Serve { chain: _ } => self.kind.want(),
             phase => inside_op(&self.rounds, &self.kind, phase),
         }
     }

@@ -159,8 +159,8 @@ pub fn serve<K: Kind>(rounds: &Rounds, kind: &mut K, which: Which, chain: &Taken
     serve_told(rounds, kind, chain, told)
 }
 
-// A chain was taken, of which this is kept, or its queue is broken.
-fn took<K: Kind>(
+/// A chain was taken, of which this is kept, or its queue is broken.
+pub fn took<K: Kind>(
     rounds: &mut Rounds,
     kind: &mut K,
     chain: InHand,

@@ -11,6 +11,7 @@ mod begun;
 mod chain;
 mod device;
 mod going;
+mod in_place;
 mod inside;
 mod kind;
 mod lanes;

@@ -298,6 +298,27 @@ impl World {
         let Some(op) = self.want(actor) else {
             return Err(StepError::NoActor);
         };
+        self.step_with(actor, op, reply)
+    }
+
+    /// The same of an actor that wants this act, as its caller knows: the want of a device is large, and is asked once.
+    pub fn step_with(
+        &mut self,
+        actor: ActorId,
+        op: Op,
+        reply: Option<Reply>,
+    ) -> Result<Entry, StepError>
+        requires { want_in self.old actor ≡ Some op }
+        ensures made { IfOk result (λ e.
+            MakesEvent self.old (record { actor = actor; given = as_given reply }) e self.new) }
+        ensures refused { IfErr result (λ why. (g : Guest) → IsWorld self.old g → IsRefused g actor reply why) }
+        ensures spare { IfErr result (λ why. why ≡ step_error.NoSpare → (op : Op) ×
+            (want_in self.old actor ≡ Some op) × (is_ready (pages_of self.old) (place_in self.old op) ≡ false)) }
+        ensures promised { (g : Guest) (op : Op) → IsWorld self.old g → Wants g actor op →
+            refusal_of op reply ≡ None → is_ready (pages_of self.old) (place_in self.old op) ≡ true → is_ok result ≡ true }
+        ensures spends { OnOk result (Spends 1 (pages_of self.old) (pages_of self.new)) }
+        ensures err { OnErr result (self.new ≡ self.old) }
+    {
         if let Some(why) = refusal_of(&op, &reply) {
             return Err(why);
         }

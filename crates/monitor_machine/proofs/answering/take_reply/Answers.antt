@@ -6,11 +6,11 @@ use Rattle.monitor_machine.proofs.answering.take_reply.Goals as goal
 
 pub returns-in-Ok : goal.returns-in-Ok
 returns-in-Ok c =
-    world_takes c.args.guest.now c.step.new.self c.args.actor c.in-Some.op (as_given c.args.given) c.in-Ok.field-0 (sym c.in-Some.ensures.state) (sym c.is_host_op.ensures ∙ c.if-not-is_host_op.false) (sym c.is_given.ensures ∙ c.if-not-is_given.false) c.in-Ok.ensures.made
+    world_takes c.args.guest.now c.step_with.new.self c.args.actor c.in-Some.op (as_given c.args.given) c.in-Ok.field-0 (sym c.in-Some.ensures.state) (sym c.is_host_op.ensures ∙ c.if-not-is_host_op.false) (sym c.is_given.ensures ∙ c.if-not-is_given.false) c.in-Ok.ensures.made
 
 pub returns-in-Err : goal.returns-in-Err
 returns-in-Err c =
-    world_never c.args.guest.now c.step.new.self c.args.actor c.in-Some.op c.args.given false c.in-Err.ensures.err (sym c.in-Some.ensures.state) (sym c.is_host_op.ensures ∙ c.if-not-is_host_op.false) (sym c.is_given.ensures ∙ c.if-not-is_given.false) refl c.in-Err.ensures.promised
+    world_never c.args.guest.now c.step_with.new.self c.args.actor c.in-Some.op c.args.given false c.in-Err.ensures.err (sym c.in-Some.ensures.state) (sym c.is_host_op.ensures ∙ c.if-not-is_host_op.false) (sym c.is_given.ensures ∙ c.if-not-is_given.false) refl c.in-Err.ensures.promised
 
 pub returns-then-not-is_host_op : goal.returns-then-not-is_host_op
 returns-then-not-is_host_op c = (
@@ -34,3 +34,6 @@ returns-then-not-is_given c = (
     unfit = sym c.is_given.ensures ∙ c.if-not-is_given.true;
   },
 )
+
+pub step_with-requires : goal.step_with-requires
+step_with-requires c = sym c.in-Some.ensures.state
