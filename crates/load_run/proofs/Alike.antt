@@ -17,7 +17,7 @@ use Rattle.flat_machine.specs.Machine.{Machine}
 use Rattle.load_run.specs.Line.{Shows, number_said, said, word_address}
 
 -- steps lead to one hart
-abbrev IsOne : Type 0
+abbrev pub IsOne : Type 0
 IsOne = (start : Regs) (steps : List Step) (hart other : Hart) → LeadsTo start steps hart → LeadsTo start steps other → hart ≡ other
 
 abbrev register_words : List Hart → List ℕ

@@ -5,5 +5,6 @@ mod Merges
 mod Overlaid
 mod Readable
 mod Runs
+mod SameWords
 mod Shown
 mod Written

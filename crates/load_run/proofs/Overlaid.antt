@@ -67,7 +67,7 @@ by_plan (Ok plan) (Some memory) saved name other = got_other saved memory_name (
 by_plan (Ok plan) None saved name other = refl
 by_plan (Err why) memory saved name other = refl
 
-others_kept : (rounds : ℕ) (saved : Saved) (name : List ℕ) → name ≢ memory_name → get (merged rounds saved) name ≡ get saved name
+pub others_kept : (rounds : ℕ) (saved : Saved) (name : List ℕ) → name ≢ memory_name → get (merged rounds saved) name ≡ get saved name
 others_kept zero saved name other = refl
 others_kept (suc before) saved name other =
     by_plan (planned_in (merged before saved) memory_name (diff_name (before + 1))) (get (merged before saved) memory_name) (merged before saved) name other

@@ -1,5 +1,5 @@
 -- What the command `run N` owes.
-use Rattle.std.specs.Prelude.{◌≡◌, ◌↔◌, ◌⊎◌, ℕ, List, [], ◌++◌, Some, None}
+use Rattle.std.specs.Prelude.{◌≡◌, ◌↔◌, ◌⊎◌, ℕ, false, List, [], ◌++◌, Some, None}
 use Rattle.vm_types.specs.Causes.{Rose}
 use Rattle.vm_types.specs.Saved.{nothing_saved}
 use Rattle.vm_types.specs.declared.exit.Exit.{Exit}
@@ -10,7 +10,7 @@ use Rattle.vm_outside.specs.Passing.{TakesPart}
 use Rattle.script_output.specs.Output.{last_line}
 use Rattle.command_line.specs.Commands.{run_number}
 use Rattle.command_line.specs.MachineId.{default_id}
-use Rattle.flat_machine.specs.Machine.{Machine, new_machine}
+use Rattle.flat_machine.specs.Machine.{Machine, is_off, new_machine}
 use Rattle.monitor_cli.specs.Known.{SinkTold}
 use Rattle.monitor_cli.specs.Taking.{TookText}
 use Rattle.load_gen.specs.Load.{load_script, rounds_of}
@@ -20,7 +20,8 @@ use Rattle.load_run.specs.Restoring.{IsDone, restore_script}
 
 -- The line of the run of a number. The flat machine replays the script of the number over files that hold nothing: that is
 -- the source. The diffs of its rounds are merged in order into the memory file. A second machine over what the files hold
--- then replays the line that loads the last round's snapshot with that file.
+-- then replays the line that loads the last round's snapshot with that file. Where the source's guest is on at its end, both show
+-- the same.
 pub record IsRun (number : ℕ) (line : List ℕ) : Type 0 where
   pub source : Machine
   pub replayed : IsDone (load_script number) (new_machine default_id nothing_saved []) source
@@ -31,6 +32,7 @@ pub record IsRun (number : ℕ) (line : List ℕ) : Type 0 where
   pub source_shows : Shows source source_words
   pub restored_words : List ℕ
   pub restored_shows : Shows restored restored_words
+  pub same : is_off source ≡ false → source_words ≡ restored_words
   pub says : line ≡ run_line number (rounds_of number) (pages_in (rounds_of number) source.saved) source_words restored_words
 
 -- files that hold nothing, and on which no call was made

@@ -11,7 +11,9 @@ use crate::no_line::NoLine;
 use crate::replaying::replay;
 use crate::scripts::{load_script, restore_script};
 use crate::showing::words_of;
-use load_gen::rounds_of;
+use hart_trace::hart_follows;
+use load_gen::{load_is_read, rounds_of};
+use script_text::whole_text;
 use std::alloc::Global;
 use vm_outside::Files;
 use vm_types::ByteList;
@@ -22,6 +24,9 @@ pub fn line_of_run<F: Files>(alloc: Global, number: u32, files: &mut F) -> Resul
     requires empty { HoldNothing (F.known files.old) }
     ensures { IfOk result (λ line. IsRun number line) }
 {
+    hart_follows();
+    load_is_read();
+    whole_text();
     let rounds = rounds_of(number);
     let script = load_script(alloc, number)?;
     let source = words_at_end(alloc, script, files)?;

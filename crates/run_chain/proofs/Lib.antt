@@ -1,0 +1,9 @@
+pub mod Acts
+pub mod Asking
+pub mod Heard
+pub mod Lines
+pub mod Numbered
+pub mod Opening
+pub mod Rounds
+pub mod Savings
+pub mod Sends

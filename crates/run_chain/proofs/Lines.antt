@@ -1,0 +1,153 @@
+-- What each line of a run's script leaves of a machine that has started.
+use Rattle.std.proofs.Common.{◌≡◌, ◌<◌, ◌^◌, ◌∙◌, ℕ, Bool, true, false, refl, sym, ap, subst, List, Option, Some, None, Ok, nat_le, arith}
+use Rattle.std.proofs.lemmas.Bool.{leb-true}
+use Rattle.vm_types.specs.Saved.{Saved}
+use Rattle.vm_types.specs.declared.identity.Identity.{Identity}
+use Rattle.vm_types.specs.declared.ids.ActorId.{ActorId}
+use Rattle.http_stream.specs.Conversation.{new_connection}
+use Rattle.api_calls.specs.declared.call.ApiCall.TheVariants as call
+use Rattle.api_calls.specs.declared.call.SnapshotCreate.{SnapshotCreate}
+use Rattle.api_calls.specs.declared.call.SnapshotType.TheVariants as snapshot
+use Rattle.api_calls.specs.declared.call.VmState.TheVariants.{Paused, Resumed}
+use Rattle.vm_config.specs.declared.change.Change.TheVariants as change
+use Rattle.vm_config.specs.declared.config.Phase.{Phase}
+use Rattle.vm_config.specs.declared.config.Phase.TheVariants as phase
+use Rattle.api_rules.specs.Table.{decision}
+use Rattle.flat_guest.specs.Guest.{Guest, is_actor}
+use Rattle.flat_guest.specs.Start.{timer_restarted}
+use Rattle.flat_machine.specs.Items.{StepsLine}
+use Rattle.flat_machine.specs.Machine.{Machine, phase_by, phase_of, running_by}
+use Rattle.flat_machine.specs.Requests.{halted}
+use Rattle.flat_machine.proofs.Between.{by_either}
+use Rattle.run_chain.proofs.Heard.{Heard, leaves_by}
+
+-- It has started and runs or stands still, its pages are tracked, its next snapshot has this number, this one is its base, and
+-- these are its files.
+pub record IsOn (paused : Bool) (next : ℕ) (base : Option Identity) (saved : Saved) (m : Machine) : Type 0 where
+  pub guest : Guest
+  pub there : m.guest ≡ Some guest
+  pub stands : m.paused ≡ paused
+  pub tracked : m.config.machine.track_dirty_pages ≡ true
+  pub next_is : m.ids.next ≡ next
+  pub base_is : m.ids.base ≡ base
+  pub empty : m.connection ≡ new_connection
+  pub saved_is : m.saved ≡ saved
+
+on_is : (paused : Bool) (next : ℕ) (base : Option Identity) (saved : Saved) (m n : Machine) → n ≡ m → IsOn paused next base saved m
+    → IsOn paused next base saved n
+on_is paused next base saved m n is on = subst (λ (q : Machine). IsOn paused next base saved q) (sym is) on
+
+running_of : (m : Machine) (g : Guest) → m.guest ≡ Some g → m.paused ≡ false → phase_of m ≡ phase.Running
+running_of m g there runs = ap (λ (o : Option Guest). phase_by o m.paused) there ∙ ap (λ (b : Bool). phase_by (Some g) b) runs
+
+standing_of : (m : Machine) (g : Guest) → m.guest ≡ Some g → m.paused ≡ true → phase_of m ≡ phase.Paused
+standing_of m g there stands = ap (λ (o : Option Guest). phase_by o m.paused) there ∙ ap (λ (b : Bool). phase_by (Some g) b) stands
+
+-- ---- steps
+
+module _ (next : ℕ) (base : Option Identity) (saved : Saved) (m n : Machine) (actor : ActorId) (count : ℕ) (text : List ℕ)
+    (on : IsOn false next base saved m) where
+  steps_by : (guest : Option Guest) (paused : Bool) → paused ≡ false → StepsLine (running_by guest paused) actor count m text n
+      → IsOn false next base saved n
+  steps_by guest true runs x = absurd cc
+  steps_by None false runs x = on_is false next base saved m n x.1 on
+  steps_by (Some g) false runs x =
+      by_either (is_actor g actor)
+      (λ moves. on_is false next base saved (record m { guest = Some moves.end }) n moves.leaves
+      (record {
+        guest = moves.end;
+        there = refl;
+        stands = on.stands;
+        tracked = on.tracked;
+        next_is = on.next_is;
+        base_is = on.base_is;
+        empty = on.empty;
+        saved_is = on.saved_is;
+      }))
+      (λ none. on_is false next base saved m n none.1 on) x
+
+  pub steps_on : StepsLine (running_by m.guest m.paused) actor count m text n → IsOn false next base saved n
+  steps_on x = steps_by m.guest m.paused on.stands x
+
+-- ---- it stands still, and runs again
+
+module _ (next : ℕ) (base : Option Identity) (saved : Saved) (m n : Machine) where
+  pause_decided : (p : Phase) → p ≡ phase.Running → decision p m.config m.ids (call.PatchVm Paused) ≡ Ok (change.State Paused)
+  pause_decided p runs = ap (λ (x : Phase). decision x m.config m.ids (call.PatchVm Paused)) runs
+
+  halted_on : (g : Guest) (paused : Bool) (guest : Option Guest) → guest ≡ Some g → paused ≡ false
+      → (h : Guest) × (halted paused guest ≡ Some h)
+  halted_on g true guest there runs = absurd cc
+  halted_on g false None there runs = absurd cc
+  halted_on g false (Some own) there runs = (timer_restarted own, refl)
+
+  pub pauses_on : IsOn false next base saved m → Heard (call.PatchVm Paused) m n → IsOn true next base saved n
+  pauses_on on heard =
+      let decides = pause_decided (phase_of m) (running_of m on.guest on.there on.stands) in
+      let left = leaves_by (call.PatchVm Paused) m n (change.State Paused) heard decides refl in
+      let own = halted_on on.guest m.paused m.guest on.there on.stands in
+      on_is true next base saved (record m { guest = halted m.paused m.guest; paused = true; connection = new_connection }) n
+      (heard.leaves ∙ ap (λ (q : Machine). record q { connection = new_connection }) left.1)
+      (record {
+        guest = own.0;
+        there = own.1;
+        stands = refl;
+        tracked = on.tracked;
+        next_is = on.next_is;
+        base_is = on.base_is;
+        empty = refl;
+        saved_is = on.saved_is;
+      })
+
+  resume_decided : (p : Phase) → p ≡ phase.Paused → decision p m.config m.ids (call.PatchVm Resumed) ≡ Ok (change.State Resumed)
+  resume_decided p stands = ap (λ (x : Phase). decision x m.config m.ids (call.PatchVm Resumed)) stands
+
+  pub resumes_on : IsOn true next base saved m → Heard (call.PatchVm Resumed) m n → IsOn false next base saved n
+  resumes_on on heard =
+      let decides = resume_decided (phase_of m) (standing_of m on.guest on.there on.stands) in
+      let left = leaves_by (call.PatchVm Resumed) m n (change.State Resumed) heard decides refl in
+      on_is false next base saved (record m { paused = false; connection = new_connection }) n
+      (heard.leaves ∙ ap (λ (q : Machine). record q { connection = new_connection }) left.1)
+      (record {
+        guest = on.guest;
+        there = on.there;
+        stands = refl;
+        tracked = on.tracked;
+        next_is = on.next_is;
+        base_is = on.base_is;
+        empty = refl;
+        saved_is = on.saved_is;
+      })
+
+  -- with the guest that it had
+  pub resumes_guest : IsOn true next base saved m → Heard (call.PatchVm Resumed) m n → n.guest ≡ m.guest
+  resumes_guest on heard =
+      let decides = resume_decided (phase_of m) (standing_of m on.guest on.there on.stands) in
+      let left = leaves_by (call.PatchVm Resumed) m n (change.State Resumed) heard decides refl in
+      ap (λ (q : Machine). q.guest) (heard.leaves ∙ ap (λ (q : Machine). record q { connection = new_connection }) left.1)
+
+-- ---- a create is allowed
+
+module _ (m : Machine) (it : SnapshotCreate) (next : ℕ) (saved : Saved) (below : next < 2 ^ 63) where
+  under : (k : ℕ) → k ≡ next → nat_le (2 ^ 63) k ≡ false
+  under k is = by_test (nat_le (2 ^ 63) k) refl
+    where
+      by_test : (b : Bool) → nat_le (2 ^ 63) k ≡ b → b ≡ false
+      by_test true high = absurd (let over = leb-true (2 ^ 63) k high in omega (arith, over, is, below))
+      by_test false low = refl
+
+  pub full_decided : (base : Option Identity) → IsOn true next base saved m → it.snapshot_type ≡ snapshot.Full
+      → decision (phase_of m) m.config m.ids (call.CreateSnapshot it) ≡ Ok (change.CreateSnapshot it)
+  full_decided base on full =
+      let stands = standing_of m on.guest on.there on.stands in
+      let few = under m.ids.next on.next_is in
+      rw (stands, full, few) refl
+
+  pub diff_decided : (parent : Identity) → IsOn true next (Some parent) saved m → it.snapshot_type ≡ snapshot.Diff
+      → decision (phase_of m) m.config m.ids (call.CreateSnapshot it) ≡ Ok (change.CreateSnapshot it)
+  diff_decided parent on diff =
+      let stands = standing_of m on.guest on.there on.stands in
+      let few = under m.ids.next on.next_is in
+      let base = on.base_is in
+      let tracked = on.tracked in
+      rw (stands, diff, few, base, tracked) refl
