@@ -45,6 +45,8 @@ later_by : (p : Phase) (config : Config) (c : ApiCall) → has_started p ≡ tru
 later_by p config (call.PutBootSource source) has placed = never p has placed
 later_by p config (call.PutDrive drive) has placed = never p has placed
 later_by p config (call.PatchDrive patch) has placed = tt
+later_by p config (call.PutInterface interface) has placed = never p has placed
+later_by p config (call.PatchInterface patch) has placed = tt
 later_by p config (call.PutMachineConfig machine) has placed = never p has placed
 later_by p config (call.PatchMachineConfig patch) has placed = never p has placed
 later_by p config (call.PutBalloon balloon) has placed = never p has placed
@@ -76,6 +78,8 @@ own_alike : (p : Phase) (config : Config) (a b : Ids) (c : ApiCall) → is_none 
 own_alike p config a b (call.PutBootSource source) none number = refl
 own_alike p config a b (call.PutDrive drive) none number = refl
 own_alike p config a b (call.PatchDrive patch) none number = refl
+own_alike p config a b (call.PutInterface interface) none number = refl
+own_alike p config a b (call.PatchInterface patch) none number = refl
 own_alike p config a b (call.PutMachineConfig machine) none number = refl
 own_alike p config a b (call.PatchMachineConfig patch) none number = refl
 own_alike p config a b (call.PutBalloon balloon) none number = refl
@@ -132,6 +136,8 @@ module _ (twins : List Twins) (m n : Machine) (alike : Alike twins m n) where
   contents_alike (change.PutDrive drive) later = absurd later
   contents_alike (change.PatchDrive patch) later =
       ap (λ (r : Option Refusal). unless r (Ok (change.PatchDrive patch))) (there_by patch.path_on_host)
+  contents_alike (change.PutInterface interface) later = absurd later
+  contents_alike (change.PatchInterface patch) later = refl
   contents_alike (change.MachineConfig machine) later = absurd later
   contents_alike (change.PutBalloon balloon) later = absurd later
   contents_alike (change.PatchBalloon patch) later = refl

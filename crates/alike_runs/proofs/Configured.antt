@@ -22,7 +22,7 @@ use Rattle.api_calls.specs.declared.call.VmState.TheVariants.{Paused, Resumed}
 use Rattle.vm_config.specs.declared.change.Change.{Change}
 use Rattle.vm_config.specs.declared.change.Change.TheVariants as change
 use Rattle.vm_config.specs.Changes.{with_amount, with_interval}
-use Rattle.vm_config.specs.Devices.{balloon_device}
+use Rattle.vm_config.specs.Devices.{balloon_device, interface_device}
 use Rattle.vm_config.specs.Drives.{device_of}
 use Rattle.port_table.specs.declared.state.PortState.{PortState}
 use Rattle.guest_devices.specs.declared.change.DeviceChange.{DeviceChange}
@@ -39,7 +39,7 @@ use Rattle.flat_guest.specs.Steps.{is_given}
 use Rattle.flat_snapshot.specs.Found.{Snapshot, found}
 use Rattle.flat_machine.specs.Balloon.{interval_told, target_in}
 use Rattle.flat_machine.specs.Given.{reply_given}
-use Rattle.flat_machine.specs.Limits.{limits_told}
+use Rattle.flat_machine.specs.Limits.{limits_told, receives_told, transmits_told}
 use Rattle.flat_machine.specs.Items.{ItemStep, MemoryLine, RegisterLine, RepliesLine, StepsLine, Talks}
 use Rattle.flat_machine.specs.Machine.{Machine, console_of, drained_guest, is_off, new_machine, running_by}
 use Rattle.flat_machine.specs.Outcome.{Left, Outcome}
@@ -75,9 +75,10 @@ resized_there None number saved o = refl
 resized_there (Some path) number saved o =
     let change : DeviceChange = sectors_change (sectors_of (get saved path)) in told_there number change (shows_by change) o
 
-relimited_there : (limiter : Option Limiter) (number : Option ℕ) (o : Option Guest) → is_some (relimited limiter number o) ≡ is_some o
-relimited_there None number o = refl
-relimited_there (Some l) number o = told_there number (limits_told l) (shows_by (limits_told l)) o
+relimited_there : (tells : Limiter → DeviceChange) (limiter : Option Limiter) (number : Option ℕ) (o : Option Guest)
+    → is_some (relimited tells limiter number o) ≡ is_some o
+relimited_there tells None number o = refl
+relimited_there tells (Some l) number o = told_there number (tells l) (shows_by (tells l)) o
 
 retargeted_there : (balloon : Option Balloon) (number : Option ℕ) (o : Option Guest) → is_some (retargeted balloon number o) ≡ is_some o
 retargeted_there None number o = refl
@@ -122,8 +123,16 @@ leaves_kept (change.PatchDrive patch) m n is own =
     let number : Option ℕ = device_of m.config.drives patch.drive_id in
     kept m n
     (ap (λ (q : Machine). is_some q.guest) is
-    ∙ relimited_there patch.rate_limiter number (resized patch.path_on_host number m.saved m.guest)
+    ∙ relimited_there limits_told patch.rate_limiter number (resized patch.path_on_host number m.saved m.guest)
     ∙ resized_there patch.path_on_host number m.saved m.guest)
+    (ap (λ (q : Machine). q.config.configured) is) own
+leaves_kept (change.PutInterface interface) m n is own = λ there. ap (λ (q : Machine). q.config.configured) is
+leaves_kept (change.PatchInterface patch) m n is own =
+    let number : Option ℕ = interface_device m.config patch.iface_id in
+    kept m n
+    (ap (λ (q : Machine). is_some q.guest) is
+    ∙ relimited_there transmits_told patch.tx_rate_limiter number (relimited receives_told patch.rx_rate_limiter number m.guest)
+    ∙ relimited_there receives_told patch.rx_rate_limiter number m.guest)
     (ap (λ (q : Machine). q.config.configured) is) own
 leaves_kept (change.MachineConfig machine) m n is own = λ there. ap (λ (q : Machine). q.config.configured) is
 leaves_kept (change.PutBalloon balloon) m n is own = λ there. ap (λ (q : Machine). q.config.configured) is
@@ -156,6 +165,8 @@ failed_kept : (it : Change) (m : Machine) (left : Left) (n : Machine) → Fails 
 failed_kept (change.BootSource source) m left n x own = absurd x
 failed_kept (change.PutDrive drive) m left n x own = absurd x
 failed_kept (change.PatchDrive patch) m left n x own = same m n x.3 own
+failed_kept (change.PutInterface interface) m left n x own = absurd x
+failed_kept (change.PatchInterface patch) m left n x own = absurd x
 failed_kept (change.MachineConfig machine) m left n x own = absurd x
 failed_kept (change.PutBalloon balloon) m left n x own = absurd x
 failed_kept (change.PatchBalloon patch) m left n x own = absurd x

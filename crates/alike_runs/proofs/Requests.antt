@@ -10,13 +10,14 @@ use Rattle.api_calls.specs.declared.balloon.Balloon.{Balloon}
 use Rattle.api_calls.specs.declared.balloon.BalloonPatch.{BalloonPatch}
 use Rattle.api_calls.specs.declared.balloon.StatisticsPatch.{StatisticsPatch}
 use Rattle.api_calls.specs.declared.call.DrivePatch.{DrivePatch}
+use Rattle.api_calls.specs.declared.interface.InterfacePatch.{InterfacePatch}
 use Rattle.api_calls.specs.declared.limiter.Limiter.{Limiter}
 use Rattle.api_calls.specs.declared.call.VmState.TheVariants.{Paused, Resumed}
 use Rattle.vm_config.specs.declared.config.Config.{Config}
 use Rattle.vm_config.specs.declared.change.Change.{Change}
 use Rattle.vm_config.specs.declared.change.Change.TheVariants as change
 use Rattle.vm_config.specs.Changes.{changed, with_amount, with_interval}
-use Rattle.vm_config.specs.Devices.{balloon_device}
+use Rattle.vm_config.specs.Devices.{balloon_device, interface_device}
 use Rattle.vm_config.specs.Drives.{device_of}
 use Rattle.response_form.specs.Responses.{Response}
 use Rattle.port_table.specs.declared.state.PortState.{PortState}
@@ -27,11 +28,11 @@ use Rattle.flat_guest.specs.Changes.{told}
 use Rattle.flat_guest.specs.Guest.{Guest}
 use Rattle.flat_guest.specs.Start.{timer_restarted}
 use Rattle.flat_machine.specs.Balloon.{interval_told, target_in}
-use Rattle.flat_machine.specs.Limits.{limits_told}
+use Rattle.flat_machine.specs.Limits.{limits_told, receives_told, transmits_told}
 use Rattle.flat_machine.specs.Machine.{Machine}
 use Rattle.flat_machine.specs.Outcome.{Left, Outcome}
 use Rattle.flat_machine.specs.Outcome.Outcome.{Answered, Failed, NoMemory}
-use Rattle.flat_machine.specs.Requests.{Fails, LeavesBy, RequestStep, Stores, allowed, configured, halted, patched_balloon, patched_drive, patched_statistics}
+use Rattle.flat_machine.specs.Requests.{Fails, LeavesBy, RequestStep, Stores, allowed, configured, halted, patched_balloon, patched_drive, patched_interface, patched_statistics}
 use Rattle.flat_machine.specs.Requests.{relimited, resized, retargeted, retimed, sectors_of, shows_by, told_at}
 use Rattle.flat_machine.proofs.Allowed.{allowed_is}
 use Rattle.flat_machine.proofs.Between.{IsLater, allowed_later, started}
@@ -124,10 +125,10 @@ module _ (g h : Guest) (guests : AlikeGuests g h) where
       (sectors_alike twins (get a path) (get b path) (files path))
       (at_alike number change (shows_by change) o p (few_sectors (get a path)) first second)
 
-  relimited_alike : (limiter : Option Limiter) (number : Option ℕ) (o p : Option Guest) → o ≡ Some g → p ≡ Some h
-      → Both (relimited limiter number o) (relimited limiter number p)
-  relimited_alike None number o p first second = (g, h, first, second, guests)
-  relimited_alike (Some l) number o p first second = at_alike number (limits_told l) (shows_by (limits_told l)) o p tt first second
+  relimited_alike : (tells : Limiter → DeviceChange) → ((l : Limiter) → FitsChange (tells l)) → (limiter : Option Limiter)
+      (number : Option ℕ) (o p : Option Guest) → o ≡ Some g → p ≡ Some h → Both (relimited tells limiter number o) (relimited tells limiter number p)
+  relimited_alike tells fits None number o p first second = (g, h, first, second, guests)
+  relimited_alike tells fits (Some l) number o p first second = at_alike number (tells l) (shows_by (tells l)) o p (fits l) first second
 
   retargeted_alike : (balloon : Option Balloon) (number : Option ℕ) (o p : Option Guest) → o ≡ Some g → p ≡ Some h
       → Both (retargeted balloon number o) (retargeted balloon number p)
@@ -150,12 +151,29 @@ module _ (twins : List Twins) (m n : Machine) (alike : Alike twins m n) where
       ap (λ (c : Config). device_of c.drives patch.drive_id) (sym alike.config) in
       let size = resized_alike alike.g alike.h alike.guests twins patch.path_on_host number m.saved n.saved m.guest n.guest alike.saved alike.first
       alike.second in
-      let both = relimited_alike size.0 size.1 size.4 patch.rate_limiter number (resized patch.path_on_host number m.saved m.guest)
+      let both = relimited_alike size.0 size.1 size.4 limits_told (λ l. tt) patch.rate_limiter number (resized patch.path_on_host number m.saved m.guest)
       (resized patch.path_on_host number n.saved n.guest) size.2 size.3 in
       with_config twins (patched_drive m patch) (patched_drive n patch)
       (with_guest twins m n alike (patched_drive m patch).guest (patched_drive n patch).guest both.0 both.1 both.2
-      (ap (λ (o : Option ℕ). relimited patch.rate_limiter o (resized patch.path_on_host o n.saved n.guest)) also ∙ both.3) both.4)
+      (ap (λ (o : Option ℕ). relimited limits_told patch.rate_limiter o (resized patch.path_on_host o n.saved n.guest)) also ∙ both.3) both.4)
       (λ (c : Config). changed c (change.PatchDrive patch))
+
+  limits_alike : (patch : InterfacePatch) → Alike twins (configured (patched_interface m patch) (change.PatchInterface patch))
+      (configured (patched_interface n patch) (change.PatchInterface patch))
+  limits_alike patch =
+      let number : Option ℕ = interface_device m.config patch.iface_id in
+      let also : interface_device n.config patch.iface_id ≡ number =
+      ap (λ (c : Config). interface_device c patch.iface_id) (sym alike.config) in
+      let first = relimited_alike alike.g alike.h alike.guests receives_told (λ l. tt) patch.rx_rate_limiter number m.guest n.guest alike.first
+      alike.second in
+      let both = relimited_alike first.0 first.1 first.4 transmits_told (λ l. tt) patch.tx_rate_limiter number
+      (relimited receives_told patch.rx_rate_limiter number m.guest) (relimited receives_told patch.rx_rate_limiter number n.guest) first.2
+      first.3 in
+      with_config twins (patched_interface m patch) (patched_interface n patch)
+      (with_guest twins m n alike (patched_interface m patch).guest (patched_interface n patch).guest both.0 both.1 both.2
+      (ap (λ (o : Option ℕ). relimited transmits_told patch.tx_rate_limiter o (relimited receives_told patch.rx_rate_limiter o n.guest)) also ∙ both.3)
+      both.4)
+      (λ (c : Config). changed c (change.PatchInterface patch))
 
   amount_alike : (patch : BalloonPatch) → Alike twins (configured (patched_balloon m patch) (change.PatchBalloon patch))
       (configured (patched_balloon n patch) (change.PatchBalloon patch))
@@ -198,6 +216,11 @@ module _ (twins : List Twins) (m n : Machine) (alike : Alike twins m n) where
       let l : Machine = configured (patched_drive n patch) (change.PatchDrive patch) in
       led twins k l (λ (q : Machine). LeavesBy n (Ok (change.PatchDrive patch)) kept q) (none, refl)
       (moved twins k (configured (patched_drive m patch) (change.PatchDrive patch)) l is (patched_alike patch))
+  leaves_alike (change.PutInterface interface) kept k later x = absurd later
+  leaves_alike (change.PatchInterface patch) kept k later (none, is) =
+      let l : Machine = configured (patched_interface n patch) (change.PatchInterface patch) in
+      led twins k l (λ (q : Machine). LeavesBy n (Ok (change.PatchInterface patch)) kept q) (none, refl)
+      (moved twins k (configured (patched_interface m patch) (change.PatchInterface patch)) l is (limits_alike patch))
   leaves_alike (change.MachineConfig machine) kept k later x = absurd later
   leaves_alike (change.PutBalloon balloon) kept k later x = absurd later
   leaves_alike (change.PatchBalloon patch) kept k later (none, is) =
@@ -244,6 +267,8 @@ module _ (twins : List Twins) (m n : Machine) (alike : Alike twins m n) where
   failed_alike (change.BootSource source) left k x = absurd x
   failed_alike (change.PutDrive drive) left k x = absurd x
   failed_alike (change.PatchDrive patch) left k (path, is, none, same) = (n, (path, is, none, refl), moved twins k m n same alike)
+  failed_alike (change.PutInterface interface) left k x = absurd x
+  failed_alike (change.PatchInterface patch) left k x = absurd x
   failed_alike (change.MachineConfig machine) left k x = absurd x
   failed_alike (change.PutBalloon balloon) left k x = absurd x
   failed_alike (change.PatchBalloon patch) left k x = absurd x

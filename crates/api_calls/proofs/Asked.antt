@@ -11,12 +11,14 @@ use Rattle.api_calls.specs.declared.endpoint.Body.{Body}
 use Rattle.api_calls.specs.declared.endpoint.Body.TheVariants as body
 use Rattle.api_calls.specs.declared.endpoint.Endpoint.{Endpoint}
 use Rattle.api_calls.specs.declared.endpoint.Endpoint.TheVariants as endpoint
+use Rattle.api_calls.specs.Addresses.{is_small_mac}
 use Rattle.api_calls.specs.Form.{holds, is_path, is_id, refusal}
 use Rattle.api_calls.specs.Limits.{is_limiter}
 use Rattle.api_calls.specs.Fields.{form_of}
 use Rattle.api_calls.specs.Call.{◌>>=◌, json_of, object_in, object_of, unless, made, asked, call_of}
 use Rattle.api_calls.specs.Routes.{Target, target_of}
 use Rattle.api_calls.proofs.Drives.{drive_is, patch_is}
+use Rattle.api_calls.proofs.Interfaces.{interface_is, interface_patch_is}
 use Rattle.api_calls.proofs.Ranges.{IsWithin, balloon_is, machine_is, machine_patch_is, source_is, statistics_is}
 use Rattle.api_calls.proofs.Snapshots.{create_is, load_is}
 
@@ -29,6 +31,12 @@ IsAsked (call.PutDrive drive) =
     (is_id drive.drive_id ≡ true) × (is_path drive.path_on_host ≡ true) × (holds is_limiter drive.rate_limiter ≡ true)
 IsAsked (call.PatchDrive patch) =
     (is_id patch.drive_id ≡ true) × (holds is_path patch.path_on_host ≡ true) × (holds is_limiter patch.rate_limiter ≡ true)
+IsAsked (call.PutInterface interface) =
+    (is_id interface.iface_id ≡ true) × (is_path interface.host_dev_name ≡ true) × (holds is_small_mac interface.guest_mac ≡ true)
+    × ((holds is_limiter interface.rx_rate_limiter ≡ true) × (holds is_limiter interface.tx_rate_limiter ≡ true))
+IsAsked (call.PatchInterface patch) =
+    (is_id patch.iface_id ≡ true)
+    × ((holds is_limiter patch.rx_rate_limiter ≡ true) × (holds is_limiter patch.tx_rate_limiter ≡ true))
 IsAsked (call.PutMachineConfig machine) = IsWithin 1 32 machine.vcpu_count × IsWithin 4 1024 machine.mem_size_mib
 IsAsked (call.PatchMachineConfig patch) =
     ((n : ℕ) → patch.vcpu_count ≡ Some n → IsWithin 1 32 n) × ((n : ℕ) → patch.mem_size_mib ≡ Some n → IsWithin 4 1024 n)
@@ -49,6 +57,8 @@ made_is : (b : Body) (named : List ℕ) (ms : Members) → refusal (form_of b na
 made_is body.BootSource named ms none = source_is ms none
 made_is body.Drive named ms none = drive_is named ms none
 made_is body.DrivePatch named ms none = patch_is named ms none
+made_is body.Interface named ms none = interface_is named ms none
+made_is body.InterfacePatch named ms none = interface_patch_is named ms none
 made_is body.MachineConfig named ms none = machine_is ms none
 made_is body.MachinePatch named ms none = machine_patch_is ms none
 made_is body.Balloon named ms none = balloon_is ms none

@@ -3,4 +3,5 @@ pub mod Snapshots
 pub mod Ranges
 pub mod Limits
 pub mod Drives
+pub mod Interfaces
 pub mod Asked

@@ -7,6 +7,7 @@ use Rattle.serde_json.specs.Read.{read}
 use Rattle.refusals.specs.declared.refusal.Refusal.{Refusal}
 use Rattle.refusals.specs.declared.refusal.Refusal.TheVariants as refused
 use Rattle.http_stream.specs.declared.request.Request.{Request}
+use Rattle.api_calls.specs.Addresses.{lowered}
 use Rattle.api_calls.specs.Form.{refusal, text_at, number_at, flag_at, object_at}
 use Rattle.api_calls.specs.Fields.{form_of}
 use Rattle.api_calls.specs.Routes.{target_of}
@@ -128,6 +129,18 @@ made body.DrivePatch d = call.PatchDrive (record {
   drive_id = text_or_none (text_at (codes "drive_id") d);
   path_on_host = text_at (codes "path_on_host") d;
   rate_limiter = limiter_at (codes "rate_limiter") d;
+})
+made body.Interface d = call.PutInterface (record {
+  iface_id = text_or_none (text_at (codes "iface_id") d);
+  host_dev_name = text_or_none (text_at (codes "host_dev_name") d);
+  guest_mac = option_map lowered (text_at (codes "guest_mac") d);
+  rx_rate_limiter = limiter_at (codes "rx_rate_limiter") d;
+  tx_rate_limiter = limiter_at (codes "tx_rate_limiter") d;
+})
+made body.InterfacePatch d = call.PatchInterface (record {
+  iface_id = text_or_none (text_at (codes "iface_id") d);
+  rx_rate_limiter = limiter_at (codes "rx_rate_limiter") d;
+  tx_rate_limiter = limiter_at (codes "tx_rate_limiter") d;
 })
 made body.MachineConfig d = call.PutMachineConfig (record {
   vcpu_count = number_or_zero (number_at (codes "vcpu_count") d);

@@ -1,7 +1,7 @@
 -- The fields of each body, in the order of the API's table. What isn't built is not in it: a field is unknown
 -- then, and a value out of range.
-use Rattle.std.specs.Prelude.{ℕ, ◌-◌, ◌^◌, true, false, List, [], ◌∷◌, codes}
-use Rattle.api_calls.specs.Form.{Kind, path, id, text, choice, whole, flag, unset, group, Row, Level, Together, free, some_of, either, differing, naming, Form}
+use Rattle.std.specs.Prelude.{ℕ, ◌-◌, ◌^◌, true, false, List, [], ◌∷◌, ◌++◌, codes}
+use Rattle.api_calls.specs.Form.{Kind, path, id, mac, text, choice, whole, flag, unset, group, Row, Level, Together, free, some_of, either, differing, naming, Form}
 use Rattle.api_calls.specs.declared.endpoint.Body.{Body}
 use Rattle.api_calls.specs.declared.endpoint.Body.TheVariants as body
 
@@ -73,6 +73,36 @@ drive_patch named = record {
       ∷ [])
       ∷ limiter_levels (codes "rate_limiter");
   together = naming (codes "drive_id") named;
+}
+
+-- PUT /network-interfaces/{id}, where the body names the interface that the path does
+abbrev pub interface : List ℕ → Form
+interface named = record {
+  levels =
+      outer (
+      needed (codes "iface_id") id
+      ∷ needed (codes "host_dev_name") path
+      ∷ optional (codes "guest_mac") mac
+      ∷ optional (codes "rx_rate_limiter") group
+      ∷ optional (codes "tx_rate_limiter") group
+      ∷ [])
+      ∷ limiter_levels (codes "rx_rate_limiter")
+      ++ limiter_levels (codes "tx_rate_limiter");
+  together = naming (codes "iface_id") named;
+}
+
+-- PATCH /network-interfaces/{id}
+abbrev pub interface_patch : List ℕ → Form
+interface_patch named = record {
+  levels =
+      outer (
+      needed (codes "iface_id") id
+      ∷ optional (codes "rx_rate_limiter") group
+      ∷ optional (codes "tx_rate_limiter") group
+      ∷ [])
+      ∷ limiter_levels (codes "rx_rate_limiter")
+      ++ limiter_levels (codes "tx_rate_limiter");
+  together = naming (codes "iface_id") named;
 }
 
 -- PUT /machine-config: 1 to 32 harts, 4 to 1,024 MiB
@@ -173,6 +203,8 @@ abbrev pub form_of : Body → List ℕ → Form
 form_of body.BootSource named = boot_source
 form_of body.Drive named = drive named
 form_of body.DrivePatch named = drive_patch named
+form_of body.Interface named = interface named
+form_of body.InterfacePatch named = interface_patch named
 form_of body.MachineConfig named = machine_config
 form_of body.MachinePatch named = machine_patch
 form_of body.Balloon named = balloon

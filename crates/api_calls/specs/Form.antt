@@ -7,17 +7,19 @@ use Rattle.serde_json.specs.Data.{Data, null, boolean, number, string, array, ob
 use Rattle.serde_json.specs.Find.{get, as_object, as_null, as_bool, as_str, as_number, as_u64}
 use Rattle.refusals.specs.declared.refusal.Refusal.{Refusal}
 use Rattle.refusals.specs.declared.refusal.Refusal.TheVariants as refused
+use Rattle.api_calls.specs.Addresses.{is_mac}
 use Rattle.api_calls.specs.declared.test.Test.{Test}
 use Rattle.api_calls.specs.declared.test.Test.TheVariants as test
 
 -- ---- tables
 
--- What a field's value must be: the name of a file; the id of a thing; a text of at most
+-- What a field's value must be: the name of a file; the id of a thing; an address of a network device; a text of at most
 -- so many bytes; one of these texts; a whole number, at least and at most; a flag; a flag that must not be set; an object,
 -- whose fields have a level of their own.
 pub data Kind : Type 0 where
   path : Kind
   id : Kind
+  mac : Kind
   text : ℕ → Kind
   choice : List (List ℕ) → Kind
   whole : ℕ → ℕ → Kind
@@ -105,6 +107,7 @@ is_known rows name = list_any (λ row. bytes_eq row.name name) rows
 unfoldable pub is_of_kind : Kind → Data → Bool
 is_of_kind path d = is_some (as_str d)
 is_of_kind id d = is_some (as_str d)
+is_of_kind mac d = is_some (as_str d)
 is_of_kind (text most) d = is_some (as_str d)
 is_of_kind (choice texts) d = is_some (as_str d)
 is_of_kind (whole least most) d = is_some (as_whole d)
@@ -135,6 +138,7 @@ is_id t = nat_lt 0 (length t) && nat_le (length t) 64 && list_all is_id_byte t
 unfoldable pub is_in_range : Kind → Data → Bool
 is_in_range path d = holds is_path (as_str d)
 is_in_range id d = holds is_id (as_str d)
+is_in_range mac d = holds is_mac (as_str d)
 is_in_range (text most) d = holds (is_short_text most) (as_str d)
 is_in_range (choice texts) d = holds (λ t. list_any (λ c. bytes_eq c t) texts) (as_str d)
 is_in_range (whole least most) d = holds (λ n. nat_le least n && nat_le n most) (as_whole d)

@@ -31,6 +31,8 @@ routes =
     route (codes "PUT") (codes "/boot-source") (endpoint.Send body.BootSource)
     ∷ route_in (codes "PUT") (codes "/drives/") (endpoint.Send body.Drive)
     ∷ route_in (codes "PATCH") (codes "/drives/") (endpoint.Send body.DrivePatch)
+    ∷ route_in (codes "PUT") (codes "/network-interfaces/") (endpoint.Send body.Interface)
+    ∷ route_in (codes "PATCH") (codes "/network-interfaces/") (endpoint.Send body.InterfacePatch)
     ∷ route (codes "PUT") (codes "/machine-config") (endpoint.Send body.MachineConfig)
     ∷ route (codes "PATCH") (codes "/machine-config") (endpoint.Send body.MachinePatch)
     ∷ route (codes "PUT") (codes "/balloon") (endpoint.Send body.Balloon)

@@ -2,6 +2,7 @@
 ghost use Rattle.std.specs.Prelude.{◌≡◌};
 
 use crate::balloon::{Balloon, BalloonPatch, StatisticsPatch};
+use crate::interface::{Interface, InterfacePatch};
 use crate::limiter::Limiter;
 use metadata_store::Tree;
 use vm_types::TextList;
@@ -154,6 +155,10 @@ pub enum ApiCall {
     PutDrive(Drive),
     /// PATCH /drives/{id}
     PatchDrive(DrivePatch),
+    /// PUT /network-interfaces/{id}
+    PutInterface(Interface),
+    /// PATCH /network-interfaces/{id}
+    PatchInterface(InterfacePatch),
     /// PUT /machine-config
     PutMachineConfig(MachineConfig),
     /// PATCH /machine-config

@@ -7,6 +7,8 @@ pub enum Body {
     BootSource,
     Drive,
     DrivePatch,
+    Interface,
+    InterfacePatch,
     MachineConfig,
     MachinePatch,
     Balloon,

@@ -12,6 +12,9 @@ ghost use Rattle.api_calls.specs.declared.call.MachineConfig.{MachineConfig};
 ghost use Rattle.api_calls.specs.declared.call.MachinePatch.{MachinePatch};
 ghost use Rattle.api_calls.specs.declared.call.SnapshotCreate.{SnapshotCreate};
 ghost use Rattle.api_calls.specs.declared.call.SnapshotLoad.{SnapshotLoad};
+ghost use Rattle.api_calls.specs.declared.interface.Interface.{Interface};
+ghost use Rattle.api_calls.specs.declared.interface.InterfacePatch.{InterfacePatch};
+ghost use Rattle.api_calls.specs.Addresses.{is_small_mac};
 ghost use Rattle.api_calls.specs.Form.{holds, is_id, is_path};
 ghost use Rattle.api_calls.specs.Limits.{is_limiter};
 ghost use Rattle.api_calls.specs.Call.{call_of};
@@ -36,13 +39,27 @@ pub fn drives_are_named()
         (is_id patch.drive_id ≡ true) × (holds is_path patch.path_on_host ≡ true) }
 {}
 
-/// Limits of a drive have buckets of fewer than 2^48 tokens, of a refill time below 2^32 milliseconds,
+/// What a PUT and a PATCH of a network interface name: an id of 1 to 64 letters and digits of ASCII and `_`, a link by a name
+/// of 1 to 4,095 bytes without a NUL, and an address in six pairs of small hexadecimal digits, which may be left out.
+pub fn interfaces_are_named()
+    ensures put { (r : Request) (interface : Interface) → call_of r ≡ Ok (call.PutInterface interface) →
+        (is_id interface.iface_id ≡ true) × (is_path interface.host_dev_name ≡ true)
+        × (holds is_small_mac interface.guest_mac ≡ true) }
+    ensures patch { (r : Request) (patch : InterfacePatch) → call_of r ≡ Ok (call.PatchInterface patch) →
+        is_id patch.iface_id ≡ true }
+{}
+
+/// Limits of a drive or of an interface have buckets of fewer than 2^48 tokens, of a refill time below 2^32 milliseconds,
 /// and of a burst below 2^48.
 pub fn limits_are_bounded()
     ensures drive { (r : Request) (drive : Drive) → call_of r ≡ Ok (call.PutDrive drive) →
         holds is_limiter drive.rate_limiter ≡ true }
     ensures drive_patch { (r : Request) (patch : DrivePatch) → call_of r ≡ Ok (call.PatchDrive patch) →
         holds is_limiter patch.rate_limiter ≡ true }
+    ensures interface { (r : Request) (interface : Interface) → call_of r ≡ Ok (call.PutInterface interface) →
+        (holds is_limiter interface.rx_rate_limiter ≡ true) × (holds is_limiter interface.tx_rate_limiter ≡ true) }
+    ensures interface_patch { (r : Request) (patch : InterfacePatch) → call_of r ≡ Ok (call.PatchInterface patch) →
+        (holds is_limiter patch.rx_rate_limiter ≡ true) × (holds is_limiter patch.tx_rate_limiter ≡ true) }
 {}
 
 /// A balloon's reports have fewer than 2^16 seconds between them.

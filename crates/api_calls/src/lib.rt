@@ -3,13 +3,14 @@
 //! `specs/Routes.antt` has the paths and their methods, `specs/Fields.antt` the fields of each body, and
 //! `specs/Form.antt` what is asked of fields and which refusal comes first. `specs/Call.antt` puts them together:
 //! the call that a request is, or its first refusal. But for `CacheType::text` there is no body here: `api_json` reads
-//! requests by these tables, and the flat machine cites them. `specs/Drives.antt` and
-//! `specs/Limits.antt` say of a drive and of limits what others need too.
+//! requests by these tables, and the flat machine cites them. `specs/Drives.antt`, `specs/Interfaces.antt` and
+//! `specs/Limits.antt` say of a drive, of an interface and of limits what others need too.
 #![tactic(auto)]
 
 mod balloon;
 mod call;
 mod endpoint;
+mod interface;
 mod law;
 mod limiter;
 mod test;
@@ -20,9 +21,10 @@ pub use call::{
     SnapshotCreate, SnapshotFiles, SnapshotLoad, SnapshotType, VmState,
 };
 pub use endpoint::{Body, Endpoint};
+pub use interface::{Interface, InterfacePatch};
 pub use law::{
-    drives_are_named, limits_are_bounded, machines_are_in_range, paths_differ, reports_are_near,
-    sources_are_short,
+    drives_are_named, interfaces_are_named, limits_are_bounded, machines_are_in_range,
+    paths_differ, reports_are_near, sources_are_short,
 };
 pub use limiter::{BucketConfig, Limiter};
 pub use test::Test;

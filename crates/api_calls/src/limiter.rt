@@ -11,11 +11,11 @@ pub struct BucketConfig {
     pub one_time_burst: Option<u64>,
 }
 
-/// The limits of a drive.
+/// The limits of a drive, or of a direction of a network interface.
 #[derive(Clone, Copy, Drop)]
 pub struct Limiter {
     /// Of the bytes that pass.
     pub bandwidth: Option<BucketConfig>,
-    /// Of the requests that pass.
+    /// Of the requests or the frames that pass.
     pub ops: Option<BucketConfig>,
 }

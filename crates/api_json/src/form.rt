@@ -7,6 +7,7 @@ ghost use Rattle.serde_json.specs.View.{view};
 ghost use Rattle.api_calls.specs.Form as form;
 ghost use Rattle.api_json.specs.Tables.{row_of, kind_of};
 
+use crate::addresses::is_mac;
 use api_calls::Test;
 use serde_json::{Map, Value};
 
@@ -21,6 +22,8 @@ pub enum Kind {
     Path,
     /// The id of a thing: 1 to 64 letters and digits of ASCII, and `_`.
     Id,
+    /// The address of a network device: six pairs of hexadecimal digits with colons between.
+    Mac,
     /// A text of at most so many bytes.
     Text(usize),
     /// One of these texts.
@@ -130,7 +133,7 @@ fn is_of_kind(kind: &Kind, value: &Value) -> bool
     ensures { result ≡ form.is_of_kind (kind_of kind.now) (view value.now) }
 {
     match kind {
-        Kind::Path | Kind::Id | Kind::Text(_) | Kind::Choice(_) => value.is_string(),
+        Kind::Path | Kind::Id | Kind::Mac | Kind::Text(_) | Kind::Choice(_) => value.is_string(),
         Kind::Whole(_, _) => value.is_u64(),
         Kind::Flag | Kind::Unset => value.is_boolean(),
         Kind::Group => value.is_object(),
@@ -160,6 +163,10 @@ fn is_in_range(kind: &Kind, value: &Value) -> bool
         },
         Kind::Id => match value.as_str() {
             Some(text) => is_id(text.as_bytes()),
+            None => true,
+        },
+        Kind::Mac => match value.as_str() {
+            Some(text) => is_mac(text.as_bytes()),
             None => true,
         },
         Kind::Text(most) => match value.as_str() {

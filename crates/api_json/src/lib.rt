@@ -8,6 +8,7 @@
 mod error;
 
 // What is asked of fields, by tables.
+mod addresses;
 mod form;
 mod levels;
 
@@ -21,6 +22,9 @@ mod boot_source;
 
 // PUT and PATCH /drives/{id},
 mod drives;
+
+// PUT and PATCH /network-interfaces/{id},
+mod interfaces;
 
 // PUT and PATCH /machine-config,
 mod machine_config;

@@ -10,7 +10,6 @@ use crate::actions::ACTION;
 use crate::balloon::{self, BALLOON, BALLOON_PATCH, STATISTICS_PATCH};
 use crate::body::object_of;
 use crate::boot_source::{self, BOOT_SOURCE};
-use crate::drives;
 use crate::error::ReadError;
 use crate::levels::{Form, refusal};
 use crate::machine_config::{self, MACHINE_CONFIG, MACHINE_PATCH};
@@ -18,6 +17,7 @@ use crate::metadata::METADATA;
 use crate::routes::target_of;
 use crate::snapshot::{self, SNAPSHOT_CREATE, SNAPSHOT_LOAD};
 use crate::vm::{VM_STATE, state_of};
+use crate::{drives, interfaces};
 use api_calls::{ApiCall, Body, Endpoint};
 use http_stream::Request;
 use metadata_store::Tree;
@@ -32,6 +32,8 @@ fn form_of(body: Body, id: &[u8]) -> Form<'_>
         Body::BootSource => BOOT_SOURCE,
         Body::Drive => drives::put_form(id),
         Body::DrivePatch => drives::patch_form(id),
+        Body::Interface => interfaces::put_form(id),
+        Body::InterfacePatch => interfaces::patch_form(id),
         Body::MachineConfig => MACHINE_CONFIG,
         Body::MachinePatch => MACHINE_PATCH,
         Body::Balloon => BALLOON,
@@ -52,6 +54,8 @@ fn make(alloc: Global, body: Body, object: Value) -> Result<ApiCall, AllocError>
         Body::BootSource => boot_source::put(alloc, &object),
         Body::Drive => drives::put(alloc, &object),
         Body::DrivePatch => drives::patch(alloc, &object),
+        Body::Interface => interfaces::put(alloc, &object),
+        Body::InterfacePatch => interfaces::patch(alloc, &object),
         Body::MachineConfig => Ok(machine_config::put(&object)),
         Body::MachinePatch => Ok(machine_config::patch(&object)),
         Body::Balloon => Ok(balloon::put(&object)),

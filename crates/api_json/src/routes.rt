@@ -34,7 +34,7 @@ pub struct Target<'p> {
     pub id: &'p [u8],
 }
 
-static ROUTES: [Route; 21] = [
+static ROUTES: [Route; 23] = [
     Route {
         pattern: Pattern::Fixed("/boot-source"),
         method: "PUT",
@@ -49,6 +49,16 @@ static ROUTES: [Route; 21] = [
         pattern: Pattern::Folder("/drives/"),
         method: "PATCH",
         endpoint: Endpoint::Send(Body::DrivePatch),
+    },
+    Route {
+        pattern: Pattern::Folder("/network-interfaces/"),
+        method: "PUT",
+        endpoint: Endpoint::Send(Body::Interface),
+    },
+    Route {
+        pattern: Pattern::Folder("/network-interfaces/"),
+        method: "PATCH",
+        endpoint: Endpoint::Send(Body::InterfacePatch),
     },
     Route {
         pattern: Pattern::Fixed("/machine-config"),

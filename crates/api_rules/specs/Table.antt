@@ -17,8 +17,11 @@ use Rattle.api_calls.specs.declared.call.Drive.{Drive}
 use Rattle.api_calls.specs.declared.call.DrivePatch.{DrivePatch}
 use Rattle.api_calls.specs.declared.call.Part.{Part}
 use Rattle.api_calls.specs.declared.call.Part.TheVariants as tells
+use Rattle.api_calls.specs.declared.interface.Interface.{Interface}
+use Rattle.api_calls.specs.declared.interface.InterfacePatch.{InterfacePatch}
 use Rattle.vm_config.specs.Devices.{device_count}
 use Rattle.vm_config.specs.Drives.{has_drive, is_named, is_root}
+use Rattle.vm_config.specs.Interfaces.{has_interface}
 use Rattle.vm_config.specs.declared.config.Config.{Config}
 use Rattle.vm_config.specs.declared.config.Phase.{Phase}
 use Rattle.vm_config.specs.declared.config.Phase.TheVariants as phase
@@ -46,6 +49,8 @@ abbrev pub when_allowed : ApiCall → When
 when_allowed (call.PutBootSource source) = BeforeBoot
 when_allowed (call.PutDrive drive) = BeforeBoot
 when_allowed (call.PatchDrive patch) = AfterBoot
+when_allowed (call.PutInterface interface) = BeforeBoot
+when_allowed (call.PatchInterface patch) = AfterBoot
 when_allowed (call.PutMachineConfig machine) = BeforeBoot
 when_allowed (call.PatchMachineConfig patch) = BeforeBoot
 when_allowed (call.PutBalloon balloon) = BeforeBoot
@@ -105,6 +110,13 @@ drive_rows config drive =
 
 abbrev pub drive_patch_rows : Config → DrivePatch → Rows
 drive_patch_rows config patch = (not (has_drive config.drives patch.drive_id), refusal.NoSuchId) ∷ []
+
+abbrev pub interface_rows : Config → Interface → Rows
+interface_rows config interface =
+    (not (has_interface config.interfaces interface.iface_id) && has_no_room config, refusal.TooManyDevices) ∷ []
+
+abbrev pub interface_patch_rows : Config → InterfacePatch → Rows
+interface_patch_rows config patch = (not (has_interface config.interfaces patch.iface_id), refusal.NoSuchId) ∷ []
 
 -- a guest gives what it has at most
 abbrev pub is_beyond : ℕ → ℕ → Bool
@@ -183,6 +195,8 @@ abbrev pub own_rows : Phase → Config → Ids → ApiCall → Rows
 own_rows p config ids (call.PutBootSource source) = []
 own_rows p config ids (call.PutDrive drive) = drive_rows config drive
 own_rows p config ids (call.PatchDrive patch) = drive_patch_rows config patch
+own_rows p config ids (call.PutInterface interface) = interface_rows config interface
+own_rows p config ids (call.PatchInterface patch) = interface_patch_rows config patch
 own_rows p config ids (call.PutMachineConfig machine) = memory_rows config machine.mem_size_mib
 own_rows p config ids (call.PatchMachineConfig patch) = memory_rows config (patched config.machine patch).mem_size_mib
 own_rows p config ids (call.PutBalloon balloon) = balloon_rows config balloon
@@ -209,6 +223,8 @@ abbrev pub change_of : Config → ApiCall → Change
 change_of config (call.PutBootSource source) = change.BootSource source
 change_of config (call.PutDrive drive) = change.PutDrive drive
 change_of config (call.PatchDrive patch) = change.PatchDrive patch
+change_of config (call.PutInterface interface) = change.PutInterface interface
+change_of config (call.PatchInterface patch) = change.PatchInterface patch
 change_of config (call.PutMachineConfig machine) = change.MachineConfig machine
 change_of config (call.PatchMachineConfig patch) = change.MachineConfig (patched config.machine patch)
 change_of config (call.PutBalloon balloon) = change.PutBalloon balloon

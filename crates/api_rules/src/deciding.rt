@@ -6,7 +6,7 @@ use crate::actions::start_refusal;
 use crate::ids::Ids;
 use crate::machine_config::{memory_refusal, patch_refusal, patched};
 use crate::snapshot::{create_refusal, load_refusal};
-use crate::{balloon, drives};
+use crate::{balloon, drives, interfaces};
 use api_calls::{ApiCall, Part};
 use refusals::Refusal;
 use vm_config::{Change, Config, Phase};
@@ -39,12 +39,14 @@ fn when_allowed(call: &ApiCall) -> When
     match call {
         ApiCall::PutBootSource(_)
         | ApiCall::PutDrive(_)
+        | ApiCall::PutInterface(_)
         | ApiCall::PutMachineConfig(_)
         | ApiCall::PatchMachineConfig(_)
         | ApiCall::PutBalloon(_)
         | ApiCall::InstanceStart
         | ApiCall::LoadSnapshot(_) => When::BeforeBoot,
         ApiCall::PatchDrive(_)
+        | ApiCall::PatchInterface(_)
         | ApiCall::PatchBalloon(_)
         | ApiCall::PatchStatistics(_)
         | ApiCall::PatchVm(_)
@@ -70,6 +72,8 @@ fn own_refusal(phase: Phase, config: &Config, ids: &Ids, call: &ApiCall) -> Opti
     match call {
         ApiCall::PutDrive(drive) => drives::put_refusal(config, drive),
         ApiCall::PatchDrive(patch) => drives::patch_refusal(config, patch),
+        ApiCall::PutInterface(interface) => interfaces::put_refusal(config, interface),
+        ApiCall::PatchInterface(patch) => interfaces::patch_refusal(config, patch),
         ApiCall::PutMachineConfig(machine) => memory_refusal(config, machine.mem_size_mib),
         ApiCall::PatchMachineConfig(patch) => patch_refusal(config, patch),
         ApiCall::PutBalloon(balloon) => balloon::put_refusal(config, balloon),
@@ -90,6 +94,8 @@ fn change_of(config: &Config, call: ApiCall) -> Change
         ApiCall::PutBootSource(source) => Change::BootSource(source),
         ApiCall::PutDrive(drive) => Change::PutDrive(drive),
         ApiCall::PatchDrive(patch) => Change::PatchDrive(patch),
+        ApiCall::PutInterface(interface) => Change::PutInterface(interface),
+        ApiCall::PatchInterface(patch) => Change::PatchInterface(patch),
         ApiCall::PutMachineConfig(machine) => Change::MachineConfig(machine),
         ApiCall::PatchMachineConfig(patch) => {
             Change::MachineConfig(patched(&config.machine, &patch))

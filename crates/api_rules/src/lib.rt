@@ -12,6 +12,9 @@ mod room;
 // The resources that have rules of their own, in the order of the API's table: PUT and PATCH /drives/{id},
 mod drives;
 
+// PUT and PATCH /network-interfaces/{id},
+mod interfaces;
+
 // PUT and PATCH /machine-config,
 mod machine_config;
 

@@ -2,27 +2,14 @@
 use Rattle.std.proofs.Common.{◌≡◌, ℕ, ◌+◌, ◌*◌, ◌-◌, ◌/◌, ◌%◌, ◌^◌, ◌==◌, ◌<◌, ◌≤◌, ◌&&◌, not, nat_le, refl, Bool, true, false, if◌then◌else◌, List, [], ◌∷◌, length, arith}
 use Rattle.std.proofs.lemmas.List.Elements.{All-nil}
 use Rattle.le_fields.specs.Fields.{IsByte, field_at}
-use Rattle.vq_split.specs.declared.queue.Part.{Part}
 use Rattle.vq_split.specs.Inside.{AreInside}
-use Rattle.vq_split.proofs.Inside.{both, of_ram}
+use Rattle.vq_split.proofs.Inside.{both}
 use Rattle.dev_core.specs.Collecting.{nothing}
-use Rattle.dev_core.specs.Pieces.{total}
 use Rattle.block_device.specs.declared.stage.ServiceStage.TheVariants as stage
 use Rattle.block_device.specs.Service.{Request, behind_header, io_error, is_range, kind_flush, kind_get_id, kind_in, kind_out, served_as, served_id, served_in, served_out, service, unsupported}
 use Rattle.block_device.specs.Working.{IsHeld}
 use Rattle.block_device.proofs.Kept.{ArePart}
 use Rattle.block_device.proofs.GoesOnServe.{Serves, behind, ends, gathers_on, puts_id_on, reads_on, serves_if}
-
--- ---- how many bytes parts have
-
--- 2^32 at most, in a guest of 2^20 pages
-pub total_most : (pages : ℕ) (parts : List Part) → pages ≤ 2 ^ 20 → AreInside pages parts
-    → total parts ≤ 2 ^ 32 * length parts
-total_most pages [] small inside = omega arith
-total_most pages (part ∷ parts) small inside =
-    let here = of_ram pages part.at part.len inside.1 in
-    let rest = total_most pages parts small inside.2 in
-    omega (arith, here, rest)
 
 -- ---- the kinds of request
 

@@ -32,7 +32,7 @@ use Rattle.queue_device.specs.Sizes.{IsLength, IsReplyTo}
 use Rattle.queue_device.proofs.Acting.{keeps_when, led_keeps, performing_acts, performing_keeps}
 use Rattle.queue_device.proofs.Never.{never}
 use Rattle.queue_device.proofs.PieceActs.{collect_acts}
-use Rattle.queue_device.proofs.Pieces.{collect_asks, collect_next, filter_few, more_of, read_small}
+use Rattle.queue_device.proofs.Pieces.{collect_asks, collect_next, filter_few, more_of, read_small, total_most}
 use Rattle.block_device.specs.declared.data.BlockData.{BlockData}
 use Rattle.block_device.specs.declared.work.BlockStage.{BlockStage}
 use Rattle.block_device.specs.declared.work.BlockStage.TheVariants as at
@@ -40,12 +40,13 @@ use Rattle.block_device.specs.Block.{block, changed, data_in, data_out, headed, 
 use Rattle.block_device.specs.Kept.{is_work}
 use Rattle.block_device.specs.Service.{kind_out, service}
 use Rattle.block_device.specs.Serving.{serving_left, serving_op}
-use Rattle.block_device.specs.Working.{AreSmallLimits, IsFine, IsSizedData, IsSmallWork, SizedWork, Working, hand_of, sized_hand}
+use Rattle.rate_gate.specs.Small.{AreSmallLimits}
+use Rattle.block_device.specs.Working.{IsFine, IsSizedData, IsSmallWork, SizedWork, Working, hand_of, sized_hand}
 use Rattle.block_device.proofs.Asking.{serving_acts}
-use Rattle.block_device.proofs.GoesOnBegin.{service_on, total_most}
+use Rattle.block_device.proofs.GoesOnBegin.{service_on}
 use Rattle.block_device.proofs.GoesOnServe.{Serves, ServesOn, serves_on}
 use Rattle.block_device.proofs.Kept.{ArePart, test_of_work, work_of}
-use Rattle.block_device.proofs.SmallLimits.{limits_pass}
+use Rattle.rate_gate.proofs.SmallLimits.{limits_pass}
 use Rattle.block_device.proofs.Owes.{Taking, none_not, off_right, some_parts}
 use Rattle.block_device.proofs.Wanting.{serving_asks}
 

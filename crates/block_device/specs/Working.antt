@@ -1,5 +1,5 @@
 -- What a block device has still to do in a chain, by what it keeps.
-use Rattle.std.specs.Prelude.{◌≡◌, ◌<◌, ◌≤◌, ◌^◌, ℕ, Bool, true, false, Option, Some, None, IfSome, List, [], length}
+use Rattle.std.specs.Prelude.{◌≡◌, ◌<◌, ◌≤◌, ◌^◌, ℕ, Bool, true, false, Option, Some, None, List, [], length}
 use Rattle.std.specs.List.{All}
 use Rattle.vm_types.specs.declared.op.Op.{Op}
 use Rattle.vm_types.specs.declared.op.Op.TheVariants.{Read}
@@ -10,8 +10,7 @@ use Rattle.vq_split.specs.declared.queue.Part.{Part}
 use Rattle.dev_core.specs.declared.collect.Collect.{Collect}
 use Rattle.dev_core.specs.Collecting.{collect_left, nothing}
 use Rattle.dev_core.specs.Pieces.{place, room}
-use Rattle.token_bucket.specs.Kept.{Kept, is_kept}
-use Rattle.rate_gate.specs.Gate.{Buckets}
+use Rattle.rate_gate.specs.Small.{AreSmallLimits}
 use Rattle.queue_device.specs.Acting.{Acting, Comes, performing}
 use Rattle.queue_device.specs.Chains.{Taken}
 use Rattle.queue_device.specs.Left.{Hand}
@@ -93,22 +92,9 @@ pub record SizedWork (sized : Bool) : Type 0 where
 abbrev pub sized_hand : (sized : Bool) → SizedWork sized → Hand BlockData
 sized_hand sized w = hand_of w.work
 
--- a bucket may be such a one, and what is left of its burst and its moment have 64 bits
-pub record IsSmallBucket (k : Kept) : Type 0 where
-  pub kept : is_kept k ≡ true
-  pub burst : k.burst < 2 ^ 64
-  pub moment : k.moment < 2 ^ 64
-
-abbrev pub AreSmallLimits : Buckets → Type 0
-AreSmallLimits b = IfSome b.bandwidth IsSmallBucket × IfSome b.ops IsSmallBucket
-
 -- what GET_ID gives of the drive are 20 bytes
 abbrev pub IsSmallData : BlockData → Type 0
 IsSmallData e = (length e.drive_id ≡ 20) × All IsByte e.drive_id × AreSmallLimits e.limits
-
--- other buckets are such
-abbrev pub AreSmallOthers : Option (Option Kept) → Type 0
-AreSmallOthers o = IfSome o (λ (b : Option Kept). IfSome b IsSmallBucket)
 
 abbrev pub IsSizedData : Bool → BlockData → Type 0
 IsSizedData sized e = IsFine e × (sized ≡ true → IsSmallData e)

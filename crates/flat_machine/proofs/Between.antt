@@ -26,7 +26,7 @@ use Rattle.vm_config.specs.declared.config.Phase.TheVariants as phase
 use Rattle.vm_config.specs.declared.change.Change.{Change}
 use Rattle.vm_config.specs.declared.change.Change.TheVariants as change
 use Rattle.vm_config.specs.Changes.{with_amount, with_interval}
-use Rattle.vm_config.specs.Devices.{balloon_device}
+use Rattle.vm_config.specs.Devices.{balloon_device, interface_device}
 use Rattle.vm_config.specs.Drives.{device_of}
 use Rattle.api_rules.specs.declared.deciding.When.TheVariants.{BeforeBoot}
 use Rattle.api_rules.specs.Table.{change_of, has_started, misplaced, when_allowed}
@@ -46,7 +46,7 @@ use Rattle.flat_guest.proofs.Devices.{devices_many, reset_many, told_many}
 use Rattle.flat_snapshot.specs.Unwritten.{KeepsUnwritten}
 use Rattle.flat_snapshot.proofs.Unwritten.{keeps_joined, keeps_same, one_keeps, several_keep}
 use Rattle.flat_machine.specs.Balloon.{interval_told, target_in}
-use Rattle.flat_machine.specs.Limits.{limits_told}
+use Rattle.flat_machine.specs.Limits.{limits_told, receives_told, transmits_told}
 use Rattle.flat_machine.specs.Between.{GoesOn, NoCreate, SomeCreate}
 use Rattle.flat_machine.specs.Given.{reply_given}
 use Rattle.flat_machine.specs.Outcome.{Left, Outcome}
@@ -54,7 +54,7 @@ use Rattle.flat_machine.specs.Outcome.Outcome.{Answered, Failed, NoMemory}
 use Rattle.flat_machine.specs.Machine.{Machine, drained, drained_guest, phase_by, phase_of, running_by}
 use Rattle.flat_machine.specs.Items.{ItemStep, MemoryLine, RegisterLine, RepliesLine, StepsLine, Talks}
 use Rattle.response_form.specs.Responses.{Response}
-use Rattle.flat_machine.specs.Requests.{CreateFails, Creates, Fails, Leaves, LeavesBy, RequestStep, Stores, allowed, configured, halted, next_identity, patched_balloon, patched_drive, patched_statistics, relimited, resized, retargeted, retimed, sectors_of, shows_by, told_at}
+use Rattle.flat_machine.specs.Requests.{CreateFails, Creates, Fails, Leaves, LeavesBy, RequestStep, Stores, allowed, configured, halted, next_identity, patched_balloon, patched_drive, patched_interface, patched_statistics, relimited, resized, retargeted, retimed, sectors_of, shows_by, told_at}
 use Rattle.flat_machine.specs.Run.{Act, Run}
 use Rattle.flat_machine.proofs.Allowed.{IsAllowed, allowed_is}
 
@@ -117,6 +117,7 @@ same g m n there is = moved g m n m is (stays g m m there refl refl refl)
 abbrev pub IsLater : Change → Type 0
 IsLater (change.BootSource source) = ⊥
 IsLater (change.PutDrive drive) = ⊥
+IsLater (change.PutInterface interface) = ⊥
 IsLater (change.MachineConfig machine) = ⊥
 IsLater (change.PutBalloon balloon) = ⊥
 IsLater change.Start = ⊥
@@ -134,6 +135,8 @@ at_its_time : (p : Phase) (config : Config) (c : ApiCall) → has_started p ≡ 
 at_its_time p config (call.PutBootSource source) started placed = too_late p started placed
 at_its_time p config (call.PutDrive drive) started placed = too_late p started placed
 at_its_time p config (call.PatchDrive patch) started placed = tt
+at_its_time p config (call.PutInterface interface) started placed = too_late p started placed
+at_its_time p config (call.PatchInterface patch) started placed = tt
 at_its_time p config (call.PutMachineConfig machine) started placed = too_late p started placed
 at_its_time p config (call.PatchMachineConfig patch) started placed = too_late p started placed
 at_its_time p config (call.PutBalloon balloon) started placed = too_late p started placed
@@ -205,10 +208,10 @@ resized_keeps g None number saved guest is = (g, is, (keeps_same g g refl, refl)
 resized_keeps g (Some path) number saved guest is =
     let change : DeviceChange = sectors_change (sectors_of (get saved path)) in told_keeps g number change (shows_by change) guest is
 
-relimited_keeps : (g : Guest) (limiter : Option Limiter) (number : Option ℕ) (guest : Option Guest) → guest ≡ Some g
-    → (h : Guest) × (relimited limiter number guest ≡ Some h) × Keeps g h
-relimited_keeps g None number guest is = (g, is, (keeps_same g g refl, refl))
-relimited_keeps g (Some l) number guest is = told_keeps g number (limits_told l) (shows_by (limits_told l)) guest is
+relimited_keeps : (g : Guest) (tells : Limiter → DeviceChange) (limiter : Option Limiter) (number : Option ℕ) (guest : Option Guest)
+    → guest ≡ Some g → (h : Guest) × (relimited tells limiter number guest ≡ Some h) × Keeps g h
+relimited_keeps g tells None number guest is = (g, is, (keeps_same g g refl, refl))
+relimited_keeps g tells (Some l) number guest is = told_keeps g number (tells l) (shows_by (tells l)) guest is
 
 retargeted_keeps : (g : Guest) (balloon : Option Balloon) (number : Option ℕ) (guest : Option Guest) → guest ≡ Some g
     → (h : Guest) × (retargeted balloon number guest ≡ Some h) × Keeps g h
@@ -242,7 +245,15 @@ leaves_on g (change.PatchDrive patch) m n there later is =
     let after : Machine = configured (patched_drive m patch) (change.PatchDrive patch) in
     let number = device_of m.config.drives patch.drive_id in
     let h = resized_keeps g patch.path_on_host number m.saved m.guest there in
-    let q = relimited_keeps h.0 patch.rate_limiter number (resized patch.path_on_host number m.saved m.guest) h.1 in
+    let q = relimited_keeps h.0 limits_told patch.rate_limiter number (resized patch.path_on_host number m.saved m.guest) h.1 in
+    moved g m n after is (by_events g q.0 m after q.1 refl refl (keeps_both g h.0 q.0 h.2 q.2))
+leaves_on g (change.PutInterface interface) m n there later is = absurd later
+leaves_on g (change.PatchInterface patch) m n there later is =
+    let after : Machine = configured (patched_interface m patch) (change.PatchInterface patch) in
+    let number = interface_device m.config patch.iface_id in
+    let h = relimited_keeps g receives_told patch.rx_rate_limiter number m.guest there in
+    let q =
+    relimited_keeps h.0 transmits_told patch.tx_rate_limiter number (relimited receives_told patch.rx_rate_limiter number m.guest) h.1 in
     moved g m n after is (by_events g q.0 m after q.1 refl refl (keeps_both g h.0 q.0 h.2 q.2))
 leaves_on g (change.MachineConfig machine) m n there later is = absurd later
 leaves_on g (change.PutBalloon balloon) m n there later is = absurd later
@@ -282,6 +293,8 @@ fails_on : (g : Guest) (it : Change) (m : Machine) (left : Left) (n : Machine) �
 fails_on g (change.BootSource source) m left n there x = absurd x
 fails_on g (change.PutDrive drive) m left n there x = absurd x
 fails_on g (change.PatchDrive patch) m left n there x = same g m n there x.3
+fails_on g (change.PutInterface interface) m left n there x = absurd x
+fails_on g (change.PatchInterface patch) m left n there x = absurd x
 fails_on g (change.MachineConfig machine) m left n there x = absurd x
 fails_on g change.Start m left n there x = same g m n there x.1
 fails_on g (change.State state) m left n there x = absurd x

@@ -125,6 +125,8 @@ result_one : (r : Result Change Refusal) (m : Machine) (kept : List Device) (n k
 result_one (Ok (change.BootSource source)) m kept n k x y = x.1 ∙ sym y.1
 result_one (Ok (change.PutDrive drive)) m kept n k x y = x.1 ∙ sym y.1
 result_one (Ok (change.PatchDrive patch)) m kept n k x y = x.1 ∙ sym y.1
+result_one (Ok (change.PutInterface interface)) m kept n k x y = x.1 ∙ sym y.1
+result_one (Ok (change.PatchInterface patch)) m kept n k x y = x.1 ∙ sym y.1
 result_one (Ok (change.MachineConfig machine)) m kept n k x y = x.1 ∙ sym y.1
 result_one (Ok (change.PutBalloon balloon)) m kept n k x y = x.1 ∙ sym y.1
 result_one (Ok (change.PatchBalloon patch)) m kept n k x y = x.1 ∙ sym y.1
@@ -143,6 +145,8 @@ fails_one : (it : Change) (m : Machine) (left : Left) (n k : Machine) → Fails 
 fails_one (change.BootSource source) m left n k x y = absurd x
 fails_one (change.PutDrive drive) m left n k x y = absurd x
 fails_one (change.PatchDrive patch) m left n k x y = x.3 ∙ sym y.3
+fails_one (change.PutInterface interface) m left n k x y = absurd x
+fails_one (change.PatchInterface patch) m left n k x y = absurd x
 fails_one (change.MachineConfig machine) m left n k x y = absurd x
 fails_one (change.PutBalloon balloon) m left n k x y = absurd x
 fails_one (change.PatchBalloon patch) m left n k x y = absurd x

@@ -9,6 +9,7 @@ use Rattle.std.proofs.lemmas.Slice.Eq.{bytes_eq-Decides}
 use Rattle.api_calls.specs.declared.balloon.Balloon.{Balloon}
 use Rattle.api_calls.specs.declared.call.Drive.{Drive}
 use Rattle.api_calls.specs.declared.call.DrivePatch.{DrivePatch}
+use Rattle.api_calls.specs.declared.interface.Interface.{Interface}
 use Rattle.api_calls.specs.declared.limiter.Limiter.{Limiter}
 use Rattle.api_calls.specs.Form.{holds, is_id, is_path}
 use Rattle.api_calls.specs.Limits.{is_bucket, is_limiter}
@@ -78,7 +79,7 @@ old_limits : (o : Option Limiter) → holds is_limiter o ≡ true → is_limiter
 old_limits None old = refl
 old_limits (Some l) old = old
 
-limits_kept : (new old : Option Limiter) → holds is_limiter new ≡ true → holds is_limiter old ≡ true → holds is_limiter (limited new old) ≡ true
+pub limits_kept : (new old : Option Limiter) → holds is_limiter new ≡ true → holds is_limiter old ≡ true → holds is_limiter (limited new old) ≡ true
 limits_kept None old given there = there
 limits_kept (Some l) old given there = by_named (names_bucket l)
   where
@@ -225,28 +226,31 @@ module _ (drive : Drive) (drives : List Drive) (is : AreDrives drives) (own : is
   roots_put false known = few_pushed known (is_root drive) refl
 
   -- where there is room for one more, if it is one
-  count_put : (balloon : Option Balloon) (there : Bool) → has_room drives balloon ≡ true → (not there && nat_le 16 (count_in drives balloon)) ≡ false
-      → count_in (if there then with_changed drive.drive_id (λ d. drive) drives else drives ++ drive ∷ []) balloon ≤ 16
-  count_put balloon true fits room =
+  count_put : (interfaces : List Interface) (balloon : Option Balloon) (there : Bool) → has_room drives interfaces balloon ≡ true
+      → (not there && nat_le 16 (count_in drives interfaces balloon)) ≡ false
+      → count_in (if there then with_changed drive.drive_id (λ d. drive) drives else drives ++ drive ∷ []) interfaces balloon ≤ 16
+  count_put interfaces balloon true fits room =
       let many = length-changed id_of_drive drive.drive_id (λ d. drive) drives in
-      omega (arith, many, leb-true (count_in drives balloon) 16 fits)
-  count_put balloon false fits room =
+      omega (arith, many, leb-true (count_in drives interfaces balloon) 16 fits)
+  count_put interfaces balloon false fits room =
       let many = length-append drives (drive ∷ []) in
-      let less = leb-false 16 (count_in drives balloon) room in
+      let less = leb-false 16 (count_in drives interfaces balloon) room in
       omega (arith, many, less)
 
 -- where no other drive is the root drive, and there is room for one more
-pub put_told : (drive : Drive) (drives : List Drive) (balloon : Option Balloon) → are_drives drives ≡ true → has_room drives balloon ≡ true
-    → is_drive drive ≡ true → (is_root drive && list_any (λ d. is_root d && not (is_named drive.drive_id d)) drives) ≡ false
-    → (not (has_drive drives drive.drive_id) && nat_le 16 (count_in drives balloon)) ≡ false → AreFitting (put_drive drives drive) balloon
-put_told drive drives balloon are fits own roots room =
+pub put_told : (drive : Drive) (drives : List Drive) (interfaces : List Interface) (balloon : Option Balloon) → are_drives drives ≡ true
+    → has_room drives interfaces balloon ≡ true → is_drive drive ≡ true
+    → (is_root drive && list_any (λ d. is_root d && not (is_named drive.drive_id d)) drives) ≡ false
+    → (not (has_drive drives drive.drive_id) && nat_le 16 (count_in drives interfaces balloon)) ≡ false
+    → AreFitting (put_drive drives drive) interfaces balloon
+put_told drive drives interfaces balloon are fits own roots room =
     let is = parts_of drives are in
-    let count = count_put drive drives is own roots balloon (has_drive drives drive.drive_id) fits room in (
+    let count = count_put drive drives is own roots interfaces balloon (has_drive drives drive.drive_id) fits room in (
       are_all (put_drive drives drive) (record {
         few = omega (arith, count);
         each = each_put id_of_drive is_drive drives drive is.each own;
         apart = apart_put id_of_drive drives drive is.apart;
         root = roots_put drive drives is own roots (has_drive drives drive.drive_id) refl;
       }),
-      le-leb (count_in (put_drive drives drive) balloon) 16 count,
+      le-leb (count_in (put_drive drives drive) interfaces balloon) 16 count,
     )

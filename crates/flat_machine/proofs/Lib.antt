@@ -4,6 +4,7 @@ pub mod Carries
 pub mod Determined
 pub mod Drives
 pub mod Fields
+pub mod Interfaces
 pub mod Numbered
 pub mod OneReplay
 pub mod Plain

@@ -62,6 +62,8 @@ pub asked_for : (config : Config) (c : ApiCall) (it : SnapshotCreate) → change
 asked_for config (call.PutBootSource source) it is = absurd cc
 asked_for config (call.PutDrive drive) it is = absurd cc
 asked_for config (call.PatchDrive patch) it is = absurd cc
+asked_for config (call.PutInterface interface) it is = absurd cc
+asked_for config (call.PatchInterface patch) it is = absurd cc
 asked_for config (call.PutMachineConfig machine) it is = absurd cc
 asked_for config (call.PatchMachineConfig patch) it is = absurd cc
 asked_for config (call.PutBalloon balloon) it is = absurd cc

@@ -21,6 +21,7 @@ use Rattle.http_stream.specs.declared.request.Next.{Next}
 use Rattle.http_stream.specs.Conversation.{Conversation, arrived}
 use Rattle.http_stream.specs.Sent.{sent}
 use Rattle.api_calls.specs.declared.balloon.BalloonPatch.{BalloonPatch}
+use Rattle.api_calls.specs.declared.interface.InterfacePatch.{InterfacePatch}
 use Rattle.api_calls.specs.declared.balloon.StatisticsPatch.{StatisticsPatch}
 use Rattle.api_calls.specs.declared.call.BootSource.{BootSource}
 use Rattle.api_calls.specs.declared.call.DrivePatch.{DrivePatch}
@@ -31,7 +32,7 @@ use Rattle.vm_config.specs.declared.config.Config.{Config}
 use Rattle.vm_config.specs.declared.change.Change.{Change}
 use Rattle.vm_config.specs.declared.change.Change.TheVariants as change
 use Rattle.vm_config.specs.Changes.{changed}
-use Rattle.vm_config.specs.Devices.{balloon_device}
+use Rattle.vm_config.specs.Devices.{balloon_device, interface_device}
 use Rattle.vm_config.specs.Drives.{device_of}
 use Rattle.api_rules.specs.Table.{has_started}
 use Rattle.script_text.specs.declared.item.Item.{Item}
@@ -62,12 +63,13 @@ use Rattle.flat_machine.specs.Outcome.Outcome.{Answered, Failed, NoMemory}
 use Rattle.flat_machine.specs.Machine.{Machine, drained, drained_guest, new_machine, phase_of, running_by}
 use Rattle.flat_machine.specs.Items.{ItemStep, MemoryLine, RegisterLine, RepliesLine, StepsLine, Talks}
 use Rattle.flat_machine.specs.Ready.{CanBeCopied, IsBaseBefore, IsReadyGuest, IsTaken, Ready, ReadyBy}
-use Rattle.flat_machine.specs.Requests.{CreateFails, Creates, Fails, Leaves, LeavesBy, RequestStep, Restores, Stores, allowed, configured, disk_of, devices_from, halted, image_by, image_of, loads_from, parent_in, created, patched_balloon, patched_drive, patched_statistics, carried, resized, start_refusal, started_from}
+use Rattle.flat_machine.specs.Limits.{limits_told, receives_told, transmits_told}
+use Rattle.flat_machine.specs.Requests.{CreateFails, Creates, Fails, Leaves, LeavesBy, RequestStep, Restores, Stores, allowed, configured, disk_of, devices_from, halted, image_by, image_of, loads_from, parent_in, created, patched_balloon, patched_drive, patched_interface, patched_statistics, carried, relimited, resized, start_refusal, started_from}
 use Rattle.flat_machine.specs.Run.{Act, Run}
 use Rattle.flat_machine.proofs.Allowed.{IsAllowed, allowed_is, not_refused}
 use Rattle.flat_machine.proofs.Between.{allowed_later, by_either, leaves_of, one_many, several_many, started}
 use Rattle.flat_machine.proofs.Numbered.{found_numbered}
-use Rattle.flat_machine.proofs.Reconfigured.{amount_patched, drive_patched, interval_patched, relimited_ready, resized_ready, retargeted_ready, retimed_ready, start_kinds, start_many}
+use Rattle.flat_machine.proofs.Reconfigured.{amount_patched, drive_patched, interface_patched, interval_patched, relimited_ready, resized_ready, retargeted_ready, retimed_ready, start_kinds, start_many}
 use Rattle.flat_machine.proofs.Sizes.{booted_size, devices_fit, start_fits}
 use Rattle.flat_machine.proofs.Taken.{allowed_fits, bounded, changed_taken, configured_taken, default_taken, taken_configured}
 
@@ -144,8 +146,23 @@ patch_ready m patch ready taken =
     let number : Option ℕ = device_of m.config.drives patch.drive_id in record {
       taken = taken;
       guest =
-          relimited_ready after m.paused patch.rate_limiter number (resized patch.path_on_host number m.saved m.guest)
+          relimited_ready after m.paused limits_told (λ l. tt) patch.rate_limiter number (resized patch.path_on_host number m.saved m.guest)
           (resized_ready after m.paused patch.path_on_host number m.saved m.guest (drive_patched m.config patch m.paused m.guest taken ready.guest));
+      next = ready.next;
+      base = ready.base;
+    }
+
+limits_ready : (m : Machine) (patch : InterfacePatch) → Ready m → IsTaken (changed m.config (change.PatchInterface patch))
+    → Ready (configured (patched_interface m patch) (change.PatchInterface patch))
+limits_ready m patch ready taken =
+    let after : Config = changed m.config (change.PatchInterface patch) in
+    let number : Option ℕ = interface_device m.config patch.iface_id in record {
+      taken = taken;
+      guest =
+          relimited_ready after m.paused transmits_told (λ l. tt) patch.tx_rate_limiter number
+          (relimited receives_told patch.rx_rate_limiter number m.guest)
+          (relimited_ready after m.paused receives_told (λ l. tt) patch.rx_rate_limiter number m.guest
+          (interface_patched m.config patch m.paused m.guest taken ready.guest));
       next = ready.next;
       base = ready.base;
     }
@@ -212,6 +229,7 @@ module _ (m : Machine) (image : List ℕ) (ready : Ready m) (there : image_of m 
           configured = record {
             source = source_there.source;
             drives = source_there.drives;
+            interfaces = source_there.interfaces;
             machine = source_there.machine;
             balloon = source_there.balloon;
             room = source_there.room;
@@ -298,6 +316,14 @@ leaves_ready (change.PatchDrive patch) m n ready known is =
     let it : Change = change.PatchDrive patch in
     ready_is (configured (patched_drive m patch) it) n is
     (patch_ready m patch ready (changed_taken m.config it ready.taken (allowed_fits m it ready.taken known)))
+leaves_ready (change.PutInterface interface) m n ready known is =
+    let it : Change = change.PutInterface interface in
+    ready_is (configured m it) n is
+    (configures m it ready (changed_taken m.config it ready.taken (allowed_fits m it ready.taken known)) (λ on. allowed_later m it on known))
+leaves_ready (change.PatchInterface patch) m n ready known is =
+    let it : Change = change.PatchInterface patch in
+    ready_is (configured (patched_interface m patch) it) n is
+    (limits_ready m patch ready (changed_taken m.config it ready.taken (allowed_fits m it ready.taken known)))
 leaves_ready (change.PutBalloon balloon) m n ready known is =
     let it : Change = change.PutBalloon balloon in
     ready_is (configured m it) n is
@@ -348,6 +374,8 @@ fails_ready change.Start m left n ready x = ready_is m n x.1 ready
 fails_ready (change.State state) m left n ready x = absurd x
 fails_ready (change.CreateSnapshot it) m left n ready x = create_fails_ready m.guest m it left n ready x
 fails_ready (change.LoadSnapshot load) m left n ready x = ready_is m n x.1 ready
+fails_ready (change.PutInterface interface) m left n ready x = absurd x
+fails_ready (change.PatchInterface patch) m left n ready x = absurd x
 fails_ready (change.PutBalloon balloon) m left n ready x = absurd x
 fails_ready (change.PatchBalloon patch) m left n ready x = absurd x
 fails_ready (change.PatchStatistics patch) m left n ready x = absurd x

@@ -10,11 +10,13 @@ use Rattle.api_calls.specs.declared.call.BootSource.{BootSource}
 use Rattle.api_calls.specs.declared.call.Drive.{Drive}
 use Rattle.api_calls.specs.declared.call.DrivePatch.{DrivePatch}
 use Rattle.api_calls.specs.declared.call.MachineConfig.{MachineConfig}
+use Rattle.api_calls.specs.declared.interface.Interface.{Interface}
+use Rattle.api_calls.specs.declared.interface.InterfacePatch.{InterfacePatch}
 use Rattle.api_calls.specs.declared.limiter.Limiter.{Limiter}
 use Rattle.vm_config.specs.declared.config.Config.{Config}
 use Rattle.vm_config.specs.declared.change.Change.TheVariants as change
 use Rattle.vm_config.specs.Changes.{changed, with_amount, with_interval}
-use Rattle.vm_config.specs.Devices.{Configured, balloon_count, balloon_devices, device_count, devices_in, devices_of, of_balloon, of_drive}
+use Rattle.vm_config.specs.Devices.{Configured, balloon_count, balloon_devices, device_count, devices_in, devices_of, of_balloon, of_drive, of_interface}
 use Rattle.vm_config.specs.Drives.{in_order}
 use Rattle.vm_config.proofs.DeviceLemmas.{counted, length-ordered}
 use Rattle.port_table.specs.declared.kind.DeviceKind.{DeviceKind}
@@ -31,31 +33,35 @@ use Rattle.flat_guest.proofs.Soundness.{sound_told}
 use Rattle.snap_state.specs.Valid.{is_source, kind_configured, kinds_of}
 use Rattle.flat_snapshot.specs.Copies.{configuration_of, source_of}
 use Rattle.flat_machine.specs.Balloon.{interval_told, target_in}
-use Rattle.flat_machine.specs.Limits.{limits_told}
 use Rattle.flat_machine.specs.Ready.{IsReadyGuest, IsTaken, ReadyBy}
 use Rattle.flat_machine.specs.Requests.{device_from, devices_from, relimited, resized, retargeted, retimed, sectors_of, shows_by, told_at}
 use Rattle.flat_machine.proofs.Drives.{length-patched}
+use Rattle.flat_machine.proofs.Interfaces.{many_patched}
 use Rattle.flat_machine.proofs.Sizes.{few_sectors}
 
 -- ---- the kinds of devices
 
--- as many drives have the same kinds
-drives_alike : (drives others : List Drive) (rest more : List Configured) → length drives ≡ length others
-    → map kind_configured rest ≡ map kind_configured more
-    → map kind_configured (map of_drive drives ++ rest) ≡ map kind_configured (map of_drive others ++ more)
-drives_alike [] [] rest more many alike = alike
-drives_alike [] (d ∷ others) rest more many alike = absurd (omega (arith, many))
-drives_alike (d ∷ drives) [] rest more many alike = absurd (omega (arith, many))
-drives_alike (d ∷ drives) (other ∷ others) rest more many alike =
-    ap (λ (l : List DeviceKind). numbers.Block ∷ l) (drives_alike drives others rest more (omega (arith, many)) alike)
+-- as many things of one kind have the same kinds
+things_alike : {A : Type 0} (of : A → Configured) (kind : DeviceKind) → ((a : A) → kind_configured (of a) ≡ kind) → (things others : List A)
+    (rest more : List Configured) → length things ≡ length others → map kind_configured rest ≡ map kind_configured more
+    → map kind_configured (map of things ++ rest) ≡ map kind_configured (map of others ++ more)
+things_alike of kind is [] [] rest more many alike = alike
+things_alike of kind is [] (b ∷ others) rest more many alike = absurd (omega (arith, many))
+things_alike of kind is (a ∷ things) [] rest more many alike = absurd (omega (arith, many))
+things_alike of kind is (a ∷ things) (b ∷ others) rest more many alike =
+    ap (λ (k : DeviceKind). k ∷ map kind_configured (map of things ++ rest)) (is a ∙ sym (is b))
+    ∙ ap (λ (l : List DeviceKind). kind_configured (of b) ∷ l) (things_alike of kind is things others rest more (omega (arith, many)) alike)
 
-kinds_alike : (drives others : List Drive) (balloon other : Option Balloon) → length drives ≡ length others
+kinds_alike : (drives others : List Drive) (interfaces links : List Interface) (balloon other : Option Balloon)
+    → length drives ≡ length others → length interfaces ≡ length links
     → map kind_configured (balloon_devices balloon) ≡ map kind_configured (balloon_devices other)
-    → map kind_configured (devices_in drives balloon) ≡ map kind_configured (devices_in others other)
-kinds_alike drives others balloon other many alike =
+    → map kind_configured (devices_in drives interfaces balloon) ≡ map kind_configured (devices_in others links other)
+kinds_alike drives others interfaces links balloon other many linked alike =
     let own = length-ordered drives in
     let new = length-ordered others in
-    drives_alike (in_order drives) (in_order others) (balloon_devices balloon) (balloon_devices other) (omega (arith, many, own, new)) alike
+    things_alike of_drive numbers.Block (λ d. refl) (in_order drives) (in_order others)
+    (map of_interface interfaces ++ balloon_devices balloon) (map of_interface links ++ balloon_devices other) (omega (arith, many, own, new))
+    (things_alike of_interface numbers.Net (λ i. refl) interfaces links (balloon_devices balloon) (balloon_devices other) linked alike)
 
 -- a balloon of another amount or interval is as good as it was
 amount_alike : (patch : BalloonPatch) (balloon : Option Balloon)
@@ -80,6 +86,7 @@ interval_count patch (Some b) = refl
 from_kinds : (configured : List Configured) (saved : Saved) → kinds_at_start (map (device_from saved) configured) ≡ map kind_configured configured
 from_kinds [] saved = refl
 from_kinds (of_drive d ∷ others) saved = ap (λ (l : List DeviceKind). numbers.Block ∷ l) (from_kinds others saved)
+from_kinds (of_interface i ∷ others) saved = ap (λ (l : List DeviceKind). numbers.Net ∷ l) (from_kinds others saved)
 from_kinds (of_balloon b ∷ others) saved = ap (λ (l : List DeviceKind). numbers.Balloon ∷ l) (from_kinds others saved)
 
 pub start_kinds : (config : Config) (saved : Saved) → kinds_at_start (devices_from config saved) ≡ kinds_of (configuration_of config)
@@ -109,6 +116,7 @@ module _ (config after : Config) (paused : Bool) (taken : IsTaken after) (source
         source =
             subst (λ (s : Option BootSource). is_source (source_of s) ≡ true) (sym source) is.ready.configured.source;
         drives = taken.drives;
+        interfaces = taken.interfaces;
         machine = taken.machine;
         balloon = taken.balloon;
         room = taken.room;
@@ -125,15 +133,26 @@ pub drive_patched : (config : Config) (patch : DrivePatch) (paused : Bool) (gues
 drive_patched config patch paused guest taken is =
     let after : Config = changed config (change.PatchDrive patch) in
     let many = length-patched patch config.drives in
-    let kinds = kinds_alike config.drives after.drives config.balloon config.balloon (sym many) refl in
-    reconfigured config after paused taken refl refl kinds (ap (λ (n : ℕ). n + balloon_count config.balloon) (sym many)) guest is
+    let kinds = kinds_alike config.drives after.drives config.interfaces config.interfaces config.balloon config.balloon (sym many) refl refl in
+    let count = ap (λ (n : ℕ). n + length config.interfaces + balloon_count config.balloon) (sym many) in
+    reconfigured config after paused taken refl refl kinds count guest is
+
+pub interface_patched : (config : Config) (patch : InterfacePatch) (paused : Bool) (guest : Option Guest)
+    → IsTaken (changed config (change.PatchInterface patch)) → ReadyBy config paused guest
+    → ReadyBy (changed config (change.PatchInterface patch)) paused guest
+interface_patched config patch paused guest taken is =
+    let after : Config = changed config (change.PatchInterface patch) in
+    let many = many_patched patch config.interfaces in
+    let kinds = kinds_alike config.drives config.drives config.interfaces after.interfaces config.balloon config.balloon refl (sym many) refl in
+    let count = ap (λ (n : ℕ). length config.drives + n + balloon_count config.balloon) (sym many) in
+    reconfigured config after paused taken refl refl kinds count guest is
 
 pub amount_patched : (config : Config) (patch : BalloonPatch) (paused : Bool) (guest : Option Guest) → IsTaken (changed config (change.PatchBalloon patch))
     → ReadyBy config paused guest → ReadyBy (changed config (change.PatchBalloon patch)) paused guest
 amount_patched config patch paused guest taken is =
     let after : Config = changed config (change.PatchBalloon patch) in
-    let kinds = kinds_alike config.drives config.drives config.balloon after.balloon refl (amount_alike patch config.balloon) in
-    let count = ap (λ (n : ℕ). length config.drives + n) (amount_count patch config.balloon) in
+    let kinds = kinds_alike config.drives config.drives config.interfaces config.interfaces config.balloon after.balloon refl refl (amount_alike patch config.balloon) in
+    let count = ap (λ (n : ℕ). length config.drives + length config.interfaces + n) (amount_count patch config.balloon) in
     reconfigured config after paused taken refl refl kinds count guest is
 
 pub interval_patched : (config : Config) (patch : StatisticsPatch) (paused : Bool) (guest : Option Guest)
@@ -141,8 +160,8 @@ pub interval_patched : (config : Config) (patch : StatisticsPatch) (paused : Boo
     → ReadyBy (changed config (change.PatchStatistics patch)) paused guest
 interval_patched config patch paused guest taken is =
     let after : Config = changed config (change.PatchStatistics patch) in
-    let kinds = kinds_alike config.drives config.drives config.balloon after.balloon refl (interval_alike patch config.balloon) in
-    let count = ap (λ (n : ℕ). length config.drives + n) (interval_count patch config.balloon) in
+    let kinds = kinds_alike config.drives config.drives config.interfaces config.interfaces config.balloon after.balloon refl refl (interval_alike patch config.balloon) in
+    let count = ap (λ (n : ℕ). length config.drives + length config.interfaces + n) (interval_count patch config.balloon) in
     reconfigured config after paused taken refl refl kinds count guest is
 
 -- ---- a device is told of a change
@@ -174,10 +193,10 @@ module _ (config : Config) (paused : Bool) where
       let change : DeviceChange = sectors_change (sectors_of (get saved path)) in
       at_ready number change (shows_by change) guest (few_sectors (get saved path)) is
 
-  pub relimited_ready : (limiter : Option Limiter) (number : Option ℕ) (guest : Option Guest) → ReadyBy config paused guest
-      → ReadyBy config paused (relimited limiter number guest)
-  relimited_ready None number guest is = is
-  relimited_ready (Some l) number guest is = at_ready number (limits_told l) (shows_by (limits_told l)) guest tt is
+  pub relimited_ready : (tells : Limiter → DeviceChange) → ((l : Limiter) → FitsChange (tells l)) → (limiter : Option Limiter)
+      (number : Option ℕ) (guest : Option Guest) → ReadyBy config paused guest → ReadyBy config paused (relimited tells limiter number guest)
+  relimited_ready tells fits None number guest is = is
+  relimited_ready tells fits (Some l) number guest is = at_ready number (tells l) (shows_by (tells l)) guest (fits l) is
 
   pub retargeted_ready : (balloon : Option Balloon) (number : Option ℕ) (guest : Option Guest) → ReadyBy config paused guest
       → ReadyBy config paused (retargeted balloon number guest)

@@ -15,15 +15,17 @@ use Rattle.token_bucket.specs.Rate.{rate_of}
 use Rattle.port_table.specs.declared.state.PortState.{PortState}
 use Rattle.api_calls.specs.declared.balloon.Balloon.{Balloon}
 use Rattle.api_calls.specs.declared.call.Drive.{Drive}
+use Rattle.api_calls.specs.declared.interface.Interface.{Interface}
+use Rattle.api_calls.specs.declared.interface.InterfacePatch.{InterfacePatch}
 use Rattle.api_calls.specs.declared.limiter.BucketConfig.{BucketConfig}
 use Rattle.api_calls.specs.declared.limiter.Limiter.{Limiter}
 use Rattle.api_calls.specs.Drives.{is_root}
 use Rattle.api_calls.specs.Form.{holds, is_id_byte}
 use Rattle.api_calls.specs.Limits.{is_bucket, is_limiter}
 use Rattle.vm_config.specs.declared.config.Config.{Config}
-use Rattle.vm_config.specs.Devices.{Configured, balloon_devices, devices_of, of_balloon, of_drive}
+use Rattle.vm_config.specs.Devices.{Configured, balloon_devices, devices_of, of_balloon, of_drive, of_interface}
 use Rattle.vm_config.specs.Drives.{in_order}
-use Rattle.block_device.specs.Working.{AreSmallLimits, AreSmallOthers, IsSmallBucket}
+use Rattle.rate_gate.specs.Small.{AreSmallLimits, AreSmallOthers, IsSmallBucket}
 use Rattle.balloon_device.proofs.SmallEntries.{none_small}
 use Rattle.guest_devices.specs.declared.change.DeviceChange.{DeviceChange}
 use Rattle.guest_devices.specs.declared.new_device.NewDevice.TheVariants as kinds
@@ -34,10 +36,11 @@ use Rattle.flat_guest.specs.Narrow as narrow
 use Rattle.flat_guest.proofs.Savable.{AreShown, get_all}
 use Rattle.flat_guest.specs.Savable.{IsSizedPort}
 use Rattle.flat_guest.proofs.Widths.{widths_told}
-use Rattle.snap_state.specs.Valid.{is_balloon, is_drive}
-use Rattle.snap_state.proofs.Texts.{all_ascii, bucket_parts, drive_parts, drives_of}
+use Rattle.snap_state.specs.Valid.{is_balloon, is_drive, is_interface}
+use Rattle.snap_state.proofs.Texts.{all_ascii, bucket_parts, drive_parts, drives_of, interface_parts, links_of}
 use Rattle.flat_machine.specs.Balloon.{interval_told, new_balloon, target_in, target_of}
-use Rattle.flat_machine.specs.Limits.{bucket_of, limits_of, limits_told}
+use Rattle.flat_machine.specs.Interfaces.{new_net}
+use Rattle.flat_machine.specs.Limits.{bucket_of, limits_of, limits_told, receives_told, transmits_told}
 use Rattle.flat_machine.specs.Ready.{IsTaken}
 use Rattle.flat_machine.specs.Requests.{device_from, devices_from, drive_from, relimited, resized, retargeted, retimed, sectors_of, shows_by, told_at}
 use Rattle.flat_machine.specs.Widths.{WidthsBy}
@@ -97,8 +100,9 @@ others_small : (o : Option BucketConfig) → holds is_bucket o ≡ true → AreS
 others_small None is = tt
 others_small (Some b) is = bucket_small b is
 
-limits_change_small : (l : Limiter) → is_limiter l ≡ true → IsSmallChange (limits_told l)
-limits_change_small l is =
+-- and in all three places
+both_small : (l : Limiter) → is_limiter l ≡ true → AreSmallOthers (option_map bucket_of l.bandwidth) × AreSmallOthers (option_map bucket_of l.ops)
+both_small l is =
     let both = and_parts (holds is_bucket l.bandwidth) (holds is_bucket l.ops) is in
     (others_small l.bandwidth both.0, others_small l.ops both.1)
 
@@ -147,6 +151,23 @@ drives_narrow saved drives are =
     (All-filter is_root P drives all) (All-filter (λ d. not (is_root d)) P drives all) in
     every P (λ (d : Drive). IsNarrowNew (drive_from saved d)) (in_order drives) (drive_narrow saved) ordered
 
+interface_narrow : (i : Interface) → is_interface i ≡ true → IsNarrowNew (kinds.Net (new_net i))
+interface_narrow i is =
+    let own = interface_parts i is in
+    λ yes. record {
+      text = (omega arith, All-nil IsByte);
+      rx = limits_small i.rx_rate_limiter own.receives;
+      tx = limits_small i.tx_rate_limiter own.transmits;
+    }
+
+interfaces_narrow : (saved : Saved) (interfaces : List Interface) → list_all is_interface interfaces ≡ true
+    → All (λ (i : Interface). IsNarrowNew (device_from saved (of_interface i))) interfaces
+interfaces_narrow saved [] are = All-nil (λ (i : Interface). IsNarrowNew (device_from saved (of_interface i)))
+interfaces_narrow saved (i ∷ interfaces) are =
+    let both = and_parts (is_interface i) (list_all is_interface interfaces) are in
+    All-cons (λ (i : Interface). IsNarrowNew (device_from saved (of_interface i))) i interfaces (interface_narrow i both.0)
+    (interfaces_narrow saved interfaces both.1)
+
 balloons_narrow : (saved : Saved) (mib : ℕ) (balloon : Option Balloon) → holds (is_balloon mib) balloon ≡ true
     → All (λ (c : Configured). IsNarrowNew (device_from saved c)) (balloon_devices balloon)
 balloons_narrow saved mib None is = All-nil (λ (c : Configured). IsNarrowNew (device_from saved c))
@@ -158,10 +179,13 @@ pub devices_narrow : (config : Config) (saved : Saved) → IsTaken config → Al
 devices_narrow config saved taken =
     let P : Configured → Type 0 = λ c. IsNarrowNew (device_from saved c) in
     let drives = drives_narrow saved config.drives (drives_of config.drives taken.drives).each in
+    let interfaces = interfaces_narrow saved config.interfaces (links_of config.interfaces taken.interfaces) in
     let balloon = balloons_narrow saved config.machine.mem_size_mib config.balloon taken.balloon in
     All-map IsNarrowNew (device_from saved) (devices_of config)
-    (All-append P (map of_drive (in_order config.drives)) (balloon_devices config.balloon)
-    (All-map P of_drive (in_order config.drives) drives) balloon)
+    (All-append P (map of_drive (in_order config.drives)) (map of_interface config.interfaces ++ balloon_devices config.balloon)
+    (All-map P of_drive (in_order config.drives) drives)
+    (All-append P (map of_interface config.interfaces) (balloon_devices config.balloon)
+    (All-map P of_interface config.interfaces interfaces) balloon))
 
 -- ---- what a PATCH tells
 
@@ -198,11 +222,27 @@ module _ (saved : Saved) (config : Config) (few : 256 * config.machine.mem_size_
       told_small number (sectors_change sectors) (shows_by (sectors_change sectors)) guest (few_sectors (get saved path)) tt
       (λ port bytes. all_bytes 8 sectors) is
 
+  -- other limits, told so
+  relimits_small : (tells : Limiter → DeviceChange) → ((l : Limiter) → FitsChange (tells l))
+      → ((l : Limiter) → is_limiter l ≡ true → IsSmallChange (tells l)) → ((l : Limiter) (port : Option PortState) → AreShown (shows_by (tells l) port))
+      → (limiter : Option Limiter) (number : Option ℕ) (guest : Option Guest) → holds is_limiter limiter ≡ true
+      → WidthsBy saved config guest → WidthsBy saved config (relimited tells limiter number guest)
+  relimits_small tells fit small shown None number guest fits is = is
+  relimits_small tells fit small shown (Some l) number guest fits is =
+      told_small number (tells l) (shows_by (tells l)) guest (fit l) (small l fits) (λ port bytes. shown l port) is
+
   pub relimited_small : (limiter : Option Limiter) (number : Option ℕ) (guest : Option Guest) → holds is_limiter limiter ≡ true
-      → WidthsBy saved config guest → WidthsBy saved config (relimited limiter number guest)
-  relimited_small None number guest fits is = is
-  relimited_small (Some l) number guest fits is =
-      told_small number (limits_told l) (shows_by (limits_told l)) guest tt (limits_change_small l fits) (λ port bytes. tt) is
+      → WidthsBy saved config guest → WidthsBy saved config (relimited limits_told limiter number guest)
+  relimited_small limiter number guest fits is = relimits_small limits_told (λ l. tt) both_small (λ l port. tt) limiter number guest fits is
+
+  pub interface_small : (patch : InterfacePatch) (number : Option ℕ) (guest : Option Guest) → holds is_limiter patch.rx_rate_limiter ≡ true
+      → holds is_limiter patch.tx_rate_limiter ≡ true → WidthsBy saved config guest
+      → WidthsBy saved config
+      (relimited transmits_told patch.tx_rate_limiter number (relimited receives_told patch.rx_rate_limiter number guest))
+  interface_small patch number guest receives transmits is =
+      relimits_small transmits_told (λ l. tt) both_small (λ l port. tt) patch.tx_rate_limiter number
+      (relimited receives_told patch.rx_rate_limiter number guest) transmits
+      (relimits_small receives_told (λ l. tt) both_small (λ l port. tt) patch.rx_rate_limiter number guest receives is)
 
   pub retargeted_small : (balloon : Option Balloon) (number : Option ℕ) (guest : Option Guest)
       → holds (is_balloon config.machine.mem_size_mib) balloon ≡ true → WidthsBy saved config guest

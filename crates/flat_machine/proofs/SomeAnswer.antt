@@ -28,7 +28,7 @@ use Rattle.flat_machine.specs.Outcome.Outcome.{Answered}
 use Rattle.flat_machine.specs.Items.{TalkLines, response_lines}
 use Rattle.flat_machine.specs.Machine.{Machine, phase_of}
 use Rattle.flat_machine.specs.Ready.{HasFields, Ready}
-use Rattle.flat_machine.specs.Requests.{AnswersBy, Creates, LeavesBy, Responds, Restores, RequestStep, Stores, allowed, carried, configured, created, disk_of, halted, image_of, next_identity, parent_in, patched_balloon, patched_drive, patched_statistics, respond, started_from}
+use Rattle.flat_machine.specs.Requests.{AnswersBy, Creates, LeavesBy, Responds, Restores, RequestStep, Stores, allowed, carried, configured, created, disk_of, halted, image_of, next_identity, parent_in, patched_balloon, patched_drive, patched_interface, patched_statistics, respond, started_from}
 use Rattle.flat_machine.proofs.Numbered.{create_numbered}
 use Rattle.flat_machine.proofs.Ready.{can_be_copied, request_ready}
 use Rattle.flat_machine.proofs.Telling.{tells_some}
@@ -67,6 +67,9 @@ some_change : (it : Change) (m : Machine) (given : Next) → allowed m given ≡
 some_change (change.BootSource source) m given is ready fields = ([], configured m (change.BootSource source), (refl, refl))
 some_change (change.PutDrive drive) m given is ready fields = ([], configured m (change.PutDrive drive), (refl, refl))
 some_change (change.PatchDrive patch) m given is ready fields = ([], configured (patched_drive m patch) (change.PatchDrive patch), (refl, refl))
+some_change (change.PutInterface interface) m given is ready fields = ([], configured m (change.PutInterface interface), (refl, refl))
+some_change (change.PatchInterface patch) m given is ready fields =
+    ([], configured (patched_interface m patch) (change.PatchInterface patch), (refl, refl))
 some_change (change.MachineConfig machine) m given is ready fields = ([], configured m (change.MachineConfig machine), (refl, refl))
 some_change (change.PutBalloon balloon) m given is ready fields = ([], configured m (change.PutBalloon balloon), (refl, refl))
 some_change (change.PatchBalloon patch) m given is ready fields = ([], configured (patched_balloon m patch) (change.PatchBalloon patch), (refl, refl))

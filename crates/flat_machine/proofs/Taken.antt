@@ -15,6 +15,7 @@ use Rattle.api_calls.specs.declared.balloon.StatisticsPatch.{StatisticsPatch}
 use Rattle.api_calls.specs.declared.call.BootSource.{BootSource}
 use Rattle.api_calls.specs.declared.call.Drive.{Drive}
 use Rattle.api_calls.specs.declared.call.MachineConfig.{MachineConfig}
+use Rattle.api_calls.specs.declared.interface.Interface.{Interface}
 use Rattle.api_calls.specs.Call.{call_of}
 use Rattle.api_calls.specs.Form.{holds, is_path, is_short_text}
 use Rattle.api_calls.proofs.Asked.{IsAsked, asked_is}
@@ -38,6 +39,7 @@ use Rattle.flat_machine.specs.Machine.{Machine, phase_of}
 use Rattle.flat_machine.specs.Ready.{IsFitting, IsSourceBy, IsTaken}
 use Rattle.flat_machine.proofs.Allowed.{IsAllowed, not_refused, same_change}
 use Rattle.flat_machine.proofs.Drives.{length-patched, patch_told, put_told}
+use Rattle.flat_machine.proofs.Interfaces.{interface_put, limits_patched, many_patched}
 
 -- ---- within bounds
 
@@ -124,22 +126,24 @@ interval_patched mib patch (Some b) fits was =
     and_from _ _ parts.0 (lt-ltb patch.stats_polling_interval_s (2 ^ 16) fits)
 
 -- a patched balloon is as many devices
-amount_room : (drives : List Drive) (patch : BalloonPatch) (balloon : Option Balloon)
-    → has_room drives (with_amount patch balloon) ≡ has_room drives balloon
-amount_room drives patch None = refl
-amount_room drives patch (Some b) = refl
+amount_room : (drives : List Drive) (interfaces : List Interface) (patch : BalloonPatch) (balloon : Option Balloon)
+    → has_room drives interfaces (with_amount patch balloon) ≡ has_room drives interfaces balloon
+amount_room drives interfaces patch None = refl
+amount_room drives interfaces patch (Some b) = refl
 
-interval_room : (drives : List Drive) (patch : StatisticsPatch) (balloon : Option Balloon)
-    → has_room drives (with_interval patch balloon) ≡ has_room drives balloon
-interval_room drives patch None = refl
-interval_room drives patch (Some b) = refl
+interval_room : (drives : List Drive) (interfaces : List Interface) (patch : StatisticsPatch) (balloon : Option Balloon)
+    → has_room drives interfaces (with_interval patch balloon) ≡ has_room drives interfaces balloon
+interval_room drives interfaces patch None = refl
+interval_room drives interfaces patch (Some b) = refl
 
 -- there is room for a balloon where there is one, or room for one device more
-balloon_room : (drives : List Drive) (new : Balloon) (old : Option Balloon) → has_room drives old ≡ true
-    → (is_none old && nat_le 16 (count_in drives old)) ≡ false → has_room drives (Some new) ≡ true
-balloon_room drives new None fits room =
-    let less = leb-false 16 (count_in drives None) room in le-leb (count_in drives (Some new)) 16 (omega (arith, less))
-balloon_room drives new (Some b) fits room = fits
+balloon_room : (drives : List Drive) (interfaces : List Interface) (new : Balloon) (old : Option Balloon)
+    → has_room drives interfaces old ≡ true → (is_none old && nat_le 16 (count_in drives interfaces old)) ≡ false
+    → has_room drives interfaces (Some new) ≡ true
+balloon_room drives interfaces new None fits room =
+    let less = leb-false 16 (count_in drives interfaces None) room in
+    le-leb (count_in drives interfaces (Some new)) 16 (omega (arith, less))
+balloon_room drives interfaces new (Some b) fits room = fits
 
 paths_are : (path : Option (List ℕ)) → holds is_path path ≡ true → are_paths path ≡ true
 paths_are None is = refl
@@ -157,9 +161,14 @@ module _ (p : Phase) (config : Config) (ids : Ids) (taken : IsTaken config) wher
       (and_from (is_path source.kernel_image_path) (are_paths source.initrd_path) asked.0 (paths_are source.initrd_path asked.1))
       (and_from (nat_le (length source.boot_args) 2048) (is_utf8 source.boot_args) (le-leb (length source.boot_args) 2048 asked.2) asked.3)
   call_fits (call.PutDrive drive) asked own =
-      put_told drive config.drives config.balloon taken.drives taken.room (and_from _ _ (and_from _ _ asked.0 asked.1) asked.2)
+      put_told drive config.drives config.interfaces config.balloon taken.drives taken.room (and_from _ _ (and_from _ _ asked.0 asked.1) asked.2)
       (first_row _ _ _ _ own) (second_row _ _ _ _ own)
   call_fits (call.PatchDrive patch) asked own = (asked.1, asked.2)
+  call_fits (call.PutInterface interface) asked own =
+      interface_put config.drives interface config.interfaces config.balloon taken.interfaces taken.room
+      (and_from _ _ (and_from _ _ (and_from _ _ (and_from _ _ asked.0 asked.1) asked.2) asked.3.0) asked.3.1)
+      (only_row _ _ own)
+  call_fits (call.PatchInterface patch) asked own = asked.1
   call_fits (call.PutMachineConfig machine) asked own = (
     machine_is machine asked.0 asked.1,
     amount_fits machine.mem_size_mib config.machine.mem_size_mib config.balloon (within _ _ (only_row _ _ own)) taken.balloon,
@@ -174,7 +183,7 @@ module _ (p : Phase) (config : Config) (ids : Ids) (taken : IsTaken config) wher
   call_fits (call.PutBalloon balloon) asked own = (
     and_from _ _ (le-leb balloon.amount_mib config.machine.mem_size_mib (within _ _ (first_row _ _ _ _ own)))
         (lt-ltb balloon.stats_polling_interval_s (2 ^ 16) asked),
-    balloon_room config.drives balloon config.balloon taken.room (second_row _ _ _ _ own),
+    balloon_room config.drives config.interfaces balloon config.balloon taken.room (second_row _ _ _ _ own),
   )
   call_fits (call.PatchBalloon patch) asked own = within config.machine.mem_size_mib patch.amount_mib (second_row _ _ _ _ own)
   call_fits (call.PatchStatistics patch) asked own = asked
@@ -210,6 +219,7 @@ same_taken : (config : Config) → IsTaken config → IsTaken (record config { c
 same_taken config taken = record {
   source = taken.source;
   drives = taken.drives;
+  interfaces = taken.interfaces;
   machine = taken.machine;
   balloon = taken.balloon;
   room = taken.room;
@@ -219,6 +229,7 @@ pub changed_taken : (config : Config) (it : Change) → IsTaken config → IsFit
 changed_taken config (change.BootSource source) taken fit = record {
   source = fit;
   drives = taken.drives;
+  interfaces = taken.interfaces;
   machine = taken.machine;
   balloon = taken.balloon;
   room = taken.room;
@@ -226,6 +237,7 @@ changed_taken config (change.BootSource source) taken fit = record {
 changed_taken config (change.PutDrive drive) taken fit = record {
   source = taken.source;
   drives = fit.0;
+  interfaces = taken.interfaces;
   machine = taken.machine;
   balloon = taken.balloon;
   room = fit.1;
@@ -233,15 +245,36 @@ changed_taken config (change.PutDrive drive) taken fit = record {
 changed_taken config (change.PatchDrive patch) taken fit = record {
   source = taken.source;
   drives = patch_told patch config.drives taken.drives fit.0 fit.1;
+  interfaces = taken.interfaces;
   machine = taken.machine;
   balloon = taken.balloon;
   room =
       let many = length-patched patch config.drives in
       le-leb (device_count (changed config (change.PatchDrive patch))) 16 (omega (arith, many, leb-true (device_count config) 16 taken.room));
 }
+changed_taken config (change.PutInterface interface) taken fit = record {
+  source = taken.source;
+  drives = taken.drives;
+  interfaces = fit.0;
+  machine = taken.machine;
+  balloon = taken.balloon;
+  room = fit.1;
+}
+changed_taken config (change.PatchInterface patch) taken fit = record {
+  source = taken.source;
+  drives = taken.drives;
+  interfaces = limits_patched patch config.interfaces taken.interfaces fit.0 fit.1;
+  machine = taken.machine;
+  balloon = taken.balloon;
+  room =
+      let many = many_patched patch config.interfaces in
+      le-leb (device_count (changed config (change.PatchInterface patch))) 16
+      (omega (arith, many, leb-true (device_count config) 16 taken.room));
+}
 changed_taken config (change.MachineConfig machine) taken fit = record {
   source = taken.source;
   drives = taken.drives;
+  interfaces = taken.interfaces;
   machine = fit.0;
   balloon = fit.1;
   room = taken.room;
@@ -249,6 +282,7 @@ changed_taken config (change.MachineConfig machine) taken fit = record {
 changed_taken config (change.PutBalloon balloon) taken fit = record {
   source = taken.source;
   drives = taken.drives;
+  interfaces = taken.interfaces;
   machine = taken.machine;
   balloon = fit.0;
   room = fit.1;
@@ -256,16 +290,18 @@ changed_taken config (change.PutBalloon balloon) taken fit = record {
 changed_taken config (change.PatchBalloon patch) taken fit = record {
   source = taken.source;
   drives = taken.drives;
+  interfaces = taken.interfaces;
   machine = taken.machine;
   balloon = amount_patched config.machine.mem_size_mib patch config.balloon fit taken.balloon;
-  room = amount_room config.drives patch config.balloon ∙ taken.room;
+  room = amount_room config.drives config.interfaces patch config.balloon ∙ taken.room;
 }
 changed_taken config (change.PatchStatistics patch) taken fit = record {
   source = taken.source;
   drives = taken.drives;
+  interfaces = taken.interfaces;
   machine = taken.machine;
   balloon = interval_patched config.machine.mem_size_mib patch config.balloon fit taken.balloon;
-  room = interval_room config.drives patch config.balloon ∙ taken.room;
+  room = interval_room config.drives config.interfaces patch config.balloon ∙ taken.room;
 }
 changed_taken config (change.PutMetadata body) taken fit = taken
 changed_taken config (change.PatchMetadata patch) taken fit = taken
@@ -285,6 +321,7 @@ pub configured_taken : (config : Config) → IsConfigured config → IsTaken con
 configured_taken config is = record {
   source = source_taken config.boot_source is.source;
   drives = is.drives;
+  interfaces = is.interfaces;
   machine = is.machine;
   balloon = is.balloon;
   room = is.room;
@@ -296,6 +333,7 @@ taken_configured config source there taken = record {
       subst (λ (o : Option BootSource). is_source (source_of o) ≡ true) (sym there)
       (subst (λ (o : Option BootSource). IsSourceBy o) there taken.source);
   drives = taken.drives;
+  interfaces = taken.interfaces;
   machine = taken.machine;
   balloon = taken.balloon;
   room = taken.room;
@@ -304,7 +342,7 @@ taken_configured config source there taken = record {
 -- ---- at first, and behind a load
 
 pub default_taken : IsTaken default_config
-default_taken = record { source = tt; drives = refl; machine = refl; balloon = refl; room = refl }
+default_taken = record { source = tt; drives = refl; interfaces = refl; machine = refl; balloon = refl; room = refl }
 
 -- what goes on from a copy that a file can have; its bytes don't matter
 pub carried_taken : (tracking : Bool) (copy : StateCopy) → IsTrue (is_valid copy) → IsTaken (carried_config tracking copy.configuration)

@@ -29,6 +29,7 @@ use Rattle.api_calls.specs.declared.call.VmState.TheVariants.{Paused, Resumed}
 use Rattle.api_calls.specs.declared.balloon.BalloonPatch.{BalloonPatch}
 use Rattle.api_calls.specs.declared.balloon.StatisticsPatch.{StatisticsPatch}
 use Rattle.api_calls.specs.declared.call.DrivePatch.{DrivePatch}
+use Rattle.api_calls.specs.declared.interface.InterfacePatch.{InterfacePatch}
 use Rattle.api_calls.specs.Form.{holds}
 use Rattle.api_calls.specs.Limits.{is_limiter}
 use Rattle.vm_config.specs.declared.config.Config.{Config}
@@ -36,7 +37,7 @@ use Rattle.vm_config.specs.declared.change.Change.{Change}
 use Rattle.vm_config.specs.declared.change.Change.TheVariants as change
 use Rattle.vm_config.specs.Changes.{changed}
 use Rattle.vm_config.specs.Drives.{device_of}
-use Rattle.vm_config.specs.Devices.{balloon_device}
+use Rattle.vm_config.specs.Devices.{balloon_device, interface_device}
 use Rattle.api_rules.specs.Table.{has_started}
 use Rattle.devtree.proofs.Bytes.{tree_small}
 use Rattle.script_text.specs.declared.item.Item.{Item}
@@ -68,14 +69,14 @@ use Rattle.flat_machine.specs.Outcome.Outcome.{Answered, Failed, NoMemory}
 use Rattle.flat_machine.specs.Machine.{Machine, drained, drained_guest, new_machine, phase_of, running_by}
 use Rattle.flat_machine.specs.Items.{ItemStep, MemoryLine, RegisterLine, RepliesLine, StepsLine, Talks}
 use Rattle.flat_machine.specs.Ready.{HasFields, IsTaken, Ready, ReadyBy}
-use Rattle.flat_machine.specs.Requests.{Creates, Leaves, LeavesBy, RequestStep, Restores, Stores, allowed, carried, configured, created, devices_from, disk_by, disk_of, halted, image_by, image_of, initrd_name, initrd_place, loads_from, next_identity, parent_in, patched_drive, start_refusal, started_from, patched_balloon, patched_statistics, resized}
+use Rattle.flat_machine.specs.Requests.{Creates, Leaves, LeavesBy, RequestStep, Restores, Stores, allowed, carried, configured, created, devices_from, disk_by, disk_of, halted, image_by, image_of, initrd_name, initrd_place, loads_from, next_identity, parent_in, patched_drive, patched_interface, start_refusal, started_from, patched_balloon, patched_statistics, resized}
 use Rattle.flat_machine.specs.Widths.{HasWidths, IsSmallItem, WidthsBy}
 use Rattle.flat_machine.proofs.Allowed.{IsAllowed, allowed_is, not_refused}
 use Rattle.flat_machine.proofs.Between.{allowed_later, by_either, leaves_of, started}
 use Rattle.flat_machine.proofs.Ready.{guest_ready, request_ready, reset_ready}
 use Rattle.flat_machine.proofs.Sizes.{booted_size, start_fits}
 use Rattle.flat_machine.proofs.Taken.{bounded, allowed_fits, changed_taken}
-use Rattle.flat_machine.proofs.SmallDevices.{devices_narrow, relimited_small, resized_small, retargeted_small, retimed_small}
+use Rattle.flat_machine.proofs.SmallDevices.{devices_narrow, interface_small, relimited_small, resized_small, retargeted_small, retimed_small}
 use Rattle.flat_machine.proofs.TakenTexts.{taken_args}
 
 -- ---- one that is this one
@@ -176,6 +177,17 @@ patch_widths m patch ready widths fits =
           (resized_small m.saved after (few_pages m ready) patch.path_on_host number m.guest same);
     }
 
+links_widths : (m : Machine) (patch : InterfacePatch) → Ready m → HasWidths m → holds is_limiter patch.rx_rate_limiter ≡ true
+    → holds is_limiter patch.tx_rate_limiter ≡ true → HasWidths (configured (patched_interface m patch) (change.PatchInterface patch))
+links_widths m patch ready widths receives transmits =
+    let after : Config = changed m.config (change.PatchInterface patch) in
+    record {
+      lineage = widths.lineage;
+      guest =
+          interface_small m.saved after (few_pages m ready) patch (interface_device m.config patch.iface_id) m.guest receives transmits
+          (same_widths m.saved m.config after m.guest refl widths.guest);
+    }
+
 amount_widths : (m : Machine) (patch : BalloonPatch) → Ready m → HasWidths m → IsTaken (changed m.config (change.PatchBalloon patch))
     → HasWidths (configured (patched_balloon m patch) (change.PatchBalloon patch))
 amount_widths m patch ready widths taken =
@@ -260,6 +272,12 @@ leaves_widths (change.PutBalloon balloon) m n ready widths known is =
 leaves_widths (change.PatchDrive patch) m n ready widths known is =
     let fits = allowed_fits m (change.PatchDrive patch) ready.taken known in
     widths_is (configured (patched_drive m patch) (change.PatchDrive patch)) n is (patch_widths m patch ready widths fits.1)
+leaves_widths (change.PutInterface interface) m n ready widths known is =
+    let it : Change = change.PutInterface interface in
+    widths_is (configured m it) n is (configures m it widths (λ on. allowed_later m it on known))
+leaves_widths (change.PatchInterface patch) m n ready widths known is =
+    let fits = allowed_fits m (change.PatchInterface patch) ready.taken known in
+    widths_is (configured (patched_interface m patch) (change.PatchInterface patch)) n is (links_widths m patch ready widths fits.0 fits.1)
 leaves_widths (change.PatchBalloon patch) m n ready widths known is =
     let it : Change = change.PatchBalloon patch in
     let taken = changed_taken m.config it ready.taken (allowed_fits m it ready.taken known) in

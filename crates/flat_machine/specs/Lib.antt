@@ -1,6 +1,7 @@
 pub mod Balloon
 pub mod Between
 pub mod Given
+pub mod Interfaces
 pub mod Items
 pub mod Limits
 pub mod Machine

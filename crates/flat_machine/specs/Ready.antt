@@ -5,17 +5,19 @@ use Rattle.vm_types.specs.declared.ids.ActorId.TheVariants.{Timer}
 use Rattle.api_calls.specs.declared.balloon.Balloon.{Balloon}
 use Rattle.api_calls.specs.declared.call.BootSource.{BootSource}
 use Rattle.api_calls.specs.declared.call.Drive.{Drive}
+use Rattle.api_calls.specs.declared.interface.Interface.{Interface}
 use Rattle.api_calls.specs.Form.{holds, is_path}
 use Rattle.api_calls.specs.Limits.{is_limiter}
 use Rattle.vm_config.specs.declared.config.Config.{Config}
 use Rattle.vm_config.specs.declared.change.Change.{Change}
 use Rattle.vm_config.specs.declared.change.Change.TheVariants as change
 use Rattle.vm_config.specs.Drives.{put_drive}
+use Rattle.vm_config.specs.Interfaces.{put_interface}
 use Rattle.guest_memory.specs.Ram.{page_size}
 use Rattle.flat_guest.specs.Changes.{reset_guest}
 use Rattle.flat_guest.specs.Guest.{Guest}
 use Rattle.flat_guest.specs.Sound.{IsSound}
-use Rattle.snap_state.specs.Valid.{are_drives, has_room, is_balloon, is_machine, is_source, is_valid}
+use Rattle.snap_state.specs.Valid.{are_drives, are_interfaces, has_room, is_balloon, is_machine, is_source, is_valid}
 use Rattle.snap_state.specs.declared.copy.StateCopy.{StateCopy}
 use Rattle.file_format.specs.Identities.{is_numbered}
 use Rattle.file_format.specs.Versions.{current_version}
@@ -31,29 +33,38 @@ IsSourceBy None = Unit {0}
 IsSourceBy (Some source) = is_source (source_of (Some source)) ≡ true
 
 -- what is configured is as the API takes it: the boot source, if there is one; the drives, which are told apart, and of
--- which one at most is the root drive; how many harts and how much memory there is; the balloon, if there is one, which takes no
+-- which one at most is the root drive; the interfaces, which are told apart; how many harts and how much memory there is; the balloon, if there is one, which takes no
 -- more than that; and no more devices than there may be
 pub record IsTaken (config : Config) : Type 0 where
   pub source : IsSourceBy config.boot_source
   pub drives : are_drives config.drives ≡ true
+  pub interfaces : are_interfaces config.interfaces ≡ true
   pub machine : is_machine config.machine ≡ true
   pub balloon : holds (is_balloon config.machine.mem_size_mib) config.balloon ≡ true
-  pub room : has_room config.drives config.balloon ≡ true
+  pub room : has_room config.drives config.interfaces config.balloon ≡ true
 
--- these drives fit beside a balloon, if there is one
-abbrev pub AreFitting : List Drive → Option Balloon → Type 0
-AreFitting drives balloon = (are_drives drives ≡ true) × (has_room drives balloon ≡ true)
+-- these drives fit beside the interfaces, and a balloon, if there is one
+abbrev pub AreFitting : List Drive → List Interface → Option Balloon → Type 0
+AreFitting drives interfaces balloon = (are_drives drives ≡ true) × (has_room drives interfaces balloon ≡ true)
+
+-- and so do these interfaces
+abbrev pub AreLinked : List Drive → List Interface → Option Balloon → Type 0
+AreLinked drives interfaces balloon = (are_interfaces interfaces ≡ true) × (has_room drives interfaces balloon ≡ true)
 
 -- a change leaves it so
 abbrev pub IsFitting : Config → Change → Type 0
 IsFitting config (change.BootSource source) = is_source (source_of (Some source)) ≡ true
-IsFitting config (change.PutDrive drive) = AreFitting (put_drive config.drives drive) config.balloon
+IsFitting config (change.PutDrive drive) = AreFitting (put_drive config.drives drive) config.interfaces config.balloon
 IsFitting config (change.PatchDrive patch) =
     (holds is_path patch.path_on_host ≡ true) × (holds is_limiter patch.rate_limiter ≡ true)
+IsFitting config (change.PutInterface interface) =
+    AreLinked config.drives (put_interface config.interfaces interface) config.balloon
+IsFitting config (change.PatchInterface patch) =
+    (holds is_limiter patch.rx_rate_limiter ≡ true) × (holds is_limiter patch.tx_rate_limiter ≡ true)
 IsFitting config (change.MachineConfig machine) =
     (is_machine machine ≡ true) × (holds (is_balloon machine.mem_size_mib) config.balloon ≡ true)
 IsFitting config (change.PutBalloon balloon) =
-    (is_balloon config.machine.mem_size_mib balloon ≡ true) × (has_room config.drives (Some balloon) ≡ true)
+    (is_balloon config.machine.mem_size_mib balloon ≡ true) × (has_room config.drives config.interfaces (Some balloon) ≡ true)
 IsFitting config (change.PatchBalloon patch) = patch.amount_mib ≤ config.machine.mem_size_mib
 IsFitting config (change.PatchStatistics patch) = patch.stats_polling_interval_s < 2 ^ 16
 IsFitting config it = Unit {0}

@@ -25,6 +25,7 @@ use Rattle.api_calls.specs.declared.call.SnapshotType.{SnapshotType}
 use Rattle.api_calls.specs.declared.call.SnapshotType.TheVariants as snapshot
 use Rattle.api_calls.specs.declared.call.SnapshotLoad.{SnapshotLoad}
 use Rattle.api_calls.specs.declared.call.VmState.TheVariants.{Paused, Resumed}
+use Rattle.api_calls.specs.declared.interface.InterfacePatch.{InterfacePatch}
 use Rattle.api_calls.specs.declared.limiter.Limiter.{Limiter}
 use Rattle.api_calls.specs.Call.{call_of, ◌>>=◌}
 use Rattle.metadata_store.specs.Store.{patched, put}
@@ -32,7 +33,7 @@ use Rattle.vm_config.specs.declared.config.Config.{Config}
 use Rattle.vm_config.specs.declared.change.Change.{Change}
 use Rattle.vm_config.specs.declared.change.Change.TheVariants as change
 use Rattle.vm_config.specs.Changes.{changed, with_amount, with_interval}
-use Rattle.vm_config.specs.Devices.{Configured, balloon_device, devices_of, of_balloon, of_drive}
+use Rattle.vm_config.specs.Devices.{Configured, balloon_device, devices_of, interface_device, of_balloon, of_drive, of_interface}
 use Rattle.vm_config.specs.Drives.{device_of}
 use Rattle.vm_config.specs.Texts.{Told}
 use Rattle.api_rules.specs.declared.answer.Answer.{Answer}
@@ -63,7 +64,8 @@ use Rattle.flat_snapshot.specs.Copies.{IsCopyOf}
 use Rattle.flat_snapshot.specs.Files.{calls_of, head_of, saved_pages, state_file}
 use Rattle.flat_snapshot.specs.Found.{Snapshot, found}
 use Rattle.flat_machine.specs.Balloon.{TellsBalloon, interval_told, new_balloon, target_in}
-use Rattle.flat_machine.specs.Limits.{limits_of, limits_told}
+use Rattle.flat_machine.specs.Interfaces.{new_net}
+use Rattle.flat_machine.specs.Limits.{limits_of, limits_told, receives_told, transmits_told}
 use Rattle.flat_machine.specs.Outcome.{Left, Outcome, nothing_left}
 use Rattle.flat_machine.specs.Outcome.Outcome.{Answered, Failed, NoMemory}
 use Rattle.flat_machine.specs.Machine.{Machine, phase_of}
@@ -203,6 +205,7 @@ drive_from saved d = kinds.Block (record {
 -- the devices by their numbers
 abbrev pub device_from : Saved → Configured → NewDevice
 device_from saved (of_drive d) = drive_from saved d
+device_from saved (of_interface i) = kinds.Net (new_net i)
 device_from saved (of_balloon b) = kinds.Balloon (new_balloon b)
 
 abbrev pub devices_from : Config → Saved → List NewDevice
@@ -234,16 +237,24 @@ resized None number saved guest = guest
 resized (Some path) number saved guest =
     told_at number (sectors_change (sectors_of (get saved path))) (shows_by (sectors_change (sectors_of (get saved path)))) guest
 
--- and one whose drive has other limits is told of their buckets
-abbrev pub relimited : Option Limiter → Option ℕ → Option Guest → Option Guest
-relimited None number guest = guest
-relimited (Some l) number guest = told_at number (limits_told l) (shows_by (limits_told l)) guest
+-- and one that has other limits is told so of their buckets
+abbrev pub relimited : (Limiter → DeviceChange) → Option Limiter → Option ℕ → Option Guest → Option Guest
+relimited tells None number guest = guest
+relimited tells (Some l) number guest = told_at number (tells l) (shows_by (tells l)) guest
 
 abbrev pub patched_drive : Machine → DrivePatch → Machine
 patched_drive m patch = record m {
   guest =
-      relimited patch.rate_limiter (device_of m.config.drives patch.drive_id)
+      relimited limits_told patch.rate_limiter (device_of m.config.drives patch.drive_id)
       (resized patch.path_on_host (device_of m.config.drives patch.drive_id) m.saved m.guest);
+}
+
+-- the device of an interface is told of the limits of what it receives, and then of what it transmits
+abbrev pub patched_interface : Machine → InterfacePatch → Machine
+patched_interface m patch = record m {
+  guest =
+      relimited transmits_told patch.tx_rate_limiter (interface_device m.config patch.iface_id)
+      (relimited receives_told patch.rx_rate_limiter (interface_device m.config patch.iface_id) m.guest);
 }
 
 -- a balloon that is to take so much is told so by its port, whether or not it took as much before
@@ -332,6 +343,8 @@ Leaves m (change.BootSource source) n = n ≡ configured m (change.BootSource so
 Leaves m (change.MachineConfig machine) n = n ≡ configured m (change.MachineConfig machine)
 Leaves m (change.PutDrive drive) n = n ≡ configured m (change.PutDrive drive)
 Leaves m (change.PatchDrive patch) n = n ≡ configured (patched_drive m patch) (change.PatchDrive patch)
+Leaves m (change.PutInterface interface) n = n ≡ configured m (change.PutInterface interface)
+Leaves m (change.PatchInterface patch) n = n ≡ configured (patched_interface m patch) (change.PatchInterface patch)
 Leaves m (change.PutBalloon balloon) n = n ≡ configured m (change.PutBalloon balloon)
 Leaves m (change.PatchBalloon patch) n = n ≡ configured (patched_balloon m patch) (change.PatchBalloon patch)
 Leaves m (change.PatchStatistics patch) n = n ≡ configured (patched_statistics m patch) (change.PatchStatistics patch)

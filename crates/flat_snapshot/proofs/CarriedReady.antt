@@ -204,6 +204,7 @@ module _ (copy : StateCopy) (bytes : List ℕ) (tracking : Bool) (valid : IsTrue
         configured = record {
           source = rules.source;
           drives = rules.drives;
+          interfaces = rules.interfaces;
           machine = machine_parts.0;
           balloon = rules.balloon;
           room = rules.room;

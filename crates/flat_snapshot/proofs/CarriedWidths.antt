@@ -17,7 +17,7 @@ use Rattle.guest_devices.proofs.Narrow.{narrow_at}
 use Rattle.guest_devices.proofs.Placed.{kept_bounded, kept_state}
 use Rattle.flat_guest.specs.Narrow.{AreNarrowDevices, HasWidths}
 use Rattle.snap_devices.specs.Devices.{device}
-use Rattle.snap_devices.proofs.BalloonNarrow.{HoldsBytes, device_narrow}
+use Rattle.snap_devices.proofs.DeviceNarrow.{HoldsBytes, device_narrow}
 use Rattle.snap_state.specs.declared.copy.StateCopy.{StateCopy}
 use Rattle.snap_state.specs.declared.file.Saved.{Saved}
 use Rattle.snap_state.specs.Copies.{devices, state_copy}

@@ -2,7 +2,7 @@
 use Rattle.std.proofs.Common.{◌≡◌, ◌≤◌, ◌<◌, ◌^◌, ℕ, suc, ◌+◌, ◌*◌, ◌==◌, not, nat_lt, if◌then◌else◌, true, refl, sym, ap, subst, List, [], ◌∷◌, length, map, Option, Some, None, slice_get, arith}
 use Rattle.std.specs.Prelude.{IsTrue}
 use Rattle.std.specs.List.{All}
-use Rattle.std.proofs.lemmas.Bool.{and_parts, eqb-true, le-leb, ltb-true}
+use Rattle.std.proofs.lemmas.Bool.{and_parts, eqb-true, le-leb, leb-true, ltb-true}
 use Rattle.std.proofs.lemmas.List.Elements.{All-cons, All-nil}
 use Rattle.vm_types.specs.declared.identity.Identity.{Identity}
 use Rattle.vm_types.specs.declared.ids.ActorId.{ActorId}
@@ -17,6 +17,7 @@ use Rattle.file_format.proofs.Fitting.{fits32, fits64, fits_bytes, fits_flag, fi
 use Rattle.guest_memory.specs.Ram.{page_size}
 use Rattle.port_table.specs.declared.state.PortState.{PortState}
 use Rattle.port_table.specs.Window.{most_ports}
+use Rattle.vm_config.specs.Devices.{count_in}
 use Rattle.rv_supervisor.specs.declared.regs.Regs.{Regs}
 use Rattle.hart_trace.specs.Kept.{IsKept}
 use Rattle.hart_trace.specs.States.{Hart, LeadsTo}
@@ -112,6 +113,11 @@ module _ (config : Config) (g : Guest) (copy : StateCopy) (own : Identity) (of :
       let many = savable.memory.many_slots in
       omega (arith, few, pages_are, many, few_reserved 0 g.memory.reserved)
 
+  few_links : length config.interfaces ≤ most_ports
+  few_links =
+      let room = leb-true (count_in config.drives config.interfaces config.balloon) most_ports rules.room in
+      omega (arith, room)
+
   machine : is_machine config.machine ≡ true
   machine =
       let fits = and_parts _ (if config.machine.track_dirty_pages then config.machine.track_dirty_pages else not config.machine.track_dirty_pages)
@@ -138,7 +144,7 @@ module _ (config : Config) (g : Guest) (copy : StateCopy) (own : Identity) (of :
       let many = eqb-true (length made.harts) config.machine.vcpu_count rules.many in
       let held = slots in (
         (
-          configuration_fits (configuration_of config) rules.source rules.drives machine rules.balloon,
+          configuration_fits (configuration_of config) rules.source rules.drives rules.interfaces few_links machine rules.balloon,
           (fits32 made.pages (omega (arith, few)), (fits_flag made.track_dirty_pages, fits64 g.board.now savable.board.now)),
         ),
         (

@@ -283,6 +283,7 @@ module _ (config : Config) (g : Guest) (sound : IsSound g) (is : IsReady config 
   copy_valid = rules_hold copy (record {
     source = is.configured.source;
     drives = is.configured.drives;
+    interfaces = is.configured.interfaces;
     machine = machine_is;
     balloon = is.configured.balloon;
     room = is.configured.room;

@@ -64,6 +64,7 @@ carried_config tracking c = record {
     boot_args = c.boot_source.boot_args;
   });
   drives = c.drives;
+  interfaces = c.interfaces;
   machine = record c.machine { track_dirty_pages = tracking };
   balloon = c.balloon;
   configured = true;

@@ -55,6 +55,7 @@ abbrev pub configuration_of : Config → Configuration
 configuration_of config = record {
   boot_source = source_of config.boot_source;
   drives = config.drives;
+  interfaces = config.interfaces;
   machine = config.machine;
   balloon = config.balloon;
 }

@@ -1,8 +1,7 @@
 pub mod Among
 pub mod Follows
 pub mod Narrow
-pub mod OfBalloon
-pub mod OfBlock
+pub mod OfKind
 pub mod Owed
 pub mod Placed
 pub mod Ports

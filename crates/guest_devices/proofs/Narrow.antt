@@ -17,10 +17,14 @@ use Rattle.block_device.specs.declared.kind.BlockChange.TheVariants.{Limits, Sec
 use Rattle.token_bucket.specs.Kept.{Kept}
 use Rattle.block_device.specs.declared.data.BlockData.{BlockData}
 use Rattle.block_device.specs.Block.{changed}
-use Rattle.block_device.specs.Working.{AreSmallOthers, IsSizedData}
+use Rattle.rate_gate.specs.Small.{AreSmallOthers}
+use Rattle.block_device.specs.Working.{IsSizedData}
 use Rattle.block_device.proofs.Narrow.{acts_small}
 use Rattle.block_device.proofs.Resuming.{resumes_sized}
-use Rattle.block_device.proofs.SmallLimits.{others_small}
+use Rattle.rate_gate.proofs.SmallLimits.{others_small}
+use Rattle.net_device.specs.declared.kind.NetChange.TheVariants.{Receives, Transmits}
+use Rattle.net_device.proofs.Narrow as net
+use Rattle.net_device.proofs.Resuming as net_resuming
 use Rattle.balloon_device.specs.declared.kind.BalloonChange.TheVariants.{Interval}
 use Rattle.balloon_device.proofs.Narrow as balloon
 use Rattle.balloon_device.proofs.Resuming as balloon_resuming
@@ -32,7 +36,7 @@ use Rattle.guest_devices.specs.declared.new_device.NewDevice.{NewDevice}
 use Rattle.guest_devices.specs.Devices.{DataOf, DeviceLeads, DeviceLeft, DeviceWants, FlatDevice, device_at, device_changed, device_did}
 use Rattle.guest_devices.specs.Devices.{device_next, device_reset, device_rules, device_told, device_wants, left_of, left_reset, left_told, new_device, new_left}
 use Rattle.guest_devices.specs.Kept.{IsBounded, IsBoundedDevice, KeptDevice, device_left, device_pages, device_port, is_device_state, is_state_kept, kept_of, left_by}
-use Rattle.guest_devices.specs.Kinds.{Balloon, Block, ChangeOf, FitsChange, IsSizedOf, IsSmallChange, Kind, OwnOf, calls_of, change_for, changing_of, hand_of, is_sized_work_of}
+use Rattle.guest_devices.specs.Kinds.{Balloon, Block, ChangeOf, FitsChange, IsSizedOf, IsSmallChange, Kind, Net, OwnOf, calls_of, change_for, changing_of, hand_of, is_sized_work_of}
 use Rattle.guest_devices.specs.Kinds.{own_at_start, reset_for, service_of, sized_hand_of, sized_in, stage_in, times_of}
 use Rattle.guest_devices.specs.Narrow.{HasNarrow, IsNarrow, IsNarrowDevice, IsNarrowKept, IsNarrowNew, LeavesSized, NarrowLaws}
 use Rattle.guest_devices.proofs.Follows.{at_start, did_leads, reset_leads, told_leads, wants_only}
@@ -49,6 +53,7 @@ block_changed : (change : DeviceChange) → FitsChange change → IsSmallChange 
 block_changed (changes.Block (Sectors sectors)) size small = λ e was. ((size, was.1), (size, was.1))
 block_changed (changes.Block (Limits bandwidth ops)) fits small =
     λ e was. let with = limited bandwidth ops e small.0 small.1 was in (with, with)
+block_changed (changes.Net c) fits small = tt
 block_changed (changes.Balloon c) fits small = tt
 
 block_laws : NarrowLaws Block
@@ -64,10 +69,32 @@ block_laws = record {
   state = λ p r g is. is;
 }
 
+net_changed : (change : DeviceChange) → FitsChange change → IsSmallChange change → LeavesSized Net (change_for change Net)
+net_changed (changes.Net (Receives bandwidth ops)) fits small =
+    λ e was. let with = net.receives_small bandwidth ops e small.0 small.1 was in (with, with)
+net_changed (changes.Net (Transmits bandwidth ops)) fits small =
+    λ e was. let with = net.transmits_small bandwidth ops e small.0 small.1 was in (with, with)
+net_changed (changes.Block c) fits small = tt
+net_changed (changes.Balloon c) fits small = tt
+
+net_laws : NarrowLaws Net
+net_laws = record {
+  resumes = net_resuming.resumes_sized true;
+  changed = net_changed;
+  reset = tt;
+  asks = λ e. tt;
+  writes = λ pages w g is. net.acts_small g.work.stage g.work.bytes (g.small refl).1;
+  fine = λ e is. tt;
+  small = λ g. g.small refl;
+  hand = λ g. refl;
+  state = λ p r g is. is;
+}
+
 balloon_changed : (change : DeviceChange) → FitsChange change → IsSmallChange change → LeavesSized Balloon (change_for change Balloon)
 balloon_changed (changes.Balloon (Interval seconds)) fits small =
     λ e was. (balloon.interval_small seconds e small was, balloon.interval_small seconds e small was)
 balloon_changed (changes.Block c) fits small = tt
+balloon_changed (changes.Net c) fits small = tt
 
 balloon_laws : NarrowLaws Balloon
 balloon_laws = record {
@@ -84,6 +111,7 @@ balloon_laws = record {
 
 narrow_laws : (k : Kind) → NarrowLaws k
 narrow_laws Block = block_laws
+narrow_laws Net = net_laws
 narrow_laws Balloon = balloon_laws
 
 -- ---- from data to data
@@ -203,6 +231,23 @@ narrow_at (device.Block b) is bounded narrow = (
     rounds = b.rounds;
     own = b.kind.facts;
     stage = sized_in Block b.kind.work narrow.2;
+    is = is;
+    fine = narrow.3;
+    short = narrow.0;
+    narrow = λ yes. narrow.1;
+    at_port = refl;
+    of_pages = refl;
+    left = refl;
+  },
+)
+narrow_at (device.Net n) is bounded narrow = (
+  device_left (device.Net n),
+  at_start (device_left (device.Net n)),
+  record {
+    phase = n.phase;
+    rounds = n.rounds;
+    own = n.kind.own;
+    stage = sized_in Net n.kind.doing narrow.2;
     is = is;
     fine = narrow.3;
     short = narrow.0;

@@ -10,6 +10,11 @@ use Rattle.block_device.specs.declared.kind.BlockKind.{BlockKind}
 use Rattle.block_device.specs.Working.{Working}
 use Rattle.block_device.proofs.Owes.{owes}
 use Rattle.block_device.proofs.Resuming.{resumes}
+use Rattle.net_device.specs.declared.kind.NetChange.TheVariants.{Receives, Transmits}
+use Rattle.net_device.specs.Net as nets
+use Rattle.net_device.specs.Work as net_work
+use Rattle.net_device.proofs.Net as net
+use Rattle.net_device.proofs.Resuming as net_resuming
 use Rattle.balloon_device.specs.declared.kind.BalloonChange.TheVariants.{Interval}
 use Rattle.balloon_device.specs.declared.kind.Stage.{Stage}
 use Rattle.balloon_device.specs.Balloon as balloons
@@ -22,7 +27,7 @@ use Rattle.guest_devices.specs.declared.device.Device.{Device}
 use Rattle.guest_devices.specs.declared.device.Device.TheVariants as device
 use Rattle.guest_devices.specs.Devices.{left_reset}
 use Rattle.guest_devices.specs.Kept.{device_left, is_kept, kept_reset}
-use Rattle.guest_devices.specs.Kinds.{Balloon, Block, FitsChange, Kind, change_for}
+use Rattle.guest_devices.specs.Kinds.{Balloon, Block, FitsChange, Kind, Net, change_for}
 use Rattle.guest_devices.specs.Sound.{KindLaws, LeavesFine}
 
 -- ---- a block device
@@ -31,6 +36,7 @@ use Rattle.guest_devices.specs.Sound.{KindLaws, LeavesFine}
 block_changed : (change : DeviceChange) → FitsChange change → LeavesFine Block (change_for change Block)
 block_changed (changes.Block (Sectors sectors)) size = λ e was. (size, size)
 block_changed (changes.Block (Limits bandwidth ops)) fits = λ e was. (was, was)
+block_changed (changes.Net c) fits = tt
 block_changed (changes.Balloon c) fits = tt
 
 -- as its code keeps it
@@ -48,12 +54,36 @@ block_laws = record {
   held = λ p r e g is. (device.Block (block_with p r e g), refl);
 }
 
+-- ---- a network device
+
+-- other limits
+net_changed : (change : DeviceChange) → FitsChange change → LeavesFine Net (change_for change Net)
+net_changed (changes.Net (Receives bandwidth ops)) fits = λ e was. (tt, tt)
+net_changed (changes.Net (Transmits bandwidth ops)) fits = λ e was. (tt, tt)
+net_changed (changes.Block c) fits = tt
+net_changed (changes.Balloon c) fits = tt
+
+abbrev net_with : Phase → Rounds → nets.Net → net_work.AtWork → QueueRounds net_work.Kept
+net_with p r e g = record { rounds = r; kind = record { own = e; doing = g }; phase = p }
+
+net_laws : KindLaws Net
+net_laws = record {
+  confines = net.owes;
+  resumes = net_resuming.resumes;
+  changed = net_changed;
+  reset = tt;
+  tested = λ e is. tt;
+  tests = λ e fine. refl;
+  held = λ p r e g is. (device.Net (net_with p r e g), refl);
+}
+
 -- ---- a balloon
 
 -- another interval
 balloon_changed : (change : DeviceChange) → FitsChange change → LeavesFine Balloon (change_for change Balloon)
 balloon_changed (changes.Balloon (Interval seconds)) fits = λ e was. (tt, tt)
 balloon_changed (changes.Block c) fits = tt
+balloon_changed (changes.Net c) fits = tt
 
 abbrev balloon_with : Phase → Rounds → balloons.Balloon → Stage → QueueRounds Kept
 balloon_with p r e g = record { rounds = r; kind = record { own = e; stage = g }; phase = p }
@@ -73,13 +103,16 @@ balloon_laws = record {
 
 pub laws : (k : Kind) → KindLaws k
 laws Block = block_laws
+laws Net = net_laws
 laws Balloon = balloon_laws
 
 -- what is kept of a device behind a Reset may be kept, and tells what it has still to do then
 pub reset_kept : (it : Device) → is_kept it ≡ true → is_kept (kept_reset it) ≡ true
 reset_kept (device.Block b) is = is
+reset_kept (device.Net n) is = is
 reset_kept (device.Balloon b) is = is
 
 pub reset_left : (it : Device) → device_left (kept_reset it) ≡ left_reset (device_left it)
 reset_left (device.Block b) = refl
+reset_left (device.Net n) = refl
 reset_left (device.Balloon b) = refl

@@ -1,5 +1,5 @@
 -- Each field of a new device's port has its width.
-use Rattle.std.proofs.Common.{◌≡◌, ◌<◌, ◌^◌, ◌==◌, ℕ, Bool, true, false, not, refl, arith, List, ◌++◌}
+use Rattle.std.proofs.Common.{◌≡◌, ◌<◌, ◌^◌, ◌==◌, ℕ, Bool, true, false, not, refl, arith, Option, Some, None, unwrap_or, List, ◌++◌}
 use Rattle.std.proofs.lemmas.List.Elements.{All-append}
 use Rattle.std.proofs.lemmas.Nat.{or_lt}
 use Rattle.le_fields.specs.Fields.{IsByte, bytes_of}
@@ -10,6 +10,8 @@ use Rattle.port_table.specs.declared.kind.Feature.TheVariants as feature
 use Rattle.port_table.specs.Kinds.{feature_mask}
 use Rattle.port_table.specs.Sizes.{IsKept}
 use Rattle.port_table.proofs.Sizes.{new_stays}
+use Rattle.net_device.specs.declared.new_net.NewNet.{NewNet}
+use Rattle.net_device.specs.Port as net
 use Rattle.balloon_device.specs.declared.new_balloon.NewBalloon.{NewBalloon}
 use Rattle.balloon_device.specs.Port as balloon
 use Rattle.guest_devices.specs.declared.drive.NewDrive.{NewDrive}
@@ -32,6 +34,17 @@ block_small d =
 block_kept : (d : NewDrive) → IsKept numbers.Block (block_port d)
 block_kept d = new_stays numbers.Block (offered d) (capacity d.sectors) (block_small d) (all_bytes 8 d.sectors)
 
+-- ---- a network device
+
+mac_small : (mac : Option ℕ) → net.mac_offered mac < 2 ^ 64
+mac_small None = omega arith
+mac_small (Some mac) =
+    let small : feature_mask feature.NetMac < 2 ^ 64 = omega arith in
+    small
+
+net_kept : (n : NewNet) → IsKept numbers.Net (net.net_port n)
+net_kept n = new_stays numbers.Net (net.offered n) (net.config_of n.mac) (mac_small n.mac) (all_bytes 8 (unwrap_or n.mac 0))
+
 -- ---- a balloon
 
 balloon_small : (b : NewBalloon) → balloon.offered b < 2 ^ 64
@@ -49,8 +62,10 @@ balloon_kept b =
 
 pub start_kind : (what : NewDevice) → (port_at_start what).kind ≡ number_of (kind_at_start what)
 start_kind (starts.Block d) = refl
+start_kind (starts.Net n) = refl
 start_kind (starts.Balloon b) = refl
 
 pub start_kept : (what : NewDevice) → IsKept (port_at_start what).kind (port_at_start what)
 start_kept (starts.Block d) = block_kept d
+start_kept (starts.Net n) = net_kept n
 start_kept (starts.Balloon b) = balloon_kept b

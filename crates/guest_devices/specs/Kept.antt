@@ -11,7 +11,7 @@ use Rattle.queue_device.specs.Resuming.{AreShort}
 use Rattle.guest_devices.specs.declared.device.Device.{Device}
 use Rattle.guest_devices.specs.declared.device.Device.TheVariants as device
 use Rattle.guest_devices.specs.Devices.{DeviceLeft, device_wants, device_next, left_of}
-use Rattle.guest_devices.specs.Kinds.{Balloon, Block, IsFineOf, Kind, OwnOf, StageOf, hand_of, is_fine_of, is_work_of, service_of, times_of}
+use Rattle.guest_devices.specs.Kinds.{Balloon, Block, IsFineOf, Kind, Net, OwnOf, StageOf, hand_of, is_fine_of, is_work_of, service_of, times_of}
 
 -- what is kept of a device: what it is at, its rounds, its data and its kind's work
 pub record KeptDevice : Type 0 where
@@ -26,12 +26,15 @@ pub record KeptDevice : Type 0 where
 abbrev pub kept_of : Device → KeptDevice
 kept_of (device.Block b) =
     record { kind = Block; phase = b.phase; rounds = b.rounds; own = b.kind.facts; stage = b.kind.work }
+kept_of (device.Net n) =
+    record { kind = Net; phase = n.phase; rounds = n.rounds; own = n.kind.own; stage = n.kind.doing }
 kept_of (device.Balloon b) =
     record { kind = Balloon; phase = b.phase; rounds = b.rounds; own = b.kind.own; stage = b.kind.stage }
 
 -- what is kept of a device behind a Reset
 abbrev pub kept_reset : Device → Device
 kept_reset (device.Block b) = device.Block b
+kept_reset (device.Net n) = device.Net n
 kept_reset (device.Balloon b) = device.Balloon b
 
 -- ---- of any kind

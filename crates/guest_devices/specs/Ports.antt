@@ -9,13 +9,14 @@ use Rattle.port_table.specs.declared.state.PortState.{PortState}
 use Rattle.port_table.specs.Kinds.{feature_mask}
 use Rattle.port_table.specs.Ports.{new_port}
 use Rattle.block_device.specs.declared.kind.BlockChange.TheVariants.{Limits, Sectors}
+use Rattle.net_device.specs.Port.{net_port}
 use Rattle.balloon_device.specs.Port.{balloon_port}
 use Rattle.guest_devices.specs.declared.change.DeviceChange.{DeviceChange}
 use Rattle.guest_devices.specs.declared.change.DeviceChange.TheVariants as changes
 use Rattle.guest_devices.specs.declared.drive.NewDrive.{NewDrive}
 use Rattle.guest_devices.specs.declared.new_device.NewDevice.{NewDevice}
 use Rattle.guest_devices.specs.declared.new_device.NewDevice.TheVariants as starts
-use Rattle.guest_devices.specs.Kinds.{Balloon, Block, Kind}
+use Rattle.guest_devices.specs.Kinds.{Balloon, Block, Kind, Net}
 
 -- ---- a block device
 
@@ -38,14 +39,17 @@ block_port d = new_port numbers.Block (offered d) (capacity d.sectors)
 -- which device its port shows (VIRTIO 1.2, 5)
 abbrev pub number_of : Kind → DeviceKind
 number_of Block = numbers.Block
+number_of Net = numbers.Net
 number_of Balloon = numbers.Balloon
 
 abbrev pub port_at_start : NewDevice → PortState
 port_at_start (starts.Block d) = block_port d
+port_at_start (starts.Net n) = net_port n
 port_at_start (starts.Balloon b) = balloon_port b
 
 -- the configuration that the port shows from a change on, if it shows the change
 abbrev pub shown_by : DeviceChange → Option (List ℕ)
 shown_by (changes.Block (Sectors sectors)) = Some (capacity sectors)
 shown_by (changes.Block (Limits bandwidth ops)) = None
+shown_by (changes.Net c) = None
 shown_by (changes.Balloon c) = None

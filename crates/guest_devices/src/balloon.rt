@@ -43,6 +43,7 @@ pub fn tell_balloon(balloon: &mut BalloonDevice, change: DeviceChange)
     match change {
         DeviceChange::Balloon(change) => balloon.change(change),
         DeviceChange::Block(_) => {}
+        DeviceChange::Net(_) => {}
     }
 }
 

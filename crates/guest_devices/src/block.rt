@@ -57,6 +57,7 @@ pub fn tell_block(block: &mut Block, change: DeviceChange)
 {
     match change {
         DeviceChange::Block(change) => change_block(block, change),
+        DeviceChange::Net(_) => {}
         DeviceChange::Balloon(_) => {}
     }
 }

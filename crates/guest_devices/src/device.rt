@@ -9,9 +9,11 @@ use crate::balloon::{
 };
 use crate::block::{block_again, give_block, new_block, port_of_block, tell_block, want_of_block};
 use crate::change::DeviceChange;
+use crate::net::{give_net, net_again, new_net, port_of_net, tell_net, want_of_net};
 use crate::new_device::NewDevice;
 use balloon_device::BalloonDevice;
 use block_device::Block;
+use net_device::NetDevice;
 use port_table::DeviceKind;
 use vm_types::{Actor, Op, Reply};
 
@@ -19,6 +21,7 @@ use vm_types::{Actor, Op, Reply};
 #[derive(Drop)]
 pub enum Device {
     Block(Block),
+    Net(NetDevice),
     Balloon(BalloonDevice),
 }
 
@@ -29,6 +32,7 @@ impl Device {
     {
         match what {
             NewDevice::Block(drive) => Device::Block(new_block(port, pages, drive)),
+            NewDevice::Net(what) => Device::Net(new_net(port, pages, what)),
             NewDevice::Balloon(what) => Device::Balloon(new_balloon(port, pages, what)),
         }
     }
@@ -40,6 +44,7 @@ impl Device {
     {
         match self {
             Device::Block(block) => port_of_block(block),
+            Device::Net(net) => port_of_net(net),
             Device::Balloon(balloon) => port_of_balloon(balloon),
         }
     }
@@ -50,6 +55,7 @@ impl Device {
     {
         match self {
             Device::Block(_) => DeviceKind::Block,
+            Device::Net(_) => DeviceKind::Net,
             Device::Balloon(_) => DeviceKind::Balloon,
         }
     }
@@ -60,6 +66,7 @@ impl Device {
     {
         match self {
             Device::Block(block) => block.state().rounds.pages,
+            Device::Net(net) => net.state().rounds.pages,
             Device::Balloon(balloon) => balloon.state().rounds.pages,
         }
     }
@@ -71,6 +78,7 @@ impl Device {
     {
         match self {
             Device::Block(block) => Device::Block(block_again(block)),
+            Device::Net(net) => Device::Net(net_again(net)),
             Device::Balloon(balloon) => Device::Balloon(balloon_again(balloon)),
         }
     }
@@ -81,6 +89,7 @@ impl Device {
     {
         match self {
             Device::Block(block) => tell_block(block, change),
+            Device::Net(net) => tell_net(net, change),
             Device::Balloon(balloon) => tell_balloon(balloon, change),
         }
     }
@@ -90,7 +99,7 @@ impl Device {
         ensures { self.new ≡ kept_reset self.old }
     {
         match self {
-            Device::Block(_) | Device::Balloon(_) => {}
+            Device::Block(_) | Device::Net(_) | Device::Balloon(_) => {}
         }
     }
 }
@@ -112,6 +121,7 @@ impl Actor for Device {
     fn want(&self) -> Op {
         match self {
             Device::Block(block) => want_of_block(block),
+            Device::Net(net) => want_of_net(net),
             Device::Balloon(balloon) => want_of_balloon(balloon),
         }
     }
@@ -119,6 +129,7 @@ impl Actor for Device {
     fn give(&mut self, reply: Reply) {
         match self {
             Device::Block(block) => give_block(block, reply),
+            Device::Net(net) => give_net(net, reply),
             Device::Balloon(balloon) => give_balloon(balloon, reply),
         }
     }

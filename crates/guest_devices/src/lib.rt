@@ -13,6 +13,7 @@ mod change;
 mod device;
 mod drive;
 mod law;
+mod net;
 mod new_device;
 mod port;
 mod several;

@@ -2,10 +2,12 @@
 
 use crate::drive::NewDrive;
 use balloon_device::NewBalloon;
+use net_device::NewNet;
 
 /// What a machine starts a device with, by its kind (VIRTIO 1.2, 5).
 #[derive(Drop)]
 pub enum NewDevice {
     Block(NewDrive),
+    Net(NewNet),
     Balloon(NewBalloon),
 }

@@ -1,6 +1,7 @@
 // The port of a device that has done nothing, by its kind, and what it shows of a change.
 ghost use Rattle.std.specs.Prelude.{◌≡◌};
 ghost use Rattle.balloon_device.specs.Port as balloon;
+ghost use Rattle.net_device.specs.Port as net;
 ghost use Rattle.guest_devices.specs.declared.new_device.NewDevice.{NewDevice};
 ghost use Rattle.guest_devices.specs.declared.new_device.NewDevice.TheVariants as starts;
 ghost use Rattle.guest_devices.specs.Devices.{FitsNew};
@@ -10,10 +11,11 @@ ghost use Rattle.guest_devices.specs.Ports as ports;
 use crate::change::DeviceChange;
 use crate::drive::NewDrive;
 use crate::new_device::NewDevice;
-use balloon_device::{NewBalloon, configuration};
+use balloon_device::{NewBalloon, configuration as balloon_configuration};
 use block_device::BlockChange;
 use le_fields::put64;
 use mmio_port::Port;
+use net_device::{NewNet, configuration as net_configuration};
 use port_table::{DeviceKind, Feature};
 
 // The capacity of a disk in sectors of 512 bytes (VIRTIO 1.2, 5.2.4).
@@ -45,6 +47,17 @@ fn block_port(drive: &NewDrive) -> Port
     Port::new(DeviceKind::Block, offered(drive), &capacity(drive.sectors))
 }
 
+fn net_port(what: &NewNet) -> Port
+    ensures port { result ≡ net.net_port what.now }
+    ensures fits { (new : NewDevice) → new ≡ starts.Net what.now → FitsNew new }
+{
+    Port::new(
+        DeviceKind::Net,
+        what.features(),
+        &net_configuration(what.mac),
+    )
+}
+
 // The driver has given no page yet.
 fn balloon_port(what: &NewBalloon) -> Port
     ensures port { result ≡ balloon.balloon_port what.now }
@@ -53,7 +66,7 @@ fn balloon_port(what: &NewBalloon) -> Port
     Port::new(
         DeviceKind::Balloon,
         what.features(),
-        &configuration(what.target, 0),
+        &balloon_configuration(what.target, 0),
     )
 }
 
@@ -64,6 +77,7 @@ pub fn port_at_start(what: &NewDevice) -> Port
 {
     match what {
         NewDevice::Block(drive) => block_port(drive),
+        NewDevice::Net(what) => net_port(what),
         NewDevice::Balloon(what) => balloon_port(what),
     }
 }
@@ -77,6 +91,7 @@ impl DeviceChange {
         match self {
             DeviceChange::Block(BlockChange::Sectors(sectors)) => Some(capacity(*sectors)),
             DeviceChange::Block(BlockChange::Limits(_, _)) => None,
+            DeviceChange::Net(_) => None,
             DeviceChange::Balloon(_) => None,
         }
     }

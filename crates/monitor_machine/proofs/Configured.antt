@@ -3,13 +3,14 @@ use Rattle.std.proofs.Common.{◌≡◌, Bool, true, refl, sym, ap, subst, ◌�
 use Rattle.std.specs.Prelude.{IsOk, OnErr, OnOk}
 use Rattle.serde_json.specs.Data.{Data}
 use Rattle.api_calls.specs.declared.call.Drive.{Drive}
+use Rattle.api_calls.specs.declared.interface.Interface.{Interface}
 use Rattle.vm_config.specs.declared.config.Config.{Config}
 use Rattle.vm_config.specs.declared.change.Change.{Change}
 use Rattle.vm_config.specs.declared.change.Change.TheVariants as change
 use Rattle.vm_config.specs.Changes.{changed}
 use Rattle.flat_guest.specs.Guest.{Guest}
-use Rattle.flat_machine.specs.Ready.{AreFitting, IsFitting, IsTaken, ReadyBy}
-use Rattle.flat_machine.proofs.Reconfigured.{amount_patched, drive_patched, interval_patched}
+use Rattle.flat_machine.specs.Ready.{AreFitting, AreLinked, IsFitting, IsTaken, ReadyBy}
+use Rattle.flat_machine.proofs.Reconfigured.{amount_patched, drive_patched, interface_patched, interval_patched}
 use Rattle.flat_machine.proofs.Taken.{changed_taken}
 use Rattle.vm_world.specs.Worlds.{WorldValue}
 use Rattle.monitor_plans.specs.Plans.{IsEarly}
@@ -30,6 +31,7 @@ mark_configured config paused (Some g) is = record {
     configured = record {
       source = is.ready.configured.source;
       drives = is.ready.configured.drives;
+      interfaces = is.ready.configured.interfaces;
       machine = is.ready.configured.machine;
       balloon = is.ready.configured.balloon;
       room = is.ready.configured.room;
@@ -50,6 +52,8 @@ config_guest (change.PutDrive drive) config paused w guest taken here early is =
 config_guest (change.MachineConfig machine) config paused w guest taken here early is = not_yet _ paused guest (no_guest w guest here early)
 config_guest (change.PutBalloon balloon) config paused w guest taken here early is = not_yet _ paused guest (no_guest w guest here early)
 config_guest (change.PatchDrive patch) config paused w guest taken here early is = drive_patched config patch paused guest taken is
+config_guest (change.PutInterface interface) config paused w guest taken here early is = not_yet _ paused guest (no_guest w guest here early)
+config_guest (change.PatchInterface patch) config paused w guest taken here early is = interface_patched config patch paused guest taken is
 config_guest (change.PatchBalloon patch) config paused w guest taken here early is = amount_patched config patch paused guest taken is
 config_guest (change.PatchStatistics patch) config paused w guest taken here early is = interval_patched config patch paused guest taken is
 config_guest (change.PutMetadata body) config paused w guest taken here early is = is
@@ -101,6 +105,8 @@ stays_early (change.PutDrive drive) paused w early = early
 stays_early (change.MachineConfig machine) paused w early = early
 stays_early (change.PutBalloon balloon) paused w early = early
 stays_early (change.PatchDrive patch) paused w early = tt
+stays_early (change.PutInterface interface) paused w early = early
+stays_early (change.PatchInterface patch) paused w early = tt
 stays_early (change.PatchBalloon patch) paused w early = tt
 stays_early (change.PatchStatistics patch) paused w early = tt
 stays_early (change.PutMetadata body) paused w early = tt
@@ -118,6 +124,8 @@ told_early (change.PutDrive drive) config w v tells early = tells ∙ early
 told_early (change.MachineConfig machine) config w v tells early = tells ∙ early
 told_early (change.PutBalloon balloon) config w v tells early = tells ∙ early
 told_early (change.PatchDrive patch) config w v tells early = tt
+told_early (change.PutInterface interface) config w v tells early = tells ∙ early
+told_early (change.PatchInterface patch) config w v tells early = tt
 told_early (change.PatchBalloon patch) config w v tells early = tt
 told_early (change.PatchStatistics patch) config w v tells early = tt
 told_early (change.PutMetadata body) config w v tells early = tt
@@ -147,34 +155,62 @@ takes_change live stood told it config stands tells rest made =
       rest = λ i. record (all i) { config = (made ∙ ap (λ (l : Live). changed l.config it) all) i };
     }
 
--- other drives, before a start
-pub drives_stay : (live : Live) (drives : List Drive) → AreFitting drives live.config.balloon → live.guest ≡ None → IsReadyLive live
-    → IsReadyLive (record live { config = record live.config { drives = drives; configured = true } })
-drives_stay live drives fit none (m, own, ready) =
-    let taken = subst (λ (c : Config). IsTaken c) (sym own.config_is) ready.taken in
-    let config : Config = record live.config { drives = drives; configured = true } in (
-      record m { config = config },
-      record {
-        id_is = own.id_is;
-        ids_is = own.ids_is;
-        config_is = refl;
-        metadata_is = own.metadata_is;
-        guest_is = own.guest_is;
-        paused_is = own.paused_is;
-      },
-      record {
-        taken = record {
-          source = taken.source;
-          drives = fit.0;
-          machine = taken.machine;
-          balloon = taken.balloon;
-          room = fit.1;
-        };
-        guest = not_yet config m.paused m.guest (no_guest live.guest m.guest own.guest_is none);
-        next = ready.next;
-        base = ready.base;
-      },
-    )
+-- another configuration, before a start
+configured_stays : (live : Live) (config : Config) → IsTaken config → live.guest ≡ None → IsReadyLive live
+    → IsReadyLive (record live { config = config })
+configured_stays live config taken none (m, own, ready) = (
+  record m { config = config },
+  record {
+    id_is = own.id_is;
+    ids_is = own.ids_is;
+    config_is = refl;
+    metadata_is = own.metadata_is;
+    guest_is = own.guest_is;
+    paused_is = own.paused_is;
+  },
+  record {
+    taken = taken;
+    guest = not_yet config m.paused m.guest (no_guest live.guest m.guest own.guest_is none);
+    next = ready.next;
+    base = ready.base;
+  },
+)
+
+taken_of : (live : Live) → IsReadyLive live → IsTaken live.config
+taken_of live (m, own, ready) = subst (λ (c : Config). IsTaken c) (sym own.config_is) ready.taken
+
+-- other drives
+pub drives_stay : (live : Live) (drives : List Drive) → AreFitting drives live.config.interfaces live.config.balloon → live.guest ≡ None
+    → IsReadyLive live → IsReadyLive (record live { config = record live.config { drives = drives; configured = true } })
+drives_stay live drives fit none is =
+    let taken = taken_of live is in
+    configured_stays live (record live.config { drives = drives; configured = true })
+    (record {
+      source = taken.source;
+      drives = fit.0;
+      interfaces = taken.interfaces;
+      machine = taken.machine;
+      balloon = taken.balloon;
+      room = fit.1;
+    })
+    none is
+
+-- other interfaces
+pub interfaces_stay : (live : Live) (interfaces : List Interface) → AreLinked live.config.drives interfaces live.config.balloon
+    → live.guest ≡ None → IsReadyLive live
+    → IsReadyLive (record live { config = record live.config { interfaces = interfaces; configured = true } })
+interfaces_stay live interfaces fit none is =
+    let taken = taken_of live is in
+    configured_stays live (record live.config { interfaces = interfaces; configured = true })
+    (record {
+      source = taken.source;
+      drives = taken.drives;
+      interfaces = fit.0;
+      machine = taken.machine;
+      balloon = taken.balloon;
+      room = fit.1;
+    })
+    none is
 
 pub metadata_stay : (live : Live) (stored : Data) → IsReadyLive live → IsReadyLive (record live { metadata = stored })
 metadata_stay live stored (m, own, ready) = (

@@ -79,6 +79,7 @@ create_task (task.Plan plan.NoMemory) live w it parent identity there since own 
 create_task (task.Plan (plan.Refused why)) live w it parent identity there since own gives = absurd gives
 create_task (task.Plan (plan.Changes c)) live w it parent identity there since own gives = absurd gives
 create_task (task.Plan (plan.Drives drives)) live w it parent identity there since own gives = absurd gives
+create_task (task.Plan (plan.Interfaces interfaces)) live w it parent identity there since own gives = absurd gives
 create_task (task.Plan (plan.Resizes r)) live w it parent identity there since own gives = absurd gives
 create_task (task.Plan (plan.Stores kept)) live w it parent identity there since own gives = absurd gives
 create_task (task.Plan (plan.Starts guest)) live w it parent identity there since own gives = absurd gives
@@ -116,6 +117,7 @@ create_keeps (task.Plan plan.NoMemory) live config parent identity w names next 
 create_keeps (task.Plan (plan.Refused why)) live config parent identity w names next gives = absurd gives
 create_keeps (task.Plan (plan.Changes c)) live config parent identity w names next gives = absurd gives
 create_keeps (task.Plan (plan.Drives drives)) live config parent identity w names next gives = absurd gives
+create_keeps (task.Plan (plan.Interfaces interfaces)) live config parent identity w names next gives = absurd gives
 create_keeps (task.Plan (plan.Resizes r)) live config parent identity w names next gives = absurd gives
 create_keeps (task.Plan (plan.Stores kept)) live config parent identity w names next gives = absurd gives
 create_keeps (task.Plan (plan.Starts guest)) live config parent identity w names next gives = absurd gives

@@ -1,5 +1,5 @@
 -- What is decided of a call, and which files it asks.
-use Rattle.std.proofs.Common.{◌≡◌, ℕ, ◌^◌, nat_le, Bool, true, false, not, ◌&&◌, if◌then◌else◌, refl, sym, ap, subst, ◌∙◌, List, Option, Some, None, Ok, Result}
+use Rattle.std.proofs.Common.{◌≡◌, ℕ, ◌^◌, nat_le, Bool, true, false, not, ◌&&◌, refl, sym, ap, subst, ◌∙◌, List, Option, Some, None, Ok, Result}
 use Rattle.std.specs.Prelude.{is_none, is_some}
 use Rattle.std.proofs.lemmas.Bool.{leb-false}
 use Rattle.refusals.specs.declared.refusal.Refusal.{Refusal}
@@ -71,6 +71,8 @@ two_files p config ids it c is request asks = subst HasTwoFiles (change_is p con
     by_call (call.PutBootSource source) asks = tt
     by_call (call.PutDrive drive) asks = tt
     by_call (call.PatchDrive patch) asks = tt
+    by_call (call.PutInterface interface) asks = tt
+    by_call (call.PatchInterface patch) asks = tt
     by_call (call.PutMachineConfig machine) asks = tt
     by_call (call.PatchMachineConfig patch) asks = tt
     by_call (call.PutBalloon balloon) asks = tt
@@ -98,6 +100,8 @@ has_guest guest paused config ids it c is = subst (λ (x : Change). HasGuest x g
     by_call (call.PutBootSource source) is = tt
     by_call (call.PutDrive drive) is = tt
     by_call (call.PatchDrive patch) is = tt
+    by_call (call.PutInterface interface) is = tt
+    by_call (call.PatchInterface patch) is = tt
     by_call (call.PutMachineConfig machine) is = tt
     by_call (call.PatchMachineConfig patch) is = tt
     by_call (call.PutBalloon balloon) is = tt
@@ -129,6 +133,8 @@ module _ (guest : Option WorldValue) (paused : Bool) (config : Config) (ids : Id
   early_by (call.PutBootSource source) is = not_started guest is
   early_by (call.PutDrive drive) is = not_started guest is
   early_by (call.PatchDrive patch) is = tt
+  early_by (call.PutInterface interface) is = not_started guest is
+  early_by (call.PatchInterface patch) is = tt
   early_by (call.PutMachineConfig machine) is = not_started guest is
   early_by (call.PatchMachineConfig patch) is = not_started guest is
   early_by (call.PutBalloon balloon) is = not_started guest is
@@ -152,6 +158,8 @@ module _ (guest : Option WorldValue) (paused : Bool) (config : Config) (ids : Id
   number_by (call.PutBootSource source) is = tt
   number_by (call.PutDrive drive) is = tt
   number_by (call.PatchDrive patch) is = tt
+  number_by (call.PutInterface interface) is = tt
+  number_by (call.PatchInterface patch) is = tt
   number_by (call.PutMachineConfig machine) is = tt
   number_by (call.PatchMachineConfig patch) is = tt
   number_by (call.PutBalloon balloon) is = tt
@@ -190,6 +198,8 @@ no_files p config ids it c is never = ap needs_files (sym (change_is p config id
     by_call (call.PutBootSource source) never = refl
     by_call (call.PutDrive drive) never = refl
     by_call (call.PatchDrive patch) never = no_path patch.path_on_host never
+    by_call (call.PutInterface interface) never = refl
+    by_call (call.PatchInterface patch) never = refl
     by_call (call.PutMachineConfig machine) never = refl
     by_call (call.PatchMachineConfig patch) never = refl
     by_call (call.PutBalloon balloon) never = refl

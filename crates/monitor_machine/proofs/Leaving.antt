@@ -22,6 +22,7 @@ use Rattle.guest_devices.specs.Kinds.{sectors_change}
 use Rattle.flat_guest.specs.Guest.{Guest}
 use Rattle.flat_machine.specs.Outcome as flat
 use Rattle.flat_machine.specs.Machine.{Machine}
+use Rattle.flat_machine.specs.Limits.{limits_told}
 use Rattle.flat_snapshot.specs.Found.{Snapshot}
 use Rattle.flat_machine.specs.Requests.{AnswersBy, Fails, LeavesBy, RequestStep, Restores, Stores, TellsOf, allowed, carried, configured, disk_of}
 use Rattle.flat_machine.specs.Requests.{halted, patched_drive, relimited, resized, respond, sectors_of, shows_by, started_from}
@@ -102,6 +103,8 @@ left_is (change.State Resumed) paused w g is = is
 left_is (change.BootSource source) paused w g is = is
 left_is (change.PutDrive drive) paused w g is = is
 left_is (change.PatchDrive patch) paused w g is = is
+left_is (change.PutInterface interface) paused w g is = is
+left_is (change.PatchInterface patch) paused w g is = is
 left_is (change.MachineConfig machine) paused w g is = is
 left_is (change.PutBalloon balloon) paused w g is = is
 left_is (change.PatchBalloon patch) paused w g is = is
@@ -128,9 +131,11 @@ plain_leaves m (change.PatchDrive patch) plain =
       refl,
       λ i. record m {
         config = changed m.config (change.PatchDrive patch);
-        guest = relimited patch.rate_limiter number (sym same i);
+        guest = relimited limits_told patch.rate_limiter number (sym same i);
       },
     )
+plain_leaves m (change.PutInterface interface) plain = cc
+plain_leaves m (change.PatchInterface patch) plain = (refl, refl)
 plain_leaves m (change.MachineConfig machine) plain = (refl, refl)
 plain_leaves m (change.PutBalloon balloon) plain = (refl, refl)
 plain_leaves m (change.PatchBalloon patch) plain = (refl, refl)
@@ -149,6 +154,8 @@ plain_free : (it : Change) → is_plain it ≡ true → takes_memory it ≡ fals
 plain_free (change.BootSource source) plain = refl
 plain_free (change.PutDrive drive) plain = cc
 plain_free (change.PatchDrive patch) plain = refl
+plain_free (change.PutInterface interface) plain = cc
+plain_free (change.PatchInterface patch) plain = refl
 plain_free (change.MachineConfig machine) plain = refl
 plain_free (change.PutBalloon balloon) plain = refl
 plain_free (change.PatchBalloon patch) plain = refl
@@ -184,10 +191,10 @@ refiles_at : (r : Resize) (live after : LiveMachine) (m : Machine) (given : Next
     → IsGuestBy after.guest (patched_drive m r.patch).guest
 refiles_at r live after m given own asks leaves =
     let number : Option ℕ = device_of m.config.drives r.patch.drive_id in
-    relimits_at r.patch.rate_limiter number leaves.mid after.guest (resized r.patch.path_on_host number m.saved m.guest)
+    relimits_at limits_told r.patch.rate_limiter number leaves.mid after.guest (resized r.patch.path_on_host number m.saved m.guest)
     (resizes_at r.patch.path_on_host asks.path number r.sectors m.saved live.guest leaves.mid m.guest asks.path_is asks.sectors_is own.guest_is
     (subst (λ (o : Option ℕ). Resizes o r.sectors live.guest leaves.mid) asks.device_is leaves.world))
-    (subst (λ (o : Option ℕ). Relimits r.patch.rate_limiter o leaves.mid after.guest) asks.device_is leaves.limits)
+    (subst (λ (o : Option ℕ). Relimits limits_told r.patch.rate_limiter o leaves.mid after.guest) asks.device_is leaves.limits)
 
 -- what is stored leaves the machine with it
 keeps : (it : Change) (m : Machine) (told : Told) (kept : Data) → IsKept kept m it
@@ -199,6 +206,8 @@ keeps (change.PatchMetadata patch) m told kept is =
 keeps (change.BootSource source) m told kept is = absurd is
 keeps (change.PutDrive drive) m told kept is = absurd is
 keeps (change.PatchDrive patch) m told kept is = absurd is
+keeps (change.PutInterface interface) m told kept is = absurd is
+keeps (change.PatchInterface patch) m told kept is = absurd is
 keeps (change.MachineConfig machine) m told kept is = absurd is
 keeps (change.PutBalloon balloon) m told kept is = absurd is
 keeps (change.PatchBalloon patch) m told kept is = absurd is
@@ -220,6 +229,8 @@ fails_alone (change.PutDrive drive) m reads = cc
 fails_alone (change.PatchDrive patch) m reads =
     let named = given_path patch.path_on_host reads in
     (named.0, named.1, refl, refl)
+fails_alone (change.PutInterface interface) m reads = cc
+fails_alone (change.PatchInterface patch) m reads = cc
 fails_alone (change.MachineConfig machine) m reads = cc
 fails_alone (change.PutBalloon balloon) m reads = cc
 fails_alone (change.PatchBalloon patch) m reads = cc
@@ -265,6 +276,22 @@ plan_does (plan.Drives drives) live after known m given is tells (drive, asks, p
           id_is = is.own.id_is;
           ids_is = is.own.ids_is;
           config_is = λ i. record (is.own.config_is i) { drives = put i; configured = true };
+          metadata_is = is.own.metadata_is;
+          guest_is = is.own.guest_is;
+          paused_is = is.own.paused_is;
+        };
+        files = record { saved_is = is.files.saved_is; calls_is = is.files.calls_is };
+      }),
+    )
+plan_does (plan.Interfaces interfaces) live after known m given is tells (interface, asks, put) leaves =
+    let n : Machine = configured m (change.PutInterface interface) in (
+      n,
+      answered live known m n given (Ok (change.PutInterface interface)) _ [] asks (told_of live, tells_is live m tells is.own, refl) (refl, refl),
+      subst (λ (l : LiveMachine). IsMachine l known n) (sym leaves) (record {
+        own = record {
+          id_is = is.own.id_is;
+          ids_is = is.own.ids_is;
+          config_is = λ i. record (is.own.config_is i) { interfaces = put i; configured = true };
           metadata_is = is.own.metadata_is;
           guest_is = is.own.guest_is;
           paused_is = is.own.paused_is;

@@ -10,6 +10,7 @@ use Rattle.http_stream.specs.declared.request.Next.{Next}
 use Rattle.vm_outside.specs.Known.{FilesKnown}
 use Rattle.api_calls.specs.declared.call.Drive.{Drive}
 use Rattle.api_calls.specs.declared.call.DrivePatch.{DrivePatch}
+use Rattle.api_calls.specs.declared.interface.Interface.{Interface}
 use Rattle.api_calls.specs.declared.call.SnapshotLoad.{SnapshotLoad}
 use Rattle.api_calls.specs.Call.{◌>>=◌}
 use Rattle.metadata_store.specs.Store.{patched as merged, put}
@@ -26,6 +27,7 @@ use Rattle.flat_machine.specs.Requests.{devices_from, file_refusal, image_of, lo
 use Rattle.vm_world.specs.Worlds.{IsWorld, WorldValue}
 use Rattle.monitor_plans.specs.declared.plan.Plan.{Plan}
 use Rattle.monitor_plans.specs.declared.plan.Plan.TheVariants as plan
+use Rattle.monitor_plans.specs.InterfaceChanges.{InterfacesGive}
 use Rattle.monitor_plans.specs.DriveChanges.{DrivesGive, PatchGives}
 use Rattle.monitor_plans.specs.Restoring.{RestoreGives}
 use Rattle.monitor_plans.specs.Starting.{StartGives, disk_in, image_in}
@@ -47,6 +49,8 @@ plain_change m (change.BootSource source) plain = refl
 plain_change m (change.PutDrive drive) plain = cc
 plain_change m (change.PatchDrive patch) plain =
     ap (λ (o : Option Refusal). unless o (Ok (change.PatchDrive patch))) (no_refusal patch.path_on_host m.saved plain)
+plain_change m (change.PutInterface interface) plain = cc
+plain_change m (change.PatchInterface patch) plain = refl
 plain_change m (change.MachineConfig machine) plain = refl
 plain_change m (change.PutBalloon balloon) plain = refl
 plain_change m (change.PatchBalloon patch) plain = refl
@@ -72,6 +76,7 @@ put_plan (plan.Refused why) body m given asks gives =
     ∙ ap (λ (r : Result Data Refusal). r >>= λ kept. Ok (change.PutMetadata body)) gives
 put_plan (plan.Changes c) body m given asks gives = absurd gives
 put_plan (plan.Drives drives) body m given asks gives = absurd gives
+put_plan (plan.Interfaces interfaces) body m given asks gives = absurd gives
 put_plan (plan.Resizes r) body m given asks gives = absurd gives
 put_plan (plan.Stores kept) body m given asks gives = (
   change.PutMetadata body,
@@ -100,6 +105,7 @@ patch_plan it stored patch m given same asks gives =
     by_kind (plan.Refused why) gives = contents ∙ ap goes gives
     by_kind (plan.Changes c) gives = absurd gives
     by_kind (plan.Drives drives) gives = absurd gives
+    by_kind (plan.Interfaces interfaces) gives = absurd gives
     by_kind (plan.Resizes r) gives = absurd gives
     by_kind (plan.Stores kept) gives = (change.PatchMetadata patch, contents ∙ ap goes gives, gives)
     by_kind (plan.Starts w) gives = absurd gives
@@ -117,12 +123,33 @@ drives_plan it drive live m given same asks gives = by_kind it (subst (λ (c : C
     by_kind (plan.Refused why) gives = absurd gives
     by_kind (plan.Changes c) gives = absurd gives
     by_kind (plan.Drives drives) gives = (drive, ap (λ (r : Result Change Refusal). r >>= by_contents m) asks, gives)
+    by_kind (plan.Interfaces interfaces) gives = absurd gives
     by_kind (plan.Resizes r) gives = absurd gives
     by_kind (plan.Stores kept) gives = absurd gives
     by_kind (plan.Starts w) gives = absurd gives
     by_kind (plan.Restores r) gives = absurd gives
     by_kind plan.FilesFailed gives = absurd gives
     by_kind plan.NoMemory gives = tt
+
+-- ---- interfaces
+
+pub interfaces_plan : (it : Plan) (interface : Interface) (live : LiveMachine) (m : Machine) (given : Next) → live.config ≡ m.config
+    → decided m given ≡ Ok (change.PutInterface interface) → InterfacesGive it live.config interface → IsPlan it m given
+interfaces_plan it interface live m given same asks gives = by_kind it (subst (λ (c : Config). InterfacesGive it c interface) same gives)
+  where
+    by_kind : (it : Plan) → InterfacesGive it m.config interface → IsPlan it m given
+    by_kind (plan.Refused why) gives = absurd gives
+    by_kind (plan.Changes c) gives = absurd gives
+    by_kind (plan.Drives drives) gives = absurd gives
+    by_kind (plan.Interfaces interfaces) gives = (interface, ap (λ (r : Result Change Refusal). r >>= by_contents m) asks, gives)
+    by_kind (plan.Resizes r) gives = absurd gives
+    by_kind (plan.Stores kept) gives = absurd gives
+    by_kind (plan.Starts w) gives = absurd gives
+    by_kind (plan.Restores r) gives = absurd gives
+    by_kind plan.FilesFailed gives = absurd gives
+    by_kind plan.NoMemory gives = tt
+
+-- ---- another file of a drive
 
 -- a file that is there is no reason to refuse it
 file_there : (path : Option (List ℕ)) (name : List ℕ) (saved : Saved) → path ≡ Some name → is_some (get saved name) ≡ true
@@ -153,6 +180,7 @@ refile_plan it patch live known m given is asks gives =
         subst (λ (x : Change). IsPlan (plan.Changes x) m given) (sym same)
         (by_refusal None (no_refusal patch.path_on_host m.saved (plain_patch patch.path_on_host none)), plain_patch patch.path_on_host none)
     by_kind (plan.Drives drives) gives = absurd gives
+    by_kind (plan.Interfaces interfaces) gives = absurd gives
     by_kind (plan.Resizes r) gives = record {
       asks = by_refusal None (file_there patch.path_on_host gives.path m.saved gives.path_is gives.there)
           ∙ ap (λ (p : DrivePatch). Ok (change.PatchDrive p)) (sym gives.patch_is);
@@ -198,6 +226,7 @@ start_plan (plan.Refused why) live known m given is asks gives =
     ∙ ap (λ (o : Option Refusal). unless o (Ok change.Start)) (sym (refusal_is live known m is) ∙ gives)
 start_plan (plan.Changes it) live known m given is asks gives = absurd gives
 start_plan (plan.Drives drives) live known m given is asks gives = absurd gives
+start_plan (plan.Interfaces interfaces) live known m given is asks gives = absurd gives
 start_plan (plan.Resizes r) live known m given is asks gives = absurd gives
 start_plan (plan.Stores kept) live known m given is asks gives = absurd gives
 start_plan (plan.Starts w) live known m given is asks (none, image, there, world) = (
@@ -226,6 +255,7 @@ restore_plan it load live known m given is asks gives =
     by_kind (plan.Refused why) gives = files ∙ ap goes gives
     by_kind (plan.Changes c) gives = absurd gives
     by_kind (plan.Drives drives) gives = absurd gives
+    by_kind (plan.Interfaces interfaces) gives = absurd gives
     by_kind (plan.Resizes r) gives = absurd gives
     by_kind (plan.Stores kept) gives = absurd gives
     by_kind (plan.Starts w) gives = absurd gives

@@ -28,6 +28,7 @@ cause_by it done how before now (inl same) is cause later =
     own (plan.Refused why) before now cause later = cause
     own (plan.Changes c) before now cause later = cause
     own (plan.Drives drives) before now cause later = cause
+    own (plan.Interfaces interfaces) before now cause later = cause
     own (plan.Resizes r) before now cause later = cause
     own (plan.Stores kept) before now cause later = cause
     own (plan.Starts w) before now cause later = cause

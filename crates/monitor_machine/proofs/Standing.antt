@@ -9,6 +9,7 @@ use Rattle.vm_types.specs.declared.ids.ActorId.{ActorId}
 use Rattle.vm_types.specs.Saved.{nothing_saved}
 use Rattle.vm_outside.specs.declared.failed.Failed.{Failed}
 use Rattle.api_calls.specs.declared.balloon.Balloon.{Balloon}
+use Rattle.api_calls.specs.declared.interface.InterfacePatch.{InterfacePatch}
 use Rattle.api_calls.specs.declared.limiter.Limiter.{Limiter}
 use Rattle.api_calls.specs.declared.call.SnapshotType.{SnapshotType}
 use Rattle.api_calls.specs.declared.call.SnapshotType.TheVariants as snapshot
@@ -19,7 +20,7 @@ use Rattle.vm_config.specs.declared.config.Config.{Config}
 use Rattle.vm_config.specs.declared.change.Change.{Change}
 use Rattle.vm_config.specs.declared.change.Change.TheVariants as change
 use Rattle.vm_config.specs.Changes.{changed, default_config, with_amount, with_interval}
-use Rattle.vm_config.specs.Devices.{balloon_device}
+use Rattle.vm_config.specs.Devices.{balloon_device, interface_device}
 use Rattle.vm_config.specs.Drives.{device_of}
 use Rattle.api_rules.specs.declared.ids.Ids.{Ids}
 use Rattle.api_rules.specs.Ids.{based, spent}
@@ -33,7 +34,7 @@ use Rattle.flat_guest.specs.Given.{Given}
 use Rattle.flat_guest.specs.Guest.{Guest, unwritten}
 use Rattle.flat_machine.specs.Machine.{Machine, first_ids, new_machine}
 use Rattle.flat_machine.specs.Balloon.{interval_told, target_in}
-use Rattle.flat_machine.specs.Limits.{limits_told}
+use Rattle.flat_machine.specs.Limits.{limits_told, receives_told, transmits_told}
 use Rattle.flat_machine.specs.Requests.{halted, parent_of, shows_by}
 use Rattle.flat_machine.specs.Ready.{IsBaseBefore, IsReadyGuest, Ready, ReadyBy}
 use Rattle.flat_machine.proofs.Ready.{base_later, drained_ready, event_ready, guest_ready, halted_ready, makes_ready, new_ready, reset_ready, resumed_ready, unwritten_ready}
@@ -51,7 +52,7 @@ use Rattle.monitor_machine.specs.Live.{Live}
 use Rattle.monitor_machine.specs.Plans.{halted_world, paused_by, world_by}
 use Rattle.monitor_machine.specs.Ready.{IsReadyLive}
 use Rattle.monitor_machine.specs.State.{IsGuestBy, IsLive}
-use Rattle.monitor_machine.specs.Telling.{Relimits, Retargets, Retimes, TellsChange, TellsDevice}
+use Rattle.monitor_machine.specs.Telling.{Relimits, RelimitsBoth, Retargets, Retimes, TellsChange, TellsDevice}
 use Rattle.monitor_machine.proofs.Leaving.{left_is}
 use Rattle.monitor_machine.proofs.Lines.{some_guest}
 
@@ -179,10 +180,17 @@ tells_stay live device change shows after fits tells it = by_guest device live.g
         changes_to live w v on (told k change shown on.guest)
         (told_ready on.flat.config on.flat.paused on.guest k change shown fits on.stands) (is on.guest on.world)
 
-pub relimits_stay : (live : Live) (limiter : Option Limiter) (device : Option ℕ) (after : Option WorldValue)
-    → Relimits limiter device live.guest after → IsReadyLive live → IsReadyLive (record live { guest = after })
-relimits_stay live None device after tells it = same_stays live after (sym tells) it
-relimits_stay live (Some l) device after tells it = tells_stay live device (limits_told l) (shows_by (limits_told l)) after tt tells it
+pub relimits_stay : (live : Live) (tells : Limiter → DeviceChange) → ((l : Limiter) → FitsChange (tells l)) → (limiter : Option Limiter)
+    (device : Option ℕ) (after : Option WorldValue) → Relimits tells limiter device live.guest after → IsReadyLive live
+    → IsReadyLive (record live { guest = after })
+relimits_stay live tells fit None device after is it = same_stays live after (sym is) it
+relimits_stay live tells fit (Some l) device after is it = tells_stay live device (tells l) (shows_by (tells l)) after (fit l) is it
+
+both_stay : (live : Live) (patch : InterfacePatch) (device : Option ℕ) (after : Option WorldValue)
+    → RelimitsBoth patch device live.guest after → IsReadyLive live → IsReadyLive (record live { guest = after })
+both_stay live patch device after (mid, receives, transmits) it =
+    relimits_stay (record live { guest = mid }) transmits_told (λ l. tt) patch.tx_rate_limiter device after transmits
+    (relimits_stay live receives_told (λ l. tt) patch.rx_rate_limiter device mid receives it)
 
 retargets_stay : (live : Live) (balloon : Option Balloon) (device : Option ℕ) (after : Option WorldValue)
     → Retargets balloon device live.guest after → IsReadyLive live → IsReadyLive (record live { guest = after })
@@ -198,13 +206,16 @@ retimes_stay live (Some b) device after tells it = tells_stay live device (inter
 pub told_stays : (live : Live) (it : Change) (after : Option WorldValue) → TellsChange it live.config live.guest after → IsReadyLive live
     → IsReadyLive (record live { guest = after })
 told_stays live (change.PatchDrive patch) after tells it =
-    relimits_stay live patch.rate_limiter (device_of live.config.drives patch.drive_id) after tells it
+    relimits_stay live limits_told (λ l. tt) patch.rate_limiter (device_of live.config.drives patch.drive_id) after tells it
+told_stays live (change.PatchInterface patch) after tells it =
+    both_stay live patch (interface_device live.config patch.iface_id) after tells it
 told_stays live (change.PatchBalloon patch) after tells it =
     retargets_stay live (with_amount patch live.config.balloon) (balloon_device live.config) after tells it
 told_stays live (change.PatchStatistics patch) after tells it =
     retimes_stay live (with_interval patch live.config.balloon) (balloon_device live.config) after tells it
 told_stays live (change.BootSource source) after tells it = same_stays live after (sym tells) it
 told_stays live (change.PutDrive drive) after tells it = same_stays live after (sym tells) it
+told_stays live (change.PutInterface interface) after tells it = same_stays live after (sym tells) it
 told_stays live (change.MachineConfig machine) after tells it = same_stays live after (sym tells) it
 told_stays live (change.PutBalloon balloon) after tells it = same_stays live after (sym tells) it
 told_stays live (change.PutMetadata body) after tells it = same_stays live after (sym tells) it
@@ -241,6 +252,8 @@ stand_guest (change.State Resumed) paused config guest is = (guest, λ w here. h
 stand_guest (change.BootSource source) paused config guest is = (guest, λ w here. here, is)
 stand_guest (change.PutDrive drive) paused config guest is = (guest, λ w here. here, is)
 stand_guest (change.PatchDrive patch) paused config guest is = (guest, λ w here. here, is)
+stand_guest (change.PutInterface interface) paused config guest is = (guest, λ w here. here, is)
+stand_guest (change.PatchInterface patch) paused config guest is = (guest, λ w here. here, is)
 stand_guest (change.MachineConfig machine) paused config guest is = (guest, λ w here. here, is)
 stand_guest (change.PutBalloon balloon) paused config guest is = (guest, λ w here. here, is)
 stand_guest (change.PatchBalloon patch) paused config guest is = (guest, λ w here. here, is)

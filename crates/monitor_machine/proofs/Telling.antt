@@ -11,7 +11,7 @@ use Rattle.vm_config.specs.declared.change.Change.{Change}
 use Rattle.vm_config.specs.declared.change.Change.TheVariants as change
 use Rattle.vm_config.specs.declared.config.Config.{Config}
 use Rattle.vm_config.specs.Changes.{with_amount, with_interval}
-use Rattle.vm_config.specs.Devices.{balloon_device}
+use Rattle.vm_config.specs.Devices.{balloon_device, interface_device}
 use Rattle.vm_config.specs.Drives.{device_of}
 use Rattle.device_trace.specs.Doing.{Doing, Gives, Wants, asked}
 use Rattle.device_trace.specs.Script.{Script, Ends, data_of, perform}
@@ -38,6 +38,7 @@ use Rattle.guest_devices.specs.Kept.{device_left, is_kept, is_sized, is_state_ke
 use Rattle.guest_devices.specs.Kinds.{Balloon as BalloonKind, hand_of, is_work_of, service_of, times_of}
 use Rattle.flat_guest.specs.Guest.{Guest}
 use Rattle.flat_machine.specs.Balloon.{DeviceTells, TellsBalloon, interval_told, statistics_left, target_in, target_of}
+use Rattle.flat_machine.specs.Limits.{limits_told, receives_told, transmits_told}
 use Rattle.flat_machine.specs.Requests.{relimited, retargeted, retimed, shows_by, told_at}
 use Rattle.vm_world.specs.Telling as world
 use Rattle.vm_world.specs.Worlds.{IsWorld, WorldValue}
@@ -83,6 +84,7 @@ left_tells : (it : Device) (p : PortState) → is_kept it ≡ true → told_by (
 left_tells (device.Balloon b) p kept =
     ap (λ (d : DataOf BalloonKind). told_by (Some p.config) (Some d.own.statistics)) (sym (device_root (device.Balloon b) kept))
 left_tells (device.Block b) p kept = refl
+left_tells (device.Net n) p kept = refl
 
 -- ---- what the balloon of a world tells is what the guest's does
 
@@ -160,10 +162,10 @@ tells_at (Some k) change shows (Some w) v None is tells = absurd is
 tells_at (Some k) change shows (Some w) None (Some g) is tells = absurd tells
 tells_at (Some k) change shows (Some w) (Some v) (Some g) is tells = tells g is
 
-pub relimits_at : (limiter : Option Limiter) (number : Option ℕ) (w v : Option WorldValue) (g : Option Guest) → IsGuestBy w g
-    → Relimits limiter number w v → IsGuestBy v (relimited limiter number g)
-relimits_at None number w v g is tells = subst (λ (o : Option WorldValue). IsGuestBy o g) (sym tells) is
-relimits_at (Some l) number w v g is tells = tells_at number _ _ w v g is tells
+pub relimits_at : (of : Limiter → DeviceChange) (limiter : Option Limiter) (number : Option ℕ) (w v : Option WorldValue) (g : Option Guest)
+    → IsGuestBy w g → Relimits of limiter number w v → IsGuestBy v (relimited of limiter number g)
+relimits_at of None number w v g is tells = subst (λ (o : Option WorldValue). IsGuestBy o g) (sym tells) is
+relimits_at of (Some l) number w v g is tells = tells_at number (of l) (shows_by (of l)) w v g is tells
 
 retargets_at : (balloon : Option Balloon) (number : Option ℕ) (w v : Option WorldValue) (g : Option Guest) → IsGuestBy w g
     → Retargets balloon number w v → IsGuestBy v (retargeted balloon number g)
@@ -177,7 +179,10 @@ retimes_at (Some b) number w v g is tells = tells_at number (interval_told b) (s
 
 -- what a change that asks no file tells a guest
 abbrev pub told_guest : Change → Config → Option Guest → Option Guest
-told_guest (change.PatchDrive patch) config g = relimited patch.rate_limiter (device_of config.drives patch.drive_id) g
+told_guest (change.PatchDrive patch) config g = relimited limits_told patch.rate_limiter (device_of config.drives patch.drive_id) g
+told_guest (change.PatchInterface patch) config g =
+    relimited transmits_told patch.tx_rate_limiter (interface_device config patch.iface_id)
+    (relimited receives_told patch.rx_rate_limiter (interface_device config patch.iface_id) g)
 told_guest (change.PatchBalloon patch) config g = retargeted (with_amount patch config.balloon) (balloon_device config) g
 told_guest (change.PatchStatistics patch) config g = retimed (with_interval patch config.balloon) (balloon_device config) g
 told_guest it config g = g
@@ -185,13 +190,18 @@ told_guest it config g = g
 pub change_at : (it : Change) (config : Config) (w v : Option WorldValue) (g : Option Guest) → IsGuestBy w g → TellsChange it config w v
     → IsGuestBy v (told_guest it config g)
 change_at (change.PatchDrive patch) config w v g is tells =
-    relimits_at patch.rate_limiter (device_of config.drives patch.drive_id) w v g is tells
+    relimits_at limits_told patch.rate_limiter (device_of config.drives patch.drive_id) w v g is tells
+change_at (change.PatchInterface patch) config w v g is (mid, receives, transmits) =
+    let number = interface_device config patch.iface_id in
+    relimits_at transmits_told patch.tx_rate_limiter number mid v (relimited receives_told patch.rx_rate_limiter number g)
+    (relimits_at receives_told patch.rx_rate_limiter number w mid g is receives) transmits
 change_at (change.PatchBalloon patch) config w v g is tells =
     retargets_at (with_amount patch config.balloon) (balloon_device config) w v g is tells
 change_at (change.PatchStatistics patch) config w v g is tells =
     retimes_at (with_interval patch config.balloon) (balloon_device config) w v g is tells
 change_at (change.BootSource source) config w v g is tells = subst (λ (o : Option WorldValue). IsGuestBy o g) (sym tells) is
 change_at (change.PutDrive drive) config w v g is tells = subst (λ (o : Option WorldValue). IsGuestBy o g) (sym tells) is
+change_at (change.PutInterface interface) config w v g is tells = subst (λ (o : Option WorldValue). IsGuestBy o g) (sym tells) is
 change_at (change.MachineConfig machine) config w v g is tells = subst (λ (o : Option WorldValue). IsGuestBy o g) (sym tells) is
 change_at (change.PutBalloon balloon) config w v g is tells = subst (λ (o : Option WorldValue). IsGuestBy o g) (sym tells) is
 change_at (change.PutMetadata body) config w v g is tells = subst (λ (o : Option WorldValue). IsGuestBy o g) (sym tells) is

@@ -6,6 +6,7 @@ use Rattle.serde_json.specs.Data.{Data, null}
 use Rattle.vm_outside.specs.Known.{FilesKnown}
 use Rattle.http_stream.specs.declared.request.Next.{Next}
 use Rattle.api_calls.specs.declared.call.Drive.{Drive}
+use Rattle.api_calls.specs.declared.interface.Interface.{Interface}
 use Rattle.api_calls.specs.declared.call.SnapshotCreate.{SnapshotCreate}
 use Rattle.api_calls.specs.declared.call.SnapshotFiles.{SnapshotFiles}
 use Rattle.api_calls.specs.declared.call.SnapshotLoad.{SnapshotLoad}
@@ -17,6 +18,7 @@ use Rattle.vm_config.specs.declared.change.Change.{Change}
 use Rattle.vm_config.specs.declared.change.Change.TheVariants as change
 use Rattle.vm_config.specs.Changes.{changed, takes_memory}
 use Rattle.vm_config.specs.Drives.{device_of, put_drive}
+use Rattle.vm_config.specs.Interfaces.{put_interface}
 use Rattle.vm_config.specs.Texts.{Told}
 use Rattle.api_rules.specs.declared.answer.Answer.{Answer}
 use Rattle.api_rules.specs.Ids.{based, spent}
@@ -35,6 +37,7 @@ use Rattle.snap_writer.specs.Selected.{can_select, selected}
 use Rattle.flat_snapshot.specs.Found.{Snapshot, found}
 use Rattle.response_form.specs.declared.form.ResponseForm.{ResponseForm}
 use Rattle.response_form.specs.Responses.{Response, written_as}
+use Rattle.flat_machine.specs.Limits.{limits_told}
 use Rattle.flat_machine.specs.Machine.{Machine}
 use Rattle.flat_machine.specs.Ready.{IsFitting}
 use Rattle.flat_machine.specs.Requests.{allowed, decided, devices_from, disk_of, image_of, loads_from, next_identity, parent_in, sectors_of}
@@ -63,10 +66,11 @@ phase_by (Some w) true = phase.Paused
 abbrev pub phase_of : LiveMachine → Phase
 phase_of live = phase_by live.guest live.paused
 
--- a change that neither makes a guest, nor reads or writes a file, nor stores metadata, nor puts a drive
+-- a change that neither makes a guest, nor reads or writes a file, nor stores metadata, nor puts a drive or an interface
 abbrev pub is_plain : Change → Bool
 is_plain (change.PutDrive drive) = false
 is_plain (change.PatchDrive patch) = is_none patch.path_on_host
+is_plain (change.PutInterface interface) = false
 is_plain (change.PutMetadata body) = false
 is_plain (change.PatchMetadata patch) = false
 is_plain change.Start = false
@@ -136,6 +140,9 @@ IsPlan (plan.Refused why) m given = allowed m given ≡ Err why
 IsPlan (plan.Changes it) m given = (allowed m given ≡ Ok it) × (is_plain it ≡ true)
 IsPlan (plan.Drives drives) m given =
     (drive : Drive) × (allowed m given ≡ Ok (change.PutDrive drive)) × (drives ≡ put_drive m.config.drives drive)
+IsPlan (plan.Interfaces interfaces) m given =
+    (interface : Interface) × (allowed m given ≡ Ok (change.PutInterface interface))
+    × (interfaces ≡ put_interface m.config.interfaces interface)
 IsPlan (plan.Resizes r) m given = IsAnotherFile r m given
 IsPlan (plan.Stores kept) m given = (it : Change) × (allowed m given ≡ Ok it) × IsKept kept m it
 IsPlan (plan.Starts w) m given =
@@ -222,6 +229,7 @@ abbrev pub plan_outcome : Plan → Outcome
 plan_outcome (plan.Refused why) = Answered
 plan_outcome (plan.Changes it) = Answered
 plan_outcome (plan.Drives drives) = Answered
+plan_outcome (plan.Interfaces interfaces) = Answered
 plan_outcome (plan.Resizes r) = Answered
 plan_outcome (plan.Stores kept) = Answered
 plan_outcome (plan.Starts w) = Answered
@@ -249,6 +257,8 @@ world_by it paused world = world
 abbrev pub plan_after : Plan → LiveMachine → LiveMachine
 plan_after (plan.Drives drives) live =
     record live { config = record live.config { drives = drives; configured = true } }
+plan_after (plan.Interfaces interfaces) live =
+    record live { config = record live.config { interfaces = interfaces; configured = true } }
 plan_after (plan.Stores kept) live = record live { metadata = kept }
 plan_after (plan.Starts w) live =
     record live { config = changed live.config change.Start; guest = Some w; paused = false }
@@ -276,7 +286,7 @@ pub record TakesChange (it : Change) (live after : LiveMachine) : Type 0 where
 pub record TakesFile (r : Resize) (live after : LiveMachine) : Type 0 where
   pub mid : Option WorldValue
   pub world : Resizes r.device r.sectors live.guest mid
-  pub limits : Relimits r.patch.rate_limiter r.device mid after.guest
+  pub limits : Relimits limits_told r.patch.rate_limiter r.device mid after.guest
   pub rest :
       after ≡ record live { config = changed live.config (change.PatchDrive r.patch); guest = after.guest }
 

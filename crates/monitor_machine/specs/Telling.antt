@@ -1,13 +1,14 @@
 -- What a live machine tells of its balloon, and what becomes of its world where a device is told of a change.
 use Rattle.std.specs.Prelude.{◌≡◌, ℕ, List, Option, Some, None, option_and_then, option_map, slice_get}
 use Rattle.api_calls.specs.declared.balloon.Balloon.{Balloon}
+use Rattle.api_calls.specs.declared.interface.InterfacePatch.{InterfacePatch}
 use Rattle.api_calls.specs.declared.limiter.Limiter.{Limiter}
 use Rattle.vm_config.specs.declared.change.Change.{Change}
 use Rattle.vm_config.specs.declared.change.Change.TheVariants as change
 use Rattle.vm_config.specs.declared.config.Config.{Config}
 use Rattle.vm_config.specs.declared.statistics.Statistics as tell
 use Rattle.vm_config.specs.Changes.{with_amount, with_interval}
-use Rattle.vm_config.specs.Devices.{balloon_device}
+use Rattle.vm_config.specs.Devices.{balloon_device, interface_device}
 use Rattle.vm_config.specs.Drives.{device_of}
 use Rattle.port_table.specs.declared.state.PortState.{PortState}
 use Rattle.balloon_device.specs.declared.statistics.Statistics.{Statistics}
@@ -16,7 +17,7 @@ use Rattle.guest_devices.specs.Kinds.{sectors_change}
 use Rattle.flat_guest.specs.Changes.{told}
 use Rattle.flat_guest.specs.Guest.{Guest}
 use Rattle.flat_machine.specs.Balloon.{TellsBalloon, interval_told, statistics_of, target_in}
-use Rattle.flat_machine.specs.Limits.{limits_told}
+use Rattle.flat_machine.specs.Limits.{limits_told, receives_told, transmits_told}
 use Rattle.flat_machine.specs.Machine.{Machine}
 use Rattle.flat_machine.specs.Requests.{shows_by}
 use Rattle.vm_world.specs.Telling as world
@@ -64,10 +65,16 @@ abbrev pub Resizes : Option ℕ → ℕ → Option WorldValue → Option WorldVa
 Resizes device sectors world after =
     TellsDevice device (sectors_change sectors) (shows_by (sectors_change sectors)) world after
 
--- its limits, if they are given
-abbrev pub Relimits : Option Limiter → Option ℕ → Option WorldValue → Option WorldValue → Type 0
-Relimits None device world after = after ≡ world
-Relimits (Some l) device world after = TellsDevice device (limits_told l) (shows_by (limits_told l)) world after
+-- its limits, if they are given, so
+abbrev pub Relimits : (Limiter → DeviceChange) → Option Limiter → Option ℕ → Option WorldValue → Option WorldValue → Type 0
+Relimits tells None device world after = after ≡ world
+Relimits tells (Some l) device world after = TellsDevice device (tells l) (shows_by (tells l)) world after
+
+-- both limits of an interface, that of what it receives first
+abbrev pub RelimitsBoth : InterfacePatch → Option ℕ → Option WorldValue → Option WorldValue → Type 0
+RelimitsBoth patch device world after =
+    (mid : Option WorldValue) × Relimits receives_told patch.rx_rate_limiter device world mid
+    × Relimits transmits_told patch.tx_rate_limiter device mid after
 
 -- how much the balloon is to take
 abbrev pub Retargets : Option Balloon → Option ℕ → Option WorldValue → Option WorldValue → Type 0
@@ -82,7 +89,9 @@ Retimes (Some b) device world after = TellsDevice device (interval_told b) (show
 -- what a change tells that asks no file
 abbrev pub TellsChange : Change → Config → Option WorldValue → Option WorldValue → Type 0
 TellsChange (change.PatchDrive patch) config world after =
-    Relimits patch.rate_limiter (device_of config.drives patch.drive_id) world after
+    Relimits limits_told patch.rate_limiter (device_of config.drives patch.drive_id) world after
+TellsChange (change.PatchInterface patch) config world after =
+    RelimitsBoth patch (interface_device config patch.iface_id) world after
 TellsChange (change.PatchBalloon patch) config world after =
     Retargets (with_amount patch config.balloon) (balloon_device config) world after
 TellsChange (change.PatchStatistics patch) config world after =

@@ -4,4 +4,5 @@ pub mod Headings
 pub mod Heads
 pub mod LimitsHeld
 pub mod Loads
+pub mod NetsMade
 pub mod Standing

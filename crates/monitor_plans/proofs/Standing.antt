@@ -60,6 +60,7 @@ start_ready config image disk devices w taken there many kinds fit fits is =
           configured = record {
             source = own.source;
             drives = own.drives;
+            interfaces = own.interfaces;
             machine = own.machine;
             balloon = own.balloon;
             room = own.room;

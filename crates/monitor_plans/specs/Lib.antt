@@ -1,6 +1,8 @@
 pub mod Creating
 pub mod DriveChanges
 pub mod Headings
+pub mod InterfaceChanges
+pub mod Limiting
 pub mod Plans
 pub mod Restoring
 pub mod Starting

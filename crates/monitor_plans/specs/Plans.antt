@@ -8,7 +8,7 @@ use Rattle.vm_config.specs.declared.change.Change.TheVariants as change
 use Rattle.api_rules.specs.declared.answer.Answer.{Answer}
 use Rattle.api_rules.specs.Answers.{accepted, no_content, refused}
 use Rattle.flat_guest.specs.Guest.{Guest}
-use Rattle.flat_machine.specs.Ready.{AreFitting, IsFitting, IsReadyGuest}
+use Rattle.flat_machine.specs.Ready.{AreFitting, AreLinked, IsFitting, IsReadyGuest}
 use Rattle.vm_config.specs.Changes.{changed}
 use Rattle.vm_config.specs.Texts.{Told}
 use Rattle.vm_world.specs.Worlds.{IsWorld, WorldValue}
@@ -22,6 +22,7 @@ abbrev pub plan_answer : Plan → Told → Answer
 plan_answer (plan.Refused why) told = refused why
 plan_answer (plan.Changes it) told = accepted it told
 plan_answer (plan.Drives drives) told = no_content
+plan_answer (plan.Interfaces interfaces) told = no_content
 plan_answer (plan.Resizes r) told = no_content
 plan_answer (plan.Stores kept) told = no_content
 plan_answer (plan.Starts w) told = no_content
@@ -32,7 +33,8 @@ plan_answer plan.NoMemory told = refused refusal.OutOfMemory
 -- what it makes of this configuration is as the API takes it
 abbrev pub IsFittingPlan : Plan → Config → Type 0
 IsFittingPlan (plan.Changes it) config = IsFitting config it
-IsFittingPlan (plan.Drives drives) config = AreFitting drives config.balloon
+IsFittingPlan (plan.Drives drives) config = AreFitting drives config.interfaces config.balloon
+IsFittingPlan (plan.Interfaces interfaces) config = AreLinked config.drives interfaces config.balloon
 IsFittingPlan (plan.Resizes r) config = IsFitting config (change.PatchDrive r.patch)
 IsFittingPlan it config = Unit {0}
 
@@ -51,6 +53,7 @@ IsReadyPlan it config = Unit {0}
 abbrev pub IsEarly : Change → Option WorldValue → Type 0
 IsEarly (change.BootSource source) world = world ≡ None
 IsEarly (change.PutDrive drive) world = world ≡ None
+IsEarly (change.PutInterface interface) world = world ≡ None
 IsEarly (change.MachineConfig machine) world = world ≡ None
 IsEarly (change.PutBalloon balloon) world = world ≡ None
 IsEarly it world = Unit {0}
@@ -58,6 +61,7 @@ IsEarly it world = Unit {0}
 abbrev pub IsEarlyPlan : Plan → Option WorldValue → Type 0
 IsEarlyPlan (plan.Changes it) world = IsEarly it world
 IsEarlyPlan (plan.Drives drives) world = world ≡ None
+IsEarlyPlan (plan.Interfaces interfaces) world = world ≡ None
 IsEarlyPlan it world = Unit {0}
 
 -- a machine that is configured so, with this world, and is ready stays so by the plan

@@ -1,13 +1,15 @@
 -- What a start comes to, by the configuration and what the files hold.
-use Rattle.std.specs.Prelude.{◌≡◌, ℕ, List, [], ◌∷◌, ◌++◌, Option, Some, None}
+use Rattle.std.specs.Prelude.{◌≡◌, ℕ, List, [], ◌∷◌, ◌++◌, map, Option, Some, None}
 use Rattle.vm_types.specs.Saved.{Saved}
 use Rattle.api_calls.specs.declared.balloon.Balloon.{Balloon}
+use Rattle.api_calls.specs.declared.interface.Interface.{Interface}
 use Rattle.vm_config.specs.declared.config.Config.{Config}
 use Rattle.guest_devices.specs.declared.new_device.NewDevice.{NewDevice}
 use Rattle.guest_devices.specs.declared.new_device.NewDevice.TheVariants as starts
 use Rattle.guest_devices.specs.Devices.{FitsNew}
 use Rattle.flat_guest.specs.Start.{started}
 use Rattle.flat_machine.specs.Balloon.{new_balloon}
+use Rattle.flat_machine.specs.Interfaces.{new_net}
 use Rattle.flat_machine.specs.Requests.{disk_by, devices_from, image_by, initrd_name, loads_from, start_refusal}
 use Rattle.vm_world.specs.Worlds.{IsWorld}
 use Rattle.monitor_plans.specs.declared.plan.Plan.{Plan}
@@ -23,12 +25,21 @@ disk_in config saved = disk_by (initrd_name config.boot_source) saved
 -- it is a block device, which may start so
 abbrev pub FitsDrive : NewDevice → Type 0
 FitsDrive (starts.Block d) = FitsNew (starts.Block d)
+FitsDrive (starts.Net n) = ⊥
 FitsDrive (starts.Balloon b) = ⊥
 
--- the balloon stands behind them
+-- what the device of an interface starts with
+abbrev pub net_start : Interface → NewDevice
+net_start i = starts.Net (new_net i)
+
+-- the balloon stands last
 abbrev pub with_balloon : List NewDevice → Option Balloon → List NewDevice
 with_balloon drives None = drives
 with_balloon drives (Some b) = drives ++ starts.Balloon (new_balloon b) ∷ []
+
+-- the devices of the interfaces stand behind the drives, and before the balloon
+abbrev pub with_others : List NewDevice → List Interface → Option Balloon → List NewDevice
+with_others drives interfaces balloon = with_balloon (drives ++ map net_start interfaces) balloon
 
 abbrev pub StartGives : Plan → Config → Saved → Type 0
 StartGives (plan.Starts w) config saved =

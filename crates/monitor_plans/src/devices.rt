@@ -1,5 +1,5 @@
 // The devices that a start makes.
-ghost use Rattle.std.specs.Prelude.{All, ◌≡◌, IfOk, length};
+ghost use Rattle.std.specs.Prelude.{All, ◌≡◌, ◌++◌, true, IfOk, OnOk, length, map};
 ghost use Rattle.flat_guest.specs.Shaped.{kinds_at_start};
 ghost use Rattle.flat_machine.specs.Ready.{IsTaken};
 ghost use Rattle.flat_machine.specs.Requests.{devices_from, have_files};
@@ -10,15 +10,47 @@ ghost use Rattle.snap_state.specs.Valid.{kinds_of};
 ghost use Rattle.vm_config.specs.Devices.{device_count};
 ghost use Rattle.vm_outside.specs.Filing.{SameFiles};
 ghost use Rattle.vm_outside.specs.Known.{Lasts, Tells};
-ghost use Rattle.monitor_plans.specs.Starting.{with_balloon};
+ghost use Rattle.snap_state.specs.Valid.{is_interface};
+ghost use Rattle.std.specs.List.{list_all};
+ghost use Rattle.monitor_plans.specs.Starting.{net_start, with_balloon, with_others};
 
 use crate::balloon::new_balloon;
 use crate::drives::{DriveFiles, drive_files};
+use crate::nets::new_net;
+use api_calls::Interface;
 use api_rules::Config;
 use gate_file::FileError;
 use guest_devices::NewDevice;
 use std::alloc::{AllocError, Global};
 use vm_outside::Files;
+
+// The devices of interfaces, in their order.
+#[tactic(auto, using(crate::proofs::NetsMade::first_interface, crate::proofs::NetsMade::other_interfaces, crate::proofs::NetsMade::none_pushed, crate::proofs::NetsMade::one_pushed,))]
+fn push_nets(devices: &mut Vec<NewDevice>, interfaces: &[Interface]) -> Result<(), AllocError>
+    requires { list_all is_interface interfaces.now ≡ true }
+    ensures { OnOk result (devices.new.items ≡ devices.old.items ++ map net_start interfaces.now) }
+{
+    match interfaces {
+        [] => Ok(()),
+        [first, others @ ..] => {
+            devices.push(NewDevice::Net(new_net(first)))?;
+            push_nets(devices, others)
+        }
+    }
+}
+
+fn with_interfaces(found: DriveFiles, interfaces: &[Interface]) -> Result<DriveFiles, AllocError>
+    requires { list_all is_interface interfaces.now ≡ true }
+    ensures drives { IfOk result (λ it. it.drives.items ≡ found.drives.items ++ map net_start interfaces.now) }
+    ensures there { IfOk result (λ it. it.are_there ≡ found.are_there) }
+{
+    let mut drives = found.drives;
+    push_nets(&mut drives, interfaces)?;
+    Ok(DriveFiles {
+        drives,
+        are_there: found.are_there,
+    })
+}
 
 // The balloon stands last.
 fn with_balloon(found: DriveFiles, config: &Config) -> Result<DriveFiles, AllocError>
@@ -37,6 +69,18 @@ fn with_balloon(found: DriveFiles, config: &Config) -> Result<DriveFiles, AllocE
             })
         }
     }
+}
+
+// The interfaces stand behind the drives, and before the balloon.
+#[tactic(auto, using(crate::proofs::NetsMade::interfaces_taken, crate::proofs::NetsMade::others_with))]
+fn with_others(found: DriveFiles, config: &Config) -> Result<DriveFiles, AllocError>
+    requires { IsTaken config.now }
+    ensures drives { IfOk result (λ it. it.drives.items
+        ≡ with_others found.drives.items config.now.interfaces config.now.balloon) }
+    ensures there { IfOk result (λ it. it.are_there ≡ found.are_there) }
+{
+    let linked = with_interfaces(found, config.interfaces.as_slice())?;
+    with_balloon(linked, config)
 }
 
 /// The devices of a machine that is configured so, the drives by their files, asked in the order of devices.
@@ -58,7 +102,7 @@ pub(crate) fn device_files<F: Files>(
     ensures lasts { Lasts (F.known files.old).health (F.known files.new).health }
 {
     match drive_files(alloc, files, &config.drives) {
-        Ok(found) => match with_balloon(found, config) {
+        Ok(found) => match with_others(found, config) {
             Ok(all) => Ok(all),
             Err(_) => Err(FileError::OutOfMemory),
         },

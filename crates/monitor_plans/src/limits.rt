@@ -1,8 +1,9 @@
-// The buckets of a drive's limits.
+// The buckets of limits.
 ghost use Rattle.std.specs.Prelude.{◌≡◌, Option, Some, true, option_and_then, option_map};
 ghost use Rattle.api_calls.specs.Form.{holds};
 ghost use Rattle.api_calls.specs.Limits.{is_bucket, is_limiter};
 ghost use Rattle.flat_machine.specs.Limits as limits;
+ghost use Rattle.monitor_plans.specs.Limiting.{tells_of};
 
 use api_calls::{BucketConfig, Limiter};
 use guest_devices::DeviceChange;
@@ -47,7 +48,7 @@ fn gate_by(limiter: &Limiter) -> RateGate
     RateGate::new(bucket_by(&limiter.bandwidth), bucket_by(&limiter.ops))
 }
 
-/// What a drive with these limits starts with.
+/// What a drive with these limits, or either way of an interface, starts with.
 pub fn gate_of(limiter: &Option<Limiter>) -> RateGate
     requires { holds is_limiter limiter.now ≡ true }
     ensures { result ≡ limits.limits_of limiter.now }
@@ -58,13 +59,28 @@ pub fn gate_of(limiter: &Option<Limiter>) -> RateGate
     }
 }
 
-/// What a PATCH with these limits tells the device of the drive.
+/// Which limits of a device they are.
+#[derive(Clone, Copy, Drop)]
+pub enum LimitsOf {
+    /// Of the requests of a drive.
+    Requests,
+    /// Of the frames that an interface receives.
+    Receives,
+    /// Of those that it transmits.
+    Transmits,
+}
+
+/// What a PATCH with these limits tells the device.
 #[tactic(auto, using(crate::proofs::LimitsHeld::bandwidth_holds, crate::proofs::LimitsHeld::ops_holds))]
-pub fn limits_told(limiter: &Limiter) -> DeviceChange
+pub fn limits_told(of: LimitsOf, limiter: &Limiter) -> DeviceChange
     requires { is_limiter limiter.now ≡ true }
-    ensures { result ≡ limits.limits_told limiter.now }
+    ensures { result ≡ tells_of of limiter.now }
 {
     let bandwidth = bucket_told(&limiter.bandwidth);
     let ops = bucket_told(&limiter.ops);
-    DeviceChange::of_limits(bandwidth, ops)
+    match of {
+        LimitsOf::Requests => DeviceChange::of_limits(bandwidth, ops),
+        LimitsOf::Receives => DeviceChange::of_receives(bandwidth, ops),
+        LimitsOf::Transmits => DeviceChange::of_transmits(bandwidth, ops),
+    }
 }

@@ -9,17 +9,18 @@ use api_rules::{Answer, Change, Config, Phase, accepted_answer, done_answer, fau
 use metadata_store::Store;
 use refusals::Refusal;
 use std::alloc::{AllocError, Global};
-use vm_config::{Drives, Statistics};
+use vm_config::{Drives, Interfaces, Statistics};
 use vm_world::World;
 
-/// What comes of a request, where no file is left to be written: it is refused; it changes this; the drives are these; a
-/// drive has another file; it stores these metadata; it starts this guest; it goes on from a snapshot; a call on the files
+/// What comes of a request, where no file is left to be written: it is refused; it changes this; the drives are these; the
+/// interfaces are these; a drive has another file; it stores these metadata; it starts this guest; it goes on from a snapshot; a call on the files
 /// failed; or there is no memory.
 #[derive(Drop)]
 pub enum Plan {
     Refused(Refusal),
     Changes(Change),
     Drives(Drives),
+    Interfaces(Interfaces),
     Resizes(Resize),
     Stores(Store),
     Starts(World),
@@ -60,7 +61,7 @@ impl Plan {
             Plan::Changes(change) => {
                 accepted_answer(alloc, change, id, phase, config, metadata, statistics)
             },
-            Plan::Drives(_) | Plan::Resizes(_) => Ok(done_answer()),
+            Plan::Drives(_) | Plan::Interfaces(_) | Plan::Resizes(_) => Ok(done_answer()),
             Plan::Stores(_) | Plan::Starts(_) | Plan::Restores(_) => Ok(done_answer()),
             Plan::FilesFailed => fault_answer(alloc, Refusal::OutsideFailed),
             Plan::NoMemory => fault_answer(alloc, Refusal::OutOfMemory),

@@ -1,12 +1,12 @@
 // What is configured, as the API takes it.
 ghost use Rattle.std.specs.Prelude.{◌≡◌, IsOk, OnOk, OnErr, false, true};
 ghost use Rattle.vm_config.specs.Changes.{changed, default_config, takes_memory};
-ghost use Rattle.flat_machine.specs.Ready.{AreFitting, IsFitting, IsTaken};
+ghost use Rattle.flat_machine.specs.Ready.{AreFitting, AreLinked, IsFitting, IsTaken};
 
 use api_rules::{Change, Config};
 use std::alloc::{AllocError, Global};
 use std::marker::Model;
-use vm_config::Drives;
+use vm_config::{Drives, Interfaces};
 
 /// What is configured, each part of which is as the API takes it. So it has from 1 to 32 harts, from 4 to 1,024 MiB of memory
 /// and at most 16 devices, and a start of it comes to no bound of the machine.
@@ -52,7 +52,7 @@ impl TakenConfig {
         &self.config
     }
 
-    /// Takes what an accepted call changes, which leaves it as the API takes it. Only one drive more takes memory. An `Err`
+    /// Takes what an accepted call changes, which leaves it as the API takes it. Only one drive or interface more takes memory. An `Err`
     /// changes nothing.
     pub fn apply(&mut self, change: Change) -> Result<(), AllocError>
         requires { IsFitting self.old change }
@@ -65,9 +65,17 @@ impl TakenConfig {
 
     /// Takes the drives that a PUT of one leaves, which are as the API takes them.
     pub fn set_drives(&mut self, drives: Drives)
-        requires { AreFitting drives self.old.balloon }
+        requires { AreFitting drives self.old.interfaces self.old.balloon }
         ensures { self.new ≡ record self.old { drives = drives; configured = true } }
     {
         self.config.set_drives(drives);
+    }
+
+    /// Takes the interfaces that a PUT of one leaves, which are as the API takes them.
+    pub fn set_interfaces(&mut self, interfaces: Interfaces)
+        requires { AreLinked self.old.drives interfaces self.old.balloon }
+        ensures { self.new ≡ record self.old { interfaces = interfaces; configured = true } }
+    {
+        self.config.set_interfaces(interfaces);
     }
 }

@@ -5,6 +5,7 @@ use Rattle.vm_types.specs.declared.ids.ActorId.{ActorId}
 use Rattle.vm_types.specs.declared.ids.PlaceId.{PlaceId}
 use Rattle.vm_types.specs.declared.entry.Entry.{Entry}
 use Rattle.vm_types.specs.declared.op.Op.{Op}
+use Rattle.vm_types.specs.declared.op.OutOp.TheVariants.{LinkEnd, LinkPart, LinkSend, LinkTake}
 use Rattle.vm_types.specs.declared.reply.Reply.{Reply}
 use Rattle.guest_pages.specs.Made.{is_ready}
 use Rattle.vm_host.specs.Storing.{DiskKnown}
@@ -17,7 +18,7 @@ use Rattle.flat_guest.proofs.Determined.{wants_one}
 use Rattle.vm_world.specs.Refusing.{refusal_of}
 use Rattle.vm_world.specs.Worlds.{IsWorld, MakesEvent, WorldValue, pages_of, place_in}
 use Rattle.slice_runner.specs.Slices.{given_of}
-use Rattle.monitor_running.specs.Devices.{AsksDisk, DiskReplies, DiskRests, HaveActed, IsDevices, IsGivenByDisk}
+use Rattle.monitor_running.specs.Devices.{AsksDisk, DiskReplies, DiskRests, HaveActed, IsDevices, IsGiven, IsGivenBy, IsGivenByDisk, link_reply}
 use Rattle.monitor_running.proofs.Disks.{asked_more, rests_of, rests_same}
 use Rattle.monitor_running.proofs.Going.{given_is, leads_more, step_told}
 
@@ -45,17 +46,31 @@ host_same : (x y : Reply) → Host x ≡ Host y → x ≡ y
 host_same x y is = cc
 
 -- what is given is the disk's reply, and what is not asks none
-asks_by : (k : ℕ) (op : Op) (given : Option Reply) (reply : Reply) (old now : DiskKnown) → IsGivenByDisk k op old given now
+disk_asks : (k : ℕ) (op : Op) (given : Option Reply) (reply : Reply) (old now : DiskKnown) → IsGivenByDisk k op old given now
     → as_given given ≡ given_of op reply → AsksDisk op (ActorId.Device k) reply old now
-asks_by k (Op.Out act) (Some r) reply old now it is =
+disk_asks k (Op.Out act) (Some r) reply old now it is =
     subst (λ (b : _). MatchBool b (DiskReplies k act reply old now) (DiskRests old now)) (sym it.0)
     (subst (λ (x : Reply). DiskReplies k act x old now) (host_same r reply is) it.2)
-asks_by k (Op.Out act) None reply old now it is = let never = is in cc
-asks_by k op None reply old now it is = rests_of old now it
-asks_by k op (Some r) reply old now it is = absurd it
+disk_asks k (Op.Out act) None reply old now it is = let never = is in cc
+disk_asks k op None reply old now it is = rests_of old now it
+disk_asks k op (Some r) reply old now it is = absurd it
+
+-- what calls a link asks no disk
+link_asks : (k : ℕ) (op : Op) (given reply : Reply) (old now : DiskKnown) → link_reply op ≡ Some given → now ≡ old
+    → AsksDisk op (ActorId.Device k) reply old now
+link_asks k (Op.Out LinkTake) given reply old now calls same = rests_of old now same
+link_asks k (Op.Out (LinkPart index length)) given reply old now calls same = rests_of old now same
+link_asks k (Op.Out (LinkSend piece)) given reply old now calls same = rests_of old now same
+link_asks k (Op.Out LinkEnd) given reply old now calls same = rests_of old now same
+link_asks k op given reply old now calls same = cc
+
+asks_by : (k : ℕ) (op : Op) (given : Option Reply) (reply : Reply) (old now : DiskKnown) (link : Option Reply) → link_reply op ≡ link
+    → IsGivenBy link k op old given now → as_given given ≡ given_of op reply → AsksDisk op (ActorId.Device k) reply old now
+asks_by k op given reply old now (Some answer) calls (own, same) is = link_asks k op answer reply old now calls same
+asks_by k op given reply old now None calls it is = disk_asks k op given reply old now it is
 
 module _ (first w : WorldValue) (asked old now : DiskKnown) (es : List Entry) (k : ℕ) (op : Op) (given : Option Reply)
-    (port : k < most_ports) (wants : (g : Guest) → IsWorld w g → Wants g (ActorId.Device k) op) (was_given : IsGivenByDisk k op old given now)
+    (port : k < most_ports) (wants : (g : Guest) → IsWorld w g → Wants g (ActorId.Device k) op) (was_given : IsGiven k op old given now)
     (acted : HaveActed es first w asked old) where
   abbrev event : Event
   event = record { actor = ActorId.Device k; given = as_given given }
@@ -68,8 +83,8 @@ module _ (first w : WorldValue) (asked old now : DiskKnown) (es : List Entry) (k
       given_is (layout_of h) h e.actor e.op (as_given given) e.reply
       (subst (λ (p : PlaceId). Answers p h e.actor e.op (as_given given) e.reply) step.place step.answer) in
       subst (λ (a : ActorId). AsksDisk e.op a e.reply old now) (sym step.actor)
-      (asks_by k e.op given e.reply old now
-      (subst (λ (o : Op). IsGivenByDisk k o old given now) (sym same) was_given) told)
+      (asks_by k e.op given e.reply old now (link_reply e.op) refl
+      (subst (λ (o : Op). IsGiven k o old given now) (sym same) was_given) told)
 
   pub acted_more : (v : WorldValue) (e : Entry) → MakesEvent w event e v → HaveActed (es ++ e ∷ []) first v asked now
   acted_more v e made = record {
@@ -90,12 +105,13 @@ module _ (first w : WorldValue) (asked old now : DiskKnown) (es : List Entry) (k
         (asks before.0 (guest_after before.0 e) e before.2 (made.step before.0 before.2));
   }
 
-  unasked : (given : Option Reply) (op : Op) → IsGivenByDisk k op old given now
+  unasked : (link given : Option Reply) (op : Op) → IsGivenBy link k op old given now
       → ((h : Guest) → IsWorld w h → refusal_of op given ≡ None → is_ready (pages_of w) (place_in w op) ≡ true → ⊥)
       → (h : Guest) → IsWorld w h → now ≡ old
-  unasked None op it never h is = it
-  unasked (Some r) (Op.Out act) it never h is = absurd (never h is (rw it.1 refl) refl)
-  unasked (Some r) op it never h is = absurd it
+  unasked (Some answer) given op it never h is = it.1
+  unasked None None op it never h is = it
+  unasked None (Some r) (Op.Out act) it never h is = absurd (never h is (rw it.1 refl) refl)
+  unasked None (Some r) op it never h is = absurd it
 
   -- where it is refused, or lacks a page, no disk was asked
   pub acted_still : (v : WorldValue) → v ≡ w
@@ -106,5 +122,5 @@ module _ (first w : WorldValue) (asked old now : DiskKnown) (es : List Entry) (k
     made = λ g is. acted.made g is;
     answered = λ g is.
         let before = acted.serial g is in
-        rw (unasked given op was_given never before.0 before.2) (acted.answered g is);
+        rw (unasked (link_reply op) given op was_given never before.0 before.2) (acted.answered g is);
   }

@@ -1,4 +1,4 @@
--- Who asks a host object: the timer its clock, and a device its disk.
+-- Who asks a host object: the timer its clock, and a device what those of its kind do.
 use Rattle.std.proofs.Common.{◌≡◌, ℕ, Bool, true, false, cond, refl, sym, ap, ◌∙◌, subst, List, [], ◌∷◌, Option, Some, None, slice_get, ◌⊎◌, inl, inr}
 use Rattle.vm_types.specs.declared.ids.ActorId.{ActorId}
 use Rattle.vm_types.specs.declared.ids.PlaceId.{PlaceId}
@@ -18,9 +18,8 @@ use Rattle.hart_trace.proofs.Asks.{never_host}
 use Rattle.hart_trace.proofs.Traces as hart_traces
 use Rattle.timer_trace.specs.States.{wants_by}
 use Rattle.timer_trace.proofs.Traces as timer_traces
-use Rattle.device_trace.specs.Acts.{is_disk_call}
 use Rattle.guest_devices.specs.Devices.{FlatDevice}
-use Rattle.guest_devices.specs.Kinds.{Balloon, Block, Kind, calls_of}
+use Rattle.guest_devices.specs.Kinds.{Balloon, Block, Kind, Net, calls_of}
 use Rattle.guest_devices.proofs.Soundness.{want_host}
 use Rattle.flat_guest.specs.Given.{Event}
 use Rattle.flat_guest.specs.Guest.{Guest, Wants, WantsFrom, WantsOf, layout_of, whole_pages}
@@ -71,21 +70,25 @@ turn_asks g ActorId.Timer act turn wants =
 turn_asks g (ActorId.Hart k) act turn wants = absurd (hart_asks g k act wants)
 turn_asks g (ActorId.Device k) act turn wants = cc
 
--- a device asks its disk
-disk_calls : (k : Kind) (act : OutOp) → calls_of k act ≡ true → is_disk_call act ≡ true
-disk_calls Block act is = is
-disk_calls Balloon act is = cc
+-- the call of a device of some kind
+abbrev pub IsKinds : OutOp → Type 0
+IsKinds act = (kind : Kind) × (calls_of kind act ≡ true)
+
+no_clock : (kind : Kind) → calls_of kind Clock ≡ true → ⊥
+no_clock Block calls = cc
+no_clock Net calls = cc
+no_clock Balloon calls = cc
 
 device_asks : (g : Guest) (k : ℕ) (o : Option FlatDevice) (act : OutOp) → IsSound g → slice_get g.devices k ≡ o
-    → WantsOf o (Op.Out act) → is_disk_call act ≡ true
+    → WantsOf o (Op.Out act) → IsKinds act
 device_asks g k None act sound is wants = absurd wants
 device_asks g k (Some d) act sound is wants =
     let own = sound.devices_on.each k d is in
-    disk_calls d.kind act (want_host k (whole_pages g.memory) d (Op.Out act) own wants)
+    (d.kind, want_host k (whole_pages g.memory) d (Op.Out act) own wants)
 
 abbrev pub Asks : ActorId → OutOp → Type 0
 Asks actor act =
-    ((actor ≡ ActorId.Timer) × (act ≡ Clock)) ⊎ ((k : ℕ) × (actor ≡ ActorId.Device k) × (is_disk_call act ≡ true))
+    ((actor ≡ ActorId.Timer) × (act ≡ Clock)) ⊎ ((k : ℕ) × (actor ≡ ActorId.Device k) × IsKinds act)
 
 who_asks : (g : Guest) (actor : ActorId) (act : OutOp) → IsSound g → Wants g actor (Op.Out act) → Asks actor act
 who_asks g ActorId.Timer act sound wants = inl (turn_asks g ActorId.Timer act refl wants)
@@ -97,11 +100,11 @@ fits_word : (reply : Reply) → out_fits Clock reply ≡ true → (n : ℕ) × (
 fits_word (Reply.Word n) fits = (n, refl)
 fits_word reply fits = cc
 
--- a device asks its disk, which replies what fits
-pub record IsDiskAct (e : Entry) (act : OutOp) : Type 0 where
+-- a device asks its host object, which replies what fits
+pub record IsDeviceCall (e : Entry) (act : OutOp) : Type 0 where
   pub number : ℕ
   pub actor : e.actor ≡ ActorId.Device number
-  pub call : is_disk_call act ≡ true
+  pub call : IsKinds act
   pub fits : out_fits act e.reply ≡ true
 
 -- the reply to what is asked of a host object fits
@@ -114,22 +117,22 @@ out_fit g event e h act step is =
     (subst (λ (p : PlaceId). Answers p g e.actor e.op event.given e.reply) there step.answer) in
     answers.1
 
-asking_by : (e : Entry) (act : OutOp) → out_fits act e.reply ≡ true → Asks e.actor act → IsAsking e act ⊎ IsDiskAct e act
+asking_by : (e : Entry) (act : OutOp) → out_fits act e.reply ≡ true → Asks e.actor act → IsAsking e act ⊎ IsDeviceCall e act
 asking_by e act fits (inl who) =
     let word = fits_word e.reply (subst (λ (a : OutOp). out_fits a e.reply ≡ true) who.1 fits) in
     inl (record { actor = who.0; act_is = who.1; answer = word.0; reply = word.1 })
 asking_by e act fits (inr who) = inr (record { number = who.0; actor = who.1; call = who.2; fits = fits })
 
 pub is_asking : (g : Guest) (event : Event) (e : Entry) (h : Guest) (act : OutOp) → IsSound g → FlatStep g event e h
-    → e.op ≡ Op.Out act → IsAsking e act ⊎ IsDiskAct e act
+    → e.op ≡ Op.Out act → IsAsking e act ⊎ IsDeviceCall e act
 is_asking g event e h act sound step is =
     asking_by e act (out_fit g event e h act step is)
     (who_asks g e.actor act sound (subst (λ (o : Op). Wants g e.actor o) is step.want))
 
 -- the clock is asked by the timer
-clock_by : (e : Entry) → IsAsking e Clock ⊎ IsDiskAct e Clock → IsAsking e Clock
+clock_by : (e : Entry) → IsAsking e Clock ⊎ IsDeviceCall e Clock → IsAsking e Clock
 clock_by e (inl asking) = asking
-clock_by e (inr disk) = let never = disk.call in cc
+clock_by e (inr own) = absurd (no_clock own.call.0 own.call.1)
 
 pub clock_asking : (g : Guest) (event : Event) (e : Entry) (h : Guest) → IsSound g → FlatStep g event e h
     → e.op ≡ Op.Out Clock → IsAsking e Clock
@@ -156,21 +159,21 @@ asked_at e act true es is mine a =
 asked_at e act false es is mine a =
     let both : true ≡ false = sym (ap (λ (x : ActorId). same_actor x ActorId.Timer) a.actor) ∙ mine in cc
 
--- and another's disk
+-- and another's host object
 told_at : (e : Entry) (act : OutOp) (b : Bool) (es : List Entry) → same_actor e.actor ActorId.Timer ≡ b
-    → IsDiskAct e act → answer_by (item_by (Op.Out act) e.actor e.reply) (answers_of es) ≡ answers_of (cond b (e ∷ es) es)
+    → IsDeviceCall e act → answer_by (item_by (Op.Out act) e.actor e.reply) (answers_of es) ≡ answers_of (cond b (e ∷ es) es)
 told_at e act true es mine d =
     let both : false ≡ true = sym (ap (λ (x : ActorId). same_actor x ActorId.Timer) d.actor) ∙ mine in cc
 told_at e act false es mine d = ap (λ (k : ActorId). answer_by (item.Reply k (host_reply e.reply)) (answers_of es)) d.actor
 
 out_at : (e : Entry) (act : OutOp) (b : Bool) (es : List Entry) → e.op ≡ Op.Out act → same_actor e.actor ActorId.Timer ≡ b
-    → IsAsking e act ⊎ IsDiskAct e act
+    → IsAsking e act ⊎ IsDeviceCall e act
     → answer_by (item_by (Op.Out act) e.actor e.reply) (answers_of es) ≡ answers_of (cond b (e ∷ es) es)
 out_at e act b es is mine (inl asking) = asked_at e act b es is mine asking
-out_at e act b es is mine (inr disk) = told_at e act b es mine disk
+out_at e act b es is mine (inr own) = told_at e act b es mine own
 
 answer_at : (e : Entry) (op : Op) (b : Bool) (es : List Entry) → e.op ≡ op → same_actor e.actor ActorId.Timer ≡ b
-    → ((act : OutOp) → e.op ≡ Op.Out act → IsAsking e act ⊎ IsDiskAct e act)
+    → ((act : OutOp) → e.op ≡ Op.Out act → IsAsking e act ⊎ IsDeviceCall e act)
     → answer_by (item_by op e.actor e.reply) (answers_of es) ≡ answers_of (cond b (e ∷ es) es)
 answer_at e (Op.Out act) b es is mine asking = out_at e act b es is mine (asking act is)
 answer_at e (Op.Read at len) b es is mine asking = plain_at e b es (ap (λ (o : Op). answer_in o e.reply (answers_of es)) is)

@@ -1,10 +1,11 @@
 -- A slice's events, and a drain, are a run over the items that tell them.
-use Rattle.std.proofs.Common.{◌≡◌, ◌<◌, ℕ, zero, suc, Bool, true, false, refl, sym, ap, ◌∙◌, subst, List, [], ◌∷◌, ◌++◌, map, take, drop, append-nil, take-append-drop, Option, Some, ◌⊎◌, inl, inr}
+use Rattle.std.proofs.Common.{◌≡◌, ◌<◌, nat_le, ℕ, zero, suc, Bool, true, false, if◌then◌else◌, ◌&&◌, refl, sym, ap, ◌∙◌, subst, List, [], ◌∷◌, ◌++◌, map, take, drop, append-nil, take-append-drop, Option, Some, ◌⊎◌, inl, inr}
 use Rattle.std.proofs.lemmas.List.Elements.{All-cons}
 use Rattle.vm_types.specs.declared.entry.Entry.{Entry}
 use Rattle.vm_types.specs.declared.ids.ActorId.{ActorId}
 use Rattle.vm_types.specs.declared.op.Op.{Op}
 use Rattle.vm_types.specs.declared.reply.Reply.{Reply}
+use Rattle.script_text.specs.declared.item.HostReply.TheVariants as lines
 use Rattle.script_text.specs.declared.item.Item.{Item}
 use Rattle.script_text.specs.declared.item.Item.TheVariants as item
 use Rattle.board_table.specs.Board.{Board}
@@ -18,14 +19,15 @@ use Rattle.flat_machine.specs.Machine.{Machine, running, running_by}
 use Rattle.flat_machine.specs.Run.{Act}
 use Rattle.vm_world.specs.Worlds.{IsWorld, WorldValue}
 use Rattle.slice_runner.specs.Slices.{Leads, event_of, given_of}
-use Rattle.monitor_running.proofs.Asked.{IsAsking, IsDiskAct, is_asking}
+use Rattle.monitor_running.proofs.Asked.{IsAsking, IsDeviceCall, is_asking}
 use Rattle.device_trace.specs.Acts.{is_disk_call}
+use Rattle.guest_devices.specs.Kinds.{Balloon, Block, Kind, Net, calls_of}
 use Rattle.flat_guest.specs.Sound.{IsSound}
 use Rattle.flat_guest.proofs.Soundness.{sound_next}
 use Rattle.vm_types.specs.declared.op.OutOp.{OutOp}
-use Rattle.vm_types.specs.declared.op.OutOp.TheVariants.{DiskFlush, DiskRead, DiskWrite}
+use Rattle.vm_types.specs.declared.op.OutOp.TheVariants.{DiskFlush, DiskRead, DiskWrite, LinkEnd, LinkPart, LinkSend, LinkTake}
 use Rattle.vm_types.specs.Fits.{out_fits}
-use Rattle.serve_host.specs.Events.{event_items, host_reply, item_by, item_of}
+use Rattle.serve_host.specs.Events.{event_items, frame_reply, host_reply, item_by, item_of}
 use Rattle.flat_trace.specs.Events.{drain_items, event_acts, quiet_act}
 use Rattle.vm_host.specs.Storing.{DiskKnown}
 use Rattle.vm_outside.specs.Known.{Health, Tells}
@@ -80,11 +82,41 @@ disk_again DiskFlush Reply.Failed call fits = refl
 disk_again DiskFlush reply call fits = cc
 disk_again act reply call fits = cc
 
-given_again : (e : Entry) (act : OutOp) → IsAsking e act ⊎ IsDiskAct e act
+and_second : (a b : Bool) → (a && b) ≡ true → b ≡ true
+and_second true b is = is
+and_second false b is = cc
+
+frame_again : (length : ℕ) → nat_le length 1514 ≡ true → reply_given (frame_reply length) ≡ Host (Reply.Frame length)
+frame_again length fits = ap (λ (b : Bool). reply_given (if b then lines.Frame length else lines.Failed)) fits
+
+link_again : (act : OutOp) (reply : Reply) → calls_of Net act ≡ true → out_fits act reply ≡ true
+    → reply_given (host_reply reply) ≡ Host reply
+link_again LinkTake (Reply.Frame length) call fits = frame_again length (and_second (nat_le 14 length) (nat_le length 1514) fits)
+link_again LinkTake Reply.Nothing call fits = refl
+link_again LinkTake Reply.Failed call fits = refl
+link_again LinkTake reply call fits = cc
+link_again (LinkPart index length) (Reply.Bytes piece) call fits = refl
+link_again (LinkPart index length) Reply.Failed call fits = refl
+link_again (LinkPart index length) reply call fits = cc
+link_again (LinkSend piece) Reply.Done call fits = refl
+link_again (LinkSend piece) Reply.Failed call fits = refl
+link_again (LinkSend piece) reply call fits = cc
+link_again LinkEnd Reply.Done call fits = refl
+link_again LinkEnd Reply.Failed call fits = refl
+link_again LinkEnd reply call fits = cc
+link_again act reply call fits = cc
+
+call_again : (kind : Kind) (act : OutOp) (reply : Reply) → calls_of kind act ≡ true → out_fits act reply ≡ true
+    → reply_given (host_reply reply) ≡ Host reply
+call_again Block act reply call fits = disk_again act reply call fits
+call_again Net act reply call fits = link_again act reply call fits
+call_again Balloon act reply call fits = cc
+
+given_again : (e : Entry) (act : OutOp) → IsAsking e act ⊎ IsDeviceCall e act
     → reply_given (host_reply e.reply) ≡ Host e.reply
 given_again e act (inl asking) =
     subst (λ (r : Reply). reply_given (host_reply r) ≡ Host r) (sym asking.reply) refl
-given_again e act (inr disk) = disk_again act e.reply disk.call disk.fits
+given_again e act (inr own) = call_again own.call.0 act e.reply own.call.1 own.fits
 
 module _ (m : Machine) (g mid : Guest) (e : Entry) (sound : IsSound g) (runs : running m ≡ Some g)
     (step : FlatStep g (event_of e) e mid) where

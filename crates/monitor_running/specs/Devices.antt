@@ -1,4 +1,4 @@
--- What devices ask of their disks, and the events that they make.
+-- What devices ask of their disks and links, and the events that they make.
 use Rattle.std.specs.Prelude.{ℕ, ◌≡◌, ◌<◌, true, MatchBool, All, List, [], ◌∷◌, Option, Some, None, length}
 use Rattle.vm_types.specs.Causes.{Rose}
 use Rattle.vm_types.specs.Fits.{out_fits}
@@ -6,7 +6,7 @@ use Rattle.vm_types.specs.declared.entry.Entry.{Entry}
 use Rattle.vm_types.specs.declared.ids.ActorId.{ActorId}
 use Rattle.vm_types.specs.declared.op.Op.{Op}
 use Rattle.vm_types.specs.declared.op.OutOp.{OutOp}
-use Rattle.vm_types.specs.declared.op.OutOp.TheVariants.{DiskFlush, DiskRead, DiskWrite}
+use Rattle.vm_types.specs.declared.op.OutOp.TheVariants.{DiskFlush, DiskRead, DiskWrite, LinkEnd, LinkPart, LinkSend, LinkTake}
 use Rattle.vm_types.specs.declared.reply.Reply.{Reply}
 use Rattle.vm_outside.specs.Known.{Lasts, Tells}
 use Rattle.vm_host.specs.Storing.{DiskKnown, FlushesDisk, IsPart, MayFlushDisk, MayWriteDisk, SameDisks, WritesDisk}
@@ -59,6 +59,22 @@ IsGivenByDisk device (Op.Out act) old (Some reply) new =
     (is_disk_call act ≡ true) × (out_fits act reply ≡ true) × DiskReplies device act reply old new
 IsGivenByDisk device op old (Some reply) new = ⊥
 
+-- What a device is answered that calls its link: none is served, so that no frame comes and none can be sent.
+abbrev pub link_reply : Op → Option Reply
+link_reply (Op.Out LinkTake) = Some Reply.Nothing
+link_reply (Op.Out (LinkPart index length)) = Some Reply.Failed
+link_reply (Op.Out (LinkSend piece)) = Some Reply.Failed
+link_reply (Op.Out LinkEnd) = Some Reply.Failed
+link_reply op = None
+
+-- what an actor is given: what its link answers, and then no disk was asked, or else what its disk does
+abbrev pub IsGivenBy : Option Reply → ℕ → Op → DiskKnown → Option Reply → DiskKnown → Type 0
+IsGivenBy (Some reply) device op old given new = (given ≡ Some reply) × (new ≡ old)
+IsGivenBy None device op old given new = IsGivenByDisk device op old given new
+
+abbrev pub IsGiven : ℕ → Op → DiskKnown → Option Reply → DiskKnown → Type 0
+IsGiven device op old given new = IsGivenBy (link_reply op) device op old given new
+
 -- a call that a disk can be asked: a sector has 8 parts of 64 bytes
 abbrev pub CanBeAsked : Op → Type 0
 CanBeAsked (Op.Out (DiskRead sector part)) = part < 8
@@ -70,7 +86,7 @@ CanBeAsked op = ⊥
 abbrev pub IsDevices : Entry → Type 0
 IsDevices e = (k : ℕ) × (k < most_ports) × (e.actor ≡ ActorId.Device k)
 
--- from each guest that the world was they lead to one that it is; each is a device's, and was answered by its disk
+-- from each guest that the world was they lead to one that it is; each is a device's, and was answered by its disk, where it called that
 pub record HaveActed (events : List Entry) (old new : WorldValue) (asked now : DiskKnown) : Type 0 where
   pub serial : IsSerial old events new
   pub made : (g : Guest) → IsWorld old g → All IsDevices events

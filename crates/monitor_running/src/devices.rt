@@ -27,7 +27,7 @@ ghost use Rattle.port_table.specs.Window.{most_ports};
 ghost use Rattle.flat_guest.specs.Guest.{Guest};
 ghost use Rattle.vm_world.specs.Worlds.{IsWorld, WorldValue};
 ghost use Rattle.slice_runner.specs.Slices.{IsSerial};
-ghost use Rattle.monitor_running.specs.Devices.{CanBeAsked, DiskWasAsked, HaveActed, IsDevices, IsGivenByDisk};
+ghost use Rattle.monitor_running.specs.Devices.{CanBeAsked, DiskWasAsked, HaveActed, IsDevices, IsGiven, IsGivenByDisk, link_reply};
 
 use std::alloc::{AllocError, Global};
 use vm_host::Disk;
@@ -117,13 +117,37 @@ fn ask_disk<D: Disk>(disk: &mut D, device: u8, op: &Op) -> Option<Reply>
     }
 }
 
+// What a device is answered that calls its link: none is served.
+fn ask_link(op: &Op) -> Option<Reply>
+    ensures { result ≡ link_reply op.now }
+{
+    match op {
+        Op::Out(OutOp::LinkTake) => Some(Reply::Nothing),
+        Op::Out(OutOp::LinkPart { .. } | OutOp::LinkSend { .. } | OutOp::LinkEnd) => {
+            Some(Reply::Failed)
+        }
+        _ => None,
+    }
+}
+
+// What its host object answers a device.
+fn ask_host<D: Disk>(disk: &mut D, device: u8, op: &Op) -> Option<Reply>
+    ensures given { IsGiven device op.now (D.known disk.old) result (D.known disk.new) }
+    ensures lasts { Lasts (D.known disk.old).health (D.known disk.new).health }
+{
+    match ask_link(op) {
+        Some(reply) => Some(reply),
+        None => ask_disk(disk, device, op),
+    }
+}
+
 fn is_wait(op: &Op) -> bool
     ensures { (result ≡ true) ↔ (op.now ≡ Idle) }
 {
     matches!(op, Op::Idle)
 }
 
-// The next event of a device, which is given its disk's answer where it asks for that. Whether one was made, and no wait.
+// The next event of a device, which is given its host object's answer where it asks for that. Whether one was made, and no wait.
 fn step_device<D: Disk>(
     world: &mut World,
     device: u8,
@@ -143,7 +167,7 @@ fn step_device<D: Disk>(
         return false;
     };
     let waits = is_wait(&op);
-    let given = ask_disk(disk, device, &op);
+    let given = ask_host(disk, device, &op);
     match world.step_with(actor, op, given) {
         Ok(entry) => {
             events.push_reserved(entry);
@@ -190,9 +214,9 @@ fn make_room(alloc: Global, world: &mut World, devices: usize) -> Result<(), All
 }
 
 /// Events of each device, in order of their numbers: of each until it has waited, which is made too, or `most` are made.
-/// What a device asks of its disk is answered by that, `Failed` where the call fails; at the end the disks settle. Room for all
-/// events is made first, and for pages that they make; where there is no device none is needed. Nothing is said of how far a device
-/// gets: one that lacks a page goes on in the next turn.
+/// What a device asks of its disk is answered by that, `Failed` where the call fails; no link is served, so that no frame
+/// comes and none can be sent. At the end the disks settle. Room for all events is made first, and for pages that they make; where
+/// there is no device none is needed. Nothing is said of how far a device gets: one that lacks a page goes on in the next turn.
 ///
 /// Errors: want of memory, which leaves everything as it was.
 pub fn run_devices<D: Disk>(

@@ -1,6 +1,9 @@
+pub mod Keeping
+pub mod Narrow
 pub mod Net
 pub mod Passing
 pub mod Pieces
 pub mod Resuming
+pub mod Stages
 pub mod Staying
 pub mod Working

@@ -92,7 +92,7 @@ module _ (port pages : ℕ) where
       let mine = λ (few : pages < 2 ^ 32). filter_inside pages (λ (part : Part). part.writable) c.parts (chain few).parts in
       keeps_either P (λ (len : Option ℕ). Unit {0}) (has_room c e) _ _
       (λ there. performing_keeps P (λ (left : List Part). (pages < 2 ^ 32 → AreInside pages left) × Any {A = List Part} left)
-      (λ (len : Option ℕ). Unit {0}) (put_all e.text (writable c.parts)) e _
+      (λ (len : Option ℕ). Unit {0}) (put_all e.text (writable c.parts)) (emptied e) _
       (keeps_both (λ op. pages < 2 ^ 32 → IsInside pages op) (IsAskedBy false is_link_call port)
       (λ (left : List Part). pages < 2 ^ 32 → AreInside pages left) (Any {A = List Part}) (put_all e.text (writable c.parts))
       (keeps_when (pages < 2 ^ 32) (IsInside pages) (λ (left : List Part). AreInside pages left)

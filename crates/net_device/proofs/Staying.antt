@@ -1,5 +1,5 @@
 -- The work of a network device is where it may be.
-use Rattle.std.proofs.Common.{◌≡◌, ℕ, ◌+◌, ◌*◌, ◌==◌, ◌<◌, ◌≤◌, ◌&&◌, nat_le, nat_lt, refl, not, true, Some, List, [], length, drop, arith, ◌^◌}
+use Rattle.std.proofs.Common.{◌≡◌, ℕ, ◌+◌, ◌*◌, ◌==◌, ◌<◌, ◌≤◌, ◌&&◌, nat_le, nat_lt, refl, ap, not, true, Some, List, [], length, drop, arith, ◌^◌}
 use Rattle.std.proofs.lemmas.Bool.{and_from, and_parts, le-leb, lt-ltb}
 use Rattle.vq_split.specs.declared.queue.Part.{Part}
 use Rattle.vq_split.specs.Kept.{are_inside}
@@ -16,10 +16,13 @@ use Rattle.net_device.specs.declared.kind.Stage.{Stage}
 use Rattle.net_device.specs.declared.kind.Stage.TheVariants as stage
 use Rattle.net_device.specs.Frames.{header_size, is_frame, pieces}
 use Rattle.net_device.specs.Net.{net}
-use Rattle.net_device.specs.Work.{is_stage}
+use Rattle.net_device.specs.Work.{is_clear, is_stage}
 
-pub at_rest : (pages : ℕ) (s : Stage) (bytes : List ℕ) → s ≡ stage.Rest → is_stage work.Rest pages s bytes ≡ true
-at_rest pages s bytes is = rw is refl
+clear : (bytes : List ℕ) → bytes ≡ [] → is_clear bytes ≡ true
+clear bytes none = is_eq _ _ (ap (λ (l : List ℕ). length l) none)
+
+pub at_rest : (pages : ℕ) (s : Stage) (bytes : List ℕ) → s ≡ stage.Rest → bytes ≡ [] → is_stage work.Rest pages s bytes ≡ true
+at_rest pages s bytes is none = rw is (clear bytes none)
 
 -- ---- from the link
 
@@ -57,15 +60,24 @@ receive_next pages at n k to now bytes few is some left =
 -- ---- from the driver
 
 pub read_more : (pages skip : ℕ) (from : List Part) (bytes : List ℕ) → 0 < room from → length from ≤ 256
-    → are_inside pages from ≡ true → is_stage (work.Serve Second) pages (stage.Read skip from) bytes ≡ true
-read_more pages skip from bytes some few inside = and_from _ _ (and_from _ _ (lt-ltb _ _ some) inside) (le-leb _ _ few)
+    → are_inside pages from ≡ true → bytes ≡ [] → is_stage (work.Serve Second) pages (stage.Read skip from) bytes ≡ true
+read_more pages skip from bytes some few inside none =
+    and_from _ _ (and_from _ _ (and_from _ _ (lt-ltb _ _ some) inside) (le-leb _ _ few)) (clear bytes none)
+
+pub end_more : (pages : ℕ) (bytes : List ℕ) → bytes ≡ [] → is_stage (work.Serve Second) pages stage.End bytes ≡ true
+end_more pages bytes none = clear bytes none
+
+-- parts are inside, behind a test of how many there are, and that no frame is on its way
+parts_inside : (pages n : ℕ) (from : List Part) (bytes : List ℕ)
+    → (nat_lt 0 n && are_inside pages from && nat_le (length from) 256 && is_clear bytes) ≡ true → are_inside pages from ≡ true
+parts_inside pages n from bytes is =
+    let p2 = and_parts _ (is_clear bytes) is in
+    let p1 = and_parts _ (nat_le (length from) 256) p2.0 in
+    (and_parts (nat_lt 0 n) (are_inside pages from) p1.0).1
 
 pub read_inside : (pages skip : ℕ) (k : Which) (from : List Part) (bytes : List ℕ)
     → is_stage (work.Serve k) pages (stage.Read skip from) bytes ≡ true → (k ≡ Second) × (are_inside pages from ≡ true)
-read_inside pages skip Second from bytes is = (
-  refl,
-  (and_parts (nat_lt 0 (room from)) (are_inside pages from) (and_parts _ (nat_le (length from) 256) is).0).1,
-)
+read_inside pages skip Second from bytes is = (refl, parts_inside pages (room from) from bytes is)
 read_inside pages skip First from bytes is = absurd (cc)
 read_inside pages skip Third from bytes is = absurd (cc)
 
@@ -76,18 +88,15 @@ read_next pages skip k from now bytes few is left =
     let v = read_inside pages skip k from bytes is in (v.0, rw left (past_test pages (room from) from few (omega arith) v.1))
 
 pub send_more : (pages skip : ℕ) (piece : List ℕ) (from : List Part) (bytes : List ℕ) → 0 < length piece
-    → length from ≤ 256 → are_inside pages from ≡ true
+    → length from ≤ 256 → are_inside pages from ≡ true → bytes ≡ []
     → is_stage (work.Serve Second) pages (stage.Send piece skip from) bytes ≡ true
-send_more pages skip piece from bytes some few inside =
-    and_from _ _ (and_from _ _ (lt-ltb _ _ some) inside) (le-leb _ _ few)
+send_more pages skip piece from bytes some few inside none =
+    and_from _ _ (and_from _ _ (and_from _ _ (lt-ltb _ _ some) inside) (le-leb _ _ few)) (clear bytes none)
 
 pub send_inside : (pages skip : ℕ) (k : Which) (piece : List ℕ) (from : List Part) (bytes : List ℕ)
     → is_stage (work.Serve k) pages (stage.Send piece skip from) bytes ≡ true
     → (k ≡ Second) × (are_inside pages from ≡ true)
-send_inside pages skip Second piece from bytes is = (
-  refl,
-  (and_parts (nat_lt 0 (length piece)) (are_inside pages from) (and_parts _ (nat_le (length from) 256) is).0).1,
-)
+send_inside pages skip Second piece from bytes is = (refl, parts_inside pages (length piece) from bytes is)
 send_inside pages skip First piece from bytes is = absurd (cc)
 send_inside pages skip Third piece from bytes is = absurd (cc)
 

@@ -15,9 +15,7 @@ use Rattle.queue_device.specs.Acting.{Acts, performing}
 use Rattle.queue_device.specs.Left.{begin_of}
 use Rattle.net_device.specs.Frames.{piece_length, piece_sent, sending_all, taking}
 use Rattle.net_device.specs.Net.{Net, received}
-use Rattle.net_device.specs.declared.kind.Stage.{Stage}
-use Rattle.net_device.specs.declared.kind.Stage.TheVariants as stage
-use Rattle.net_device.specs.Work.{Kept, op_of, own_of, sent, serving_of, text_of, written}
+use Rattle.net_device.specs.Work.{sent, written}
 use Rattle.net_device.proofs.Pieces.{sent_end, sent_more}
 
 -- ---- from the link
@@ -68,16 +66,6 @@ pub filled : (bytes : List ℕ) (at len space whole : ℕ) (to : List Part) (e :
     → performing (put_all (drop at bytes) to) e (λ f left. written whole f) ≡ written whole e
 filled bytes at len space whole to e long there is =
     rw (put_done (drop at bytes) to (ap (λ (n : ℕ). n == 0) (sym (share_is bytes at len space to long there)) ∙ is)) refl
-
-pub fills_kept : (k : Kept) (at len space : ℕ) (to : List Part) → k.stage ≡ stage.Rest → len ≡ length k.bytes → space ≡ room to
-    → (min (len - at) space == 0) ≡ false
-    → performing (put_all (drop at k.bytes) to) (own_of k) (λ e left. written (length k.bytes) e)
-    ≡ Acts (own_of (record k { stage = stage.Receive at to })) (op_of (stage.Receive at to) k.bytes) (serving_of (stage.Receive at to) k.bytes)
-fills_kept k at len space to rest long there is =
-    let own : own_of k ≡ own_of (record k { stage = stage.Receive at to }) =
-    ap (λ (s : Stage). record { text = text_of s k.bytes; rx = k.rx; tx = k.tx }) rest in
-    ap (λ (e : Net). performing (put_all (drop at k.bytes) to) e (λ f left. written (length k.bytes) f)) own
-    ∙ fills k.bytes at len space (length k.bytes) to (own_of (record k { stage = stage.Receive at to })) long there is
 
 -- how it begins
 pub fill_wants : (bytes : List ℕ) (len space whole n : ℕ) (to : List Part) (e : Net) → len ≡ length bytes → space ≡ room to

@@ -1,4 +1,6 @@
 pub mod Frames
 pub mod Net
+pub mod Port
 pub mod Sequences
+pub mod States
 pub mod Work

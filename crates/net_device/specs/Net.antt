@@ -56,10 +56,11 @@ frame_waits e = not (length e.text == 0)
 abbrev pub has_room : Chain → Net → Bool
 has_room c e = nat_le (length e.text) (total (writable c.parts))
 
--- where the chain is too short the frame is dropped, and nothing is written
+-- A frame that goes into a chain waits no longer. Where the chain is too short the frame is dropped, and nothing is written.
 abbrev pub received_by : Chain → Net → Acting Net (Option ℕ)
 received_by c e =
-    if has_room c e then performing (put_all e.text (writable c.parts)) e (λ f left. Comes (emptied f) (Some (length e.text)))
+    if has_room c e
+    then performing (put_all e.text (writable c.parts)) (emptied e) (λ f left. Comes f (Some (length e.text)))
     else Comes (emptied e) (Some 0)
 
 -- ---- what is transmitted

@@ -1,6 +1,7 @@
 // The calls of a network device.
 ghost use Rattle.std.specs.Prelude.{◌≡◌, ◌&&◌, length, nat_le};
 ghost use Rattle.vq_split.specs.Kept.{are_inside};
+ghost use Rattle.net_device.specs.Work.{at_work, is_clear};
 
 use crate::kind::{
     HEADER_SIZE, NetChange, NetKind, Stage, has_room, is_frame, limit, piece_length, pieces,
@@ -11,6 +12,15 @@ use queue_device::{Begin, Kind, TakenChain, TakenParts, Which, Work};
 use std::mem::replace;
 use vm_types::{Op, OutOp, Reply};
 use vq_split::{Part, PartList, are_inside};
+
+impl NetKind {
+    // Whether no frame is on its way between the link and the driver.
+    fn is_clear(&self) -> bool
+        ensures { result ≡ is_clear (at_work self.now).bytes }
+    {
+        self.frame.len() == 0
+    }
+}
 
 // Whether these parts lie inside RAM, and aren't more than a chain has.
 fn are_parts(pages: u32, parts: &[Part]) -> bool
@@ -69,22 +79,22 @@ impl Kind for NetKind {
 
     fn is_work(&self, work: Work, pages: u32) -> bool {
         match (work, &self.stage) {
-            (Work::Rest, Stage::Rest) => true,
+            (Work::Rest, Stage::Rest) => self.is_clear(),
             (Work::Answer, Stage::Take(size, index)) => {
                 is_frame(*size)
                     && *index < pieces(*size)
-                    && self.text.len() as u64 == HEADER_SIZE as u64 + 64 * *index
+                    && self.frame.len() as u64 == HEADER_SIZE as u64 + 64 * *index
             }
             (Work::Serve(Which::First), Stage::Receive(at, to)) => {
                 0 < self.share(*at, to) && are_parts(pages, to.parts())
             }
             (Work::Serve(Which::Second), Stage::Read(_, from)) => {
-                0 < from.room() && are_parts(pages, from.parts())
+                0 < from.room() && are_parts(pages, from.parts()) && self.is_clear()
             }
             (Work::Serve(Which::Second), Stage::Send(piece, _, from)) => {
-                0 < piece.as_slice().len() && are_parts(pages, from.parts())
+                0 < piece.as_slice().len() && are_parts(pages, from.parts()) && self.is_clear()
             }
-            (Work::Serve(Which::Second), Stage::End) => true,
+            (Work::Serve(Which::Second), Stage::End) => self.is_clear(),
             _ => false,
         }
     }
@@ -98,7 +108,7 @@ impl Kind for NetKind {
             }),
             Stage::Receive(at, to) => {
                 let n = self.share(*at, to);
-                to.op(self.text.piece(*at, n))
+                to.op(self.frame.piece(*at, n))
             }
             Stage::Read(_, from) => Op::Read {
                 at: from.place(),
@@ -122,27 +132,31 @@ impl Kind for NetKind {
         match reply {
             Reply::Frame { length } => {
                 self.stage = Stage::Rest;
-                self.text.begin();
+                self.text.clear();
+                self.frame.begin();
                 self.take_piece(*length, 0)
             }
             _ => Some(false),
         }
     }
 
-    #[tactic(auto, using(crate::proofs::Working::piece_led, crate::proofs::Staying::take_frame))]
+    #[tactic(auto, using(crate::proofs::Working::piece_led, crate::proofs::Staying::take_frame, crate::proofs::Staying::at_rest))]
     fn answer_on(&mut self, reply: &Reply) -> Option<bool> {
         match replace(&mut self.stage, Stage::Rest) {
             Stage::Take(length, index) => match reply {
                 Reply::Bytes(piece) => {
-                    self.text.append(piece);
+                    self.frame.append(piece);
                     self.take_piece(length, index + 1)
                 }
                 _ => {
-                    self.text.clear();
+                    self.rest();
                     Some(false)
                 }
             },
-            _ => Some(false),
+            _ => {
+                self.rest();
+                Some(false)
+            }
         }
     }
 
@@ -220,6 +234,7 @@ impl Kind for NetKind {
         match which {
             Which::First => {
                 if has_room(self.text_len(), chain.parts()) {
+                    self.text_begins();
                     self.fill(0, Scatter::new(writable(chain.parts())))
                 } else {
                     self.text.clear();
@@ -237,7 +252,7 @@ impl Kind for NetKind {
         }
     }
 
-    #[tactic(auto, using(crate::proofs::Staying::receive_next, crate::proofs::Staying::read_next, crate::proofs::Staying::send_inside,))]
+    #[tactic(auto, using(crate::proofs::Staying::receive_next, crate::proofs::Staying::read_next, crate::proofs::Staying::send_inside, crate::proofs::Staying::at_rest,))]
     fn serve_on(&mut self, reply: &Reply) -> Option<Option<u32>> {
         match replace(&mut self.stage, Stage::Rest) {
             Stage::Receive(at, to) => {
@@ -252,14 +267,19 @@ impl Kind for NetKind {
             }
             Stage::Send(_, skip, from) => match reply {
                 Reply::Done => self.send_next(skip, from),
-                _ => Some(Some(0)),
+                _ => {
+                    self.rest();
+                    Some(Some(0))
+                }
             },
-            Stage::End => Some(Some(0)),
-            Stage::Take(_, _) => {
-                self.text.clear();
+            Stage::End => {
+                self.rest();
+                Some(Some(0))
+            }
+            Stage::Take(_, _) | Stage::Rest => {
+                self.rest();
                 Some(None)
             }
-            Stage::Rest => Some(None),
         }
     }
 
@@ -267,8 +287,9 @@ impl Kind for NetKind {
         let _ = which;
     }
 
+    #[tactic(auto, using(crate::proofs::Staying::at_rest))]
     fn reset(&mut self) {
-        self.stage = Stage::Rest;
+        self.rest();
         self.text.clear();
     }
 
@@ -285,6 +306,7 @@ impl Kind for NetKind {
     fn again(&self) -> NetKind {
         NetKind {
             text: self.text.again(),
+            frame: self.frame.again(),
             rx: self.rx.again(),
             tx: self.tx.again(),
             stage: stage_again(&self.stage),

@@ -13,15 +13,17 @@ ghost use Rattle.queue_device.specs.Kept.{work_after};
 ghost use Rattle.queue_device.specs.declared.lanes.Which.TheVariants.{First, Second};
 ghost use Rattle.queue_device.specs.declared.phase.Work.TheVariants as work;
 ghost use Rattle.net_device.specs.Frames.{header_size, is_frame, piece_length, piece_sent, pieces, sending_all, sent_length, taking};
-ghost use Rattle.net_device.specs.Net.{limited, received};
+ghost use Rattle.net_device.specs.Net.{emptied, limited, received};
 ghost use Rattle.net_device.specs.declared.kind.Stage.TheVariants as stages;
-ghost use Rattle.net_device.specs.Work.{at_work, hand_of, is_work, own_of, sent, written};
+ghost use Rattle.net_device.specs.Work.{at_work, hand_of, is_at, is_work, kept_from, own_of, sent, written};
 
 use crate::text::Text;
+use crate::valid::is_at;
 use dev_core::{Gather, Scatter, readable, total, writable};
 use queue_device::{Begin, parts_again};
 use rate_gate::RateGate;
 use std::marker::Model;
+use std::mem::replace;
 use token_bucket::Bucket;
 use vm_types::{Piece, Reply};
 use vq_split::PartList;
@@ -53,10 +55,12 @@ pub enum Stage {
     End,
 }
 
-/// A network device: what waits for the driver, its limits, and its work.
+/// A network device: what waits for the driver, a frame that is taken from the link or written to the driver, its limits, and its
+/// work.
 #[derive(Drop)]
 pub struct NetKind {
     pub(crate) text: Text,
+    pub(crate) frame: Text,
     pub(crate) rx: RateGate,
     pub(crate) tx: RateGate,
     pub(crate) stage: Stage,
@@ -67,9 +71,12 @@ impl Model for NetKind {
 
     ghost Value = { Kept };
 
-    ghost view = { λ n. record { bytes = n.text; rx = n.rx; tx = n.tx; stage = n.stage } };
+    ghost view = { λ n. record {
+      own = record { text = n.text; rx = n.rx; tx = n.tx };
+      doing = record { stage = n.stage; bytes = n.frame };
+    } };
 
-    ghost invariant = { λ n. IsAt n.stage n.text };
+    ghost invariant = { λ n. IsAt n.stage n.frame };
 }
 
 // How many pieces a frame has.
@@ -146,14 +153,82 @@ pub(crate) fn read_piece(skip: usize, from: &mut Gather, reply: &Reply) -> (Piec
 impl NetKind {
     /// A network device with these limits for which no frame waits.
     pub fn new(rx: RateGate, tx: RateGate) -> NetKind
-        ensures own { own_of result ≡ record { text = []; rx = rx; tx = tx } }
+        ensures { result ≡ record {
+          own = record { text = []; rx = rx; tx = tx };
+          doing = record { stage = stages.Rest; bytes = [] };
+        } }
     {
         NetKind {
             text: Text::new(),
+            frame: Text::new(),
             rx,
             tx,
             stage: Stage::Rest,
         }
+    }
+
+    /// The network device that keeps these, if one may be at this stage.
+    #[tactic(auto, using(crate::proofs::Stages::stage_of))]
+    pub fn from_parts(
+        text: Text,
+        rx: RateGate,
+        tx: RateGate,
+        stage: Stage,
+        frame: Text,
+    ) -> Option<NetKind>
+        ensures { result ≡ kept_from (record {
+          own = record { text = text; rx = rx; tx = tx };
+          doing = record { stage = stage; bytes = frame };
+        }) }
+    {
+        if is_at(&stage, &frame) {
+            Some(NetKind {
+                text,
+                frame,
+                rx,
+                tx,
+                stage,
+            })
+        } else {
+            None
+        }
+    }
+
+    /// What waits for the driver: the header and a frame, or no byte.
+    pub fn text(&self) -> &Text
+        ensures { result.now ≡ self.now.own.text }
+    {
+        &self.text
+    }
+
+    /// How much it may receive.
+    pub fn rx(&self) -> &RateGate
+        ensures { result.now ≡ self.now.own.rx }
+    {
+        &self.rx
+    }
+
+    /// How much it may transmit.
+    pub fn tx(&self) -> &RateGate
+        ensures { result.now ≡ self.now.own.tx }
+    {
+        &self.tx
+    }
+
+    /// What it is at, where one may be.
+    #[tactic(auto, using(crate::proofs::Stages::test_of_stage))]
+    pub fn stage(&self) -> &Stage
+        ensures stage { result.now ≡ self.now.doing.stage }
+        ensures is { is_at self.now.doing.stage self.now.doing.bytes ≡ true }
+    {
+        &self.stage
+    }
+
+    /// The frame that is taken from the link or written to the driver, behind its header; or no byte.
+    pub fn frame(&self) -> &Text
+        ensures { result.now ≡ self.now.doing.bytes }
+    {
+        &self.frame
     }
 
     // How many bytes wait for the driver.
@@ -161,37 +236,43 @@ impl NetKind {
         ensures len { result ≡ length (own_of self.now).text }
         ensures most { result ≤ 1526 }
     {
-        match self.stage {
-            Stage::Take(_, _) => 0,
-            _ => self.text.len(),
-        }
+        self.text.len()
     }
 
-    // A frame that is being taken is gone.
+    // It is at rest, and no frame is on its way.
     pub(crate) fn rest(&mut self)
-        ensures rest { self.new.stage ≡ stages.Rest }
+        ensures rest { self.new.doing.stage ≡ stages.Rest }
+        ensures clear { self.new.doing.bytes ≡ [] }
         ensures own { own_of self.new ≡ own_of self.old }
     {
-        if let Stage::Take(_, _) = self.stage {
-            self.text.clear();
-        }
         self.stage = Stage::Rest;
+        self.frame.clear();
+    }
+
+    // The frame that waits goes into a chain.
+    pub(crate) fn text_begins(&mut self)
+        requires { self.old.doing.stage ≡ stages.Rest }
+        ensures rest { self.new.doing.stage ≡ stages.Rest }
+        ensures frame { self.new.doing.bytes ≡ (own_of self.old).text }
+        ensures own { own_of self.new ≡ emptied (own_of self.old) }
+    {
+        self.frame = replace(&mut self.text, Text::new());
     }
 
     // The piece of this number is taken, as long as there is one.
     #[tactic(auto, using(crate::proofs::Staying::at_rest, crate::proofs::Staying::take_more))]
     pub(crate) fn take_piece(&mut self, size: u64, index: u64) -> Option<bool>
-        requires rest { self.old.stage ≡ stages.Rest }
+        requires rest { self.old.doing.stage ≡ stages.Rest }
         requires most { size ≤ 1514 }
         requires index { index ≤ pieces size }
-        requires bytes { index < pieces size → length self.old.bytes ≡ header_size + 64 * index }
-        ensures works { Works (performing (taking (pieces size - index) size index self.old.bytes)
-            (record { text = []; rx = self.old.rx; tx = self.old.tx }) received)
+        requires bytes { index < pieces size → length self.old.doing.bytes ≡ header_size + 64 * index }
+        ensures works { Works (performing (taking (pieces size - index) size index self.old.doing.bytes) (own_of self.old) received)
             result (own_of self.new) (hand_of (at_work self.new)).op (hand_of (at_work self.new)).answering }
         ensures work { (pages : ℕ) → is_frame size ≡ true →
             is_work (work_after result work.Answer) pages (at_work self.new) ≡ true }
     {
         if index == pieces(size) {
+            self.text = replace(&mut self.frame, Text::new());
             return Some(true);
         }
         self.stage = Stage::Take(size, index);
@@ -201,17 +282,17 @@ impl NetKind {
     // The frame is written from this byte on, as long as there are some.
     #[tactic(auto, using(crate::proofs::Working::fills, crate::proofs::Working::filled, crate::proofs::Staying::at_rest, crate::proofs::Staying::receive_more,))]
     pub(crate) fn fill(&mut self, at: usize, to: Scatter) -> Option<Option<u32>>
-        requires rest { self.old.stage ≡ stages.Rest }
-        requires at { at ≤ length self.old.bytes }
-        ensures works { Works (performing (put_all (drop at self.old.bytes) to) (own_of self.old)
-            (λ e left. written (length self.old.bytes) e))
+        requires rest { self.old.doing.stage ≡ stages.Rest }
+        requires at { at ≤ length self.old.doing.bytes }
+        ensures works { Works (performing (put_all (drop at self.old.doing.bytes) to) (own_of self.old)
+            (λ e left. written (length self.old.doing.bytes) e))
             result (own_of self.new) (hand_of (at_work self.new)).op (hand_of (at_work self.new)).serving }
         ensures work { (pages : ℕ) → are_inside pages to ≡ true →
             is_work (work_after result (work.Serve First)) pages (at_work self.new) ≡ true }
     {
-        let len = self.text.len();
+        let len = self.frame.len();
         if (len - at).min(to.room()) == 0 {
-            self.text.clear();
+            self.frame.clear();
             return Some(Some(len as u32));
         }
         let _parts = to.parts();
@@ -224,7 +305,7 @@ impl NetKind {
     pub(crate) fn fill_begins(&self, len: usize, to: Scatter) -> Begin
         requires len { len ≡ length (own_of self.now).text }
         requires most { len ≤ 1526 }
-        ensures { result ≡ begin_of (performing (put_all (own_of self.now).text to) (own_of self.now)
+        ensures { result ≡ begin_of (performing (put_all (own_of self.now).text to) (emptied (own_of self.now))
             (λ e left. written len e)) }
     {
         let n = len.min(to.room());
@@ -238,37 +319,38 @@ impl NetKind {
     // How many bytes the next piece has that is written, of those from a place on.
     #[tactic(auto, using(crate::proofs::Working::share_is))]
     pub(crate) fn share(&self, at: usize, to: &Scatter) -> usize
-        requires { at ≤ length self.now.bytes }
-        ensures share { result ≡ share (drop at self.now.bytes) to.now }
+        requires { at ≤ length self.now.doing.bytes }
+        ensures share { result ≡ share (drop at self.now.doing.bytes) to.now }
         ensures most { result ≤ 64 }
     {
-        (self.text.len() - at).min(to.room())
+        (self.frame.len() - at).min(to.room())
     }
 
     // Passes the piece that was written.
     #[tactic(auto, using(crate::proofs::Working::fill_led))]
     pub(crate) fn pass_piece(&self, at: usize, to: &mut Scatter) -> usize
-        requires { 0 < share (drop at self.now.bytes) to.old }
+        requires { 0 < share (drop at self.now.doing.bytes) to.old }
         ensures led { (reply : Replied) →
-            put_all (drop result self.now.bytes) to.new ≡ led (put_all (drop at self.now.bytes) to.old) reply }
-        ensures at { result ≤ length self.now.bytes }
+            put_all (drop result self.now.doing.bytes) to.new ≡ led (put_all (drop at self.now.doing.bytes) to.old) reply }
+        ensures at { result ≤ length self.now.doing.bytes }
         ensures to { (n : ℕ) × (n ≤ room to.old) × (to.new ≡ past n to.old) }
     {
-        let n = (self.text.len() - at).min(to.room());
+        let n = (self.frame.len() - at).min(to.room());
         to.pass(n);
         at + n
     }
 
     // The next piece is read, or the frame is ended.
-    #[tactic(auto, using(crate::proofs::Staying::read_more))]
+    #[tactic(auto, using(crate::proofs::Staying::read_more, crate::proofs::Staying::end_more))]
     pub(crate) fn send_next(&mut self, skip: usize, from: Gather) -> Option<Option<u32>>
-        requires rest { self.old.stage ≡ stages.Rest }
+        requires rest { self.old.doing.stage ≡ stages.Rest }
         ensures works { Works (performing (sending_all skip from) (own_of self.old) (λ e done. sent e))
             result (own_of self.new) (hand_of (at_work self.new)).op (hand_of (at_work self.new)).serving }
         ensures work { (pages : ℕ) → are_inside pages from ≡ true →
             is_work (work_after result (work.Serve Second)) pages (at_work self.new) ≡ true }
     {
         let _parts = from.parts();
+        self.frame.clear();
         if from.room() == 0 {
             self.stage = Stage::End;
         } else {
@@ -285,7 +367,7 @@ impl NetKind {
         skip: usize,
         from: Gather,
     ) -> Option<Option<u32>>
-        requires rest { self.old.stage ≡ stages.Rest }
+        requires rest { self.old.doing.stage ≡ stages.Rest }
         ensures works { Works (performing (piece_sent piece (sending_all skip from)) (own_of self.old) (λ e done. sent e))
             result (own_of self.new) (hand_of (at_work self.new)).op (hand_of (at_work self.new)).serving }
         ensures work { (pages : ℕ) → are_inside pages from ≡ true →
@@ -295,6 +377,7 @@ impl NetKind {
             return self.send_next(skip, from);
         }
         let _parts = from.parts();
+        self.frame.clear();
         self.stage = Stage::Send(piece, skip, from);
         None
     }

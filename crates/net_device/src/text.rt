@@ -1,5 +1,5 @@
 // A header and a frame behind it.
-ghost use Rattle.std.specs.Prelude.{◌≡◌, ◌≤◌, ◌+◌, ◌++◌, [], length, take, drop};
+ghost use Rattle.std.specs.Prelude.{◌≡◌, ◌≤◌, ◌+◌, ◌++◌, [], length, take, drop, nat_le, if◌then◌else◌, Some, None};
 ghost use Rattle.net_device.specs.Frames.{header};
 
 use std::marker::Model;
@@ -7,7 +7,7 @@ use vm_types::Piece;
 
 /// The header of 12 bytes and as much of a frame of at most 1,514 bytes as has come; or no byte.
 #[derive(Drop)]
-pub(crate) struct Text {
+pub struct Text {
     bytes: [u8; 1526],
     len: usize,
 }
@@ -31,6 +31,28 @@ impl Text {
             bytes: [0; 1526],
             len: 0,
         }
+    }
+
+    /// These bytes. None where there are more than 1,526.
+    pub fn copy_of(bytes: &[u8]) -> Option<Text>
+        ensures { result ≡ (if nat_le (length bytes.now) 1526 then Some bytes.now else None) }
+    {
+        if bytes.len() > 1526 {
+            return None;
+        }
+        let mut text = [0; 1526];
+        text[..bytes.len()].copy_from_slice(bytes);
+        Some(Text {
+            bytes: text,
+            len: bytes.len(),
+        })
+    }
+
+    pub fn as_slice(&self) -> &[u8]
+        ensures bytes { result.now ≡ self.now }
+        ensures most { length result.now ≤ 1526 }
+    {
+        &self.bytes[..self.len]
     }
 
     /// The same bytes.

@@ -1,5 +1,5 @@
 -- Reading and writing in pieces, as kinds do it: what is wanted, and what is left behind a reply.
-use Rattle.std.proofs.Common.{◌≡◌, ℕ, ◌+◌, ◌-◌, ◌%◌, ◌^◌, ◌==◌, ◌<◌, ◌≤◌, ◌||◌, refl, ap, Bool, true, false, if◌then◌else◌, List, [], ◌∷◌, ◌++◌, length, length-append, drop, take, arith, Some}
+use Rattle.std.proofs.Common.{◌≡◌, ℕ, ◌+◌, ◌-◌, ◌*◌, ◌%◌, ◌^◌, ◌==◌, ◌<◌, ◌≤◌, ◌||◌, refl, ap, Bool, true, false, if◌then◌else◌, List, [], ◌∷◌, ◌++◌, length, length-append, drop, take, arith, Some}
 use Rattle.std.specs.List.{All, filter}
 use Rattle.std.proofs.lemmas.List.Elements.{All-replicate}
 use Rattle.vm_types.specs.declared.op.Op.TheVariants.{Read, Write}
@@ -11,10 +11,11 @@ use Rattle.vq_split.specs.declared.queue.Part.{Part}
 use Rattle.vq_split.specs.Chain.{read_bytes}
 use Rattle.vq_split.specs.Inside.{AreInside}
 use Rattle.vq_split.specs.Kept.{are_inside}
+use Rattle.vq_split.proofs.Inside.{of_ram}
 use Rattle.vq_split.proofs.Kept.{are_of, inside_of}
 use Rattle.dev_core.specs.declared.collect.Collect.{Collect}
 use Rattle.dev_core.specs.Collecting.{collect_left}
-use Rattle.dev_core.specs.Pieces.{Got, past, place, put_all, room, share}
+use Rattle.dev_core.specs.Pieces.{Got, past, place, put_all, room, share, total}
 use Rattle.dev_core.proofs.Fuel.{bytes_fit, collect_led, collect_more, put_more}
 use Rattle.dev_core.proofs.Inside.{filter_inside, past_inside}
 use Rattle.queue_device.specs.Sizes.{IsSmallReply}
@@ -135,3 +136,13 @@ past_test pages n parts small some is =
 pub filter_test : (pages : ℕ) (test : Part → Bool) (parts : List Part) → are_inside pages parts ≡ true
     → are_inside pages (filter test parts) ≡ true
 filter_test pages test parts is = are_of pages (filter test parts) (filter_inside pages test parts (inside_of pages parts is))
+
+-- ---- how many bytes parts have: 2^32 each at most, in a guest of 2^20 pages
+
+pub total_most : (pages : ℕ) (parts : List Part) → pages ≤ 2 ^ 20 → AreInside pages parts
+    → total parts ≤ 2 ^ 32 * length parts
+total_most pages [] small inside = omega arith
+total_most pages (part ∷ parts) small inside =
+    let here = of_ram pages part.at part.len inside.1 in
+    let rest = total_most pages parts small inside.2 in
+    omega (arith, here, rest)

@@ -1,56 +1,29 @@
 -- A balloon in the fields of a file: what is kept of it fits, where each number of it has its width.
-use Rattle.std.proofs.Common.{◌≡◌, ◌≤◌, ◌<◌, ◌^◌, ◌*◌, ◌+◌, ℕ, Bool, true, false, refl, arith, List, length, Option, Some, None}
-use Rattle.std.specs.List.{All}
-use Rattle.std.proofs.lemmas.Bool.{and_parts}
+use Rattle.std.proofs.Common.{◌≡◌, ◌≤◌, ◌<◌, ◌^◌, ℕ, true, refl, arith, List, Option, Some, None}
 use Rattle.file_format.specs.Kinds.{number64, optional}
-use Rattle.file_format.proofs.Fitting.{every, fits8, fits16, fits32, fits64, fits_flag, fits_optional, fits_times}
-use Rattle.vq_split.specs.Inside.{AreInside}
-use Rattle.vq_split.proofs.Kept.{test_of_sound}
-use Rattle.dev_core.specs.declared.collect.Collect.{Collect}
+use Rattle.file_format.proofs.Fitting.{every, fits8, fits16, fits32, fits64, fits_optional, fits_times}
 use Rattle.queue_device.specs.declared.device.QueueRounds.{QueueRounds}
-use Rattle.queue_device.specs.declared.lanes.Due.{Due}
-use Rattle.queue_device.specs.declared.lanes.Due.TheVariants as due
 use Rattle.queue_device.specs.declared.lanes.Which.{Which}
 use Rattle.queue_device.specs.declared.lanes.Which.TheVariants.{First, Second, Third}
-use Rattle.queue_device.specs.declared.phase.InHand.{InHand}
-use Rattle.queue_device.specs.declared.phase.Phase.{Phase}
-use Rattle.queue_device.specs.declared.phase.Phase.TheVariants as phase
 use Rattle.queue_device.specs.declared.phase.Work.{Work}
 use Rattle.queue_device.specs.declared.phase.Work.TheVariants as work
-use Rattle.queue_device.specs.Kept.{is_at_lane, is_in_hand, is_place, is_told, is_walked, work_of}
-use Rattle.queue_device.specs.Lanes.{lane_of}
+use Rattle.queue_device.specs.Kept.{work_of}
 use Rattle.queue_device.specs.Resuming.{AreShort}
-use Rattle.queue_device.specs.Sizes.{IsHead, IsNarrowPhase}
-use Rattle.queue_device.proofs.KeptRounds.{short_of}
-use Rattle.queue_device.proofs.KeptStays.{TestParts, test_parts}
+use Rattle.queue_device.specs.Sizes.{IsNarrowPhase}
+use Rattle.queue_device.proofs.KeptStays.{TestParts}
 use Rattle.balloon_device.specs.declared.kind.Stage.{Stage}
 use Rattle.balloon_device.specs.declared.kind.Stage.TheVariants as at
 use Rattle.balloon_device.specs.declared.statistics.Statistics.{Statistics}
 use Rattle.balloon_device.specs.Balloon as balloons
 use Rattle.balloon_device.specs.States.{is_state}
 use Rattle.balloon_device.specs.Statistics.{known_tags}
-use Rattle.balloon_device.specs.Work.{AreSmall, IsSizedData, IsSmallStage, IsSmallValue, IsStage, Kept, is_stage, is_work}
+use Rattle.balloon_device.specs.Work.{AreSmall, IsSizedData, IsSmallStage, IsSmallValue, Kept, is_stage, is_work}
 use Rattle.balloon_device.proofs.Stages.{list_of, reads_of, test_of_stage, zeros_of}
-use Rattle.snap_devices.specs.Balloons.{balloon, balloon_fields, kind, kind_fields, stage as stage_format, statistics}
-use Rattle.snap_devices.specs.Places.{hand, hand_fields, place}
-use Rattle.snap_devices.specs.Queues.{collect}
-use Rattle.snap_devices.specs.Rounds.{lane, next_due, rounds, which}
-use Rattle.snap_devices.proofs.PieceFits.{begun_fits, break_fits, collect_fits, hand_fits, lane_queue_fits, return_fits, waiting_fits}
-
--- ---- its queues
-
-which_fits : (k : Which) → which.Fits k
-unfolding which
-which_fits First = (fits8 0 (omega arith), refl)
-which_fits Second = (fits8 1 (omega arith), refl)
-which_fits Third = (fits8 2 (omega arith), refl)
-
-next_fits : (d : Due) → next_due.Fits d
-unfolding next_due
-next_fits due.Look = (fits8 0 (omega arith), refl)
-next_fits due.Question = (fits8 1 (omega arith), refl)
-next_fits (due.Lane k) = (fits8 2 (omega arith), (refl, which_fits k))
-next_fits due.Wait = (fits8 3 (omega arith), refl)
+use Rattle.snap_devices.specs.Balloons.{stage as stage_format, balloon, balloon_fields, kind, kind_fields, statistics}
+use Rattle.snap_devices.specs.Places.{place}
+use Rattle.snap_devices.specs.Rounds.{rounds}
+use Rattle.snap_devices.proofs.PieceFits.{collect_fits}
+use Rattle.snap_devices.proofs.RoundsFits.{facts, place_fits, rounds_fit}
 
 -- ---- what it told, and what it is at in a chain
 
@@ -154,61 +127,18 @@ module _ (pages : ℕ) (few : pages ≤ 2 ^ 18) where
 module _ (b : QueueRounds Kept) (is : is_state b ≡ true) (few : b.rounds.pages ≤ 2 ^ 18) (port : b.rounds.port < 2 ^ 8)
     (short : AreShort true b.rounds) (narrow : IsNarrowPhase b.phase) (small : IsSmallStage b.kind.stage)
     (own : IsSizedData true b.kind.own) where
-  facts : TestParts balloons.balloon true is_work b.phase b.rounds b.kind.stage
-  facts = test_parts balloons.balloon true is_work b.phase b.rounds b.kind.stage is
-
-  lane_fits : (k : Which) → lane.Fits (lane_of k b.rounds)
-  unfolding lane
-  lane_fits k =
-      let it = (short_of true k b.rounds short).1 refl in (
-        (fits16 (lane_of k b.rounds).next it.next, (fits16 (lane_of k b.rounds).used it.used, fits_flag (lane_of k b.rounds).is_kicked)),
-        (
-          lane_queue_fits balloons.balloon true b.rounds facts.are few short k,
-          waiting_fits balloons.balloon true b.rounds facts.are few short k,
-        ),
-      )
-
-  rounds_fit : rounds.Fits b.rounds
-  unfolding rounds
-  rounds_fit = (
-    (fits32 b.rounds.pages (omega (arith, few)), (fits8 b.rounds.port port, (next_fits b.rounds.due, fits_flag b.rounds.is_busy))),
-    (lane_fits First, (lane_fits Second, lane_fits Third)),
-  )
-
-  in_hand : (c : InHand) → is_in_hand true c b.rounds ≡ true → IsHead c.head → hand.Fits c
-  unfolding hand hand_fields
-  in_hand c is head =
-      let sound = (and_parts _ _ (and_parts _ _ is).0).0 in
-      ((which_fits c.which, (hand_fits balloons.balloon true b.rounds facts.are few short c is, fits16 c.head head)), sound)
-
-  place_fits : (p : Phase) → is_place true p b.rounds ≡ true → IsNarrowPhase p → place.Fits p
-  unfolding place
-  place_fits phase.Between there narrow = (fits8 0 (omega arith), refl)
-  place_fits phase.Question there narrow = (fits8 1 (omega arith), refl)
-  place_fits (phase.Walk k w) there narrow =
-      let on = and_parts (is_at_lane b.rounds.due) (is_walked (lane_of k b.rounds) w) there in
-      (fits8 2 (omega arith), (refl, (which_fits k, begun_fits balloons.balloon true b.rounds facts.are few short k w on.1 narrow)))
-  place_fits (phase.Take c) there narrow =
-      let on = and_parts (is_at_lane b.rounds.due) (is_in_hand true c b.rounds) there in
-      (fits8 3 (omega arith), (refl, in_hand c on.1 narrow))
-  place_fits (phase.Serve c) there narrow =
-      let on = and_parts (is_at_lane b.rounds.due) (is_in_hand true c b.rounds) there in
-      (fits8 4 (omega arith), (refl, in_hand c on.1 narrow))
-  place_fits (phase.Return c len stage) there narrow =
-      let told = and_parts _ (is_told stage len c.head) there in
-      let on = and_parts (is_at_lane b.rounds.due) (is_in_hand true c b.rounds) told.0 in
-      (fits8 5 (omega arith), (refl, (fits32 len narrow.1, (return_fits stage, in_hand c on.1 narrow.0))))
-  place_fits (phase.Break k stage) there narrow = (fits8 6 (omega arith), (refl, (which_fits k, break_fits stage)))
+  parts : TestParts balloons.balloon true is_work b.phase b.rounds b.kind.stage
+  parts = facts balloons.balloon is_work b.phase b.rounds b.kind.stage is few port short
 
   pub balloon_fits : balloon.Fits b
   unfolding balloon balloon_fields kind kind_fields
   balloon_fits =
-      let kept = stage_fits b.rounds.pages few (work_of b.phase) b.kind.stage facts.works small in
+      let kept = stage_fits b.rounds.pages few (work_of b.phase) b.kind.stage parts.works small in
       let small_own = own refl in (
         (
-          rounds_fit,
+          rounds_fit balloons.balloon is_work b.phase b.rounds b.kind.stage is few port short,
           (
-            place_fits b.phase facts.place narrow,
+            place_fits balloons.balloon is_work b.phase b.rounds b.kind.stage is few port short b.phase parts.place narrow,
             (
               (
                 fits16 b.kind.own.interval small_own.interval,

@@ -1,8 +1,7 @@
 -- A device in the fields of a file: what is kept of it fits, where each number of it has its width.
-use Rattle.std.proofs.Common.{◌≡◌, ◌≤◌, ◌<◌, ◌^◌, ◌*◌, ◌/◌, ◌%◌, ◌+◌, ℕ, ◌==◌, Bool, true, false, if◌then◌else◌, refl, subst, arith, List, [], ◌∷◌, length, Option, Some, None}
+use Rattle.std.proofs.Common.{◌≡◌, ◌≤◌, ◌<◌, ◌^◌, ℕ, Bool, true, false, if◌then◌else◌, refl, arith, List, Option, Some, None}
 use Rattle.std.specs.Prelude.{IfSome}
-use Rattle.std.proofs.lemmas.Bool.{and_parts, eqb-true, leb-true, ltb-true}
-use Rattle.std.proofs.lemmas.Nat.{mul-le}
+use Rattle.std.proofs.lemmas.Bool.{and_parts, eqb-true}
 use Rattle.le_fields.specs.Fields.{IsByte}
 use Rattle.file_format.specs.Ends.{ended}
 use Rattle.file_format.specs.Kinds.{byte, optional}
@@ -12,8 +11,6 @@ use Rattle.vq_split.specs.declared.queue.Queue.{Queue}
 use Rattle.vq_split.proofs.Inside.{of_ram}
 use Rattle.dev_core.specs.declared.collect.Collect.{Collect}
 use Rattle.dev_core.specs.Looks.{no_queue}
-use Rattle.token_bucket.specs.Kept.{Kept}
-use Rattle.rate_gate.specs.Gate.{Buckets}
 use Rattle.queue_device.specs.declared.device.QueueRounds.{QueueRounds}
 use Rattle.queue_device.specs.declared.lanes.Which.TheVariants.{First}
 use Rattle.queue_device.specs.declared.phase.InHand.{InHand}
@@ -25,37 +22,37 @@ use Rattle.queue_device.specs.Kept.{is_at_lane, is_in_hand, is_place, is_same_qu
 use Rattle.queue_device.specs.Lanes.{lane_of}
 use Rattle.queue_device.specs.Resuming.{AreShort}
 use Rattle.queue_device.specs.Sizes.{IsNarrowPhase, IsNarrowQueue}
-use Rattle.queue_device.proofs.KeptRounds.{short_of}
 use Rattle.queue_device.proofs.KeptStays.{TestParts, test_parts}
 use Rattle.block_device.specs.declared.kind.BlockKind.{BlockKind}
 use Rattle.block_device.specs.declared.stage.ServiceStage.{ServiceStage}
 use Rattle.block_device.specs.declared.stage.ServiceStage.TheVariants as stage
 use Rattle.block_device.specs.declared.work.BlockStage.{BlockStage}
 use Rattle.block_device.specs.declared.work.BlockStage.TheVariants as at
-use Rattle.block_device.specs.Block.{block as service_of}
 use Rattle.block_device.specs.Kept.{has_place, is_work}
-use Rattle.block_device.specs.Serving.{IsStage as IsServing}
 use Rattle.block_device.specs.States.{is_state}
-use Rattle.block_device.specs.Working.{IsAt, IsSizedData, IsSmallAt, IsSmallBucket, IsSmallStage, IsSmallWork, Working}
-use Rattle.block_device.proofs.GoesOnBegin.{total_most}
-use Rattle.block_device.proofs.Kept.{work_of as work_parts}
-use Rattle.block_device.proofs.SmallLimits.{kept_parts}
+use Rattle.block_device.specs.Working.{IsAt, IsSizedData, IsSmallAt, IsSmallStage, IsSmallWork, Working}
+use Rattle.queue_device.proofs.Pieces.{total_most}
 use Rattle.guest_devices.specs.declared.device.Device.{Device}
 use Rattle.guest_devices.specs.declared.device.Device.TheVariants as kept
 use Rattle.guest_devices.specs.Kept.{device_pages, device_port, is_kept, is_sized, kept_of, is_state_kept}
 use Rattle.guest_devices.specs.Narrow.{IsNarrowKept}
 use Rattle.snap_devices.specs.declared.file.FileDue.{FileDue}
 use Rattle.snap_devices.specs.declared.file.FileDue.TheVariants.{Look, Walk, Idle}
-use Rattle.snap_devices.specs.Blocks.{block, block_data, block_fields, due as due_format}
+use Rattle.snap_devices.specs.Blocks.{due as due_format, block, block_data, block_fields}
 use Rattle.snap_devices.specs.Devices.{device}
 use Rattle.snap_devices.specs.Forms.{data_filed, due_filed, hand_filed, more_filed, other_queue, phase_filed, queue_filed, served_filed, walk_filed}
-use Rattle.snap_devices.specs.Limits.{bucket, bucket_fields, joined, halves, limits, more, owed}
-use Rattle.snap_devices.specs.Phases.{phase as phase_format}
+use Rattle.snap_devices.specs.Limits.{limits, more}
 use Rattle.snap_devices.specs.Queues.{queue, walk}
 use Rattle.snap_devices.specs.Serving.{service, units}
 use Rattle.snap_devices.proofs.BalloonFits.{balloon_fits}
 use Rattle.snap_devices.proofs.Forms.{stands}
 use Rattle.snap_devices.proofs.PieceFits.{begun_fits, break_fits, collect_fits, hand_fits, parts_fit, queue_fits, return_fits, shown_of, waiting_fits}
+use Rattle.snap_devices.proofs.LimitsFits.{bucket_by}
+use Rattle.snap_devices.proofs.NetFits.{net_fits}
+use Rattle.block_device.specs.Block.{block as service_of}
+use Rattle.block_device.specs.Serving.{IsStage as IsServing}
+use Rattle.block_device.proofs.Kept.{work_of as work_parts}
+use Rattle.snap_devices.specs.Phases.{phase as phase_format}
 
 -- ---- the phase
 
@@ -113,36 +110,6 @@ phase_fits pages (phase.Serve c) w few works narrow small =
 phase_fits pages (phase.Return c len stage) w few works narrow small =
     (fits8 4 (omega arith), (refl, (fits32 len narrow.1, (fits16 c.head narrow.0, return_fits stage))))
 phase_fits pages (phase.Break k stage) w few works narrow small = (fits8 1 (omega arith), (refl, break_fits stage))
-
--- ---- its limits
-
-owed_fits : (n : ℕ) → n < 2 ^ 128 → owed.Fits n
-unfolding owed
-owed_fits n small =
-    let back : n ≡ n % 2 ^ 64 + 2 ^ 64 * (n / 2 ^ 64) = omega arith in
-    (back, (fits64 (n % 2 ^ 64) (omega arith), fits64 (n / 2 ^ 64) (omega (arith, small))))
-
-bucket_fits : (k : Kept) → IsSmallBucket k → bucket.Fits k
-unfolding bucket bucket_fields
-bucket_fits k is =
-    let parts = kept_parts k is.kept in
-    let size = ltb-true _ _ parts.size in
-    let fast = ltb-true _ _ parts.fast in
-    let owes = leb-true _ _ parts.owes in
-    let whole = mul-le k.rate.size k.rate.refill (2 ^ 48) (2 ^ 52) (omega (arith, size)) (omega (arith, fast)) in (
-      (
-        fits64 k.rate.size (omega (arith, size)),
-        (
-          fits64 k.rate.refill (omega (arith, fast)),
-          (fits64 k.burst is.burst, (owed_fits k.owes (omega (arith, owes, whole)), fits64 k.moment is.moment)),
-        ),
-      ),
-      is.kept,
-    )
-
-bucket_by : (o : Option Kept) → IfSome o IsSmallBucket → (optional bucket).Fits o
-bucket_by None is = fits_optional bucket None tt
-bucket_by (Some k) is = fits_optional bucket (Some k) (bucket_fits k is)
 
 -- ---- its data
 
@@ -264,6 +231,9 @@ unfolding device
 device_fits (kept.Block b) is narrow few port =
     let both = and_parts (is_state_kept (kept_of (kept.Block b))) (is_sized (kept_of (kept.Block b))) is in
     (fits8 1 (omega arith), (refl, block_fits b both.0 few port narrow.0 narrow.1 narrow.2 narrow.3))
+device_fits (kept.Net n) is narrow few port =
+    let both = and_parts (is_state_kept (kept_of (kept.Net n))) (is_sized (kept_of (kept.Net n))) is in
+    (fits8 0 (omega arith), (refl, net_fits n both.0 few port narrow.0 narrow.1 narrow.2 narrow.3))
 device_fits (kept.Balloon b) is narrow few port =
     let both = and_parts (is_state_kept (kept_of (kept.Balloon b))) (is_sized (kept_of (kept.Balloon b))) is in
     (fits8 2 (omega arith), (refl, balloon_fits b both.0 few port narrow.0 narrow.1 narrow.2 narrow.3))

@@ -15,6 +15,10 @@ use Rattle.queue_device.specs.declared.lanes.Lane.{Lane}
 use Rattle.queue_device.specs.declared.lanes.Rounds.{Rounds}
 use Rattle.queue_device.specs.Chains.{Chain}
 use Rattle.block_device.specs.declared.kind.BlockKind.{BlockKind}
+use Rattle.net_device.specs.declared.kind.Stage as net
+use Rattle.net_device.specs.declared.kind.Stage.TheVariants as net_at
+use Rattle.net_device.specs.Work as net_work
+use Rattle.snap_devices.specs.Nets as nets
 use Rattle.balloon_device.specs.declared.kind.Stage.{Stage}
 use Rattle.balloon_device.specs.declared.kind.Stage.TheVariants as at
 use Rattle.balloon_device.specs.Work.{Kept}
@@ -31,7 +35,10 @@ use Rattle.snap_devices.specs.Phases.{phase}
 use Rattle.snap_devices.specs.Places.{place}
 use Rattle.snap_devices.specs.Queues.{collect, held, parts, queue, walk}
 use Rattle.snap_devices.specs.Rounds.{lane, next_due, rounds}
-use Rattle.snap_devices.proofs.BalloonNarrow.{AreAllHeld, HoldsBalloon, HoldsBytes, HoldsStage}
+use Rattle.snap_devices.proofs.BalloonNarrow.{HoldsBalloon, HoldsStage}
+use Rattle.snap_devices.proofs.DeviceNarrow.{HoldsBytes}
+use Rattle.snap_devices.proofs.RoundsNarrow.{AreAllHeld}
+use Rattle.snap_devices.proofs.NetNarrow.{HoldsNet, HoldsPiece}
 use Rattle.snap_devices.proofs.Narrow.{AreHeld, HoldsBlock}
 
 pub front : (a b : List ℕ) → IsBytes (a ++ b) → IsBytes a
@@ -137,7 +144,43 @@ balloon_held b is =
     let e = behind (number64.bytes b.kind.own.last) _ d in
     (stage_held b.kind.stage (behind (statistics.bytes b.kind.own.statistics) _ e), rounds_held b.rounds (front (rounds.bytes b.rounds) _ is))
 
+-- ---- a network device
+
+text_held : (bytes : List ℕ) → IsBytes (nets.text.bytes bytes) → All IsByte bytes
+unfolding nets.text byte_list
+text_held bytes is = all_of bytes (behind (to_le_bytes w32 (length bytes)) bytes is)
+
+piece_held : (bytes : List ℕ) → IsBytes (nets.piece.bytes bytes) → All IsByte bytes
+unfolding nets.piece byte_list
+piece_held bytes is = all_of bytes (behind (to_le_bytes w32 (length bytes)) bytes is)
+
+sent_held : (s : net.Stage) → IsBytes (nets.stage.bytes s) → HoldsPiece s
+unfolding nets.stage
+sent_held net_at.Rest is = tt
+sent_held (net_at.Take size index) is = tt
+sent_held (net_at.Receive from to) is = tt
+sent_held (net_at.Read skip from) is = tt
+sent_held (net_at.Send sent skip from) is =
+    let a = behind (byte.bytes 4) _ is in
+    piece_held sent (front (nets.piece.bytes sent) _ a)
+sent_held net_at.End is = tt
+
+net_held : (n : QueueRounds net_work.Kept) → IsBytes (nets.net.bytes n) → HoldsNet n
+unfolding nets.net nets.net_fields nets.kind nets.kind_fields
+net_held n is =
+    let a = behind (rounds.bytes n.rounds) _ is in
+    let b = behind (place.bytes n.phase) _ a in
+    let c = behind (nets.text.bytes n.kind.own.text) _ b in
+    let d = behind (limits.bytes n.kind.own.rx) _ c in
+    let e = behind (limits.bytes n.kind.own.tx) _ d in (
+      text_held n.kind.own.text (front (nets.text.bytes n.kind.own.text) _ b),
+      sent_held n.kind.doing.stage (front (nets.stage.bytes n.kind.doing.stage) _ e),
+      text_held n.kind.doing.bytes (behind (nets.stage.bytes n.kind.doing.stage) _ e),
+      rounds_held n.rounds (front (rounds.bytes n.rounds) _ is),
+    )
+
 pub device_held : (d : Device) → IsBytes (device.bytes d) → HoldsBytes d
 unfolding device
 device_held (kept.Block b) is = block_held b (behind (byte.bytes 1) (block.bytes b) is)
+device_held (kept.Net n) is = net_held n (behind (byte.bytes 0) (nets.net.bytes n) is)
 device_held (kept.Balloon b) is = balloon_held b (behind (byte.bytes 2) (balloon.bytes b) is)

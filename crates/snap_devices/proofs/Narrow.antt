@@ -23,7 +23,8 @@ use Rattle.queue_device.specs.Sizes.{IsNarrowLane, IsNarrowPhase, IsNarrowQueue,
 use Rattle.block_device.specs.declared.kind.BlockKind.{BlockKind}
 use Rattle.block_device.specs.declared.stage.ServiceStage.{ServiceStage}
 use Rattle.block_device.specs.declared.stage.ServiceStage.TheVariants as stage
-use Rattle.block_device.specs.Working.{AreSmallLimits, IsSizedData, IsSmallAt, IsSmallBucket, IsSmallStage}
+use Rattle.rate_gate.specs.Small.{AreSmallLimits, IsSmallBucket}
+use Rattle.block_device.specs.Working.{IsSizedData, IsSmallAt, IsSmallStage}
 use Rattle.guest_devices.specs.declared.device.Device.TheVariants as kept
 use Rattle.guest_devices.specs.Narrow.{IsNarrowKept}
 use Rattle.snap_devices.specs.declared.file.FileBlock.{FileBlock}
@@ -144,7 +145,7 @@ of_bucket : (k : Kept) → bucket.Fits k → IsSmallBucket k
 unfolding bucket bucket_fields
 of_bucket k own = record { kept = own.1; burst = of64 k.burst own.0.1.1.0; moment = of64 k.moment own.0.1.1.1.1 }
 
-buckets_of : (o : Option Kept) → (optional bucket).Fits o → IfSome o IsSmallBucket
+pub buckets_of : (o : Option Kept) → (optional bucket).Fits o → IfSome o IsSmallBucket
 buckets_of None own = tt
 buckets_of (Some k) own = of_bucket k (of_optional bucket k own)
 

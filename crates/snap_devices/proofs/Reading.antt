@@ -2,11 +2,14 @@
 use Rattle.std.proofs.Common.{◌≡◌, ℕ, zero, suc, refl, sym, ap, ◌∙◌, Bool, true, false, if◌then◌else◌, List, Option, Some, None}
 use Rattle.std.specs.Option.{option_and_then}
 use Rattle.file_format.specs.Ends.{end_at, ended, whole}
-use Rattle.file_format.specs.Kinds.{byte}
+use Rattle.file_format.specs.Format.{Format}
+use Rattle.file_format.specs.Kinds.{byte, passing}
 use Rattle.queue_device.specs.declared.device.QueueRounds.{QueueRounds}
 use Rattle.block_device.specs.declared.kind.BlockKind.{BlockKind}
-use Rattle.balloon_device.specs.States.{is_state}
-use Rattle.balloon_device.specs.Work.{Kept}
+use Rattle.net_device.specs.States as nets
+use Rattle.net_device.specs.Work as net_work
+use Rattle.balloon_device.specs.States as balloons
+use Rattle.balloon_device.specs.Work as balloon_work
 use Rattle.guest_devices.specs.declared.device.Device.{Device}
 use Rattle.guest_devices.specs.declared.device.Device.TheVariants as kept
 use Rattle.snap_devices.specs.declared.file.FileBlock.{FileBlock}
@@ -16,6 +19,7 @@ use Rattle.snap_devices.specs.Blocks.{block, block_fields}
 use Rattle.snap_devices.specs.Devices.{device, devices}
 use Rattle.snap_devices.specs.Forms.{is_form, kept_of}
 use Rattle.snap_devices.specs.Limits.{end_of_device}
+use Rattle.snap_devices.specs.Nets.{net, net_fields}
 
 abbrev Whole : Type 0
 Whole = FileBlock × FileMore
@@ -62,11 +66,12 @@ reads_as given rest f m o read end is = with_end given rest f (Some m) read end 
 
 -- ---- a device
 
-pub other_kind : (code : ℕ) (given : List ℕ) → (code ≡ 1 → ⊥) → (code ≡ 2 → ⊥) → (devices code).reads given ≡ None
-other_kind zero given first second = refl
-other_kind (suc zero) given first second = absurd (first refl)
-other_kind (suc (suc zero)) given first second = absurd (second refl)
-other_kind (suc (suc (suc n))) given first second = refl
+pub other_kind : (code : ℕ) (given : List ℕ) → (code ≡ 0 → ⊥) → (code ≡ 1 → ⊥) → (code ≡ 2 → ⊥)
+    → (devices code).reads given ≡ None
+other_kind zero given no one two = absurd (no refl)
+other_kind (suc zero) given no one two = absurd (one refl)
+other_kind (suc (suc zero)) given no one two = absurd (two refl)
+other_kind (suc (suc (suc n))) given no one two = refl
 
 pub kind_bad : (given : List ℕ) → byte.reads given ≡ None → device.reads given ≡ None
 unfolding device
@@ -87,46 +92,78 @@ pub block_none : (given rest : List ℕ) → byte.reads given ≡ Some (1, rest)
 block_none given rest read is =
     kind_read given rest 1 None read (ap (option_and_then (λ (a : QueueRounds BlockKind). Some (kept.Block a))) is)
 
--- ---- a balloon is read where it is in a state that it may be in
+-- ---- what is read where it passes a test
 
-abbrev Read : Type 0
-Read = QueueRounds Kept × List ℕ
+module _ {A : Type 0} (test : A → Bool) (fields : Format A) where
+  abbrev Read : Type 0
+  Read = A × List ℕ
 
-chosen_balloon : (test : Bool) (b it : QueueRounds Kept) (rest : List ℕ) → Some it ≡ (if test then Some b else None)
-    → if◌then◌else◌ {A = Option Read} test (Some (b, rest)) None ≡ Some (it, rest)
-chosen_balloon true b it rest is = let same : it ≡ b = cc in ap (λ (x : QueueRounds Kept). (let it : Read = (x, rest) in Some it)) (sym same)
-chosen_balloon false b it rest is = absurd (cc)
+  one_read : (passes : Bool) (a it : A) (rest : List ℕ) → Some it ≡ (if passes then Some a else None)
+      → if◌then◌else◌ {A = Option Read} passes (Some (a, rest)) None ≡ Some (it, rest)
+  one_read true a it rest is =
+      let same : it ≡ a = cc in ap (λ (x : A). (let it : Read = (x, rest) in Some it)) (sym same)
+  one_read false a it rest is = absurd (cc)
 
-no_balloon : (test : Bool) (b : QueueRounds Kept) (rest : List ℕ) → None ≡ (if test then Some b else None)
-    → if◌then◌else◌ {A = Option Read} test (Some (b, rest)) None ≡ None
-no_balloon true b rest is = absurd (cc)
-no_balloon false b rest is = refl
+  none_read : (passes : Bool) (a : A) (rest : List ℕ) → None ≡ (if passes then Some a else None)
+      → if◌then◌else◌ {A = Option Read} passes (Some (a, rest)) None ≡ None
+  none_read true a rest is = absurd (cc)
+  none_read false a rest is = refl
 
-abbrev balloon_if : Read → Option Read
-balloon_if x = if is_state x.0 then Some x else None
+  abbrev passed_if : Read → Option Read
+  passed_if x = if test x.0 then Some x else None
 
-pub balloon_read : (given rest : List ℕ) (b it : QueueRounds Kept) → balloon_fields.reads given ≡ Some (b, rest)
-    → Some it ≡ (if is_state b then Some b else None) → balloon.reads given ≡ Some (it, rest)
+  passed_read : (given rest : List ℕ) (a it : A) → fields.reads given ≡ Some (a, rest)
+      → Some it ≡ (if test a then Some a else None) → (passing test fields).reads given ≡ Some (it, rest)
+  passed_read given rest a it read is = ap (option_and_then passed_if) read ∙ one_read (test a) a it rest is
+
+  passed_refused : (given rest : List ℕ) (a : A) → fields.reads given ≡ Some (a, rest)
+      → None ≡ (if test a then Some a else None) → (passing test fields).reads given ≡ None
+  passed_refused given rest a read is = ap (option_and_then passed_if) read ∙ none_read (test a) a rest is
+
+-- a network device, and a balloon, are read where they are in a state that they may be in
+
+pub net_read : (given rest : List ℕ) (n it : QueueRounds net_work.Kept) → net_fields.reads given ≡ Some (n, rest)
+    → Some it ≡ (if nets.is_state n then Some n else None) → net.reads given ≡ Some (it, rest)
+unfolding net
+net_read given rest n it read is = passed_read nets.is_state net_fields given rest n it read is
+
+pub net_refused : (given rest : List ℕ) (n : QueueRounds net_work.Kept) → net_fields.reads given ≡ Some (n, rest)
+    → None ≡ (if nets.is_state n then Some n else None) → net.reads given ≡ None
+unfolding net
+net_refused given rest n read is = passed_refused nets.is_state net_fields given rest n read is
+
+pub balloon_read : (given rest : List ℕ) (b it : QueueRounds balloon_work.Kept) → balloon_fields.reads given ≡ Some (b, rest)
+    → Some it ≡ (if balloons.is_state b then Some b else None) → balloon.reads given ≡ Some (it, rest)
 unfolding balloon
-balloon_read given rest b it read is = ap (option_and_then balloon_if) read ∙ chosen_balloon (is_state b) b it rest is
+balloon_read given rest b it read is = passed_read balloons.is_state balloon_fields given rest b it read is
 
-pub balloon_refused : (given rest : List ℕ) (b : QueueRounds Kept) → balloon_fields.reads given ≡ Some (b, rest)
-    → None ≡ (if is_state b then Some b else None) → balloon.reads given ≡ None
+pub balloon_refused : (given rest : List ℕ) (b : QueueRounds balloon_work.Kept) → balloon_fields.reads given ≡ Some (b, rest)
+    → None ≡ (if balloons.is_state b then Some b else None) → balloon.reads given ≡ None
 unfolding balloon
-balloon_refused given rest b read is = ap (option_and_then balloon_if) read ∙ no_balloon (is_state b) b rest is
+balloon_refused given rest b read is = passed_refused balloons.is_state balloon_fields given rest b read is
 
--- ---- a device that is a balloon
+-- ---- a device that is one of these
 
-pub balloon_is : (given rest : List ℕ) (b : QueueRounds Kept) → byte.reads given ≡ Some (2, rest)
+pub net_is : (given rest : List ℕ) (n : QueueRounds net_work.Kept) → byte.reads given ≡ Some (0, rest)
+    → (whole net).reads rest ≡ Some n → device.reads given ≡ Some (kept.Net n)
+net_is given rest n read is =
+    kind_read given rest 0 (Some (kept.Net n)) read (ap (option_and_then (λ (a : QueueRounds net_work.Kept). Some (kept.Net a))) is)
+
+pub net_none : (given rest : List ℕ) → byte.reads given ≡ Some (0, rest) → (whole net).reads rest ≡ None
+    → device.reads given ≡ None
+net_none given rest read is =
+    kind_read given rest 0 None read (ap (option_and_then (λ (a : QueueRounds net_work.Kept). Some (kept.Net a))) is)
+
+pub balloon_is : (given rest : List ℕ) (b : QueueRounds balloon_work.Kept) → byte.reads given ≡ Some (2, rest)
     → (whole balloon).reads rest ≡ Some b → device.reads given ≡ Some (kept.Balloon b)
 balloon_is given rest b read is =
-    kind_read given rest 2 (Some (kept.Balloon b)) read (ap (option_and_then (λ (a : QueueRounds Kept). Some (kept.Balloon a))) is)
+    kind_read given rest 2 (Some (kept.Balloon b)) read (ap (option_and_then (λ (a : QueueRounds balloon_work.Kept). Some (kept.Balloon a))) is)
 
 pub balloon_none : (given rest : List ℕ) → byte.reads given ≡ Some (2, rest) → (whole balloon).reads rest ≡ None
     → device.reads given ≡ None
 balloon_none given rest read is =
-    kind_read given rest 2 None read (ap (option_and_then (λ (a : QueueRounds Kept). Some (kept.Balloon a))) is)
+    kind_read given rest 2 None read (ap (option_and_then (λ (a : QueueRounds balloon_work.Kept). Some (kept.Balloon a))) is)
 
-pub other_none : (given rest : List ℕ) (code : ℕ) → byte.reads given ≡ Some (code, rest) → (code ≡ 1 → ⊥) → (code ≡ 2 → ⊥)
-    → device.reads given ≡ None
-other_none given rest code read first second = kind_read given rest code None read (other_kind code rest first second)
+pub other_none : (given rest : List ℕ) (code : ℕ) → byte.reads given ≡ Some (code, rest) → (code ≡ 0 → ⊥) → (code ≡ 1 → ⊥)
+    → (code ≡ 2 → ⊥) → device.reads given ≡ None
+other_none given rest code read no one two = kind_read given rest code None read (other_kind code rest no one two)

@@ -5,7 +5,8 @@ use Rattle.file_format.specs.Kinds.{byte}
 use Rattle.queue_device.specs.declared.device.QueueRounds.{QueueRounds}
 use Rattle.block_device.specs.declared.kind.BlockKind.{BlockKind}
 use Rattle.block_device.specs.States.{is_state}
-use Rattle.balloon_device.specs.Work.{Kept}
+use Rattle.net_device.specs.Work as net_work
+use Rattle.balloon_device.specs.Work as balloon_work
 use Rattle.guest_devices.specs.declared.device.Device.{Device}
 use Rattle.guest_devices.specs.declared.device.Device.TheVariants as kept
 use Rattle.snap_devices.specs.declared.file.FileMore.{FileMore}
@@ -14,6 +15,7 @@ use Rattle.snap_devices.specs.Blocks.{block, block_fields}
 use Rattle.snap_devices.specs.Devices.{device}
 use Rattle.snap_devices.specs.Forms.{block_filed, more_filed}
 use Rattle.snap_devices.specs.Limits.{end_of_device}
+use Rattle.snap_devices.specs.Nets.{net}
 use Rattle.snap_devices.proofs.Forms.{stands}
 
 pub record Written (b : QueueRounds BlockKind) (old new : List ℕ) : Type 0 where
@@ -57,7 +59,15 @@ block_put b old mid new fits put end = record {
   bytes = end ∙ ap (λ (x : List ℕ). x ++ block.bytes b) put ∙ append_assoc old (1 ∷ []) (block.bytes b);
 }
 
-balloon_put : (b : QueueRounds Kept) (old mid new : List ℕ) → balloon.Fits b → mid ≡ byte.puts 2 old
+net_put : (n : QueueRounds net_work.Kept) (old mid new : List ℕ) → net.Fits n → mid ≡ byte.puts 0 old
+    → new ≡ net.puts n mid → DeviceWritten (kept.Net n) old new
+unfolding device byte
+net_put n old mid new fits put end = record {
+  fits = (omega arith, (refl, fits));
+  bytes = end ∙ net.same n mid ∙ ap (λ (x : List ℕ). x ++ net.bytes n) put ∙ append_assoc old (0 ∷ []) (net.bytes n);
+}
+
+balloon_put : (b : QueueRounds balloon_work.Kept) (old mid new : List ℕ) → balloon.Fits b → mid ≡ byte.puts 2 old
     → new ≡ balloon.puts b mid → DeviceWritten (kept.Balloon b) old new
 unfolding device byte
 balloon_put b old mid new fits put end = record {
@@ -71,7 +81,12 @@ pub block_device : (d : Device) (b : QueueRounds BlockKind) (old mid new : List 
 block_device d b old mid new is fits put end =
     subst (λ (it : Device). DeviceWritten it old new) (sym is) (block_put b old mid new fits put end)
 
-pub balloon_device : (d : Device) (b : QueueRounds Kept) (old mid new : List ℕ) → d ≡ kept.Balloon b → balloon.Fits b
+pub net_device : (d : Device) (n : QueueRounds net_work.Kept) (old mid new : List ℕ) → d ≡ kept.Net n → net.Fits n
+    → mid ≡ byte.puts 0 old → new ≡ net.puts n mid → DeviceWritten d old new
+net_device d n old mid new is fits put end =
+    subst (λ (it : Device). DeviceWritten it old new) (sym is) (net_put n old mid new fits put end)
+
+pub balloon_device : (d : Device) (b : QueueRounds balloon_work.Kept) (old mid new : List ℕ) → d ≡ kept.Balloon b → balloon.Fits b
     → mid ≡ byte.puts 2 old → new ≡ balloon.puts b mid → DeviceWritten d old new
 balloon_device d b old mid new is fits put end =
     subst (λ (it : Device). DeviceWritten it old new) (sym is) (balloon_put b old mid new fits put end)

@@ -9,16 +9,20 @@ use Rattle.queue_device.specs.declared.phase.Phase.TheVariants.{Between}
 use Rattle.queue_device.specs.Lanes.{new_rounds}
 use Rattle.block_device.specs.declared.kind.BlockKind.{BlockKind}
 use Rattle.block_device.specs.declared.work.BlockStage.TheVariants as block_at
+use Rattle.net_device.specs.declared.kind.Stage.TheVariants as net_at
+use Rattle.net_device.specs.Work as net_work
 use Rattle.balloon_device.specs.declared.kind.Stage.TheVariants as balloon_at
 use Rattle.balloon_device.specs.Statistics.{no_statistics}
-use Rattle.balloon_device.specs.Work.{Kept}
+use Rattle.balloon_device.specs.Work as balloon_work
 use Rattle.guest_devices.specs.declared.device.Device.{Device}
 use Rattle.guest_devices.specs.declared.device.Device.TheVariants as kept
 use Rattle.snap_devices.specs.Balloons.{balloon}
 use Rattle.snap_devices.specs.Blocks.{block}
+use Rattle.snap_devices.specs.Nets.{net}
 
 -- its kind, as a byte: that of its port (VIRTIO 1.2, 5: `Ports.kind_code`)
 abbrev pub device_code : Device → ℕ
+device_code (kept.Net n) = 0
 device_code (kept.Block b) = 1
 device_code (kept.Balloon b) = 2
 
@@ -34,7 +38,22 @@ block_of _ = record {
   phase = Between;
 }
 
-abbrev pub balloon_of : Device → QueueRounds Kept
+abbrev pub net_of : Device → QueueRounds net_work.Kept
+net_of (kept.Net n) = n
+net_of _ = record {
+  rounds = new_rounds 0 0;
+  kind = record {
+    own = record {
+      text = [];
+      rx = record { bandwidth = None; ops = None };
+      tx = record { bandwidth = None; ops = None };
+    };
+    doing = record { stage = net_at.Rest; bytes = [] };
+  };
+  phase = Between;
+}
+
+abbrev pub balloon_of : Device → QueueRounds balloon_work.Kept
 balloon_of (kept.Balloon b) = b
 balloon_of _ = record {
   rounds = new_rounds 0 0;
@@ -47,13 +66,13 @@ balloon_of _ = record {
 
 -- and behind it what is kept of it
 abbrev pub devices : ℕ → Listing Device
-devices zero = no_list
+devices zero = standing_list kept.Net net_of (whole net) (λ _ _. refl)
 devices (suc zero) = standing_list kept.Block block_of block (λ _ _. refl)
 devices (suc (suc zero)) = standing_list kept.Balloon balloon_of (whole balloon) (λ _ _. refl)
 devices (suc (suc (suc n))) = no_list
 
 pub device_code-is : (code : ℕ) (d : Device) → (devices code).Fits d → code ≡ device_code d
-device_code-is zero d fits = absurd fits
+device_code-is zero d fits = sym (ap device_code fits.0)
 device_code-is (suc zero) d fits = sym (ap device_code fits.0)
 device_code-is (suc (suc zero)) d fits = sym (ap device_code fits.0)
 device_code-is (suc (suc (suc n))) d fits = absurd fits

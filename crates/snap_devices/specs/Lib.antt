@@ -9,4 +9,5 @@ pub mod Blocks
 pub mod Rounds
 pub mod Places
 pub mod Balloons
+pub mod Nets
 pub mod Devices

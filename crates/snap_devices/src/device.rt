@@ -5,6 +5,7 @@ ghost use Rattle.snap_devices.specs.Devices.{device};
 
 use crate::balloon::{read_balloon, write_balloon};
 use crate::block::{read_block, write_block};
+use crate::net::{read_net, write_net};
 use crate::saved::Saved;
 use file_format::{Input, ReadError, Stored, Whole};
 use guest_devices::Device;
@@ -19,6 +20,10 @@ fn write_device(it: &Device, out: &mut Vec<u8>) -> Result<(), AllocError>
             1u8.write(out)?;
             write_block(block, out)?;
         }
+        Device::Net(net) => {
+            0u8.write(out)?;
+            write_net(net, out)?;
+        }
         Device::Balloon(balloon) => {
             2u8.write(out)?;
             write_balloon(balloon, out)?;
@@ -27,12 +32,16 @@ fn write_device(it: &Device, out: &mut Vec<u8>) -> Result<(), AllocError>
     Ok(())
 }
 
-#[tactic(auto, using(crate::proofs::Reading::kind_bad, crate::proofs::Reading::block_is, crate::proofs::Reading::block_none, crate::proofs::Reading::balloon_is, crate::proofs::Reading::balloon_none, crate::proofs::Reading::other_none,))]
+#[tactic(auto, using(crate::proofs::Reading::kind_bad, crate::proofs::Reading::block_is, crate::proofs::Reading::block_none, crate::proofs::Reading::net_is, crate::proofs::Reading::net_none, crate::proofs::Reading::balloon_is, crate::proofs::Reading::balloon_none, crate::proofs::Reading::other_none,))]
 fn read_device(alloc: Global, bytes: &[u8]) -> Result<Device, ReadError>
     ensures { TakesAll device bytes.now result }
 {
     let mut input = Input::new(bytes);
     match u8::read(alloc, &mut input) {
+        Ok(0) => match read_net(alloc, &mut input) {
+            Ok(net) => Ok(Device::Net(net)),
+            Err(error) => Err(error),
+        },
         Ok(1) => match read_block(alloc, &mut input) {
             Ok(block) => Ok(Device::Block(block)),
             Err(error) => Err(error),

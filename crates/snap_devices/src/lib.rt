@@ -1,7 +1,8 @@
 //! Ports and devices as bytes: how a state file has each of them, one encoding for each state.
 //!
 //! `specs/` has the formats: `Ports` of a port, `Devices` of a device by its kind, and under it `Blocks`, `Phases`,
-//! `Serving`, `Queues` and `Limits` of a block device, and `Balloons`, `Rounds` and `Places` of a balloon. `Saved<Port>` and
+//! `Serving`, `Queues` and `Limits` of a block device, `Nets` of a network device and `Balloons` of a balloon, each over `Rounds` and
+//! `Places`. `Saved<Port>` and
 //! `Saved<Device>` are written and read so (`Stored`, and `Whole` of a device): what is read is the one port or device that
 //! bytes at a front are, exactly where they are the encoding of a state that it may be in. What this takes of memory is no
 //! more than a few times the bytes that are there.
@@ -15,7 +16,7 @@
 //! the configuration. A queue, 33 bytes: QueueDesc, QueueDriver and QueueDevice (8 each), QueueNum and QueueReady (4
 //! each), and the flag that it was kicked.
 //!
-//! A device: its kind (1 byte: 1 block, 2 balloon), and what is kept of it. A block device:
+//! A device: its kind (1 byte: 0 net, 1 block, 2 balloon), and what is kept of it. A block device:
 //!
 //! - its data, 67 bytes: the size of the disk in sectors (8); the queue, 30 bytes: its three tables (8 each), its size
 //!   (2) and the guest's pages (4); the drive's id (20); the number of the next chain and how many were given back (2
@@ -44,17 +45,31 @@
 //!   moment of the newest request that passed (8). A chain that waits: its queue, 30 bytes; its head (2); the list of the parts that
 //!   are still needed; the list of the parts that are still read; the list of the bytes that were read.
 //!
-//! A balloon:
+//! A network device or a balloon begins with these:
 //!
 //! - its rounds: the guest's pages (4); the number of its port (1); what is due (1: 0 a look, 1 the question to its host, which
 //!   a balloon never asks, 2 a queue, and behind a 2 the queue's number (1), 3 a wait); the flag that the round gave a chain
-//!   back; and its three queues. A queue: the number of its next chain and how many were given back (2 each); the flag that it
-//!   was kicked; its registers, an option of 30 bytes; and the chain that waits, an option;
+//!   back or received a frame; and its three queues. A queue: the number of its next chain and how many were given back (2 each);
+//!   the flag that it was kicked; its registers, an option of 30 bytes; and the chain that waits, an option;
 //! - where it is, a byte and what follows it: 0 between two groups; 1 its host answered, which is never so of a balloon; 2 a
-//!   chain is walked: the queue's number (1) and the walk; 3 a chain is read before it may be served, which is never so of a
-//!   balloon, and 4 it is served: the chain in hand; 5 it is given back: how many bytes were written (4), how far (1), and the
+//!   chain is walked: the queue's number (1) and the walk; 3 a chain is read before it may be served, which is never so of these
+//!   two, and 4 it is served: the chain in hand; 5 it is given back: how many bytes were written (4), how far (1), and the
 //!   chain in hand; 6 a queue is broken: its number (1), and then 0 the port, 1 the line is told (1). A chain in hand, 33 bytes:
-//!   its queue's number (1), that queue as it was when the chain was taken (30), and the chain's head (2);
+//!   its queue's number (1), that queue as it was when the chain was taken (30), and the chain's head (2).
+//!
+//! Behind them a network device has:
+//!
+//! - what waits for the driver, a list of at most 1,526 bytes: the header of 12 bytes and a frame, or no byte;
+//! - the limits of what it receives, and of what it transmits: each the bucket of bytes and that of operations, as a block device has
+//!   them;
+//! - what it is at, a byte and what follows it: 0 nothing; 1 a frame is taken from the link: its length, and the number of its
+//!   next piece (8 each); 2 a frame is written to the driver: from which byte on (8), and the list of the parts that are left; 3 a
+//!   frame is read of the driver: how many bytes are passed over (8), and the list of the parts that are left; 4 a piece is sent: the
+//!   list of its bytes, at most 64, and then as in 3; 5 the frame that was sent is ended;
+//! - the frame of 1 and 2 behind its header, as far as it came, a list of at most 1,526 bytes.
+//!
+//! And a balloon:
+//!
 //! - how many seconds there are between two chains of statistics (2); the guest time at which one was let go on last (8); what
 //!   it told: of each of ten tags an option of its value (8);
 //! - what it is at in a chain, a byte and what follows it: 0 nothing; 1 a list of pages is read: the guest's pages (4), and
@@ -70,6 +85,7 @@ mod file;
 mod form;
 mod law;
 mod limits;
+mod net;
 mod phase;
 mod place;
 mod port;

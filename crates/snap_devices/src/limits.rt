@@ -98,7 +98,7 @@ fn read_bucket(alloc: Global, input: &mut Input) -> Result<Option<Bucket>, ReadE
 }
 
 #[tactic(auto, unfolding(crate::specs::Limits::limits))]
-fn write_limits(it: &RateGate, out: &mut Vec<u8>) -> Result<(), AllocError>
+pub(crate) fn write_limits(it: &RateGate, out: &mut Vec<u8>) -> Result<(), AllocError>
     ensures fits { OnOk result (limits.Fits it.now) }
     ensures bytes { OnOk result (out.new.items ≡ limits.puts it.now out.old.items) }
 {
@@ -109,7 +109,7 @@ fn write_limits(it: &RateGate, out: &mut Vec<u8>) -> Result<(), AllocError>
 }
 
 #[tactic(auto, unfolding(crate::specs::Limits::limits))]
-fn read_limits(alloc: Global, input: &mut Input) -> Result<RateGate, ReadError>
+pub(crate) fn read_limits(alloc: Global, input: &mut Input) -> Result<RateGate, ReadError>
     ensures { Takes limits input.old input.new result }
 {
     let bandwidth = read_bucket(alloc, input)?;

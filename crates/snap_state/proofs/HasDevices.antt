@@ -1,12 +1,13 @@
 -- A copy that has the ports and devices that are configured has each of its kind.
-use Rattle.std.proofs.Common.{◌≡◌, ◌<◌, ◌+◌, ◌-◌, ℕ, zero, suc, ◌∙◌, true, refl, sym, ap, List, [], ◌∷◌, ◌++◌, length, map, drop, Option, Some, None, slice_get, arith}
+use Rattle.std.proofs.Common.{◌≡◌, ◌<◌, ◌≤◌, ◌+◌, ◌-◌, ℕ, zero, suc, ◌∙◌, true, refl, sym, ap, List, [], ◌∷◌, ◌++◌, length, map, drop, Option, Some, None, slice_get, arith}
 use Rattle.std.specs.Prelude.{is_none}
 use Rattle.std.proofs.lemmas.Bool.{and_parts}
 use Rattle.port_table.specs.declared.kind.DeviceKind.{DeviceKind}
 use Rattle.port_table.specs.declared.kind.DeviceKind.TheVariants.{Net, Block, Balloon, Vsock}
 use Rattle.api_calls.specs.declared.balloon.Balloon as configured
 use Rattle.api_calls.specs.declared.call.Drive.{Drive}
-use Rattle.vm_config.specs.Devices.{Configured, balloon_devices, count_in, devices_in, of_drive}
+use Rattle.api_calls.specs.declared.interface.Interface.{Interface}
+use Rattle.vm_config.specs.Devices.{Configured, balloon_devices, count_in, devices_in, of_drive, of_interface}
 use Rattle.vm_config.specs.Drives.{in_order}
 use Rattle.vm_config.proofs.DeviceLemmas.{counted_in, length-ordered}
 use Rattle.std.proofs.lemmas.List.{length-map}
@@ -89,42 +90,62 @@ due_kinds due n (kind ∷ kinds) is = by_due (slice_get due n) refl (λ rest. du
 
 -- ---- the kinds that are due, by their numbers
 
-pub kind_front : (drives : List Drive) (rest : List Configured) (k : ℕ) → k < length drives
-    → slice_get (map kind_configured (map of_drive drives ++ rest)) k ≡ Some Block
-kind_front [] rest k lt = absurd (omega (arith, lt))
-kind_front (d ∷ drives) rest zero lt = refl
-kind_front (d ∷ drives) rest (suc k) lt = kind_front drives rest k (omega (arith, lt))
+-- things of one kind in front of others
+kind_front : {A : Type 0} (of : A → Configured) (kind : DeviceKind) → ((a : A) → kind_configured (of a) ≡ kind) → (things : List A)
+    (rest : List Configured) (k : ℕ) → k < length things
+    → slice_get (map kind_configured (map of things ++ rest)) k ≡ Some kind
+kind_front of kind is [] rest k lt = absurd (omega (arith, lt))
+kind_front of kind is (a ∷ things) rest zero lt = ap (λ (own : DeviceKind). Some own) (is a)
+kind_front of kind is (a ∷ things) rest (suc k) lt = kind_front of kind is things rest k (omega (arith, lt))
 
-pub kind_behind : (drives : List Drive) (rest : List Configured) (k : ℕ)
-    → slice_get (map kind_configured (map of_drive drives ++ rest)) (length drives + k) ≡ slice_get (map kind_configured rest) k
-kind_behind [] rest k = let e : 0 + k ≡ k = omega arith in rw e refl
-kind_behind (d ∷ drives) rest k =
-    let e : length (d ∷ drives) + k ≡ suc (length drives + k) = omega arith in rw e (kind_behind drives rest k)
+-- and what is behind them
+kind_behind : {A : Type 0} (of : A → Configured) (things : List A) (rest : List Configured) (k : ℕ)
+    → slice_get (map kind_configured (map of things ++ rest)) (length things + k) ≡ slice_get (map kind_configured rest) k
+kind_behind of [] rest k = let e : 0 + k ≡ k = omega arith in rw e refl
+kind_behind of (a ∷ things) rest k =
+    let e : length (a ∷ things) + k ≡ suc (length things + k) = omega arith in rw e (kind_behind of things rest k)
 
-module _ (drives : List Drive) (balloon : Option configured.Balloon) (k : ℕ) where
-  pub drive_due : k < length drives → slice_get (map kind_configured (devices_in drives balloon)) k ≡ Some Block
+module _ (drives : List Drive) (interfaces : List Interface) (balloon : Option configured.Balloon) (k : ℕ) where
+  abbrev due : List DeviceKind
+  due = map kind_configured (devices_in drives interfaces balloon)
+
+  abbrev others : List Configured
+  others = map of_interface interfaces ++ balloon_devices balloon
+
+  pub drive_due : k < length drives → slice_get (map kind_configured (devices_in drives interfaces balloon)) k ≡ Some Block
   drive_due lt =
-      kind_front (in_order drives) (balloon_devices balloon) k (let many = length-ordered drives in omega (arith, lt, many))
-
-  pub balloon_due : k ≡ length drives
-      → slice_get (map kind_configured (devices_in drives balloon)) k ≡ slice_get (map kind_configured (balloon_devices balloon)) 0
-  balloon_due is =
       let many = length-ordered drives in
-      let at : k ≡ length (in_order drives) + 0 = omega (arith, is, many) in
-      ap (slice_get (map kind_configured (devices_in drives balloon))) at ∙ kind_behind (in_order drives) (balloon_devices balloon) 0
+      kind_front of_drive Block (λ d. refl) (in_order drives) others k (omega (arith, lt, many))
+
+  -- so many behind the drives
+  behind_drives : (j : ℕ) → k ≡ length drives + j → slice_get due k ≡ slice_get (map kind_configured others) j
+  behind_drives j is =
+      let many = length-ordered drives in
+      let at : k ≡ length (in_order drives) + j = omega (arith, is, many) in
+      ap (slice_get due) at ∙ kind_behind of_drive (in_order drives) others j
+
+  pub interface_due : length drives ≤ k → k < length drives + length interfaces
+      → slice_get (map kind_configured (devices_in drives interfaces balloon)) k ≡ Some Net
+  interface_due from lt =
+      let j : ℕ = k - length drives in
+      behind_drives j (omega (arith, from)) ∙ kind_front of_interface Net (λ i. refl) interfaces (balloon_devices balloon) j (omega (arith, from, lt))
+
+  pub balloon_due : k ≡ length drives + length interfaces
+      → slice_get (map kind_configured (devices_in drives interfaces balloon)) k
+      ≡ slice_get (map kind_configured (balloon_devices balloon)) 0
+  balloon_due is =
+      behind_drives (length interfaces + 0) (omega (arith, is)) ∙ kind_behind of_interface interfaces (balloon_devices balloon) 0
 
   one_balloon : (b : Option configured.Balloon) (j : ℕ) → slice_get (map kind_configured (balloon_devices b)) (suc j) ≡ None
   one_balloon None j = refl
   one_balloon (Some b) j = refl
 
-  pub none_due : length drives < k → slice_get (map kind_configured (devices_in drives balloon)) k ≡ None
+  pub none_due : length drives + length interfaces < k
+      → slice_get (map kind_configured (devices_in drives interfaces balloon)) k ≡ None
   none_due lt =
-      let many = length-ordered drives in
-      let past : ℕ = k - suc (length drives) in
-      let at : k ≡ length (in_order drives) + suc past = omega (arith, lt, many) in
-      ap (slice_get (map kind_configured (devices_in drives balloon))) at
-      ∙ kind_behind (in_order drives) (balloon_devices balloon) (suc past)
-      ∙ one_balloon balloon past
+      let past : ℕ = k - suc (length drives + length interfaces) in
+      behind_drives (length interfaces + suc past) (omega (arith, lt))
+      ∙ kind_behind of_interface interfaces (balloon_devices balloon) (suc past) ∙ one_balloon balloon past
 
 -- ---- a copy
 
@@ -154,13 +175,13 @@ has_kinds c kinds same each =
 
 -- ---- how many there are
 
-many_kinds : (c : StateCopy) → length (kinds_of c.configuration) ≡ count_in c.configuration.drives c.configuration.balloon
+many_kinds : (c : StateCopy) → length (kinds_of c.configuration) ≡ count_in c.configuration.drives c.configuration.interfaces c.configuration.balloon
 many_kinds c =
-    length-map (devices_in c.configuration.drives c.configuration.balloon) kind_configured
-    ∙ counted_in c.configuration.drives c.configuration.balloon
+    length-map (devices_in c.configuration.drives c.configuration.interfaces c.configuration.balloon) kind_configured
+    ∙ counted_in c.configuration.drives c.configuration.interfaces c.configuration.balloon
 
-pub many_ports : (c : StateCopy) → HasDevices c → length c.ports ≡ count_in c.configuration.drives c.configuration.balloon
+pub many_ports : (c : StateCopy) → HasDevices c → length c.ports ≡ count_in c.configuration.drives c.configuration.interfaces c.configuration.balloon
 many_ports c has = sym (length-map c.ports port_kind) ∙ ap length has.ports ∙ many_kinds c
 
-pub many_devices : (c : StateCopy) → HasDevices c → length c.devices ≡ count_in c.configuration.drives c.configuration.balloon
+pub many_devices : (c : StateCopy) → HasDevices c → length c.devices ≡ count_in c.configuration.drives c.configuration.interfaces c.configuration.balloon
 many_devices c has = sym (length-map c.devices kind_of) ∙ ap length has.devices ∙ many_kinds c

@@ -13,7 +13,7 @@ use Rattle.guest_devices.specs.declared.device.Device.{Device}
 use Rattle.snap_devices.specs.Devices.{device}
 use Rattle.snap_devices.specs.Ports.{port}
 use Rattle.snap_devices.proofs.Held.{behind, device_held, front}
-use Rattle.snap_devices.proofs.BalloonNarrow.{HoldsBytes}
+use Rattle.snap_devices.proofs.DeviceNarrow.{HoldsBytes}
 use Rattle.snap_harts.specs.Harts.{hart}
 use Rattle.snap_state.specs.declared.copy.StateCopy.{StateCopy}
 use Rattle.snap_state.specs.declared.file.Saved.{Saved}

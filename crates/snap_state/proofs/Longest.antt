@@ -9,9 +9,13 @@ use Rattle.vm_types.specs.declared.identity.Identity.{Identity}
 use Rattle.api_calls.specs.declared.call.CacheType.{CacheType}
 use Rattle.api_calls.specs.declared.call.CacheType.TheVariants.{Unsafe, Writeback}
 use Rattle.api_calls.specs.declared.call.Drive.{Drive}
+use Rattle.api_calls.specs.declared.interface.Interface.{Interface}
+use Rattle.api_calls.specs.Addresses.{are_pairs, is_mac, is_small_mac}
 use Rattle.api_calls.specs.Form.{holds, is_id, is_path, is_short_text}
 use Rattle.api_calls.specs.Limits.{is_limiter}
 use Rattle.vm_config.specs.Devices.{count_in}
+use Rattle.vm_config.specs.Interfaces.{id_of_interface}
+use Rattle.vm_config.specs.Named.{are_apart}
 use Rattle.file_format.specs.Kinds.{fixed, flag, number16, number64, text}
 use Rattle.file_format.specs.Identities.{identity}
 use Rattle.file_format.specs.Ends.{listed}
@@ -27,13 +31,14 @@ use Rattle.snap_state.specs.Boards.{board}
 use Rattle.snap_state.specs.Configured as configured
 use Rattle.snap_state.specs.Copies as copies
 use Rattle.snap_state.specs.Drives as drives
+use Rattle.snap_state.specs.Interfaces as interfaces
 use Rattle.snap_state.specs.Limits as limits
 use Rattle.file_format.specs.Versions.{Version}
 use Rattle.file_format.specs.Versions.Version.{One}
 use Rattle.snap_state.specs.Files as state
 use Rattle.snap_harts.specs.Harts.{hart}
 use Rattle.snap_harts.specs.HartStates.{hart_state}
-use Rattle.snap_state.specs.Valid.{are_drives, are_paths, are_sections, has_devices, has_machine, has_room, is_balloon, is_before, is_board, is_drive, is_machine, is_reserved, is_rising, is_source, is_valid, rises_from}
+use Rattle.snap_state.specs.Valid.{are_drives, are_interfaces, are_paths, are_sections, has_devices, has_machine, has_room, is_balloon, is_before, is_board, is_drive, is_interface, is_machine, is_reserved, is_rising, is_source, is_valid, rises_from}
 use Rattle.snap_state.proofs.HasDevices.{has_parts, many_devices, many_ports}
 use Rattle.snap_state.proofs.Texts.{args_short, id_short, path_short}
 use Rattle.snap_state.proofs.Sizes.{device_within, hart_state_within, hart_within, port_within}
@@ -86,8 +91,19 @@ drive_within =
     made_within _ drive_most (λ a. omega arith)
     (pair_within text_within (pair_within text_within (pair_within flag_within (pair_within flag_within (pair_within cache_within (any_within 52 limits.limiter limiter_within))))))
 
+abbrev interface_most : Interface → ℕ
+interface_most i = (4 + length i.iface_id) + ((4 + length i.host_dev_name) + (optional_most (λ mac. 4 + length mac) i.guest_mac + 106))
+
+interface_within : Within interfaces.interface.reads interface_most
+unfolding interfaces.interface
+interface_within =
+    made_within _ interface_most (λ a. omega arith)
+    (pair_within text_within (pair_within text_within (pair_within (optional_within text text_within)
+    (pair_within (any_within 52 limits.limiter limiter_within) (any_within 52 limits.limiter limiter_within)))))
+
 abbrev configuration_most : Configuration → ℕ
-configuration_most c = (1 + (source_most c.boot_source + ((4 + total drive_most c.drives) + 5))) + 37
+configuration_most c =
+    (1 + (source_most c.boot_source + ((4 + total drive_most c.drives) + ((4 + total interface_most c.interfaces) + 1)))) + 37
 
 fixed_within : (expected : List ℕ) → Within (fixed expected).reads (λ _. length expected)
 unfolding fixed
@@ -102,7 +118,8 @@ unfolding configured.configuration
 configuration_within =
     made_within _ configuration_most (λ a. omega arith)
     (pair_within
-    (pair_within (fixed_within (1 ∷ [])) (pair_within source_within (pair_within (list_within drives.drive drive_within) (zeros_within 5))))
+    (pair_within (fixed_within (1 ∷ [])) (pair_within source_within (pair_within (list_within drives.drive drive_within)
+    (pair_within (list_within interfaces.interface interface_within) (zeros_within 1)))))
     (pair_within within64 (pair_within within64 (pair_within (zeros_within 1)
     (pair_within flag_within (pair_within (any_within 17 configured.balloon balloon_within) (zeros_within 1)))))))
 
@@ -126,18 +143,18 @@ reservation_within : Within copies.reservation.reads (λ _. 12)
 unfolding copies.reservation
 reservation_within = made_within _ _ (λ a. omega arith) (pair_within within32 (pair_within within32 within32))
 
-few_devices : Within copies.devices.reads (λ ds. 4 + 27634 * length ds)
+few_devices : Within copies.devices.reads (λ ds. 4 + 30644 * length ds)
 unfolding copies.devices
 few_devices =
-    passing_within _ (λ ds. 4 + 27634 * length ds) (λ v is. omega arith)
-    (each_within 27634 (listed device) (listed_within 27630 device device_within))
+    passing_within _ (λ ds. 4 + 30644 * length ds) (λ v is. omega arith)
+    (each_within 30644 (listed device) (listed_within 30640 device device_within))
 
 abbrev copy_most : StateCopy → ℕ
 copy_most c =
     (configuration_most c.configuration + 13)
     + (board_most c.board
     + ((4 + 328 * length c.harts)
-    + ((4 + 153 * length c.ports) + ((4 + 27634 * length c.devices) + (4 + 12 * length c.reservations)))))
+    + ((4 + 153 * length c.ports) + ((4 + 30644 * length c.devices) + (4 + 12 * length c.reservations)))))
 
 sections_within : (v : Version) → Within (copies.sections_in v).reads (λ _. 0)
 sections_within One = just_within _ 0
@@ -218,6 +235,25 @@ drives_short ds is =
     let parts = and_parts (leb (length ds) 16) (list_all is_drive ds) (and_parts _ _ (and_parts _ _ is).0).0 in
     (leb-true _ _ parts.0, total-pass drive_most is_drive 4235 drive_short ds parts.1)
 
+mac_short : (mac : Option (List ℕ)) → holds is_small_mac mac ≡ true → optional_most (λ m. 4 + length m) mac ≤ 22
+mac_short None is = omega arith
+mac_short (Some mac) is =
+    let long = and_parts (eqb (length mac) 17) (are_pairs mac) (and_parts (is_mac mac) _ is).0 in
+    omega (arith, eqb-true _ _ long.0)
+
+interface_short : (i : Interface) → is_interface i ≡ true → interface_most i ≤ 4295
+interface_short i is =
+    let sends = and_parts _ (holds is_limiter i.tx_rate_limiter) is in
+    let receives = and_parts _ (holds is_limiter i.rx_rate_limiter) sends.0 in
+    let address = and_parts _ (holds is_small_mac i.guest_mac) receives.0 in
+    let parts = and_parts (is_id i.iface_id) (is_path i.host_dev_name) address.0 in
+    omega (arith, id_short i.iface_id parts.0, path_short i.host_dev_name parts.1, mac_short i.guest_mac address.1)
+
+interfaces_short : (is : List Interface) → are_interfaces is ≡ true → total interface_most is ≤ 4295 * length is
+interfaces_short is all =
+    let parts = and_parts (list_all is_interface is) (are_apart id_of_interface is) all in
+    total-pass interface_most is_interface 4295 interface_short is parts.0
+
 board_short : (harts : ℕ) (b : SavedBoard) → harts ≤ 32 → is_board harts b ≡ true → board_most b ≤ 5014
 board_short harts b few is =
     let console = and_parts _ (leb (length b.console) 4096) is in
@@ -235,14 +271,14 @@ machine_small c is =
     let harts = and_parts _ (leb m.vcpu_count 32) least.0 in
     (leb-true _ _ harts.1, omega (arith, eqb-true _ _ both.1, leb-true _ _ most.1))
 
-devices_few : (c : StateCopy) → has_devices c ≡ true → has_room c.configuration.drives c.configuration.balloon ≡ true
-    → (length c.ports ≤ 16) × (length c.devices ≤ 16)
+devices_few : (c : StateCopy) → has_devices c ≡ true → has_room c.configuration.drives c.configuration.interfaces c.configuration.balloon ≡ true
+    → (length c.ports ≤ 16) × (length c.devices ≤ 16) × (length c.configuration.interfaces ≤ 16)
 devices_few c is room =
     let has = has_parts c is in
-    let few = leb-true (count_in c.configuration.drives c.configuration.balloon) 16 room in
+    let few = leb-true (count_in c.configuration.drives c.configuration.interfaces c.configuration.balloon) 16 room in
     let ports = many_ports c has in
     let devices = many_devices c has in
-    (omega (arith, few, ports), omega (arith, few, devices))
+    (omega (arith, few, ports), omega (arith, few, devices), omega (arith, few))
 
 -- ---- all of it
 
@@ -257,10 +293,11 @@ copy_short c is =
     let harts = and_parts _ _ devices.0 in
     let count = and_parts _ (eqb (length c.harts) harts_there) harts.0 in
     let boards = and_parts _ (is_board harts_there c.board) count.0 in
-    let room = and_parts _ (has_room c.configuration.drives c.configuration.balloon) boards.0 in
+    let room = and_parts _ (has_room c.configuration.drives c.configuration.interfaces c.configuration.balloon) boards.0 in
     let balloons = and_parts _ (holds (is_balloon c.configuration.machine.mem_size_mib) c.configuration.balloon) room.0 in
     let machine = and_parts _ (has_machine c c.configuration.machine) balloons.0 in
-    let configured = and_parts (is_source c.configuration.boot_source) (are_drives c.configuration.drives) machine.0 in
+    let linked = and_parts _ (are_interfaces c.configuration.interfaces) machine.0 in
+    let configured = and_parts (is_source c.configuration.boot_source) (are_drives c.configuration.drives) linked.0 in
     let small = machine_small c machine.1 in
     let few = devices_few c devices.1 room.1 in
     let drives = drives_short c.configuration.drives configured.1 in
@@ -271,8 +308,10 @@ copy_short c is =
       drives.1,
       small.0,
       small.1,
+      interfaces_short c.configuration.interfaces linked.1,
       few.0,
       few.1,
+      few.2,
       board_short harts_there c.board small.0 boards.1,
       eqb-true _ _ count.1,
       few_reservations c.pages harts_there small.0 c.reservations reserved.1 rising.1,

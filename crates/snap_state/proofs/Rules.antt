@@ -11,14 +11,15 @@ use Rattle.guest_devices.specs.declared.device.Device.{Device}
 use Rattle.guest_devices.specs.Kept.{device_pages, device_port, is_kept}
 use Rattle.snap_state.specs.declared.copy.StateCopy.{StateCopy}
 use Rattle.snap_state.proofs.HasDevices.{has_parts, many_devices, many_ports}
-use Rattle.snap_state.specs.Valid.{are_devices, are_drives, are_sections, has_devices, has_machine, has_room, is_balloon, is_board, is_device, is_hart, is_machine, is_reserved, is_rising, is_source, is_valid}
+use Rattle.snap_state.specs.Valid.{are_devices, are_drives, are_interfaces, are_sections, has_devices, has_machine, has_room, is_balloon, is_board, is_device, is_hart, is_machine, is_reserved, is_rising, is_source, is_valid}
 
 pub record Rules (c : StateCopy) : Type 0 where
   pub source : is_source c.configuration.boot_source ≡ true
   pub drives : are_drives c.configuration.drives ≡ true
+  pub interfaces : are_interfaces c.configuration.interfaces ≡ true
   pub machine : has_machine c c.configuration.machine ≡ true
   pub balloon : holds (is_balloon c.configuration.machine.mem_size_mib) c.configuration.balloon ≡ true
-  pub room : has_room c.configuration.drives c.configuration.balloon ≡ true
+  pub room : has_room c.configuration.drives c.configuration.interfaces c.configuration.balloon ≡ true
   pub board : is_board c.configuration.machine.vcpu_count c.board ≡ true
   pub many : (length c.harts == c.configuration.machine.vcpu_count) ≡ true
   pub harts : list_all (is_hart c.pages) c.harts ≡ true
@@ -31,37 +32,54 @@ pub rules_of : (c : StateCopy) → is_valid c ≡ true → Rules c
 unfolding is_valid
 rules_of c valid =
     let m = c.configuration.machine in
-    let p11 = and_parts _ (are_sections c.sections) valid in
-    let p10 = and_parts _ (is_rising c.reservations) p11.0 in
-    let p9 = and_parts _ (list_all (is_reserved c.pages m.vcpu_count) c.reservations) p10.0 in
-    let p8 = and_parts _ (has_devices c) p9.0 in
-    let p7 = and_parts _ (list_all (is_hart c.pages) c.harts) p8.0 in
-    let p6 = and_parts _ (length c.harts == m.vcpu_count) p7.0 in
-    let p5 = and_parts _ (is_board m.vcpu_count c.board) p6.0 in
-    let p4 = and_parts _ (has_room c.configuration.drives c.configuration.balloon) p5.0 in
-    let p3 = and_parts _ (holds (is_balloon m.mem_size_mib) c.configuration.balloon) p4.0 in
-    let p2 = and_parts _ (has_machine c m) p3.0 in
+    let p12 = and_parts _ (are_sections c.sections) valid in
+    let p11 = and_parts _ (is_rising c.reservations) p12.0 in
+    let p10 = and_parts _ (list_all (is_reserved c.pages m.vcpu_count) c.reservations) p11.0 in
+    let p9 = and_parts _ (has_devices c) p10.0 in
+    let p8 = and_parts _ (list_all (is_hart c.pages) c.harts) p9.0 in
+    let p7 = and_parts _ (length c.harts == m.vcpu_count) p8.0 in
+    let p6 = and_parts _ (is_board m.vcpu_count c.board) p7.0 in
+    let p5 = and_parts _ (has_room c.configuration.drives c.configuration.interfaces c.configuration.balloon) p6.0 in
+    let p4 = and_parts _ (holds (is_balloon m.mem_size_mib) c.configuration.balloon) p5.0 in
+    let p3 = and_parts _ (has_machine c m) p4.0 in
+    let p2 = and_parts _ (are_interfaces c.configuration.interfaces) p3.0 in
     let p1 = and_parts (is_source c.configuration.boot_source) (are_drives c.configuration.drives) p2.0 in
     record {
       source = p1.0;
       drives = p1.1;
-      machine = p2.1;
-      balloon = p3.1;
-      room = p4.1;
-      board = p5.1;
-      many = p6.1;
-      harts = p7.1;
-      devices = p8.1;
-      reservations = p9.1;
-      rising = p10.1;
-      sections = p11.1;
+      interfaces = p2.1;
+      machine = p3.1;
+      balloon = p4.1;
+      room = p5.1;
+      board = p6.1;
+      many = p7.1;
+      harts = p8.1;
+      devices = p9.1;
+      reservations = p10.1;
+      rising = p11.1;
+      sections = p12.1;
     }
 
 -- and they are all
 pub rules_hold : (c : StateCopy) → Rules c → is_valid c ≡ true
 unfolding is_valid
 rules_hold c r =
-    rw (r.source, r.drives, r.machine, r.balloon, r.room, r.board, r.many, r.harts, r.devices, r.reservations, r.rising, r.sections) refl
+    rw (
+      r.source,
+      r.drives,
+      r.interfaces,
+      r.machine,
+      r.balloon,
+      r.room,
+      r.board,
+      r.many,
+      r.harts,
+      r.devices,
+      r.reservations,
+      r.rising,
+      r.sections,
+    )
+    refl
 
 -- ---- the machine: at most 32 harts, and 262,144 pages
 
@@ -85,9 +103,9 @@ few_pages c r =
 -- ---- ports and devices
 
 pub record Attached (c : StateCopy) : Type 0 where
-  pub ports : length c.ports ≡ count_in c.configuration.drives c.configuration.balloon
-  pub devices : length c.devices ≡ count_in c.configuration.drives c.configuration.balloon
-  pub few : count_in c.configuration.drives c.configuration.balloon ≤ most_ports
+  pub ports : length c.ports ≡ count_in c.configuration.drives c.configuration.interfaces c.configuration.balloon
+  pub devices : length c.devices ≡ count_in c.configuration.drives c.configuration.interfaces c.configuration.balloon
+  pub few : count_in c.configuration.drives c.configuration.interfaces c.configuration.balloon ≤ most_ports
   pub each : are_devices c.pages 0 c.devices ≡ true
 
 pub attached : (c : StateCopy) → Rules c → Attached c
@@ -96,7 +114,7 @@ attached c r =
     record {
       ports = many_ports c has;
       devices = many_devices c has;
-      few = leb-true (count_in c.configuration.drives c.configuration.balloon) most_ports r.room;
+      few = leb-true (count_in c.configuration.drives c.configuration.interfaces c.configuration.balloon) most_ports r.room;
       each = has.each;
     }
 

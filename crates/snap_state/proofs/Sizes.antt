@@ -4,6 +4,7 @@ use Rattle.std.proofs.lemmas.Bool.{leb-true}
 use Rattle.file_format.specs.Kinds.{byte, number64, optional}
 use Rattle.snap_devices.specs.Balloons as balloons
 use Rattle.snap_devices.specs.Limits as limits
+use Rattle.snap_devices.specs.Nets as nets
 use Rattle.snap_devices.specs.Places as places
 use Rattle.snap_devices.specs.Queues as queues
 use Rattle.snap_devices.specs.Rounds as rounds
@@ -177,7 +178,7 @@ block_within =
     standing_list_within _ 17227
     (passing_list_within _ 17227 (ended_within blocks.block_fields limits.end_of_device 10269 6958 fields_within more_within))
 
--- ---- a balloon
+-- ---- the rounds of a network device or a balloon, and where it is
 
 queues_within : (code : ℕ) → Within (rounds.which_queues code).reads (λ _. 0)
 queues_within zero = just_within _ 0
@@ -236,6 +237,46 @@ device_place_within : Within places.place.reads (λ _. 3371)
 unfolding places.place
 device_place_within = then_within byte_within device_places_within
 
+-- ---- a network device
+
+text_within : Within nets.text.reads (λ _. 1530)
+unfolding nets.text
+text_within = passing_within _ (λ _. 1530) (λ v is. omega (arith, leb-true _ _ is)) bytes_within
+
+piece_within : Within nets.piece.reads (λ _. 68)
+unfolding nets.piece
+piece_within = passing_within _ (λ _. 68) (λ v is. omega (arith, leb-true _ _ is)) bytes_within
+
+net_stages_within : (code : ℕ) → Within (nets.stages code).reads (λ _. 3408)
+net_stages_within zero = just_within _ 3408
+net_stages_within (suc zero) = made_within _ _ (λ a. omega arith) (pair_within within64 within64)
+net_stages_within (suc (suc zero)) = made_within _ _ (λ a. omega arith) (pair_within within64 parts_within)
+net_stages_within (suc (suc (suc zero))) = made_within _ _ (λ a. omega arith) (pair_within within64 parts_within)
+net_stages_within (suc (suc (suc (suc zero)))) =
+    made_within _ _ (λ a. omega arith) (pair_within piece_within (pair_within within64 parts_within))
+net_stages_within (suc (suc (suc (suc (suc zero))))) = just_within _ 3408
+net_stages_within (suc (suc (suc (suc (suc (suc n)))))) = nothing_within 3408
+
+net_stage_within : Within nets.stage.reads (λ _. 3409)
+unfolding nets.stage
+net_stage_within = then_within byte_within net_stages_within
+
+net_kind_within : Within nets.kind.reads (λ _. 6665)
+unfolding nets.kind nets.kind_fields
+net_kind_within =
+    passing_within _ (λ _. 6665) (λ v is. omega arith)
+    (made_within _ (λ _. 6665) (λ a. omega arith)
+    (pair_within text_within (pair_within gate_within (pair_within gate_within (pair_within net_stage_within text_within)))))
+
+net_within : Within nets.net.reads (λ _. 30639)
+unfolding nets.net nets.net_fields
+net_within =
+    passing_within _ (λ _. 30639) (λ v is. omega arith)
+    (made_within _ (λ _. 30639) (λ a. omega arith)
+    (pair_within rounds_within (pair_within device_place_within net_kind_within)))
+
+-- ---- a balloon
+
 statistics_within : Within balloons.statistics.reads (λ _. 90)
 unfolding balloons.statistics
 statistics_within =
@@ -269,17 +310,18 @@ balloon_within =
 
 -- ---- a device of any kind
 
-devices_within : (code : ℕ) → WithinList (devices.devices code).reads 27629
-devices_within zero = no_list_within 27629
+devices_within : (code : ℕ) → WithinList (devices.devices code).reads 30639
+devices_within zero =
+    standing_list_within _ 30639 (whole_within nets.net 30639 net_within)
 devices_within (suc zero) =
-    standing_list_within _ 27629 (wider_within 17227 27629 (omega arith) block_within)
+    standing_list_within _ 30639 (wider_within 17227 30639 (omega arith) block_within)
 devices_within (suc (suc zero)) =
-    standing_list_within _ 27629 (whole_within balloons.balloon 27629 balloon_within)
-devices_within (suc (suc (suc n))) = no_list_within 27629
+    standing_list_within _ 30639 (wider_within 27629 30639 (omega arith) (whole_within balloons.balloon 27629 balloon_within))
+devices_within (suc (suc (suc n))) = no_list_within 30639
 
-pub device_within : WithinList devices.device.reads 27630
+pub device_within : WithinList devices.device.reads 30640
 unfolding devices.device
-device_within = chosen_list_within 1 27629 byte_within devices_within
+device_within = chosen_list_within 1 30639 byte_within devices_within
 
 -- ---- a port
 

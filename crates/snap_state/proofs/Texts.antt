@@ -3,7 +3,8 @@ use Rattle.std.proofs.Common.{◌≡◌, ◌≤◌, ◌<◌, ◌^◌, ℕ, ◌==
 use Rattle.std.specs.Prelude.{IsUtf8, count_by}
 use Rattle.std.specs.List.{All, list_all, list_any}
 use Rattle.std.specs.Str.{is_utf8}
-use Rattle.std.proofs.lemmas.Bool.{and_parts, leb-true, ltb-true}
+use Rattle.std.specs.Char.{is_ascii_hexdigit}
+use Rattle.std.proofs.lemmas.Bool.{and_parts, eqb-true, leb-true, ltb-true}
 use Rattle.std.proofs.lemmas.List.Elements.{All-cons, All-nil}
 use Rattle.std.proofs.lemmas.Str.{IsUtf8-from_ascii, is_utf8-from_IsUtf8}
 use Rattle.std.proofs.lemmas.Str.Ascii.{IsAscii-from_all}
@@ -14,8 +15,10 @@ use Rattle.api_calls.specs.declared.call.CacheType.{CacheType}
 use Rattle.api_calls.specs.declared.call.CacheType.TheVariants.{Unsafe, Writeback}
 use Rattle.api_calls.specs.declared.call.Drive.{Drive}
 use Rattle.api_calls.specs.declared.call.MachineConfig.{MachineConfig}
+use Rattle.api_calls.specs.declared.interface.Interface.{Interface}
 use Rattle.api_calls.specs.declared.limiter.BucketConfig.{BucketConfig}
 use Rattle.api_calls.specs.declared.limiter.Limiter.{Limiter}
+use Rattle.api_calls.specs.Addresses.{are_digits, are_pairs, is_mac, is_small_mac}
 use Rattle.api_calls.specs.Drives.{is_root}
 use Rattle.api_calls.specs.Form.{has_path_bytes, holds, is_id, is_id_byte, is_path, is_short_text}
 use Rattle.api_calls.specs.Limits.{is_bucket, is_limiter}
@@ -25,9 +28,11 @@ use Rattle.snap_state.specs.declared.configuration.BootSource.{BootSource}
 use Rattle.snap_state.specs.declared.configuration.Configuration.{Configuration}
 use Rattle.snap_state.specs.Configured.{balloon, boot_source, configuration}
 use Rattle.snap_state.specs.Drives.{cache, drive}
+use Rattle.snap_state.specs.Interfaces.{interface}
 use Rattle.snap_state.specs.Limits.{bucket, limiter}
-use Rattle.snap_state.specs.Valid.{are_drives, are_paths, is_balloon, is_drive, is_machine, is_source}
+use Rattle.snap_state.specs.Valid.{are_drives, are_interfaces, are_paths, is_balloon, is_drive, is_interface, is_machine, is_source}
 use Rattle.vm_config.specs.Drives.{id_of_drive}
+use Rattle.vm_config.specs.Interfaces.{id_of_interface}
 use Rattle.vm_config.specs.Named.{are_apart}
 
 -- ---- texts
@@ -161,6 +166,73 @@ drives_of ds are =
     let d0 = and_parts (nat_le (length ds) most_ports) (list_all is_drive ds) d1.0 in
     record { few = leb-true _ _ d0.0; each = d0.1 }
 
+-- ---- an interface
+
+abbrev IsAsciiByte : ℕ → Type 0
+IsAsciiByte b = b < 128
+
+digit_ascii : (b : ℕ) → is_ascii_hexdigit b ≡ true → IsAsciiByte b
+digit_ascii b is = grind (arith, is)
+
+digits_ascii : (a b : ℕ) (t : List ℕ) → are_digits a b ≡ true → All IsAsciiByte t → All IsAsciiByte (a ∷ b ∷ t)
+digits_ascii a b t are rest =
+    let both = and_parts (is_ascii_hexdigit a) (is_ascii_hexdigit b) are in
+    All-cons IsAsciiByte a (b ∷ t) (digit_ascii a both.0) (All-cons IsAsciiByte b t (digit_ascii b both.1) rest)
+
+pairs_ascii : (t : List ℕ) → are_pairs t ≡ true → All IsAsciiByte t
+pairs_ascii [] are = absurd (cc)
+pairs_ascii (a ∷ []) are = absurd (cc)
+pairs_ascii (a ∷ b ∷ []) are = digits_ascii a b [] are (All-nil IsAsciiByte)
+pairs_ascii (a ∷ b ∷ c ∷ t) are =
+    let more = and_parts _ (are_pairs t) are in
+    let first = and_parts (are_digits a b) (c == 58) more.0 in
+    let colon = eqb-true c 58 first.1 in
+    digits_ascii a b (c ∷ t) first.0 (All-cons IsAsciiByte c t (omega (arith, colon)) (pairs_ascii t more.1))
+
+macs_fit : (o : Option (List ℕ)) → holds is_small_mac o ≡ true → (optional text).Fits o
+macs_fit None is = fits_optional text None tt
+macs_fit (Some t) is =
+    let mac = and_parts (length t == 17) (are_pairs t) (and_parts (is_mac t) _ is).0 in
+    let long = eqb-true (length t) 17 mac.0 in
+    fits_optional text (Some t)
+    (fits_text t (omega (arith, long)) (is_utf8-from_IsUtf8 t (IsUtf8-from_ascii t (IsAscii-from_all t (pairs_ascii t mac.1)))))
+
+-- what an interface is asked
+pub record IsInterface (i : Interface) : Type 0 where
+  pub id : is_id i.iface_id ≡ true
+  pub link : is_path i.host_dev_name ≡ true
+  pub mac : holds is_small_mac i.guest_mac ≡ true
+  pub receives : holds is_limiter i.rx_rate_limiter ≡ true
+  pub transmits : holds is_limiter i.tx_rate_limiter ≡ true
+
+pub interface_parts : (i : Interface) → is_interface i ≡ true → IsInterface i
+interface_parts i is =
+    let p3 = and_parts _ (holds is_limiter i.tx_rate_limiter) is in
+    let p2 = and_parts _ (holds is_limiter i.rx_rate_limiter) p3.0 in
+    let p1 = and_parts _ (holds is_small_mac i.guest_mac) p2.0 in
+    let p0 = and_parts (is_id i.iface_id) (is_path i.host_dev_name) p1.0 in
+    record { id = p0.0; link = p0.1; mac = p1.1; receives = p2.1; transmits = p3.1 }
+
+interface_fits : (i : Interface) → is_interface i ≡ true → interface.Fits i
+unfolding interface
+interface_fits i is =
+    let own = interface_parts i is in (
+      id_fits i.iface_id own.id,
+      (
+        path_fits i.host_dev_name own.link,
+        (macs_fit i.guest_mac own.mac, (limiters_fit i.rx_rate_limiter own.receives, limiters_fit i.tx_rate_limiter own.transmits)),
+      ),
+    )
+
+links_fit : (is : List Interface) → list_all is_interface is ≡ true → All interface.Fits is
+links_fit [] are = All-nil interface.Fits
+links_fit (i ∷ is) are =
+    let p = and_parts (is_interface i) (list_all is_interface is) are in
+    All-cons interface.Fits i is (interface_fits i p.0) (links_fit is p.1)
+
+pub links_of : (is : List Interface) → are_interfaces is ≡ true → list_all is_interface is ≡ true
+links_of is are = (and_parts (list_all is_interface is) (are_apart id_of_interface is) are).0
+
 -- ---- all of it
 
 pub args_short : (b : BootSource) → is_source b ≡ true → length b.boot_args ≤ 2048
@@ -209,10 +281,10 @@ front_fits : (fixed (1 ∷ [])).Fits tt
 unfolding fixed
 front_fits = refl
 
-pub configuration_fits : (c : Configuration) → is_source c.boot_source ≡ true → are_drives c.drives ≡ true → is_machine c.machine ≡ true
-    → holds (is_balloon c.machine.mem_size_mib) c.balloon ≡ true → configuration.Fits c
+pub configuration_fits : (c : Configuration) → is_source c.boot_source ≡ true → are_drives c.drives ≡ true
+    → are_interfaces c.interfaces ≡ true → length c.interfaces ≤ most_ports → is_machine c.machine ≡ true → holds (is_balloon c.machine.mem_size_mib) c.balloon ≡ true → configuration.Fits c
 unfolding configuration
-configuration_fits c source drives machine balloons =
+configuration_fits c source drives interfaces links machine balloons =
     let ds = drives_of c.drives drives in
     let few = ds.few in
     let m = machine_of c.machine machine in
@@ -222,7 +294,10 @@ configuration_fits c source drives machine balloons =
         front_fits,
         (
           source_fits c.boot_source source,
-          (fits_list drive c.drives (omega (arith, few)) (each_fits c.drives ds.each), fits_zeros 5),
+          (
+            fits_list drive c.drives (omega (arith, few)) (each_fits c.drives ds.each),
+            (fits_list interface c.interfaces (omega (arith, links)) (links_fit c.interfaces (links_of c.interfaces interfaces)), fits_zeros 1),
+          ),
         ),
       ),
       (

@@ -1,10 +1,11 @@
 -- The configuration in a state file, part by part in the order of the API, and the fields of each. A part that there
--- isn't yet is a list of no items or absent: 4 zeros or one.
+-- isn't yet is absent, a zero.
 use Rattle.std.specs.Prelude.{[], ◌∷◌, refl}
 use Rattle.file_format.specs.Format.{Format}
 use Rattle.file_format.specs.Kinds.{number64, flag, text, optional, list_of, fixed, zeros, ◌&◌, made_of}
 use Rattle.api_calls.specs.declared.balloon.Balloon.{Balloon}
 use Rattle.snap_state.specs.Drives.{drive}
+use Rattle.snap_state.specs.Interfaces.{interface}
 use Rattle.snap_state.specs.declared.configuration.BootSource.{BootSource}
 use Rattle.snap_state.specs.declared.configuration.Configuration.{Configuration}
 
@@ -30,21 +31,25 @@ balloon =
     (λ _. refl) (λ _. refl)
     (number64 & flag & number64)
 
--- The boot source, which is always there; the drives; no network interfaces, 4 zeros, and no vsock, one; the machine,
+-- The boot source, which is always there; the drives; the network interfaces; no vsock, a zero; the machine,
 -- whose smt, a zero, stands before track_dirty_pages; the balloon, if there is one; and no metadata service, a zero.
 unfoldable pub configuration : Format Configuration
 configuration =
     made_of
     (λ c. (
-      (tt, (c.boot_source, (c.drives, tt))),
+      (tt, (c.boot_source, (c.drives, (c.interfaces, tt)))),
       (c.machine.vcpu_count, (c.machine.mem_size_mib, (tt, (c.machine.track_dirty_pages, (c.balloon, tt))))),
     ))
-    (λ ((_, (boot_source, (drives, _))), (vcpu_count, (mem_size_mib, (_, (track_dirty_pages, (balloon, _)))))).
+    (λ ((_, (boot_source, (drives, (interfaces, _)))), (vcpu_count, (mem_size_mib, (_, (track_dirty_pages, (balloon, _)))))).
     record {
       boot_source = boot_source;
       drives = drives;
+      interfaces = interfaces;
       machine = record { vcpu_count = vcpu_count; mem_size_mib = mem_size_mib; track_dirty_pages = track_dirty_pages };
       balloon = balloon;
     })
     (λ _. refl) (λ _. refl)
-    ((fixed (1 ∷ []) & boot_source & list_of drive & zeros 5) & (number64 & number64 & zeros 1 & flag & optional balloon & zeros 1))
+    (
+    (fixed (1 ∷ []) & boot_source & list_of drive & list_of interface & zeros 1)
+    & (number64 & number64 & zeros 1 & flag & optional balloon & zeros 1)
+    )

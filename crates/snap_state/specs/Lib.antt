@@ -1,5 +1,6 @@
 pub mod Limits
 pub mod Drives
+pub mod Interfaces
 pub mod Configured
 pub mod Boards
 pub mod Copies

@@ -5,11 +5,14 @@ use Rattle.std.specs.List.{list_all}
 use Rattle.api_calls.specs.declared.balloon.Balloon as balloon
 use Rattle.api_calls.specs.declared.call.Drive.{Drive}
 use Rattle.api_calls.specs.declared.call.MachineConfig.{MachineConfig}
+use Rattle.api_calls.specs.declared.interface.Interface.{Interface}
+use Rattle.api_calls.specs.Addresses.{is_small_mac}
 use Rattle.api_calls.specs.Drives.{is_root}
 use Rattle.api_calls.specs.Form.{holds, is_id, is_path, is_short_text}
 use Rattle.api_calls.specs.Limits.{is_limiter}
-use Rattle.vm_config.specs.Devices.{Configured, count_in, devices_in, of_balloon, of_drive}
+use Rattle.vm_config.specs.Devices.{Configured, count_in, devices_in, of_balloon, of_drive, of_interface}
 use Rattle.vm_config.specs.Drives.{id_of_drive}
+use Rattle.vm_config.specs.Interfaces.{id_of_interface}
 use Rattle.vm_config.specs.Named.{are_apart}
 use Rattle.board_table.specs.Board.{ring_size}
 use Rattle.guest_memory.specs.Ram.{page_size, is_ram}
@@ -62,13 +65,24 @@ are_drives drives =
     nat_le (length drives) most_ports && list_all is_drive drives && are_apart id_of_drive drives
     && nat_le (count_by is_root drives) 1
 
+-- an interface's id is one that a path may name, its link's name is a path, its device's address has small letters, and its limits are
+-- such as there may be
+abbrev pub is_interface : Interface → Bool
+is_interface i =
+    is_id i.iface_id && is_path i.host_dev_name && holds is_small_mac i.guest_mac && holds is_limiter i.rx_rate_limiter
+    && holds is_limiter i.tx_rate_limiter
+
+-- no two have one id
+abbrev pub are_interfaces : List Interface → Bool
+are_interfaces interfaces = list_all is_interface interfaces && are_apart id_of_interface interfaces
+
 -- the balloon of a machine of so many MiB takes no more than all of them
 abbrev pub is_balloon : ℕ → balloon.Balloon → Bool
 is_balloon mib b = nat_le b.amount_mib mib && nat_lt b.stats_polling_interval_s (2 ^ 16)
 
 -- there are as many devices as ports at most
-abbrev pub has_room : List Drive → Option balloon.Balloon → Bool
-has_room drives b = nat_le (count_in drives b) most_ports
+abbrev pub has_room : List Drive → List Interface → Option balloon.Balloon → Bool
+has_room drives interfaces b = nat_le (count_in drives interfaces b) most_ports
 
 -- ---- the board
 
@@ -142,10 +156,11 @@ kind_of d = number_of (kept_of d).kind
 -- the kinds of the devices that are configured, by their numbers
 abbrev pub kind_configured : Configured → DeviceKind
 kind_configured (of_drive d) = Block
+kind_configured (of_interface i) = Net
 kind_configured (of_balloon b) = Balloon
 
 abbrev pub kinds_of : Configuration → List DeviceKind
-kinds_of c = map kind_configured (devices_in c.drives c.balloon)
+kinds_of c = map kind_configured (devices_in c.drives c.interfaces c.balloon)
 
 -- the device at this port of a guest of so many pages, with data that a device keeps
 abbrev pub is_device : ℕ → ℕ → Device → Bool
@@ -200,9 +215,10 @@ unfoldable pub is_valid : StateCopy → Bool
 is_valid c =
     is_source c.configuration.boot_source
     && are_drives c.configuration.drives
+    && are_interfaces c.configuration.interfaces
     && has_machine c c.configuration.machine
     && holds (is_balloon c.configuration.machine.mem_size_mib) c.configuration.balloon
-    && has_room c.configuration.drives c.configuration.balloon
+    && has_room c.configuration.drives c.configuration.interfaces c.configuration.balloon
     && is_board c.configuration.machine.vcpu_count c.board
     && (length c.harts == c.configuration.machine.vcpu_count)
     && list_all (is_hart c.pages) c.harts

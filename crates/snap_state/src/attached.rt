@@ -1,15 +1,16 @@
-// Which drives, ports and devices there are.
+// Which drives, interfaces and devices there are.
 ghost use Rattle.std.specs.Prelude.{◌≡◌, count_by, nat_le};
 ghost use Rattle.std.specs.List.{list_all};
 ghost use Rattle.api_calls.specs.Drives.{is_root};
 ghost use Rattle.api_calls.specs.Form.{is_id, is_id_byte};
 ghost use Rattle.vm_config.specs.Devices.{balloon_count};
 ghost use Rattle.vm_config.specs.Named.{are_apart, has_named};
-ghost use Rattle.snap_state.specs.Valid.{are_devices, are_drives, has_room, is_device, is_drive};
+ghost use Rattle.snap_state.specs.Valid.{are_devices, are_drives, are_interfaces, has_room, is_device, is_drive, is_interface};
 
+use crate::address::holds_mac;
 use crate::limits::holds_limiter;
 use crate::valid::is_path;
-use api_calls::{Balloon, Drive};
+use api_calls::{Balloon, Drive, Interface};
 use file_format::Listed;
 use guest_devices::Device;
 use snap_devices::Saved;
@@ -89,6 +90,29 @@ pub fn are_drives(drives: &[Drive]) -> bool
         && have_few_roots(drives)
 }
 
+fn is_interface(interface: &Interface) -> bool
+    ensures { result ≡ is_interface interface.now }
+{
+    is_id(interface.iface_id.as_str())
+        && is_path(interface.host_dev_name.as_str())
+        && holds_mac(&interface.guest_mac)
+        && holds_limiter(&interface.rx_rate_limiter)
+        && holds_limiter(&interface.tx_rate_limiter)
+}
+
+fn have_links(interfaces: &[Interface]) -> bool
+    ensures { result ≡ list_all is_interface interfaces.now }
+{
+    interfaces.iter().all(|interface| is_interface(interface))
+}
+
+/// Whether there are such interfaces.
+pub fn are_interfaces(interfaces: &[Interface]) -> bool
+    ensures { result ≡ are_interfaces interfaces.now }
+{
+    have_links(interfaces) && are_apart(interfaces)
+}
+
 fn balloon_count(balloon: &Option<Balloon>) -> usize
     ensures { result ≡ balloon_count balloon.now }
 {
@@ -99,10 +123,10 @@ fn balloon_count(balloon: &Option<Balloon>) -> usize
 }
 
 /// Whether there are no more devices than there may be.
-pub fn has_room(drives: &[Drive], balloon: &Option<Balloon>) -> bool
-    ensures { result ≡ has_room drives.now balloon.now }
+pub fn has_room(drives: &[Drive], interfaces: &[Interface], balloon: &Option<Balloon>) -> bool
+    ensures { result ≡ has_room drives.now interfaces.now balloon.now }
 {
-    drives.len() + balloon_count(balloon) <= MOST_DEVICES
+    drives.len() + interfaces.len() + balloon_count(balloon) <= MOST_DEVICES
 }
 
 fn is_device(pages: u32, port: usize, item: &Listed<Saved<Device>>) -> bool

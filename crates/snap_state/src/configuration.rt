@@ -1,8 +1,8 @@
 // The configuration of a machine that has started.
 ghost use Rattle.snap_state.specs.Configured.{boot_source, configuration};
 
-use crate::drives::SavedDrives;
 use crate::filed::{Filed, for_file, taken};
+use crate::listed::{SavedDrives, SavedInterfaces};
 use api_calls::{Balloon, MachineConfig};
 use file_format::{Input, ReadError, Stored, read_fixed, read_zeros, write_fixed, write_zeros};
 use std::alloc::{AllocError, Global};
@@ -22,6 +22,8 @@ pub struct Configuration {
     pub boot_source: BootSource,
     /// In the order in which they were first put.
     pub drives: SavedDrives,
+    /// In the order in which they were first put.
+    pub interfaces: SavedInterfaces,
     pub machine: MachineConfig,
     pub balloon: Option<Balloon>,
 }
@@ -55,7 +57,8 @@ impl Stored for Configuration {
         write_fixed(&[1], out)?;
         self.boot_source.write(out)?;
         self.drives.write(out)?;
-        write_zeros(5, out)?;
+        self.interfaces.write(out)?;
+        write_zeros(1, out)?;
         self.machine.vcpu_count.write(out)?;
         self.machine.mem_size_mib.write(out)?;
         write_zeros(1, out)?;
@@ -67,8 +70,9 @@ impl Stored for Configuration {
 
     fn read(alloc: Global, input: &mut Input) -> Result<Configuration, ReadError> {
         read_fixed(&[1], input)?;
-        let (boot_source, drives) = Stored::read(alloc, input)?;
-        read_zeros(5, input)?;
+        let (boot_source, (drives, interfaces)): (BootSource, (SavedDrives, SavedInterfaces)) =
+            Stored::read(alloc, input)?;
+        read_zeros(1, input)?;
         let (vcpu_count, mem_size_mib) = Stored::read(alloc, input)?;
         read_zeros(1, input)?;
         let (track_dirty_pages, balloon): (bool, Option<Filed<Balloon>>) = Stored::read(
@@ -78,6 +82,7 @@ impl Stored for Configuration {
         Ok(Configuration {
             boot_source,
             drives,
+            interfaces,
             machine: MachineConfig {
                 vcpu_count,
                 mem_size_mib,

@@ -49,7 +49,11 @@ fn kind_due(configuration: &Configuration, number: usize) -> Option<DeviceKind>
     if number < drives {
         return Some(DeviceKind::Block);
     }
-    if number == drives {
+    let behind = drives + configuration.interfaces.count();
+    if number < behind {
+        return Some(DeviceKind::Net);
+    }
+    if number == behind {
         return balloon_kind(&configuration.balloon);
     }
     None

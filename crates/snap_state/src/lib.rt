@@ -7,6 +7,7 @@
 //! that fits. `specs/Copy.antt` says of which board and of which harts a copy is.
 #![tactic(auto)]
 
+mod address;
 mod attached;
 mod balloon;
 mod board;
@@ -16,15 +17,17 @@ mod devices;
 mod drives;
 mod file;
 mod filed;
+mod interfaces;
 mod kinds;
 mod law;
 mod limits;
+mod listed;
 mod valid;
 
 pub use board::SavedBoard;
 pub use configuration::{BootSource, Configuration};
 pub use copy::{Reservation, Section, StateCopy};
-pub use drives::SavedDrives;
 pub use file::{STATE_HEADER, STATE_MAGIC, Saved, decode, encode_behind_gate};
 pub use law::{one_copy, one_of_each};
+pub use listed::{Item, SavedDrives, SavedInterfaces, SavedList};
 pub use valid::is_valid;

@@ -9,7 +9,7 @@ ghost use Rattle.snap_state.specs.Valid.{is_before, is_rising, has_machine, has_
 ghost use Rattle.snap_state.specs.Valid.{are_sections};
 ghost use Rattle.snap_harts.specs.Copy.{regs_of};
 
-use crate::attached::{are_devices, are_drives, has_room};
+use crate::attached::{are_devices, are_drives, are_interfaces, has_room};
 use crate::balloon::holds_balloon;
 use crate::board::SavedBoard;
 use crate::configuration::BootSource;
@@ -222,11 +222,13 @@ pub fn is_valid(copy: &StateCopy) -> bool
     let machine = &copy.configuration.machine;
     let harts = machine.vcpu_count;
     is_source(&copy.configuration.boot_source)
-        && are_drives(&copy.configuration.drives.drives)
+        && are_drives(&copy.configuration.drives.items)
+        && are_interfaces(&copy.configuration.interfaces.items)
         && has_machine(copy, machine)
         && holds_balloon(machine.mem_size_mib, &copy.configuration.balloon)
         && has_room(
-            &copy.configuration.drives.drives,
+            &copy.configuration.drives.items,
+            &copy.configuration.interfaces.items,
             &copy.configuration.balloon,
         )
         && is_board(harts, &copy.board)

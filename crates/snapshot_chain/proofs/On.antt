@@ -18,7 +18,7 @@ use Rattle.api_calls.specs.declared.call.VmState.TheVariants.{Paused, Resumed}
 use Rattle.vm_config.specs.declared.change.Change.{Change}
 use Rattle.vm_config.specs.declared.change.Change.TheVariants as change
 use Rattle.vm_config.specs.Changes.{with_amount, with_interval}
-use Rattle.vm_config.specs.Devices.{balloon_device}
+use Rattle.vm_config.specs.Devices.{balloon_device, interface_device}
 use Rattle.vm_config.specs.Drives.{device_of}
 use Rattle.response_form.specs.Responses.{Response}
 use Rattle.board_table.specs.Board.{Board}
@@ -32,7 +32,7 @@ use Rattle.flat_guest.specs.Guest.{Guest}
 use Rattle.flat_snapshot.specs.Found.{Snapshot, found}
 use Rattle.flat_machine.specs.Balloon.{interval_told, target_in}
 use Rattle.flat_machine.specs.Items.{Talks}
-use Rattle.flat_machine.specs.Limits.{limits_told}
+use Rattle.flat_machine.specs.Limits.{limits_told, receives_told, transmits_told}
 use Rattle.flat_machine.specs.Outcome.{Left, Outcome}
 use Rattle.flat_machine.specs.Outcome.Outcome.{Answered, Failed, NoMemory}
 use Rattle.flat_machine.specs.Machine.{Machine, is_off, off_by}
@@ -75,10 +75,10 @@ resized_on None number saved guest on = on
 resized_on (Some path) number saved guest on =
     let change : DeviceChange = sectors_change (sectors_of (get saved path)) in told_on number change (shows_by change) guest on
 
-relimited_on : (limiter : Option Limiter) (number : Option ℕ) (guest : Option Guest) → off_by guest ≡ false
-    → off_by (relimited limiter number guest) ≡ false
-relimited_on None number guest on = on
-relimited_on (Some l) number guest on = told_on number (limits_told l) (shows_by (limits_told l)) guest on
+relimited_on : (tells : Limiter → DeviceChange) (limiter : Option Limiter) (number : Option ℕ) (guest : Option Guest)
+    → off_by guest ≡ false → off_by (relimited tells limiter number guest) ≡ false
+relimited_on tells None number guest on = on
+relimited_on tells (Some l) number guest on = told_on number (tells l) (shows_by (tells l)) guest on
 
 retargeted_on : (balloon : Option Balloon) (number : Option ℕ) (guest : Option Guest) → off_by guest ≡ false
     → off_by (retargeted balloon number guest) ≡ false
@@ -118,8 +118,14 @@ leaves_on (change.PutDrive drive) m n on is = ap is_off is ∙ on
 leaves_on (change.PatchDrive patch) m n on is =
     let number : Option ℕ = device_of m.config.drives patch.drive_id in
     ap is_off is
-    ∙ relimited_on patch.rate_limiter number (resized patch.path_on_host number m.saved m.guest)
+    ∙ relimited_on limits_told patch.rate_limiter number (resized patch.path_on_host number m.saved m.guest)
     (resized_on patch.path_on_host number m.saved m.guest on)
+leaves_on (change.PutInterface interface) m n on is = ap is_off is ∙ on
+leaves_on (change.PatchInterface patch) m n on is =
+    let number : Option ℕ = interface_device m.config patch.iface_id in
+    ap is_off is
+    ∙ relimited_on transmits_told patch.tx_rate_limiter number (relimited receives_told patch.rx_rate_limiter number m.guest)
+    (relimited_on receives_told patch.rx_rate_limiter number m.guest on)
 leaves_on (change.MachineConfig machine) m n on is = ap is_off is ∙ on
 leaves_on (change.PutBalloon balloon) m n on is = ap is_off is ∙ on
 leaves_on (change.PatchBalloon patch) m n on is =
@@ -143,6 +149,8 @@ fails_on : (it : Change) (m : Machine) (left : Left) (n : Machine) → On m → 
 fails_on (change.BootSource source) m left n on x = absurd x
 fails_on (change.PutDrive drive) m left n on x = absurd x
 fails_on (change.PatchDrive patch) m left n on x = on_is m n x.3 on
+fails_on (change.PutInterface interface) m left n on x = absurd x
+fails_on (change.PatchInterface patch) m left n on x = absurd x
 fails_on (change.MachineConfig machine) m left n on x = absurd x
 fails_on (change.PutBalloon balloon) m left n on x = absurd x
 fails_on (change.PatchBalloon patch) m left n on x = absurd x

@@ -1,13 +1,15 @@
 // A request as a call of the API.
 use crate::escapes::bytes_of;
 use crate::words::{add_limits, add_number, add_word};
-use api_calls::{ApiCall, Balloon, CacheType, Drive, DrivePatch, Part, VmState};
+use api_calls::{
+    ApiCall, Balloon, CacheType, Drive, DrivePatch, Interface, InterfacePatch, Part, VmState,
+};
 use api_json::{ReadError, read};
 use http_stream::{HeaderList, Request};
 use std::alloc::{AllocError, Global};
 use vm_types::{ByteList, TextList};
 
-/// Puts the name of the call of a method, a path and a body at the end, for a drive and a balloon with its
+/// Puts the name of the call of a method, a path and a body at the end, for a drive, an interface and a balloon with its
 /// fields, or the number of its refusal.
 pub fn add(alloc: Global, case: &str, text: &mut String) -> Result<(), AllocError> {
     let request = request_from(alloc, case)?;
@@ -59,6 +61,8 @@ fn add_call(call: &ApiCall, text: &mut String) -> Result<(), AllocError> {
     match call {
         ApiCall::PutDrive(drive) => add_put(drive, text),
         ApiCall::PatchDrive(patch) => add_patch(patch, text),
+        ApiCall::PutInterface(interface) => add_interface(interface, text),
+        ApiCall::PatchInterface(patch) => add_interface_patch(patch, text),
         ApiCall::PutBalloon(balloon) => add_balloon(balloon, text),
         ApiCall::PatchBalloon(patch) => add_number(patch.amount_mib, text),
         ApiCall::PatchStatistics(patch) => add_number(patch.stats_polling_interval_s, text),
@@ -111,6 +115,20 @@ fn add_some(word: &Option<TextList>, text: &mut String) -> Result<(), AllocError
     }
 }
 
+fn add_interface(interface: &Interface, text: &mut String) -> Result<(), AllocError> {
+    add_word(interface.iface_id.as_str(), text)?;
+    add_word(interface.host_dev_name.as_str(), text)?;
+    add_some(&interface.guest_mac, text)?;
+    add_limits("rx", &interface.rx_rate_limiter, text)?;
+    add_limits("tx", &interface.tx_rate_limiter, text)
+}
+
+fn add_interface_patch(patch: &InterfacePatch, text: &mut String) -> Result<(), AllocError> {
+    add_word(patch.iface_id.as_str(), text)?;
+    add_limits("rx", &patch.rx_rate_limiter, text)?;
+    add_limits("tx", &patch.tx_rate_limiter, text)
+}
+
 fn add_balloon(balloon: &Balloon, text: &mut String) -> Result<(), AllocError> {
     add_number(balloon.amount_mib, text)?;
     add_word(deflating_word(balloon), text)?;
@@ -130,6 +148,8 @@ fn name(call: &ApiCall) -> &'static str {
         ApiCall::PutBootSource(_) => "boot",
         ApiCall::PutDrive(_) => "drive-put",
         ApiCall::PatchDrive(_) => "drive-patch",
+        ApiCall::PutInterface(_) => "interface-put",
+        ApiCall::PatchInterface(_) => "interface-patch",
         ApiCall::PutMachineConfig(_) => "machine-put",
         ApiCall::PatchMachineConfig(_) => "machine-patch",
         ApiCall::PutBalloon(_) => "balloon-put",

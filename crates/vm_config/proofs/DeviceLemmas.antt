@@ -8,9 +8,11 @@ use Rattle.std.proofs.lemmas.List.Filters.{length-filter_both}
 use Rattle.std.proofs.lemmas.Option.{slice_get-map}
 use Rattle.api_calls.specs.declared.balloon.Balloon.{Balloon}
 use Rattle.api_calls.specs.declared.call.Drive.{Drive}
+use Rattle.api_calls.specs.declared.interface.Interface.{Interface}
 use Rattle.vm_config.specs.declared.config.Config.{Config}
-use Rattle.vm_config.specs.Devices.{balloon_count, balloon_device, balloon_devices, count_in, device_count, devices_in, devices_of, of_balloon, of_drive}
+use Rattle.vm_config.specs.Devices.{balloon_count, balloon_device, balloon_devices, count_in, device_count, devices_in, devices_of, interface_device, of_balloon, of_drive, of_interface}
 use Rattle.vm_config.specs.Drives.{device_of, in_order, is_named, is_root}
+use Rattle.vm_config.specs.Interfaces.{is_interface}
 
 -- ---- lists
 
@@ -69,17 +71,21 @@ length-balloon : (balloon : Option Balloon) → length (balloon_devices balloon)
 length-balloon None = refl
 length-balloon (Some b) = refl
 
-pub counted_in : (drives : List Drive) (balloon : Option Balloon) → length (devices_in drives balloon) ≡ count_in drives balloon
-counted_in drives balloon =
+pub counted_in : (drives : List Drive) (interfaces : List Interface) (balloon : Option Balloon)
+    → length (devices_in drives interfaces balloon) ≡ count_in drives interfaces balloon
+counted_in drives interfaces balloon =
+    let others = map of_interface interfaces ++ balloon_devices balloon in
     omega (
       arith,
-      length-append (map of_drive (in_order drives)) (balloon_devices balloon),
+      length-append (map of_drive (in_order drives)) others,
+      length-append (map of_interface interfaces) (balloon_devices balloon),
       length-drives drives,
+      length-map interfaces of_interface,
       length-balloon balloon,
     )
 
 pub counted : (config : Config) → length (devices_of config) ≡ device_count config
-counted config = counted_in config.drives config.balloon
+counted config = counted_in config.drives config.interfaces config.balloon
 
 -- ---- which are where
 
@@ -88,6 +94,19 @@ pub drive_at : (config : Config) (id : List ℕ) (k : ℕ) → device_of config.
 drive_at config id k is =
     let found = at_position (is_named id) (in_order config.drives) k is in
     (found.0, in_front _ _ k _ (mapped of_drive (in_order config.drives) k found.0 found.1), found.2)
+
+-- a number behind so many others
+counted_on : (n k : ℕ) (o : Option ℕ) → option_map (λ j. n + j) o ≡ Some k → (j : ℕ) × (o ≡ Some j) × (n + j ≡ k)
+counted_on n k None is = absurd cc
+counted_on n k (Some j) is = (j, refl, cc)
+
+pub interface_at : (config : Config) (id : List ℕ) (k : ℕ) → interface_device config id ≡ Some k
+    → (i : Interface) × (slice_get (devices_of config) k ≡ Some (of_interface i)) × (is_interface id i ≡ true)
+interface_at config id k is =
+    let number = counted_on (length config.drives) k (position (is_interface id) config.interfaces) is in
+    let found = at_position (is_interface id) config.interfaces number.0 number.1 in
+    let among = in_front _ (balloon_devices config.balloon) number.0 _ (mapped of_interface config.interfaces number.0 found.0 found.1) in
+    (found.0, behind _ _ (length config.drives) number.0 k _ (length-drives config.drives) number.2 among, found.2)
 
 balloon_of : (n k : ℕ) (balloon : Option Balloon) → option_map (λ b. n) balloon ≡ Some k → (b : Balloon) × (balloon ≡ Some b) × (n ≡ k)
 balloon_of n k None is = absurd cc
@@ -100,6 +119,7 @@ first_balloon (Some c) b is = let same : c ≡ b = cc in ap (λ (x : Balloon). S
 pub balloon_at : (config : Config) (k : ℕ) → balloon_device config ≡ Some k
     → (b : Balloon) × (config.balloon ≡ Some b) × (slice_get (devices_of config) k ≡ Some (of_balloon b))
 balloon_at config k is =
-    let there = balloon_of (length config.drives) k config.balloon is in
-    let own = first_balloon config.balloon there.0 there.1 in
-    (there.0, there.1, behind _ _ (length config.drives) 0 k _ (length-drives config.drives) (omega (arith, there.2)) own)
+    let there = balloon_of (length config.drives + length config.interfaces) k config.balloon is in
+    let among = behind (map of_interface config.interfaces) (balloon_devices config.balloon) (length config.interfaces) 0 (length config.interfaces) _
+    (length-map config.interfaces of_interface) (omega arith) (first_balloon config.balloon there.0 there.1) in
+    (there.0, there.1, behind _ _ (length config.drives) (length config.interfaces) k _ (length-drives config.drives) there.2 among)

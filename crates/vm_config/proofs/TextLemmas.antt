@@ -6,6 +6,7 @@ use Rattle.serde_json.specs.Written.{has_float, items_have_float, members_have_f
 use Rattle.api_calls.specs.declared.balloon.Balloon.{Balloon}
 use Rattle.api_calls.specs.declared.call.BootSource.{BootSource}
 use Rattle.api_calls.specs.declared.call.Drive.{Drive}
+use Rattle.api_calls.specs.declared.interface.Interface.{Interface}
 use Rattle.api_calls.specs.declared.limiter.BucketConfig.{BucketConfig}
 use Rattle.api_calls.specs.declared.limiter.Limiter.{Limiter}
 use Rattle.vm_config.specs.declared.config.Config.{Config}
@@ -36,6 +37,15 @@ drives_whole : (ds : List Drive) → items_have_float (items_of (map texts.drive
 drives_whole [] = refl
 drives_whole (d ∷ ds) = or_from _ _ (drive_whole d) (drives_whole ds)
 
+interface_whole : (i : Interface) → has_float (texts.interface i) ≡ false
+interface_whole i =
+    or_from _ _ (text_whole i.guest_mac)
+    (or_from _ _ (limiter_whole i.rx_rate_limiter) (or_from _ _ (limiter_whole i.tx_rate_limiter) refl))
+
+interfaces_whole : (is : List Interface) → items_have_float (items_of (map texts.interface is)) ≡ false
+interfaces_whole [] = refl
+interfaces_whole (i ∷ is) = or_from _ _ (interface_whole i) (interfaces_whole is)
+
 source_whole : (s : Option BootSource) → has_float (texts.boot_source s) ≡ false
 source_whole None = refl
 source_whole (Some s) = or_from _ _ (text_whole s.initrd_path) refl
@@ -48,7 +58,7 @@ pub config_whole : (c : Config) → has_float (texts.vm_config c) ≡ false
 config_whole c =
     or_from _ _ (balloon_whole c.balloon)
     (or_from _ _ (source_whole c.boot_source)
-    (or_from _ _ (drives_whole c.drives) refl))
+    (or_from _ _ (drives_whole c.drives) (or_from _ _ (interfaces_whole c.interfaces) refl)))
 
 given_whole : (rows : List (List ℕ × Option ℕ)) → members_have_float (given rows) ≡ false
 given_whole [] = refl

@@ -4,15 +4,17 @@ use Rattle.api_calls.specs.declared.balloon.Balloon.{Balloon}
 use Rattle.api_calls.specs.declared.balloon.BalloonPatch.{BalloonPatch}
 use Rattle.api_calls.specs.declared.balloon.StatisticsPatch.{StatisticsPatch}
 use Rattle.vm_config.specs.Drives.{put_drive, patch_drive}
+use Rattle.vm_config.specs.Interfaces.{put_interface, patch_interface}
 use Rattle.vm_config.specs.declared.config.Config.{Config}
 use Rattle.vm_config.specs.declared.change.Change.{Change}
 use Rattle.vm_config.specs.declared.change.Change.TheVariants as change
 
--- no boot source, no drive, no balloon, one hart and 128 MiB
+-- no boot source, no drive, no interface, no balloon, one hart and 128 MiB
 abbrev pub default_config : Config
 default_config = record {
   boot_source = None;
   drives = [];
+  interfaces = [];
   machine = record { vcpu_count = 1; mem_size_mib = 128; track_dirty_pages = false };
   balloon = None;
   configured = false;
@@ -26,12 +28,15 @@ abbrev pub with_interval : StatisticsPatch → Option Balloon → Option Balloon
 with_interval patch balloon =
     option_map (λ (b : Balloon). record b { stats_polling_interval_s = patch.stats_polling_interval_s }) balloon
 
--- What is allowed only before boot makes it configured: a boot source, a drive, a machine, a balloon, a start and
+-- What is allowed only before boot makes it configured: a boot source, a drive, an interface, a machine, a balloon, a start and
 -- a load. What was configured before is replaced. The metadata are no part of it.
 abbrev pub changed : Config → Change → Config
 changed config (change.BootSource source) = record config { boot_source = Some source; configured = true }
 changed config (change.PutDrive drive) = record config { drives = put_drive config.drives drive; configured = true }
 changed config (change.PatchDrive patch) = record config { drives = patch_drive config.drives patch }
+changed config (change.PutInterface interface) =
+    record config { interfaces = put_interface config.interfaces interface; configured = true }
+changed config (change.PatchInterface patch) = record config { interfaces = patch_interface config.interfaces patch }
 changed config (change.MachineConfig machine) = record config { machine = machine; configured = true }
 changed config (change.PutBalloon balloon) = record config { balloon = Some balloon; configured = true }
 changed config (change.PatchBalloon patch) = record config { balloon = with_amount patch config.balloon }
@@ -44,11 +49,13 @@ changed config (change.CreateSnapshot it) = config
 changed config (change.LoadSnapshot load) = record config { configured = true }
 changed config (change.Tell part) = config
 
--- only one drive more takes memory: all else that a change gives is moved
+-- only one drive or one interface more takes memory: all else that a change gives is moved
 abbrev pub takes_memory : Change → Bool
 takes_memory (change.BootSource source) = false
 takes_memory (change.PutDrive drive) = true
 takes_memory (change.PatchDrive patch) = false
+takes_memory (change.PutInterface interface) = true
+takes_memory (change.PatchInterface patch) = false
 takes_memory (change.MachineConfig machine) = false
 takes_memory (change.PutBalloon balloon) = false
 takes_memory (change.PatchBalloon patch) = false

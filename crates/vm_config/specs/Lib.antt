@@ -1,6 +1,7 @@
 pub mod Named
 pub mod Limits
 pub mod Drives
+pub mod Interfaces
 pub mod Devices
 pub mod Changes
 pub mod Numbers

@@ -1,7 +1,7 @@
 -- What GET tells, as trees whose keys are in byte order, and their compact writing. What isn't built is absent:
 -- an empty list, or null.
 use Rattle.std.specs.Prelude.{ℕ, false, List, map, codes, Option, Some, None}
-use Rattle.serde_json.specs.Data.{Data, null, boolean, number, string, array, object, unsigned, no_items, member, no_members}
+use Rattle.serde_json.specs.Data.{Data, null, boolean, number, string, array, object, unsigned, member, no_members}
 use Rattle.serde_json.specs.View.{items_of}
 use Rattle.serde_json.specs.Written.{compact_text}
 use Rattle.api_calls.specs.declared.balloon.Balloon.{Balloon}
@@ -11,6 +11,7 @@ use Rattle.api_calls.specs.Drives.{cache_text}
 use Rattle.api_calls.specs.declared.call.MachineConfig.{MachineConfig}
 use Rattle.api_calls.specs.declared.call.Part.{Part}
 use Rattle.api_calls.specs.declared.call.Part.TheVariants as part
+use Rattle.api_calls.specs.declared.interface.Interface.{Interface}
 use Rattle.api_calls.specs.declared.limiter.BucketConfig.{BucketConfig}
 use Rattle.api_calls.specs.declared.limiter.Limiter.{Limiter}
 use Rattle.vm_config.specs.declared.config.Config.{Config}
@@ -94,6 +95,17 @@ drive d = object (
 abbrev pub drives : List Drive → Data
 drives ds = array (items_of (map drive ds))
 
+abbrev pub interface : Interface → Data
+interface i = object (
+    member (codes "guest_mac") (text_or_null i.guest_mac)
+    (member (codes "host_dev_name") (string i.host_dev_name)
+    (member (codes "iface_id") (string i.iface_id)
+    (member (codes "rx_rate_limiter") (limiter i.rx_rate_limiter)
+    (member (codes "tx_rate_limiter") (limiter i.tx_rate_limiter) no_members)))))
+
+abbrev pub interfaces : List Interface → Data
+interfaces is = array (items_of (map interface is))
+
 abbrev pub given_balloon : Balloon → Data
 given_balloon b = object (
     member (codes "amount_mib") (number (unsigned b.amount_mib))
@@ -119,7 +131,7 @@ vm_config c = object (
     (member (codes "drives") (drives c.drives)
     (member (codes "machine-config") (machine c.machine)
     (member (codes "mmds-config") null
-    (member (codes "network-interfaces") (array no_items)
+    (member (codes "network-interfaces") (interfaces c.interfaces)
     (member (codes "vsock") null no_members)))))))
 
 -- What there is to tell of a machine: its id, its phase, what is configured, its metadata, and what its balloon tells if it

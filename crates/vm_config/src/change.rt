@@ -1,7 +1,7 @@
 // What accepted calls ask for.
 use api_calls::{
-    Balloon, BalloonPatch, BootSource, Drive, DrivePatch, MachineConfig, Part, SnapshotCreate,
-    SnapshotLoad, StatisticsPatch, VmState,
+    Balloon, BalloonPatch, BootSource, Drive, DrivePatch, Interface, InterfacePatch, MachineConfig,
+    Part, SnapshotCreate, SnapshotLoad, StatisticsPatch, VmState,
 };
 use metadata_store::Tree;
 
@@ -14,6 +14,10 @@ pub enum Change {
     PutDrive(Drive),
     /// What this gives is replaced of the drive of its id.
     PatchDrive(DrivePatch),
+    /// This interface takes the place of the one of its id, or stands last.
+    PutInterface(Interface),
+    /// What this gives is replaced of the interface of its id.
+    PatchInterface(InterfacePatch),
     /// The machine is this one.
     MachineConfig(MachineConfig),
     /// The balloon is this one.

@@ -2,11 +2,13 @@
 ghost use Rattle.std.specs.Prelude.{◌≡◌, true, false, IsOk, IfOk, OnOk, OnErr};
 ghost use Rattle.vm_config.specs.Changes.{changed, default_config, takes_memory};
 ghost use Rattle.vm_config.specs.Drives.{put_drive};
+ghost use Rattle.vm_config.specs.Interfaces.{put_interface};
 
 use crate::balloon::{with_amount, with_interval};
 use crate::change::Change;
 use crate::drives::Drives;
-use api_calls::{Balloon, BootSource, Drive, MachineConfig};
+use crate::interfaces::Interfaces;
+use api_calls::{Balloon, BootSource, Drive, Interface, MachineConfig};
 use std::alloc::{AllocError, Global};
 
 const DEFAULT_HARTS: u64 = 1;
@@ -26,6 +28,7 @@ pub enum Phase {
 pub struct Config {
     pub boot_source: Option<BootSource>,
     pub drives: Drives,
+    pub interfaces: Interfaces,
     pub machine: MachineConfig,
     pub balloon: Option<Balloon>,
     /// Whether any call that is allowed only before boot was accepted.
@@ -40,6 +43,7 @@ impl Config {
         Config {
             boot_source: None,
             drives: Drives::new(alloc),
+            interfaces: Interfaces::new(alloc),
             machine: MachineConfig {
                 vcpu_count: DEFAULT_HARTS,
                 mem_size_mib: DEFAULT_MIB,
@@ -50,7 +54,7 @@ impl Config {
         }
     }
 
-    /// Takes what an accepted call changes. What is given moves in, so that only one drive more takes
+    /// Takes what an accepted call changes. What is given moves in, so that only one drive or one interface more takes
     /// memory. An `Err` changes nothing.
     pub fn apply(&mut self, change: Change) -> Result<(), AllocError>
         ensures succeeds { takes_memory change ≡ false → IsOk result }
@@ -64,6 +68,8 @@ impl Config {
             }
             Change::PutDrive(drive) => return self.put_drive(drive),
             Change::PatchDrive(patch) => self.drives.patch(patch),
+            Change::PutInterface(interface) => return self.put_interface(interface),
+            Change::PatchInterface(patch) => self.interfaces.patch(patch),
             Change::MachineConfig(machine) => {
                 self.machine = machine;
                 self.configured = true;
@@ -94,6 +100,16 @@ impl Config {
         Ok(())
     }
 
+    fn put_interface(&mut self, interface: Interface) -> Result<(), AllocError>
+        ensures ok { OnOk result (self.new
+            ≡ record self.old { interfaces = put_interface self.old.interfaces interface; configured = true }) }
+        ensures err { OnErr result (self.new ≡ self.old) }
+    {
+        self.interfaces.put(interface)?;
+        self.configured = true;
+        Ok(())
+    }
+
     /// The drives with one that is put among them, for `set_drives`: all the memory that a PUT of a drive takes.
     pub fn with_drive(&self, alloc: Global, drive: Drive) -> Result<Drives, AllocError>
         ensures { IfOk result (λ drives. drives ≡ put_drive self.now.drives drive) }
@@ -108,6 +124,27 @@ impl Config {
         ensures { self.new ≡ record self.old { drives = drives; configured = true } }
     {
         self.drives = drives;
+        self.configured = true;
+    }
+
+    /// The interfaces with one that is put among them, for `set_interfaces`: all the memory that a PUT of an interface takes.
+    pub fn with_interface(
+        &self,
+        alloc: Global,
+        interface: Interface,
+    ) -> Result<Interfaces, AllocError>
+        ensures { IfOk result (λ interfaces. interfaces ≡ put_interface self.now.interfaces interface) }
+    {
+        let mut interfaces = Interfaces::copy_of(alloc, self.interfaces.as_slice())?;
+        interfaces.put(interface)?;
+        Ok(interfaces)
+    }
+
+    /// Takes the interfaces that a PUT of one leaves.
+    pub fn set_interfaces(&mut self, interfaces: Interfaces)
+        ensures { self.new ≡ record self.old { interfaces = interfaces; configured = true } }
+    {
+        self.interfaces = interfaces;
         self.configured = true;
     }
 }

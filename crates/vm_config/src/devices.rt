@@ -1,9 +1,11 @@
 // The devices of a machine by their numbers.
 ghost use Rattle.std.specs.Prelude.{◌≡◌};
+ghost use Rattle.std.specs.List.{position};
 ghost use Rattle.vm_config.specs.Devices as devices;
+ghost use Rattle.vm_config.specs.Interfaces.{is_interface};
 
 use crate::config::Config;
-use api_calls::Balloon;
+use api_calls::{Balloon, Interface};
 
 fn balloon_count(balloon: &Option<Balloon>) -> usize
     ensures { result ≡ devices.balloon_count balloon.now }
@@ -14,12 +16,30 @@ fn balloon_count(balloon: &Option<Balloon>) -> usize
     }
 }
 
+fn place_of(interfaces: &[Interface], id: &str) -> Option<usize>
+    ensures { result ≡ position (is_interface id.now) interfaces.now }
+{
+    interfaces
+        .iter()
+        .position(|interface| interface.iface_id.as_str() == id)
+}
+
 impl Config {
-    /// How many devices a machine has by what is configured: one for each drive, and the balloon.
+    /// How many devices a machine has by what is configured: one for each drive and each interface, and the balloon.
     pub fn device_count(&self) -> usize
         ensures { result ≡ devices.device_count self.now }
     {
-        self.drives.as_slice().len() + balloon_count(&self.balloon)
+        let drives = self.drives.as_slice().len();
+        let interfaces = self.interfaces.as_slice().len();
+        drives + interfaces + balloon_count(&self.balloon)
+    }
+
+    /// The number of the device that the interface of this id is.
+    pub fn interface_device(&self, id: &str) -> Option<usize>
+        ensures { result ≡ devices.interface_device self.now id.now }
+    {
+        let place = place_of(self.interfaces.as_slice(), id)?;
+        Some(self.drives.as_slice().len() + place)
     }
 
     /// The number of the device that the balloon is.
@@ -27,7 +47,7 @@ impl Config {
         ensures { result ≡ devices.balloon_device self.now }
     {
         match self.balloon {
-            Some(_) => Some(self.drives.as_slice().len()),
+            Some(_) => Some(self.drives.as_slice().len() + self.interfaces.as_slice().len()),
             None => None,
         }
     }

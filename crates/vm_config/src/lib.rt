@@ -1,8 +1,8 @@
 //! What is configured, what an accepted call changes of it, and the texts that GET tells.
 //!
 //! `Config::apply` takes a change; `Config::json` gives a part as compact JSON. What is configured by ids is a `NamedList`:
-//! `Drives`, which tells their order as devices too. `specs/Changes.antt` says what each change leaves,
-//! with `specs/Named.antt`, `specs/Drives.antt` and `specs/Limits.antt`; `specs/Devices.antt` which
+//! `Drives`, which tells their order as devices too, and `Interfaces`. `specs/Changes.antt` says what each change leaves,
+//! with `specs/Named.antt`, `specs/Drives.antt`, `specs/Interfaces.antt` and `specs/Limits.antt`; `specs/Devices.antt` which
 //! devices there are, by their numbers. `specs/Texts.antt` has each part as a tree, whose keys are in byte order.
 #![tactic(auto)]
 
@@ -11,6 +11,7 @@ mod change;
 mod config;
 mod devices;
 mod drives;
+mod interfaces;
 mod law;
 mod limits;
 mod named;
@@ -21,6 +22,7 @@ mod values;
 pub use change::Change;
 pub use config::{Config, Phase};
 pub use drives::Drives;
+pub use interfaces::Interfaces;
 pub use law::{devices_are_numbered, ids_stay_apart};
 pub use named::{Named, NamedList};
 pub use statistics::Statistics;

@@ -5,7 +5,7 @@ ghost use Rattle.vm_config.specs.Texts as texts;
 
 use crate::config::{Config, Phase};
 use crate::statistics::{Statistics, statistics_value};
-use crate::values::{balloon, boot_source, drives, machine};
+use crate::values::{balloon, boot_source, drives, interfaces, machine};
 use api_calls::{Balloon, Part};
 use metadata_store::Store;
 use serde_json::{Value, json};
@@ -96,13 +96,14 @@ fn vm_config(alloc: Global, config: &Config) -> Result<Value, AllocError>
 {
     let source = boot_source(alloc, &config.boot_source)?;
     let drives = drives(alloc, config.drives.as_slice())?;
+    let interfaces = interfaces(alloc, config.interfaces.as_slice())?;
     let machine = machine(alloc, &config.machine)?;
     let balloon = balloon(alloc, &config.balloon)?;
     json!(in alloc; {
         "boot-source": source,
         "drives": drives,
         "machine-config": machine,
-        "network-interfaces": [],
+        "network-interfaces": interfaces,
         "vsock": null,
         "balloon": balloon,
         "mmds-config": null,

@@ -3,7 +3,7 @@ ghost use Rattle.std.specs.Prelude.{◌≡◌, IfOk};
 ghost use Rattle.serde_json.specs.View.{view};
 ghost use Rattle.vm_config.specs.Texts as texts;
 
-use api_calls::{Balloon, BootSource, BucketConfig, Drive, Limiter, MachineConfig};
+use api_calls::{Balloon, BootSource, BucketConfig, Drive, Interface, Limiter, MachineConfig};
 use serde_json::{Value, json};
 use std::alloc::{AllocError, Global};
 use vm_types::TextList;
@@ -118,6 +118,31 @@ pub fn drives(alloc: Global, drives: &[Drive]) -> Result<Value, AllocError>
     let mut told = Vec::new(alloc);
     for one in drives {
         told.push(drive(alloc, one)?)?;
+    }
+    Ok(Value::Array(told))
+}
+
+fn interface(alloc: Global, interface: &Interface) -> Result<Value, AllocError>
+    ensures { IfOk result (λ v. view v ≡ texts.interface interface.now) }
+{
+    let mac = text_or_null(alloc, &interface.guest_mac)?;
+    let received = limiter(alloc, &interface.rx_rate_limiter)?;
+    let sent = limiter(alloc, &interface.tx_rate_limiter)?;
+    json!(in alloc; {
+        "iface_id": interface.iface_id.as_str(),
+        "host_dev_name": interface.host_dev_name.as_str(),
+        "guest_mac": mac,
+        "rx_rate_limiter": received,
+        "tx_rate_limiter": sent,
+    })
+}
+
+pub fn interfaces(alloc: Global, interfaces: &[Interface]) -> Result<Value, AllocError>
+    ensures { IfOk result (λ v. view v ≡ texts.interfaces interfaces.now) }
+{
+    let mut told = Vec::new(alloc);
+    for one in interfaces {
+        told.push(interface(alloc, one)?)?;
     }
     Ok(Value::Array(told))
 }

@@ -8,3 +8,4 @@ use Rattle.guest_devices.specs.declared.device.Device.TheVariants as device
 abbrev pub statistics_of : Device → Option Statistics
 statistics_of (device.Balloon b) = Some b.kind.own.statistics
 statistics_of (device.Block b) = None
+statistics_of (device.Net n) = None

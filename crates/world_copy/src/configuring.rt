@@ -5,9 +5,9 @@ ghost use Rattle.flat_snapshot.specs.Carried.{carried_config};
 ghost use Rattle.flat_snapshot.specs.Copies.{source_of};
 
 use api_calls::{BootSource, MachineConfig};
-use snap_state::{Configuration, SavedDrives};
+use snap_state::{Configuration, SavedList};
 use std::alloc::{AllocError, Global};
-use vm_config::{Config, Drives};
+use vm_config::{Config, Drives, Interfaces, Named, NamedList};
 use vm_types::TextList;
 
 fn path_of(alloc: Global, path: &Option<TextList>) -> Result<Option<TextList>, AllocError>
@@ -45,12 +45,13 @@ fn source_of(
     }
 }
 
-fn drives_of(alloc: Global, drives: &Drives) -> Result<SavedDrives, AllocError>
-    ensures { IfOk result (λ copy. copy ≡ drives.now) }
+// What is configured by ids.
+fn list_of<T: Named>(alloc: Global, list: &NamedList<T>) -> Result<SavedList<T>, AllocError>
+    ensures { IfOk result (λ copy. copy ≡ list.now) }
 {
-    let drives = Drives::copy_of(alloc, drives.as_slice())?;
-    Ok(SavedDrives {
-        drives: drives.into_vec(),
+    let list = NamedList::copy_of(alloc, list.as_slice())?;
+    Ok(SavedList {
+        items: list.into_vec(),
     })
 }
 
@@ -60,15 +61,18 @@ pub(crate) fn configuration_of(alloc: Global, config: &Config) -> Result<Configu
         copy ≡ record {
           boot_source = source_of config.now.boot_source;
           drives = config.now.drives;
+          interfaces = config.now.interfaces;
           machine = config.now.machine;
           balloon = config.now.balloon;
         }) }
 {
     let boot_source = source_of(alloc, &config.boot_source)?;
-    let drives = drives_of(alloc, &config.drives)?;
+    let drives = list_of(alloc, &config.drives)?;
+    let interfaces = list_of(alloc, &config.interfaces)?;
     Ok(Configuration {
         boot_source,
         drives,
+        interfaces,
         machine: config.machine,
         balloon: config.balloon,
     })
@@ -84,7 +88,8 @@ pub fn config_of(configuration: Configuration, track_dirty_pages: bool) -> Confi
             initrd_path: configuration.boot_source.initrd_path,
             boot_args: configuration.boot_source.boot_args,
         }),
-        drives: Drives::from_vec(configuration.drives.drives),
+        drives: Drives::from_vec(configuration.drives.items),
+        interfaces: Interfaces::from_vec(configuration.interfaces.items),
         machine: MachineConfig {
             vcpu_count: configuration.machine.vcpu_count,
             mem_size_mib: configuration.machine.mem_size_mib,

@@ -12,7 +12,7 @@ use crate::machine::LiveMachine;
 use crate::machine::telling::{tell_device, tell_limits};
 use api_rules::Change;
 use guest_devices::DeviceChange;
-use monitor_plans::{Resize, TakenConfig};
+use monitor_plans::{LimitsOf, Resize, TakenConfig};
 use vm_host::Disk;
 use vm_world::World;
 
@@ -48,7 +48,12 @@ impl LiveMachine {
         ensures { TakesFile resize self.old self.new }
     {
         tell_sectors(&mut self.guest, resize.device, resize.sectors);
-        tell_limits(&mut self.guest, resize.device, &resize.patch.rate_limiter);
+        tell_limits(
+            &mut self.guest,
+            resize.device,
+            LimitsOf::Requests,
+            &resize.patch.rate_limiter,
+        );
         let _applied = self.config.apply(Change::PatchDrive(resize.patch));
     }
 

@@ -19,7 +19,8 @@ use api_json::{ReadError, read};
 use api_rules::{Change, Phase, decide};
 use http_stream::{Next, Request};
 use monitor_plans::{
-    Plan, Task, create, patch_drive, patch_metadata, put_drive, put_metadata, restore, start,
+    Plan, Task, create, patch_drive, patch_metadata, put_drive, put_interface, put_metadata,
+    restore, start,
 };
 use refusals::Refusal;
 use vm_outside::Files;
@@ -88,6 +89,9 @@ impl LiveMachine {
             Change::LoadSnapshot(load) => Task::Plan(restore(self.alloc, &load, files)),
             Change::PutDrive(drive) => Task::Plan(put_drive(self.alloc, &self.config, drive)),
             Change::PatchDrive(patch) => Task::Plan(patch_drive(&self.config, patch, files)),
+            Change::PutInterface(interface) => {
+                Task::Plan(put_interface(self.alloc, &self.config, interface))
+            }
             Change::PutMetadata(body) => Task::Plan(put_metadata(self.alloc, body)),
             Change::PatchMetadata(patch) => Task::Plan(patch_metadata(&self.metadata, &patch)),
             Change::CreateSnapshot(create) => self.task_of_create(create),

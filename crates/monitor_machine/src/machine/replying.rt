@@ -1,6 +1,6 @@
 // What is answered to something that is due.
 ghost use Rattle.std.specs.Prelude.{◌≡◌, ◌⊎◌, ◌++◌, false, true, IfOk, None, OnOk, OnErr};
-ghost use Rattle.flat_machine.specs.Ready.{AreFitting, IsFitting};
+ghost use Rattle.flat_machine.specs.Ready.{AreFitting, AreLinked, IsFitting};
 ghost use Rattle.vm_config.specs.Changes.{changed};
 ghost use Rattle.vm_config.specs.declared.change.Change.TheVariants as change;
 ghost use Rattle.vm_outside.specs.Filing.{SameFiles};
@@ -20,7 +20,7 @@ use monitor_plans::{Plan, Restored, Task};
 use refusals::Refusal;
 use response_form::{ResponseForm, write_response};
 use std::alloc::AllocError;
-use vm_config::Drives;
+use vm_config::{Drives, Interfaces};
 use vm_outside::Files;
 use vm_types::ByteList;
 use vm_world::World;
@@ -132,11 +132,19 @@ impl LiveMachine {
     }
 
     fn take_drives(&mut self, drives: Drives)
-        requires fit { AreFitting drives self.old.config.balloon }
+        requires fit { AreFitting drives self.old.config.interfaces self.old.config.balloon }
         requires early { self.old.guest ≡ None }
         ensures { PlanLeaves (Plan.Drives drives) self.old self.new }
     {
         self.config.set_drives(drives);
+    }
+
+    fn take_interfaces(&mut self, interfaces: Interfaces)
+        requires fit { AreLinked self.old.config.drives interfaces self.old.config.balloon }
+        requires early { self.old.guest ≡ None }
+        ensures { PlanLeaves (Plan.Interfaces interfaces) self.old self.new }
+    {
+        self.config.set_interfaces(interfaces);
     }
 
     fn take_metadata(&mut self, metadata: Store)
@@ -178,6 +186,7 @@ impl LiveMachine {
             Plan::Refused(_) => {}
             Plan::Changes(change) => self.take_change(change),
             Plan::Drives(drives) => self.take_drives(drives),
+            Plan::Interfaces(interfaces) => self.take_interfaces(interfaces),
             Plan::Resizes(resize) => self.take_file(resize),
             Plan::Stores(metadata) => self.take_metadata(metadata),
             Plan::Starts(guest) => self.begin(guest),

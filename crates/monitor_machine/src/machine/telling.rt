@@ -4,7 +4,7 @@ ghost use Rattle.api_calls.specs.Form.{holds};
 ghost use Rattle.api_calls.specs.Limits.{is_limiter};
 ghost use Rattle.vm_config.specs.declared.change.Change.TheVariants as change;
 ghost use Rattle.vm_config.specs.Changes.{with_amount, with_interval};
-ghost use Rattle.vm_config.specs.Devices.{balloon_device};
+ghost use Rattle.vm_config.specs.Devices.{balloon_device, interface_device};
 ghost use Rattle.guest_devices.specs.declared.device.Device.{Device};
 ghost use Rattle.guest_devices.specs.Kept.{is_kept};
 ghost use Rattle.guest_devices.specs.Ports.{shown_by};
@@ -14,15 +14,16 @@ ghost use Rattle.flat_machine.specs.Balloon as balloons;
 ghost use Rattle.flat_machine.specs.Ready.{IsFitting};
 ghost use Rattle.flat_machine.specs.Requests.{shows_by};
 ghost use Rattle.vm_world.specs.Worlds.{IsWorld};
-ghost use Rattle.monitor_machine.specs.Telling.{Relimits, Retargets, Retimes, TellsChange, TellsDevice, statistics_at, told_by};
+ghost use Rattle.monitor_plans.specs.Limiting.{tells_of};
+ghost use Rattle.monitor_machine.specs.Telling.{Relimits, RelimitsBoth, Retargets, Retimes, TellsChange, TellsDevice, statistics_at, told_by};
 
 use crate::machine::LiveMachine;
-use api_calls::{Balloon, BalloonPatch, Limiter, StatisticsPatch};
+use api_calls::{Balloon, BalloonPatch, InterfacePatch, Limiter, StatisticsPatch};
 use api_rules::Change;
 use guest_devices::DeviceChange;
 use monitor_plans::{
-    TakenConfig, amount_patched, balloon_number, device_number, interval_patched, interval_told,
-    limits_told, target_shown,
+    LimitsOf, TakenConfig, amount_patched, balloon_number, device_number, interface_number,
+    interval_patched, interval_told, limits_told, target_shown,
 };
 use vm_config::Statistics;
 use vm_world::World;
@@ -50,15 +51,30 @@ pub(super) fn tell_device(guest: &mut Option<World>, device: Option<u8>, change:
     }
 }
 
-/// It is told of its limits, if they are given.
-pub(super) fn tell_limits(guest: &mut Option<World>, device: Option<u8>, limiter: &Option<Limiter>)
+/// It is told of these limits of it, if they are given.
+pub(super) fn tell_limits(
+    guest: &mut Option<World>,
+    device: Option<u8>,
+    of: LimitsOf,
+    limiter: &Option<Limiter>,
+)
     requires { holds is_limiter limiter.now ≡ true }
-    ensures { Relimits limiter.now device guest.old guest.new }
+    ensures { Relimits (tells_of of) limiter.now device guest.old guest.new }
 {
     let Some(limiter) = limiter else {
         return;
     };
-    tell_device(guest, device, limits_told(limiter));
+    tell_device(guest, device, limits_told(of, limiter));
+}
+
+// The device of an interface is told of both limits.
+fn tell_interface(guest: &mut Option<World>, config: &TakenConfig, patch: &InterfacePatch)
+    requires { IsFitting config.now (change.PatchInterface patch.now) }
+    ensures { RelimitsBoth patch.now (interface_device config.now patch.now.iface_id) guest.old guest.new }
+{
+    let device = interface_number(config, patch.iface_id.as_str());
+    tell_limits(guest, device, LimitsOf::Receives, &patch.rx_rate_limiter);
+    tell_limits(guest, device, LimitsOf::Transmits, &patch.tx_rate_limiter);
 }
 
 // What the port of the balloon shows once it is to take so much.
@@ -124,8 +140,9 @@ pub(super) fn tell_change(guest: &mut Option<World>, config: &TakenConfig, chang
     match change {
         Change::PatchDrive(patch) => {
             let device = device_number(config, patch.drive_id.as_str());
-            tell_limits(guest, device, &patch.rate_limiter);
+            tell_limits(guest, device, LimitsOf::Requests, &patch.rate_limiter);
         }
+        Change::PatchInterface(patch) => tell_interface(guest, config, patch),
         Change::PatchBalloon(patch) => tell_amount(guest, config, patch),
         Change::PatchStatistics(patch) => tell_interval(guest, config, patch),
         _ => {}

@@ -15,6 +15,7 @@ fn statistics_of(device: &Device) -> Option<Statistics>
     match device {
         Device::Balloon(balloon) => Some(balloon.state().kind.statistics()),
         Device::Block(_) => None,
+        Device::Net(_) => None,
     }
 }
 

@@ -3,12 +3,12 @@ use Rattle.queue_device.specs.declared.device.QueueRounds.{QueueRounds}
 use Rattle.balloon_device.specs.Work.{Kept}
 use Rattle.guest_devices.specs.declared.device.Device.TheVariants as device
 use Rattle.guest_devices.specs.Kept.{is_sized, kept_of}
-use Rattle.guest_devices.proofs.OfBalloon.{kept_is}
+use Rattle.guest_devices.proofs.OfKind.{kept_is}
 use Rattle.guest_devices.proofs.Placed.{kept_from}
 use Rattle.guest_devices.proofs.balloon.kept_balloon.Goals as goal
 
 pub returns-clause-kept : goal.returns-clause-kept
 returns-clause-kept c =
-    kept_is c.args.balloon.now
+    kept_is (device.Balloon c.args.balloon.now)
     (kept_from (device.Balloon c.args.balloon.now) c.state-kept.ensures.is
     (subst (λ (b : QueueRounds Kept). is_sized (kept_of (device.Balloon b)) ≡ true) c.state-kept.ensures.state c.has_sizes.ensures))

@@ -3,12 +3,12 @@ use Rattle.queue_device.specs.declared.device.QueueRounds.{QueueRounds}
 use Rattle.block_device.specs.declared.kind.BlockKind.{BlockKind}
 use Rattle.guest_devices.specs.declared.device.Device.TheVariants as device
 use Rattle.guest_devices.specs.Kept.{is_sized, kept_of}
-use Rattle.guest_devices.proofs.OfBlock.{kept_is}
+use Rattle.guest_devices.proofs.OfKind.{kept_is}
 use Rattle.guest_devices.proofs.Placed.{kept_from}
 use Rattle.guest_devices.proofs.block.kept_block.Goals as goal
 
 pub returns-clause-kept : goal.returns-clause-kept
 returns-clause-kept c =
-    kept_is c.args.block.now
+    kept_is (device.Block c.args.block.now)
     (kept_from (device.Block c.args.block.now) c.state-kept.ensures.is
     (subst (λ (b : QueueRounds BlockKind). is_sized (kept_of (device.Block b)) ≡ true) c.state-kept.ensures.state c.has_sizes.ensures))

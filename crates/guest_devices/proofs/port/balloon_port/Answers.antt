@@ -1,7 +1,6 @@
-use Rattle.std.proofs.Common.{subst, sym}
-use Rattle.guest_devices.specs.declared.new_device.NewDevice.{NewDevice}
-use Rattle.guest_devices.specs.Devices.{FitsNew}
+use Rattle.guest_devices.specs.declared.new_device.NewDevice.TheVariants as starts
+use Rattle.guest_devices.proofs.OfKind.{fits_is}
 use Rattle.guest_devices.proofs.port.balloon_port.Goals as goal
 
 pub returns-clause-fits : goal.returns-clause-fits
-returns-clause-fits c = λ new same. subst (λ (x : NewDevice). FitsNew x) (sym same) tt
+returns-clause-fits c = fits_is (starts.Balloon c.args.what.now) tt

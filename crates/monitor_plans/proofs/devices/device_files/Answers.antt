@@ -1,7 +1,7 @@
 use Rattle.std.proofs.Common.{◌∙◌, ap, List}
 use Rattle.vm_config.specs.Drives.{in_order}
 use Rattle.guest_devices.specs.declared.new_device.NewDevice.{NewDevice}
-use Rattle.monitor_plans.specs.Starting.{with_balloon}
+use Rattle.monitor_plans.specs.Starting.{with_others}
 use Rattle.monitor_plans.proofs.DevicesMade.{fit_with, kinds_with, made_of, many_with}
 use Rattle.monitor_plans.proofs.DrivesAsked.{drives_of}
 use Rattle.monitor_plans.proofs.devices.device_files.Goals as goal
@@ -9,26 +9,26 @@ use Rattle.monitor_plans.proofs.devices.device_files.Goals as goal
 pub drive_files-requires : goal.drive_files-requires
 drive_files-requires g c = drives_of c.args.config.now.drives c.requires.drives
 
-pub returns-in-Ok-with_balloon-clause-devices : goal.returns-in-Ok-with_balloon-clause-devices
-returns-in-Ok-with_balloon-clause-devices g c = λ told.
+pub returns-in-Ok-with_others-clause-devices : goal.returns-in-Ok-with_others-clause-devices
+returns-in-Ok-with_others-clause-devices g c = λ told.
     let config = c.args.config.now in
     let saved = (g.F.Files.known c.args.files.now).saved in
-    c.in-Ok-with_balloon.ensures.drives ∙ ap (λ (l : List NewDevice). with_balloon l config.balloon) (c.in-Ok.ensures.drives told)
-    ∙ made_of (in_order config.drives) config.balloon saved
+    c.in-Ok-with_others.ensures.drives ∙ ap (λ (l : List NewDevice). with_others l config.interfaces config.balloon) (c.in-Ok.ensures.drives told)
+    ∙ made_of (in_order config.drives) config.interfaces config.balloon saved
 
-pub returns-in-Ok-with_balloon-clause-there : goal.returns-in-Ok-with_balloon-clause-there
-returns-in-Ok-with_balloon-clause-there g c = λ told. c.in-Ok-with_balloon.ensures.there ∙ c.in-Ok.ensures.there told
+pub returns-in-Ok-with_others-clause-there : goal.returns-in-Ok-with_others-clause-there
+returns-in-Ok-with_others-clause-there g c = λ told. c.in-Ok-with_others.ensures.there ∙ c.in-Ok.ensures.there told
 
-pub returns-in-Ok-with_balloon-clause-many : goal.returns-in-Ok-with_balloon-clause-many
-returns-in-Ok-with_balloon-clause-many g c =
-    rw c.in-Ok-with_balloon.ensures.drives (many_with c.in-Ok.found.drives.items c.args.config.now.balloon _ c.in-Ok.ensures.many)
+pub returns-in-Ok-with_others-clause-many : goal.returns-in-Ok-with_others-clause-many
+returns-in-Ok-with_others-clause-many g c =
+    rw c.in-Ok-with_others.ensures.drives (many_with c.in-Ok.found.drives.items c.args.config.now.interfaces c.args.config.now.balloon _ c.in-Ok.ensures.many)
 
-pub returns-in-Ok-with_balloon-clause-kinds : goal.returns-in-Ok-with_balloon-clause-kinds
-returns-in-Ok-with_balloon-clause-kinds g c =
+pub returns-in-Ok-with_others-clause-kinds : goal.returns-in-Ok-with_others-clause-kinds
+returns-in-Ok-with_others-clause-kinds g c =
     let config = c.args.config.now in
-    rw c.in-Ok-with_balloon.ensures.drives
-    (kinds_with c.in-Ok.found.drives.items config.drives config.balloon c.in-Ok.ensures.many c.in-Ok.ensures.fit)
+    rw c.in-Ok-with_others.ensures.drives
+    (kinds_with c.in-Ok.found.drives.items config.drives config.interfaces config.balloon c.in-Ok.ensures.many c.in-Ok.ensures.fit)
 
-pub returns-in-Ok-with_balloon-clause-fit : goal.returns-in-Ok-with_balloon-clause-fit
-returns-in-Ok-with_balloon-clause-fit g c =
-    rw c.in-Ok-with_balloon.ensures.drives (fit_with c.in-Ok.found.drives.items c.args.config.now.balloon c.in-Ok.ensures.fit)
+pub returns-in-Ok-with_others-clause-fit : goal.returns-in-Ok-with_others-clause-fit
+returns-in-Ok-with_others-clause-fit g c =
+    rw c.in-Ok-with_others.ensures.drives (fit_with c.in-Ok.found.drives.items c.args.config.now.interfaces c.args.config.now.balloon c.in-Ok.ensures.fit)

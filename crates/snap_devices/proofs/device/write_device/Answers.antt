@@ -1,5 +1,5 @@
 -- The byte of its kind is put at the end, and what is kept of it.
-use Rattle.snap_devices.proofs.Writing.{balloon_device, block_device}
+use Rattle.snap_devices.proofs.Writing.{balloon_device, block_device, net_device}
 use Rattle.snap_devices.proofs.device.write_device.Goals as goal
 
 pub returns-in_ok-write_block-in-Block-clause-fits : goal.returns-in_ok-write_block-in-Block-clause-fits
@@ -11,6 +11,16 @@ pub returns-in_ok-write_block-in-Block-clause-bytes : goal.returns-in_ok-write_b
 returns-in_ok-write_block-in-Block-clause-bytes c =
     (block_device c.args.it.now c.in-Block.block c.args.out.now.items c.write.new.out.items c.write_block.new.out.items c.in-Block.is
     c.in_ok-write_block-in-Block.ensures.fits c.in_ok-write-in-Block.ensures.bytes c.in_ok-write_block-in-Block.ensures.bytes).bytes
+
+pub returns-in_ok-write_net-in-Net-clause-fits : goal.returns-in_ok-write_net-in-Net-clause-fits
+returns-in_ok-write_net-in-Net-clause-fits c =
+    (net_device c.args.it.now c.in-Net.net c.args.out.now.items c.write-in-Net.new.out.items c.write_net.new.out.items c.in-Net.is
+    c.in_ok-write_net-in-Net.ensures.fits c.in_ok-write-in-Net.ensures.bytes c.in_ok-write_net-in-Net.ensures.bytes).fits
+
+pub returns-in_ok-write_net-in-Net-clause-bytes : goal.returns-in_ok-write_net-in-Net-clause-bytes
+returns-in_ok-write_net-in-Net-clause-bytes c =
+    (net_device c.args.it.now c.in-Net.net c.args.out.now.items c.write-in-Net.new.out.items c.write_net.new.out.items c.in-Net.is
+    c.in_ok-write_net-in-Net.ensures.fits c.in_ok-write-in-Net.ensures.bytes c.in_ok-write_net-in-Net.ensures.bytes).bytes
 
 pub returns-in_ok-write_balloon-in-Balloon-clause-fits : goal.returns-in_ok-write_balloon-in-Balloon-clause-fits
 returns-in_ok-write_balloon-in-Balloon-clause-fits c =

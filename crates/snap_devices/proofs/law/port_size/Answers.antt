@@ -1,5 +1,5 @@
 use Rattle.snap_devices.proofs.Held.{device_held}
-use Rattle.snap_devices.proofs.BalloonNarrow.{device_narrow}
+use Rattle.snap_devices.proofs.DeviceNarrow.{device_narrow}
 use Rattle.snap_devices.proofs.Fits.{device_fits}
 use Rattle.snap_devices.proofs.Ports.{port_fits}
 -- The fields' lengths add up.

@@ -1,20 +1,35 @@
 use Rattle.std.proofs.Common.{sym, arith, ◌∙◌}
-use Rattle.snap_state.proofs.HasDevices.{balloon_due, drive_due, none_due}
+use Rattle.snap_state.proofs.HasDevices.{balloon_due, drive_due, interface_due, none_due}
 use Rattle.snap_state.proofs.kinds.kind_due.Goals as goal
 
 pub returns-then-number-drives : goal.returns-then-number-drives
 returns-then-number-drives c =
     let own = c.args.configuration.now in
-    sym (drive_due own.drives own.balloon c.args.number (omega (arith, c.if-number-drives.true, c.count-drives.ensures)))
+    sym (drive_due own.drives own.interfaces own.balloon c.args.number
+    (omega (arith, c.if-number-drives.true, c.count-drives.ensures)))
 
-pub returns-then-number-drives-2 : goal.returns-then-number-drives-2
-returns-then-number-drives-2 c =
+pub returns-then-number-behind : goal.returns-then-number-behind
+returns-then-number-behind c =
+    let own = c.args.configuration.now in
+    sym (interface_due own.drives own.interfaces own.balloon c.args.number
+    (omega (arith, c.if-number-drives.false, c.count-drives.ensures))
+    (omega (arith, c.if-number-behind.true, c.count-drives.ensures, c.count-behind.ensures)))
+
+pub returns-then-number-behind-2 : goal.returns-then-number-behind-2
+returns-then-number-behind-2 c =
     let own = c.args.configuration.now in
     c.balloon_kind.ensures
-    ∙ sym (balloon_due own.drives own.balloon c.args.number (omega (arith, c.if-number-drives-2.true, c.count-drives.ensures)))
+    ∙ sym (balloon_due own.drives own.interfaces own.balloon c.args.number
+    (omega (arith, c.if-number-behind-2.true, c.count-drives.ensures, c.count-behind.ensures)))
 
 pub returns : goal.returns
 returns c =
     let own = c.args.configuration.now in
-    sym (none_due own.drives own.balloon c.args.number
-    (omega (arith, c.if-number-drives.false, c.if-number-drives-2.false, c.count-drives.ensures)))
+    sym (none_due own.drives own.interfaces own.balloon c.args.number
+    (omega (
+      arith,
+      c.if-number-behind.false,
+      c.if-number-behind-2.false,
+      c.count-drives.ensures,
+      c.count-behind.ensures,
+    )))

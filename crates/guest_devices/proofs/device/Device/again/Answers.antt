@@ -4,5 +4,8 @@ use Rattle.guest_devices.proofs.device.Device.again.Goals as goal
 pub returns-in-Block-clause-kept : goal.returns-in-Block-clause-kept
 returns-in-Block-clause-kept c = c.block_again.ensures.kept c.args.self.now c.in-Block.is
 
+pub returns-in-Net-clause-kept : goal.returns-in-Net-clause-kept
+returns-in-Net-clause-kept c = c.net_again.ensures.kept c.args.self.now c.in-Net.is
+
 pub returns-in-Balloon-clause-kept : goal.returns-in-Balloon-clause-kept
 returns-in-Balloon-clause-kept c = c.balloon_again.ensures.kept c.args.self.now c.in-Balloon.is

@@ -5,5 +5,8 @@ use Rattle.guest_devices.proofs.device.Device.change.Goals as goal
 pub returns-in-Block : goal.returns-in-Block
 returns-in-Block c = c.tell_block.ensures c.args.self.now (device.Block c.tell_block.new.block) c.in-Block.is refl
 
+pub returns-in-Net : goal.returns-in-Net
+returns-in-Net c = c.tell_net.ensures c.args.self.now (device.Net c.tell_net.new.net) c.in-Net.is refl
+
 pub returns-in-Balloon : goal.returns-in-Balloon
 returns-in-Balloon c = c.tell_balloon.ensures c.args.self.now (device.Balloon c.tell_balloon.new.balloon) c.in-Balloon.is refl

@@ -7,5 +7,8 @@ use Rattle.guest_devices.proofs.device.Device.kind.Goals as goal
 pub returns-in-Block : goal.returns-in-Block
 returns-in-Block c = ap (λ (d : Device). number_of (kept_of d).kind) (sym c.in-Block.is)
 
+pub returns-in-Net : goal.returns-in-Net
+returns-in-Net c = ap (λ (d : Device). number_of (kept_of d).kind) (sym c.in-Net.is)
+
 pub returns-in-Balloon : goal.returns-in-Balloon
 returns-in-Balloon c = ap (λ (d : Device). number_of (kept_of d).kind) (sym c.in-Balloon.is)

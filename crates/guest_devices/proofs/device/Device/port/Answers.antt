@@ -4,5 +4,8 @@ use Rattle.guest_devices.proofs.device.Device.port.Goals as goal
 pub returns-in-Block-clause-kept : goal.returns-in-Block-clause-kept
 returns-in-Block-clause-kept c = c.port_of_block.ensures.kept c.args.self.now c.in-Block.is
 
+pub returns-in-Net-clause-kept : goal.returns-in-Net-clause-kept
+returns-in-Net-clause-kept c = c.port_of_net.ensures.kept c.args.self.now c.in-Net.is
+
 pub returns-in-Balloon-clause-kept : goal.returns-in-Balloon-clause-kept
 returns-in-Balloon-clause-kept c = c.port_of_balloon.ensures.kept c.args.self.now c.in-Balloon.is

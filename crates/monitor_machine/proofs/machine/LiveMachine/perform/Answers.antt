@@ -19,6 +19,14 @@ pub take_drives-requires-clause-early : goal.take_drives-requires-clause-early
 take_drives-requires-clause-early c =
     (subst (λ (p : Plan). KeepsReady p c.args.self.now.config c.args.self.now.guest) c.in-Drives.is c.requires).1
 
+pub take_interfaces-requires-clause-fit : goal.take_interfaces-requires-clause-fit
+take_interfaces-requires-clause-fit c =
+    (subst (λ (p : Plan). KeepsReady p c.args.self.now.config c.args.self.now.guest) c.in-Interfaces.is c.requires).0
+
+pub take_interfaces-requires-clause-early : goal.take_interfaces-requires-clause-early
+take_interfaces-requires-clause-early c =
+    (subst (λ (p : Plan). KeepsReady p c.args.self.now.config c.args.self.now.guest) c.in-Interfaces.is c.requires).1
+
 pub take_file-requires : goal.take_file-requires
 take_file-requires c =
     (subst (λ (p : Plan). KeepsReady p c.args.self.now.config c.args.self.now.guest) c.in-Resizes.is c.requires).0

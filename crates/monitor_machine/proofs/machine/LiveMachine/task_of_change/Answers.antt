@@ -5,7 +5,7 @@ use Rattle.flat_machine.specs.Ready.{IsFitting}
 use Rattle.monitor_machine.specs.Live.{Live}
 use Rattle.monitor_machine.specs.Plans.{IsDue}
 use Rattle.monitor_plans.specs.Plans.{IsEarly}
-use Rattle.monitor_machine.proofs.Planning.{drives_plan, patch_plan, put_plan, refile_plan, restore_plan, start_plan}
+use Rattle.monitor_machine.proofs.Planning.{drives_plan, interfaces_plan, patch_plan, put_plan, refile_plan, restore_plan, start_plan}
 use Rattle.monitor_machine.specs.Seen.{live_of}
 use Rattle.monitor_machine.proofs.machine.LiveMachine.task_of_change.Goals as goal
 
@@ -41,6 +41,15 @@ returns-in-PutDrive-clause-task g c =
           c.put_drive.ensures.gives,
     )
 
+pub returns-in-PutInterface-clause-task : goal.returns-in-PutInterface-clause-task
+returns-in-PutInterface-clause-task g c =
+    rw (← c.self.view_is) (
+      [],
+      λ told m is given asks.
+          interfaces_plan c.put_interface.result c.in-PutInterface.interface (live_of c.self.inside) m given is.own.config_is
+          (asks ∙ ap Ok c.in-PutInterface.is) c.put_interface.ensures.gives,
+    )
+
 pub returns-in-PatchDrive-clause-task : goal.returns-in-PatchDrive-clause-task
 returns-in-PatchDrive-clause-task g c =
     rw (← c.self.view_is) (
@@ -71,6 +80,11 @@ put_drive-requires g c =
     subst (λ (l : Live). IsFitting l.config (change.PutDrive c.in-PutDrive.drive)) (sym c.self.view_is)
     (subst (λ (x : Change). IsFitting c.args.self.now.config x) c.in-PutDrive.is c.requires.fits)
 
+pub put_interface-requires : goal.put_interface-requires
+put_interface-requires g c =
+    subst (λ (l : Live). IsFitting l.config (change.PutInterface c.in-PutInterface.interface)) (sym c.self.view_is)
+    (subst (λ (x : Change). IsFitting c.args.self.now.config x) c.in-PutInterface.is c.requires.fits)
+
 pub patch_drive-requires : goal.patch_drive-requires
 patch_drive-requires g c =
     subst (λ (l : Live). IsFitting l.config (change.PatchDrive c.in-PatchDrive.patch)) (sym c.self.view_is)
@@ -91,6 +105,12 @@ returns-in-PutDrive-clause-keeps g c =
     let early = subst (λ (x : Change). IsEarly x c.args.self.now.guest) c.in-PutDrive.is c.requires.early in
     rw (← c.self.view_is)
     (c.put_drive.ensures.keeps (live_of c.self.inside).guest (subst (λ (l : Live). l.guest ≡ None) (sym c.self.view_is) early))
+
+pub returns-in-PutInterface-clause-keeps : goal.returns-in-PutInterface-clause-keeps
+returns-in-PutInterface-clause-keeps g c =
+    let early = subst (λ (x : Change). IsEarly x c.args.self.now.guest) c.in-PutInterface.is c.requires.early in
+    rw (← c.self.view_is)
+    (c.put_interface.ensures.keeps (live_of c.self.inside).guest (subst (λ (l : Live). l.guest ≡ None) (sym c.self.view_is) early))
 
 pub returns-in-PatchDrive-clause-keeps : goal.returns-in-PatchDrive-clause-keeps
 returns-in-PatchDrive-clause-keeps g c = rw (← c.self.view_is) (c.patch_drive.ensures.keeps (live_of c.self.inside).guest)

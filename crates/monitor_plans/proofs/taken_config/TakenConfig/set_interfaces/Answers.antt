@@ -1,0 +1,16 @@
+use Rattle.std.proofs.Common.{sym, subst}
+use Rattle.vm_config.specs.declared.config.Config.{Config}
+use Rattle.flat_machine.specs.Ready.{AreLinked}
+use Rattle.monitor_plans.proofs.taken_config.TakenConfig.set_interfaces.Goals as goal
+
+pub invariant_of-self : goal.invariant_of-self
+invariant_of-self c =
+    let fit = subst (λ (k : Config). AreLinked k.drives c.args.interfaces k.balloon) (sym c.self.view_is) c.requires in
+    rw c.set_interfaces.ensures (record {
+      source = c.self.invariant.source;
+      drives = c.self.invariant.drives;
+      interfaces = fit.0;
+      machine = c.self.invariant.machine;
+      balloon = c.self.invariant.balloon;
+      room = fit.1;
+    })
