@@ -49,10 +49,10 @@ def put(conn, path, body):
     ask(conn, "PUT", path, body)
 
 
-def calls(image, mib, drive=None, limits="null"):
-    """The calls that start a machine of one hart, as paths and bodies; with a drive, if one is named, that has these limits."""
+def calls(image, mib, drive=None, limits="null", harts=1):
+    """The calls that start a machine, as paths and bodies; with a drive, if one is named, that has these limits."""
     yield "/boot-source", f'{{"kernel_image_path":"{image}"}}'
-    yield "/machine-config", f'{{"vcpu_count":1,"mem_size_mib":{mib}}}'
+    yield "/machine-config", f'{{"vcpu_count":{harts},"mem_size_mib":{mib}}}'
     if drive:
         fields = f'"drive_id":"root","path_on_host":"{drive}","is_root_device":true,"cache_type":"Writeback","rate_limiter":{limits}'
         yield "/drives/root", f"{{{fields}}}"

@@ -1,12 +1,12 @@
 // Gives memory back to the host and takes it again, and tells how much it has left: a driver of a memory balloon (VIRTIO 1.2,
-// 5.5). That has three queues, and virtio.c drives one: what it has for any queue is used here.
-#include "virtio.c"
-
-#define VIRTIO_ID_BALLOON 5
-#define VIRTIO_BALLOON_F_STATS_VQ (1UL << 1)
+// 5.5).
 
 // Its queues, of which the last is there for statistics alone.
 enum { INFLATE, DEFLATE, STATS, QUEUES };
+#include "queues.c"
+
+#define VIRTIO_ID_BALLOON 5
+#define VIRTIO_BALLOON_F_STATS_VQ (1UL << 1)
 
 // Its configuration: how many pages the balloon is to have, and how many it has.
 #define NUM_PAGES Config
@@ -24,7 +24,6 @@ struct virtio_balloon_stat {
 #define POOL 256
 
 // What the device reads and writes.
-static volatile struct virtq queues[QUEUES];
 static volatile u32 numbers[POOL] __attribute__((aligned(4 * POOL)));
 static volatile struct virtio_balloon_stat stats[2] __attribute__((aligned(32)));
 
@@ -45,61 +44,12 @@ static volatile u64 *page(u32 index)
     return (u64 *)(pool + PAGE_SIZE * (u64)index);
 }
 
-static void set_up(u32 number)
-{
-    volatile struct virtq *queue = &queues[number];
-    write_register(QueueSel, number);
-    if (read_register(QueueReady) != 0 || read_register(QueueNumMax) < QUEUE_SIZE)
-        give_up("the device has no such queue");
-    write_register(QueueNum, QUEUE_SIZE);
-    write_halves(QueueDescLow, QueueDescHigh, queue->desc);
-    write_halves(QueueDriverLow, QueueDriverHigh, &queue->avail);
-    write_halves(QueueDeviceLow, QueueDeviceHigh, &queue->used);
-    write_register(QueueReady, 1);
-}
-
-// 3.1.1
-static void bring_up_all(void)
-{
-    write_register(Status, 0);
-    while (read_register(Status) != 0) {
-    }
-    write_register(Status, ACKNOWLEDGE);
-    write_register(Status, ACKNOWLEDGE | DRIVER);
-    features = agree_on_features(VIRTIO_F_VERSION_1 | VIRTIO_BALLOON_F_STATS_VQ);
-    for (u32 number = 0; number < (has_stats() ? QUEUES : STATS); number++)
-        set_up(number);
-    write_register(Status, ACKNOWLEDGE | DRIVER | FEATURES_OK | DRIVER_OK);
-}
-
-// Offers a chain of one descriptor, which the device reads (2.7.13).
-static void offer(u32 number, volatile void *bytes, u32 len)
-{
-    volatile struct virtq *queue = &queues[number];
-    queue->desc[0] = (struct virtq_desc){(u64)bytes, len, 0, 0};
-    queue->avail.ring[queue->avail.idx % QUEUE_SIZE] = 0;
-    barrier();
-    queue->avail.idx++;
-    barrier();
-    write_register(QueueNotify, number);
-}
-
-// Acknowledges what there is of interrupts, and whether the device has used all that was offered in a queue.
-static int is_used(u32 number)
-{
-    write_register(InterruptACK, read_register(InterruptStatus));
-    if (read_register(Status) & DEVICE_NEEDS_RESET)
-        give_up("the device needs a reset");
-    barrier();
-    return queues[number].used.idx == queues[number].avail.idx;
-}
-
 // 5.5.6.3
 static void tell(void)
 {
     stats[0] = (struct virtio_balloon_stat){VIRTIO_BALLOON_S_MEMFREE, (u64)PAGE_SIZE * (POOL - given)};
     stats[1] = (struct virtio_balloon_stat){VIRTIO_BALLOON_S_MEMTOT, (u64)PAGE_SIZE * POOL};
-    offer(STATS, stats, sizeof stats);
+    offer(STATS, stats, sizeof stats, 0);
 }
 
 // Lists pages of the pool by their numbers, which count 4,096 bytes (5.5.6), and waits until the device has read them.
@@ -107,7 +57,7 @@ static void list(u32 queue, u32 first, u32 count)
 {
     for (u32 index = 0; index < count; index++)
         numbers[index] = (u32)((u64)page(first + index) / 4096);
-    offer(queue, numbers, 4 * count);
+    offer(queue, numbers, 4 * count, 0);
     while (!is_used(queue)) {
     }
 }
@@ -166,7 +116,8 @@ void run(u64 hart)
 {
     (void)hart;
     find_device(VIRTIO_ID_BALLOON);
-    bring_up_all();
+    features = begin(VIRTIO_F_VERSION_1 | VIRTIO_BALLOON_F_STATS_VQ);
+    finish_with(has_stats() ? QUEUES : STATS);
     if (has_stats())
         tell();
     do {

@@ -73,9 +73,9 @@ static u64 agree_on_features(u64 wanted)
 }
 
 // 4.2.3.2
-static void set_up_queue(volatile struct virtq *queue)
+static void set_up_queue(u32 number, volatile struct virtq *queue)
 {
-    write_register(QueueSel, 0);
+    write_register(QueueSel, number);
     if (read_register(QueueReady) != 0 || read_register(QueueNumMax) < QUEUE_SIZE)
         give_up("the device has no such queue");
     write_register(QueueNum, QUEUE_SIZE);
@@ -85,17 +85,28 @@ static void set_up_queue(volatile struct virtq *queue)
     write_register(QueueReady, 1);
 }
 
-// 3.1.1
-u64 bring_up(u64 wanted, volatile struct virtq *queue)
+// 3.1.1, steps 1 to 6
+static u64 begin(u64 wanted)
 {
     write_register(Status, 0);
     while (read_register(Status) != 0) {
     }
     write_register(Status, ACKNOWLEDGE);
     write_register(Status, ACKNOWLEDGE | DRIVER);
-    u64 features = agree_on_features(wanted);
-    set_up_queue(queue);
+    return agree_on_features(wanted);
+}
+
+// and its last one
+static void finish(void)
+{
     write_register(Status, ACKNOWLEDGE | DRIVER | FEATURES_OK | DRIVER_OK);
+}
+
+u64 bring_up(u64 wanted, volatile struct virtq *queue)
+{
+    u64 features = begin(wanted);
+    set_up_queue(0, queue);
+    finish();
     return features;
 }
 

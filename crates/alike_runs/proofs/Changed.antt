@@ -1,5 +1,5 @@
 -- Machines that are alike stay so where the same is changed of both.
-use Rattle.std.proofs.Common.{◌≡◌, ℕ, ◌+◌, Bool, if◌then◌else◌, zero, suc, refl, sym, ap, ◌∙◌, List, ◌∷◌, ◌++◌, length, map, Option, Some, None, inl, inr}
+use Rattle.std.proofs.Common.{◌≡◌, ℕ, Bool, if◌then◌else◌, zero, suc, refl, sym, ap, ◌∙◌, List, ◌∷◌, ◌++◌, length, map, Option, Some, None, inl, inr}
 use Rattle.std.specs.FinMap.{insert}
 use Rattle.vm_types.specs.declared.identity.Identity.{Identity}
 use Rattle.serde_json.specs.Data.{Data}

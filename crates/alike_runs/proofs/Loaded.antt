@@ -44,6 +44,7 @@ module _ (m k : Machine) (had : Guest) (it : SnapshotCreate) (load : SnapshotLoa
       λ i. record {
         boot_source = source_kept m.config.boot_source own.source i;
         drives = m.config.drives;
+        interfaces = m.config.interfaces;
         machine = record m.config.machine { track_dirty_pages = load.track_dirty_pages };
         balloon = m.config.balloon;
         configured = is_set i;

@@ -1,5 +1,5 @@
 -- A guest whose copy passes each test of a state file stays one.
-use Rattle.std.proofs.Common.{◌≡◌, ◌≤◌, ◌<◌, ℕ, zero, suc, ◌*◌, ◌%◌, Bool, true, false, cond, refl, sym, ap, subst, ◌∙◌, List, [], ◌∷◌, ◌++◌, length, replicate, Option, Some, None, slice_get, slice_set, arith}
+use Rattle.std.proofs.Common.{◌≡◌, ◌≤◌, ◌<◌, ℕ, zero, suc, ◌*◌, ◌%◌, Bool, true, false, cond, refl, sym, subst, ◌∙◌, List, [], ◌∷◌, ◌++◌, length, replicate, Option, Some, None, slice_get, arith}
 use Rattle.std.specs.List.{All}
 use Rattle.std.proofs.lemmas.Bool.{ltb-true}
 use Rattle.std.proofs.lemmas.List.{length-replicate, length-set}
@@ -20,7 +20,6 @@ use Rattle.guest_memory.specs.Reserved.{hart_limit}
 use Rattle.board_table.specs.Acts as board_acts
 use Rattle.board_table.specs.Board.{Board}
 use Rattle.board_table.specs.Kept as board_kept
-use Rattle.port_table.specs.Acts as port_acts
 use Rattle.port_table.specs.declared.kind.DeviceKind.{DeviceKind}
 use Rattle.port_table.specs.declared.state.PortState.{PortState}
 use Rattle.rv_supervisor.specs.declared.regs.Regs.{Regs}
@@ -39,7 +38,7 @@ use Rattle.flat_guest.specs.Changes.{board_shown, reset_guest, told}
 use Rattle.flat_guest.specs.Guest.{Guest, Wants, WantsFrom, unwritten}
 use Rattle.flat_guest.specs.Sound.{IsSound}
 use Rattle.flat_guest.specs.Start.{start_of_harts, started, timer_restarted}
-use Rattle.flat_guest.specs.Steps.{FlatStep, board_after, guest_after, memory_after, port_after, port_reply, ports_after}
+use Rattle.flat_guest.specs.Steps.{FlatStep, board_after, guest_after, memory_after, port_reply, ports_after}
 use Rattle.flat_guest.proofs.Lists.{get_lt}
 use Rattle.flat_guest.proofs.Soundness.{fit, hart_port_by, replied, same_hart, wants_from}
 use Rattle.guest_memory.proofs.Wholes.{booted_whole, touch_ram, touch_whole}

@@ -1,6 +1,6 @@
 -- A guest of which each number has its width: at the start, with what the API changes, behind a Reset, with a timer's new start, and
 -- over events of one actor.
-use Rattle.std.proofs.Common.{◌≡◌, ◌≤◌, ◌<◌, ◌^◌, ℕ, zero, suc, ◌+◌, ◌*◌, refl, sym, subst, List, [], ◌∷◌, length, map, Option, Some, None, slice_get, arith}
+use Rattle.std.proofs.Common.{◌≡◌, ◌≤◌, ◌^◌, ℕ, zero, suc, ◌+◌, ◌*◌, refl, subst, List, [], ◌∷◌, length, Option, Some, None, slice_get, arith}
 use Rattle.std.specs.List.{All}
 use Rattle.std.proofs.lemmas.List.Elements.{All-head, All-tail}
 use Rattle.vm_types.specs.declared.ids.ActorId.{ActorId}

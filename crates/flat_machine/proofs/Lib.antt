@@ -10,6 +10,7 @@ pub mod OneReplay
 pub mod Plain
 pub mod Pushed
 pub mod Ready
+pub mod ReadyGuests
 pub mod Reconfigured
 pub mod Sizes
 pub mod Small

@@ -42,13 +42,13 @@ use Rattle.guest_devices.specs.declared.device.Device.{Device}
 use Rattle.guest_devices.specs.declared.new_device.NewDevice.{NewDevice}
 use Rattle.guest_devices.specs.Ports.{port_at_start}
 use Rattle.flat_guest.specs.Changes.{reset_guest}
-use Rattle.flat_guest.specs.Guest.{Guest, is_actor, unwritten}
+use Rattle.flat_guest.specs.Guest.{Guest, is_actor}
 use Rattle.flat_guest.specs.Shaped.{IsShaped}
 use Rattle.flat_guest.specs.Sound.{IsSound}
-use Rattle.flat_guest.specs.Start.{started as started_guest, timer_restarted}
+use Rattle.flat_guest.specs.Start.{started as started_guest}
 use Rattle.flat_guest.specs.Steps.{FlatStep, Makes, is_given}
-use Rattle.flat_guest.proofs.Shaped.{shaped_drained, shaped_makes, shaped_next, shaped_restart, shaped_start, shaped_unwritten}
-use Rattle.flat_guest.proofs.Soundness.{sound_next, sound_reset, sound_restart, sound_start}
+use Rattle.flat_guest.proofs.Shaped.{shaped_makes, shaped_next, shaped_start}
+use Rattle.flat_guest.proofs.Soundness.{sound_next, sound_start}
 use Rattle.snap_state.specs.Valid.{kinds_of}
 use Rattle.flat_snapshot.specs.Copies.{configuration_of}
 use Rattle.flat_snapshot.specs.Found.{Snapshot, found}
@@ -56,11 +56,11 @@ use Rattle.flat_snapshot.specs.Ready.{IsConfigured}
 use Rattle.flat_snapshot.proofs.CarriedReady.{carried_ready}
 use Rattle.flat_snapshot.proofs.Finds.{finds}
 use Rattle.flat_snapshot.proofs.GoesOn.{carried_sound}
-use Rattle.flat_snapshot.proofs.Ready.{ready_reset, valid_copy, whole_copy}
+use Rattle.flat_snapshot.proofs.Ready.{valid_copy, whole_copy}
 use Rattle.flat_machine.specs.Given.{reply_given}
 use Rattle.flat_machine.specs.Outcome.{Left, Outcome}
 use Rattle.flat_machine.specs.Outcome.Outcome.{Answered, Failed, NoMemory}
-use Rattle.flat_machine.specs.Machine.{Machine, drained, drained_guest, new_machine, phase_of, running_by}
+use Rattle.flat_machine.specs.Machine.{Machine, drained, new_machine, phase_of, running_by}
 use Rattle.flat_machine.specs.Items.{ItemStep, MemoryLine, RegisterLine, RepliesLine, StepsLine, Talks}
 use Rattle.flat_machine.specs.Ready.{CanBeCopied, IsBaseBefore, IsReadyGuest, IsTaken, Ready, ReadyBy}
 use Rattle.flat_machine.specs.Limits.{limits_told, receives_told, transmits_told}
@@ -69,6 +69,7 @@ use Rattle.flat_machine.specs.Run.{Act, Run}
 use Rattle.flat_machine.proofs.Allowed.{IsAllowed, allowed_is, not_refused}
 use Rattle.flat_machine.proofs.Between.{allowed_later, by_either, leaves_of, one_many, several_many, started}
 use Rattle.flat_machine.proofs.Numbered.{found_numbered}
+use Rattle.flat_machine.proofs.ReadyGuests.{drained_ready, halted_ready, reset_ready, resumed_ready, unwritten_ready}
 use Rattle.flat_machine.proofs.Reconfigured.{amount_patched, drive_patched, interface_patched, interval_patched, relimited_ready, resized_ready, retargeted_ready, retimed_ready, start_kinds, start_many}
 use Rattle.flat_machine.proofs.Sizes.{booted_size, devices_fit, start_fits}
 use Rattle.flat_machine.proofs.Taken.{allowed_fits, bounded, changed_taken, configured_taken, default_taken, taken_configured}
@@ -84,58 +85,6 @@ guest_ready m g ready there = subst (λ (o : Option Guest). ReadyBy m.config m.p
 pub base_later : (next more : ℕ) (base : Option Identity) → next ≤ more → IsBaseBefore next base → IsBaseBefore more base
 base_later next more None later is = tt
 base_later next more (Some base) later (first, below) = (first, omega (arith, below, later))
-
--- ---- a guest that is changed
-
-restarted_ready : (config : Config) (paused : Bool) (g : Guest) → IsReadyGuest config paused g → IsReadyGuest config true (timer_restarted g)
-restarted_ready config paused g is = record {
-  sound = sound_restart g is.sound;
-  ready = record {
-    configured = is.ready.configured;
-    shaped = shaped_restart _ _ _ g is.ready.shaped;
-    devices = is.ready.devices;
-  };
-  rests = λ stands. refl;
-}
-
-pub halted_ready : (config : Config) (paused : Bool) (guest : Option Guest) → ReadyBy config paused guest → ReadyBy config true (halted paused guest)
-halted_ready config true guest is = is
-halted_ready config false None is = tt
-halted_ready config false (Some g) is = restarted_ready config false g is
-
-pub resumed_ready : (config : Config) (paused : Bool) (guest : Option Guest) → ReadyBy config paused guest → ReadyBy config false guest
-resumed_ready config paused None is = tt
-resumed_ready config paused (Some g) is = record { sound = is.sound; ready = is.ready; rests = λ stands. absurd cc }
-
-pub unwritten_ready : (config : Config) (paused : Bool) (g : Guest) → IsReadyGuest config paused g → IsReadyGuest config paused (unwritten g)
-unwritten_ready config paused g is = record {
-  sound = record { timer_on = is.sound.timer_on; harts_on = is.sound.harts_on; devices_on = is.sound.devices_on };
-  ready = record {
-    configured = is.ready.configured;
-    shaped = shaped_unwritten _ _ _ g is.ready.shaped;
-    devices = is.ready.devices;
-  };
-  rests = is.rests;
-}
-
-pub reset_ready : (config : Config) (paused : Bool) (g : Guest) → IsReadyGuest config paused g → IsReadyGuest config paused (reset_guest g)
-reset_ready config paused g is = record {
-  sound = sound_reset g is.sound;
-  ready = ready_reset config g is.ready;
-  rests = is.rests;
-}
-
-pub drained_ready : (config : Config) (paused : Bool) (guest : Option Guest) → ReadyBy config paused guest → ReadyBy config paused (drained_guest guest)
-drained_ready config paused None is = tt
-drained_ready config paused (Some g) is = record {
-  sound = record { timer_on = is.sound.timer_on; harts_on = is.sound.harts_on; devices_on = is.sound.devices_on };
-  ready = record {
-    configured = is.ready.configured;
-    shaped = shaped_drained _ _ _ g is.ready.shaped;
-    devices = is.ready.devices;
-  };
-  rests = is.rests;
-}
 
 -- ---- what is configured, and told to its devices
 

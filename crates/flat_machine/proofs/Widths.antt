@@ -1,6 +1,6 @@
 -- A machine of which each number has its width stays so with each request that is answered and with each line that is small, and
 -- there is a copy of its guest that a state file can have.
-use Rattle.std.proofs.Common.{◌≡◌, ◌≤◌, ◌+◌, ◌*◌, ◌++◌, ◌==◌, ◌^◌, ℕ, Bool, true, false, refl, sym, subst, List, [], ◌∷◌, length, Option, Some, None, Result, Ok, Err, arith}
+use Rattle.std.proofs.Common.{◌≡◌, ◌≤◌, ◌*◌, ◌++◌, ◌==◌, ◌^◌, ℕ, Bool, true, false, refl, sym, subst, List, [], ◌∷◌, length, Option, Some, None, Result, Ok, Err, arith}
 use Rattle.std.specs.Prelude.{IfSome, IsTrue}
 use Rattle.std.specs.FinMap.{get, insert}
 use Rattle.std.specs.List.{All}
@@ -73,7 +73,8 @@ use Rattle.flat_machine.specs.Requests.{Creates, Leaves, LeavesBy, RequestStep, 
 use Rattle.flat_machine.specs.Widths.{HasWidths, IsSmallItem, WidthsBy}
 use Rattle.flat_machine.proofs.Allowed.{IsAllowed, allowed_is, not_refused}
 use Rattle.flat_machine.proofs.Between.{allowed_later, by_either, leaves_of, started}
-use Rattle.flat_machine.proofs.Ready.{guest_ready, request_ready, reset_ready}
+use Rattle.flat_machine.proofs.Ready.{guest_ready, request_ready}
+use Rattle.flat_machine.proofs.ReadyGuests.{reset_ready}
 use Rattle.flat_machine.proofs.Sizes.{booted_size, start_fits}
 use Rattle.flat_machine.proofs.Taken.{bounded, allowed_fits, changed_taken}
 use Rattle.flat_machine.proofs.SmallDevices.{devices_narrow, interface_small, relimited_small, resized_small, retargeted_small, retimed_small}

@@ -1,9 +1,9 @@
--- Slots of pages joined: those of one page read, one of them set, and what a write inside one page leaves of all.
+-- Slots of pages joined: those of one page read, one of them read and set, and what a write inside one page leaves of all.
 use Rattle.std.proofs.Common.{◌≡◌, ℕ, zero, suc, ◌+◌, ◌*◌, ◌/◌, ◌%◌, ◌<◌, ◌≤◌, nat_le, nat_lt, Bool, true, false, cond, ◌&&◌, not, List, [], ◌∷◌, ◌++◌, Option, Some, None, length, take, drop, get_or, set, refl, sym, ap, ◌∙◌, arith, ◌⊎◌, inl, inr}
 use Rattle.std.specs.List.{flat_map}
 use Rattle.std.proofs.lemmas.Bool.{le-ltb}
 use Rattle.std.proofs.Math.Seq.{drop-append-add}
-use Rattle.std.proofs.lemmas.List.{set-append_left, set-append_right, take-append-le, take_all}
+use Rattle.std.proofs.lemmas.List.{get_or_append_left, get_or-append-add, set-append_left, set-append_right, take-append-le, take_all}
 use Rattle.vm_types.specs.declared.ids.ActorId.{ActorId}
 use Rattle.vm_types.specs.declared.ids.ActorId.TheVariants.{Hart}
 use Rattle.vm_types.specs.Ids.{same_actor}
@@ -31,6 +31,17 @@ slots_joined n (p ∷ ps) (suc i) d are lt =
     ap (λ (k : ℕ). take 32 (drop k (p.reserved ++ slots_of ps))) start
     ∙ ap (λ (l : List (Option ℕ)). take 32 l) (drop-append-add p.reserved (slots_of ps) (32 * i))
     ∙ slots_joined (suc n) ps i d are.1 (omega arith)
+
+-- one of them, read
+pub get_joined : (n : ℕ) (pages : List PageValue) (i k : ℕ) (d : PageValue) (otherwise : Option ℕ) → ArePages n pages → i < length pages → k < 32 → get_or (slots_of pages) (32 * i + k) otherwise ≡ get_or (get_or pages i d).reserved k otherwise
+get_joined n [] i k d otherwise are lt small = absurd (omega arith)
+get_joined n (p ∷ ps) zero k d otherwise are lt small =
+    let slotted = are.0.slotted in
+    ap (λ (j : ℕ). get_or (p.reserved ++ slots_of ps) j otherwise) (omega arith) ∙ get_or_append_left p.reserved (slots_of ps) otherwise k (omega (arith, slotted))
+get_joined n (p ∷ ps) (suc i) k d otherwise are lt small =
+    ap (λ (j : ℕ). get_or (p.reserved ++ slots_of ps) j otherwise) (later p i k are.0.slotted)
+    ∙ get_or-append-add p.reserved (slots_of ps) (32 * i + k) otherwise
+    ∙ get_joined (suc n) ps i k d otherwise are.1 (omega arith) small
 
 set_behind : (xs ys : List (Option ℕ)) (k : ℕ) (held : Option ℕ) → set (xs ++ ys) (length xs + k) held ≡ xs ++ set ys k held
 set_behind xs ys k held =

@@ -1,5 +1,6 @@
 mod Alike
 mod Answered
+mod Called
 mod Ends
 mod Merges
 mod Overlaid

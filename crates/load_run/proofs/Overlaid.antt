@@ -10,16 +10,16 @@ use Rattle.snapshot_merge.specs.InOrder.{MergeAll}
 use Rattle.snapshot_merge.specs.Plans.{Plan, planned, planned_in}
 use Rattle.load_run.specs.Merging.{diff_name, diffs_in, memory_name, merged, merged_by, with_diff}
 
-abbrev all_there : List (List ℕ) → List (Option (List ℕ))
+abbrev pub all_there : List (List ℕ) → List (Option (List ℕ))
 all_there files = map (λ (file : List ℕ). Some file) files
 
 -- a list that ends so, of files that are all there
-record Split (xs : List (Option (List ℕ))) (x : Option (List ℕ)) (files : List (List ℕ)) : Type 0 where
-  front : List (List ℕ)
-  last : List ℕ
-  parts : files ≡ front ++ last ∷ []
-  before : xs ≡ all_there front
-  there : x ≡ Some last
+pub record Split (xs : List (Option (List ℕ))) (x : Option (List ℕ)) (files : List (List ℕ)) : Type 0 where
+  pub front : List (List ℕ)
+  pub last : List ℕ
+  pub parts : files ≡ front ++ last ∷ []
+  pub before : xs ≡ all_there front
+  pub there : x ≡ Some last
 
 abbrev head_or : Option (List ℕ) → List (Option (List ℕ)) → Option (List ℕ)
 head_or other [] = other
@@ -29,7 +29,7 @@ abbrev behind : List (Option (List ℕ)) → List (Option (List ℕ))
 behind [] = []
 behind (x ∷ xs) = xs
 
-split : (xs : List (Option (List ℕ))) (x : Option (List ℕ)) (files : List (List ℕ)) → xs ++ x ∷ [] ≡ all_there files → Split xs x files
+pub split : (xs : List (Option (List ℕ))) (x : Option (List ℕ)) (files : List (List ℕ)) → xs ++ x ∷ [] ≡ all_there files → Split xs x files
 split [] x [] is = cc is
 split [] x (f ∷ []) is = record { front = []; last = f; parts = refl; before = refl; there = ap (head_or x) is }
 split [] x (f ∷ g ∷ files) is = absurd (none (ap behind is))
@@ -47,7 +47,7 @@ split (y ∷ xs) x (f ∷ files) is =
       there = rest.there;
     }
 
-merge_split : (base : List ℕ) (front : List (List ℕ)) (file last : List ℕ) → MergeAll base (front ++ file ∷ []) last
+pub merge_split : (base : List ℕ) (front : List (List ℕ)) (file last : List ℕ) → MergeAll base (front ++ file ∷ []) last
     → (mid : List ℕ) × MergeAll base front mid × MergeAll mid (file ∷ []) last
 merge_split base [] file last all = (base, refl, all)
 merge_split base (f ∷ front) file last (plan, is, all) =
@@ -57,7 +57,7 @@ abbrev first_of : List ℕ → ℕ
 first_of [] = 0
 first_of (c ∷ text) = c
 
-other_name : (round : ℕ) → diff_name round ≢ memory_name
+pub other_name : (round : ℕ) → diff_name round ≢ memory_name
 other_name round same =
     let letters : 100 ≡ 109 = ap first_of same in
     absurd (omega (arith, letters))

@@ -1,5 +1,5 @@
--- Both sides of a run show the same words, where the guest of the source is on at its end.
-use Rattle.std.proofs.Common.{◌≡◌, ◌≢◌, ◌≤◌, ◌+◌, ◌∙◌, ◌⊎◌, ℕ, zero, suc, Bool, true, false, nat_le, if◌then◌else◌, refl, sym, ap, subst, List, [], ◌∷◌, ◌++◌, append-nil, length, map, take, codes, Option, Some, None, Result, Ok, inl, inr, arith}
+-- Both sides of a run show the same words, where the guest of the source is on at its end: by the law of a chain that is loaded.
+use Rattle.std.proofs.Common.{◌≡◌, ◌≢◌, ◌≤◌, ◌<◌, ◌^◌, ◌+◌, ◌∙◌, ◌⊎◌, ℕ, zero, suc, Bool, true, false, nat_le, if◌then◌else◌, refl, sym, ap, subst, List, [], ◌∷◌, ◌++◌, append-nil, length, map, take, codes, Option, Some, None, Result, inl, inr, arith}
 use Rattle.std.specs.Fmt.{decimal, digits}
 use Rattle.std.specs.FinMap.{get}
 use Rattle.vm_types.specs.Saved.{Saved, nothing_saved}
@@ -7,28 +7,34 @@ use Rattle.vm_types.specs.declared.exit.Exit.{Exit}
 use Rattle.vm_outside.specs.Calls.{FileCall}
 use Rattle.script_text.specs.declared.item.Item.{Item}
 use Rattle.script_text.specs.Lines.{judged}
+use Rattle.http_stream.specs.Conversation.{new_connection}
+use Rattle.http_stream.specs.Stream.{Connection}
+use Rattle.http_stream.specs.declared.request.Next.TheVariants as next
+use Rattle.api_calls.specs.declared.call.ApiCall.{ApiCall}
 use Rattle.api_calls.specs.declared.call.ApiCall.TheVariants as call
 use Rattle.api_calls.specs.declared.call.SnapshotLoad.{SnapshotLoad}
 use Rattle.api_calls.specs.declared.call.SnapshotType.{SnapshotType}
 use Rattle.api_calls.specs.declared.call.SnapshotType.TheVariants as snapshot
 use Rattle.api_calls.specs.Call.{◌>>=◌}
 use Rattle.refusals.specs.declared.refusal.Refusal.{Refusal}
+use Rattle.response_form.specs.Responses.{Response}
+use Rattle.api_rules.specs.Table.{decision}
 use Rattle.command_line.specs.MachineId.{default_id}
-use Rattle.vm_config.specs.declared.change.Change.TheVariants as change
 use Rattle.load_gen.specs.Load.{load_items, load_script, rounds_of}
-use Rattle.flat_guest.specs.Guest.{unwritten}
-use Rattle.flat_machine.specs.Machine.{Machine, is_off, new_machine, off_by}
+use Rattle.flat_machine.specs.Machine.{Machine, is_off, new_machine, phase_of}
 use Rattle.flat_machine.specs.Replay.{IsEnd, longest_script}
-use Rattle.flat_machine.specs.Requests.{Leaves, by_contents}
 use Rattle.flat_machine.specs.Run.{Act, Run, lines_done}
-use Rattle.flat_snapshot.specs.Carried.{carried_guest}
-use Rattle.flat_snapshot.specs.Found.{Snapshot}
+use Rattle.flat_trace.proofs.Readiness.{run_kept}
 use Rattle.snapshot_chain.specs.Chains.{DiffsLead, IsSaving, Saving, memory_text, state_text}
 use Rattle.snapshot_chain.proofs.Created.{text_is}
-use Rattle.snapshot_chain.proofs.Loaded.{finds_last, loads_last, some_merge}
+use Rattle.snapshot_chain.proofs.Loaded.{some_merge}
 use Rattle.snapshot_merge.specs.InOrder.{MergeAll}
-use Rattle.run_chain.proofs.Acts.{Does, does_first, does_none, lines_of}
-use Rattle.run_chain.proofs.Heard.{Heard, leaves_by}
+use Rattle.alike_runs.specs.Alike.{Alike, as_loaded}
+use Rattle.restored_chain.specs.Merged.{MergeCalls}
+use Rattle.restored_chain.specs.Restored.{IsRestored}
+use Rattle.restored_chain.proofs.Restored.{diffs_lead, saving_is}
+use Rattle.run_chain.proofs.Acts.{Does, does_first, does_none, lines_of, ons_of}
+use Rattle.run_chain.proofs.Heard.{Heard}
 use Rattle.run_chain.proofs.Numbered.{all_upto, loads, one_of}
 use Rattle.run_chain.proofs.Opening.{script_leaves}
 use Rattle.run_chain.proofs.Rounds.{AfterRounds, heard_of, texts_in}
@@ -36,7 +42,8 @@ use Rattle.load_run.specs.Line.{Shows}
 use Rattle.load_run.specs.Merging.{diffs_in, memory_name, merged}
 use Rattle.load_run.specs.Restoring.{IsDone, load_last, restore_script}
 use Rattle.load_run.proofs.Alike.{IsOne, same_words}
-use Rattle.load_run.proofs.Overlaid.{all_merged, others_kept}
+use Rattle.load_run.proofs.Called.{all_called}
+use Rattle.load_run.proofs.Overlaid.{others_kept}
 
 -- ---- a replay that is done has done its lines
 
@@ -74,6 +81,7 @@ done_does script start m items read done on = by_end done.replay.ends
               (done.replay.plays.lines ∙ ap (λ (l : List (Option Item)). lines_done done.acts ++ l) none);
           ran = done.replay.plays.ran;
           answered = done.answered;
+          on = ons_of done.acts start done.replay.last done.replay.answers done.replay.plays.ran done.replay.plays.on;
         })
     by_end (inr off) =
         let both : false ≡ true = sym on ∙ ap is_off done.last ∙ off in
@@ -134,7 +142,14 @@ other_name i same =
 
 -- ---- both sides
 
-module _ (one : IsOne) (number : ℕ) (source restored : Machine) (calls : List FileCall) (own other : List ℕ)
+-- what the law of a chain says that is loaded
+abbrev pub IsRestoredAlike : Type 0
+IsRestoredAlike =
+    (first : Saving) (savings : List Saving) (last : Saving) (k : Machine) (load : SnapshotLoad) (said : List Response) (p : Machine)
+    (c : Connection) → IsRestored first savings last k load said p
+    → Alike [] (record (as_loaded last.after k load) { connection = c }) (record p { connection = c })
+
+module _ (one : IsOne) (chain : IsRestoredAlike) (number : ℕ) (source restored : Machine) (calls : List FileCall) (own other : List ℕ)
     (reads : judged (load_script number) ≡ lines_of (load_items number))
     (loads_read : judged (restore_script (rounds_of number)) ≡ lines_of (load_last (rounds_of number) ∷ []))
     (replayed : IsDone (load_script number) (new_machine default_id nothing_saved []) source)
@@ -153,21 +168,27 @@ module _ (one : IsOne) (number : ℕ) (source restored : Machine) (calls : List 
   abbrev last : Saving
   last = after.last
 
+  full : IsSaving snapshot.Full after.first
+  full = saving_is run_kept snapshot.Full after.first after.full
+
+  leads : DiffsLead after.first after.savings last
+  leads = diffs_lead run_kept after.first after.savings last after.leads
+
   base : (text : List ℕ) × (memory_text after.first ≡ Some text)
-  base = text_of snapshot.Full after.first after.full
+  base = text_of snapshot.Full after.first full
 
   files : (files : List (List ℕ)) × (map (λ (s : Saving). memory_text s) after.savings ≡ map (λ (file : List ℕ). Some file) files)
-  files = files_there snapshot.Full after.first last after.savings after.leads
+  files = files_there snapshot.Full after.first last after.savings leads
 
   few : length after.savings ≤ 100
   few = let many = after.many in omega (arith, many)
 
   merges : (text : List ℕ) × MergeAll base.0 files.0 text
-  merges = some_merge after.first last after.savings base.0 files.0 after.full after.leads few base.1 files.1
+  merges = some_merge after.first last after.savings base.0 files.0 full leads few base.1 files.1
 
-  memory_there : get loader.saved memory_name ≡ Some merges.0
-  memory_there =
-      all_merged count source.saved base.0 files.0 merges.0 (after.base_there ∙ base.1)
+  called : MergeCalls memory_name files.0 (Some base.0) (get loader.saved memory_name)
+  called =
+      all_called count source.saved base.0 files.0 merges.0 (after.base_there ∙ base.1)
       (texts_are count source.saved ∙ after.diffs_there ∙ files.1) merges.1
 
   state_there : get loader.saved (codes "s" ++ decimal count) ≡ state_text last
@@ -193,6 +214,8 @@ module _ (one : IsOne) (number : ℕ) (source restored : Machine) (calls : List 
         lines = lines;
         ran = loaded.replay.plays.ran;
         answered = loaded.answered;
+        on =
+            ons_of loaded.acts loader loaded.replay.last loaded.replay.answers loaded.replay.plays.ran loaded.replay.plays.on;
       } in
       let line = does_first (load_last count) [] loader loaded.replay.last does in
       let end = does_none line.0 loaded.replay.last line.2 in
@@ -206,23 +229,31 @@ module _ (one : IsOne) (number : ℕ) (source restored : Machine) (calls : List 
           ∙ ap (λ (b : Bool). if b then judged (restore_script (rounds_of number)) else judged (take longest_script (restore_script (rounds_of number))) ++ None ∷ []) short
           ∙ loads_read
 
-  -- it was answered, and made the machine of the last create
-  guest_there : restored.guest ≡ Some (carried_guest last.copy last.guest.memory.bytes)
-  guest_there =
-      let found =
-      finds_last after.first last after.savings base.0 files.0 after.full after.leads few base.1 files.1 merges.0 merges.1
-      loader.saved load.files memory_there state_there in
-      let contents : by_contents loader (change.LoadSnapshot load) ≡ Ok (change.LoadSnapshot load) =
-      ap (λ (r : Result Snapshot Refusal). r >>= λ (s : Snapshot). Ok (change.LoadSnapshot load)) found in
-      let left : Leaves loader (change.LoadSnapshot load) heard.mid =
-      (leaves_by (call.LoadSnapshot load) loader restored (change.LoadSnapshot load) heard refl contents).1 in
-      let is =
-      loads_last after.first last after.savings base.0 files.0 after.full after.leads few base.1 files.1 merges.0 merges.1 loader
-      heard.mid load memory_there state_there left in
-      ap (λ (q : Machine). q.guest) heard.leaves ∙ ap (λ (q : Machine). q.guest) is
+  -- so the chain was loaded
+  restores : IsRestored after.first after.savings last loader load heard.said heard.mid
+  restores = record {
+    full = after.full;
+    leads = after.leads;
+    few = few;
+    base = base.0;
+    files = files.0;
+    base_is = base.1;
+    files_are = files.1;
+    name = memory_name;
+    left = get loader.saved memory_name;
+    merges = called;
+    lineage = (let small : 0 < 2 ^ 64 = omega arith in small);
+    memory = refl;
+    state = state_there;
+    given = next.Request heard.request;
+    kept = heard.kept;
+    asks =
+        ap (λ (r : Result ApiCall Refusal). r >>= λ a. decision (phase_of loader) loader.config loader.ids a) heard.asks;
+    step = heard.step;
+  }
 
   pub same_shown : own ≡ other
   same_shown =
-      let off : last.guest.board.off ≡ false = sym (ap off_by after.guest_is) ∙ on in
-      same_words one (unwritten last.guest) (carried_guest last.copy last.guest.memory.bytes) source restored own other (after.alike off)
-      after.guest_is guest_there shows_own shows_other
+      let alike = chain after.first after.savings last loader load heard.said heard.mid new_connection restores in
+      same_words one alike.g alike.h source restored own other alike.guests.same (after.guest_is ∙ alike.first)
+      (ap (λ (q : Machine). q.guest) heard.leaves ∙ alike.second) shows_own shows_other

@@ -13,6 +13,7 @@ use crate::scripts::{load_script, restore_script};
 use crate::showing::words_of;
 use hart_trace::hart_follows;
 use load_gen::{load_is_read, rounds_of};
+use restored_chain::restored_chain;
 use script_text::whole_text;
 use std::alloc::Global;
 use vm_outside::Files;
@@ -26,6 +27,7 @@ pub fn line_of_run<F: Files>(alloc: Global, number: u32, files: &mut F) -> Resul
 {
     hart_follows();
     load_is_read();
+    restored_chain();
     whole_text();
     let rounds = rounds_of(number);
     let script = load_script(alloc, number)?;

@@ -37,7 +37,8 @@ use Rattle.flat_machine.specs.Balloon.{interval_told, target_in}
 use Rattle.flat_machine.specs.Limits.{limits_told, receives_told, transmits_told}
 use Rattle.flat_machine.specs.Requests.{halted, parent_of, shows_by}
 use Rattle.flat_machine.specs.Ready.{IsBaseBefore, IsReadyGuest, Ready, ReadyBy}
-use Rattle.flat_machine.proofs.Ready.{base_later, drained_ready, event_ready, guest_ready, halted_ready, makes_ready, new_ready, reset_ready, resumed_ready, unwritten_ready}
+use Rattle.flat_machine.proofs.Ready.{base_later, event_ready, guest_ready, makes_ready, new_ready}
+use Rattle.flat_machine.proofs.ReadyGuests.{drained_ready, halted_ready, reset_ready, resumed_ready, unwritten_ready}
 use Rattle.flat_machine.proofs.Reconfigured.{told_ready}
 use Rattle.flat_machine.proofs.Taken.{configured_taken}
 use Rattle.timer_trace.specs.States.{new_timer}

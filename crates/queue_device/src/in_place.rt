@@ -11,7 +11,7 @@ ghost use Rattle.device_trace.specs.States.{stepped, wants};
 ghost use Rattle.queue_device.specs.declared.lanes.Rounds.{Rounds};
 ghost use Rattle.queue_device.specs.declared.lanes.Which.{Which};
 ghost use Rattle.queue_device.specs.declared.phase.InHand.{InHand};
-ghost use Rattle.queue_device.specs.declared.phase.Phase.TheVariants.{Return, Take, Walk};
+ghost use Rattle.queue_device.specs.declared.phase.Phase.TheVariants as phases;
 ghost use Rattle.queue_device.specs.declared.phase.Work.TheVariants as work;
 ghost use Rattle.queue_device.specs.Kept.{is_fit, is_holding, is_state, is_told};
 ghost use Rattle.queue_device.specs.Left.{left_at, queued, used_chain};
@@ -49,7 +49,7 @@ fn walk_over<K: Kind>(
 
 /// A reply came to a walk.
 pub fn walk_step<K: Kind>(rounds: &mut Rounds, kind: &mut K, phase: &mut Phase, reply: Reply)
-    requires walks { (k : Which) × (walk : Walking) × (phase.old ≡ Walk k walk) }
+    requires walks { (k : Which) × (walk : Walking) × (phase.old ≡ phases.Walk k walk) }
     requires fit { fits (wants (queue_rules K.service K.changing)
         (left_at K.service phase.old (K.hand (K.stage kind.old)) (queued rounds.old (K.own kind.old)))) reply ≡ true }
     ensures left { left_at K.service phase.new (K.hand (K.stage kind.new)) (queued rounds.new (K.own kind.new)) ≡
@@ -100,7 +100,7 @@ pub fn take_step<K: Kind>(
     chain: InHand,
     reply: &Reply,
 )
-    requires takes { phase.old ≡ Take chain }
+    requires takes { phase.old ≡ phases.Take chain }
     requires fit { fits (wants (queue_rules K.service K.changing)
         (left_at K.service phase.old (K.hand (K.stage kind.old)) (queued rounds.old (K.own kind.old)))) reply.now ≡ true }
     ensures left { left_at K.service phase.new (K.hand (K.stage kind.new)) (queued rounds.new (K.own kind.new)) ≡
@@ -160,7 +160,7 @@ fn return_over<K: Kind>(rounds: &mut Rounds, kind: &mut K, phase: &mut Phase, wh
 
 /// A reply came while a chain is given back.
 pub fn return_step<K: Kind>(rounds: &mut Rounds, kind: &mut K, phase: &mut Phase, reply: &Reply)
-    requires { (c : InHand) × (len : ℕ) × (stage : ReturnStage) × (phase.old ≡ Return c len stage) }
+    requires { (c : InHand) × (len : ℕ) × (stage : ReturnStage) × (phase.old ≡ phases.Return c len stage) }
     ensures left { left_at K.service phase.new (K.hand (K.stage kind.new)) (queued rounds.new (K.own kind.new)) ≡
         stepped (queue_rules K.service K.changing)
         (left_at K.service phase.old (K.hand (K.stage kind.old)) (queued rounds.old (K.own kind.old))) reply.now }

@@ -25,7 +25,7 @@ none_from slot (suc n) = none_from (suc slot) n
 
 module _ (items : List Reservation) (k : ℕ) (all : List (Option ℕ))
     (so_far : items ++ reservations_from (32 * k) (drop (32 * k) all) ≡ reservations_from 0 all) where
-  rest : List Reservation
+  abbrev rest : List Reservation
   rest = reservations_from (32 * (k + 1)) (drop (32 * (k + 1)) all)
 
   pub page_more : (slots : List (Option ℕ)) → slots ≡ take 32 (drop (32 * k) all) → length slots ≡ 32
@@ -54,10 +54,14 @@ module _ (items : List Reservation) (k : ℕ) (all : List (Option ℕ))
 
 -- ---- a slot behind those before it
 
+drop_suc : (slots : List (Option ℕ)) (k : ℕ) → k < length slots → drop k slots ≡ get_or slots k None ∷ drop (suc k) slots
+drop_suc [] k lt = absurd (omega arith)
+drop_suc (x ∷ xs) zero lt = refl
+drop_suc (x ∷ xs) (suc k) lt = drop_suc xs k (omega arith)
+
 drop_one : (slots : List (Option ℕ)) (k : ℕ) → k < length slots → drop k slots ≡ get_or slots k None ∷ drop (k + 1) slots
-drop_one [] k lt = absurd (omega arith)
-drop_one (x ∷ xs) zero lt = refl
-drop_one (x ∷ xs) (suc k) lt = drop_one xs k (omega arith)
+drop_one slots k lt =
+    let next : suc k ≡ k + 1 = omega arith in drop_suc slots k lt ∙ ap (λ (n : ℕ). get_or slots k None ∷ drop n slots) next
 
 module _ (items all : List Reservation) (page k : ℕ) (slots : List (Option ℕ)) (lt : k < length slots)
     (so_far : items ++ reservations_from (32 * page + k) (drop k slots) ≡ all) where

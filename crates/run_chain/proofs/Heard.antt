@@ -1,5 +1,5 @@
 -- What a line leaves that brings one request on a connection that holds nothing.
-use Rattle.std.proofs.Common.{◌≡◌, ◌⊎◌, ℕ, Bool, true, false, refl, ap, subst, ◌∙◌, List, [], ◌∷◌, Result, Ok, inl, inr}
+use Rattle.std.proofs.Common.{◌≡◌, ℕ, false, refl, ap, subst, ◌∙◌, List, [], ◌∷◌, Result, Ok, inl, inr}
 use Rattle.refusals.specs.declared.refusal.Refusal.{Refusal}
 use Rattle.http_stream.specs.declared.request.Next.{Next}
 use Rattle.http_stream.specs.declared.request.Next.TheVariants as next

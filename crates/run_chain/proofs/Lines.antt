@@ -1,5 +1,6 @@
 -- What each line of a run's script leaves of a machine that has started.
-use Rattle.std.proofs.Common.{◌≡◌, ◌<◌, ◌^◌, ◌∙◌, ℕ, Bool, true, false, refl, sym, ap, subst, List, Option, Some, None, Ok, nat_le, arith}
+use Rattle.std.proofs.Common.{◌≡◌, ◌<◌, ◌^◌, ◌∙◌, ◌&&◌, ℕ, Bool, true, false, not, refl, sym, ap, subst, List, [], ◌∷◌, Option, Some, None, Ok, Result, nat_le, arith}
+use Rattle.std.specs.Prelude.{is_none}
 use Rattle.std.proofs.lemmas.Bool.{leb-true}
 use Rattle.vm_types.specs.Saved.{Saved}
 use Rattle.vm_types.specs.declared.identity.Identity.{Identity}
@@ -7,12 +8,16 @@ use Rattle.vm_types.specs.declared.ids.ActorId.{ActorId}
 use Rattle.http_stream.specs.Conversation.{new_connection}
 use Rattle.api_calls.specs.declared.call.ApiCall.TheVariants as call
 use Rattle.api_calls.specs.declared.call.SnapshotCreate.{SnapshotCreate}
+use Rattle.api_calls.specs.declared.call.SnapshotType.{SnapshotType}
 use Rattle.api_calls.specs.declared.call.SnapshotType.TheVariants as snapshot
 use Rattle.api_calls.specs.declared.call.VmState.TheVariants.{Paused, Resumed}
+use Rattle.vm_config.specs.declared.change.Change.{Change}
 use Rattle.vm_config.specs.declared.change.Change.TheVariants as change
 use Rattle.vm_config.specs.declared.config.Phase.{Phase}
 use Rattle.vm_config.specs.declared.config.Phase.TheVariants as phase
-use Rattle.api_rules.specs.Table.{decision}
+use Rattle.refusals.specs.declared.refusal.Refusal.{Refusal}
+use Rattle.refusals.specs.declared.refusal.Refusal.TheVariants as refusal
+use Rattle.api_rules.specs.Table.{decision, first_refusal, is_diff, is_paused, misplaced, unless, when_allowed}
 use Rattle.flat_guest.specs.Guest.{Guest, is_actor}
 use Rattle.flat_guest.specs.Start.{timer_restarted}
 use Rattle.flat_machine.specs.Items.{StepsLine}
@@ -128,6 +133,18 @@ module _ (next : ℕ) (base : Option Identity) (saved : Saved) (m n : Machine) w
 
 -- ---- a create is allowed
 
+-- by the phase, its type, whether pages are tracked, whether there is no base, and whether no number is left
+abbrev decided_by : Phase → SnapshotType → Bool → Bool → Bool → SnapshotCreate → Result Change Refusal
+decided_by p type tracks none late it =
+    unless (misplaced (when_allowed (call.CreateSnapshot it)) p)
+    (unless
+    (first_refusal
+    ((not (is_paused p), refusal.NotPaused)
+    ∷ (is_diff type && not tracks, refusal.NotTracked)
+    ∷ (is_diff type && none, refusal.NoBase)
+    ∷ (late, refusal.NoSlotLeft)
+    ∷ [])) (Ok (change.CreateSnapshot it)))
+
 module _ (m : Machine) (it : SnapshotCreate) (next : ℕ) (saved : Saved) (below : next < 2 ^ 63) where
   under : (k : ℕ) → k ≡ next → nat_le (2 ^ 63) k ≡ false
   under k is = by_test (nat_le (2 ^ 63) k) refl
@@ -139,15 +156,21 @@ module _ (m : Machine) (it : SnapshotCreate) (next : ℕ) (saved : Saved) (below
   pub full_decided : (base : Option Identity) → IsOn true next base saved m → it.snapshot_type ≡ snapshot.Full
       → decision (phase_of m) m.config m.ids (call.CreateSnapshot it) ≡ Ok (change.CreateSnapshot it)
   full_decided base on full =
-      let stands = standing_of m on.guest on.there on.stands in
-      let few = under m.ids.next on.next_is in
-      rw (stands, full, few) refl
+      let tracks : Bool = m.config.machine.track_dirty_pages in
+      let none : Bool = is_none m.ids.base in
+      let late : Bool = nat_le (2 ^ 63) m.ids.next in
+      ap (λ (p : Phase). decided_by p it.snapshot_type tracks none late it) (standing_of m on.guest on.there on.stands)
+      ∙ ap (λ (t : SnapshotType). decided_by phase.Paused t tracks none late it) full
+      ∙ ap (λ (b : Bool). decided_by phase.Paused snapshot.Full tracks none b it) (under m.ids.next on.next_is)
 
   pub diff_decided : (parent : Identity) → IsOn true next (Some parent) saved m → it.snapshot_type ≡ snapshot.Diff
       → decision (phase_of m) m.config m.ids (call.CreateSnapshot it) ≡ Ok (change.CreateSnapshot it)
   diff_decided parent on diff =
-      let stands = standing_of m on.guest on.there on.stands in
-      let few = under m.ids.next on.next_is in
-      let base = on.base_is in
-      let tracked = on.tracked in
-      rw (stands, diff, few, base, tracked) refl
+      let tracks : Bool = m.config.machine.track_dirty_pages in
+      let none : Bool = is_none m.ids.base in
+      let late : Bool = nat_le (2 ^ 63) m.ids.next in
+      ap (λ (p : Phase). decided_by p it.snapshot_type tracks none late it) (standing_of m on.guest on.there on.stands)
+      ∙ ap (λ (t : SnapshotType). decided_by phase.Paused t tracks none late it) diff
+      ∙ ap (λ (b : Bool). decided_by phase.Paused snapshot.Diff b none late it) on.tracked
+      ∙ ap (λ (o : Option Identity). decided_by phase.Paused snapshot.Diff true (is_none o) late it) on.base_is
+      ∙ ap (λ (b : Bool). decided_by phase.Paused snapshot.Diff true false b it) (under m.ids.next on.next_is)

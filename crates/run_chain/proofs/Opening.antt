@@ -1,5 +1,5 @@
 -- What the opening of a run's script leaves: a machine that has started, and its full snapshot.
-use Rattle.std.proofs.Common.{◌≡◌, ◌+◌, ◌∙◌, ℕ, Bool, true, false, refl, sym, ap, subst, List, [], ◌∷◌, ◌++◌, length, codes, Option, Some, None, Ok, arith}
+use Rattle.std.proofs.Common.{◌≡◌, ◌+◌, ◌∙◌, ℕ, true, false, refl, sym, ap, subst, List, [], ◌∷◌, ◌++◌, length, codes, Option, Some, None, Ok, arith}
 use Rattle.std.specs.Prelude.{option_map}
 use Rattle.std.specs.Fmt.{decimal, digits}
 use Rattle.std.specs.FinMap.{get, insert}
@@ -28,17 +28,14 @@ use Rattle.load_gen.specs.Load.{boot, configure, create_full, image, load_items,
 use Rattle.flat_guest.specs.Guest.{Guest}
 use Rattle.flat_guest.specs.Start.{started}
 use Rattle.flat_machine.specs.Machine.{Machine, new_machine, phase_by, phase_of}
-use Rattle.flat_machine.specs.Ready.{Ready}
 use Rattle.flat_machine.specs.Requests.{by_contents, configured, devices_from, disk_of, image_by, image_of, loads_from, start_refusal, started_from}
-use Rattle.flat_machine.proofs.Ready.{new_ready}
 use Rattle.snapshot_chain.specs.Chains.{Saving, identity_of, memory_text, state_text}
-use Rattle.snapshot_chain.proofs.Created.{after_is}
 use Rattle.run_chain.specs.Asked.{boot_body, configure_body, create_body, pause_body, resume_body, start_body}
-use Rattle.run_chain.proofs.Acts.{Does, DoesOne, does_first, does_front, does_none}
+use Rattle.run_chain.proofs.Acts.{Does, DoesOne, IsLed, does_first, does_front, does_none, new_led, one_led}
 use Rattle.run_chain.proofs.Asking.{boots, configures, creates, pauses, resumes, starts}
 use Rattle.run_chain.proofs.Heard.{Heard, leaves_by}
 use Rattle.run_chain.proofs.Lines.{IsOn, full_decided, pauses_on, resumes_guest, resumes_on, steps_on}
-use Rattle.run_chain.proofs.Rounds.{AfterRounds, all_rounds, heard_of, one_ready}
+use Rattle.run_chain.proofs.Rounds.{AfterRounds, all_rounds, heard_of}
 use Rattle.run_chain.proofs.Savings.{IsMade, made_create, on_after}
 
 -- it has not started, and this is configured; it has no snapshot, and these files
@@ -49,7 +46,6 @@ record IsNew (config : Config) (saved : Saved) (m : Machine) : Type 0 where
   base_is : m.ids.base ≡ None
   saved_is : m.saved ≡ saved
   empty : m.connection ≡ new_connection
-  ready : Ready m
 
 early : (m : Machine) → m.guest ≡ None → phase_of m ≡ phase.NotStarted
 early m none = ap (λ (o : Option Guest). phase_by o m.paused) none
@@ -69,10 +65,10 @@ abbrev whole : Config
 whole = changed booted (change.MachineConfig machine)
 
 -- a change that configures alone
-configures_new : (c : ApiCall) (it : Change) (config : Config) (saved : Saved) (m n : Machine) → IsNew config saved m → Ready n → Heard c m n
+configures_new : (c : ApiCall) (it : Change) (config : Config) (saved : Saved) (m n : Machine) → IsNew config saved m → Heard c m n
     → decision (phase_of m) m.config m.ids c ≡ Ok it → by_contents m it ≡ Ok it
     → ((heard : Heard c m n) → heard.mid ≡ configured m it) → IsNew (changed config it) saved n
-configures_new c it config saved m n new ready heard decides contents leaves =
+configures_new c it config saved m n new heard decides contents leaves =
     let is : n ≡ record (configured m it) { connection = new_connection } =
     heard.leaves ∙ ap (λ (q : Machine). record q { connection = new_connection }) (leaves heard) in
     record {
@@ -82,16 +78,15 @@ configures_new c it config saved m n new ready heard decides contents leaves =
       base_is = ap (λ (q : Machine). q.ids.base) is ∙ new.base_is;
       saved_is = ap (λ (q : Machine). q.saved) is ∙ new.saved_is;
       empty = ap (λ (q : Machine). q.connection) is;
-      ready = ready;
     }
 
-module _ (saved : Saved) (m n : Machine) (ready : Ready n) where
+module _ (saved : Saved) (m n : Machine) where
   boots_new : IsNew default_config saved m → Heard (call.PutBootSource source) m n → IsNew booted saved n
   boots_new new heard =
       let p = early m new.none in
       let decides : decision (phase_of m) m.config m.ids (call.PutBootSource source) ≡ Ok (change.BootSource source) =
       ap (λ (x : Phase). decision x m.config m.ids (call.PutBootSource source)) p in
-      configures_new (call.PutBootSource source) (change.BootSource source) default_config saved m n new ready heard decides refl
+      configures_new (call.PutBootSource source) (change.BootSource source) default_config saved m n new heard decides refl
       (λ h. (leaves_by (call.PutBootSource source) m n (change.BootSource source) h decides refl).1)
 
   configures_on : IsNew booted saved m → Heard (call.PutMachineConfig machine) m n → IsNew whole saved n
@@ -100,7 +95,7 @@ module _ (saved : Saved) (m n : Machine) (ready : Ready n) where
       let decides : decision (phase_of m) m.config m.ids (call.PutMachineConfig machine) ≡ Ok (change.MachineConfig machine) =
       ap (λ (x : Phase). decision x m.config m.ids (call.PutMachineConfig machine)) p
       ∙ ap (λ (c : Config). decision phase.NotStarted c m.ids (call.PutMachineConfig machine)) new.config_is in
-      configures_new (call.PutMachineConfig machine) (change.MachineConfig machine) booted saved m n new ready heard decides refl
+      configures_new (call.PutMachineConfig machine) (change.MachineConfig machine) booted saved m n new heard decides refl
       (λ h. (leaves_by (call.PutMachineConfig machine) m n (change.MachineConfig machine) h decides refl).1)
 
 -- ---- the start
@@ -123,7 +118,7 @@ module _ (saved : Saved) (m n : Machine) (new : IsNew whole saved m) (heard : He
   start_contents : by_contents m change.Start ≡ Ok change.Start
   start_contents = ap (λ (o : Option Refusal). unless o (Ok change.Start)) none_refused
 
-  pub starts_on : IsOn false 1 None saved n
+  starts_on : IsOn false 1 None saved n
   starts_on =
       let left = leaves_by call.InstanceStart m n change.Start heard start_decided start_contents in
       let is : n ≡ record (configured (started_from (Some image) (disk_of m) m) change.Start) { connection = new_connection } =
@@ -160,7 +155,7 @@ module _ (id : List ℕ) (number : ℕ) (n : Machine) where
 
   record Begun (m : Machine) : Type 0 where
     on : IsOn true 1 None files m
-    ready : Ready m
+    led : IsLed m
     rest : Does (create_full ∷ resume ∷ []) m n
 
   begun : Does (opening number) first n → (m : Machine) × Begun m
@@ -172,12 +167,12 @@ module _ (id : List ℕ) (number : ℕ) (n : Machine) where
       let starts_line = does_first start _ configures_line.0 n configures_line.2 in
       let steps = does_first (item.Step (Hart 0) 7) _ starts_line.0 n starts_line.2 in
       let pauses_line = does_first pause _ steps.0 n steps.2 in
-      let ready_lineage = one_ready _ first lineage.0 lineage.1 (new_ready id nothing_saved []) in
-      let ready_file = one_ready _ lineage.0 file.0 file.1 ready_lineage in
-      let ready_boot = one_ready boot file.0 boots_line.0 boots_line.1 ready_file in
-      let ready_configure = one_ready configure boots_line.0 configures_line.0 configures_line.1 ready_boot in
-      let ready_start = one_ready start configures_line.0 starts_line.0 starts_line.1 ready_configure in
-      let ready_steps = one_ready _ starts_line.0 steps.0 steps.1 ready_start in
+      let led_lineage = one_led _ first lineage.0 lineage.1 (new_led id nothing_saved []) in
+      let led_file = one_led _ lineage.0 file.0 file.1 led_lineage in
+      let led_boot = one_led boot file.0 boots_line.0 boots_line.1 led_file in
+      let led_configure = one_led configure boots_line.0 configures_line.0 configures_line.1 led_boot in
+      let led_start = one_led start configures_line.0 starts_line.0 starts_line.1 led_configure in
+      let led_steps = one_led _ starts_line.0 steps.0 steps.1 led_start in
       let is_lineage : lineage.0 ≡ record first { ids = record first.ids { lineage = number } } = lineage.1.step.1.1 in
       let is_file = file.1.step.1.1 in
       let new : IsNew default_config files file.0 = record {
@@ -189,15 +184,14 @@ module _ (id : List ℕ) (number : ℕ) (n : Machine) where
             ap (λ (q : Machine). q.saved) is_file
             ∙ ap (λ (q : Machine). insert q.saved (codes "k") image) is_lineage;
         empty = ap (λ (q : Machine). q.connection) is_file ∙ ap (λ (q : Machine). q.connection) is_lineage;
-        ready = ready_file;
       } in
       let heard_boot =
       heard_of (codes "PUT") (codes "/boot-source") boot_body (call.PutBootSource source) file.0 boots_line.0 boots new.empty boots_line.1 in
-      let with_boot = boots_new files file.0 boots_line.0 ready_boot new heard_boot in
+      let with_boot = boots_new files file.0 boots_line.0 new heard_boot in
       let heard_configure =
       heard_of (codes "PUT") (codes "/machine-config") configure_body (call.PutMachineConfig machine) boots_line.0 configures_line.0
       configures with_boot.empty configures_line.1 in
-      let with_machine = configures_on files boots_line.0 configures_line.0 ready_configure with_boot heard_configure in
+      let with_machine = configures_on files boots_line.0 configures_line.0 with_boot heard_configure in
       let heard_start =
       heard_of (codes "PUT") (codes "/actions") start_body call.InstanceStart configures_line.0 starts_line.0 starts with_machine.empty
       starts_line.1 in
@@ -209,7 +203,7 @@ module _ (id : List ℕ) (number : ℕ) (n : Machine) where
         pauses_line.0,
         record {
           on = pauses_on 1 None files steps.0 pauses_line.0 on_steps heard_pause;
-          ready = one_ready pause steps.0 pauses_line.0 pauses_line.1 ready_steps;
+          led = one_led pause steps.0 pauses_line.0 pauses_line.1 led_steps;
           rest = pauses_line.2;
         },
       )
@@ -221,7 +215,7 @@ module _ (id : List ℕ) (number : ℕ) (n : Machine) where
 
     made : IsMade it m creates_line.0
     made =
-        made_create it 1 None files m creates_line.0 at.ready at.on
+        made_create it 1 None files m creates_line.0 at.led creates_line.1.on at.on
         (heard_of (codes "PUT") (codes "/snapshot/create") create_body (call.CreateSnapshot it) m creates_line.0 creates at.on.empty creates_line.1)
         (full_decided m it 1 files (omega arith) None at.on refl)
 
@@ -260,17 +254,14 @@ module _ (id : List ℕ) (number : ℕ) (n : Machine) where
       first = s;
       savings = [];
       last = s;
-      type = snapshot.Full;
-      full = made.is;
+      full = made.answered;
       leads = refl;
-      of_last = made.is;
-      alike = made.alike;
       many = refl;
-      ready = one_ready resume creates_line.0 n last_line (one_ready create_full m creates_line.0 creates_line.1 at.ready);
+      led = one_led resume creates_line.0 n last_line (one_led create_full m creates_line.0 creates_line.1 at.led);
       on = on_now;
       guest_is =
           resumes_guest 2 (Some (identity_of s)) s.after.saved creates_line.0 n after resumed
-          ∙ ap (λ (q : Machine). q.guest) made.leaves ∙ ap (λ (q : Machine). q.guest) (after_is snapshot.Full s made.is);
+          ∙ ap (λ (q : Machine). q.guest) made.leaves;
       start = creates_line.0;
       left = (s.after.connection, made.leaves);
       acts = creates_line.2.acts;

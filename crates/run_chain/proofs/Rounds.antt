@@ -12,21 +12,15 @@ use Rattle.script_text.specs.declared.item.Item.TheVariants as item
 use Rattle.api_calls.specs.declared.call.ApiCall.{ApiCall}
 use Rattle.api_calls.specs.declared.call.ApiCall.TheVariants as call
 use Rattle.api_calls.specs.declared.call.SnapshotCreate.{SnapshotCreate}
-use Rattle.api_calls.specs.declared.call.SnapshotType.{SnapshotType}
 use Rattle.api_calls.specs.declared.call.SnapshotType.TheVariants as snapshot
 use Rattle.api_calls.specs.declared.call.VmState.TheVariants.{Paused, Resumed}
 use Rattle.load_gen.specs.Load.{create_diff, pause, resume, round, rounds, steps_by, turned}
-use Rattle.flat_guest.specs.Guest.{unwritten}
-use Rattle.flat_guest.specs.Same.{AreAlike}
-use Rattle.flat_snapshot.specs.Carried.{carried_guest}
 use Rattle.flat_machine.specs.Machine.{Machine}
-use Rattle.flat_machine.specs.Ready.{Ready}
 use Rattle.flat_machine.specs.Run.{Act, Run}
-use Rattle.flat_machine.proofs.Ready.{item_ready}
-use Rattle.snapshot_chain.specs.Chains.{DiffsLead, Follows, IsLeft, IsSaving, Saving, identity_of, memory_text, state_text}
-use Rattle.snapshot_chain.proofs.Created.{after_is}
+use Rattle.snapshot_chain.specs.Chains.{Follows, IsLeft, Saving, identity_of, memory_text, state_text}
+use Rattle.restored_chain.specs.Restored.{AnsweredLead, IsAnswered}
 use Rattle.run_chain.specs.Asked.{Asks, diff_body, pause_body, resume_body}
-use Rattle.run_chain.proofs.Acts.{Does, DoesOne, does_first, does_front, does_none}
+use Rattle.run_chain.proofs.Acts.{Does, DoesOne, IsLed, does_first, does_front, does_none, one_led}
 use Rattle.run_chain.proofs.Asking.{pauses, resumes}
 use Rattle.run_chain.proofs.Heard.{Heard, one_request}
 use Rattle.run_chain.proofs.Lines.{IsOn, diff_decided, pauses_on, resumes_guest, resumes_on, steps_on}
@@ -34,9 +28,6 @@ use Rattle.run_chain.proofs.Numbered.{diffs}
 use Rattle.run_chain.proofs.Savings.{IsMade, leads_on, made_create, on_after, other_letter, other_round, others_stay}
 
 -- ---- lines
-
-pub one_ready : (it : Item) (m n : Machine) → DoesOne it m n → Ready m → Ready n
-one_ready it m n does ready = item_ready it does.outcomes m n does.text ready does.step
 
 pub heard_of : (method path body : List ℕ) (c : ApiCall) (m n : Machine) → Asks method path body c → m.connection ≡ new_connection
     → DoesOne (item.Api method path body) m n → Heard c m n
@@ -75,16 +66,12 @@ pub record AfterRounds (count : ℕ) (m : Machine) : Type 0 where
   pub first : Saving
   pub savings : List Saving
   pub last : Saving
-  pub type : SnapshotType
-  pub full : IsSaving snapshot.Full first
-  pub leads : DiffsLead first savings last
-  pub of_last : IsSaving type last
-  pub alike : last.guest.board.off ≡ false
-      → AreAlike (unwritten last.guest) (carried_guest last.copy last.guest.memory.bytes)
+  pub full : IsAnswered snapshot.Full first
+  pub leads : AnsweredLead first savings last
   pub many : length savings ≡ count
-  pub ready : Ready m
+  pub led : IsLed m
   pub on : IsOn false (count + 2) (Some (identity_of last)) last.after.saved m
-  pub guest_is : m.guest ≡ Some (unwritten last.guest)
+  pub guest_is : m.guest ≡ last.after.guest
   pub start : Machine
   pub left : IsLeft last start
   pub acts : List Act
@@ -140,7 +127,7 @@ module _ (number done : ℕ) (few : done + 1 ≤ 64) (m n : Machine) (was : Afte
     snapshot_type = snapshot.Diff;
   }
 
-  before : IsOn true (done + 2) base saved stands × Ready stands
+  before : IsOn true (done + 2) base saved stands × IsLed stands
   before =
       let one = does_first _ _ m stands parts.1 in
       let two = does_first _ _ one.0 stands one.2 in
@@ -149,9 +136,9 @@ module _ (number done : ℕ) (few : done + 1 ≤ 64) (m n : Machine) (was : Afte
       let on_two = steps_on (done + 2) base saved one.0 two.0 _ _ two.1.text on_one two.1.step.1 in
       let heard = heard_of (codes "PATCH") (codes "/vm") pause_body (call.PatchVm Paused) two.0 three.0 pauses on_two.empty three.1 in
       let same = does_none three.0 stands three.2 in
-      subst (λ (q : Machine). IsOn true (done + 2) base saved q × Ready q) same (
+      subst (λ (q : Machine). IsOn true (done + 2) base saved q × IsLed q) same (
         pauses_on (done + 2) base saved two.0 three.0 on_two heard,
-        one_ready pause two.0 three.0 three.1 (one_ready _ one.0 two.0 two.1 (one_ready _ m one.0 one.1 was.ready)),
+        one_led pause two.0 three.0 three.1 (one_led _ one.0 two.0 two.1 (one_led _ m one.0 one.1 was.led)),
       )
 
   -- the machine behind the create, and the one that runs again
@@ -162,7 +149,7 @@ module _ (number done : ℕ) (few : done + 1 ≤ 64) (m n : Machine) (was : Afte
   made =
       let heard = heard_of (codes "PUT") (codes "/snapshot/create") (diff_body i) (call.CreateSnapshot it) stands created.0
       (diffs i (omega arith) few) before.0.empty created.1 in
-      made_create it (done + 2) base saved stands created.0 before.1 before.0 heard
+      made_create it (done + 2) base saved stands created.0 before.1 created.1.on before.0 heard
       (diff_decided stands it (done + 2) saved (omega (arith, few)) (identity_of was.last) before.0 refl)
 
   abbrev s : Saving
@@ -238,17 +225,14 @@ module _ (number done : ℕ) (few : done + 1 ≤ 64) (m n : Machine) (was : Afte
         first = was.first;
         savings = was.savings ++ s ∷ [];
         last = s;
-        type = snapshot.Diff;
         full = was.full;
-        leads = leads_on was.first was.savings was.last s was.leads made.is follows;
-        of_last = made.is;
-        alike = made.alike;
+        leads = leads_on was.first was.savings was.last s was.leads made.answered follows;
         many = length-append was.savings (s ∷ []) ∙ ap (λ (k : ℕ). k + 1) was.many ∙ count;
-        ready = one_ready resume created.0 n last_line (one_ready (create_diff i) stands created.0 created.1 before.1);
+        led = one_led resume created.0 n last_line (one_led (create_diff i) stands created.0 created.1 before.1);
         on = subst (λ (k : ℕ). IsOn false k (Some (identity_of s)) s.after.saved n) numbers on_now;
         guest_is =
             resumes_guest (done + 2 + 1) (Some (identity_of s)) s.after.saved created.0 n after resumed
-            ∙ ap (λ (q : Machine). q.guest) made.leaves ∙ ap (λ (q : Machine). q.guest) (after_is snapshot.Diff s made.is);
+            ∙ ap (λ (q : Machine). q.guest) made.leaves;
         start = created.0;
         left = (s.after.connection, made.leaves);
         acts = created.2.acts;

@@ -1,5 +1,5 @@
 -- The creates of a run's script are a chain, and what they wrote stands in the files.
-use Rattle.std.proofs.Common.{◌≡◌, ◌≢◌, ◌<◌, ◌+◌, ◌^◌, ◌∙◌, ℕ, true, false, refl, sym, ap, subst, List, [], ◌∷◌, ◌++◌, Option, Some, Ok}
+use Rattle.std.proofs.Common.{◌≡◌, ◌≢◌, ◌<◌, ◌+◌, ◌^◌, ◌∙◌, ℕ, true, false, refl, sym, ap, subst, List, [], ◌∷◌, ◌++◌, Option, Some, Ok, inl}
 use Rattle.std.specs.Fmt.{decimal}
 use Rattle.std.specs.FinMap.{get}
 use Rattle.std.proofs.lemmas.Fmt.{decimal_injective}
@@ -17,38 +17,37 @@ use Rattle.vm_config.specs.declared.change.Change.TheVariants as change
 use Rattle.api_rules.specs.Table.{decision}
 use Rattle.flat_guest.specs.Changes.{reset_guest}
 use Rattle.flat_guest.specs.Guest.{unwritten}
-use Rattle.flat_guest.specs.Same.{AreAlike}
-use Rattle.flat_snapshot.specs.Carried.{carried_guest}
-use Rattle.flat_machine.specs.Machine.{Machine, phase_of}
-use Rattle.flat_machine.specs.Ready.{Ready}
-use Rattle.flat_machine.specs.Requests.{created, parent_in}
-use Rattle.snapshot_chain.specs.Chains.{DiffsLead, Follows, IsSaving, Saving, identity_of}
+use Rattle.guest_devices.specs.declared.device.Device.{Device}
+use Rattle.flat_machine.specs.Machine.{Machine, is_off, phase_of}
+use Rattle.flat_machine.specs.Outcome.Outcome.{Answered}
+use Rattle.flat_machine.specs.Requests.{RequestStep, created, parent_in}
+use Rattle.snapshot_chain.specs.Chains.{Follows, IsSaving, Saving, identity_of}
 use Rattle.snapshot_chain.proofs.Answered.{some_saving}
 use Rattle.snapshot_chain.proofs.Created.{after_is}
+use Rattle.restored_chain.specs.Restored.{AnsweredLead, IsAnswered}
+use Rattle.run_chain.proofs.Acts.{IsLed, led_ready, led_to}
 use Rattle.run_chain.proofs.Heard.{Heard, allows}
 use Rattle.run_chain.proofs.Lines.{IsOn}
 
 -- ---- one create
 
--- What was asked, of the request that was heard, is a create of a chain. If the guest is on, the one that goes on from its snapshot
--- and the one that was saved as it goes on are one body's.
+-- What was asked, of the request that was heard, is a create of a chain, and it was answered.
 pub record IsMade (it : SnapshotCreate) (m n : Machine) : Type 0 where
   pub saving : Saving
   pub asked_is : saving.asked ≡ it
   pub before_is : saving.before ≡ m
   pub is : IsSaving it.snapshot_type saving
+  pub answered : IsAnswered it.snapshot_type saving
   pub leaves : n ≡ saving.after
-  pub alike : saving.guest.board.off ≡ false
-      → AreAlike (unwritten saving.guest) (carried_guest saving.copy saving.guest.memory.bytes)
 
-module _ (it : SnapshotCreate) (number : ℕ) (base : Option Identity) (saved : Saved) (m n : Machine) (ready : Ready m)
-    (on : IsOn true number base saved m) (heard : Heard (call.CreateSnapshot it) m n)
+module _ (it : SnapshotCreate) (number : ℕ) (base : Option Identity) (saved : Saved) (m n : Machine) (led : IsLed m)
+    (live : is_off m ≡ false) (on : IsOn true number base saved m) (heard : Heard (call.CreateSnapshot it) m n)
     (decides : decision (phase_of m) m.config m.ids (call.CreateSnapshot it) ≡ Ok (change.CreateSnapshot it)) where
   pub made_create : IsMade it m n
   made_create =
       let asks = allows (call.CreateSnapshot it) m n (change.CreateSnapshot it) heard decides refl in
       let some =
-      some_saving m heard.mid on.guest (next.Request heard.request) it heard.kept heard.said ready on.there asks heard.step in
+      some_saving m heard.mid on.guest (next.Request heard.request) it heard.kept heard.said (led_ready m led) on.there asks heard.step in
       let own : Saving =
       record { asked = it; before = m; after = heard.mid; guest = reset_guest on.guest; copy = some.0 } in
       let left = after_is it.snapshot_type own some.2 in
@@ -58,7 +57,23 @@ module _ (it : SnapshotCreate) (number : ℕ) (base : Option Identity) (saved : 
         asked_is = refl;
         before_is = refl;
         is = some.2;
-        alike = some.3;
+        answered = record {
+          type_is = refl;
+          between = m;
+          led = led_to m led;
+          on = live;
+          inside = inl refl;
+          had = on.guest;
+          there = on.there;
+          guest_is = refl;
+          given = next.Request heard.request;
+          said = heard.said;
+          allows = asks;
+          step =
+              subst (λ (l : List Device). RequestStep (Answered l) (next.Request heard.request) m heard.said heard.mid) (sym some.1)
+              heard.step;
+          is_copy = some.2.is_copy;
+        };
         leaves = heard.leaves ∙ ap (λ (c : Connection). record heard.mid { connection = c }) (sym kept);
       }
 
@@ -91,8 +106,8 @@ module _ (type : SnapshotType) (s : Saving) (is : IsSaving type s) where
 
 -- ---- the chain with one more
 
-pub leads_on : (first : Saving) (savings : List Saving) (last s : Saving) → DiffsLead first savings last → IsSaving snapshot.Diff s
-    → Follows last s → DiffsLead first (savings ++ s ∷ []) s
+pub leads_on : (first : Saving) (savings : List Saving) (last s : Saving) → AnsweredLead first savings last → IsAnswered snapshot.Diff s
+    → Follows last s → AnsweredLead first (savings ++ s ∷ []) s
 leads_on first [] last s same is follows =
     (is, subst (λ (x : Saving). Follows x s) (sym same) follows, refl)
 leads_on first (other ∷ savings) last s (own, after, rest) is follows = (own, after, leads_on other savings last s rest is follows)

@@ -68,10 +68,10 @@ reads_as given rest f m o read end is = with_end given rest f (Some m) read end 
 
 pub other_kind : (code : ℕ) (given : List ℕ) → (code ≡ 0 → ⊥) → (code ≡ 1 → ⊥) → (code ≡ 2 → ⊥)
     → (devices code).reads given ≡ None
-other_kind zero given no one two = absurd (no refl)
-other_kind (suc zero) given no one two = absurd (one refl)
-other_kind (suc (suc zero)) given no one two = absurd (two refl)
-other_kind (suc (suc (suc n))) given no one two = refl
+other_kind zero given first one two = absurd (first refl)
+other_kind (suc zero) given first one two = absurd (one refl)
+other_kind (suc (suc zero)) given first one two = absurd (two refl)
+other_kind (suc (suc (suc n))) given first one two = refl
 
 pub kind_bad : (given : List ℕ) → byte.reads given ≡ None → device.reads given ≡ None
 unfolding device
@@ -166,4 +166,4 @@ balloon_none given rest read is =
 
 pub other_none : (given rest : List ℕ) (code : ℕ) → byte.reads given ≡ Some (code, rest) → (code ≡ 0 → ⊥) → (code ≡ 1 → ⊥)
     → (code ≡ 2 → ⊥) → device.reads given ≡ None
-other_none given rest code read no one two = kind_read given rest code None read (other_kind code rest no one two)
+other_none given rest code read first one two = kind_read given rest code None read (other_kind code rest first one two)

@@ -49,11 +49,12 @@ fn kind_due(configuration: &Configuration, number: usize) -> Option<DeviceKind>
     if number < drives {
         return Some(DeviceKind::Block);
     }
-    let behind = drives + configuration.interfaces.count();
-    if number < behind {
+    let behind = number - drives;
+    let interfaces = configuration.interfaces.count();
+    if behind < interfaces {
         return Some(DeviceKind::Net);
     }
-    if number == behind {
+    if behind == interfaces {
         return balloon_kind(&configuration.balloon);
     }
     None

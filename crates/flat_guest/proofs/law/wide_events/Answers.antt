@@ -1,4 +1,3 @@
-use Rattle.flat_guest.proofs.Widths.{widths_made, widths_start, widths_told}
 use Rattle.flat_guest.proofs.Narrow.{widths_next}
 use Rattle.flat_guest.proofs.law.wide_events.Goals as goal
 

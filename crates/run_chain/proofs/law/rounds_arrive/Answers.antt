@@ -1,4 +1,3 @@
-use Rattle.run_chain.proofs.Opening.{script_leaves}
 use Rattle.run_chain.proofs.Numbered.{diffs, loads}
 use Rattle.run_chain.proofs.law.rounds_arrive.Goals as goal
 

@@ -8,19 +8,31 @@ returns-then-number-drives c =
     sym (drive_due own.drives own.interfaces own.balloon c.args.number
     (omega (arith, c.if-number-drives.true, c.count-drives.ensures)))
 
-pub returns-then-number-behind : goal.returns-then-number-behind
-returns-then-number-behind c =
+pub returns-then-behind-interfaces : goal.returns-then-behind-interfaces
+returns-then-behind-interfaces c =
     let own = c.args.configuration.now in
     sym (interface_due own.drives own.interfaces own.balloon c.args.number
     (omega (arith, c.if-number-drives.false, c.count-drives.ensures))
-    (omega (arith, c.if-number-behind.true, c.count-drives.ensures, c.count-behind.ensures)))
+    (omega (
+      arith,
+      c.if-number-drives.false,
+      c.if-behind-interfaces.true,
+      c.count-drives.ensures,
+      c.count-interfaces.ensures,
+    )))
 
-pub returns-then-number-behind-2 : goal.returns-then-number-behind-2
-returns-then-number-behind-2 c =
+pub returns-then-behind-interfaces-2 : goal.returns-then-behind-interfaces-2
+returns-then-behind-interfaces-2 c =
     let own = c.args.configuration.now in
     c.balloon_kind.ensures
     ∙ sym (balloon_due own.drives own.interfaces own.balloon c.args.number
-    (omega (arith, c.if-number-behind-2.true, c.count-drives.ensures, c.count-behind.ensures)))
+    (omega (
+      arith,
+      c.if-number-drives.false,
+      c.if-behind-interfaces-2.true,
+      c.count-drives.ensures,
+      c.count-interfaces.ensures,
+    )))
 
 pub returns : goal.returns
 returns c =
@@ -28,8 +40,9 @@ returns c =
     sym (none_due own.drives own.interfaces own.balloon c.args.number
     (omega (
       arith,
-      c.if-number-behind.false,
-      c.if-number-behind-2.false,
+      c.if-number-drives.false,
+      c.if-behind-interfaces.false,
+      c.if-behind-interfaces-2.false,
       c.count-drives.ensures,
-      c.count-behind.ensures,
+      c.count-interfaces.ensures,
     )))

@@ -1,4 +1,4 @@
-use Rattle.std.proofs.Common.{◌≡◌, ℕ, ◌+◌, sym, ap, subst, ◌∙◌, arith}
+use Rattle.std.proofs.Common.{◌≡◌, ℕ, ◌+◌, ap, subst, ◌∙◌, arith}
 use Rattle.vm_types.specs.declared.ids.ActorId.{ActorId}
 use Rattle.guest_pages.proofs.Making.{code_stays, less_room, room_left, spends_less, spends_more}
 use Rattle.hart_trace.specs.States.{fresh}

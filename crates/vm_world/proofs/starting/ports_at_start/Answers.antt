@@ -1,5 +1,5 @@
 -- One port more, of one device more that fits.
-use Rattle.std.proofs.Common.{◌≡◌, ◌∙◌, ◌++◌, ◌∷◌, [], sym, ap, map, subst, take}
+use Rattle.std.proofs.Common.{◌∙◌, ◌++◌, ◌∷◌, [], sym, ap, map, subst, take}
 use Rattle.std.proofs.lemmas.List.{map_push, take_more}
 use Rattle.std.proofs.lemmas.List.Elements.{All-more, All-nil}
 use Rattle.guest_devices.specs.Devices.{FitsNew}

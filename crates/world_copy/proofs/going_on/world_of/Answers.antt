@@ -1,7 +1,7 @@
 use Rattle.std.proofs.Common.{◌≡◌, ◌*◌, sym, subst, ap, ◌∙◌, ℕ, List, length, arith}
 use Rattle.std.specs.List.{list_all}
 use Rattle.guest_memory.specs.Ram.{page_size}
-use Rattle.guest_pages.specs.Made.{HasRoom, PagesValue}
+use Rattle.guest_pages.specs.Made.{PagesValue}
 use Rattle.guest_pages.specs.Pages.{PageValue, flat_of, marks_of}
 use Rattle.snap_state.specs.declared.copy.Reservation.{Reservation}
 use Rattle.snap_harts.specs.declared.hart.SavedHart.{SavedHart}

@@ -7,8 +7,8 @@ use Rattle.monitor_machine.proofs.machine.telling.tell_interface.Goals as goal
 pub tell_limits-requires : goal.tell_limits-requires
 tell_limits-requires c = c.requires.0
 
-pub tell_limits-2-requires : goal.tell_limits-2-requires
-tell_limits-2-requires c = c.requires.1
+pub tell_limits-requires-2 : goal.tell_limits-requires-2
+tell_limits-requires-2 c = c.requires.1
 
 pub returns : goal.returns
 returns c =

@@ -1,4 +1,4 @@
-use Rattle.std.proofs.Common.{◌≤◌, ap, arith, length, subst, sym, ◌∙◌}
+use Rattle.std.proofs.Common.{◌≤◌, ap, arith, subst, sym, ◌∙◌}
 use Rattle.guest_pages.specs.Made.{PagesValue, unmade}
 use Rattle.guest_pages.specs.Pages.{flat_of, marks_of}
 use Rattle.guest_pages.proofs.Each.{made_have_marks, made_memory}
