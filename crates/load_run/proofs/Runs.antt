@@ -8,6 +8,7 @@ use Rattle.command_line.specs.MachineId.{default_id}
 use Rattle.flat_machine.specs.Machine.{Machine, new_machine}
 use Rattle.script_text.specs.Lines.{judged}
 use Rattle.load_gen.specs.Load.{load_items, load_script, rounds_of}
+use Rattle.restored_chain.proofs.Restored.{TraceReady}
 use Rattle.run_chain.proofs.Acts.{lines_of}
 use Rattle.load_run.specs.Line.{run_line}
 use Rattle.load_run.specs.Merging.{merged, pages_in}
@@ -23,12 +24,12 @@ done_as script other saved held calls made m one two three done =
     subst (λ (c : List FileCall). IsDone other (new_machine default_id held c) m) three
     (subst (λ (s : Saved). IsDone other (new_machine default_id s calls) m) two (subst (λ (t : List ℕ). IsDone t (new_machine default_id saved calls) m) one done))
 
-pub run_is : (one : IsOne) (chain : IsRestoredAlike) (number rounds pages : ℕ) (start first counted last end : FilesKnown) (script load source restored first_shown last_shown line : List ℕ) → rounds ≡ rounds_of number → HoldNothing start
+pub run_is : (one : IsOne) (ready : TraceReady) (chain : IsRestoredAlike) (number rounds pages : ℕ) (start first counted last end : FilesKnown) (script load source restored first_shown last_shown line : List ℕ) → rounds ≡ rounds_of number → HoldNothing start
     → script ≡ load_script number → load ≡ restore_script rounds → ShowsAtEnd script start source first → SameFiles first counted → pages ≡ pages_in rounds first.saved
     → last.saved ≡ merged rounds counted.saved → ShowsAtEnd load last restored end → first_shown ≡ source → last_shown ≡ restored
     → line ≡ run_line number rounds pages first_shown last_shown → judged (load_script number) ≡ lines_of (load_items number)
     → judged (restore_script (rounds_of number)) ≡ lines_of (load_last (rounds_of number) ∷ []) → IsRun number line
-run_is one chain number rounds pages start first counted last end script load source restored first_shown last_shown line same empty script_is load_is shows kept pages_are merges loads first_is last_is says reads loads_read =
+run_is one ready chain number rounds pages start first counted last end script load source restored first_shown last_shown line same empty script_is load_is shows kept pages_are merges loads first_is last_is says reads loads_read =
     let held : last.saved ≡ merged (rounds_of number) shows.last.saved = merges ∙ ap (λ (s : Saved). merged rounds s) (kept.saved ∙ shows.saved)
     ∙ ap (λ (n : ℕ). merged n shows.last.saved) same in
     let count : pages ≡ pages_in (rounds_of number) shows.last.saved = pages_are ∙ ap (λ (s : Saved). pages_in rounds s) shows.saved
@@ -49,7 +50,7 @@ run_is one chain number rounds pages start first counted last end script load so
       restored_words = restored;
       restored_shows = loads.shows;
       same =
-          same_shown one chain number shows.last loads.last last.calls source restored reads loads_read replayed loaded shows.shows loads.shows;
+          same_shown one ready chain number shows.last loads.last last.calls source restored reads loads_read replayed loaded shows.shows loads.shows;
       says = says ∙ ap (λ (l : List ℕ). run_line number rounds pages l last_shown) first_is ∙ ap (λ (l : List ℕ). run_line number rounds pages source l) last_is
           ∙ ap (λ (n : ℕ). run_line number n pages source restored) same
           ∙ ap (λ (n : ℕ). run_line number (rounds_of number) n source restored) count;

@@ -24,7 +24,6 @@ use Rattle.load_gen.specs.Load.{load_items, load_script, rounds_of}
 use Rattle.flat_machine.specs.Machine.{Machine, is_off, new_machine, phase_of}
 use Rattle.flat_machine.specs.Replay.{IsEnd, longest_script}
 use Rattle.flat_machine.specs.Run.{Act, Run, lines_done}
-use Rattle.flat_trace.proofs.Readiness.{run_kept}
 use Rattle.snapshot_chain.specs.Chains.{DiffsLead, IsSaving, Saving, memory_text, state_text}
 use Rattle.snapshot_chain.proofs.Created.{text_is}
 use Rattle.snapshot_chain.proofs.Loaded.{some_merge}
@@ -32,7 +31,7 @@ use Rattle.snapshot_merge.specs.InOrder.{MergeAll}
 use Rattle.alike_runs.specs.Alike.{Alike, as_loaded}
 use Rattle.restored_chain.specs.Merged.{MergeCalls}
 use Rattle.restored_chain.specs.Restored.{IsRestored}
-use Rattle.restored_chain.proofs.Restored.{diffs_lead, saving_is}
+use Rattle.restored_chain.proofs.Restored.{TraceReady, diffs_lead, saving_is}
 use Rattle.run_chain.proofs.Acts.{Does, does_first, does_none, lines_of, ons_of}
 use Rattle.run_chain.proofs.Heard.{Heard}
 use Rattle.run_chain.proofs.Numbered.{all_upto, loads, one_of}
@@ -149,7 +148,7 @@ IsRestoredAlike =
     (c : Connection) → IsRestored first savings last k load said p
     → Alike [] (record (as_loaded last.after k load) { connection = c }) (record p { connection = c })
 
-module _ (one : IsOne) (chain : IsRestoredAlike) (number : ℕ) (source restored : Machine) (calls : List FileCall) (own other : List ℕ)
+module _ (one : IsOne) (ready : TraceReady) (chain : IsRestoredAlike) (number : ℕ) (source restored : Machine) (calls : List FileCall) (own other : List ℕ)
     (reads : judged (load_script number) ≡ lines_of (load_items number))
     (loads_read : judged (restore_script (rounds_of number)) ≡ lines_of (load_last (rounds_of number) ∷ []))
     (replayed : IsDone (load_script number) (new_machine default_id nothing_saved []) source)
@@ -169,10 +168,10 @@ module _ (one : IsOne) (chain : IsRestoredAlike) (number : ℕ) (source restored
   last = after.last
 
   full : IsSaving snapshot.Full after.first
-  full = saving_is run_kept snapshot.Full after.first after.full
+  full = saving_is ready snapshot.Full after.first after.full
 
   leads : DiffsLead after.first after.savings last
-  leads = diffs_lead run_kept after.first after.savings last after.leads
+  leads = diffs_lead ready after.first after.savings last after.leads
 
   base : (text : List ℕ) × (memory_text after.first ≡ Some text)
   base = text_of snapshot.Full after.first full

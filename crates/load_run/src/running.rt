@@ -11,6 +11,7 @@ use crate::no_line::NoLine;
 use crate::replaying::replay;
 use crate::scripts::{load_script, restore_script};
 use crate::showing::words_of;
+use flat_trace::every_trace_ready;
 use hart_trace::hart_follows;
 use load_gen::{load_is_read, rounds_of};
 use restored_chain::restored_chain;
@@ -25,6 +26,7 @@ pub fn line_of_run<F: Files>(alloc: Global, number: u32, files: &mut F) -> Resul
     requires empty { HoldNothing (F.known files.old) }
     ensures { IfOk result (λ line. IsRun number line) }
 {
+    every_trace_ready();
     hart_follows();
     load_is_read();
     restored_chain();

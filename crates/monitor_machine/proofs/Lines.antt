@@ -11,6 +11,7 @@ use Rattle.vm_types.specs.Fits.{out_fits}
 use Rattle.script_text.specs.declared.output.Misfit.{Misfit}
 use Rattle.script_text.specs.declared.output.Misfit.TheVariants as misfit
 use Rattle.script_text.specs.Output.{misfit_line, register_line}
+use Rattle.script_output.specs.Output.{console_line}
 use Rattle.rv_supervisor.specs.declared.regs.Regs.{Regs}
 use Rattle.hart_trace.specs.Shown.{register_of}
 use Rattle.hart_trace.specs.States.{Hart}
@@ -19,7 +20,7 @@ use Rattle.flat_guest.specs.Body.{want_of}
 use Rattle.flat_guest.specs.Given.{Given, as_given}
 use Rattle.flat_guest.specs.Guest.{Guest, Wants, is_actor}
 use Rattle.flat_guest.specs.Steps.{guest_after, is_given}
-use Rattle.flat_machine.specs.Machine.{Machine, running, running_by}
+use Rattle.flat_machine.specs.Machine.{Machine, console_by, console_of, drained, drained_guest, running, running_by}
 use Rattle.flat_machine.specs.Items.{Answers, Misfits, Moves, RegisterLine, Replies, RepliesLine, Shows, ShowsFrom, StepsLine, steps_text}
 use Rattle.vm_world.specs.declared.step_error.StepError.{StepError}
 use Rattle.vm_world.specs.Refusing.{refusal_of}
@@ -87,6 +88,31 @@ with_guest live known m w g is guest = record {
   };
   files = record { saved_is = is.files.saved_is; calls_is = is.files.calls_is };
 }
+
+-- the console is shown, and drained
+pub drained_is : (w : WorldValue) (g : Guest) → IsWorld w g
+    → IsWorld (record w { board = record w.board { console = [] } }) (record g { board = record g.board { console = [] } })
+drained_is w g is = record {
+  memory_is = is.memory_is;
+  marks_are = is.marks_are;
+  board_is = λ i. record (is.board_is i) { console = [] };
+  ports_are = is.ports_are;
+  timer_is = is.timer_is;
+  harts_are = record { count = is.harts_are.count; each = is.harts_are.each };
+  devices_are = record { count = is.devices_are.count; each = is.devices_are.each; sound = is.devices_are.sound };
+}
+
+pub console_shown : (live : LiveMachine) (known : FilesKnown) (m : Machine) (w after : WorldValue) (text : List ℕ) → IsMachine live known m
+    → live.guest ≡ Some w → after ≡ record w { board = record w.board { console = [] } } → text ≡ console_line w.board.console
+    → (text ≡ console_line (console_of m)) × IsMachine (record live { guest = Some after }) known (drained m)
+console_shown live known m w after text is some empties writes =
+    let h = some_guest live.guest w m.guest is.own.guest_is some in
+    let v : WorldValue = record w { board = record w.board { console = [] } } in (
+      writes ∙ (λ i. console_line (h.2.board_is i).console) ∙ sym (ap (λ (g : Option Guest). console_line (console_by g)) h.1),
+      with_guest live known m after (drained_guest m.guest) is
+          (subst (λ (x : WorldValue). IsGuestBy (Some x) (drained_guest m.guest)) (sym empties)
+          (subst (λ (g : Option Guest). IsGuestBy (Some v) (drained_guest g)) (sym h.1) (drained_is w h.0 h.2))),
+    )
 
 pub step_no_actor : (live : LiveMachine) (known : FilesKnown) (m : Machine) (world left : WorldValue) (actor : ActorId) (count : ℕ) (text : List ℕ)
     → IsMachine live known m → live.paused ≡ false → live.guest ≡ Some world → left ≡ world

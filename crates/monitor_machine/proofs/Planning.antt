@@ -11,6 +11,7 @@ use Rattle.vm_outside.specs.Known.{FilesKnown}
 use Rattle.api_calls.specs.declared.call.Drive.{Drive}
 use Rattle.api_calls.specs.declared.call.DrivePatch.{DrivePatch}
 use Rattle.api_calls.specs.declared.interface.Interface.{Interface}
+use Rattle.api_calls.specs.declared.call.SnapshotCreate.{SnapshotCreate}
 use Rattle.api_calls.specs.declared.call.SnapshotLoad.{SnapshotLoad}
 use Rattle.api_calls.specs.Call.{◌>>=◌}
 use Rattle.metadata_store.specs.Store.{patched as merged, put}
@@ -65,6 +66,29 @@ plain_change m (change.Tell part) plain = refl
 
 pub changes_plan : (m : Machine) (given : Next) (it : Change) → decided m given ≡ Ok it → is_plain it ≡ true → IsPlan (plan.Changes it) m given
 changes_plan m given it is plain = (ap (λ (r : Result Change Refusal). r >>= by_contents m) is ∙ plain_change m it plain, plain)
+
+-- one that is none of these
+pub plain_left : (it : Change) → ((drive : Drive) → it ≡ change.PutDrive drive → ⊥) → ((patch : DrivePatch) → it ≡ change.PatchDrive patch → ⊥)
+    → ((interface : Interface) → it ≡ change.PutInterface interface → ⊥) → ((body : Data) → it ≡ change.PutMetadata body → ⊥)
+    → ((patch : Data) → it ≡ change.PatchMetadata patch → ⊥) → (it ≡ change.Start → ⊥)
+    → ((create : SnapshotCreate) → it ≡ change.CreateSnapshot create → ⊥) → ((load : SnapshotLoad) → it ≡ change.LoadSnapshot load → ⊥)
+    → is_plain it ≡ true
+plain_left (change.BootSource source) drives files nets puts patches starts creates loads = refl
+plain_left (change.PutDrive drive) drives files nets puts patches starts creates loads = absurd (drives drive refl)
+plain_left (change.PatchDrive patch) drives files nets puts patches starts creates loads = absurd (files patch refl)
+plain_left (change.PutInterface interface) drives files nets puts patches starts creates loads = absurd (nets interface refl)
+plain_left (change.PatchInterface patch) drives files nets puts patches starts creates loads = refl
+plain_left (change.MachineConfig machine) drives files nets puts patches starts creates loads = refl
+plain_left (change.PutBalloon balloon) drives files nets puts patches starts creates loads = refl
+plain_left (change.PatchBalloon patch) drives files nets puts patches starts creates loads = refl
+plain_left (change.PatchStatistics patch) drives files nets puts patches starts creates loads = refl
+plain_left (change.PutMetadata body) drives files nets puts patches starts creates loads = absurd (puts body refl)
+plain_left (change.PatchMetadata patch) drives files nets puts patches starts creates loads = absurd (patches patch refl)
+plain_left change.Start drives files nets puts patches starts creates loads = absurd (starts refl)
+plain_left (change.State state) drives files nets puts patches starts creates loads = refl
+plain_left (change.CreateSnapshot create) drives files nets puts patches starts creates loads = absurd (creates create refl)
+plain_left (change.LoadSnapshot load) drives files nets puts patches starts creates loads = absurd (loads load refl)
+plain_left (change.Tell part) drives files nets puts patches starts creates loads = refl
 
 -- ---- metadata
 

@@ -55,7 +55,7 @@ use Rattle.monitor_machine.specs.Ready.{IsReadyLive}
 use Rattle.monitor_machine.specs.State.{IsGuestBy, IsLive}
 use Rattle.monitor_machine.specs.Telling.{Relimits, RelimitsBoth, Retargets, Retimes, TellsChange, TellsDevice}
 use Rattle.monitor_machine.proofs.Leaving.{left_is}
-use Rattle.monitor_machine.proofs.Lines.{some_guest}
+use Rattle.monitor_machine.proofs.Lines.{drained_is, some_guest}
 
 -- ---- its guest
 
@@ -152,18 +152,6 @@ drain_stays live w there it =
     let h : Guest = record g { board = record g.board { console = [] } } in
     changes_to live w (record w { board = record w.board { console = [] } }) on h
     (drained_ready on.flat.config on.flat.paused (Some g) on.stands) (drained_is w g on.world)
-  where
-    drained_is : (w : WorldValue) (g : Guest) → IsWorld w g
-        → IsWorld (record w { board = record w.board { console = [] } }) (record g { board = record g.board { console = [] } })
-    drained_is w g is = record {
-      memory_is = is.memory_is;
-      marks_are = is.marks_are;
-      board_is = λ i. record (is.board_is i) { console = [] };
-      ports_are = is.ports_are;
-      timer_is = is.timer_is;
-      harts_are = record { count = is.harts_are.count; each = is.harts_are.each };
-      devices_are = record { count = is.devices_are.count; each = is.devices_are.each; sound = is.devices_are.sound };
-    }
 
 -- a device is told of a change, if both are there, and its port shows what this makes of it
 pub tells_stay : (live : Live) (device : Option ℕ) (change : DeviceChange) (shows : Option PortState → Option (List ℕ)) (after : Option WorldValue)

@@ -9,8 +9,10 @@ pub mod Lent
 pub mod Lifts
 pub mod Lone
 pub mod Making
+pub mod Paces
 pub mod Passing
 pub mod Resting
 pub mod Sound
 pub mod Staying
 pub mod Told
+pub mod Turns

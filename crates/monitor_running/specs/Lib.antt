@@ -3,10 +3,13 @@ pub mod Asked
 pub mod Devices
 pub mod Items
 pub mod Objects
+pub mod Paced
+pub mod Pacing
 pub mod Passes
 pub mod Ran
 pub mod Reached
 pub mod Staying
 pub mod Traced
+pub mod Turned
 pub mod Waiting
 pub mod Working

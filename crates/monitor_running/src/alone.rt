@@ -3,13 +3,11 @@ ghost use Rattle.std.specs.Prelude.{◌≡◌, ◌≢◌, ◌≤◌, ◌<◌, �
 ghost use Rattle.vm_types.specs.declared.ids.ActorId.{ActorId};
 ghost use Rattle.vm_types.specs.declared.op.Op.TheVariants.{Idle};
 ghost use Rattle.vm_world.specs.Worlds.{want_in};
-ghost use Rattle.monitor_running.specs.declared.ran.Ran.TheVariants as ran;
 ghost use Rattle.monitor_running.specs.Alone.{HasRun};
 ghost use Rattle.monitor_running.specs.Objects.{known_with};
 ghost use Rattle.monitor_running.specs.Passes.{ArePassed};
-ghost use Rattle.monitor_running.specs.Ran.{IsRunning, Went};
+ghost use Rattle.monitor_running.specs.Turned.{IsTurn};
 ghost use Rattle.monitor_running.specs.Waiting.{IsAlone, OthersIdle};
-ghost use Rattle.monitor_running.specs.Staying.{StaysReady};
 
 use crate::gating::looks_open;
 use crate::objects::TurnObjects;
@@ -41,7 +39,10 @@ pub struct Turn {
 }
 
 impl Turn {
-    pub fn new(hart: u8, most: u32) -> Turn {
+    /// None is made yet.
+    pub fn new(hart: u8, most: u32) -> Turn
+        ensures { result ≡ record { hart = hart; most = most; made = 0 } }
+    {
         Turn {
             hart,
             most,
@@ -157,12 +158,9 @@ pub fn run_burst<Q, W: TurnObjects, G: Gate<Pass = Q>, K: Sink>(
 ) -> Option<Ran>
     requires some { 0 < length passes.old.items }
     requires serve { All (G.serves gate.now) passes.old.items }
-    ensures went { Went IsRunning result
-        (known_with (W.known with.old) (K.known sink.old)) world.old
-        (known_with (W.known with.new) (K.known sink.new)) world.new }
-    ensures passes { ArePassed (G.serves gate.now) G.tally result passes.old.items passes.new.items }
-    ensures ready { StaysReady world.old world.new }
-    ensures unclosed { result ≢ Some ran.Closed }
+    ensures { IsTurn (G.serves gate.now) G.tally result
+        (known_with (W.known with.old) (K.known sink.old)) world.old passes.old.items
+        (known_with (W.known with.new) (K.known sink.new)) world.new passes.new.items }
 {
     let Ok(()) = world.reserve(alloc, EVENTS_AT_ONCE) else {
         return Some(Ran::OutOfMemory);
@@ -190,12 +188,9 @@ pub fn run_alone<Q, W: TurnObjects, G: Gate<Pass = Q>, K: Sink>(
     requires harts { length world.old.harts ≤ 32 }
     requires some { 0 < length passes.old.items }
     requires serve { All (G.serves gate.now) passes.old.items }
-    ensures went { Went IsRunning result
-        (known_with (W.known with.old) (K.known sink.old)) world.old
-        (known_with (W.known with.new) (K.known sink.new)) world.new }
-    ensures passes { ArePassed (G.serves gate.now) G.tally result passes.old.items passes.new.items }
-    ensures ready { StaysReady world.old world.new }
-    ensures unclosed { result ≢ Some ran.Closed }
+    ensures { IsTurn (G.serves gate.now) G.tally result
+        (known_with (W.known with.old) (K.known sink.old)) world.old passes.old.items
+        (known_with (W.known with.new) (K.known sink.new)) world.new passes.new.items }
 {
     if let Some(end) = pass_round(alloc, world, with, Some(turn.hart), sink) {
         return Some(end);

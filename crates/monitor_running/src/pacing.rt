@@ -1,5 +1,7 @@
 // Which turns of several harts are slices, and how long a turn in which all harts wait may rest.
-ghost use Rattle.std.specs.Prelude.{◌≡◌, ◌≤◌, ◌+◌, true, false};
+ghost use Rattle.std.specs.Prelude.{◌≡◌, ◌↔◌, ◌≤◌, ◌-◌, min, true, false};
+ghost use Rattle.std.specs.List.{list_any};
+ghost use Rattle.monitor_running.specs.Pacing.{after_rotation, after_slice, ask_time, cost, is_at, is_time_asked, made_from, new_pace, rotations, rotations_by, slice_until};
 
 use vm_types::{BoardOp, Entry, Op};
 
@@ -26,18 +28,24 @@ struct Made {
 }
 
 // What a thousand events cost in nanoseconds, where they were over at this moment.
-fn cost(made: Made, ended: u64) -> u64 {
+fn cost(made: Made, ended: u64) -> u64
+    ensures { result ≡ cost made ended }
+{
     ended.saturating_sub(made.began).min(MOST_TIME) * 1_000 / made.events.max(1)
 }
 
+// Whether a device asks guest time.
+fn is_time_asked(op: &Op) -> bool
+    ensures { result ≡ is_time_asked op.now }
+{
+    matches!(op, Op::Board(BoardOp::Time))
+}
+
 // Whether guest time was asked in one of these.
-fn ask_time(events: &[Entry]) -> bool {
-    for event in events {
-        if matches!(event.op, Op::Board(BoardOp::Time)) {
-            return true;
-        }
-    }
-    false
+fn ask_time(events: &[Entry]) -> bool
+    ensures { result ≡ ask_time events.now }
+{
+    events.iter().any(|event| is_time_asked(&event.op))
 }
 
 /// How turns of several harts are made: as slices, or in rotation where that cost less when it was tried last. Time is guest time,
@@ -62,9 +70,9 @@ pub struct Pace {
 }
 
 impl Pace {
-    /// The first turn of several harts is a slice.
+    /// The first turn of several harts is a slice. An actor makes so many steps in a turn at most.
     pub fn new(steps: u32) -> Pace
-        ensures { result.left ≡ 0 }
+        ensures { result ≡ new_pace steps }
     {
         Pace {
             steps,
@@ -80,8 +88,8 @@ impl Pace {
 
     /// Whether the next turn of several harts is a slice. One in rotation is counted.
     pub(crate) fn is_slice_due(&mut self) -> bool
-        ensures due { self.old.left ≡ 0 → result ≡ true }
-        ensures counted { result ≡ false → self.new.left + 1 ≡ self.old.left }
+        ensures due { (result ≡ true) ↔ (self.old.left ≡ 0) }
+        ensures counted { self.new ≡ record self.old { left = self.old.left - 1 } }
     {
         if self.left == 0 {
             return true;
@@ -92,7 +100,7 @@ impl Pace {
 
     /// The devices made these events.
     pub(crate) fn told_devices(&mut self, events: &[Entry])
-        ensures { self.new.left ≡ self.old.left }
+        ensures { self.new ≡ record self.old { is_timed = ask_time events.now } }
     {
         self.is_timed = ask_time(events);
     }
@@ -100,8 +108,8 @@ impl Pace {
     /// So long the clock rests at most, in nanoseconds, where so much is left until a timer interrupt is due: a chain that waits for
     /// guest time is tried again soon.
     pub(crate) fn most_rest(&self, left: u64) -> u64
-        ensures left { result ≤ left }
-        ensures timed { self.now.is_timed ≡ true → result ≤ 1000000 }
+        ensures timed { self.now.is_timed ≡ true → result ≡ min left 1000000 }
+        ensures untimed { self.now.is_timed ≡ false → result ≡ left }
     {
         if self.is_timed {
             left.min(MOST_TIMED_REST)
@@ -112,7 +120,8 @@ impl Pace {
 
     /// A slice of so many events was made, and guest time was read at these moments.
     pub(crate) fn told_slice(&mut self, events: u64, began: u64, ended: u64)
-        ensures { self.new.left ≤ 99 }
+        ensures after { self.new ≡ after_slice events began ended self.old }
+        ensures most { self.new.left ≤ 99 }
     {
         self.made = self.made_from(events, began);
         self.ended = Some(ended);
@@ -122,7 +131,7 @@ impl Pace {
 
     /// A rotation of so many events was made. Guest time was read before its turn, before its events, and behind them.
     pub(crate) fn told_rotation(&mut self, events: u64, before: u64, began: u64, ended: u64)
-        ensures { self.new.left ≡ self.old.left }
+        ensures { self.new ≡ after_rotation events before began ended self.old }
     {
         self.slice = self.slice_until(before, began);
         self.made = None;
@@ -132,14 +141,18 @@ impl Pace {
     }
 
     // Whether guest time is still that of the last turn's end, so that no other turn was made since.
-    fn is_at(&self, moment: u64) -> bool {
+    fn is_at(&self, moment: u64) -> bool
+        ensures { result ≡ is_at self.now.ended moment }
+    {
         match self.ended {
             Some(ended) => ended == moment,
             None => false,
         }
     }
 
-    fn made_from(&self, events: u64, began: u64) -> Option<Made> {
+    fn made_from(&self, events: u64, began: u64) -> Option<Made>
+        ensures { result ≡ made_from self.now events began }
+    {
         if self.is_at(began) {
             Some(Made { events, began })
         } else {
@@ -149,7 +162,9 @@ impl Pace {
 
     // What the last slice cost, if it was made before this turn and over when the turn's events began. Where that isn't known, what
     // one cost before it.
-    fn slice_until(&self, before: u64, ended: u64) -> Option<u64> {
+    fn slice_until(&self, before: u64, ended: u64) -> Option<u64>
+        ensures { result ≡ slice_until self.now before ended }
+    {
         if !self.is_at(before) {
             return self.slice;
         }
@@ -161,7 +176,8 @@ impl Pace {
 
     // How many rotations may follow a slice.
     fn rotations(&self) -> u32
-        ensures { result ≤ 99 }
+        ensures value { result ≡ rotations self.now.slices self.now.slice self.now.rotation }
+        ensures most { result ≤ 99 }
     {
         match (self.slice, self.rotation) {
             (Some(slice), Some(rotation)) => self.rotations_by(slice, rotation),
@@ -171,7 +187,8 @@ impl Pace {
 
     // By what both cost.
     fn rotations_by(&self, slice: u64, rotation: u64) -> u32
-        ensures { result ≤ 99 }
+        ensures value { result ≡ rotations_by self.now.slices slice rotation }
+        ensures most { result ≤ 99 }
     {
         if slice > rotation {
             return MOST_ROTATIONS;

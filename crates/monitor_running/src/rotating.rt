@@ -1,10 +1,7 @@
 // Where several harts have something to do: a burst of each of them, one after another, and no slice.
-ghost use Rattle.std.specs.Prelude.{◌≢◌, ◌≤◌, ◌<◌, length, All, Some};
-ghost use Rattle.monitor_running.specs.declared.ran.Ran.TheVariants as ran;
+ghost use Rattle.std.specs.Prelude.{◌≡◌, ◌≤◌, ◌<◌, length, All};
 ghost use Rattle.monitor_running.specs.Objects.{known_with};
-ghost use Rattle.monitor_running.specs.Passes.{ArePassed};
-ghost use Rattle.monitor_running.specs.Ran.{IsRunning, Went};
-ghost use Rattle.monitor_running.specs.Staying.{StaysReady};
+ghost use Rattle.monitor_running.specs.Turned.{IsTurn};
 
 use crate::alone::{MOST_ALONE, Turn, run_burst};
 use crate::objects::TurnObjects;
@@ -38,12 +35,9 @@ fn run_unless_waits<Q, W: TurnObjects, G: Gate<Pass = Q>, K: Sink>(
 ) -> Option<Ran>
     requires some { 0 < length passes.old.items }
     requires serve { All (G.serves gate.now) passes.old.items }
-    ensures went { Went IsRunning result
-        (known_with (W.known with.old) (K.known sink.old)) world.old
-        (known_with (W.known with.new) (K.known sink.new)) world.new }
-    ensures passes { ArePassed (G.serves gate.now) G.tally result passes.old.items passes.new.items }
-    ensures ready { StaysReady world.old world.new }
-    ensures unclosed { result ≢ Some ran.Closed }
+    ensures { IsTurn (G.serves gate.now) G.tally result
+        (known_with (W.known with.old) (K.known sink.old)) world.old passes.old.items
+        (known_with (W.known with.new) (K.known sink.new)) world.new passes.new.items }
 {
     if waits(world, turn.hart) {
         return None;
@@ -64,12 +58,9 @@ fn run_bursts<Q, W: TurnObjects, G: Gate<Pass = Q>, K: Sink>(
     requires harts { length world.old.harts ≤ 32 }
     requires some { 0 < length passes.old.items }
     requires serve { All (G.serves gate.now) passes.old.items }
-    ensures went { Went IsRunning result
-        (known_with (W.known with.old) (K.known sink.old)) world.old
-        (known_with (W.known with.new) (K.known sink.new)) world.new }
-    ensures passes { ArePassed (G.serves gate.now) G.tally result passes.old.items passes.new.items }
-    ensures ready { StaysReady world.old world.new }
-    ensures unclosed { result ≢ Some ran.Closed }
+    ensures { IsTurn (G.serves gate.now) G.tally result
+        (known_with (W.known with.old) (K.known sink.old)) world.old passes.old.items
+        (known_with (W.known with.new) (K.known sink.new)) world.new passes.new.items }
 {
     let harts = world.hart_count();
     for number in 0..harts {
@@ -94,12 +85,9 @@ fn run_and_pass<Q, W: TurnObjects, G: Gate<Pass = Q>, K: Sink>(
     requires harts { length world.old.harts ≤ 32 }
     requires some { 0 < length passes.old.items }
     requires serve { All (G.serves gate.now) passes.old.items }
-    ensures went { Went IsRunning result
-        (known_with (W.known with.old) (K.known sink.old)) world.old
-        (known_with (W.known with.new) (K.known sink.new)) world.new }
-    ensures passes { ArePassed (G.serves gate.now) G.tally result passes.old.items passes.new.items }
-    ensures ready { StaysReady world.old world.new }
-    ensures unclosed { result ≢ Some ran.Closed }
+    ensures { IsTurn (G.serves gate.now) G.tally result
+        (known_with (W.known with.old) (K.known sink.old)) world.old passes.old.items
+        (known_with (W.known with.new) (K.known sink.new)) world.new passes.new.items }
 {
     if let Some(end) = run_bursts(alloc, world, with, gate, passes, turn, sink) {
         return Some(end);
@@ -124,12 +112,11 @@ pub fn run_in_rotation<Q, W: TurnObjects, G: Gate<Pass = Q>, K: Sink>(
     requires harts { length world.old.harts ≤ 32 }
     requires some { 0 < length passes.old.items }
     requires serve { All (G.serves gate.now) passes.old.items }
-    ensures went { Went IsRunning result
-        (known_with (W.known with.old) (K.known sink.old)) world.old
-        (known_with (W.known with.new) (K.known sink.new)) world.new }
-    ensures passes { ArePassed (G.serves gate.now) G.tally result passes.old.items passes.new.items }
-    ensures ready { StaysReady world.old world.new }
-    ensures unclosed { result ≢ Some ran.Closed }
+    ensures turn { IsTurn (G.serves gate.now) G.tally result
+        (known_with (W.known with.old) (K.known sink.old)) world.old passes.old.items
+        (known_with (W.known with.new) (K.known sink.new)) world.new passes.new.items }
+    ensures left { pace.new.left ≡ pace.old.left }
+    ensures steps { pace.new.steps ≡ pace.old.steps }
 {
     let before = world.board().now();
     if let Some(end) = pass_round(alloc, world, with, None, sink) {

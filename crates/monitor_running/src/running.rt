@@ -1,5 +1,5 @@
 // Turns of a machine until a gate is closed.
-ghost use Rattle.std.specs.Prelude.{◌≡◌, ◌≢◌, ◌⊎◌, ◌↔◌, ◌≤◌, ◌<◌, ◌+◌, true, length, All, IfOk, OnErr, Some};
+ghost use Rattle.std.specs.Prelude.{◌≡◌, ◌≢◌, ◌⊎◌, ◌↔◌, ◌≤◌, ◌<◌, ◌+◌, true, length, All, IfOk, None, OnErr, Some};
 ghost use Rattle.vm_host.specs.Telling as clocks;
 ghost use Rattle.flat_guest.specs.Guest.{Guest};
 ghost use Rattle.vm_world.specs.Worlds.{IsSameGuest, IsWorld};
@@ -9,10 +9,12 @@ ghost use Rattle.monitor_machine.specs.State.{IsLive};
 ghost use Rattle.monitor_running.specs.Devices.{DiskWasAsked, IsDevices};
 ghost use Rattle.monitor_running.specs.declared.ran.Ran.TheVariants as ran;
 ghost use Rattle.monitor_running.specs.Passes.{ArePassed};
-ghost use Rattle.monitor_running.specs.Ran.{IsOff, IsRunning, Went};
+ghost use Rattle.monitor_running.specs.Ran.{IsOff, Went};
 ghost use Rattle.monitor_running.specs.Objects.{known_with, with_clock, with_disk};
+ghost use Rattle.monitor_running.specs.Paced.{AreSeveral, EndsPaced, HasActed, IsMachineTurn, IsPaced, IsWorldTurn, slice_steps};
+ghost use Rattle.monitor_running.specs.Pacing.{ask_time};
 ghost use Rattle.monitor_running.specs.Reached.{Known};
-ghost use Rattle.monitor_running.specs.Staying.{StaysReady};
+ghost use Rattle.monitor_running.specs.Turned.{IsTurn, IsTurnPart};
 
 use crate::alone::{MOST_ALONE, Turn, lone_hart, run_alone};
 use crate::devices::{MOST_DEVICES, run_devices};
@@ -57,7 +59,7 @@ fn has_passes(world: &World, passes: usize) -> bool
 // So many steps of each actor as are asked for, or as many as a slice has room for.
 fn steps_each(world: &World, steps: u32) -> u32
     requires { length world.now.harts ≤ 32 }
-    ensures { result ≤ steps }
+    ensures { result ≡ slice_steps steps world.now }
 {
     let actors = world.hart_count() as u32 + 1;
     steps.min(MOST_STEPS / actors)
@@ -111,12 +113,13 @@ fn run_guest<
     requires harts { length world.old.harts ≤ 32 }
     requires passes { length world.old.harts + 1 ≤ length passes.old.items }
     requires serve { All (G.serves gate.now) passes.old.items }
-    ensures went { Went IsRunning result
-        (known_with (W.known with.old) (K.known sink.old)) world.old
-        (known_with (W.known with.new) (K.known sink.new)) world.new }
-    ensures passes { ArePassed (G.serves gate.now) G.tally result passes.old.items passes.new.items }
-    ensures ready { StaysReady world.old world.new }
-    ensures unclosed { result ≢ Some ran.Closed }
+    ensures turn { IsTurn (G.serves gate.now) G.tally result
+        (known_with (W.known with.old) (K.known sink.old)) world.old passes.old.items
+        (known_with (W.known with.new) (K.known sink.new)) world.new passes.new.items }
+    ensures paced { AreSeveral (length passes.old.items) world.old → pace.old.left ≡ 0 →
+        IsPaced G.tally pace.old.steps result pace.old.left pace.new.left
+        world.old passes.old.items world.new passes.new.items }
+    ensures steps { pace.new.steps ≡ pace.old.steps }
 {
     let began = world.board().now();
     let each = steps_each(world, pace.steps);
@@ -153,6 +156,8 @@ fn devices_by<W: TurnObjects>(
     ensures world { OnErr result (world.new ≡ world.old) }
     ensures disk { OnErr result ((W.known with.new).host.disk ≡ (W.known with.old).host.disk) }
     ensures beside { W.known with.new ≡ with_disk (W.known with.old) (W.known with.new).host.disk }
+    ensures told { IfOk result (λ events. pace.new ≡ record pace.old { is_timed = ask_time events.items }) }
+    ensures untold { OnErr result (pace.new ≡ pace.old) }
 {
     match run_devices(alloc, world, with.disk(), most) {
         Ok(events) => {
@@ -171,11 +176,11 @@ fn act<W: TurnObjects, K: Sink>(
     pace: &mut Pace,
     sink: &mut K,
 ) -> Option<Ran>
-    ensures went { Went IsRunning result
+    ensures part { IsTurnPart result
         (known_with (W.known with.old) (K.known sink.old)) world.old
         (known_with (W.known with.new) (K.known sink.new)) world.new }
-    ensures ready { StaysReady world.old world.new }
-    ensures unclosed { result ≢ Some ran.Closed }
+    ensures acted { result ≡ None → HasActed world.old world.new }
+    ensures timed { pace.new ≡ record pace.old { is_timed = pace.new.is_timed } }
 {
     let each = events_each(world);
     let Ok(events) = devices_by(alloc, world, with, pace, each) else {
@@ -216,11 +221,9 @@ fn wait<W: TurnObjects, K: Sink>(
     sink: &mut K,
 ) -> Option<Ran>
     requires { length world.old.harts ≤ 32 }
-    ensures went { Went IsRunning result
+    ensures { IsTurnPart result
         (known_with (W.known with.old) (K.known sink.old)) world.old
         (known_with (W.known with.new) (K.known sink.new)) world.new }
-    ensures ready { StaysReady world.old world.new }
-    ensures unclosed { result ≢ Some ran.Closed }
 {
     if let Some(end) = pass_round(alloc, world, with, None, sink) {
         return Some(end);
@@ -229,8 +232,42 @@ fn wait<W: TurnObjects, K: Sink>(
     None
 }
 
-// One slice, or a turn in rotation, where each hart and the timer has a pass and two harts have something to do. A turn of one hart,
-// where it alone has; and else time passes.
+// A turn of several harts: a slice, or a rotation.
+fn run_several<
+    Q: Send + Drop,
+    W: TurnObjects,
+    G: Gate<Pass = Q> + Sync,
+    K: Sink,
+    R: Threads + Wait + Sync,
+>(
+    rt: &R,
+    alloc: Global,
+    world: &mut World,
+    with: &mut W,
+    gate: &G,
+    passes: &mut Vec<Q>,
+    pace: &mut Pace,
+    sink: &mut K,
+) -> Option<Ran>
+    requires harts { length world.old.harts ≤ 32 }
+    requires passes { length world.old.harts + 1 ≤ length passes.old.items }
+    requires serve { All (G.serves gate.now) passes.old.items }
+    ensures turn { IsTurn (G.serves gate.now) G.tally result
+        (known_with (W.known with.old) (K.known sink.old)) world.old passes.old.items
+        (known_with (W.known with.new) (K.known sink.new)) world.new passes.new.items }
+    ensures paced { AreSeveral (length passes.old.items) world.old →
+        IsPaced G.tally pace.old.steps result pace.old.left pace.new.left
+        world.old passes.old.items world.new passes.new.items }
+    ensures steps { pace.new.steps ≡ pace.old.steps }
+{
+    if pace.is_slice_due() {
+        return run_guest(rt, alloc, world, with, gate, passes, pace, sink);
+    }
+    run_in_rotation(alloc, world, with, gate, passes, pace, sink)
+}
+
+// A turn of several harts, where each hart and the timer has a pass and two harts have something to do. A turn of one hart, where it
+// alone has; and else time passes.
 fn run_or_wait<
     Q: Send + Drop,
     W: TurnObjects,
@@ -248,12 +285,12 @@ fn run_or_wait<
     sink: &mut K,
 ) -> Option<Ran>
     requires { All (G.serves gate.now) passes.old.items }
-    ensures went { Went IsRunning result
-        (known_with (W.known with.old) (K.known sink.old)) world.old
-        (known_with (W.known with.new) (K.known sink.new)) world.new }
-    ensures passes { ArePassed (G.serves gate.now) G.tally result passes.old.items passes.new.items }
-    ensures ready { StaysReady world.old world.new }
-    ensures unclosed { result ≢ Some ran.Closed }
+    ensures turn { IsTurn (G.serves gate.now) G.tally result
+        (known_with (W.known with.old) (K.known sink.old)) world.old passes.old.items
+        (known_with (W.known with.new) (K.known sink.new)) world.new passes.new.items }
+    ensures paced { IsPaced G.tally pace.old.steps result pace.old.left pace.new.left
+        world.old passes.old.items world.new passes.new.items }
+    ensures steps { pace.new.steps ≡ pace.old.steps }
 {
     if !has_passes(world, passes.len()) {
         rest_long(with);
@@ -266,10 +303,7 @@ fn run_or_wait<
         let mut turn = Turn::new(hart, pace.steps.min(MOST_ALONE));
         return run_alone(alloc, world, with, gate, passes, &mut turn, sink);
     }
-    if !pace.is_slice_due() {
-        return run_in_rotation(alloc, world, with, gate, passes, pace, sink);
-    }
-    run_guest(rt, alloc, world, with, gate, passes, pace, sink)
+    run_several(rt, alloc, world, with, gate, passes, pace, sink)
 }
 
 // The devices act, and then the harts and the timer.
@@ -290,12 +324,12 @@ fn run_world<
     sink: &mut K,
 ) -> Option<Ran>
     requires { All (G.serves gate.now) passes.old.items }
-    ensures went { Went IsRunning result
-        (known_with (W.known with.old) (K.known sink.old)) world.old
-        (known_with (W.known with.new) (K.known sink.new)) world.new }
-    ensures passes { ArePassed (G.serves gate.now) G.tally result passes.old.items passes.new.items }
-    ensures ready { StaysReady world.old world.new }
-    ensures unclosed { result ≢ Some ran.Closed }
+    ensures turn { IsTurn (G.serves gate.now) G.tally result
+        (known_with (W.known with.old) (K.known sink.old)) world.old passes.old.items
+        (known_with (W.known with.new) (K.known sink.new)) world.new passes.new.items }
+    ensures paced { IsWorldTurn G.tally pace.old.steps result pace.old.left pace.new.left
+        world.old passes.old.items world.new passes.new.items }
+    ensures steps { pace.new.steps ≡ pace.old.steps }
 {
     if let Some(end) = act(alloc, world, with, pace, sink) {
         return Some(end);
@@ -345,6 +379,9 @@ pub fn run_once<
     ensures passes { ArePassed (G.serves gate.now) G.tally result passes.old.items passes.new.items }
     ensures off { IsOff machine.old → result ≡ Some ran.Off }
     ensures unclosed { result ≢ Some ran.Closed }
+    ensures paced { IsMachineTurn G.tally pace.old.steps result pace.old.left pace.new.left
+        machine.old passes.old.items machine.new passes.new.items }
+    ensures steps { pace.new.steps ≡ pace.old.steps }
 {
     if machine.is_off() {
         return Some(Ran::Off);
@@ -399,6 +436,8 @@ pub fn run_while<
         (known_with (W.known with.new) (K.known sink.new)) machine.new }
     ensures off { IsOff machine.old → result ≡ ran.Off }
     ensures passes { ArePassed (G.serves gate.now) G.tally (Some result) passes.old.items passes.new.items }
+    ensures paced { EndsPaced (G.serves gate.now) G.tally steps result
+        machine.old passes.old.items machine.new passes.new.items }
 {
     let mut pace = Pace::new(steps);
     for _ in rt.forever() {

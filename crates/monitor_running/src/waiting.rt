@@ -8,7 +8,6 @@ ghost use Rattle.std.specs.Prelude.{
   ◌-◌,
   ◌⊎◌,
   ◌↔◌,
-  ◌≢◌,
   true,
   List,
   Some,
@@ -26,11 +25,9 @@ ghost use Rattle.vm_host.specs.Telling.{ClockKnown};
 ghost use Rattle.flat_guest.specs.Guest.{Guest};
 ghost use Rattle.guest_pages.specs.Made.{HasRoom, Spends};
 ghost use Rattle.vm_world.specs.Worlds.{IsWorld, WorldValue, pages_of, want_in};
-ghost use Rattle.monitor_running.specs.declared.ran.Ran.TheVariants as ran;
 ghost use Rattle.monitor_running.specs.Objects.{known_with, with_clock};
-ghost use Rattle.monitor_running.specs.Ran.{IsRunning, Went};
 ghost use Rattle.monitor_running.specs.Waiting.{AllIdle, HasGone, HasMade, IsLeft, IsQuiet, hart_turn, is_left_out, makers, takes_turn, turns};
-ghost use Rattle.monitor_running.specs.Staying.{StaysReady};
+ghost use Rattle.monitor_running.specs.Turned.{IsTurnPart};
 
 use crate::objects::TurnObjects;
 use crate::ran::Ran;
@@ -240,11 +237,9 @@ pub fn pass_round<W: TurnObjects, K: Sink>(
     sink: &mut K,
 ) -> Option<Ran>
     requires { length world.old.harts ≤ 32 }
-    ensures went { Went IsRunning result
+    ensures { IsTurnPart result
         (known_with (W.known with.old) (K.known sink.old)) world.old
         (known_with (W.known with.new) (K.known sink.new)) world.new }
-    ensures ready { StaysReady world.old world.new }
-    ensures unclosed { result ≢ Some ran.Closed }
 {
     let Ok(events) = pass_by(alloc, world, but, with) else {
         return Some(Ran::OutOfMemory);

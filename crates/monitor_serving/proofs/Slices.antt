@@ -29,6 +29,10 @@ use Rattle.monitor_serving.proofs.Filing.{filed, filed_ahead, filed_beside, run_
 pub untouched : (conn : ConnKnown) → Talked conn conn [] [] []
 untouched conn = record { only = tt; gave = sym (append-nil conn.gave); took = refl; brought = refl }
 
+-- where slices came to an end, there is one
+no_end : (e : Served) → Some e ≡ None → ⊥
+no_end e is = cc
+
 -- ---- the monitor's machine after slices
 
 pub monitor_kept : (monitor : Monitor) (machine : LiveMachine) (hosts : Hosts) (m flat : Machine) → IsMonitor monitor hosts.files m
@@ -74,9 +78,9 @@ module _ (monitor : Monitor) (machine : LiveMachine) (old new : Hosts) (conn : C
   slices_on ran.Off on none = λ s m talk stands.
       let k = on s m talk stands.is.own.live stands.disks stands.reached in
       went_on s m talk stands.is k.0
-  slices_on ran.TraceFailed on none = cc
-  slices_on ran.SinkFailed on none = cc
-  slices_on ran.OutOfMemory on none = cc
+  slices_on ran.TraceFailed on none = absurd (no_end (served.Fault object.Trace) none)
+  slices_on ran.SinkFailed on none = absurd (no_end (served.Fault object.Sink) none)
+  slices_on ran.OutOfMemory on none = absurd (no_end served.OutOfMemory none)
 
 -- ---- slices that broke off, beside which something may have come
 
@@ -148,8 +152,8 @@ module _ (monitor now : Monitor) (machine : LiveMachine) (old new : Hosts) (conn
 
   pub slices_broke : (ran : Ran) (end : Served) → RanOn IsLive (Some ran) (seen old.slices) monitor.machine (seen new.slices) machine
       → end_of ran ≡ Some end → ServedAs end (view monitor old conn) (view now new left)
-  slices_broke ran.Closed end on is = cc
-  slices_broke ran.Off end on is = cc
+  slices_broke ran.Closed end on is = absurd (no_end end (sym is))
+  slices_broke ran.Off end on is = absurd (no_end end (sym is))
   slices_broke ran.TraceFailed end on is =
       subst (λ (o : Option Served). served_as o) is
       (λ s m talk stands.

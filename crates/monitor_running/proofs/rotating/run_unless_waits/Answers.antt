@@ -1,15 +1,6 @@
-use Rattle.std.proofs.Common.{refl}
-use Rattle.monitor_running.specs.Ran.{IsRunning}
-use Rattle.monitor_running.proofs.Lifts.{went_nowhere}
-use Rattle.monitor_running.proofs.Passing.{passed_none}
-use Rattle.monitor_running.proofs.Staying.{stays_same}
+use Rattle.std.proofs.Common.{None}
+use Rattle.monitor_running.proofs.Turns.{part_nowhere, turn_by}
 use Rattle.monitor_running.proofs.rotating.run_unless_waits.Goals as goal
 
-pub returns-then-waits-clause-went : goal.returns-then-waits-clause-went
-returns-then-waits-clause-went g c = went_nowhere IsRunning _ _
-
-pub returns-then-waits-clause-passes : goal.returns-then-waits-clause-passes
-returns-then-waits-clause-passes g c = passed_none _ _ _ c.requires.serve
-
-pub returns-then-waits-clause-ready : goal.returns-then-waits-clause-ready
-returns-then-waits-clause-ready g c = stays_same _ _ refl
+pub returns-then-waits : goal.returns-then-waits
+returns-then-waits g c = turn_by _ _ None _ _ _ _ _ c.requires.serve (part_nowhere _ _)

@@ -1,5 +1,7 @@
-use Rattle.std.proofs.Common.{refl, sym, None}
+use Rattle.std.proofs.Common.{◌∙◌, ap, refl, sym, None, Some}
+use Rattle.monitor_machine.specs.declared.machine.LiveMachine.{LiveMachine}
 use Rattle.monitor_machine.specs.State.{IsLive}
+use Rattle.monitor_running.specs.Paced.IsMachineTurn.{Off, Rest, World}
 use Rattle.monitor_running.proofs.Disks.{rests_same}
 use Rattle.monitor_running.proofs.Lifts.{never_off, nothing_taken, slice_lifted, went_off, went_resting}
 use Rattle.monitor_running.proofs.Lent.{by_clock}
@@ -23,15 +25,33 @@ returns-in_default-clause-went g c =
 pub put_guest-requires : goal.put_guest-requires
 put_guest-requires g c =
     put_back c.args.machine.now c.take_running.new.self _ _ (sym c.in-Some.ensures.running) c.in-Some.ensures.left
-    c.run_world-end.ensures.ready c.in-Some.ensures.ready
+    c.run_world-end.ensures.turn.part.ready c.in-Some.ensures.ready
 
 pub returns-clause-went : goal.returns-clause-went
 returns-clause-went g c =
     slice_lifted c.args.machine.now c.take_running.new.self c.put_guest.new.self _ _ _ _ (sym c.in-Some.ensures.running)
-    c.in-Some.ensures.left c.put_guest.ensures c.run_world-end.result c.run_world-end.ensures.went
+    c.in-Some.ensures.left c.put_guest.ensures c.run_world-end.result c.run_world-end.ensures.turn.part.went
+
+pub returns-clause-passes : goal.returns-clause-passes
+returns-clause-passes g c = c.run_world-end.ensures.turn.passes
+
+pub returns-clause-unclosed : goal.returns-clause-unclosed
+returns-clause-unclosed g c = c.run_world-end.ensures.turn.part.unclosed
 
 pub returns-in_default-clause-off : goal.returns-in_default-clause-off
 returns-in_default-clause-off g c = never_off c.args.machine.now c.is_off.result c.if-is_off.false c.is_off.ensures
 
 pub returns-clause-off : goal.returns-clause-off
 returns-clause-off g c = never_off c.args.machine.now c.is_off.result c.if-is_off.false c.is_off.ensures
+
+pub returns-then-is_off-clause-paced : goal.returns-then-is_off-clause-paced
+returns-then-is_off-clause-paced g c = Off refl refl
+
+pub returns-in_default-clause-paced : goal.returns-in_default-clause-paced
+returns-in_default-clause-paced g c = Rest (sym c.in_default.ensures.running) refl
+
+pub returns-clause-paced : goal.returns-clause-paced
+returns-clause-paced g c =
+    World c.in-Some.world c.run_world-end.new.world (sym c.in-Some.ensures.running)
+    (c.put_guest.ensures ∙ ap (λ (x : LiveMachine). record x { guest = Some c.run_world-end.new.world }) c.in-Some.ensures.left)
+    c.run_world-end.ensures.paced

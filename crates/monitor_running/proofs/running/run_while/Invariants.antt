@@ -1,6 +1,7 @@
-use Rattle.std.proofs.Common.{◌≡◌, None}
+use Rattle.std.proofs.Common.{◌≡◌, ℕ, None}
 use Rattle.monitor_machine.specs.State.{IsLive}
 use Rattle.monitor_running.specs.Objects.{known_with}
+use Rattle.monitor_running.specs.Paced.{ArePaced}
 use Rattle.monitor_running.specs.Passes.{ArePassed}
 use Rattle.monitor_running.specs.Ran.{IsOff, Went}
 use Rattle.monitor_running.proofs.running.run_while.Given as goal
@@ -17,4 +18,6 @@ invariant-loop g l =
           (known_with (W.known l.with) (K.known l.sink)) l.machine;
       off : IsOff l.fn.machine → l.machine ≡ l.fn.machine;
       passes : ArePassed (G.serves l.gate) G.tally None l.fn.passes.items l.passes.items;
+      steps : l.pace.steps ≡ l.steps;
+      paced : (n : ℕ) × ArePaced (G.serves l.gate) G.tally l.steps n l.fn.machine l.fn.passes.items l.pace.left l.machine l.passes.items;
     }

@@ -1,16 +1,28 @@
-use Rattle.std.proofs.Common.{refl}
-use Rattle.monitor_running.specs.Ran.{IsRunning}
-use Rattle.monitor_running.proofs.Lifts.{went_on}
-use Rattle.monitor_running.proofs.Passing.{passed_end}
-use Rattle.monitor_running.proofs.Staying.{stays_then}
+use Rattle.std.proofs.Common.{◌∙◌, ap, refl, subst, Some}
+use Rattle.monitor_running.proofs.Turns.{turn_behind, turn_by}
+use Rattle.monitor_running.specs.declared.pacing.Pace.{Pace}
+use Rattle.monitor_running.specs.Paced.{IsPaced}
+use Rattle.monitor_running.specs.Paced.IsWorldTurn.{Devices, Harts}
 use Rattle.monitor_running.proofs.running.run_world.Goals as goal
 
-pub returns-in-Some-clause-passes : goal.returns-in-Some-clause-passes
-returns-in-Some-clause-passes g c = passed_end _ _ c.in-Some.end _ _ c.in-Some.ensures.unclosed c.requires refl
+pub returns-in-Some-clause-turn : goal.returns-in-Some-clause-turn
+returns-in-Some-clause-turn g c = turn_by _ _ (Some c.in-Some.end) _ _ _ _ _ c.requires c.in-Some.ensures.part
 
-pub returns-clause-went : goal.returns-clause-went
-returns-clause-went g c =
-    went_on IsRunning c.run_or_wait.result _ _ _ _ _ _ c.in_default.ensures.went c.run_or_wait.ensures.went
+pub returns-clause-turn : goal.returns-clause-turn
+returns-clause-turn g c = turn_behind _ _ c.run_or_wait.result _ _ _ _ _ _ _ _ c.in_default.ensures.part c.run_or_wait.ensures.turn
 
-pub returns-clause-ready : goal.returns-clause-ready
-returns-clause-ready g c = stays_then _ _ _ c.in_default.ensures.ready c.run_or_wait.ensures.ready
+pub returns-in-Some-clause-paced : goal.returns-in-Some-clause-paced
+returns-in-Some-clause-paced g c = Devices (λ is. cc) (ap (λ (p : Pace). p.left) c.in-Some.ensures.timed) refl
+
+pub returns-clause-paced : goal.returns-clause-paced
+returns-clause-paced g c =
+    Harts c.act.new.world (c.in_default.ensures.acted refl)
+    (subst (λ (p : Pace). IsPaced g.G.Gate.tally p.steps c.run_or_wait.result p.left c.run_or_wait.new.pace.left
+    c.act.new.world c.args.passes.now.items c.run_or_wait.new.world c.run_or_wait.new.passes.items)
+    c.in_default.ensures.timed c.run_or_wait.ensures.paced)
+
+pub returns-in-Some-clause-steps : goal.returns-in-Some-clause-steps
+returns-in-Some-clause-steps g c = ap (λ (p : Pace). p.steps) c.in-Some.ensures.timed
+
+pub returns-clause-steps : goal.returns-clause-steps
+returns-clause-steps g c = c.run_or_wait.ensures.steps ∙ ap (λ (p : Pace). p.steps) c.in_default.ensures.timed

@@ -5,7 +5,7 @@ use Rattle.flat_machine.specs.Ready.{IsFitting}
 use Rattle.monitor_machine.specs.Live.{Live}
 use Rattle.monitor_machine.specs.Plans.{IsDue}
 use Rattle.monitor_plans.specs.Plans.{IsEarly}
-use Rattle.monitor_machine.proofs.Planning.{drives_plan, interfaces_plan, patch_plan, put_plan, refile_plan, restore_plan, start_plan}
+use Rattle.monitor_machine.proofs.Planning.{changes_plan, drives_plan, interfaces_plan, patch_plan, plain_left, put_plan, refile_plan, restore_plan, start_plan}
 use Rattle.monitor_machine.specs.Seen.{live_of}
 use Rattle.monitor_machine.proofs.machine.LiveMachine.task_of_change.Goals as goal
 
@@ -74,6 +74,15 @@ returns-in-PatchMetadata-clause-task g c =
           patch_plan c.patch_metadata.result (live_of c.self.inside).metadata c.in-PatchMetadata.patch m given is.own.metadata_is
           (asks ∙ ap Ok c.in-PatchMetadata.is) c.patch_metadata.ensures.gives,
     )
+
+pub returns-in_default-clause-task : goal.returns-in_default-clause-task
+returns-in_default-clause-task g c = (
+  [],
+  λ told m is given asks.
+      changes_plan m given c.args.change asks
+      (plain_left c.args.change c.in_default.not-PutDrive c.in_default.not-PatchDrive c.in_default.not-PutInterface c.in_default.not-PutMetadata
+      c.in_default.not-PatchMetadata c.in_default.not-Start c.in_default.not-CreateSnapshot c.in_default.not-LoadSnapshot),
+)
 
 pub put_drive-requires : goal.put_drive-requires
 put_drive-requires g c =
