@@ -49,9 +49,17 @@ later_by p config (call.PutInterface interface) has placed = never p has placed
 later_by p config (call.PatchInterface patch) has placed = tt
 later_by p config (call.PutMachineConfig machine) has placed = never p has placed
 later_by p config (call.PatchMachineConfig patch) has placed = never p has placed
+<<<<<<< 717b8584
+later_by p config (call.PutVsock vsock) has placed = never p has placed
 later_by p config (call.PutBalloon balloon) has placed = never p has placed
 later_by p config (call.PatchBalloon patch) has placed = tt
 later_by p config (call.PatchStatistics patch) has placed = tt
+later_by p config (call.PutMmdsConfig mmds) has placed = never p has placed
+=======
+later_by p config (call.PutBalloon balloon) has placed = never p has placed
+later_by p config (call.PatchBalloon patch) has placed = tt
+later_by p config (call.PatchStatistics patch) has placed = tt
+>>>>>>> m
 later_by p config (call.PutMetadata body) has placed = tt
 later_by p config (call.PatchMetadata patch) has placed = tt
 later_by p config call.InstanceStart has placed = never p has placed
@@ -82,9 +90,17 @@ own_alike p config a b (call.PutInterface interface) none number = refl
 own_alike p config a b (call.PatchInterface patch) none number = refl
 own_alike p config a b (call.PutMachineConfig machine) none number = refl
 own_alike p config a b (call.PatchMachineConfig patch) none number = refl
+<<<<<<< 717b8584
+own_alike p config a b (call.PutVsock vsock) none number = refl
 own_alike p config a b (call.PutBalloon balloon) none number = refl
 own_alike p config a b (call.PatchBalloon patch) none number = refl
 own_alike p config a b (call.PatchStatistics patch) none number = refl
+own_alike p config a b (call.PutMmdsConfig mmds) none number = refl
+=======
+own_alike p config a b (call.PutBalloon balloon) none number = refl
+own_alike p config a b (call.PatchBalloon patch) none number = refl
+own_alike p config a b (call.PatchStatistics patch) none number = refl
+>>>>>>> m
 own_alike p config a b (call.PutMetadata body) none number = refl
 own_alike p config a b (call.PatchMetadata patch) none number = refl
 own_alike p config a b call.InstanceStart none number = refl
@@ -139,6 +155,10 @@ module _ (twins : List Twins) (m n : Machine) (alike : Alike twins m n) where
   contents_alike (change.PutInterface interface) later = absurd later
   contents_alike (change.PatchInterface patch) later = refl
   contents_alike (change.MachineConfig machine) later = absurd later
+<<<<<<< 717b8584
+  contents_alike (change.PutVsock vsock) later = absurd later
+=======
+>>>>>>> m
   contents_alike (change.PutBalloon balloon) later = absurd later
   contents_alike (change.PatchBalloon patch) later = refl
   contents_alike (change.PatchStatistics patch) later = refl
@@ -146,6 +166,10 @@ module _ (twins : List Twins) (m n : Machine) (alike : Alike twins m n) where
   contents_alike (change.State state) later = refl
   contents_alike (change.CreateSnapshot it) later = refl
   contents_alike (change.LoadSnapshot load) later = absurd later
+<<<<<<< 717b8584
+  contents_alike (change.MmdsConfig mmds) later = absurd later
+=======
+>>>>>>> m
   contents_alike (change.PutMetadata body) later = refl
   contents_alike (change.PatchMetadata patch) later =
       ap (λ (d : Data). patched d patch >>= (λ (kept : Data). Ok (change.PatchMetadata patch))) alike.metadata

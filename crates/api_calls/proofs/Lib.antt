@@ -4,4 +4,8 @@ pub mod Ranges
 pub mod Limits
 pub mod Drives
 pub mod Interfaces
+<<<<<<< 717b8584
+pub mod Metadata
+=======
+>>>>>>> m
 pub mod Asked

@@ -8,7 +8,11 @@ use Rattle.serde_json.specs.Data.{Data, null, boolean, number, string, array, ob
 use Rattle.serde_json.specs.Find.{as_str, as_u64, get}
 use Rattle.api_calls.specs.declared.test.Test.TheVariants as test
 use Rattle.api_calls.specs.Form.{as_whole, holds, is_in_range, is_of_kind, is_path, number_at, object_passes, refusal, row_passes, text, text_at, unless_null, whole}
+<<<<<<< 717b8584
+use Rattle.api_calls.specs.Fields.{balloon, boot_source, machine_config, machine_patch, statistics_patch, vsock}
+=======
 use Rattle.api_calls.specs.Fields.{balloon, boot_source, machine_config, machine_patch, statistics_patch}
+>>>>>>> m
 use Rattle.api_calls.specs.Call.{text_or_none}
 use Rattle.api_calls.proofs.Bodies.{passed, form_parts, file_path, optional_path, held}
 
@@ -136,6 +140,26 @@ machine_patch_is ms none =
           (and_parts _ _ (and_parts _ _ range).1).0,
     )
 
+<<<<<<< 717b8584
+abbrev pub IsVsock : Data → Type 0
+IsVsock d =
+    IsWithin 3 4294967294 (unwrap_or (number_at (codes "guest_cid") d) 0)
+    × (is_path (text_or_none (text_at (codes "uds_path") d)) ≡ true)
+
+pub vsock_is : (ms : Members) → refusal vsock (object ms) ≡ None → IsVsock (object ms)
+unfolding object_passes row_passes
+vsock_is ms none =
+    let all = passed vsock (object ms) none in
+    let there = (form_parts _ _ _ (object ms) test.There all.0).0 in
+    let kind = (form_parts _ _ _ (object ms) test.Kind all.1).0 in
+    let range = (form_parts _ _ _ (object ms) test.Range all.2).0 in (
+      needed_number 3 4294967294 (get (codes "guest_cid") (object ms)) (and_parts _ _ there).0 (and_parts _ _ kind).0 (and_parts _ _ range).0,
+      file_path (codes "uds_path") (object ms) (and_parts _ _ (and_parts _ _ there).1).0 (and_parts _ _ (and_parts _ _ kind).1).0
+          (and_parts _ _ (and_parts _ _ range).1).0,
+    )
+
+=======
+>>>>>>> m
 -- ---- a balloon's reports
 
 -- a number that need not be there, or zero

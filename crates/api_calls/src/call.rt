@@ -4,6 +4,11 @@ ghost use Rattle.std.specs.Prelude.{◌≡◌};
 use crate::balloon::{Balloon, BalloonPatch, StatisticsPatch};
 use crate::interface::{Interface, InterfacePatch};
 use crate::limiter::Limiter;
+<<<<<<< 717b8584
+use crate::mmds::MmdsConfig;
+use crate::vsock::Vsock;
+=======
+>>>>>>> m
 use metadata_store::Tree;
 use vm_types::TextList;
 
@@ -159,6 +164,11 @@ pub enum ApiCall {
     PutInterface(Interface),
     /// PATCH /network-interfaces/{id}
     PatchInterface(InterfacePatch),
+<<<<<<< 717b8584
+    /// PUT /vsock
+    PutVsock(Vsock),
+=======
+>>>>>>> m
     /// PUT /machine-config
     PutMachineConfig(MachineConfig),
     /// PATCH /machine-config
@@ -169,6 +179,11 @@ pub enum ApiCall {
     PatchBalloon(BalloonPatch),
     /// PATCH /balloon/statistics
     PatchStatistics(StatisticsPatch),
+<<<<<<< 717b8584
+    /// PUT /mmds/config
+    PutMmdsConfig(MmdsConfig),
+=======
+>>>>>>> m
     /// PUT /mmds: an object, whose numbers may be any.
     PutMetadata(Tree),
     /// PATCH /mmds: an object, whose numbers may be any.

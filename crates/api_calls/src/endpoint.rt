@@ -9,11 +9,19 @@ pub enum Body {
     DrivePatch,
     Interface,
     InterfacePatch,
+<<<<<<< 717b8584
+    Vsock,
+=======
+>>>>>>> m
     MachineConfig,
     MachinePatch,
     Balloon,
     BalloonPatch,
     StatisticsPatch,
+<<<<<<< 717b8584
+    MmdsConfig,
+=======
+>>>>>>> m
     Metadata,
     MetadataPatch,
     Action,

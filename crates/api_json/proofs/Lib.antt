@@ -1,2 +1,3 @@
 pub mod FormLemmas
+pub mod IdLemmas
 pub mod CallLemmas

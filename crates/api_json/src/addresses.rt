@@ -5,6 +5,8 @@ ghost use Rattle.api_calls.specs.Addresses as addresses;
 use std::alloc::{AllocError, Global};
 use vm_types::TextList;
 
+<<<<<<< 717b8584
+=======
 const MAC_LEN: usize = 17;
 
 fn are_digits(first: u8, second: u8) -> bool
@@ -33,6 +35,7 @@ pub fn is_mac(text: &[u8]) -> bool
     text.len() == MAC_LEN && are_pairs(text)
 }
 
+>>>>>>> m
 /// The address with small letters.
 pub fn lowered(alloc: Global, text: &str) -> Result<TextList, AllocError>
     ensures { IfOk result (λ t. t ≡ addresses.lowered text.now) }

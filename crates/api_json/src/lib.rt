@@ -10,6 +10,7 @@ mod error;
 // What is asked of fields, by tables.
 mod addresses;
 mod form;
+mod ids;
 mod levels;
 
 // The parts of a request, and the limits in its body.
@@ -26,12 +27,24 @@ mod drives;
 // PUT and PATCH /network-interfaces/{id},
 mod interfaces;
 
+<<<<<<< 717b8584
+// PUT /vsock,
+mod vsock;
+
+=======
+>>>>>>> m
 // PUT and PATCH /machine-config,
 mod machine_config;
 
 // PUT and PATCH /balloon, PATCH /balloon/statistics,
 mod balloon;
 
+<<<<<<< 717b8584
+// PUT /mmds/config,
+mod mmds;
+
+=======
+>>>>>>> m
 // PUT and PATCH /mmds,
 mod metadata;
 

@@ -34,7 +34,11 @@ pub struct Target<'p> {
     pub id: &'p [u8],
 }
 
+<<<<<<< 717b8584
+static ROUTES: [Route; 24] = [
+=======
 static ROUTES: [Route; 23] = [
+>>>>>>> m
     Route {
         pattern: Pattern::Fixed("/boot-source"),
         method: "PUT",
@@ -61,6 +65,14 @@ static ROUTES: [Route; 23] = [
         endpoint: Endpoint::Send(Body::InterfacePatch),
     },
     Route {
+<<<<<<< 717b8584
+        pattern: Pattern::Fixed("/vsock"),
+        method: "PUT",
+        endpoint: Endpoint::Send(Body::Vsock),
+    },
+    Route {
+=======
+>>>>>>> m
         pattern: Pattern::Fixed("/machine-config"),
         method: "PUT",
         endpoint: Endpoint::Send(Body::MachineConfig),
@@ -86,6 +98,14 @@ static ROUTES: [Route; 23] = [
         endpoint: Endpoint::Send(Body::StatisticsPatch),
     },
     Route {
+<<<<<<< 717b8584
+        pattern: Pattern::Fixed("/mmds/config"),
+        method: "PUT",
+        endpoint: Endpoint::Send(Body::MmdsConfig),
+    },
+    Route {
+=======
+>>>>>>> m
         pattern: Pattern::Fixed("/mmds"),
         method: "PUT",
         endpoint: Endpoint::Send(Body::Metadata),

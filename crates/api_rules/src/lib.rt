@@ -15,12 +15,24 @@ mod drives;
 // PUT and PATCH /network-interfaces/{id},
 mod interfaces;
 
+<<<<<<< 717b8584
+// PUT /vsock,
+mod vsock;
+
+=======
+>>>>>>> m
 // PUT and PATCH /machine-config,
 mod machine_config;
 
 // PUT, GET and PATCH /balloon, GET and PATCH /balloon/statistics,
 mod balloon;
 
+<<<<<<< 717b8584
+// PUT /mmds/config,
+mod mmds;
+
+=======
+>>>>>>> m
 // PUT /actions,
 mod actions;
 

@@ -4,7 +4,11 @@ ghost use Rattle.api_rules.specs.Table as table;
 
 use vm_config::Config;
 
+<<<<<<< 717b8584
+const MOST_DEVICES: u128 = 16;
+=======
 const MOST_DEVICES: usize = 16;
+>>>>>>> m
 
 /// Whether there is no room for one device more.
 pub fn has_no_room(config: &Config) -> bool

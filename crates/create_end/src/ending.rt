@@ -1,7 +1,7 @@
 // The end of a create.
 ghost use Rattle.std.specs.Prelude.{◌≡◌, IfErr, IfOk};
 ghost use Rattle.api_rules.specs.Ids.{based, spent};
-ghost use Rattle.create_end.specs.Saved.{saved_world};
+ghost use Rattle.create_end.specs.Saved.{IsSavedWorld};
 
 use api_rules::Ids;
 use vm_outside::Failed;
@@ -18,7 +18,7 @@ pub fn end_create(
     guest: &mut Option<World>,
 )
     ensures done { IfOk written (λ _. (ids.new ≡ based identity next ids.old)
-        × (guest.new ≡ saved_world guest.old)) }
+        × IsSavedWorld guest.old guest.new) }
     ensures failed { IfErr written (λ _. (ids.new ≡ spent next ids.old) × (guest.new ≡ guest.old)) }
 {
     ids.next = next;
@@ -30,7 +30,7 @@ pub fn end_create(
 
 // The guest goes on as it was saved: it is reset, as its copy was, and no page of it is marked any more.
 fn go_on_saved(guest: &mut Option<World>)
-    ensures { guest.new ≡ saved_world guest.old }
+    ensures { IsSavedWorld guest.old guest.new }
 {
     match guest {
         None => {}

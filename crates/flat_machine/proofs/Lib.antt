@@ -5,6 +5,10 @@ pub mod Determined
 pub mod Drives
 pub mod Fields
 pub mod Interfaces
+<<<<<<< 717b8584
+pub mod Mmds
+=======
+>>>>>>> m
 pub mod Numbered
 pub mod OneReplay
 pub mod Plain

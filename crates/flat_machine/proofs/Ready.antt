@@ -179,6 +179,11 @@ module _ (m : Machine) (image : List ℕ) (ready : Ready m) (there : image_of m 
             source = source_there.source;
             drives = source_there.drives;
             interfaces = source_there.interfaces;
+<<<<<<< 717b8584
+            vsock = source_there.vsock;
+            mmds = source_there.mmds;
+=======
+>>>>>>> m
             machine = source_there.machine;
             balloon = source_there.balloon;
             room = source_there.room;
@@ -273,6 +278,13 @@ leaves_ready (change.PatchInterface patch) m n ready known is =
     let it : Change = change.PatchInterface patch in
     ready_is (configured (patched_interface m patch) it) n is
     (limits_ready m patch ready (changed_taken m.config it ready.taken (allowed_fits m it ready.taken known)))
+<<<<<<< 717b8584
+leaves_ready (change.PutVsock vsock) m n ready known is =
+    let it : Change = change.PutVsock vsock in
+    ready_is (configured m it) n is
+    (configures m it ready (changed_taken m.config it ready.taken (allowed_fits m it ready.taken known)) (λ on. allowed_later m it on known))
+=======
+>>>>>>> m
 leaves_ready (change.PutBalloon balloon) m n ready known is =
     let it : Change = change.PutBalloon balloon in
     ready_is (configured m it) n is
@@ -285,6 +297,13 @@ leaves_ready (change.PatchStatistics patch) m n ready known is =
     let it : Change = change.PatchStatistics patch in
     ready_is (configured (patched_statistics m patch) it) n is
     (interval_ready m patch ready (changed_taken m.config it ready.taken (allowed_fits m it ready.taken known)))
+<<<<<<< 717b8584
+leaves_ready (change.MmdsConfig mmds) m n ready known is =
+    let it : Change = change.MmdsConfig mmds in
+    ready_is (configured m it) n is
+    (configures m it ready (changed_taken m.config it ready.taken (allowed_fits m it ready.taken known)) (λ on. allowed_later m it on known))
+=======
+>>>>>>> m
 leaves_ready change.Start m n ready known is =
     let none = (not_refused (start_refusal m.config m.saved) (Ok change.Start) change.Start known.contents).0 in
     ready_is (configured (started_from (image_of m) (disk_of m) m) change.Start) n is
@@ -325,9 +344,17 @@ fails_ready (change.CreateSnapshot it) m left n ready x = create_fails_ready m.g
 fails_ready (change.LoadSnapshot load) m left n ready x = ready_is m n x.1 ready
 fails_ready (change.PutInterface interface) m left n ready x = absurd x
 fails_ready (change.PatchInterface patch) m left n ready x = absurd x
+<<<<<<< 717b8584
+fails_ready (change.PutVsock vsock) m left n ready x = absurd x
 fails_ready (change.PutBalloon balloon) m left n ready x = absurd x
 fails_ready (change.PatchBalloon patch) m left n ready x = absurd x
 fails_ready (change.PatchStatistics patch) m left n ready x = absurd x
+fails_ready (change.MmdsConfig mmds) m left n ready x = absurd x
+=======
+fails_ready (change.PutBalloon balloon) m left n ready x = absurd x
+fails_ready (change.PatchBalloon patch) m left n ready x = absurd x
+fails_ready (change.PatchStatistics patch) m left n ready x = absurd x
+>>>>>>> m
 fails_ready (change.PutMetadata body) m left n ready x = absurd x
 fails_ready (change.PatchMetadata patch) m left n ready x = absurd x
 fails_ready (change.Tell part) m left n ready x = absurd x

@@ -10,7 +10,11 @@ use Rattle.vm_types.specs.Saved.{Saved}
 use Rattle.refusals.specs.declared.refusal.Refusal.{Refusal}
 use Rattle.refusals.specs.declared.refusal.Refusal.TheVariants as refusal
 use Rattle.vm_config.specs.declared.config.Config.{Config}
+<<<<<<< 717b8584
+use Rattle.vm_config.specs.Devices.{Configured, devices_of, of_balloon, of_drive, of_interface, of_vsock}
+=======
 use Rattle.vm_config.specs.Devices.{Configured, devices_of, of_balloon, of_drive, of_interface}
+>>>>>>> m
 use Rattle.api_rules.specs.Table.{fits_by, is_missing, len_of}
 use Rattle.api_rules.specs.declared.actions.InitrdFile.{InitrdFile}
 use Rattle.guest_memory.specs.Memory.{put_at}
@@ -91,6 +95,10 @@ few_sectors (Some bytes) = omega arith
 device_fits : (saved : Saved) (d : Configured) → FitsNew (device_from saved d)
 device_fits saved (of_drive d) = few_sectors (get saved d.path_on_host)
 device_fits saved (of_interface i) = tt
+<<<<<<< 717b8584
+device_fits saved (of_vsock v) = tt
+=======
+>>>>>>> m
 device_fits saved (of_balloon b) = tt
 
 pub devices_fit : (config : Config) (saved : Saved) → All FitsNew (devices_from config saved)

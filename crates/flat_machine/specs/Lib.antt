@@ -2,6 +2,10 @@ pub mod Balloon
 pub mod Between
 pub mod Given
 pub mod Interfaces
+<<<<<<< 717b8584
+pub mod Vsock
+=======
+>>>>>>> m
 pub mod Items
 pub mod Limits
 pub mod Machine

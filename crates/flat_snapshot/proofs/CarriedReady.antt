@@ -205,6 +205,11 @@ module _ (copy : StateCopy) (bytes : List ℕ) (tracking : Bool) (valid : IsTrue
           source = rules.source;
           drives = rules.drives;
           interfaces = rules.interfaces;
+<<<<<<< 717b8584
+          vsock = rules.vsock;
+          mmds = rules.mmds;
+=======
+>>>>>>> m
           machine = machine_parts.0;
           balloon = rules.balloon;
           room = rules.room;

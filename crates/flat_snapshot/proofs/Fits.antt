@@ -115,7 +115,11 @@ module _ (config : Config) (g : Guest) (copy : StateCopy) (own : Identity) (of :
 
   few_links : length config.interfaces ≤ most_ports
   few_links =
+<<<<<<< 717b8584
+      let room = leb-true (count_in config.drives config.interfaces config.vsock config.balloon) most_ports rules.room in
+=======
       let room = leb-true (count_in config.drives config.interfaces config.balloon) most_ports rules.room in
+>>>>>>> m
       omega (arith, room)
 
   machine : is_machine config.machine ≡ true
@@ -144,7 +148,11 @@ module _ (config : Config) (g : Guest) (copy : StateCopy) (own : Identity) (of :
       let many = eqb-true (length made.harts) config.machine.vcpu_count rules.many in
       let held = slots in (
         (
+<<<<<<< 717b8584
+          configuration_fits (configuration_of config) rules.source rules.drives rules.interfaces few_links rules.vsock rules.mmds machine rules.balloon,
+=======
           configuration_fits (configuration_of config) rules.source rules.drives rules.interfaces few_links machine rules.balloon,
+>>>>>>> m
           (fits32 made.pages (omega (arith, few)), (fits_flag made.track_dirty_pages, fits64 g.board.now savable.board.now)),
         ),
         (

@@ -284,6 +284,11 @@ module _ (config : Config) (g : Guest) (sound : IsSound g) (is : IsReady config 
     source = is.configured.source;
     drives = is.configured.drives;
     interfaces = is.configured.interfaces;
+<<<<<<< 717b8584
+    vsock = is.configured.vsock;
+    mmds = is.configured.mmds;
+=======
+>>>>>>> m
     machine = machine_is;
     balloon = is.configured.balloon;
     room = is.configured.room;

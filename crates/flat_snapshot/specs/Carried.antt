@@ -65,8 +65,15 @@ carried_config tracking c = record {
   });
   drives = c.drives;
   interfaces = c.interfaces;
+<<<<<<< 717b8584
+  vsock = c.vsock;
   machine = record c.machine { track_dirty_pages = tracking };
   balloon = c.balloon;
+  mmds = c.mmds;
+=======
+  machine = record c.machine { track_dirty_pages = tracking };
+  balloon = c.balloon;
+>>>>>>> m
   configured = true;
 }
 

@@ -5,4 +5,8 @@ pub mod OfKind
 pub mod Owed
 pub mod Placed
 pub mod Ports
+<<<<<<< 717b8584
+pub mod Saved
+=======
+>>>>>>> m
 pub mod Soundness

@@ -25,6 +25,11 @@ use Rattle.rate_gate.proofs.SmallLimits.{others_small}
 use Rattle.net_device.specs.declared.kind.NetChange.TheVariants.{Receives, Transmits}
 use Rattle.net_device.proofs.Narrow as net
 use Rattle.net_device.proofs.Resuming as net_resuming
+<<<<<<< 717b8584
+use Rattle.vsock_device.proofs.Narrow as vsock
+use Rattle.vsock_device.proofs.Resuming as vsock_resuming
+=======
+>>>>>>> m
 use Rattle.balloon_device.specs.declared.kind.BalloonChange.TheVariants.{Interval}
 use Rattle.balloon_device.proofs.Narrow as balloon
 use Rattle.balloon_device.proofs.Resuming as balloon_resuming
@@ -35,8 +40,13 @@ use Rattle.guest_devices.specs.declared.device.Device.TheVariants as device
 use Rattle.guest_devices.specs.declared.new_device.NewDevice.{NewDevice}
 use Rattle.guest_devices.specs.Devices.{DataOf, DeviceLeads, DeviceLeft, DeviceWants, FlatDevice, device_at, device_changed, device_did}
 use Rattle.guest_devices.specs.Devices.{device_next, device_reset, device_rules, device_told, device_wants, left_of, left_reset, left_told, new_device, new_left}
+<<<<<<< 717b8584
+use Rattle.guest_devices.specs.Kept.{IsBounded, IsBoundedDevice, KeptDevice, device_left, device_pages, device_port, is_device_state, is_state_kept, left_by}
+use Rattle.guest_devices.specs.Kinds.{Balloon, Block, ChangeOf, FitsChange, IsSizedOf, IsSmallChange, Kind, Net, OwnOf, Vsock, calls_of, change_for, changing_of, is_sized_work_of}
+=======
 use Rattle.guest_devices.specs.Kept.{IsBounded, IsBoundedDevice, KeptDevice, device_left, device_pages, device_port, is_device_state, is_state_kept, kept_of, left_by}
 use Rattle.guest_devices.specs.Kinds.{Balloon, Block, ChangeOf, FitsChange, IsSizedOf, IsSmallChange, Kind, Net, OwnOf, calls_of, change_for, changing_of, hand_of, is_sized_work_of}
+>>>>>>> m
 use Rattle.guest_devices.specs.Kinds.{own_at_start, reset_for, service_of, sized_hand_of, sized_in, stage_in, times_of}
 use Rattle.guest_devices.specs.Narrow.{HasNarrow, IsNarrow, IsNarrowDevice, IsNarrowKept, IsNarrowNew, LeavesSized, NarrowLaws}
 use Rattle.guest_devices.proofs.Follows.{at_start, did_leads, reset_leads, told_leads, wants_only}
@@ -90,6 +100,27 @@ net_laws = record {
   state = λ p r g is. is;
 }
 
+<<<<<<< 717b8584
+vsock_changed : (change : DeviceChange) → FitsChange change → IsSmallChange change → LeavesSized Vsock (change_for change Vsock)
+vsock_changed (changes.Block c) fits small = tt
+vsock_changed (changes.Net c) fits small = tt
+vsock_changed (changes.Balloon c) fits small = tt
+
+vsock_laws : NarrowLaws Vsock
+vsock_laws = record {
+  resumes = vsock_resuming.resumes_sized true;
+  changed = vsock_changed;
+  reset = λ e was. (vsock.reset_sized e was, vsock.reset_sized e was);
+  asks = λ e. tt;
+  writes = λ pages w g is. vsock.acts_small g.stage (g.small refl);
+  fine = λ e is. tt;
+  small = λ g. g.small refl;
+  hand = λ g. refl;
+  state = λ p r g is. is;
+}
+
+=======
+>>>>>>> m
 balloon_changed : (change : DeviceChange) → FitsChange change → IsSmallChange change → LeavesSized Balloon (change_for change Balloon)
 balloon_changed (changes.Balloon (Interval seconds)) fits small =
     λ e was. (balloon.interval_small seconds e small was, balloon.interval_small seconds e small was)
@@ -112,6 +143,10 @@ balloon_laws = record {
 narrow_laws : (k : Kind) → NarrowLaws k
 narrow_laws Block = block_laws
 narrow_laws Net = net_laws
+<<<<<<< 717b8584
+narrow_laws Vsock = vsock_laws
+=======
+>>>>>>> m
 narrow_laws Balloon = balloon_laws
 
 -- ---- from data to data
@@ -257,6 +292,26 @@ narrow_at (device.Net n) is bounded narrow = (
     left = refl;
   },
 )
+<<<<<<< 717b8584
+narrow_at (device.Vsock v) is bounded narrow = (
+  device_left (device.Vsock v),
+  at_start (device_left (device.Vsock v)),
+  record {
+    phase = v.phase;
+    rounds = v.rounds;
+    own = v.kind.own;
+    stage = sized_in Vsock v.kind.stage narrow.2;
+    is = is;
+    fine = narrow.3;
+    short = narrow.0;
+    narrow = λ yes. narrow.1;
+    at_port = refl;
+    of_pages = refl;
+    left = refl;
+  },
+)
+=======
+>>>>>>> m
 narrow_at (device.Balloon b) is bounded narrow = (
   device_left (device.Balloon b),
   at_start (device_left (device.Balloon b)),

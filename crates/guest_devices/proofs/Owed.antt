@@ -1,5 +1,9 @@
 -- What is owed of each kind.
+<<<<<<< 717b8584
+use Rattle.std.proofs.Common.{◌≡◌, ◌^◌, None, true, refl}
+=======
 use Rattle.std.proofs.Common.{◌≡◌, ◌^◌, true, refl}
+>>>>>>> m
 use Rattle.std.proofs.lemmas.Bool.{lt-ltb, ltb-true}
 use Rattle.queue_device.specs.declared.lanes.Rounds.{Rounds}
 use Rattle.queue_device.specs.declared.device.QueueRounds.{QueueRounds}
@@ -21,6 +25,17 @@ use Rattle.balloon_device.specs.Balloon as balloons
 use Rattle.balloon_device.specs.Work.{Kept}
 use Rattle.balloon_device.proofs.Balloon as balloon
 use Rattle.balloon_device.proofs.Resuming as balloon_resuming
+<<<<<<< 717b8584
+use Rattle.vsock_device.specs.declared.data.Vsock.{Vsock as VsockData}
+use Rattle.vsock_device.specs.declared.kind.Stage.{Stage as VsockStage}
+use Rattle.vsock_device.specs.declared.kind.VsockKind.{VsockKind}
+use Rattle.vsock_device.proofs.Owes as vsock
+use Rattle.vsock_device.proofs.Resuming as vsock_resuming
+use Rattle.guest_devices.specs.declared.change.DeviceChange.{DeviceChange}
+use Rattle.guest_devices.specs.declared.change.DeviceChange.TheVariants as changes
+use Rattle.guest_devices.specs.declared.device.Device.TheVariants as device
+use Rattle.guest_devices.specs.Kinds.{Balloon, Block, FitsChange, Kind, Net, Vsock, change_for}
+=======
 use Rattle.guest_devices.specs.declared.change.DeviceChange.{DeviceChange}
 use Rattle.guest_devices.specs.declared.change.DeviceChange.TheVariants as changes
 use Rattle.guest_devices.specs.declared.device.Device.{Device}
@@ -28,6 +43,7 @@ use Rattle.guest_devices.specs.declared.device.Device.TheVariants as device
 use Rattle.guest_devices.specs.Devices.{left_reset}
 use Rattle.guest_devices.specs.Kept.{device_left, is_kept, kept_reset}
 use Rattle.guest_devices.specs.Kinds.{Balloon, Block, FitsChange, Kind, Net, change_for}
+>>>>>>> m
 use Rattle.guest_devices.specs.Sound.{KindLaws, LeavesFine}
 
 -- ---- a block device
@@ -77,6 +93,35 @@ net_laws = record {
   held = λ p r e g is. (device.Net (net_with p r e g), refl);
 }
 
+<<<<<<< 717b8584
+-- ---- a vsock device
+
+pub vsock_unchanged : (change : DeviceChange) → change_for change Vsock ≡ None
+vsock_unchanged (changes.Block c) = refl
+vsock_unchanged (changes.Net c) = refl
+vsock_unchanged (changes.Balloon c) = refl
+
+vsock_changed : (change : DeviceChange) → FitsChange change → LeavesFine Vsock (change_for change Vsock)
+vsock_changed (changes.Block c) fits = tt
+vsock_changed (changes.Net c) fits = tt
+vsock_changed (changes.Balloon c) fits = tt
+
+abbrev vsock_with : Phase → Rounds → VsockData → VsockStage → QueueRounds VsockKind
+vsock_with p r e g = record { rounds = r; kind = record { own = e; stage = g }; phase = p }
+
+vsock_laws : KindLaws Vsock
+vsock_laws = record {
+  confines = vsock.owes;
+  resumes = vsock_resuming.resumes;
+  changed = vsock_changed;
+  reset = λ e was. (tt, tt);
+  tested = λ e is. tt;
+  tests = λ e fine. refl;
+  held = λ p r e g is. (device.Vsock (vsock_with p r e g), refl);
+}
+
+=======
+>>>>>>> m
 -- ---- a balloon
 
 -- another interval
@@ -104,6 +149,10 @@ balloon_laws = record {
 pub laws : (k : Kind) → KindLaws k
 laws Block = block_laws
 laws Net = net_laws
+<<<<<<< 717b8584
+laws Vsock = vsock_laws
+laws Balloon = balloon_laws
+=======
 laws Balloon = balloon_laws
 
 -- what is kept of a device behind a Reset may be kept, and tells what it has still to do then
@@ -116,3 +165,4 @@ pub reset_left : (it : Device) → device_left (kept_reset it) ≡ left_reset (d
 reset_left (device.Block b) = refl
 reset_left (device.Net n) = refl
 reset_left (device.Balloon b) = refl
+>>>>>>> m

@@ -1,7 +1,12 @@
 // A device of any kind as an actor.
 ghost use Rattle.std.specs.Prelude.{◌≡◌, true};
+<<<<<<< 717b8584
+ghost use Rattle.guest_devices.specs.Devices.{device_changed, left_reset, new_left};
+ghost use Rattle.guest_devices.specs.Kept.{IsReset, device_left, device_pages, device_port, is_kept, is_saved, kept_of};
+=======
 ghost use Rattle.guest_devices.specs.Devices.{device_changed, new_left};
 ghost use Rattle.guest_devices.specs.Kept.{device_left, device_pages, device_port, is_kept, kept_of, kept_reset};
+>>>>>>> m
 ghost use Rattle.guest_devices.specs.Ports.{number_of};
 
 use crate::balloon::{
@@ -11,17 +16,28 @@ use crate::block::{block_again, give_block, new_block, port_of_block, tell_block
 use crate::change::DeviceChange;
 use crate::net::{give_net, net_again, new_net, port_of_net, tell_net, want_of_net};
 use crate::new_device::NewDevice;
+<<<<<<< 717b8584
+use crate::vsock::{
+    give_vsock, new_vsock, port_of_vsock, reset_vsock, tell_vsock, vsock_again, want_of_vsock,
+};
+=======
+>>>>>>> m
 use balloon_device::BalloonDevice;
 use block_device::Block;
 use net_device::NetDevice;
 use port_table::DeviceKind;
 use vm_types::{Actor, Op, Reply};
+use vsock_device::VsockDevice;
 
 /// A device, by its kind.
 #[derive(Drop)]
 pub enum Device {
     Block(Block),
     Net(NetDevice),
+<<<<<<< 717b8584
+    Vsock(VsockDevice),
+=======
+>>>>>>> m
     Balloon(BalloonDevice),
 }
 
@@ -33,6 +49,10 @@ impl Device {
         match what {
             NewDevice::Block(drive) => Device::Block(new_block(port, pages, drive)),
             NewDevice::Net(what) => Device::Net(new_net(port, pages, what)),
+<<<<<<< 717b8584
+            NewDevice::Vsock(what) => Device::Vsock(new_vsock(port, pages, what)),
+=======
+>>>>>>> m
             NewDevice::Balloon(what) => Device::Balloon(new_balloon(port, pages, what)),
         }
     }
@@ -45,6 +65,10 @@ impl Device {
         match self {
             Device::Block(block) => port_of_block(block),
             Device::Net(net) => port_of_net(net),
+<<<<<<< 717b8584
+            Device::Vsock(vsock) => port_of_vsock(vsock),
+=======
+>>>>>>> m
             Device::Balloon(balloon) => port_of_balloon(balloon),
         }
     }
@@ -56,6 +80,10 @@ impl Device {
         match self {
             Device::Block(_) => DeviceKind::Block,
             Device::Net(_) => DeviceKind::Net,
+<<<<<<< 717b8584
+            Device::Vsock(_) => DeviceKind::Vsock,
+=======
+>>>>>>> m
             Device::Balloon(_) => DeviceKind::Balloon,
         }
     }
@@ -67,6 +95,10 @@ impl Device {
         match self {
             Device::Block(block) => block.state().rounds.pages,
             Device::Net(net) => net.state().rounds.pages,
+<<<<<<< 717b8584
+            Device::Vsock(vsock) => vsock.state().rounds.pages,
+=======
+>>>>>>> m
             Device::Balloon(balloon) => balloon.state().rounds.pages,
         }
     }
@@ -79,28 +111,61 @@ impl Device {
         match self {
             Device::Block(block) => Device::Block(block_again(block)),
             Device::Net(net) => Device::Net(net_again(net)),
+<<<<<<< 717b8584
+            Device::Vsock(vsock) => Device::Vsock(vsock_again(vsock)),
+=======
+>>>>>>> m
             Device::Balloon(balloon) => Device::Balloon(balloon_again(balloon)),
         }
     }
 
+<<<<<<< 717b8584
+    /// A change of its kind. One of another kind is none, and each is to a vsock device.
+=======
     /// A change of its kind. One of another kind is none.
+>>>>>>> m
     pub fn change(&mut self, change: DeviceChange)
         ensures { device_left self.new ≡ device_changed change (device_left self.old) }
     {
         match self {
             Device::Block(block) => tell_block(block, change),
             Device::Net(net) => tell_net(net, change),
+<<<<<<< 717b8584
+            Device::Vsock(vsock) => tell_vsock(vsock, change),
+=======
+>>>>>>> m
             Device::Balloon(balloon) => tell_balloon(balloon, change),
         }
     }
 
+<<<<<<< 717b8584
+    fn reset_of_kind(&mut self)
+        ensures { device_left self.new ≡ left_reset (device_left self.old) }
+    {
+        match self {
+            Device::Block(_) => {}
+            Device::Net(_) => {}
+            Device::Vsock(vsock) => reset_vsock(vsock),
+            Device::Balloon(_) => {}
+=======
     /// The Reset that comes before a create, for a kind that is told of it.
     pub fn reset(&mut self)
         ensures { self.new ≡ kept_reset self.old }
     {
         match self {
             Device::Block(_) | Device::Net(_) | Device::Balloon(_) => {}
+>>>>>>> m
         }
+    }
+
+    /// The Reset that comes before a create, for a kind that is told of it. A file may have what is kept behind it.
+    pub fn reset(&mut self)
+        ensures reset { IsReset self.old self.new }
+        ensures saved { is_saved self.new ≡ true }
+    {
+        self.port();
+        self.reset_of_kind();
+        self.port();
     }
 }
 
@@ -122,6 +187,10 @@ impl Actor for Device {
         match self {
             Device::Block(block) => want_of_block(block),
             Device::Net(net) => want_of_net(net),
+<<<<<<< 717b8584
+            Device::Vsock(vsock) => want_of_vsock(vsock),
+=======
+>>>>>>> m
             Device::Balloon(balloon) => want_of_balloon(balloon),
         }
     }
@@ -130,6 +199,10 @@ impl Actor for Device {
         match self {
             Device::Block(block) => give_block(block, reply),
             Device::Net(net) => give_net(net, reply),
+<<<<<<< 717b8584
+            Device::Vsock(vsock) => give_vsock(vsock, reply),
+=======
+>>>>>>> m
             Device::Balloon(balloon) => give_balloon(balloon, reply),
         }
     }

@@ -15,14 +15,23 @@ ghost use Rattle.guest_devices.specs.declared.new_device.NewDevice.{NewDevice};
 ghost use Rattle.guest_devices.specs.Devices.{DataOf, DeviceLeads, DeviceLeft, DeviceWants, FitsNew, FlatDevice, device_at, device_calls};
 ghost use Rattle.guest_devices.specs.Devices.{device_changed, device_did, device_next, device_reset, device_rules};
 ghost use Rattle.guest_devices.specs.Devices.{device_told, device_wants, left_reset, left_times, new_device};
+<<<<<<< 717b8584
+ghost use Rattle.guest_devices.specs.Kept.{IsBoundedDevice, device_left, device_pages, device_port, is_device_state, is_kept, is_saved};
+=======
 ghost use Rattle.guest_devices.specs.Kept.{IsBoundedDevice, device_left, device_pages, device_port, is_device_state, is_kept, kept_reset};
+>>>>>>> m
 ghost use Rattle.guest_devices.specs.Narrow.{IsNarrowDevice, IsNarrowKept, IsNarrowNew};
 ghost use Rattle.guest_devices.specs.Kinds.{ChangeOf, FitsChange, IsSmallChange, Kind};
 ghost use Rattle.guest_devices.specs.Sound.{IsSoundDevice};
 
 /// The items of a device lead to one thing that is still to be done, and the act that this wants is the one that the
+<<<<<<< 717b8584
+/// device wants. With a step of it, with a change, or behind a Reset, they lead to what comes next. Where a device begins
+/// where a trace led, it wants the one act that continues this trace with its items.
+=======
 /// device wants. With a step of it, with a change, or behind a Reset, they lead to what comes next, and so do the data that
 /// are kept of it. Where a device begins where a trace led, it wants the one act that continues this trace with its items.
+>>>>>>> m
 pub fn devices_follow()
     ensures begins { (left : DeviceLeft) → DeviceLeads (device_at left) left }
     ensures one { (d : FlatDevice) (left other : DeviceLeft) →
@@ -40,8 +49,11 @@ pub fn devices_follow()
         DeviceLeads d left → DeviceLeads (device_told d c) (device_changed c left) }
     ensures reset { (d : FlatDevice) (left : DeviceLeft) →
         DeviceLeads d left → DeviceLeads (device_reset d) (left_reset left) }
+<<<<<<< 717b8584
+=======
     ensures reset_kept { (it : Device) → is_kept it ≡ true →
         (is_kept (kept_reset it) ≡ true) × (device_left (kept_reset it) ≡ left_reset (device_left it)) }
+>>>>>>> m
     ensures continues { (k : Kind) (first : DataOf k) (before items : List (Item (ChangeOf k))) (start : Script (DataOf k))
         (op : Op) → LeadsTo (device_rules k) first before start →
         DeviceWants (record { kind = k; start = start; items = items }) op →
@@ -55,7 +67,8 @@ pub fn devices_follow()
 /// A sound device always wants something: an act of its own, and of host objects a call of its own, or guest time where a
 /// chain waits that is due and that its kind times; inside RAM, where there are less than 2^32 pages. It is sound from its start on, with each fitting reply and each
 /// change that fits, behind a Reset, where it goes on from what was left of another, and with whatever bounded data a device may
-/// keep. In a guest of at most 2^20 pages some device keeps what its items lead to.
+/// keep. In a guest of at most 2^20 pages some device keeps what its items lead to, and a file may have whatever is kept of it behind
+/// a Reset.
 pub fn sound_devices()
     ensures begins { (port pages : ℕ) (what : NewDevice) → FitsNew what →
         IsSoundDevice port pages (new_device port pages what) }
@@ -73,6 +86,8 @@ pub fn sound_devices()
     ensures copied { (port pages : ℕ) (d : FlatDevice) → pages ≤ 2 ^ 20 → IsSoundDevice port pages d →
         (it : Device) × DeviceLeads d (device_left it) × (is_device_state it ≡ true) × IsBoundedDevice it
         × (device_port it ≡ port) × (device_pages it ≡ pages) }
+    ensures saved { (port pages : ℕ) (d : FlatDevice) (it : Device) → pages ≤ 2 ^ 20 → IsSoundDevice port pages d →
+        DeviceLeads (device_reset d) (device_left it) → is_kept it ≡ true → is_saved it ≡ true }
     ensures some { (port pages : ℕ) (d : FlatDevice) →
         IsSoundDevice port pages d → (op : Op) × DeviceWants d op }
     ensures own { (port pages : ℕ) (d : FlatDevice) (op : Op) (sound : IsSoundDevice port pages d) →

@@ -17,6 +17,7 @@ mod net;
 mod new_device;
 mod port;
 mod several;
+mod vsock;
 
 pub use change::DeviceChange;
 pub use device::Device;

@@ -3,11 +3,19 @@
 use crate::drive::NewDrive;
 use balloon_device::NewBalloon;
 use net_device::NewNet;
+<<<<<<< 717b8584
+use vsock_device::NewVsock;
+=======
+>>>>>>> m
 
 /// What a machine starts a device with, by its kind (VIRTIO 1.2, 5).
 #[derive(Drop)]
 pub enum NewDevice {
     Block(NewDrive),
     Net(NewNet),
+<<<<<<< 717b8584
+    Vsock(NewVsock),
+=======
+>>>>>>> m
     Balloon(NewBalloon),
 }

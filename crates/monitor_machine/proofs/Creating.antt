@@ -26,8 +26,7 @@ use Rattle.api_rules.specs.Ids.{based, spent}
 use Rattle.response_form.specs.declared.form.ResponseForm.{ResponseForm}
 use Rattle.response_form.specs.Responses.{Response, written_as}
 use Rattle.guest_memory.specs.Memory.{Memory}
-use Rattle.guest_pages.specs.Pages.{cleared, flat_of}
-use Rattle.guest_pages.proofs.Marking.{flat_cleared, marks_cleared}
+use Rattle.guest_pages.specs.Pages.{flat_of}
 use Rattle.guest_devices.specs.declared.device.Device.{Device}
 use Rattle.flat_guest.specs.Changes.{reset_guest}
 use Rattle.flat_guest.specs.Guest.{Guest, unwritten}
@@ -42,20 +41,27 @@ use Rattle.monitor_plans.specs.Headings.{numbers_in}
 use Rattle.flat_machine.specs.Machine.{Machine}
 use Rattle.flat_machine.specs.Outcome as flat
 use Rattle.flat_machine.specs.Requests.{CreateFails, Creates, RequestStep, by_contents, calls_in, created, decided, next_identity, parent_in, parent_of, respond}
-use Rattle.vm_world.specs.Worlds.{IsWorld, WorldValue, world_reset}
-use Rattle.vm_world.proofs.Events.{reset_is, unwritten_is}
+use Rattle.vm_world.specs.Worlds.{IsWorld, WorldValue}
 use Rattle.monitor_plans.specs.Creating.{CreateGives}
 use Rattle.monitor_plans.specs.declared.creating.Creation.{Creation}
 use Rattle.monitor_plans.specs.declared.plan.Plan.TheVariants as plan
 use Rattle.monitor_plans.specs.declared.plan.Task.{Task}
 use Rattle.monitor_plans.specs.declared.plan.Task.TheVariants as task
-use Rattle.create_end.specs.Saved.{saved_world}
+use Rattle.create_end.specs.Saved.{IsSavedWorld}
 use Rattle.monitor_machine.specs.declared.machine.LiveMachine.{LiveMachine}
 use Rattle.monitor_machine.specs.declared.outcome.Outcome.{Outcome}
+<<<<<<< 717b8584
+use Rattle.monitor_machine.specs.Plans.{IsCreate, IsCreated, IsTask, TaskKeepsReady, failed_after, told_of}
+use Rattle.monitor_machine.specs.Replying.{Replies, open_response}
+use Rattle.monitor_machine.specs.State.{IsGuestBy, IsMachine}
+use Rattle.monitor_machine.specs.Telling.{TellsOwn}
+use Rattle.monitor_machine.proofs.Standing.{world_saved}
+=======
 use Rattle.monitor_machine.specs.Plans.{IsCreate, IsTask, TaskKeepsReady, created_after, failed_after, told_of}
 use Rattle.monitor_machine.specs.Replying.{Replies, open_response}
 use Rattle.monitor_machine.specs.State.{IsGuestBy, IsMachine}
 use Rattle.monitor_machine.specs.Telling.{TellsOwn}
+>>>>>>> m
 use Rattle.monitor_machine.proofs.Leaving.{answered, tells_is}
 
 -- the world of a live machine is the guest of the machine
@@ -205,12 +211,39 @@ module _ (c : Creation) (live : LiveMachine) (w : WorldValue) (known left : File
   abbrev end : Machine
   end = created m (reset_guest due.guest) files parent due.copy
 
-  saved_is : IsGuestBy (saved_world live.guest) (Some (unwritten (reset_guest due.guest)))
-  saved_is =
-      subst (λ (o : Option WorldValue). IsGuestBy (saved_world o) (Some (unwritten (reset_guest due.guest)))) (sym there)
-      (unwritten_is (world_reset w) (cleared w.pages) (reset_guest due.guest) (reset_is w due.guest here) (flat_cleared w.pages)
-      (marks_cleared w.pages))
+  saved_is : (after : LiveMachine) → IsCreated c live after → IsGuestBy after.guest (Some (unwritten (reset_guest due.guest)))
+  saved_is after left =
+      world_saved w after.guest due.guest here (subst (λ (o : Option WorldValue). IsSavedWorld o after.guest) there left.0)
 
+<<<<<<< 717b8584
+  pub create_does : (after : LiveMachine) → IsCreated c live after → TellsOwn live
+      → writes.Creates c.names.mem_file_path c.head (written_of c w) c.names.snapshot_path c.body known left
+      → RequestStep (flat.Outcome.Answered kept) given m (respond given no_content) end × IsMachine after left end
+  create_does after leaves tells wrote = (
+    answered live known m end given (Ok (change.CreateSnapshot due.it)) no_content kept
+        (ap (λ (r : Result Change Refusal). r >>= by_contents m) due.asks) (told_of live, tells_is live m tells is.own, refl)
+        (subst (λ (o : Option Guest). Creates o m due.it kept end) (sym due.there) (due.copy, due.copied, due.kept_is, due.saved, refl)),
+    subst (λ (l : LiveMachine). IsMachine l left end) (sym leaves.1)
+        (record {
+          own = record {
+            id_is = is.own.id_is;
+            ids_is = λ i. record {
+              lineage = (is.own.ids_is i).lineage;
+              base = Some (due.identity_is i);
+              next = due.next_is i;
+            };
+            config_is = is.own.config_is;
+            metadata_is = is.own.metadata_is;
+            guest_is = saved_is after leaves;
+            paused_is = is.own.paused_is;
+          };
+          files = record {
+            saved_is = wrote.saved ∙ (λ i. insert (insert (is.files.saved_is i) (due.names_is i).mem_file_path
+                (1 ∷ head_is i ++ pages_are i)) (due.names_is i).snapshot_path (1 ∷ due.body_is i));
+            calls_is = wrote.calls ∙ (λ i. is.files.calls_is i ++ calls_are i);
+          };
+        }),
+=======
   pub create_does : TellsOwn live → writes.Creates c.names.mem_file_path c.head (written_of c w) c.names.snapshot_path c.body known left
       → RequestStep (flat.Outcome.Answered kept) given m (respond given no_content) end × IsMachine (created_after c live) left end
   create_does tells wrote = (
@@ -236,6 +269,7 @@ module _ (c : Creation) (live : LiveMachine) (w : WorldValue) (known left : File
         calls_is = wrote.calls ∙ (λ i. is.files.calls_is i ++ calls_are i);
       };
     },
+>>>>>>> m
   )
 
   -- so many of its calls were begun, and not all
@@ -312,11 +346,11 @@ same_part memory head state body m h s b pages g known left em eh eg es eb part 
 
 -- the end of a create leaves this of the machine
 pub ended_done : (c : Creation) (live : LiveMachine) (written : Result (Unit {0}) Failed) (ids : Ids) (guest : Option WorldValue) (v : Unit {0})
-    → written ≡ Ok v → IfOk written (λ _. (ids ≡ based c.identity c.next live.ids) × (guest ≡ saved_world live.guest))
-    → record live { ids = ids; guest = guest } ≡ created_after c live
+    → written ≡ Ok v → IfOk written (λ _. (ids ≡ based c.identity c.next live.ids) × IsSavedWorld live.guest guest)
+    → IsCreated c live (record live { ids = ids; guest = guest })
 ended_done c live written ids guest v is ends =
-    let left = subst (λ (r : Result (Unit {0}) Failed). IfOk r (λ _. (ids ≡ based c.identity c.next live.ids) × (guest ≡ saved_world live.guest))) is ends in
-    λ i. record live { ids = left.0 i; guest = left.1 i }
+    let left = subst (λ (r : Result (Unit {0}) Failed). IfOk r (λ _. (ids ≡ based c.identity c.next live.ids) × IsSavedWorld live.guest guest)) is ends in
+    (left.1, λ i. record live { ids = left.0 i; guest = guest })
 
 pub ended_failed : (c : Creation) (live : LiveMachine) (written : Result (Unit {0}) Failed) (ids : Ids) (guest : Option WorldValue) (why : Failed)
     → written ≡ Err why → IfErr written (λ _. (ids ≡ spent c.next live.ids) × (guest ≡ live.guest))
@@ -336,7 +370,11 @@ module _ (form : ResponseForm) (c : Creation) (live after : LiveMachine) (w : Wo
   alone : (response : Response) → written ≡ text ++ written_as form response → written ≡ text ++ (written_as form response ++ [])
   alone response is = is ∙ ap (λ (l : List ℕ). text ++ l) (sym (append-nil (written_as form response)))
 
+<<<<<<< 717b8584
+  pub is_written : TellsOwn live → IsCreated c live after → written ≡ text ++ written_as form (open_response no_content) → left.health.faults ≡ known.health.faults
+=======
   pub is_written : TellsOwn live → after ≡ created_after c live → written ≡ text ++ written_as form (open_response no_content) → left.health.faults ≡ known.health.faults
+>>>>>>> m
       → (Tells known.health
       → writes.Creates c.names.mem_file_path c.head (written_of c w) c.names.snapshot_path c.body known left)
       → Replies form given Outcome.Answered live after text written known left
@@ -347,11 +385,16 @@ module _ (form : ResponseForm) (c : Creation) (live after : LiveMachine) (w : Wo
     responses = respond given no_content;
     writes = alone (open_response no_content) writes;
     went = λ told m is.
+<<<<<<< 717b8584
+        let does = create_does c live w known left m given kept there is (due told m is) after leaves tells (wrote told) in
+        (end c live w known left m given kept there is (due told m is), does.0, does.1);
+=======
         let does = create_does c live w known left m given kept there is (due told m is) tells (wrote told) in (
           end c live w known left m given kept there is (due told m is),
           does.0,
           subst (λ (l : LiveMachine). IsMachine l left (end c live w known left m given kept there is (due told m is))) (sym leaves) does.1,
         );
+>>>>>>> m
   }
 
   pub is_unwritten : after ≡ failed_after c live → written ≡ text ++ written_as form (open_response (refused refusal.OutsideFailed))

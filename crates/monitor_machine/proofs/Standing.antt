@@ -42,10 +42,10 @@ use Rattle.flat_machine.proofs.ReadyGuests.{drained_ready, halted_ready, reset_r
 use Rattle.flat_machine.proofs.Reconfigured.{told_ready}
 use Rattle.flat_machine.proofs.Taken.{configured_taken}
 use Rattle.timer_trace.specs.States.{new_timer}
-use Rattle.vm_world.specs.Worlds.{IsWorld, Runs, WorldValue, world_reset}
+use Rattle.vm_world.specs.Worlds.{IsWorld, Runs, WorldValue}
 use Rattle.vm_world.proofs.Events.{reset_is, restarted, unwritten_is}
 use Rattle.world_copy.specs.Ready.{IsReadyWorld}
-use Rattle.create_end.specs.Saved.{saved_world}
+use Rattle.create_end.specs.Saved.{IsSavedWorld}
 use Rattle.monitor_plans.specs.Headings.{HasParent}
 use Rattle.monitor_plans.specs.Plans.{HasReadyGuest}
 use Rattle.monitor_machine.specs.Answering.{TakesReply}
@@ -206,7 +206,13 @@ told_stays live (change.BootSource source) after tells it = same_stays live afte
 told_stays live (change.PutDrive drive) after tells it = same_stays live after (sym tells) it
 told_stays live (change.PutInterface interface) after tells it = same_stays live after (sym tells) it
 told_stays live (change.MachineConfig machine) after tells it = same_stays live after (sym tells) it
+<<<<<<< 717b8584
+told_stays live (change.PutVsock vsock) after tells it = same_stays live after (sym tells) it
 told_stays live (change.PutBalloon balloon) after tells it = same_stays live after (sym tells) it
+told_stays live (change.MmdsConfig mmds) after tells it = same_stays live after (sym tells) it
+=======
+told_stays live (change.PutBalloon balloon) after tells it = same_stays live after (sym tells) it
+>>>>>>> m
 told_stays live (change.PutMetadata body) after tells it = same_stays live after (sym tells) it
 told_stays live (change.PatchMetadata patch) after tells it = same_stays live after (sym tells) it
 told_stays live change.Start after tells it = same_stays live after (sym tells) it
@@ -244,9 +250,17 @@ stand_guest (change.PatchDrive patch) paused config guest is = (guest, λ w here
 stand_guest (change.PutInterface interface) paused config guest is = (guest, λ w here. here, is)
 stand_guest (change.PatchInterface patch) paused config guest is = (guest, λ w here. here, is)
 stand_guest (change.MachineConfig machine) paused config guest is = (guest, λ w here. here, is)
+<<<<<<< 717b8584
+stand_guest (change.PutVsock vsock) paused config guest is = (guest, λ w here. here, is)
 stand_guest (change.PutBalloon balloon) paused config guest is = (guest, λ w here. here, is)
 stand_guest (change.PatchBalloon patch) paused config guest is = (guest, λ w here. here, is)
 stand_guest (change.PatchStatistics patch) paused config guest is = (guest, λ w here. here, is)
+stand_guest (change.MmdsConfig mmds) paused config guest is = (guest, λ w here. here, is)
+=======
+stand_guest (change.PutBalloon balloon) paused config guest is = (guest, λ w here. here, is)
+stand_guest (change.PatchBalloon patch) paused config guest is = (guest, λ w here. here, is)
+stand_guest (change.PatchStatistics patch) paused config guest is = (guest, λ w here. here, is)
+>>>>>>> m
 stand_guest (change.PutMetadata body) paused config guest is = (guest, λ w here. here, is)
 stand_guest (change.PatchMetadata patch) paused config guest is = (guest, λ w here. here, is)
 stand_guest change.Start paused config guest is = (guest, λ w here. here, is)
@@ -347,21 +361,29 @@ load_stays live config w identity next paused (g, is, stands) first behind (m, o
 
 -- ---- a create
 
-saved : (config : Config) (paused : Bool) (w : Option WorldValue) (guest : Option Guest) → IsGuestBy w guest → ReadyBy config paused guest
-    → (after : Option Guest) × IsGuestBy (saved_world w) after × ReadyBy config paused after
-saved config paused None None is ready = (None, tt, tt)
-saved config paused None (Some g) is ready = absurd is
-saved config paused (Some w) None is ready = absurd is
-saved config paused (Some w) (Some g) is ready = (
+-- a world that was saved is a guest behind a Reset, of which no page is written
+pub world_saved : (w : WorldValue) (now : Option WorldValue) (g : Guest) → IsWorld w g → IsSavedWorld (Some w) now
+    → IsGuestBy now (Some (unwritten (reset_guest g)))
+world_saved w now g is (v, reset, same) =
+    subst (λ (o : Option WorldValue). IsGuestBy o (Some (unwritten (reset_guest g)))) (sym same)
+    (unwritten_is v (cleared v.pages) (reset_guest g) (reset_is w v g reset is) (flat_cleared v.pages) (marks_cleared v.pages))
+
+saved : (config : Config) (paused : Bool) (w now : Option WorldValue) (guest : Option Guest) → IsSavedWorld w now → IsGuestBy w guest
+    → ReadyBy config paused guest → (after : Option Guest) × IsGuestBy now after × ReadyBy config paused after
+saved config paused None now None left is ready = (None, subst (λ (o : Option WorldValue). IsGuestBy o None) (sym left) tt, tt)
+saved config paused None now (Some g) left is ready = absurd is
+saved config paused (Some w) now None left is ready = absurd is
+saved config paused (Some w) now (Some g) left is ready = (
   Some (unwritten (reset_guest g)),
-  unwritten_is (world_reset w) (cleared w.pages) (reset_guest g) (reset_is w g is) (flat_cleared w.pages) (marks_cleared w.pages),
+  world_saved w now g is left,
   unwritten_ready config paused (reset_guest g) (reset_ready config paused g ready),
 )
 
-pub create_stays : (live : Live) (identity : Identity) (next : ℕ) → identity.number ≡ live.ids.next → next ≡ identity.number + 1
-    → IsReadyLive live → IsReadyLive (record live { ids = based identity next live.ids; guest = saved_world live.guest })
-create_stays live identity next own_is behind (m, own, ready) =
-    let after = saved m.config m.paused live.guest m.guest own.guest_is ready.guest in
+pub create_stays : (live : Live) (identity : Identity) (next : ℕ) (now : Option WorldValue) → identity.number ≡ live.ids.next
+    → next ≡ identity.number + 1 → IsSavedWorld live.guest now → IsReadyLive live
+    → IsReadyLive (record live { ids = based identity next live.ids; guest = now })
+create_stays live identity next now own_is behind left (m, own, ready) =
+    let after = saved m.config m.paused live.guest now m.guest left own.guest_is ready.guest in
     let first : live.ids.next ≡ m.ids.next = ap (λ (i : Ids). i.next) own.ids_is in
     let some = ready.next in (
       record m { ids = based identity next m.ids; guest = after.0 },
@@ -405,12 +427,12 @@ failure_stays live identity next own_is behind (m, own, ready) =
 -- by how it ended
 pub ended_stays : (live : Live) (written : Result (Unit {0}) Failed) (identity : Identity) (next : ℕ) (ids : Ids) (guest : Option WorldValue)
     → identity.number ≡ live.ids.next → next ≡ identity.number + 1
-    → IfOk written (λ _. (ids ≡ based identity next live.ids) × (guest ≡ saved_world live.guest))
+    → IfOk written (λ _. (ids ≡ based identity next live.ids) × IsSavedWorld live.guest guest)
     → IfErr written (λ _. (ids ≡ spent next live.ids) × (guest ≡ live.guest)) → IsReadyLive live
     → IsReadyLive (record live { ids = ids; guest = guest })
 ended_stays live (Ok v) identity next ids guest own behind done failed it =
-    subst (λ (l : Live). IsReadyLive l) (λ i. record live { ids = sym done.0 i; guest = sym done.1 i })
-    (create_stays live identity next own behind it)
+    subst (λ (l : Live). IsReadyLive l) (λ i. record live { ids = sym done.0 i; guest = guest })
+    (create_stays live identity next guest own behind done.1 it)
 ended_stays live (Err why) identity next ids guest own behind done failed it =
     subst (λ (l : Live). IsReadyLive l) (λ i. record live { ids = sym failed.0 i; guest = sym failed.1 i })
     (failure_stays live identity next own behind it)

@@ -85,6 +85,10 @@ left_tells (device.Balloon b) p kept =
     ap (λ (d : DataOf BalloonKind). told_by (Some p.config) (Some d.own.statistics)) (sym (device_root (device.Balloon b) kept))
 left_tells (device.Block b) p kept = refl
 left_tells (device.Net n) p kept = refl
+<<<<<<< 717b8584
+left_tells (device.Vsock v) p kept = refl
+=======
+>>>>>>> m
 
 -- ---- what the balloon of a world tells is what the guest's does
 
@@ -203,7 +207,13 @@ change_at (change.BootSource source) config w v g is tells = subst (λ (o : Opti
 change_at (change.PutDrive drive) config w v g is tells = subst (λ (o : Option WorldValue). IsGuestBy o g) (sym tells) is
 change_at (change.PutInterface interface) config w v g is tells = subst (λ (o : Option WorldValue). IsGuestBy o g) (sym tells) is
 change_at (change.MachineConfig machine) config w v g is tells = subst (λ (o : Option WorldValue). IsGuestBy o g) (sym tells) is
+<<<<<<< 717b8584
+change_at (change.PutVsock vsock) config w v g is tells = subst (λ (o : Option WorldValue). IsGuestBy o g) (sym tells) is
 change_at (change.PutBalloon balloon) config w v g is tells = subst (λ (o : Option WorldValue). IsGuestBy o g) (sym tells) is
+change_at (change.MmdsConfig mmds) config w v g is tells = subst (λ (o : Option WorldValue). IsGuestBy o g) (sym tells) is
+=======
+change_at (change.PutBalloon balloon) config w v g is tells = subst (λ (o : Option WorldValue). IsGuestBy o g) (sym tells) is
+>>>>>>> m
 change_at (change.PutMetadata body) config w v g is tells = subst (λ (o : Option WorldValue). IsGuestBy o g) (sym tells) is
 change_at (change.PatchMetadata patch) config w v g is tells = subst (λ (o : Option WorldValue). IsGuestBy o g) (sym tells) is
 change_at change.Start config w v g is tells = subst (λ (o : Option WorldValue). IsGuestBy o g) (sym tells) is

@@ -42,7 +42,7 @@ use Rattle.flat_machine.specs.Machine.{Machine}
 use Rattle.flat_machine.specs.Ready.{IsFitting}
 use Rattle.flat_machine.specs.Requests.{allowed, decided, devices_from, disk_of, image_of, loads_from, next_identity, parent_in, sectors_of}
 use Rattle.vm_world.specs.Worlds.{IsWorld, WorldValue}
-use Rattle.create_end.specs.Saved.{saved_world}
+use Rattle.create_end.specs.Saved.{IsSavedWorld}
 use Rattle.monitor_plans.specs.declared.creating.Creation.{Creation}
 use Rattle.monitor_plans.specs.declared.drive_changes.Resize.{Resize}
 use Rattle.monitor_plans.specs.declared.restoring.Restored.{Restored}
@@ -297,11 +297,10 @@ PlanLeaves (plan.Resizes r) live after = TakesFile r live after
 PlanLeaves it live after = after ≡ plan_after it live
 
 -- what is left where a snapshot was written, and where a call on the files failed: its number is spent
-abbrev pub created_after : Creation → LiveMachine → LiveMachine
-created_after c live = record live {
-  ids = based c.identity c.next live.ids;
-  guest = saved_world live.guest;
-}
+abbrev pub IsCreated : Creation → LiveMachine → LiveMachine → Type 0
+IsCreated c live after =
+    IsSavedWorld live.guest after.guest
+    × (after ≡ record live { ids = based c.identity c.next live.ids; guest = after.guest })
 
 abbrev pub failed_after : Creation → LiveMachine → LiveMachine
 failed_after c live = record live { ids = spent c.next live.ids }

@@ -2,6 +2,10 @@
 ghost use Rattle.std.specs.Prelude.{All, ◌≡◌, ◌++◌, true, IfOk, OnOk, length, map};
 ghost use Rattle.flat_guest.specs.Shaped.{kinds_at_start};
 ghost use Rattle.flat_machine.specs.Ready.{IsTaken};
+<<<<<<< 717b8584
+ghost use Rattle.flat_machine.specs.Vsock.{new_vsock};
+=======
+>>>>>>> m
 ghost use Rattle.flat_machine.specs.Requests.{devices_from, have_files};
 ghost use Rattle.flat_snapshot.specs.Copies.{configuration_of};
 ghost use Rattle.gate_file.specs.Reading.{FileCause};
@@ -12,17 +16,29 @@ ghost use Rattle.vm_outside.specs.Filing.{SameFiles};
 ghost use Rattle.vm_outside.specs.Known.{Lasts, Tells};
 ghost use Rattle.snap_state.specs.Valid.{is_interface};
 ghost use Rattle.std.specs.List.{list_all};
+<<<<<<< 717b8584
+ghost use Rattle.monitor_plans.specs.Starting.{net_start, with_balloon, with_others, with_vsock};
+=======
 ghost use Rattle.monitor_plans.specs.Starting.{net_start, with_balloon, with_others};
+>>>>>>> m
 
 use crate::balloon::new_balloon;
 use crate::drives::{DriveFiles, drive_files};
 use crate::nets::new_net;
+<<<<<<< 717b8584
+use api_calls::{Interface, Vsock};
+=======
 use api_calls::Interface;
+>>>>>>> m
 use api_rules::Config;
 use gate_file::FileError;
 use guest_devices::NewDevice;
 use std::alloc::{AllocError, Global};
 use vm_outside::Files;
+<<<<<<< 717b8584
+use vsock_device::NewVsock;
+=======
+>>>>>>> m
 
 // The devices of interfaces, in their order.
 #[tactic(auto, using(crate::proofs::NetsMade::first_interface, crate::proofs::NetsMade::other_interfaces, crate::proofs::NetsMade::none_pushed, crate::proofs::NetsMade::one_pushed,))]
@@ -39,6 +55,18 @@ fn push_nets(devices: &mut Vec<NewDevice>, interfaces: &[Interface]) -> Result<(
     }
 }
 
+<<<<<<< 717b8584
+// What a vsock device starts with.
+fn new_vsock(vsock: &Vsock) -> NewVsock
+    ensures { result ≡ new_vsock vsock.now }
+{
+    NewVsock {
+        guest_cid: vsock.guest_cid,
+    }
+}
+
+=======
+>>>>>>> m
 fn with_interfaces(found: DriveFiles, interfaces: &[Interface]) -> Result<DriveFiles, AllocError>
     requires { list_all is_interface interfaces.now ≡ true }
     ensures drives { IfOk result (λ it. it.drives.items ≡ found.drives.items ++ map net_start interfaces.now) }
@@ -52,6 +80,27 @@ fn with_interfaces(found: DriveFiles, interfaces: &[Interface]) -> Result<DriveF
     })
 }
 
+<<<<<<< 717b8584
+// The vsock device stands before the balloon.
+fn with_vsock(found: DriveFiles, config: &Config) -> Result<DriveFiles, AllocError>
+    ensures drives { IfOk result (λ it. it.drives.items ≡ with_vsock found.drives.items config.now.vsock) }
+    ensures there { IfOk result (λ it. it.are_there ≡ found.are_there) }
+{
+    match &config.vsock {
+        None => Ok(found),
+        Some(vsock) => {
+            let mut drives = found.drives;
+            drives.push(NewDevice::Vsock(new_vsock(vsock)))?;
+            Ok(DriveFiles {
+                drives,
+                are_there: found.are_there,
+            })
+        }
+    }
+}
+
+=======
+>>>>>>> m
 // The balloon stands last.
 fn with_balloon(found: DriveFiles, config: &Config) -> Result<DriveFiles, AllocError>
     requires { IsTaken config.now }
@@ -71,16 +120,29 @@ fn with_balloon(found: DriveFiles, config: &Config) -> Result<DriveFiles, AllocE
     }
 }
 
+<<<<<<< 717b8584
+// The interfaces stand behind the drives, and before those.
+=======
 // The interfaces stand behind the drives, and before the balloon.
+>>>>>>> m
 #[tactic(auto, using(crate::proofs::NetsMade::interfaces_taken, crate::proofs::NetsMade::others_with))]
 fn with_others(found: DriveFiles, config: &Config) -> Result<DriveFiles, AllocError>
     requires { IsTaken config.now }
     ensures drives { IfOk result (λ it. it.drives.items
+<<<<<<< 717b8584
+        ≡ with_others found.drives.items config.now.interfaces config.now.vsock config.now.balloon) }
+    ensures there { IfOk result (λ it. it.are_there ≡ found.are_there) }
+{
+    let linked = with_interfaces(found, config.interfaces.as_slice())?;
+    let socketed = with_vsock(linked, config)?;
+    with_balloon(socketed, config)
+=======
         ≡ with_others found.drives.items config.now.interfaces config.now.balloon) }
     ensures there { IfOk result (λ it. it.are_there ≡ found.are_there) }
 {
     let linked = with_interfaces(found, config.interfaces.as_slice())?;
     with_balloon(linked, config)
+>>>>>>> m
 }
 
 /// The devices of a machine that is configured so, the drives by their files, asked in the order of devices.

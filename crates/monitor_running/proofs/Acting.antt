@@ -1,11 +1,19 @@
 -- One event more of a device.
+<<<<<<< 717b8584
+use Rattle.std.proofs.Common.{◌≡◌, ◌<◌, ℕ, true, refl, sym, ap, ◌∙◌, subst, List, [], ◌∷◌, ◌++◌, MatchBool, Option, Some, None}
+=======
 use Rattle.std.proofs.Common.{◌≡◌, ◌<◌, ℕ, true, refl, sym, subst, List, [], ◌∷◌, ◌++◌, MatchBool, Option, Some, None}
+>>>>>>> m
 use Rattle.std.proofs.lemmas.List.Elements.{All-push, All-from_recursion}
 use Rattle.vm_types.specs.declared.ids.ActorId.{ActorId}
 use Rattle.vm_types.specs.declared.ids.PlaceId.{PlaceId}
 use Rattle.vm_types.specs.declared.entry.Entry.{Entry}
 use Rattle.vm_types.specs.declared.op.Op.{Op}
+<<<<<<< 717b8584
+use Rattle.vm_types.specs.declared.op.OutOp.TheVariants.{HostClose, HostDial, HostNext, HostSend, LinkEnd, LinkPart, LinkSend, LinkTake}
+=======
 use Rattle.vm_types.specs.declared.op.OutOp.TheVariants.{LinkEnd, LinkPart, LinkSend, LinkTake}
+>>>>>>> m
 use Rattle.vm_types.specs.declared.reply.Reply.{Reply}
 use Rattle.guest_pages.specs.Made.{is_ready}
 use Rattle.vm_host.specs.Storing.{DiskKnown}
@@ -18,7 +26,11 @@ use Rattle.flat_guest.proofs.Determined.{wants_one}
 use Rattle.vm_world.specs.Refusing.{refusal_of}
 use Rattle.vm_world.specs.Worlds.{IsWorld, MakesEvent, WorldValue, pages_of, place_in}
 use Rattle.slice_runner.specs.Slices.{given_of}
+<<<<<<< 717b8584
+use Rattle.monitor_running.specs.Devices.{AsksDisk, DiskReplies, DiskRests, HaveActed, IsDevices, IsGiven, IsGivenBy, IsGivenByDisk, IsShort, unserved_reply}
+=======
 use Rattle.monitor_running.specs.Devices.{AsksDisk, DiskReplies, DiskRests, HaveActed, IsDevices, IsGiven, IsGivenBy, IsGivenByDisk, link_reply}
+>>>>>>> m
 use Rattle.monitor_running.proofs.Disks.{asked_more, rests_of, rests_same}
 use Rattle.monitor_running.proofs.Going.{given_is, leads_more, step_told}
 
@@ -55,16 +67,39 @@ disk_asks k (Op.Out act) None reply old now it is = let never = is in cc
 disk_asks k op None reply old now it is = rests_of old now it
 disk_asks k op (Some r) reply old now it is = absurd it
 
+<<<<<<< 717b8584
+-- what calls a link or a socket asks no disk
+link_asks : (k : ℕ) (op : Op) (given reply : Reply) (old now : DiskKnown) → unserved_reply op ≡ Some given → now ≡ old
+=======
 -- what calls a link asks no disk
 link_asks : (k : ℕ) (op : Op) (given reply : Reply) (old now : DiskKnown) → link_reply op ≡ Some given → now ≡ old
+>>>>>>> m
     → AsksDisk op (ActorId.Device k) reply old now
 link_asks k (Op.Out LinkTake) given reply old now calls same = rests_of old now same
 link_asks k (Op.Out (LinkPart index length)) given reply old now calls same = rests_of old now same
 link_asks k (Op.Out (LinkSend piece)) given reply old now calls same = rests_of old now same
 link_asks k (Op.Out LinkEnd) given reply old now calls same = rests_of old now same
+<<<<<<< 717b8584
+link_asks k (Op.Out HostNext) given reply old now calls same = rests_of old now same
+link_asks k (Op.Out (HostDial port)) given reply old now calls same = rests_of old now same
+link_asks k (Op.Out (HostSend piece connection)) given reply old now calls same = rests_of old now same
+link_asks k (Op.Out (HostClose connection)) given reply old now calls same = rests_of old now same
+link_asks k op given reply old now calls same = cc
+
+-- and nothing came of a socket
+short_by : (k : ℕ) (op : Op) (given : Option Reply) (reply : Reply) (old now : DiskKnown) → IsGiven k op old given now
+    → as_given given ≡ given_of op reply → IsShort op reply
+short_by k (Op.Out HostNext) given reply old now was is =
+    let told : Host Reply.Nothing ≡ Host reply = ap as_given (sym was.0) ∙ is in
+    subst (λ (r : Reply). IsShort (Op.Out HostNext) r) (host_same Reply.Nothing reply told) tt
+short_by k op given reply old now was is = tt
+
+asks_by : (k : ℕ) (op : Op) (given : Option Reply) (reply : Reply) (old now : DiskKnown) (link : Option Reply) → unserved_reply op ≡ link
+=======
 link_asks k op given reply old now calls same = cc
 
 asks_by : (k : ℕ) (op : Op) (given : Option Reply) (reply : Reply) (old now : DiskKnown) (link : Option Reply) → link_reply op ≡ link
+>>>>>>> m
     → IsGivenBy link k op old given now → as_given given ≡ given_of op reply → AsksDisk op (ActorId.Device k) reply old now
 asks_by k op given reply old now (Some answer) calls (own, same) is = link_asks k op answer reply old now calls same
 asks_by k op given reply old now None calls it is = disk_asks k op given reply old now it is
@@ -83,8 +118,22 @@ module _ (first w : WorldValue) (asked old now : DiskKnown) (es : List Entry) (k
       given_is (layout_of h) h e.actor e.op (as_given given) e.reply
       (subst (λ (p : PlaceId). Answers p h e.actor e.op (as_given given) e.reply) step.place step.answer) in
       subst (λ (a : ActorId). AsksDisk e.op a e.reply old now) (sym step.actor)
+<<<<<<< 717b8584
+      (asks_by k e.op given e.reply old now (unserved_reply e.op) refl
+      (subst (λ (o : Op). IsGiven k o old given now) (sym same) was_given) told)
+
+  hears : (h n : Guest) (e : Entry) → IsWorld w h → FlatStep h event e n → IsShort e.op e.reply
+  hears h n e is step =
+      let same : e.op ≡ op =
+      wants_one h (ActorId.Device k) e.op op (subst (λ (a : ActorId). Wants h a e.op) step.actor step.want) (wants h is) in
+      let told : as_given given ≡ given_of e.op e.reply =
+      given_is (layout_of h) h e.actor e.op (as_given given) e.reply
+      (subst (λ (p : PlaceId). Answers p h e.actor e.op (as_given given) e.reply) step.place step.answer) in
+      short_by k e.op given e.reply old now (subst (λ (o : Op). IsGiven k o old given now) (sym same) was_given) told
+=======
       (asks_by k e.op given e.reply old now (link_reply e.op) refl
       (subst (λ (o : Op). IsGiven k o old given now) (sym same) was_given) told)
+>>>>>>> m
 
   pub acted_more : (v : WorldValue) (e : Entry) → MakesEvent w event e v → HaveActed (es ++ e ∷ []) first v asked now
   acted_more v e made = record {
@@ -98,7 +147,12 @@ module _ (first w : WorldValue) (asked old now : DiskKnown) (es : List Entry) (k
         );
     made = λ g is.
         let before = acted.serial g is in
-        All-push IsDevices es e (acted.made g is) (k, port, (made.step before.0 before.2).actor);
+        All-push IsDevices es e (acted.made g is) (
+          k,
+          port,
+          (made.step before.0 before.2).actor,
+          hears before.0 (guest_after before.0 e) e before.2 (made.step before.0 before.2),
+        );
     answered = λ g is.
         let before = acted.serial g is in
         asked_more es e asked old now (acted.answered g is)
@@ -122,5 +176,9 @@ module _ (first w : WorldValue) (asked old now : DiskKnown) (es : List Entry) (k
     made = λ g is. acted.made g is;
     answered = λ g is.
         let before = acted.serial g is in
+<<<<<<< 717b8584
+        rw (unasked (unserved_reply op) given op was_given never before.0 before.2) (acted.answered g is);
+=======
         rw (unasked (link_reply op) given op was_given never before.0 before.2) (acted.answered g is);
+>>>>>>> m
   }

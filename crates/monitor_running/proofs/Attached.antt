@@ -19,7 +19,7 @@ use Rattle.flat_guest.specs.Guest.{Guest}
 use Rattle.slice_runner.specs.Slices.{IsThere}
 use Rattle.monitor_machine.specs.Disks.{HasFile, HasFilesBy}
 use Rattle.monitor_running.specs.Asked.{HasOwnFile}
-use Rattle.monitor_running.specs.Devices.{AsksDisk, CallsDisk, DiskReplies, DiskRests, DiskWasAsked, Holds, IsDevices}
+use Rattle.monitor_running.specs.Devices.{AsksDisk, CallsDisk, DiskReplies, DiskRests, DiskWasAsked, Holds, IsDevices, IsHeard}
 use Rattle.monitor_running.specs.Waiting.{makers, turns}
 use Rattle.monitor_running.proofs.Disks.{IsOther, all_other, lasts_more, others_made}
 
@@ -90,28 +90,28 @@ own_before start config (ActorId.Device k) old new still same has = λ tells dri
     subst (λ (f : ℕ → Attached). IsOf drive.path_on_host (f k)) (same.files (still tells)) (has tells drive is)
 own_before start config actor old new still same has = tt
 
--- ---- events of devices that have a port
+-- ---- events of devices that have a port, and hear no more of a socket than an act gives
 
 abbrev pub HasPort : ActorId → Type 0
 HasPort (ActorId.Device k) = k < most_ports
 HasPort actor = Unit {0}
 
 abbrev pub HavePorts : List Entry → Type 0
-HavePorts es = AllByRecursion (λ (e : Entry). HasPort e.actor) es
+HavePorts es = AllByRecursion (λ (e : Entry). HasPort e.actor × IsHeard e.actor e.op e.reply) es
 
 pub own_file : (start : Health) (config : Config) (actor : ActorId) (disk : DiskKnown) → HasPort actor
     → ((k : ℕ) → k < most_ports → HasFile start config k disk) → HasOwnFile start config actor disk
 own_file start config (ActorId.Device k) disk port files = files k port
 own_file start config actor disk port files = tt
 
-other_port : (actor : ActorId) → IsOther actor → HasPort actor
-other_port ActorId.Timer other = tt
-other_port (ActorId.Hart k) other = tt
-other_port (ActorId.Device k) other = absurd other
+other_port : (actor : ActorId) (op : Op) (reply : Reply) → IsOther actor → HasPort actor × IsHeard actor op reply
+other_port ActorId.Timer op reply other = (tt, tt)
+other_port (ActorId.Hart k) op reply other = (tt, tt)
+other_port (ActorId.Device k) op reply other = absurd other
 
 pub ports_other : (es : List Entry) → AllByRecursion (λ (e : Entry). IsOther e.actor) es → HavePorts es
 ports_other [] others = tt
-ports_other (e ∷ es) others = (other_port e.actor others.0, ports_other es others.1)
+ports_other (e ∷ es) others = (other_port e.actor e.op e.reply others.0, ports_other es others.1)
 
 pub ports_there : (harts : ℕ) (es : List Entry) → All (λ (e : Entry). IsThere harts e.actor) es → HavePorts es
 ports_there harts es there =
@@ -122,11 +122,14 @@ ports_turns but harts es made = ports_other es (others_made but harts es made)
 
 pub ports_hart : (k : ℕ) (es : List Entry) → AllByRecursion (λ (e : Entry). e.actor ≡ ActorId.Hart k) es → HavePorts es
 ports_hart k [] own = tt
-ports_hart k (e ∷ es) own = (subst HasPort (sym own.0) tt, ports_hart k es own.1)
+ports_hart k (e ∷ es) own = (subst (λ (a : ActorId). HasPort a × IsHeard a e.op e.reply) (sym own.0) (tt, tt), ports_hart k es own.1)
 
 ports_by : (es : List Entry) → AllByRecursion IsDevices es → HavePorts es
 ports_by [] made = tt
-ports_by (e ∷ es) made = (subst HasPort (sym made.0.2) made.0.1, ports_by es made.1)
+ports_by (e ∷ es) made = (
+  subst (λ (a : ActorId). HasPort a × IsHeard a e.op e.reply) (sym made.0.2) (made.0.1, made.0.3),
+  ports_by es made.1,
+)
 
 pub ports_devices : (es : List Entry) → All IsDevices es → HavePorts es
 ports_devices es made = ports_by es (recursion_from_All IsDevices es made)

@@ -1,5 +1,9 @@
 -- A slice's events, and a drain, are a run over the items that tell them.
 use Rattle.std.proofs.Common.{◌≡◌, ◌<◌, nat_le, ℕ, zero, suc, Bool, true, false, if◌then◌else◌, ◌&&◌, refl, sym, ap, ◌∙◌, subst, List, [], ◌∷◌, ◌++◌, map, take, drop, append-nil, take-append-drop, Option, Some, ◌⊎◌, inl, inr}
+<<<<<<< 717b8584
+use Rattle.std.proofs.lemmas.Bool.{le-leb}
+=======
+>>>>>>> m
 use Rattle.std.proofs.lemmas.List.Elements.{All-cons}
 use Rattle.vm_types.specs.declared.entry.Entry.{Entry}
 use Rattle.vm_types.specs.declared.ids.ActorId.{ActorId}
@@ -21,11 +25,19 @@ use Rattle.vm_world.specs.Worlds.{IsWorld, WorldValue}
 use Rattle.slice_runner.specs.Slices.{Leads, event_of, given_of}
 use Rattle.monitor_running.proofs.Asked.{IsAsking, IsDeviceCall, is_asking}
 use Rattle.device_trace.specs.Acts.{is_disk_call}
+<<<<<<< 717b8584
+use Rattle.guest_devices.specs.Kinds.{Balloon, Block, Kind, Net, Vsock, calls_of}
+use Rattle.flat_guest.specs.Sound.{IsSound}
+use Rattle.flat_guest.proofs.Soundness.{sound_next}
+use Rattle.vm_types.specs.declared.op.OutOp.{OutOp}
+use Rattle.vm_types.specs.declared.op.OutOp.TheVariants.{DiskFlush, DiskRead, DiskWrite, HostClose, HostDial, HostNext, HostSend, LinkEnd, LinkPart, LinkSend, LinkTake}
+=======
 use Rattle.guest_devices.specs.Kinds.{Balloon, Block, Kind, Net, calls_of}
 use Rattle.flat_guest.specs.Sound.{IsSound}
 use Rattle.flat_guest.proofs.Soundness.{sound_next}
 use Rattle.vm_types.specs.declared.op.OutOp.{OutOp}
 use Rattle.vm_types.specs.declared.op.OutOp.TheVariants.{DiskFlush, DiskRead, DiskWrite, LinkEnd, LinkPart, LinkSend, LinkTake}
+>>>>>>> m
 use Rattle.vm_types.specs.Fits.{out_fits}
 use Rattle.serve_host.specs.Events.{event_items, frame_reply, host_reply, item_by, item_of}
 use Rattle.flat_trace.specs.Events.{drain_items, event_acts, quiet_act}
@@ -35,7 +47,7 @@ use Rattle.port_table.specs.Window.{most_ports}
 use Rattle.monitor_machine.specs.Disks.{HasFile, HasFiles, HasFilesBy}
 use Rattle.monitor_machine.proofs.Attaching.{uncalled_none}
 use Rattle.monitor_running.specs.Asked.{DisksAnswered, HasOwnFile, ItemAsks}
-use Rattle.monitor_running.specs.Devices.{AsksDisk, DiskWasAsked}
+use Rattle.monitor_running.specs.Devices.{AsksDisk, DiskWasAsked, IsHeard, IsShort}
 use Rattle.monitor_running.specs.Items.{drained_world}
 use Rattle.monitor_running.specs.Reached.{NoLineage, gives_lineage}
 use Rattle.monitor_running.proofs.Attached.{HavePorts, file_kept, files_asked, own_file}
@@ -106,6 +118,37 @@ link_again LinkEnd Reply.Failed call fits = refl
 link_again LinkEnd reply call fits = cc
 link_again act reply call fits = cc
 
+<<<<<<< 717b8584
+socket_again : (act : OutOp) (reply : Reply) → calls_of Vsock act ≡ true → out_fits act reply ≡ true → IsShort (Op.Out act) reply
+    → reply_given (host_reply reply) ≡ Host reply
+socket_again HostNext Reply.Nothing call fits short = refl
+socket_again HostNext (Reply.Opened connection) call fits short = refl
+socket_again HostNext (Reply.Received piece connection) call fits short =
+    ap (λ (b : Bool). if b then Host (Reply.Received piece connection) else Nothing) (le-leb _ 64 short)
+socket_again HostNext (Reply.Ended connection) call fits short = refl
+socket_again HostNext Reply.Failed call fits short = refl
+socket_again HostNext reply call fits short = cc
+socket_again (HostDial port) (Reply.Dialled connection) call fits short = refl
+socket_again (HostDial port) Reply.Nothing call fits short = refl
+socket_again (HostDial port) Reply.Failed call fits short = refl
+socket_again (HostDial port) reply call fits short = cc
+socket_again (HostSend piece connection) Reply.Done call fits short = refl
+socket_again (HostSend piece connection) Reply.Failed call fits short = refl
+socket_again (HostSend piece connection) reply call fits short = cc
+socket_again (HostClose connection) Reply.Done call fits short = refl
+socket_again (HostClose connection) Reply.Failed call fits short = refl
+socket_again (HostClose connection) reply call fits short = cc
+socket_again act reply call fits short = cc
+
+call_again : (kind : Kind) (act : OutOp) (reply : Reply) → calls_of kind act ≡ true → out_fits act reply ≡ true
+    → IsShort (Op.Out act) reply → reply_given (host_reply reply) ≡ Host reply
+call_again Block act reply call fits short = disk_again act reply call fits
+call_again Net act reply call fits short = link_again act reply call fits
+call_again Vsock act reply call fits short = socket_again act reply call fits short
+call_again Balloon act reply call fits short = cc
+
+given_again : (e : Entry) (act : OutOp) → IsAsking e act ⊎ IsDeviceCall e act → e.op ≡ Op.Out act → IsHeard e.actor e.op e.reply
+=======
 call_again : (kind : Kind) (act : OutOp) (reply : Reply) → calls_of kind act ≡ true → out_fits act reply ≡ true
     → reply_given (host_reply reply) ≡ Host reply
 call_again Block act reply call fits = disk_again act reply call fits
@@ -113,13 +156,20 @@ call_again Net act reply call fits = link_again act reply call fits
 call_again Balloon act reply call fits = cc
 
 given_again : (e : Entry) (act : OutOp) → IsAsking e act ⊎ IsDeviceCall e act
+>>>>>>> m
     → reply_given (host_reply e.reply) ≡ Host e.reply
-given_again e act (inl asking) =
+given_again e act (inl asking) is heard =
     subst (λ (r : Reply). reply_given (host_reply r) ≡ Host r) (sym asking.reply) refl
+<<<<<<< 717b8584
+given_again e act (inr own) is heard =
+    let device : IsShort e.op e.reply = subst (λ (a : ActorId). IsHeard a e.op e.reply) own.actor heard in
+    call_again own.call.0 act e.reply own.call.1 own.fits (subst (λ (o : Op). IsShort o e.reply) is device)
+=======
 given_again e act (inr own) = call_again own.call.0 act e.reply own.call.1 own.fits
+>>>>>>> m
 
 module _ (m : Machine) (g mid : Guest) (e : Entry) (sound : IsSound g) (runs : running m ≡ Some g)
-    (step : FlatStep g (event_of e) e mid) where
+    (step : FlatStep g (event_of e) e mid) (heard : IsHeard e.actor e.op e.reply) where
   has_event : (given : Given) → given_of e.op e.reply ≡ given → HasEvent (running m) e.actor given m (with_guest m mid)
   has_event given is =
       let there : FlatStep g (record { actor = e.actor; given = given }) e mid =
@@ -140,7 +190,7 @@ module _ (m : Machine) (g mid : Guest) (e : Entry) (sound : IsSound g) (runs : r
   told_by : (op : Op) → e.op ≡ op → TraceStep (item_by op e.actor e.reply) [] m Quiet (with_guest m mid)
   told_by (Op.Out act) is =
       let reads : reply_given (host_reply e.reply) ≡ Host e.reply =
-      given_again e act (is_asking g (event_of e) e mid act sound step is) in
+      given_again e act (is_asking g (event_of e) e mid act sound step is) is heard in
       (refl, refl, e.reply, reads, has_event (Host e.reply) (ap (λ (o : Op). given_of o e.reply) is))
   told_by (Op.Read at len) is = told_plain (ap (λ (o : Op). given_of o e.reply) is)
   told_by (Op.Write at piece) is = told_plain (ap (λ (o : Op). given_of o e.reply) is)
@@ -159,7 +209,7 @@ module _ (m : Machine) (g mid : Guest) (e : Entry) (sound : IsSound g) (runs : r
         → ItemAsks start (item_by op e.actor e.reply) m.config (running m) old now
     asks_by (Op.Out act) is asks =
         let reads : reply_given (host_reply e.reply) ≡ Host e.reply =
-        given_again e act (is_asking g (event_of e) e mid act sound step is) in
+        given_again e act (is_asking g (event_of e) e mid act sound step is) is heard in
         subst (λ (o : Option Guest). ItemAsks start (item.Reply e.actor (host_reply e.reply)) m.config o old now) (sym runs)
         (own, Op.Out act, e.reply, subst (λ (o : Op). Wants g e.actor o) is step.want, reads, asks)
     asks_by op is asks = rests_uncalled old now asks
@@ -195,32 +245,33 @@ events_unlineaged (e ∷ es) =
     All-cons (λ (act : Act). gives_lineage act.item ≡ false) (quiet_act (item_of e)) (event_acts es)
     (event_unlineaged e.op e.actor e.reply) (events_unlineaged es)
 
-pub events_run : (es : List Entry) (m : Machine) (g h : Guest) → IsSound g → running m ≡ Some g → Leads g es h
+pub events_run : (es : List Entry) (m : Machine) (g h : Guest) → IsSound g → running m ≡ Some g → Leads g es h → HavePorts es
     → Run (event_acts es) m (quiets es) (with_guest m h)
-events_run [] m g h sound runs leads =
+events_run [] m g h sound runs leads ports =
     (refl, sym (ap (λ (o : Option Guest). record m { guest = o }) (ap (λ (x : Guest). Some x) (sym leads) ∙ sym (guest_is m g runs))))
-events_run (e ∷ es) m g h sound runs leads = (
+events_run (e ∷ es) m g h sound runs leads ports = (
   Quiet,
   with_guest m leads.0,
   quiets es,
   refl,
-  told m g leads.0 e sound runs leads.1,
-  events_run es (with_guest m leads.0) leads.0 h (sound_next g (event_of e) e leads.0 sound leads.1) (still_runs m g leads.0 runs) leads.2,
+  told m g leads.0 e sound runs leads.1 ports.0.1,
+  events_run es (with_guest m leads.0) leads.0 h (sound_next g (event_of e) e leads.0 sound leads.1) (still_runs m g leads.0 runs) leads.2
+      ports.1,
 )
 
 -- and the disks were asked in it what they were asked in the events
 pub events_answered : (es : List Entry) (m : Machine) (g h : Guest) (sound : IsSound g) (runs : running m ≡ Some g) (leads : Leads g es h)
-    (start : Health) (old now : DiskKnown) → HavePorts es → (Tells start → Tells old.health)
+    (ports : HavePorts es) (start : Health) (old now : DiskKnown) → (Tells start → Tells old.health)
     → ((k : ℕ) → k < most_ports → HasFile start m.config k old) → DiskWasAsked old es now
-    → DisksAnswered start (event_acts es) m (quiets es) (with_guest m h) (events_run es m g h sound runs leads) old now
+    → DisksAnswered start (event_acts es) m (quiets es) (with_guest m h) (events_run es m g h sound runs leads ports) old now
 unfolding events_run
-events_answered [] m g h sound runs leads start old now ports still files was = was
-events_answered (e ∷ es) m g h sound runs leads start old now ports still files was =
+events_answered [] m g h sound runs leads ports start old now still files was = was
+events_answered (e ∷ es) m g h sound runs leads ports start old now still files was =
     let same = files_asked e.op e.actor e.reply old was.0 was.1 in (
       was.0,
-      asks m g leads.0 e sound runs leads.1 start old was.0 (own_file start m.config e.actor old ports.0 files) was.1,
+      asks m g leads.0 e sound runs leads.1 ports.0.1 start old was.0 (own_file start m.config e.actor old ports.0.0 files) was.1,
       events_answered es (with_guest m leads.0) leads.0 h (sound_next g (event_of e) e leads.0 sound leads.1)
-          (still_runs m g leads.0 runs) leads.2 start was.0 now ports.1 (λ tells. same.lasts.still (still tells))
+          (still_runs m g leads.0 runs) leads.2 ports.1 start was.0 now (λ tells. same.lasts.still (still tells))
           (λ k less. file_kept start m.config k old was.0 still same (files k less)) was.2,
     )
 

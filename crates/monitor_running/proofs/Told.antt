@@ -44,7 +44,8 @@ use Rattle.monitor_running.proofs.Led.{acts_items, drain_acts, drain_answered, d
 abbrev seen_by : List Item → List ℕ → HostKnown → Seen
 seen_by took taken host = record { took = took; taken = taken; host = host }
 
--- events that lead from this guest to one that the world is, in which the clock and the disks answered; each device has a port
+-- events that lead from this guest to one that the world is, in which the clock and the disks answered; each device has a port, and hears no more of a
+-- socket than an act gives
 abbrev pub GoneFrom : Guest → List Entry → WorldValue → HostKnown → HostKnown → Type 0
 GoneFrom g es new asked now =
     ((h : Guest) × Leads g es h × IsWorld new h) × ClockWasAsked asked.clock es now.clock × DiskWasAsked asked.disk es now.disk
@@ -149,11 +150,11 @@ module _ (s : Start) (m : Machine) (talk : List Out) (took : List Item) (taken :
   events_told =
       let sound = world_sound w is.0 is.2 in
       goes_by s old (seen_by (took ++ event_items es) taken now) m after talk (event_acts es) (quiets es) r
-      (events_run es m is.0 led.0 sound is.1 led.1) (ap (λ (l : List Item). took ++ l) (sym (acts_items es)))
+      (events_run es m is.0 led.0 sound is.1 led.1 gone.3) (ap (λ (l : List Item). took ++ l) (sym (acts_items es)))
       (sym (append-nil taken) ∙ ap (λ (l : List ℕ). taken ++ l) (sym (quiets_show es))) (quiets_say es)
       (record {
         clock = subst (λ (l : List Item). HasAnswered asked.clock (answers_in l) now.clock) (sym (acts_items es)) all_asked;
-        disk = events_answered es m is.0 led.0 sound is.1 led.1 first_health asked.disk now.disk gone.3 still_tells files_before gone.2;
+        disk = events_answered es m is.0 led.0 sound is.1 led.1 gone.3 first_health asked.disk now.disk still_tells files_before gone.2;
       })
       (events_unlineaged es)
 
@@ -208,23 +209,23 @@ module _ (s : Start) (m : Machine) (talk : List Out) (took : List Item) (taken :
         host = mid;
         reached =
             goes_by s old front m (with_guest m parts.0) talk (event_acts (take n es)) (quiets (take n es)) r
-            (events_run (take n es) m is.0 parts.0 sound is.1 parts.1) (ap (λ (l : List Item). took ++ l) (sym (acts_items (take n es))))
+            (events_run (take n es) m is.0 parts.0 sound is.1 parts.1 ports.0) (ap (λ (l : List Item). took ++ l) (sym (acts_items (take n es))))
             (sym (append-nil taken) ∙ ap (λ (l : List ℕ). taken ++ l) (sym (quiets_show (take n es)))) (quiets_say (take n es))
             (record {
               clock = subst (λ (l : List Item). HasAnswered asked.clock (answers_in l) clocks.0) (sym (acts_items (take n es))) clocks.1;
-              disk = events_answered (take n es) m is.0 parts.0 sound is.1 parts.1 first_health asked.disk disks.0 ports.0 still_tells files_before disks.1;
+              disk = events_answered (take n es) m is.0 parts.0 sound is.1 parts.1 ports.0 first_health asked.disk disks.0 still_tells files_before disks.1;
             })
             (events_unlineaged (take n es));
         flat = after;
         ahead = record {
           events = drop n es;
           outs = quiets (drop n es);
-          run = events_run (drop n es) (with_guest m parts.0) parts.0 led.0 led_sound runs parts.2;
+          run = events_run (drop n es) (with_guest m parts.0) parts.0 led.0 led_sound runs parts.2 ports.1;
           unshown = quiets_show (drop n es);
           unsaid = quiets_say (drop n es);
           answered = record {
             clock = subst (λ (l : List Item). HasAnswered clocks.0 (answers_in l) now.clock) (sym (acts_items (drop n es))) clocks.2;
-            disk = events_answered (drop n es) (with_guest m parts.0) parts.0 led.0 led_sound runs parts.2 first_health disks.0 now.disk ports.1
+            disk = events_answered (drop n es) (with_guest m parts.0) parts.0 led.0 led_sound runs parts.2 ports.1 first_health disks.0 now.disk
                 (λ tells. same.lasts.still (still_tells tells))
                 (λ k less. file_kept first_health m.config k asked.disk disks.0 still_tells same (files_before k less)) disks.2;
           };

@@ -1,12 +1,21 @@
+<<<<<<< 717b8584
+-- What devices ask of their disks, links and sockets, and the events that they make.
+use Rattle.std.specs.Prelude.{ℕ, ◌≡◌, ◌<◌, ◌≤◌, true, MatchBool, All, List, [], ◌∷◌, Option, Some, None, length}
+=======
 -- What devices ask of their disks and links, and the events that they make.
 use Rattle.std.specs.Prelude.{ℕ, ◌≡◌, ◌<◌, true, MatchBool, All, List, [], ◌∷◌, Option, Some, None, length}
+>>>>>>> m
 use Rattle.vm_types.specs.Causes.{Rose}
 use Rattle.vm_types.specs.Fits.{out_fits}
 use Rattle.vm_types.specs.declared.entry.Entry.{Entry}
 use Rattle.vm_types.specs.declared.ids.ActorId.{ActorId}
 use Rattle.vm_types.specs.declared.op.Op.{Op}
 use Rattle.vm_types.specs.declared.op.OutOp.{OutOp}
+<<<<<<< 717b8584
+use Rattle.vm_types.specs.declared.op.OutOp.TheVariants.{DiskFlush, DiskRead, DiskWrite, HostClose, HostDial, HostNext, HostSend, LinkEnd, LinkPart, LinkSend, LinkTake}
+=======
 use Rattle.vm_types.specs.declared.op.OutOp.TheVariants.{DiskFlush, DiskRead, DiskWrite, LinkEnd, LinkPart, LinkSend, LinkTake}
+>>>>>>> m
 use Rattle.vm_types.specs.declared.reply.Reply.{Reply}
 use Rattle.vm_outside.specs.Known.{Lasts, Tells}
 use Rattle.vm_host.specs.Storing.{DiskKnown, FlushesDisk, IsPart, MayFlushDisk, MayWriteDisk, SameDisks, WritesDisk}
@@ -59,6 +68,22 @@ IsGivenByDisk device (Op.Out act) old (Some reply) new =
     (is_disk_call act ≡ true) × (out_fits act reply ≡ true) × DiskReplies device act reply old new
 IsGivenByDisk device op old (Some reply) new = ⊥
 
+<<<<<<< 717b8584
+-- What a device is answered that calls its link or its socket: none is served, so that no frame comes and none can be sent, and that no
+-- connection is opened or can be.
+abbrev pub unserved_reply : Op → Option Reply
+unserved_reply (Op.Out LinkTake) = Some Reply.Nothing
+unserved_reply (Op.Out (LinkPart index length)) = Some Reply.Failed
+unserved_reply (Op.Out (LinkSend piece)) = Some Reply.Failed
+unserved_reply (Op.Out LinkEnd) = Some Reply.Failed
+unserved_reply (Op.Out HostNext) = Some Reply.Nothing
+unserved_reply (Op.Out (HostDial port)) = Some Reply.Failed
+unserved_reply (Op.Out (HostSend piece connection)) = Some Reply.Failed
+unserved_reply (Op.Out (HostClose connection)) = Some Reply.Failed
+unserved_reply op = None
+
+-- what an actor is given: what a link or a socket answers that isn't served, and then no disk was asked, or else what its disk does
+=======
 -- What a device is answered that calls its link: none is served, so that no frame comes and none can be sent.
 abbrev pub link_reply : Op → Option Reply
 link_reply (Op.Out LinkTake) = Some Reply.Nothing
@@ -68,12 +93,17 @@ link_reply (Op.Out LinkEnd) = Some Reply.Failed
 link_reply op = None
 
 -- what an actor is given: what its link answers, and then no disk was asked, or else what its disk does
+>>>>>>> m
 abbrev pub IsGivenBy : Option Reply → ℕ → Op → DiskKnown → Option Reply → DiskKnown → Type 0
 IsGivenBy (Some reply) device op old given new = (given ≡ Some reply) × (new ≡ old)
 IsGivenBy None device op old given new = IsGivenByDisk device op old given new
 
 abbrev pub IsGiven : ℕ → Op → DiskKnown → Option Reply → DiskKnown → Type 0
+<<<<<<< 717b8584
+IsGiven device op old given new = IsGivenBy (unserved_reply op) device op old given new
+=======
 IsGiven device op old given new = IsGivenBy (link_reply op) device op old given new
+>>>>>>> m
 
 -- a call that a disk can be asked: a sector has 8 parts of 64 bytes
 abbrev pub CanBeAsked : Op → Type 0
@@ -82,9 +112,19 @@ CanBeAsked (Op.Out (DiskWrite sector part bytes)) = (part < 8) × (length bytes 
 CanBeAsked (Op.Out DiskFlush) = Unit {0}
 CanBeAsked op = ⊥
 
+-- bytes that come of a connection are at most 64
+abbrev pub IsShort : Op → Reply → Type 0
+IsShort (Op.Out HostNext) (Reply.Received piece connection) = length piece ≤ 64
+IsShort op reply = Unit {0}
+
+-- a device heard no more at once
+abbrev pub IsHeard : ActorId → Op → Reply → Type 0
+IsHeard (ActorId.Device k) op reply = IsShort op reply
+IsHeard actor op reply = Unit {0}
+
 -- the event of a device, of which there are at most as many as ports
 abbrev pub IsDevices : Entry → Type 0
-IsDevices e = (k : ℕ) × (k < most_ports) × (e.actor ≡ ActorId.Device k)
+IsDevices e = (k : ℕ) × (k < most_ports) × (e.actor ≡ ActorId.Device k) × IsShort e.op e.reply
 
 -- from each guest that the world was they lead to one that it is; each is a device's, and was answered by its disk, where it called that
 pub record HaveActed (events : List Entry) (old new : WorldValue) (asked now : DiskKnown) : Type 0 where

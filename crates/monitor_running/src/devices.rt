@@ -27,7 +27,11 @@ ghost use Rattle.port_table.specs.Window.{most_ports};
 ghost use Rattle.flat_guest.specs.Guest.{Guest};
 ghost use Rattle.vm_world.specs.Worlds.{IsWorld, WorldValue};
 ghost use Rattle.slice_runner.specs.Slices.{IsSerial};
+<<<<<<< 717b8584
+ghost use Rattle.monitor_running.specs.Devices.{CanBeAsked, DiskWasAsked, HaveActed, IsDevices, IsGiven, IsGivenByDisk, unserved_reply};
+=======
 ghost use Rattle.monitor_running.specs.Devices.{CanBeAsked, DiskWasAsked, HaveActed, IsDevices, IsGiven, IsGivenByDisk, link_reply};
+>>>>>>> m
 
 use std::alloc::{AllocError, Global};
 use vm_host::Disk;
@@ -117,6 +121,20 @@ fn ask_disk<D: Disk>(disk: &mut D, device: u8, op: &Op) -> Option<Reply>
     }
 }
 
+<<<<<<< 717b8584
+// What a device is answered that calls its link or its socket: none is served.
+fn ask_unserved(op: &Op) -> Option<Reply>
+    ensures { result ≡ unserved_reply op.now }
+{
+    match op {
+        Op::Out(OutOp::LinkTake | OutOp::HostNext) => Some(Reply::Nothing),
+        Op::Out(OutOp::LinkPart { .. } | OutOp::LinkSend { .. } | OutOp::LinkEnd) => {
+            Some(Reply::Failed)
+        }
+        Op::Out(OutOp::HostDial { .. } | OutOp::HostSend { .. } | OutOp::HostClose { .. }) => {
+            Some(Reply::Failed)
+        }
+=======
 // What a device is answered that calls its link: none is served.
 fn ask_link(op: &Op) -> Option<Reply>
     ensures { result ≡ link_reply op.now }
@@ -126,6 +144,7 @@ fn ask_link(op: &Op) -> Option<Reply>
         Op::Out(OutOp::LinkPart { .. } | OutOp::LinkSend { .. } | OutOp::LinkEnd) => {
             Some(Reply::Failed)
         }
+>>>>>>> m
         _ => None,
     }
 }
@@ -135,7 +154,11 @@ fn ask_host<D: Disk>(disk: &mut D, device: u8, op: &Op) -> Option<Reply>
     ensures given { IsGiven device op.now (D.known disk.old) result (D.known disk.new) }
     ensures lasts { Lasts (D.known disk.old).health (D.known disk.new).health }
 {
+<<<<<<< 717b8584
+    match ask_unserved(op) {
+=======
     match ask_link(op) {
+>>>>>>> m
         Some(reply) => Some(reply),
         None => ask_disk(disk, device, op),
     }

@@ -1,5 +1,9 @@
 -- What the lines of a round and of the load ask for: each of 64 numbers is computed.
+<<<<<<< 717b8584
+use Rattle.std.proofs.Common.{◌≡◌, ◌≤◌, ◌+◌, ◌==◌, ℕ, zero, suc, Bool, true, false, ◌&&◌, not, nat_le, refl, ap, ◌∙◌, subst, sym, List, ◌++◌, length, codes, Result, Ok, Err, arith}
+=======
 use Rattle.std.proofs.Common.{◌≡◌, ◌≤◌, ◌+◌, ◌==◌, ℕ, zero, suc, Bool, true, false, ◌&&◌, not, nat_le, refl, ap, ◌∙◌, subst, sym, List, [], ◌∷◌, ◌++◌, length, codes, Result, Ok, Err, arith}
+>>>>>>> m
 use Rattle.std.specs.Fmt.{decimal}
 use Rattle.std.specs.Str.{bytes_eq}
 use Rattle.std.proofs.lemmas.Bool.{and_parts, eqb-true, leb-false, leb-true}
@@ -91,9 +95,17 @@ diff_of i (Ok (call.PutInterface interface)) is = absurd cc
 diff_of i (Ok (call.PatchInterface patch)) is = absurd cc
 diff_of i (Ok (call.PutMachineConfig machine)) is = absurd cc
 diff_of i (Ok (call.PatchMachineConfig patch)) is = absurd cc
+<<<<<<< 717b8584
+diff_of i (Ok (call.PutVsock vsock)) is = absurd cc
 diff_of i (Ok (call.PutBalloon balloon)) is = absurd cc
 diff_of i (Ok (call.PatchBalloon patch)) is = absurd cc
 diff_of i (Ok (call.PatchStatistics patch)) is = absurd cc
+diff_of i (Ok (call.PutMmdsConfig mmds)) is = absurd cc
+=======
+diff_of i (Ok (call.PutBalloon balloon)) is = absurd cc
+diff_of i (Ok (call.PatchBalloon patch)) is = absurd cc
+diff_of i (Ok (call.PatchStatistics patch)) is = absurd cc
+>>>>>>> m
 diff_of i (Ok (call.PutMetadata body)) is = absurd cc
 diff_of i (Ok (call.PatchMetadata patch)) is = absurd cc
 diff_of i (Ok call.InstanceStart) is = absurd cc
@@ -169,9 +181,17 @@ load_of i (Ok (call.PutInterface interface)) is = absurd cc
 load_of i (Ok (call.PatchInterface patch)) is = absurd cc
 load_of i (Ok (call.PutMachineConfig machine)) is = absurd cc
 load_of i (Ok (call.PatchMachineConfig patch)) is = absurd cc
+<<<<<<< 717b8584
+load_of i (Ok (call.PutVsock vsock)) is = absurd cc
 load_of i (Ok (call.PutBalloon balloon)) is = absurd cc
 load_of i (Ok (call.PatchBalloon patch)) is = absurd cc
 load_of i (Ok (call.PatchStatistics patch)) is = absurd cc
+load_of i (Ok (call.PutMmdsConfig mmds)) is = absurd cc
+=======
+load_of i (Ok (call.PutBalloon balloon)) is = absurd cc
+load_of i (Ok (call.PatchBalloon patch)) is = absurd cc
+load_of i (Ok (call.PatchStatistics patch)) is = absurd cc
+>>>>>>> m
 load_of i (Ok (call.PutMetadata body)) is = absurd cc
 load_of i (Ok (call.PatchMetadata patch)) is = absurd cc
 load_of i (Ok call.InstanceStart) is = absurd cc

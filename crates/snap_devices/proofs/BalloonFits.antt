@@ -128,7 +128,11 @@ module _ (b : QueueRounds Kept) (is : is_state b ≡ true) (few : b.rounds.pages
     (short : AreShort true b.rounds) (narrow : IsNarrowPhase b.phase) (small : IsSmallStage b.kind.stage)
     (own : IsSizedData true b.kind.own) where
   parts : TestParts balloons.balloon true is_work b.phase b.rounds b.kind.stage
+<<<<<<< 717b8584
+  parts = facts balloons.balloon true is_work b.phase b.rounds b.kind.stage is few port short
+=======
   parts = facts balloons.balloon is_work b.phase b.rounds b.kind.stage is few port short
+>>>>>>> m
 
   pub balloon_fits : balloon.Fits b
   unfolding balloon balloon_fields kind kind_fields
@@ -136,9 +140,15 @@ module _ (b : QueueRounds Kept) (is : is_state b ≡ true) (few : b.rounds.pages
       let kept = stage_fits b.rounds.pages few (work_of b.phase) b.kind.stage parts.works small in
       let small_own = own refl in (
         (
+<<<<<<< 717b8584
+          rounds_fit balloons.balloon true is_work b.phase b.rounds b.kind.stage is few port short,
+          (
+            place_fits balloons.balloon true is_work b.phase b.rounds b.kind.stage is few port short b.phase parts.place narrow,
+=======
           rounds_fit balloons.balloon is_work b.phase b.rounds b.kind.stage is few port short,
           (
             place_fits balloons.balloon is_work b.phase b.rounds b.kind.stage is few port short b.phase parts.place narrow,
+>>>>>>> m
             (
               (
                 fits16 b.kind.own.interval small_own.interval,

@@ -19,6 +19,15 @@ use Rattle.net_device.specs.declared.kind.Stage as net
 use Rattle.net_device.specs.declared.kind.Stage.TheVariants as net_at
 use Rattle.net_device.specs.Work as net_work
 use Rattle.snap_devices.specs.Nets as nets
+<<<<<<< 717b8584
+use Rattle.vsock_device.specs.declared.data.InHand.{InHand}
+use Rattle.vsock_device.specs.declared.data.InHand.TheVariants as hand
+use Rattle.vsock_device.specs.declared.kind.Stage as vsock
+use Rattle.vsock_device.specs.declared.kind.Stage.TheVariants as vsock_at
+use Rattle.vsock_device.specs.declared.kind.VsockKind.{VsockKind}
+use Rattle.snap_devices.specs.Vsocks as vsocks
+=======
+>>>>>>> m
 use Rattle.balloon_device.specs.declared.kind.Stage.{Stage}
 use Rattle.balloon_device.specs.declared.kind.Stage.TheVariants as at
 use Rattle.balloon_device.specs.Work.{Kept}
@@ -39,6 +48,10 @@ use Rattle.snap_devices.proofs.BalloonNarrow.{HoldsBalloon, HoldsStage}
 use Rattle.snap_devices.proofs.DeviceNarrow.{HoldsBytes}
 use Rattle.snap_devices.proofs.RoundsNarrow.{AreAllHeld}
 use Rattle.snap_devices.proofs.NetNarrow.{HoldsNet, HoldsPiece}
+<<<<<<< 717b8584
+use Rattle.snap_devices.proofs.VsockNarrow.{HoldsAct, HoldsPacket, HoldsVsock}
+=======
+>>>>>>> m
 use Rattle.snap_devices.proofs.Narrow.{AreHeld, HoldsBlock}
 
 pub front : (a b : List ℕ) → IsBytes (a ++ b) → IsBytes a
@@ -179,8 +192,68 @@ net_held n is =
       rounds_held n.rounds (front (rounds.bytes n.rounds) _ is),
     )
 
+<<<<<<< 717b8584
+-- ---- a vsock device
+
+vsock_piece_held : (h : InHand) → IsBytes (vsocks.in_hand.bytes h) → HoldsPacket h
+unfolding vsocks.in_hand vsocks.packet
+vsock_piece_held hand.Free is = tt
+vsock_piece_held (hand.Receives p) is =
+    let a = behind (byte.bytes 1) _ is in
+    piece_held p.bytes (behind (vsocks.head.bytes p.head) _ a)
+vsock_piece_held hand.Unjudged is = tt
+vsock_piece_held hand.Orphaned is = tt
+vsock_piece_held (hand.Judged refusal) is = tt
+
+fetching_held : (from : Collect) → IsBytes (vsocks.fetching.bytes from) → All IsByte from.held
+unfolding vsocks.fetching
+fetching_held from is = collect_held from is
+
+act_held : (s : vsock.Stage) → IsBytes (vsocks.stage.bytes s) → HoldsAct s
+unfolding vsocks.stage
+act_held vsock_at.Rest is = tt
+act_held (vsock_at.Close host) is = tt
+act_held (vsock_at.Deliver spill len) is =
+    let a = behind (byte.bytes 2) _ is in
+    bytes_held spill.held (front (held.bytes spill.held) _ a)
+act_held (vsock_at.Event spill) is =
+    let a = behind (byte.bytes 3) _ is in
+    bytes_held spill.held (front (held.bytes spill.held) _ a)
+act_held (vsock_at.Fetch from len) is =
+    let a = behind (byte.bytes 4) _ is in
+    fetching_held from (front (vsocks.fetching.bytes from) _ a)
+act_held (vsock_at.Dial h) is = tt
+act_held (vsock_at.Accept host line) is =
+    let a = behind (byte.bytes 6) _ is in
+    piece_held line (behind (number32.bytes host) _ a)
+act_held (vsock_at.Send host sent from) is =
+    let a = behind (byte.bytes 7) _ is in
+    let b = behind (number32.bytes host) _ a in
+    piece_held sent (front (nets.piece.bytes sent) _ b)
+act_held (vsock_at.Read host from) is = tt
+
+vsock_held : (v : QueueRounds VsockKind) → IsBytes (vsocks.vsock.bytes v) → HoldsVsock v
+unfolding vsocks.vsock vsocks.vsock_fields vsocks.vsock_data
+vsock_held v is =
+    let a = behind (rounds.bytes v.rounds) _ is in
+    let b = behind (place.bytes v.phase) _ a in
+    let own = front (vsocks.vsock_data.bytes v.kind.own) (vsocks.stage.bytes v.kind.stage) b in
+    let c = behind (number64.bytes v.kind.own.guest_cid) _ own in
+    let d = behind (number32.bytes v.kind.own.next_port) _ c in
+    let e = behind ((optional vsocks.head).bytes v.kind.own.answer) _ d in (
+      vsock_piece_held v.kind.own.in_hand (front (vsocks.in_hand.bytes v.kind.own.in_hand) _ e),
+      act_held v.kind.stage (behind (vsocks.vsock_data.bytes v.kind.own) _ b),
+      rounds_held v.rounds (front (rounds.bytes v.rounds) _ is),
+    )
+
+=======
+>>>>>>> m
 pub device_held : (d : Device) → IsBytes (device.bytes d) → HoldsBytes d
 unfolding device
 device_held (kept.Block b) is = block_held b (behind (byte.bytes 1) (block.bytes b) is)
 device_held (kept.Net n) is = net_held n (behind (byte.bytes 0) (nets.net.bytes n) is)
+<<<<<<< 717b8584
+device_held (kept.Vsock v) is = vsock_held v (behind (byte.bytes 3) (vsocks.vsock.bytes v) is)
+=======
+>>>>>>> m
 device_held (kept.Balloon b) is = balloon_held b (behind (byte.bytes 2) (balloon.bytes b) is)

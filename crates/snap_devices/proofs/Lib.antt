@@ -14,5 +14,10 @@ pub mod Ports
 pub mod Reading
 pub mod RoundsFits
 pub mod RoundsNarrow
+<<<<<<< 717b8584
+pub mod VsockFits
+pub mod VsockNarrow
+=======
+>>>>>>> m
 pub mod Writing
 pub mod Three

@@ -10,4 +10,8 @@ pub mod Rounds
 pub mod Places
 pub mod Balloons
 pub mod Nets
+<<<<<<< 717b8584
+pub mod Vsocks
+=======
+>>>>>>> m
 pub mod Devices

@@ -111,7 +111,7 @@ pub fn read_parts(alloc: Global, input: &mut Input) -> Result<PartList, ReadErro
 }
 
 #[tactic(auto, unfolding(crate::specs::Queues::held, file_format::specs::Kinds::byte_list))]
-fn write_held(bytes: &[u8], out: &mut Vec<u8>) -> Result<(), AllocError>
+pub(crate) fn write_held(bytes: &[u8], out: &mut Vec<u8>) -> Result<(), AllocError>
     requires { length bytes.now ≤ 128 }
     ensures fits { OnOk result (held.Fits bytes.now) }
     ensures bytes { OnOk result (out.new.items ≡ held.puts bytes.now out.old.items) }
@@ -122,7 +122,7 @@ fn write_held(bytes: &[u8], out: &mut Vec<u8>) -> Result<(), AllocError>
 }
 
 #[tactic(auto, unfolding(crate::specs::Queues::held))]
-fn read_held(alloc: Global, input: &mut Input) -> Result<Held, ReadError>
+pub(crate) fn read_held(alloc: Global, input: &mut Input) -> Result<Held, ReadError>
     ensures { Takes held input.old input.new result }
 {
     let bytes: ByteList = Stored::read(alloc, input)?;

@@ -10,6 +10,13 @@ use Rattle.api_calls.specs.declared.call.CacheType.{CacheType}
 use Rattle.api_calls.specs.declared.call.CacheType.TheVariants.{Unsafe, Writeback}
 use Rattle.api_calls.specs.declared.call.Drive.{Drive}
 use Rattle.api_calls.specs.declared.interface.Interface.{Interface}
+<<<<<<< 717b8584
+use Rattle.api_calls.specs.declared.mmds.MmdsConfig.{MmdsConfig}
+use Rattle.metadata_store.specs.declared.version.MetadataVersion.{MetadataVersion}
+use Rattle.metadata_store.specs.declared.version.MetadataVersion.TheVariants.{V1, V2}
+use Rattle.api_calls.specs.declared.vsock.Vsock.{Vsock}
+=======
+>>>>>>> m
 use Rattle.api_calls.specs.Addresses.{are_pairs, is_mac, is_small_mac}
 use Rattle.api_calls.specs.Form.{holds, is_id, is_path, is_short_text}
 use Rattle.api_calls.specs.Limits.{is_limiter}
@@ -33,14 +40,24 @@ use Rattle.snap_state.specs.Copies as copies
 use Rattle.snap_state.specs.Drives as drives
 use Rattle.snap_state.specs.Interfaces as interfaces
 use Rattle.snap_state.specs.Limits as limits
+<<<<<<< 717b8584
+use Rattle.snap_state.specs.Mmds as mmds
+=======
+>>>>>>> m
 use Rattle.file_format.specs.Versions.{Version}
 use Rattle.file_format.specs.Versions.Version.{One}
 use Rattle.snap_state.specs.Files as state
 use Rattle.snap_harts.specs.Harts.{hart}
 use Rattle.snap_harts.specs.HartStates.{hart_state}
+<<<<<<< 717b8584
+use Rattle.snap_state.specs.Valid.{are_drives, are_interfaces, are_paths, are_sections, has_devices, has_machine, has_room, is_balloon, is_before, is_board, is_drive, is_interface, is_machine, is_mmds, is_reserved, is_rising, is_source, is_valid, is_vsock, rises_from}
+use Rattle.snap_state.proofs.HasDevices.{has_parts, many_devices, many_ports}
+use Rattle.snap_state.proofs.Texts.{address_short, args_short, id_short, ids_few, mmds_parts, path_short}
+=======
 use Rattle.snap_state.specs.Valid.{are_drives, are_interfaces, are_paths, are_sections, has_devices, has_machine, has_room, is_balloon, is_before, is_board, is_drive, is_interface, is_machine, is_reserved, is_rising, is_source, is_valid, rises_from}
 use Rattle.snap_state.proofs.HasDevices.{has_parts, many_devices, many_ports}
 use Rattle.snap_state.proofs.Texts.{args_short, id_short, path_short}
+>>>>>>> m
 use Rattle.snap_state.proofs.Sizes.{device_within, hart_state_within, hart_within, port_within}
 use Rattle.file_format.proofs.Within.{Within, any_within, within16, within32, within64, flag_within, zeros_within, constant_within, just_within, pair_within, made_within, passing_within, optional_most, optional_within, total, total-pass, list_within, each_within, counted_within, listed_within, bytes_within, text_within}
 
@@ -100,10 +117,53 @@ interface_within =
     made_within _ interface_most (λ a. omega arith)
     (pair_within text_within (pair_within text_within (pair_within (optional_within text text_within)
     (pair_within (any_within 52 limits.limiter limiter_within) (any_within 52 limits.limiter limiter_within)))))
+<<<<<<< 717b8584
+
+version_takes : (name : List ℕ) (first second : Bool) (left : List ℕ) (v : MetadataVersion) (rest : List ℕ)
+    → bytes_eq name (codes "V1") ≡ first → bytes_eq name (codes "V2") ≡ second
+    → (mmds.only (if first then Some V1 else (if second then Some V2 else None))).reads left ≡ Some (v, rest)
+    → length name + length left ≤ 2 + length rest
+version_takes name true second left v rest is other reads =
+    omega (arith, ap length ((bytes_eq-Decides name (codes "V1")).0 is), (just_within V1 0).at left v rest reads)
+version_takes name false true left v rest other is reads =
+    omega (arith, ap length ((bytes_eq-Decides name (codes "V2")).0 is), (just_within V2 0).at left v rest reads)
+version_takes name false false left v rest other another reads = absurd cc
+
+version_within : Within mmds.version.reads (λ _. 6)
+unfolding mmds.version
+version_within = record {
+  at = λ given v rest is.
+      option_and_then_some (λ (x : List ℕ × List ℕ). (mmds.only (mmds.version_named x.0)).reads x.1) (text.reads given) (v, rest) is
+      (λ x ex ey. omega (arith, text_within.at given x.0 x.1 ex, version_takes x.0 _ _ x.1 v rest refl refl ey));
+}
+
+abbrev mmds_most : MmdsConfig → ℕ
+mmds_most m = (4 + total (λ id. 4 + length id) m.network_interfaces) + (6 + (4 + length m.ipv4_address))
+
+mmds_within : Within mmds.mmds.reads mmds_most
+unfolding mmds.mmds
+mmds_within =
+    made_within _ mmds_most (λ a. omega arith) (pair_within (list_within text text_within) (pair_within version_within text_within))
+
+abbrev vsock_most : Vsock → ℕ
+vsock_most v = 8 + (4 + length v.uds_path)
+
+vsock_within : Within configured.vsock.reads vsock_most
+unfolding configured.vsock
+vsock_within = made_within _ vsock_most (λ a. omega arith) (pair_within within64 text_within)
+
+abbrev configuration_most : Configuration → ℕ
+configuration_most c =
+    (1
+    + (source_most c.boot_source
+    + ((4 + total drive_most c.drives) + ((4 + total interface_most c.interfaces) + optional_most vsock_most c.vsock))))
+    + (36 + optional_most mmds_most c.mmds)
+=======
 
 abbrev configuration_most : Configuration → ℕ
 configuration_most c =
     (1 + (source_most c.boot_source + ((4 + total drive_most c.drives) + ((4 + total interface_most c.interfaces) + 1)))) + 37
+>>>>>>> m
 
 fixed_within : (expected : List ℕ) → Within (fixed expected).reads (λ _. length expected)
 unfolding fixed
@@ -119,9 +179,15 @@ configuration_within =
     made_within _ configuration_most (λ a. omega arith)
     (pair_within
     (pair_within (fixed_within (1 ∷ [])) (pair_within source_within (pair_within (list_within drives.drive drive_within)
+<<<<<<< 717b8584
+    (pair_within (list_within interfaces.interface interface_within) (optional_within configured.vsock vsock_within)))))
+    (pair_within within64 (pair_within within64 (pair_within (zeros_within 1)
+    (pair_within flag_within (pair_within (any_within 17 configured.balloon balloon_within) (optional_within mmds.mmds mmds_within)))))))
+=======
     (pair_within (list_within interfaces.interface interface_within) (zeros_within 1)))))
     (pair_within within64 (pair_within within64 (pair_within (zeros_within 1)
     (pair_within flag_within (pair_within (any_within 17 configured.balloon balloon_within) (zeros_within 1)))))))
+>>>>>>> m
 
 -- ---- the copy
 
@@ -253,6 +319,25 @@ interfaces_short : (is : List Interface) → are_interfaces is ≡ true → tota
 interfaces_short is all =
     let parts = and_parts (list_all is_interface is) (are_apart id_of_interface is) all in
     total-pass interface_most is_interface 4295 interface_short is parts.0
+<<<<<<< 717b8584
+
+vsock_short : (v : Option Vsock) → holds is_vsock v ≡ true → optional_most vsock_most v ≤ 4108
+vsock_short None is = omega arith
+vsock_short (Some v) is = omega (arith, path_short v.uds_path (and_parts _ (is_path v.uds_path) is).1)
+
+mmds_short : (interfaces : List Interface) (o : Option MmdsConfig) → holds (is_mmds interfaces) o ≡ true → optional_most mmds_most o ≤ 1118
+mmds_short interfaces None is = omega arith
+mmds_short interfaces (Some m) is =
+    let own = mmds_parts interfaces m is in
+    let few = ids_few m.network_interfaces own.ids in
+    omega (
+      arith,
+      few.0,
+      total-pass (λ (id : List ℕ). 4 + length id) is_id 68 (λ id named. omega (arith, id_short id named)) m.network_interfaces few.1,
+      (address_short m.ipv4_address own.place).0,
+    )
+=======
+>>>>>>> m
 
 board_short : (harts : ℕ) (b : SavedBoard) → harts ≤ 32 → is_board harts b ≡ true → board_most b ≤ 5014
 board_short harts b few is =
@@ -271,11 +356,19 @@ machine_small c is =
     let harts = and_parts _ (leb m.vcpu_count 32) least.0 in
     (leb-true _ _ harts.1, omega (arith, eqb-true _ _ both.1, leb-true _ _ most.1))
 
+<<<<<<< 717b8584
+devices_few : (c : StateCopy) → has_devices c ≡ true → has_room c.configuration.drives c.configuration.interfaces c.configuration.vsock c.configuration.balloon ≡ true
+    → (length c.ports ≤ 16) × (length c.devices ≤ 16) × (length c.configuration.interfaces ≤ 16)
+devices_few c is room =
+    let has = has_parts c is in
+    let few = leb-true (count_in c.configuration.drives c.configuration.interfaces c.configuration.vsock c.configuration.balloon) 16 room in
+=======
 devices_few : (c : StateCopy) → has_devices c ≡ true → has_room c.configuration.drives c.configuration.interfaces c.configuration.balloon ≡ true
     → (length c.ports ≤ 16) × (length c.devices ≤ 16) × (length c.configuration.interfaces ≤ 16)
 devices_few c is room =
     let has = has_parts c is in
     let few = leb-true (count_in c.configuration.drives c.configuration.interfaces c.configuration.balloon) 16 room in
+>>>>>>> m
     let ports = many_ports c has in
     let devices = many_devices c has in
     (omega (arith, few, ports), omega (arith, few, devices), omega (arith, few))
@@ -293,10 +386,19 @@ copy_short c is =
     let harts = and_parts _ _ devices.0 in
     let count = and_parts _ (eqb (length c.harts) harts_there) harts.0 in
     let boards = and_parts _ (is_board harts_there c.board) count.0 in
+<<<<<<< 717b8584
+    let room = and_parts _ (has_room c.configuration.drives c.configuration.interfaces c.configuration.vsock c.configuration.balloon) boards.0 in
+    let balloons = and_parts _ (holds (is_balloon c.configuration.machine.mem_size_mib) c.configuration.balloon) room.0 in
+    let machine = and_parts _ (has_machine c c.configuration.machine) balloons.0 in
+    let given = and_parts _ (holds (is_mmds c.configuration.interfaces) c.configuration.mmds) machine.0 in
+    let sockets = and_parts _ (holds is_vsock c.configuration.vsock) given.0 in
+    let linked = and_parts _ (are_interfaces c.configuration.interfaces) sockets.0 in
+=======
     let room = and_parts _ (has_room c.configuration.drives c.configuration.interfaces c.configuration.balloon) boards.0 in
     let balloons = and_parts _ (holds (is_balloon c.configuration.machine.mem_size_mib) c.configuration.balloon) room.0 in
     let machine = and_parts _ (has_machine c c.configuration.machine) balloons.0 in
     let linked = and_parts _ (are_interfaces c.configuration.interfaces) machine.0 in
+>>>>>>> m
     let configured = and_parts (is_source c.configuration.boot_source) (are_drives c.configuration.drives) linked.0 in
     let small = machine_small c machine.1 in
     let few = devices_few c devices.1 room.1 in
@@ -309,6 +411,11 @@ copy_short c is =
       small.0,
       small.1,
       interfaces_short c.configuration.interfaces linked.1,
+<<<<<<< 717b8584
+      vsock_short c.configuration.vsock sockets.1,
+      mmds_short c.configuration.interfaces c.configuration.mmds given.1,
+=======
+>>>>>>> m
       few.0,
       few.1,
       few.2,

@@ -13,6 +13,10 @@ use Rattle.snap_devices.specs.Phases as phases
 use Rattle.snap_devices.specs.Blocks as blocks
 use Rattle.snap_devices.specs.Devices as devices
 use Rattle.snap_devices.specs.Ports as ports
+<<<<<<< 717b8584
+use Rattle.snap_devices.specs.Vsocks as vsocks
+=======
+>>>>>>> m
 use Rattle.snap_harts.specs.HartStates as hart_states
 use Rattle.snap_harts.specs.Harts as harts
 use Rattle.file_format.proofs.Within.{Within, WithinList, chosen_list_within, ended_within, no_list_within, passing_list_within, standing_list_within, whole_within, wider_within}
@@ -178,7 +182,11 @@ block_within =
     standing_list_within _ 17227
     (passing_list_within _ 17227 (ended_within blocks.block_fields limits.end_of_device 10269 6958 fields_within more_within))
 
+<<<<<<< 717b8584
+-- ---- the rounds of a network device, a vsock device or a balloon, and where it is
+=======
 -- ---- the rounds of a network device or a balloon, and where it is
+>>>>>>> m
 
 queues_within : (code : ℕ) → Within (rounds.which_queues code).reads (λ _. 0)
 queues_within zero = just_within _ 0
@@ -308,6 +316,92 @@ balloon_within =
     (made_within _ (λ _. 27629) (λ a. omega arith)
     (pair_within rounds_within (pair_within device_place_within balloon_kind_within)))
 
+<<<<<<< 717b8584
+-- ---- a vsock device
+
+operations_within : (code : ℕ) → Within (vsocks.numbered code).reads (λ _. 0)
+operations_within zero = nothing_within 0
+operations_within (suc zero) = just_within _ 0
+operations_within (suc (suc zero)) = just_within _ 0
+operations_within (suc (suc (suc zero))) = just_within _ 0
+operations_within (suc (suc (suc (suc zero)))) = just_within _ 0
+operations_within (suc (suc (suc (suc (suc zero))))) = just_within _ 0
+operations_within (suc (suc (suc (suc (suc (suc zero)))))) = just_within _ 0
+operations_within (suc (suc (suc (suc (suc (suc (suc zero))))))) = just_within _ 0
+operations_within (suc (suc (suc (suc (suc (suc (suc (suc n)))))))) = nothing_within 0
+
+operation_within : Within vsocks.operation.reads (λ _. 1)
+unfolding vsocks.operation
+operation_within = then_within byte_within operations_within
+
+head_within : Within vsocks.head.reads (λ _. 13)
+unfolding vsocks.head
+head_within =
+    made_within _ (λ _. 13) (λ a. omega arith) (pair_within operation_within (pair_within within32 (pair_within within32 within32)))
+
+packet_within : Within vsocks.packet.reads (λ _. 81)
+unfolding vsocks.packet
+packet_within = made_within _ (λ _. 81) (λ a. omega arith) (pair_within head_within piece_within)
+
+hands_within : (code : ℕ) → Within (vsocks.hands code).reads (λ _. 81)
+hands_within zero = just_within _ 81
+hands_within (suc zero) = made_within _ _ (λ a. omega arith) packet_within
+hands_within (suc (suc zero)) = just_within _ 81
+hands_within (suc (suc (suc zero))) = just_within _ 81
+hands_within (suc (suc (suc (suc zero)))) = made_within _ _ (λ a. omega arith) (any_within 13 vsocks.head head_within)
+hands_within (suc (suc (suc (suc (suc n))))) = nothing_within 81
+
+packet_in_hand_within : Within vsocks.in_hand.reads (λ _. 82)
+unfolding vsocks.in_hand
+packet_in_hand_within = then_within byte_within hands_within
+
+vsock_data_within : Within vsocks.vsock_data.reads (λ _. 109)
+unfolding vsocks.vsock_data
+vsock_data_within =
+    made_within _ (λ _. 109) (λ a. omega arith)
+    (pair_within within64 (pair_within within32 (pair_within (any_within 13 vsocks.head head_within) (pair_within packet_in_hand_within flag_within))))
+
+header_within : Within vsocks.header.reads (λ _. 44)
+unfolding vsocks.header
+header_within =
+    made_within _ (λ _. 44) (λ a. omega arith)
+    (pair_within
+    (pair_within within64 (pair_within within64 (pair_within within32 (pair_within within32 within32))))
+    (pair_within within16 (pair_within within16 (pair_within within32 (pair_within within32 within32)))))
+
+fetching_within : Within vsocks.fetching.reads (λ _. 3464)
+unfolding vsocks.fetching
+fetching_within = passing_within _ (λ _. 3464) (λ v is. omega arith) collect_within
+
+vsock_stages_within : (code : ℕ) → Within (vsocks.stages code).reads (λ _. 3472)
+vsock_stages_within zero = just_within _ 3472
+vsock_stages_within (suc zero) = made_within _ _ (λ a. omega arith) within32
+vsock_stages_within (suc (suc zero)) =
+    made_within _ _ (λ a. omega arith) (pair_within held_within (pair_within parts_within within32))
+vsock_stages_within (suc (suc (suc zero))) = made_within _ _ (λ a. omega arith) (pair_within held_within parts_within)
+vsock_stages_within (suc (suc (suc (suc zero)))) = made_within _ _ (λ a. omega arith) (pair_within fetching_within within64)
+vsock_stages_within (suc (suc (suc (suc (suc zero))))) = made_within _ _ (λ a. omega arith) header_within
+vsock_stages_within (suc (suc (suc (suc (suc (suc zero)))))) =
+    made_within _ _ (λ a. omega arith) (pair_within within32 piece_within)
+vsock_stages_within (suc (suc (suc (suc (suc (suc (suc zero))))))) =
+    made_within _ _ (λ a. omega arith) (pair_within within32 (pair_within piece_within parts_within))
+vsock_stages_within (suc (suc (suc (suc (suc (suc (suc (suc zero)))))))) =
+    made_within _ _ (λ a. omega arith) (pair_within within32 parts_within)
+vsock_stages_within (suc (suc (suc (suc (suc (suc (suc (suc (suc n))))))))) = nothing_within 3472
+
+vsock_stage_within : Within vsocks.stage.reads (λ _. 3473)
+unfolding vsocks.stage
+vsock_stage_within = then_within byte_within vsock_stages_within
+
+vsock_within : Within vsocks.vsock.reads (λ _. 27556)
+unfolding vsocks.vsock vsocks.vsock_fields
+vsock_within =
+    passing_within _ (λ _. 27556) (λ v is. omega arith)
+    (made_within _ (λ _. 27556) (λ a. omega arith)
+    (pair_within rounds_within (pair_within device_place_within (pair_within vsock_data_within vsock_stage_within))))
+
+=======
+>>>>>>> m
 -- ---- a device of any kind
 
 devices_within : (code : ℕ) → WithinList (devices.devices code).reads 30639
@@ -317,7 +411,13 @@ devices_within (suc zero) =
     standing_list_within _ 30639 (wider_within 17227 30639 (omega arith) block_within)
 devices_within (suc (suc zero)) =
     standing_list_within _ 30639 (wider_within 27629 30639 (omega arith) (whole_within balloons.balloon 27629 balloon_within))
+<<<<<<< 717b8584
+devices_within (suc (suc (suc zero))) =
+    standing_list_within _ 30639 (wider_within 27556 30639 (omega arith) (whole_within vsocks.vsock 27556 vsock_within))
+devices_within (suc (suc (suc (suc n)))) = no_list_within 30639
+=======
 devices_within (suc (suc (suc n))) = no_list_within 30639
+>>>>>>> m
 
 pub device_within : WithinList devices.device.reads 30640
 unfolding devices.device

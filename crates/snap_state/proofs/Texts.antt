@@ -16,16 +16,38 @@ use Rattle.api_calls.specs.declared.call.CacheType.TheVariants.{Unsafe, Writebac
 use Rattle.api_calls.specs.declared.call.Drive.{Drive}
 use Rattle.api_calls.specs.declared.call.MachineConfig.{MachineConfig}
 use Rattle.api_calls.specs.declared.interface.Interface.{Interface}
+<<<<<<< 717b8584
+use Rattle.api_calls.specs.declared.vsock.Vsock.{Vsock}
+use Rattle.api_calls.specs.declared.limiter.BucketConfig.{BucketConfig}
+use Rattle.api_calls.specs.declared.limiter.Limiter.{Limiter}
+use Rattle.api_calls.specs.declared.mmds.MmdsConfig.{MmdsConfig}
+use Rattle.metadata_store.specs.declared.version.MetadataVersion.{MetadataVersion}
+use Rattle.metadata_store.specs.declared.version.MetadataVersion.TheVariants.{V1, V2}
+use Rattle.api_calls.specs.Addresses.{are_digits, are_pairs, is_mac, is_metadata_address, is_small_mac}
+use Rattle.api_calls.specs.Drives.{is_root}
+use Rattle.api_calls.specs.Form.{are_ids, has_path_bytes, holds, is_address, is_id, is_id_byte, is_path, is_short_text}
+=======
 use Rattle.api_calls.specs.declared.limiter.BucketConfig.{BucketConfig}
 use Rattle.api_calls.specs.declared.limiter.Limiter.{Limiter}
 use Rattle.api_calls.specs.Addresses.{are_digits, are_pairs, is_mac, is_small_mac}
 use Rattle.api_calls.specs.Drives.{is_root}
 use Rattle.api_calls.specs.Form.{has_path_bytes, holds, is_id, is_id_byte, is_path, is_short_text}
+>>>>>>> m
 use Rattle.api_calls.specs.Limits.{is_bucket, is_limiter}
 use Rattle.guest_memory.specs.Reserved.{hart_limit}
 use Rattle.port_table.specs.Window.{most_ports}
 use Rattle.snap_state.specs.declared.configuration.BootSource.{BootSource}
 use Rattle.snap_state.specs.declared.configuration.Configuration.{Configuration}
+<<<<<<< 717b8584
+use Rattle.snap_state.specs.Configured.{balloon, boot_source, configuration, vsock}
+use Rattle.snap_state.specs.Drives.{cache, drive}
+use Rattle.snap_state.specs.Interfaces.{interface}
+use Rattle.snap_state.specs.Limits.{bucket, limiter}
+use Rattle.snap_state.specs.Mmds.{mmds, version}
+use Rattle.snap_state.specs.Valid.{are_drives, are_interfaces, are_paths, is_balloon, is_drive, is_interface, is_machine, is_mmds, is_source, is_vsock}
+use Rattle.vm_config.specs.Drives.{id_of_drive}
+use Rattle.vm_config.specs.Interfaces.{has_interface, id_of_interface}
+=======
 use Rattle.snap_state.specs.Configured.{balloon, boot_source, configuration}
 use Rattle.snap_state.specs.Drives.{cache, drive}
 use Rattle.snap_state.specs.Interfaces.{interface}
@@ -33,6 +55,7 @@ use Rattle.snap_state.specs.Limits.{bucket, limiter}
 use Rattle.snap_state.specs.Valid.{are_drives, are_interfaces, are_paths, is_balloon, is_drive, is_interface, is_machine, is_source}
 use Rattle.vm_config.specs.Drives.{id_of_drive}
 use Rattle.vm_config.specs.Interfaces.{id_of_interface}
+>>>>>>> m
 use Rattle.vm_config.specs.Named.{are_apart}
 
 -- ---- texts
@@ -263,6 +286,72 @@ machine_of m is =
     let few = and_parts (nat_le 1 m.vcpu_count) (nat_le m.vcpu_count hart_limit) some.0 in
     record { harts = leb-true _ _ few.1; mib = leb-true _ _ large.1 }
 
+<<<<<<< 717b8584
+vsock_fits : (v : Vsock) → is_vsock v ≡ true → vsock.Fits v
+unfolding vsock
+vsock_fits v is =
+    let p1 = and_parts _ (is_path v.uds_path) is in
+    let cid = ltb-true v.guest_cid 4294967295 (and_parts (nat_le 3 v.guest_cid) (nat_lt v.guest_cid 4294967295) p1.0).1 in
+    (fits64 v.guest_cid (omega (arith, cid)), path_fits v.uds_path p1.1)
+
+vsocks_fit : (o : Option Vsock) → holds is_vsock o ≡ true → (optional vsock).Fits o
+vsocks_fit None is = fits_optional vsock None tt
+vsocks_fit (Some v) is = fits_optional vsock (Some v) (vsock_fits v is)
+
+-- ---- where metadata are given
+
+version_fits : (it : MetadataVersion) → version.Fits it
+unfolding version
+version_fits V1 = (id_fits (codes "V1") refl, refl)
+version_fits V2 = (id_fits (codes "V2") refl, refl)
+
+-- what is asked of it
+pub record IsMmds (interfaces : List Interface) (m : MmdsConfig) : Type 0 where
+  pub ids : are_ids m.network_interfaces ≡ true
+  pub there : list_all (has_interface interfaces) m.network_interfaces ≡ true
+  pub place : is_address m.ipv4_address ≡ true
+
+pub mmds_parts : (interfaces : List Interface) (m : MmdsConfig) → is_mmds interfaces m ≡ true → IsMmds interfaces m
+mmds_parts interfaces m is =
+    let p1 = and_parts _ (is_address m.ipv4_address) is in
+    let p0 = and_parts (are_ids m.network_interfaces) (list_all (has_interface interfaces) m.network_interfaces) p1.0 in
+    record { ids = p0.0; there = p0.1; place = p1.1 }
+
+-- at most 16 of them
+pub ids_few : (ids : List (List ℕ)) → are_ids ids ≡ true → (length ids ≤ 16) × (list_all is_id ids ≡ true)
+ids_few ids are =
+    let p1 = and_parts _ (list_all is_id ids) are in
+    (leb-true (length ids) 16 (and_parts (nat_lt 0 (length ids)) (nat_le (length ids) 16) p1.0).1, p1.1)
+
+-- at most 15 bytes
+pub address_short : (t : List ℕ) → is_address t ≡ true → (length t ≤ 15) × (is_utf8 t ≡ true)
+address_short t is =
+    let short = and_parts (is_short_text 15 t) (is_metadata_address t) is in
+    let both = and_parts (nat_le (length t) 15) (is_utf8 t) short.0 in
+    (leb-true (length t) 15 both.0, both.1)
+
+ids_fit : (ids : List (List ℕ)) → list_all is_id ids ≡ true → All text.Fits ids
+ids_fit [] are = All-nil text.Fits
+ids_fit (id ∷ ids) are =
+    let p = and_parts (is_id id) (list_all is_id ids) are in
+    All-cons text.Fits id ids (id_fits id p.0) (ids_fit ids p.1)
+
+mmds_fits : (interfaces : List Interface) (m : MmdsConfig) → is_mmds interfaces m ≡ true → mmds.Fits m
+unfolding mmds
+mmds_fits interfaces m is =
+    let own = mmds_parts interfaces m is in
+    let few = ids_few m.network_interfaces own.ids in
+    let place = address_short m.ipv4_address own.place in (
+      fits_list text m.network_interfaces (omega (arith, few.0)) (ids_fit m.network_interfaces few.1),
+      (version_fits m.version, fits_text m.ipv4_address (omega (arith, place.0)) place.1),
+    )
+
+mmds_fit : (interfaces : List Interface) (o : Option MmdsConfig) → holds (is_mmds interfaces) o ≡ true → (optional mmds).Fits o
+mmds_fit interfaces None is = fits_optional mmds None tt
+mmds_fit interfaces (Some m) is = fits_optional mmds (Some m) (mmds_fits interfaces m is)
+
+=======
+>>>>>>> m
 balloon_fits : (mib : ℕ) (b : Balloon) → mib ≤ 1024 → is_balloon mib b ≡ true → balloon.Fits b
 unfolding balloon
 balloon_fits mib b few is =
@@ -282,9 +371,17 @@ unfolding fixed
 front_fits = refl
 
 pub configuration_fits : (c : Configuration) → is_source c.boot_source ≡ true → are_drives c.drives ≡ true
+<<<<<<< 717b8584
+    → are_interfaces c.interfaces ≡ true → length c.interfaces ≤ most_ports → holds is_vsock c.vsock ≡ true
+    → holds (is_mmds c.interfaces) c.mmds ≡ true → is_machine c.machine ≡ true → holds (is_balloon c.machine.mem_size_mib) c.balloon ≡ true
+    → configuration.Fits c
+unfolding configuration
+configuration_fits c source drives interfaces links sockets given machine balloons =
+=======
     → are_interfaces c.interfaces ≡ true → length c.interfaces ≤ most_ports → is_machine c.machine ≡ true → holds (is_balloon c.machine.mem_size_mib) c.balloon ≡ true → configuration.Fits c
 unfolding configuration
 configuration_fits c source drives interfaces links machine balloons =
+>>>>>>> m
     let ds = drives_of c.drives drives in
     let few = ds.few in
     let m = machine_of c.machine machine in
@@ -296,7 +393,11 @@ configuration_fits c source drives interfaces links machine balloons =
           source_fits c.boot_source source,
           (
             fits_list drive c.drives (omega (arith, few)) (each_fits c.drives ds.each),
+<<<<<<< 717b8584
+            (fits_list interface c.interfaces (omega (arith, links)) (links_fit c.interfaces (links_of c.interfaces interfaces)), vsocks_fit c.vsock sockets),
+=======
             (fits_list interface c.interfaces (omega (arith, links)) (links_fit c.interfaces (links_of c.interfaces interfaces)), fits_zeros 1),
+>>>>>>> m
           ),
         ),
       ),
@@ -308,7 +409,11 @@ configuration_fits c source drives interfaces links machine balloons =
             fits_zeros 1,
             (
               fits_flag c.machine.track_dirty_pages,
+<<<<<<< 717b8584
+              (balloons_fit c.machine.mem_size_mib c.balloon mib balloons, mmds_fit c.interfaces c.mmds given),
+=======
               (balloons_fit c.machine.mem_size_mib c.balloon mib balloons, fits_zeros 1),
+>>>>>>> m
             ),
           ),
         ),

@@ -1,6 +1,10 @@
 pub mod Limits
 pub mod Drives
 pub mod Interfaces
+<<<<<<< 717b8584
+pub mod Mmds
+=======
+>>>>>>> m
 pub mod Configured
 pub mod Boards
 pub mod Copies

@@ -4,6 +4,11 @@ ghost use Rattle.std.specs.Str.{bytes_eq};
 ghost use Rattle.api_calls.specs.Addresses as addresses;
 ghost use Rattle.api_calls.specs.Form.{holds};
 
+<<<<<<< 717b8584
+use api_calls::is_mac;
+use vm_types::TextList;
+
+=======
 use vm_types::TextList;
 
 /// How many bytes it has as a text.
@@ -34,6 +39,7 @@ fn is_mac(text: &[u8]) -> bool
     text.len() == LENGTH && are_pairs(text)
 }
 
+>>>>>>> m
 // Each of its letters is small.
 fn is_small(text: &[u8]) -> bool
     ensures { result ≡ bytes_eq (addresses.lowered text.now) text.now }

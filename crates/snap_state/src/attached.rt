@@ -1,13 +1,32 @@
+<<<<<<< 717b8584
+// Which drives, interfaces and devices there are, and at which of them metadata are given.
+=======
 // Which drives, interfaces and devices there are.
+>>>>>>> m
 ghost use Rattle.std.specs.Prelude.{◌≡◌, count_by, nat_le};
 ghost use Rattle.std.specs.List.{list_all};
 ghost use Rattle.api_calls.specs.Drives.{is_root};
 ghost use Rattle.api_calls.specs.Form.{is_id, is_id_byte};
+<<<<<<< 717b8584
+ghost use Rattle.vm_config.specs.Devices.{balloon_count, vsock_count};
+ghost use Rattle.vm_config.specs.Interfaces.{has_interface};
+=======
 ghost use Rattle.vm_config.specs.Devices.{balloon_count};
+>>>>>>> m
 ghost use Rattle.vm_config.specs.Named.{are_apart, has_named};
 ghost use Rattle.snap_state.specs.Valid.{are_devices, are_drives, are_interfaces, has_room, is_device, is_drive, is_interface};
 
 use crate::address::holds_mac;
+<<<<<<< 717b8584
+use crate::filed::Filed;
+use crate::limits::holds_limiter;
+use crate::valid::is_path;
+use api_calls::{Balloon, Drive, Interface, Vsock};
+use file_format::Listed;
+use snap_devices::SavedDevice;
+use vm_config::Named;
+use vm_types::TextList;
+=======
 use crate::limits::holds_limiter;
 use crate::valid::is_path;
 use api_calls::{Balloon, Drive, Interface};
@@ -15,6 +34,7 @@ use file_format::Listed;
 use guest_devices::Device;
 use snap_devices::Saved;
 use vm_config::Named;
+>>>>>>> m
 
 /// The board has a line for so many devices.
 const MOST_DEVICES: usize = 16;
@@ -33,7 +53,7 @@ fn are_id_bytes(bytes: &[u8]) -> bool
     bytes.iter().all(|b| is_id_byte(*b))
 }
 
-fn is_id(id: &str) -> bool
+pub(crate) fn is_id(id: &str) -> bool
     ensures { result ≡ is_id id.now }
 {
     let bytes = id.as_bytes();
@@ -113,6 +133,16 @@ pub fn are_interfaces(interfaces: &[Interface]) -> bool
     have_links(interfaces) && are_apart(interfaces)
 }
 
+<<<<<<< 717b8584
+/// Whether each of these ids is that of one of them.
+pub fn are_there(interfaces: &[Interface], ids: &[TextList]) -> bool
+    ensures { result ≡ list_all (has_interface interfaces.now) ids.now }
+{
+    ids.iter().all(|id| is_used(id.as_str(), interfaces))
+}
+
+=======
+>>>>>>> m
 fn balloon_count(balloon: &Option<Balloon>) -> usize
     ensures { result ≡ balloon_count balloon.now }
 {
@@ -122,6 +152,32 @@ fn balloon_count(balloon: &Option<Balloon>) -> usize
     }
 }
 
+<<<<<<< 717b8584
+/// How many of them there are.
+pub fn vsock_count(vsock: &Option<Filed<Vsock>>) -> usize
+    ensures { result ≡ vsock_count vsock.now }
+{
+    match vsock {
+        None => 0,
+        Some(_) => 1,
+    }
+}
+
+/// Whether there are no more devices than there may be.
+pub fn has_room(
+    drives: &[Drive],
+    interfaces: &[Interface],
+    vsock: &Option<Filed<Vsock>>,
+    balloon: &Option<Balloon>,
+) -> bool
+    ensures { result ≡ has_room drives.now interfaces.now vsock.now balloon.now }
+{
+    let before = drives.len() as u128 + interfaces.len() as u128;
+    before + vsock_count(vsock) as u128 + balloon_count(balloon) as u128 <= MOST_DEVICES as u128
+}
+
+fn is_device(pages: u32, port: usize, item: &Listed<SavedDevice>) -> bool
+=======
 /// Whether there are no more devices than there may be.
 pub fn has_room(drives: &[Drive], interfaces: &[Interface], balloon: &Option<Balloon>) -> bool
     ensures { result ≡ has_room drives.now interfaces.now balloon.now }
@@ -130,14 +186,19 @@ pub fn has_room(drives: &[Drive], interfaces: &[Interface], balloon: &Option<Bal
 }
 
 fn is_device(pages: u32, port: usize, item: &Listed<Saved<Device>>) -> bool
+>>>>>>> m
     ensures { result ≡ is_device pages port item.now }
 {
-    let device = &item.value.value;
+    let device = item.value.device();
     device.port() as usize == port && device.pages() == pages
 }
 
 /// Whether these are the devices of the ports from 0 on, in a guest of so many pages.
+<<<<<<< 717b8584
+pub fn are_devices(pages: u32, devices: &[Listed<SavedDevice>]) -> bool
+=======
 pub fn are_devices(pages: u32, devices: &[Listed<Saved<Device>>]) -> bool
+>>>>>>> m
     ensures { result ≡ are_devices pages 0 devices.now }
 {
     for (port, device) in devices.iter().enumerate() {

@@ -3,7 +3,11 @@ ghost use Rattle.snap_state.specs.Configured.{boot_source, configuration};
 
 use crate::filed::{Filed, for_file, taken};
 use crate::listed::{SavedDrives, SavedInterfaces};
+<<<<<<< 717b8584
+use api_calls::{Balloon, MachineConfig, MmdsConfig, Vsock};
+=======
 use api_calls::{Balloon, MachineConfig};
+>>>>>>> m
 use file_format::{Input, ReadError, Stored, read_fixed, read_zeros, write_fixed, write_zeros};
 use std::alloc::{AllocError, Global};
 use vm_types::TextList;
@@ -24,8 +28,16 @@ pub struct Configuration {
     pub drives: SavedDrives,
     /// In the order in which they were first put.
     pub interfaces: SavedInterfaces,
+<<<<<<< 717b8584
+    pub vsock: Option<Filed<Vsock>>,
     pub machine: MachineConfig,
     pub balloon: Option<Balloon>,
+    /// How the guest is given metadata.
+    pub mmds: Option<Filed<MmdsConfig>>,
+=======
+    pub machine: MachineConfig,
+    pub balloon: Option<Balloon>,
+>>>>>>> m
 }
 
 #[tactic(auto, unfolding(crate::specs::Configured::boot_source))]
@@ -58,18 +70,38 @@ impl Stored for Configuration {
         self.boot_source.write(out)?;
         self.drives.write(out)?;
         self.interfaces.write(out)?;
+<<<<<<< 717b8584
+        self.vsock.write(out)?;
+=======
         write_zeros(1, out)?;
+>>>>>>> m
         self.machine.vcpu_count.write(out)?;
         self.machine.mem_size_mib.write(out)?;
         write_zeros(1, out)?;
         self.machine.track_dirty_pages.write(out)?;
         for_file(self.balloon).write(out)?;
+<<<<<<< 717b8584
+        self.mmds.write(out)?;
+=======
         write_zeros(1, out)?;
+>>>>>>> m
         Ok(())
     }
 
     fn read(alloc: Global, input: &mut Input) -> Result<Configuration, ReadError> {
         read_fixed(&[1], input)?;
+<<<<<<< 717b8584
+        let (boot_source, (drives, (interfaces, vsock))): (
+            BootSource,
+            (SavedDrives, (SavedInterfaces, Option<Filed<Vsock>>)),
+        ) = Stored::read(alloc, input)?;
+        let (vcpu_count, mem_size_mib) = Stored::read(alloc, input)?;
+        read_zeros(1, input)?;
+        let (track_dirty_pages, (balloon, mmds)): (
+            bool,
+            (Option<Filed<Balloon>>, Option<Filed<MmdsConfig>>),
+        ) = Stored::read(alloc, input)?;
+=======
         let (boot_source, (drives, interfaces)): (BootSource, (SavedDrives, SavedInterfaces)) =
             Stored::read(alloc, input)?;
         read_zeros(1, input)?;
@@ -79,16 +111,25 @@ impl Stored for Configuration {
             alloc, input,
         )?;
         read_zeros(1, input)?;
+>>>>>>> m
         Ok(Configuration {
             boot_source,
             drives,
             interfaces,
+<<<<<<< 717b8584
+            vsock,
+=======
+>>>>>>> m
             machine: MachineConfig {
                 vcpu_count,
                 mem_size_mib,
                 track_dirty_pages,
             },
             balloon: taken(balloon),
+<<<<<<< 717b8584
+            mmds,
+=======
+>>>>>>> m
         })
     }
 }

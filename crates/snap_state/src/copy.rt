@@ -7,9 +7,12 @@ use crate::board::SavedBoard;
 use crate::configuration::Configuration;
 use crate::devices::{read_devices, write_devices};
 use file_format::{Counted, Input, Items, Listed, ReadError, Stored};
+<<<<<<< 717b8584
+=======
 use guest_devices::Device;
+>>>>>>> m
 use mmio_port::Port;
-use snap_devices::Saved;
+use snap_devices::{Saved, SavedDevice};
 use snap_harts::SavedHart;
 use std::alloc::{AllocError, Global};
 use vm_types::ByteList;
@@ -44,7 +47,11 @@ pub struct StateCopy {
     /// The ports of the devices, by their numbers.
     pub ports: Items<Counted<Saved<Port>>>,
     /// The devices, each by the number of its port.
+<<<<<<< 717b8584
+    pub devices: Items<Listed<SavedDevice>>,
+=======
     pub devices: Items<Listed<Saved<Device>>>,
+>>>>>>> m
     /// By page and then by hart.
     pub reservations: Items<Reservation>,
     /// By their tags, which rise.

@@ -24,7 +24,7 @@ fn cache_named(name: &str) -> Option<CacheType>
 }
 
 #[tactic(auto, using(file_format::proofs::Texts::texts), unfolding(file_format::specs::Kinds::text, file_format::specs::Kinds::byte_list))]
-fn write_text(it: &str, out: &mut Vec<u8>) -> Result<(), AllocError>
+pub(crate) fn write_text(it: &str, out: &mut Vec<u8>) -> Result<(), AllocError>
     ensures fits { OnOk result (text.Fits it.now) }
     ensures bytes { OnOk result (out.new.items ≡ text.puts it.now out.old.items) }
 {

@@ -22,12 +22,21 @@ mod kinds;
 mod law;
 mod limits;
 mod listed;
+<<<<<<< 717b8584
+mod mmds;
+=======
+>>>>>>> m
 mod valid;
+mod vsock;
 
 pub use board::SavedBoard;
 pub use configuration::{BootSource, Configuration};
 pub use copy::{Reservation, Section, StateCopy};
 pub use file::{STATE_HEADER, STATE_MAGIC, Saved, decode, encode_behind_gate};
+<<<<<<< 717b8584
+pub use filed::{Filed, taken};
+=======
+>>>>>>> m
 pub use law::{one_copy, one_of_each};
 pub use listed::{Item, SavedDrives, SavedInterfaces, SavedList};
 pub use valid::is_valid;

@@ -15,6 +15,11 @@ use crate::board::SavedBoard;
 use crate::configuration::BootSource;
 use crate::copy::{Reservation, Section, StateCopy};
 use crate::kinds::{are_device_kinds, are_ports};
+<<<<<<< 717b8584
+use crate::mmds::holds_mmds;
+use crate::vsock::holds_vsock;
+=======
+>>>>>>> m
 use api_calls::MachineConfig;
 use guest_memory::{PAGE_SIZE, RAM_START, is_ram};
 use rv_doing::{effect_of_word, wanted};
@@ -37,7 +42,11 @@ fn is_within(most: usize, text: &str) -> bool
     text.len() <= most
 }
 
+<<<<<<< 717b8584
+pub(crate) fn is_short_text(most: usize, text: &str) -> bool
+=======
 fn is_short_text(most: usize, text: &str) -> bool
+>>>>>>> m
     ensures { result ≡ is_short_text most text.now }
 {
     is_within(most, text)
@@ -224,11 +233,23 @@ pub fn is_valid(copy: &StateCopy) -> bool
     is_source(&copy.configuration.boot_source)
         && are_drives(&copy.configuration.drives.items)
         && are_interfaces(&copy.configuration.interfaces.items)
+<<<<<<< 717b8584
+        && holds_vsock(&copy.configuration.vsock)
+        && holds_mmds(
+            &copy.configuration.interfaces.items,
+            &copy.configuration.mmds,
+        )
+=======
+>>>>>>> m
         && has_machine(copy, machine)
         && holds_balloon(machine.mem_size_mib, &copy.configuration.balloon)
         && has_room(
             &copy.configuration.drives.items,
             &copy.configuration.interfaces.items,
+<<<<<<< 717b8584
+            &copy.configuration.vsock,
+=======
+>>>>>>> m
             &copy.configuration.balloon,
         )
         && is_board(harts, &copy.board)

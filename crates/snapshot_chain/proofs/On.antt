@@ -127,6 +127,10 @@ leaves_on (change.PatchInterface patch) m n on is =
     ∙ relimited_on transmits_told patch.tx_rate_limiter number (relimited receives_told patch.rx_rate_limiter number m.guest)
     (relimited_on receives_told patch.rx_rate_limiter number m.guest on)
 leaves_on (change.MachineConfig machine) m n on is = ap is_off is ∙ on
+<<<<<<< 717b8584
+leaves_on (change.PutVsock vsock) m n on is = ap is_off is ∙ on
+=======
+>>>>>>> m
 leaves_on (change.PutBalloon balloon) m n on is = ap is_off is ∙ on
 leaves_on (change.PatchBalloon patch) m n on is =
     ap is_off is ∙ retargeted_on (with_amount patch m.config.balloon) (balloon_device m.config) m.guest on
@@ -137,6 +141,7 @@ leaves_on (change.State Paused) m n on is = ap is_off is ∙ halted_on m.paused 
 leaves_on (change.State Resumed) m n on is = ap is_off is ∙ on
 leaves_on (change.CreateSnapshot it) m n on (kept, x) = create_on m.guest m it kept n on on x
 leaves_on (change.LoadSnapshot load) m n on x = load_on (found m.saved load.files) m load n on x
+leaves_on (change.MmdsConfig mmds) m n on is = ap is_off is ∙ on
 leaves_on (change.PutMetadata body) m n on x = store_on (put body) m n on x
 leaves_on (change.PatchMetadata patch) m n on x = store_on (patched m.metadata patch) m n on x
 leaves_on (change.Tell part) m n on is = on_is m n is on
@@ -152,6 +157,10 @@ fails_on (change.PatchDrive patch) m left n on x = on_is m n x.3 on
 fails_on (change.PutInterface interface) m left n on x = absurd x
 fails_on (change.PatchInterface patch) m left n on x = absurd x
 fails_on (change.MachineConfig machine) m left n on x = absurd x
+<<<<<<< 717b8584
+fails_on (change.PutVsock vsock) m left n on x = absurd x
+=======
+>>>>>>> m
 fails_on (change.PutBalloon balloon) m left n on x = absurd x
 fails_on (change.PatchBalloon patch) m left n on x = absurd x
 fails_on (change.PatchStatistics patch) m left n on x = absurd x
@@ -159,6 +168,7 @@ fails_on change.Start m left n on x = on_is m n x.1 on
 fails_on (change.State state) m left n on x = absurd x
 fails_on (change.CreateSnapshot it) m left n on x = create_fails_on m.guest m it left n on x
 fails_on (change.LoadSnapshot load) m left n on x = on_is m n x.1 on
+fails_on (change.MmdsConfig mmds) m left n on x = absurd x
 fails_on (change.PutMetadata body) m left n on x = absurd x
 fails_on (change.PatchMetadata patch) m left n on x = absurd x
 fails_on (change.Tell part) m left n on x = absurd x

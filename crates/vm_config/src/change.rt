@@ -1,7 +1,11 @@
 // What accepted calls ask for.
 use api_calls::{
     Balloon, BalloonPatch, BootSource, Drive, DrivePatch, Interface, InterfacePatch, MachineConfig,
+<<<<<<< 717b8584
+    MmdsConfig, Part, SnapshotCreate, SnapshotLoad, StatisticsPatch, VmState, Vsock,
+=======
     Part, SnapshotCreate, SnapshotLoad, StatisticsPatch, VmState,
+>>>>>>> m
 };
 use metadata_store::Tree;
 
@@ -18,6 +22,11 @@ pub enum Change {
     PutInterface(Interface),
     /// What this gives is replaced of the interface of its id.
     PatchInterface(InterfacePatch),
+<<<<<<< 717b8584
+    /// The vsock device is this one.
+    PutVsock(Vsock),
+=======
+>>>>>>> m
     /// The machine is this one.
     MachineConfig(MachineConfig),
     /// The balloon is this one.
@@ -26,6 +35,11 @@ pub enum Change {
     PatchBalloon(BalloonPatch),
     /// There are so many seconds between two reports of the balloon from now on.
     PatchStatistics(StatisticsPatch),
+<<<<<<< 717b8584
+    /// The guest is given metadata in this way.
+    MmdsConfig(MmdsConfig),
+=======
+>>>>>>> m
     /// The metadata are this body.
     PutMetadata(Tree),
     /// This is merged into the metadata.

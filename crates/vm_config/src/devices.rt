@@ -1,11 +1,29 @@
 // The devices of a machine by their numbers.
+<<<<<<< 717b8584
+ghost use Rattle.std.specs.Prelude.{◌≡◌, ◌+◌, ◌≤◌, length};
+=======
 ghost use Rattle.std.specs.Prelude.{◌≡◌};
+>>>>>>> m
 ghost use Rattle.std.specs.List.{position};
 ghost use Rattle.vm_config.specs.Devices as devices;
 ghost use Rattle.vm_config.specs.Interfaces.{is_interface};
 
 use crate::config::Config;
+<<<<<<< 717b8584
+use api_calls::{Balloon, Interface, Vsock};
+
+fn vsock_count(vsock: &Option<Vsock>) -> usize
+    ensures count { result ≡ devices.vsock_count vsock.now }
+    ensures most { result ≤ 1 }
+{
+    match vsock {
+        Some(_) => 1,
+        None => 0,
+    }
+}
+=======
 use api_calls::{Balloon, Interface};
+>>>>>>> m
 
 fn balloon_count(balloon: &Option<Balloon>) -> usize
     ensures { result ≡ devices.balloon_count balloon.now }
@@ -25,6 +43,18 @@ fn place_of(interfaces: &[Interface], id: &str) -> Option<usize>
 }
 
 impl Config {
+<<<<<<< 717b8584
+    /// How many devices a machine has by what is configured: one for each drive and each interface, the vsock device and the balloon.
+    pub fn device_count(&self) -> u128
+        ensures { result ≡ devices.device_count self.now }
+    {
+        let drives = self.drives.as_slice().len() as u128;
+        let interfaces = self.interfaces.as_slice().len() as u128;
+        drives
+            + interfaces
+            + vsock_count(&self.vsock) as u128
+            + balloon_count(&self.balloon) as u128
+=======
     /// How many devices a machine has by what is configured: one for each drive and each interface, and the balloon.
     pub fn device_count(&self) -> usize
         ensures { result ≡ devices.device_count self.now }
@@ -32,6 +62,7 @@ impl Config {
         let drives = self.drives.as_slice().len();
         let interfaces = self.interfaces.as_slice().len();
         drives + interfaces + balloon_count(&self.balloon)
+>>>>>>> m
     }
 
     /// The number of the device that the interface of this id is.
@@ -42,12 +73,28 @@ impl Config {
         Some(self.drives.as_slice().len() + place)
     }
 
+<<<<<<< 717b8584
+    // How many devices there are beside the balloon.
+    fn others(&self) -> usize
+        ensures { result ≡ length self.now.drives + length self.now.interfaces + devices.vsock_count self.now.vsock }
+    {
+        let drives = self.drives.as_slice().len();
+        let interfaces = self.interfaces.as_slice().len();
+        drives + interfaces + vsock_count(&self.vsock)
+    }
+
+=======
+>>>>>>> m
     /// The number of the device that the balloon is.
     pub fn balloon_device(&self) -> Option<usize>
         ensures { result ≡ devices.balloon_device self.now }
     {
         match self.balloon {
+<<<<<<< 717b8584
+            Some(_) => Some(self.others()),
+=======
             Some(_) => Some(self.drives.as_slice().len() + self.interfaces.as_slice().len()),
+>>>>>>> m
             None => None,
         }
     }

@@ -3,7 +3,14 @@ ghost use Rattle.std.specs.Prelude.{◌≡◌, IfOk};
 ghost use Rattle.serde_json.specs.View.{view};
 ghost use Rattle.vm_config.specs.Texts as texts;
 
+<<<<<<< 717b8584
+use api_calls::{
+    Balloon, BootSource, BucketConfig, Drive, Interface, Limiter, MachineConfig, MmdsConfig, Vsock,
+};
+use metadata_store::MetadataVersion;
+=======
 use api_calls::{Balloon, BootSource, BucketConfig, Drive, Interface, Limiter, MachineConfig};
+>>>>>>> m
 use serde_json::{Value, json};
 use std::alloc::{AllocError, Global};
 use vm_types::TextList;
@@ -147,6 +154,27 @@ pub fn interfaces(alloc: Global, interfaces: &[Interface]) -> Result<Value, Allo
     Ok(Value::Array(told))
 }
 
+<<<<<<< 717b8584
+fn given_vsock(alloc: Global, vsock: &Vsock) -> Result<Value, AllocError>
+    ensures { IfOk result (λ v. view v ≡ texts.given_vsock vsock.now) }
+{
+    json!(in alloc; {
+        "guest_cid": vsock.guest_cid,
+        "uds_path": vsock.uds_path.as_str(),
+    })
+}
+
+pub fn vsock(alloc: Global, vsock: &Option<Vsock>) -> Result<Value, AllocError>
+    ensures { IfOk result (λ v. view v ≡ texts.vsock vsock.now) }
+{
+    match vsock {
+        Some(vsock) => given_vsock(alloc, vsock),
+        None => Ok(Value::Null),
+    }
+}
+
+=======
+>>>>>>> m
 fn given_balloon(alloc: Global, balloon: &Balloon) -> Result<Value, AllocError>
     ensures { IfOk result (λ v. view v ≡ texts.given_balloon balloon.now) }
 {
@@ -165,3 +193,47 @@ pub fn balloon(alloc: Global, balloon: &Option<Balloon>) -> Result<Value, AllocE
         None => Ok(Value::Null),
     }
 }
+<<<<<<< 717b8584
+
+/// The version as a text.
+pub fn version_text(version: MetadataVersion) -> &'static str
+    ensures { result.now ≡ texts.version_text version }
+{
+    match version {
+        MetadataVersion::V1 => "V1",
+        MetadataVersion::V2 => "V2",
+    }
+}
+
+fn ids(alloc: Global, ids: &[TextList]) -> Result<Value, AllocError>
+    ensures { IfOk result (λ v. view v ≡ texts.ids ids.now) }
+{
+    let mut told = Vec::new(alloc);
+    for id in ids {
+        told.push(Value::String(String::from_str(alloc, id.as_str())?))?;
+    }
+    Ok(Value::Array(told))
+}
+
+fn given_mmds(alloc: Global, mmds: &MmdsConfig) -> Result<Value, AllocError>
+    ensures { IfOk result (λ v. view v ≡ texts.given_mmds mmds.now) }
+{
+    let interfaces = ids(alloc, mmds.network_interfaces.as_slice())?;
+    let version = version_text(mmds.version);
+    json!(in alloc; {
+        "network_interfaces": interfaces,
+        "version": version,
+        "ipv4_address": mmds.ipv4_address.as_str(),
+    })
+}
+
+pub fn mmds(alloc: Global, mmds: &Option<MmdsConfig>) -> Result<Value, AllocError>
+    ensures { IfOk result (λ v. view v ≡ texts.mmds mmds.now) }
+{
+    match mmds {
+        Some(mmds) => given_mmds(alloc, mmds),
+        None => Ok(Value::Null),
+    }
+}
+=======
+>>>>>>> m

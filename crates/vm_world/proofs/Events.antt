@@ -23,9 +23,14 @@ use Rattle.port_table.specs.declared.state.PortState.{PortState}
 use Rattle.guest_devices.specs.declared.change.DeviceChange.{DeviceChange}
 use Rattle.guest_devices.specs.declared.device.Device.{Device}
 use Rattle.guest_devices.specs.Devices.{DeviceLeft, FlatDevice, device_next, device_wants, left_reset}
+<<<<<<< 717b8584
+use Rattle.guest_devices.specs.Kept.{AreReset, device_want, devices_given, devices_left}
+use Rattle.guest_devices.specs.Kinds.{FitsChange}
+=======
 use Rattle.guest_devices.specs.Kept.{device_want, devices_given, devices_left, kept_reset}
 use Rattle.guest_devices.specs.Kinds.{FitsChange}
 use Rattle.guest_devices.proofs.Owed.{reset_left}
+>>>>>>> m
 use Rattle.flat_guest.specs.declared.places.Layout.{Layout}
 use Rattle.flat_guest.specs.Places.{is_register_access, place_by, place_of, port_accessed}
 use Rattle.flat_guest.specs.Body.{Body, IsGuest, body_after, harts_after, lefts_after, lefts_told, reply_at, timer_after, want_of, wants, with_reply}
@@ -43,7 +48,11 @@ use Rattle.flat_guest.proofs.Marked.{none_marked}
 use Rattle.flat_guest.proofs.Stepping.{HasMade, HasStopped, entry_of, has_made_more, ran, step_is, stays}
 use Rattle.vm_world.specs.declared.step_error.StepError.{StepError}
 use Rattle.vm_world.specs.Refusing.{IsRefused, refusal_of}
+<<<<<<< 717b8584
+use Rattle.vm_world.specs.Worlds.{IsSameGuest, IsWorld, IsWorldReset, MakesEvent, Runs, WorldValue, body_of, pages_of, place_in, want_in}
+=======
 use Rattle.vm_world.specs.Worlds.{IsSameGuest, IsWorld, MakesEvent, Runs, WorldValue, body_of, pages_of, place_in, want_in, world_reset}
+>>>>>>> m
 
 -- an op that acts on a page is an access
 port_page : (b : Bool) (port i : ℕ) → (let place : PlaceId = if b then PlaceId.Port port else PlaceId.Out in place) ≡ PlaceId.Page i → ⊥
@@ -301,14 +310,20 @@ told_is w b ports devices k change shown g fits is board_is ports_are devices_ar
     (changing.told_is (body_of w) g k change shown fits is)
 
 -- and behind a Reset
-lefts_reset : (devices : List Device) → devices_left (map kept_reset devices) ≡ map left_reset (devices_left devices)
-lefts_reset [] = refl
-lefts_reset (d ∷ devices) = λ i. reset_left d i ∷ lefts_reset devices i
+lefts_reset : (devices others : List Device) → AreReset devices others → devices_left others ≡ map left_reset (devices_left devices)
+lefts_reset [] [] are = refl
+lefts_reset [] (now ∷ others) are = absurd are
+lefts_reset (it ∷ devices) [] are = absurd are
+lefts_reset (it ∷ devices) (now ∷ others) are = λ i. are.0.1 i ∷ lefts_reset devices others are.1 i
 
-pub reset_is : (w : WorldValue) (g : Guest) → IsWorld w g → IsWorld (world_reset w) (reset_guest g)
-reset_is w g is =
-    let after : body_of (world_reset w) ≡ body_reset (body_of w) =
-    λ i. record (body_of w) { devices = lefts_reset w.devices i } in
+-- the devices of a world that is like another else
+reset_body : (w : WorldValue) (devices : List Device) → AreReset w.devices devices
+    → body_of (record w { devices = devices }) ≡ body_reset (body_of w)
+reset_body w devices are = λ i. record (body_of w) { devices = lefts_reset w.devices devices are i }
+
+pub reset_is : (w now : WorldValue) (g : Guest) → IsWorldReset w now → IsWorld w g → IsWorld now (reset_guest g)
+reset_is w now g reset is =
+    let after : body_of now ≡ body_reset (body_of w) = ap body_of reset.1 ∙ reset_body w now.devices reset.0 in
     subst (λ (n : Body). IsGuest n (reset_guest g)) (sym after) (changing.reset_is (body_of w) g is)
 
 -- an act on a host object takes no page

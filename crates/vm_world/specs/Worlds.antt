@@ -1,5 +1,5 @@
 -- A world, the guests that it is, and the events that it makes.
-use Rattle.std.specs.Prelude.{ℕ, ◌≡◌, List, Option, length, map}
+use Rattle.std.specs.Prelude.{ℕ, ◌≡◌, List, Option, length}
 use Rattle.vm_types.specs.declared.entry.Entry.{Entry}
 use Rattle.vm_types.specs.declared.op.Op.{Op}
 use Rattle.vm_types.specs.declared.ids.ActorId.{ActorId}
@@ -11,7 +11,7 @@ use Rattle.guest_pages.specs.Pages.{PageValue, flat_of, marks_of}
 use Rattle.hart_trace.specs.States.{Hart}
 use Rattle.timer_trace.specs.declared.timer.Timer.{Timer}
 use Rattle.guest_devices.specs.declared.device.Device.{Device}
-use Rattle.guest_devices.specs.Kept.{devices_left, kept_reset}
+use Rattle.guest_devices.specs.Kept.{AreReset, devices_left}
 use Rattle.flat_guest.specs.Given.{Event}
 use Rattle.flat_guest.specs.Guest.{Guest}
 use Rattle.flat_guest.specs.Body.{Body, IsGuest, body_layout, wants}
@@ -60,9 +60,9 @@ body_of w = record {
 abbrev pub IsWorld : WorldValue → Guest → Type 0
 IsWorld w g = IsGuest (body_of w) g
 
--- a world behind the Reset that comes before a create
-abbrev pub world_reset : WorldValue → WorldValue
-world_reset w = record w { devices = map kept_reset w.devices }
+-- a world behind the Reset that comes before a create: of each device what may be kept behind it, and all else as it was
+abbrev pub IsWorldReset : WorldValue → WorldValue → Type 0
+IsWorldReset w now = AreReset w.devices now.devices × (now ≡ record w { devices = now.devices })
 
 -- what an actor wants, if it is there
 abbrev pub want_in : WorldValue → ActorId → Option Op

@@ -5,7 +5,15 @@ pub mod Guest
 pub mod Host
 pub mod Lines
 pub mod Packets
+<<<<<<< 717b8584
+pub mod Port
 pub mod Reset
 pub mod Sequences
+pub mod Small
+pub mod States
+=======
+pub mod Reset
+pub mod Sequences
+>>>>>>> m
 pub mod Vsock
 pub mod Work

@@ -1,5 +1,9 @@
 -- A reset of the connections, which comes from outside, in whatever state the device is.
+<<<<<<< 717b8584
+use Rattle.std.specs.Prelude.{ℕ, ◌==◌, ◌&&◌, Bool, true, not, Option, Some, None, is_some, [], length}
+=======
 use Rattle.std.specs.Prelude.{Option, Some, None, true, []}
+>>>>>>> m
 use Rattle.vm_types.specs.declared.op.Op.{Op}
 use Rattle.vm_types.specs.declared.op.Op.TheVariants.{Out, Read}
 use Rattle.vm_types.specs.declared.op.OutOp.{OutOp}
@@ -24,6 +28,27 @@ abbrev pub answer_reset : InHand → Option Head
 answer_reset (hand.Judged refusal) = refusal
 answer_reset in_hand = None
 
+<<<<<<< 717b8584
+-- the data that have these, and no connection
+abbrev pub unconnected : ℕ → ℕ → Option Head → InHand → Bool → Vsock
+unconnected guest_cid next_port answer in_hand reset_due = record {
+  guest_cid = guest_cid;
+  next_port = next_port;
+  connections = [];
+  answer = answer;
+  held = None;
+  in_hand = in_hand;
+  reset_due = reset_due;
+}
+
+-- they are such data, as all are behind a reset
+abbrev pub is_unconnected : Vsock → Bool
+is_unconnected e = (length e.connections == 0) && not (is_some e.held)
+
+-- All connections are gone, and what waited for the guest with them. It is to be told so by an event. The host isn't told.
+abbrev pub reset : Vsock → Vsock
+reset e = unconnected e.guest_cid e.next_port (answer_reset e.in_hand) (hand_reset e.in_hand) true
+=======
 -- All connections are gone, and what waited for the guest with them. It is to be told so by an event. The host isn't told.
 abbrev pub reset : Vsock → Vsock
 reset e = record {
@@ -35,6 +60,7 @@ reset e = record {
   in_hand = hand_reset e.in_hand;
   reset_due = true;
 }
+>>>>>>> m
 
 abbrev pub changed : VsockChange → Vsock → Vsock
 changed Reset e = reset e

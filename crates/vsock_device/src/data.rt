@@ -5,7 +5,11 @@ ghost use Rattle.vsock_device.specs.Data.{answered, bytes_of_one, connected, del
 ghost use Rattle.vsock_device.specs.Data.{bytes_waiting, held_sent, held_without, waiting, with_connection};
 ghost use Rattle.vsock_device.specs.Guest.{failed, is_addressed, is_orphaned, one_forwarded, one_open};
 ghost use Rattle.vsock_device.specs.Connections.{connection_at};
+<<<<<<< 717b8584
+ghost use Rattle.vsock_device.specs.Reset.{answer_reset, cut_by, hand_reset, is_unconnected, reset, unconnected};
+=======
 ghost use Rattle.vsock_device.specs.Reset.{answer_reset, cut_by, hand_reset, reset};
+>>>>>>> m
 
 use crate::connection::{Connection, Standing};
 use crate::connections::Connections;
@@ -134,6 +138,37 @@ impl Vsock {
         }
     }
 
+<<<<<<< 717b8584
+    /// The data that have these, and no connection.
+    pub fn unconnected(
+        guest_cid: u64,
+        next_port: u32,
+        answer: Option<Head>,
+        in_hand: InHand,
+        reset_due: bool,
+    ) -> Vsock
+        ensures { result ≡ unconnected guest_cid next_port answer in_hand reset_due }
+    {
+        Vsock {
+            guest_cid,
+            next_port,
+            connections: Connections::new(),
+            answer,
+            held: None,
+            in_hand,
+            reset_due,
+        }
+    }
+
+    /// Whether they are such data, as all are behind a reset.
+    pub fn is_unconnected(&self) -> bool
+        ensures { result ≡ is_unconnected self.now }
+    {
+        self.connections.as_slice().len() == 0 && self.held.is_none()
+    }
+
+=======
+>>>>>>> m
     /// The same data.
     pub(crate) fn again(&self) -> Vsock
         ensures { result ≡ self.now }

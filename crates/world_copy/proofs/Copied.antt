@@ -1,7 +1,7 @@
 -- The copy of a world is the copy of each guest that it is.
-use Rattle.std.proofs.Common.{◌≡◌, ℕ, suc, ◌+◌, true, List, [], ◌∷◌, Some, length, slice_get, refl, sym, subst, arith}
+use Rattle.std.proofs.Common.{◌≡◌, ℕ, suc, ◌+◌, true, List, [], ◌∷◌, Some, length, slice_get, refl, subst, ◌∙◌, arith}
 use Rattle.std.specs.List.{list_all}
-use Rattle.std.proofs.lemmas.Bool.{and_parts}
+use Rattle.std.proofs.lemmas.Bool.{and_from, and_parts}
 use Rattle.vm_types.specs.declared.ids.ActorId.{ActorId}
 use Rattle.vm_types.specs.declared.ids.ActorId.TheVariants.{Hart as HartId}
 use Rattle.vm_types.specs.declared.entry.Step.{Step}
@@ -10,14 +10,14 @@ use Rattle.rv_supervisor.specs.declared.regs.Regs.{Regs}
 use Rattle.hart_trace.specs.States.{Hart, LeadsTo}
 use Rattle.guest_devices.specs.declared.device.Device.{Device}
 use Rattle.guest_devices.specs.Devices.{DeviceLeads, DeviceLeft, FlatDevice}
-use Rattle.guest_devices.specs.Kept.{device_left, devices_left, is_kept}
+use Rattle.guest_devices.specs.Kept.{AreReset, device_left, devices_left, is_kept}
 use Rattle.flat_guest.specs.Changes.{reset_guest}
 use Rattle.flat_guest.specs.Guest.{Guest, none_written}
 use Rattle.snap_state.specs.declared.copy.StateCopy.{StateCopy}
 use Rattle.flat_snapshot.specs.Copies.{AreHarts, AreKept, IsCopyOf, copy_of}
-use Rattle.vm_world.specs.Worlds.{IsWorld, WorldValue, world_reset}
+use Rattle.vm_world.specs.Worlds.{IsWorld, WorldValue}
 use Rattle.vm_world.proofs.Events.{reset_is}
-use Rattle.world_copy.specs.Copying.{copy_in}
+use Rattle.world_copy.specs.Copying.{IsCopyIn, copy_in}
 
 are_listed : (starts : List Regs) (k : ℕ) (steps : ActorId → List Step) (harts : List Hart) → length harts ≡ length starts
     → ((i : ℕ) (start : Regs) (hart : Hart) → slice_get starts i ≡ Some start → slice_get harts i ≡ Some hart
@@ -61,8 +61,16 @@ kept_are (it ∷ kept) (d ∷ devices) long each known =
 in_world : (w : WorldValue) (g : Guest) → list_all is_kept w.devices ≡ true → IsWorld w g → AreKept w.devices g.devices
 in_world w g known is = kept_are w.devices g.devices is.devices_are.count is.devices_are.each known
 
-guest_is : (config : Config) (w : WorldValue) (g : Guest) → IsWorld w g → copy_in config w ≡ copy_of config (reset_guest g) w.harts (world_reset w).devices
-guest_is config w g is = λ i. copy_of config (record {
+-- what may be kept behind a Reset
+known : (devices kept : List Device) → AreReset devices kept → list_all is_kept kept ≡ true
+known [] [] are = refl
+known [] (now ∷ kept) are = absurd are
+known (it ∷ devices) [] are = absurd are
+known (it ∷ devices) (now ∷ kept) are = and_from (is_kept now) (list_all is_kept kept) are.0.0 (known devices kept are.1)
+
+guest_is : (config : Config) (w : WorldValue) (g : Guest) (kept : List Device) → IsWorld w g
+    → copy_in config w kept ≡ copy_of config (reset_guest g) w.harts kept
+guest_is config w g kept is = λ i. copy_of config (record {
   memory = is.memory_is i;
   board = is.board_is i;
   ports = is.ports_are i;
@@ -70,13 +78,14 @@ guest_is config w g is = λ i. copy_of config (record {
   steps = λ actor. [];
   devices = [];
   written = none_written;
-}) w.harts (world_reset w).devices
+}) w.harts kept
 
-pub copied : (config : Config) (w : WorldValue) (g : Guest) (copy : StateCopy) → copy ≡ copy_in config w
-    → list_all is_kept copy.devices ≡ true → IsWorld w g → IsCopyOf config (reset_guest g) copy
-copied config w g copy made known is =
-    let v : WorldValue = world_reset w in
-    let h : Guest = reset_guest g in
-    let small : list_all is_kept v.devices ≡ true = subst (λ (c : StateCopy). list_all is_kept c.devices ≡ true) made known in
-    subst (λ (c : StateCopy). IsCopyOf config h c) (sym made)
-    (w.harts, harts_are w g is, in_world v h small (reset_is w g is), guest_is config w g is)
+pub copied : (config : Config) (w : WorldValue) (g : Guest) (copy : StateCopy) → IsCopyIn config w copy → IsWorld w g
+    → IsCopyOf config (reset_guest g) copy
+copied config w g copy (are, made) is =
+    let v : WorldValue = record w { devices = copy.devices } in (
+      w.harts,
+      harts_are w g is,
+      in_world v (reset_guest g) (known w.devices copy.devices are) (reset_is w v g (are, refl) is),
+      made ∙ guest_is config w g copy.devices is,
+    )

@@ -1,7 +1,8 @@
 -- The copy of a world.
-use Rattle.std.specs.Prelude.{ℕ, ◌≡◌, ◌≤◌, List, [], map, Some, slice_get}
+use Rattle.std.specs.Prelude.{ℕ, ◌≡◌, ◌≤◌, List, [], Some, slice_get}
 use Rattle.vm_config.specs.declared.config.Config.{Config}
-use Rattle.guest_devices.specs.Kept.{kept_reset}
+use Rattle.guest_devices.specs.declared.device.Device.{Device}
+use Rattle.guest_devices.specs.Kept.{AreReset}
 use Rattle.guest_pages.specs.Pages.{flat_of}
 use Rattle.hart_trace.specs.States.{Hart}
 use Rattle.flat_guest.specs.Guest.{Guest, none_written}
@@ -21,9 +22,13 @@ guest_of w = record {
   written = none_written;
 }
 
+-- the copy of a world with this kept of its devices
+abbrev pub copy_in : Config → WorldValue → List Device → StateCopy
+copy_in config w kept = copy_of config (guest_of w) w.harts kept
+
 -- the copy of a world as it is behind a Reset
-abbrev pub copy_in : Config → WorldValue → StateCopy
-copy_in config w = copy_of config (guest_of w) w.harts (map kept_reset w.devices)
+abbrev pub IsCopyIn : Config → WorldValue → StateCopy → Type 0
+IsCopyIn config w copy = AreReset w.devices copy.devices × (copy ≡ copy_in config w copy.devices)
 
 -- the next look of each hart is within 32 instructions
 abbrev pub AreCounted : List Hart → Type 0

@@ -1,12 +1,11 @@
 // Ports and devices, as a copy has them, and back.
-ghost use Rattle.std.specs.Prelude.{◌≡◌, true, IfOk, map};
-ghost use Rattle.std.specs.List.{list_all};
-ghost use Rattle.guest_devices.specs.Kept.{is_kept, kept_reset};
+ghost use Rattle.std.specs.Prelude.{◌≡◌, IfOk};
+ghost use Rattle.guest_devices.specs.Kept.{AreReset, IsReset};
 
 use file_format::{Counted, Items, Listed};
 use guest_devices::Device;
 use mmio_port::Port;
-use snap_devices::Saved;
+use snap_devices::{Saved, SavedDevice};
 use std::alloc::{AllocError, Global};
 
 fn port_again(port: &Port) -> Port
@@ -31,14 +30,23 @@ pub fn ports_kept(alloc: Global, ports: &[Port]) -> Result<Items<Counted<Saved<P
 }
 
 // The copy is reset, and the device isn't.
+<<<<<<< 717b8584
+fn device_kept(device: &Device) -> Listed<SavedDevice>
+    ensures { IsReset device.now result }
+=======
 fn device_kept(device: &Device) -> Listed<Saved<Device>>
     ensures kept { result ≡ kept_reset device.now }
     ensures known { is_kept (kept_reset device.now) ≡ true }
+>>>>>>> m
 {
     let mut kept = device.again();
     kept.reset();
     Listed {
+<<<<<<< 717b8584
+        value: SavedDevice::new(kept),
+=======
         value: Saved { value: kept },
+>>>>>>> m
     }
 }
 
@@ -46,9 +54,14 @@ fn device_kept(device: &Device) -> Listed<Saved<Device>>
 pub fn devices_kept(
     alloc: Global,
     devices: &[Device],
+<<<<<<< 717b8584
+) -> Result<Items<Listed<SavedDevice>>, AllocError>
+    ensures { IfOk result (λ kept. AreReset devices.now kept) }
+=======
 ) -> Result<Items<Listed<Saved<Device>>>, AllocError>
     ensures kept { IfOk result (λ kept. kept ≡ map kept_reset devices.now) }
     ensures known { IfOk result (λ kept. list_all is_kept kept ≡ true) }
+>>>>>>> m
 {
     let mut kept = Items::new(alloc);
     for device in devices {
@@ -71,17 +84,25 @@ pub fn ports_of(alloc: Global, kept: Vec<Counted<Saved<Port>>>) -> Result<Vec<Po
 }
 
 /// The devices that a copy had.
+<<<<<<< 717b8584
+pub fn devices_of(alloc: Global, kept: Vec<Listed<SavedDevice>>) -> Result<Vec<Device>, AllocError>
+=======
 pub fn devices_of(
     alloc: Global,
     kept: Vec<Listed<Saved<Device>>>,
 ) -> Result<Vec<Device>, AllocError>
+>>>>>>> m
     ensures { IfOk result (λ devices. devices.items ≡ kept.items) }
 {
     let mut devices = Vec::new(alloc);
     let mut rest = kept.into_iter();
     while let Some(device) = rest.next() {
         let saved = device.value;
+<<<<<<< 717b8584
+        devices.push(saved.into_device())?;
+=======
         devices.push(saved.value)?;
+>>>>>>> m
     }
     Ok(devices)
 }

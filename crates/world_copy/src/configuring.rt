@@ -4,8 +4,13 @@ ghost use Rattle.std.specs.Option.{option_map};
 ghost use Rattle.flat_snapshot.specs.Carried.{carried_config};
 ghost use Rattle.flat_snapshot.specs.Copies.{source_of};
 
+<<<<<<< 717b8584
+use api_calls::{BootSource, MachineConfig, MmdsConfig, Vsock};
+use snap_state::{Configuration, Filed, SavedList, taken};
+=======
 use api_calls::{BootSource, MachineConfig};
 use snap_state::{Configuration, SavedList};
+>>>>>>> m
 use std::alloc::{AllocError, Global};
 use vm_config::{Config, Drives, Interfaces, Named, NamedList};
 use vm_types::TextList;
@@ -55,6 +60,36 @@ fn list_of<T: Named>(alloc: Global, list: &NamedList<T>) -> Result<SavedList<T>,
     })
 }
 
+// The vsock device, if there is one.
+fn vsock_of(alloc: Global, vsock: &Option<Vsock>) -> Result<Option<Filed<Vsock>>, AllocError>
+    ensures { IfOk result (λ copy. copy ≡ vsock.now) }
+{
+    match vsock {
+        None => Ok(None),
+        Some(vsock) => Ok(Some(Filed {
+            value: Vsock {
+                guest_cid: vsock.guest_cid,
+                uds_path: TextList::copy_of(alloc, vsock.uds_path.as_str())?,
+            },
+        })),
+    }
+}
+
+// How the guest is given metadata.
+fn mmds_of(
+    alloc: Global,
+    mmds: &Option<MmdsConfig>,
+) -> Result<Option<Filed<MmdsConfig>>, AllocError>
+    ensures { IfOk result (λ copy. copy ≡ mmds.now) }
+{
+    match mmds {
+        None => Ok(None),
+        Some(mmds) => Ok(Some(Filed {
+            value: mmds.copy(alloc)?,
+        })),
+    }
+}
+
 /// The configuration as a copy has it.
 pub(crate) fn configuration_of(alloc: Global, config: &Config) -> Result<Configuration, AllocError>
     ensures { IfOk result (λ copy.
@@ -62,19 +97,38 @@ pub(crate) fn configuration_of(alloc: Global, config: &Config) -> Result<Configu
           boot_source = source_of config.now.boot_source;
           drives = config.now.drives;
           interfaces = config.now.interfaces;
+<<<<<<< 717b8584
+          vsock = config.now.vsock;
           machine = config.now.machine;
           balloon = config.now.balloon;
+          mmds = config.now.mmds;
+=======
+          machine = config.now.machine;
+          balloon = config.now.balloon;
+>>>>>>> m
         }) }
 {
     let boot_source = source_of(alloc, &config.boot_source)?;
     let drives = list_of(alloc, &config.drives)?;
     let interfaces = list_of(alloc, &config.interfaces)?;
+<<<<<<< 717b8584
+    let vsock = vsock_of(alloc, &config.vsock)?;
+    let mmds = mmds_of(alloc, &config.mmds)?;
+=======
+>>>>>>> m
     Ok(Configuration {
         boot_source,
         drives,
         interfaces,
+<<<<<<< 717b8584
+        vsock,
         machine: config.machine,
         balloon: config.balloon,
+        mmds,
+=======
+        machine: config.machine,
+        balloon: config.balloon,
+>>>>>>> m
     })
 }
 
@@ -90,12 +144,20 @@ pub fn config_of(configuration: Configuration, track_dirty_pages: bool) -> Confi
         }),
         drives: Drives::from_vec(configuration.drives.items),
         interfaces: Interfaces::from_vec(configuration.interfaces.items),
+<<<<<<< 717b8584
+        vsock: taken(configuration.vsock),
+=======
+>>>>>>> m
         machine: MachineConfig {
             vcpu_count: configuration.machine.vcpu_count,
             mem_size_mib: configuration.machine.mem_size_mib,
             track_dirty_pages,
         },
         balloon: configuration.balloon,
+<<<<<<< 717b8584
+        mmds: taken(configuration.mmds),
+=======
+>>>>>>> m
         configured: true,
     }
 }

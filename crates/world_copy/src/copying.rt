@@ -1,7 +1,5 @@
 // The copy of a world.
-ghost use Rattle.std.specs.Prelude.{◌≡◌, ◌≤◌, true, IsTrue, IfOk, length, map};
-ghost use Rattle.std.specs.List.{list_all};
-ghost use Rattle.guest_devices.specs.Kept.{is_kept};
+ghost use Rattle.std.specs.Prelude.{◌≡◌, ◌≤◌, IsTrue, IfOk, length, map};
 ghost use Rattle.flat_guest.specs.Changes.{reset_guest};
 ghost use Rattle.flat_guest.specs.Guest.{Guest};
 ghost use Rattle.snap_harts.specs.Copy.{saved_hart};
@@ -9,7 +7,7 @@ ghost use Rattle.snap_state.specs.Copy.{saved_board};
 ghost use Rattle.snap_state.specs.Valid.{is_valid};
 ghost use Rattle.flat_snapshot.specs.Copies.{IsCopyOf};
 ghost use Rattle.vm_world.specs.Worlds.{IsWorld};
-ghost use Rattle.world_copy.specs.Copying.{AreCounted, copy_in};
+ghost use Rattle.world_copy.specs.Copying.{AreCounted, IsCopyIn};
 ghost use Rattle.world_copy.specs.Ready.{IsReadyWorld};
 
 use crate::attached::{devices_kept, ports_kept};
@@ -90,8 +88,7 @@ fn copy_with(
     harts: Items<SavedHart>,
 ) -> Result<StateCopy, AllocError>
     requires { harts ≡ map saved_hart world.now.harts }
-    ensures copied { IfOk result (λ copy. copy ≡ copy_in config.now world.now) }
-    ensures known { IfOk result (λ copy. list_all is_kept copy.devices ≡ true) }
+    ensures copied { IfOk result (λ copy. IsCopyIn config.now world.now copy) }
     ensures pages { IfOk result (λ copy. copy.pages ≡ length world.now.pages) }
 {
     let configuration = configuration_of(alloc, config)?;

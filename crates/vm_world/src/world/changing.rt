@@ -1,11 +1,16 @@
 // What the API changes of a world, and the Reset that comes before a create.
+<<<<<<< 717b8584
+ghost use Rattle.std.specs.Prelude.{◌≡◌, ◌≤◌, length, slice_get};
+ghost use Rattle.guest_devices.specs.Kept.{AreReset, devices_left};
+=======
 ghost use Rattle.std.specs.Prelude.{◌≡◌, ◌≤◌, length, map, slice_get};
 ghost use Rattle.guest_devices.specs.Kept.{devices_left, kept_reset};
+>>>>>>> m
 ghost use Rattle.guest_devices.specs.Kinds.{FitsChange};
 ghost use Rattle.flat_guest.specs.Body.{lefts_told};
 ghost use Rattle.flat_guest.specs.Changes.{board_shown, ports_shown, ports_with, reset_guest, told};
 ghost use Rattle.flat_guest.specs.Guest.{Guest};
-ghost use Rattle.vm_world.specs.Worlds.{IsWorld, world_reset};
+ghost use Rattle.vm_world.specs.Worlds.{IsWorld, IsWorldReset};
 
 use super::World;
 use guest_devices::{Device, DeviceChange};
@@ -48,7 +53,7 @@ fn show(ports: &mut Vec<Port>, board: &mut Board, number: u8, shown: Option<[u8;
 
 // Each device is reset.
 fn reset_all(devices: &mut [Device])
-    ensures { devices.new ≡ map kept_reset devices.old }
+    ensures { AreReset devices.old devices.new }
 {
     for device in devices.iter_mut() {
         device.reset();
@@ -58,7 +63,7 @@ fn reset_all(devices: &mut [Device])
 impl World {
     /// Each device is told of the Reset that comes before a create. It is no event, and leaves the marks of pages.
     pub fn reset(&mut self)
-        ensures value { self.new ≡ world_reset self.old }
+        ensures reset { IsWorldReset self.old self.new }
         ensures guest { (g : Guest) → IsWorld self.old g → IsWorld self.new (reset_guest g) }
     {
         reset_all(&mut self.devices);

@@ -16,6 +16,10 @@ fn statistics_of(device: &Device) -> Option<Statistics>
         Device::Balloon(balloon) => Some(balloon.state().kind.statistics()),
         Device::Block(_) => None,
         Device::Net(_) => None,
+<<<<<<< 717b8584
+        Device::Vsock(_) => None,
+=======
+>>>>>>> m
     }
 }
 

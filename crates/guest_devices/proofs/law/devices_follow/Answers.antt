@@ -1,5 +1,8 @@
 use Rattle.guest_devices.proofs.Follows.{at_start, continues_wanted, did_leads, left_wants, one_left, reset_leads, told_leads, wants_continues, wants_left, wants_only}
+<<<<<<< 717b8584
+=======
 use Rattle.guest_devices.proofs.Owed.{reset_kept, reset_left}
+>>>>>>> m
 use Rattle.guest_devices.proofs.law.devices_follow.Goals as goal
 
 pub returns-clause-begins : goal.returns-clause-begins
@@ -25,9 +28,6 @@ returns-clause-change c = told_leads
 
 pub returns-clause-reset : goal.returns-clause-reset
 returns-clause-reset c = reset_leads
-
-pub returns-clause-reset_kept : goal.returns-clause-reset_kept
-returns-clause-reset_kept c = λ it is. (reset_kept it is, reset_left it)
 
 pub returns-clause-continues : goal.returns-clause-continues
 returns-clause-continues c = wants_continues

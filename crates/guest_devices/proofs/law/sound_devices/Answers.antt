@@ -1,4 +1,8 @@
 use Rattle.guest_devices.proofs.Soundness.{at_sound, copied, did_sound, new_sound, reset_sound, resumed_sound, some_want, told_sound, want_host, want_inside, want_own}
+<<<<<<< 717b8584
+use Rattle.guest_devices.proofs.Saved.{flat_saved}
+=======
+>>>>>>> m
 use Rattle.guest_devices.proofs.law.sound_devices.Goals as goal
 
 pub returns-clause-begins : goal.returns-clause-begins
@@ -33,3 +37,6 @@ returns-clause-resumed c = resumed_sound
 
 pub returns-clause-copied : goal.returns-clause-copied
 returns-clause-copied c = copied
+
+pub returns-clause-saved : goal.returns-clause-saved
+returns-clause-saved c = flat_saved

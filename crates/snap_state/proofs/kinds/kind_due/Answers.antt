@@ -1,17 +1,29 @@
 use Rattle.std.proofs.Common.{sym, arith, ◌∙◌}
+<<<<<<< 717b8584
+use Rattle.snap_state.proofs.HasDevices.{balloon_due, drive_due, interface_due, none_due, vsock_due}
+=======
 use Rattle.snap_state.proofs.HasDevices.{balloon_due, drive_due, interface_due, none_due}
+>>>>>>> m
 use Rattle.snap_state.proofs.kinds.kind_due.Goals as goal
 
 pub returns-then-number-drives : goal.returns-then-number-drives
 returns-then-number-drives c =
     let own = c.args.configuration.now in
+<<<<<<< 717b8584
+    sym (drive_due own.drives own.interfaces own.vsock own.balloon c.args.number
+=======
     sym (drive_due own.drives own.interfaces own.balloon c.args.number
+>>>>>>> m
     (omega (arith, c.if-number-drives.true, c.count-drives.ensures)))
 
 pub returns-then-behind-interfaces : goal.returns-then-behind-interfaces
 returns-then-behind-interfaces c =
     let own = c.args.configuration.now in
+<<<<<<< 717b8584
+    sym (interface_due own.drives own.interfaces own.vsock own.balloon c.args.number
+=======
     sym (interface_due own.drives own.interfaces own.balloon c.args.number
+>>>>>>> m
     (omega (arith, c.if-number-drives.false, c.count-drives.ensures))
     (omega (
       arith,
@@ -21,6 +33,43 @@ returns-then-behind-interfaces c =
       c.count-interfaces.ensures,
     )))
 
+<<<<<<< 717b8584
+pub returns-then-last-sockets : goal.returns-then-last-sockets
+returns-then-last-sockets c =
+    let own = c.args.configuration.now in
+    c.vsock_kind.ensures
+    ∙ sym (vsock_due own.drives own.interfaces own.vsock own.balloon c.args.number
+    (omega (
+      arith,
+      c.if-number-drives.false,
+      c.if-behind-interfaces.false,
+      c.count-drives.ensures,
+      c.count-interfaces.ensures,
+    ))
+    (omega (
+      arith,
+      c.if-number-drives.false,
+      c.if-behind-interfaces.false,
+      c.if-last-sockets.true,
+      c.count-drives.ensures,
+      c.count-interfaces.ensures,
+      c.vsock_count-sockets.ensures,
+    )))
+
+pub returns-then-last-sockets-2 : goal.returns-then-last-sockets-2
+returns-then-last-sockets-2 c =
+    let own = c.args.configuration.now in
+    c.balloon_kind.ensures
+    ∙ sym (balloon_due own.drives own.interfaces own.vsock own.balloon c.args.number
+    (omega (
+      arith,
+      c.if-number-drives.false,
+      c.if-behind-interfaces.false,
+      c.if-last-sockets-2.true,
+      c.count-drives.ensures,
+      c.count-interfaces.ensures,
+      c.vsock_count-sockets.ensures,
+=======
 pub returns-then-behind-interfaces-2 : goal.returns-then-behind-interfaces-2
 returns-then-behind-interfaces-2 c =
     let own = c.args.configuration.now in
@@ -32,17 +81,30 @@ returns-then-behind-interfaces-2 c =
       c.if-behind-interfaces-2.true,
       c.count-drives.ensures,
       c.count-interfaces.ensures,
+>>>>>>> m
     )))
 
 pub returns : goal.returns
 returns c =
     let own = c.args.configuration.now in
+<<<<<<< 717b8584
+    sym (none_due own.drives own.interfaces own.vsock own.balloon c.args.number
+=======
     sym (none_due own.drives own.interfaces own.balloon c.args.number
+>>>>>>> m
     (omega (
       arith,
       c.if-number-drives.false,
       c.if-behind-interfaces.false,
+<<<<<<< 717b8584
+      c.if-last-sockets.false,
+      c.if-last-sockets-2.false,
+      c.count-drives.ensures,
+      c.count-interfaces.ensures,
+      c.vsock_count-sockets.ensures,
+=======
       c.if-behind-interfaces-2.false,
       c.count-drives.ensures,
       c.count-interfaces.ensures,
+>>>>>>> m
     )))

@@ -11,9 +11,9 @@ hart_copies-requires c =
 
 pub returns-clause-copied : goal.returns-clause-copied
 returns-clause-copied c = λ g is.
-    copied c.args.config.now c.args.world.now g c.in_ok-copy.copy c.in_ok-copy.ensures.copied c.in_ok-copy.ensures.known is
+    copied c.args.config.now c.args.world.now g c.in_ok-copy.copy c.in_ok-copy.ensures.copied is
 
 pub returns-clause-valid : goal.returns-clause-valid
 returns-clause-valid c =
     ready_valid c.args.config.now c.args.world.now c.in_ok-copy.copy c.requires (λ g is.
-    copied c.args.config.now c.args.world.now g c.in_ok-copy.copy c.in_ok-copy.ensures.copied c.in_ok-copy.ensures.known is)
+    copied c.args.config.now c.args.world.now g c.in_ok-copy.copy c.in_ok-copy.ensures.copied is)
